@@ -1,0 +1,6 @@
+pub mod Coding
+pub mod Plain
+pub mod Prints
+pub mod Reads
+pub mod View
+pub mod Weighs

@@ -1,0 +1,76 @@
+//! Components.
+ghost use Rattle.std.specs.Prelude.{◌≡◌, IfOk};
+ghost use Rattle.sdb_value.specs.View.{plain_path};
+ghost use Rattle.sdb_component.specs.View.{plain_act};
+
+use crate::piece::Piece;
+use sdb_value::{Json, Step, Whole};
+use std::marker::Model;
+
+/// What a component does at the place that its path leads to. With it stands the last step of the
+/// path as sent: an offset of UTF-16 units, an index, or a key. `Na` has none.
+#[derive(Drop)]
+pub enum Act {
+    /// Adds to the number there.
+    Na(Whole),
+    /// Inserts into the text at the offset.
+    Si(u64, Piece),
+    /// Deletes from the text at the offset.
+    Sd(u64, Piece),
+    /// Inserts an item at the index.
+    Li(u64, Json),
+    /// Deletes the item at the index.
+    Ld(u64, Json),
+    /// Replaces the item at the index: the one removed, the one put.
+    Lr(u64, Json, Json),
+    /// Gives the key a value.
+    Oi(String, Json),
+    /// Deletes the key.
+    Od(String, Json),
+    /// Replaces the value of the key: the one removed, the one put.
+    Or(String, Json, Json),
+}
+
+/// A change of one place.
+#[derive(Drop)]
+pub struct Component {
+    path: Vec<Step>,
+    act: Act,
+}
+
+impl Model for Component {
+    ghost use Rattle.sdb_component.specs.Plain.{PlainComponent};
+    ghost use Rattle.sdb_component.specs.Coding.{component_code};
+
+    ghost Value = { PlainComponent };
+
+    ghost coded = { component_code };
+
+    ghost use Rattle.sdb_value.specs.View.{plain_path};
+    ghost use Rattle.sdb_component.specs.View.{plain_act};
+
+    ghost view = { λ c. record { path = plain_path c.path.items; act = plain_act c.act } };
+}
+
+impl Component {
+    /// The component that does the act at the container's path.
+    pub fn new(path: Vec<Step>, act: Act) -> Component
+        ensures { result ≡ record { path = plain_path path.items; act = plain_act act } }
+    {
+        Component { path, act }
+    }
+
+    /// The container's path: the path as sent for `Na`, and else that path without its last step.
+    pub fn path(&self) -> &[Step]
+        ensures { plain_path result.now ≡ self.now.path }
+    {
+        self.path.as_slice()
+    }
+
+    /// What is done there.
+    pub fn act(&self) -> &Act
+        ensures { plain_act result.now ≡ self.now.act }
+    {
+        &self.act
+    }
+}

@@ -1,0 +1,50 @@
+//! Texts that aren't empty.
+ghost use Rattle.std.specs.Prelude.{◌≡◌, ◌<◌, length, IfOk, IfNone, IfSome, [], string_bytes};
+
+use std::alloc::AllocError;
+use std::marker::Model;
+
+/// A text that isn't empty, as `si` and `sd` have it.
+#[derive(Drop)]
+pub struct Piece {
+    text: String,
+}
+
+impl Model for Piece {
+    ghost use Rattle.std.specs.Prelude.{ℕ, List, ◌<◌, length, string_bytes};
+
+    ghost Value = { List ℕ };
+
+    ghost view = { λ p. string_bytes p.text };
+
+    ghost invariant = { λ p. 0 < length (string_bytes p.text) };
+}
+
+impl Piece {
+    /// The text as a piece, or `None` where it is empty.
+    pub fn new(text: String) -> Option<Piece>
+        ensures some { IfSome result (λ p. p ≡ string_bytes text) }
+        ensures none { IfNone result (string_bytes text ≡ []) }
+    {
+        if text.is_empty() {
+            return None;
+        }
+        Some(Piece { text })
+    }
+
+    /// The text.
+    pub fn as_str(&self) -> &str
+        ensures value { result.now ≡ self.now }
+        ensures filled { 0 < length result.now }
+    {
+        self.text.as_str()
+    }
+
+    /// A copy.
+    pub fn try_clone(&self) -> Result<Piece, AllocError>
+        ensures { IfOk result (λ p. p ≡ self.now) }
+    {
+        let text = self.text.clone()?;
+        Ok(Piece { text })
+    }
+}

@@ -1,0 +1,18 @@
+-- How many lines there are, and how many of them are steps.
+use Rattle.std.specs.Prelude.{ℕ, ◌+◌, Bool, false, List, [], ◌∷◌, length, if◌then◌else◌, Some, None}
+use Rattle.std.specs.declared.option.Option.{Option}
+use Rattle.sdb_lines.specs.declared.runner.Counts.{Counts}
+
+-- whether a line is a step: one that can't be read is none
+abbrev pub takes_step : (List ℕ → Bool) → Option (List ℕ) → Bool
+takes_step is_step None = false
+takes_step is_step (Some line) = is_step line
+
+-- how many of the lines are steps
+abbrev pub steps_of : (List ℕ → Bool) → List (Option (List ℕ)) → ℕ
+steps_of is_step [] = 0
+steps_of is_step (line ∷ lines) = (if takes_step is_step line then 1 else 0) + steps_of is_step lines
+
+-- the counts, once these lines are counted too
+abbrev pub counted : (List ℕ → Bool) → Counts → List (Option (List ℕ)) → Counts
+counted is_step counts lines = record { lines = counts.lines + length lines; steps = counts.steps + steps_of is_step lines }

@@ -1,0 +1,125 @@
+//! The runner: a whole input, read, answered and counted.
+//!
+//! All that is pending is written and flushed before the next read, so whoever writes a line and waits gets the answer
+//! without having to send more.
+ghost use Rattle.std.specs.Prelude.{◌≡◌, ℕ, ◌+◌, ◌-◌, ◌^◌, ◌≤◌, ◌<◌, ◌⊎◌, ◌++◌, List, [], true, if◌then◌else◌, length, min, map, OnOk, OnErr, IfOk, IfSome, vec_len, IsErrOf};
+ghost use Rattle.std.specs.Io.KnownBytes.{Appends};
+ghost use Rattle.sdb_lines.specs.Lines.{reading_of, lines_of};
+ghost use Rattle.sdb_lines.specs.Counting.{steps_of};
+ghost use Rattle.sdb_lines.specs.Told.{AppendsFront};
+ghost use Rattle.sdb_lines.specs.declared.runner.RunFault.{RunFault};
+
+use crate::cutting::{Pending, Replier, answer_piece, answer_rest, write_opening};
+use crate::streams::{Sink, Source};
+use std::alloc::{AllocError, Global};
+
+/// The most reads that one run makes: 2^40.
+pub const READ_LIMIT: u64 = 1_099_511_627_776;
+
+// The most bytes that one read takes: 64 KiB.
+const BUFFER_LEN: usize = 65_536;
+
+/// How much of an input was read.
+#[derive(Clone, Copy, Debug, PartialEq, Eq)]
+pub struct Counts {
+    /// The lines, also those that could not be read as text.
+    pub lines: u64,
+    /// The lines that the replier took as steps.
+    pub steps: u64,
+}
+
+impl Counts {
+    // Counts one more line.
+    pub(crate) fn count_line(&mut self, is_step: bool)
+        requires room { self.old.lines + 1 < 2 ^ 64 }
+        requires ordered { self.old.steps ≤ self.old.lines }
+        ensures lines { self.new.lines ≡ self.old.lines + 1 }
+        ensures steps { self.new.steps ≡ self.old.steps + (if is_step then 1 else 0) }
+    {
+        self.lines += 1;
+        if is_step {
+            self.steps += 1;
+        }
+    }
+}
+
+/// Why a run stopped before the end of its input.
+#[derive(Clone, Copy, Debug, PartialEq, Eq)]
+pub enum RunFault {
+    /// A read failed, or [`READ_LIMIT`] reads did not reach the end of the input.
+    Read,
+    /// A write or a flush failed, or a write took 0 bytes of some.
+    Write,
+    /// There was not enough memory for the 64 KiB that a read fills, for a line or for its answer.
+    Memory,
+}
+
+/// Writes the opening text, reads the input to its end, and writes the answer to each of its lines.
+///
+/// What is pending is written and flushed before each read and at the end, and also, unflushed, once it has reached
+/// 64 KiB. A read takes at most 64 KiB, and at most [`READ_LIMIT`] reads are made. At most 1,048,577 bytes of a line are
+/// held, however long it is.
+///
+/// A last line needs no line feed. After a fault the reader may have given bytes of lines that were not answered, and
+/// the machine may have taken lines whose answers were not written.
+pub fn run_lines<M: Replier, R: Source, W: Sink>(
+    alloc: Global,
+    machine: &mut M,
+    reader: &mut R,
+    writer: &mut W,
+) -> Result<Counts, RunFault>
+    ensures whole { OnOk result (IfSome (R.left reader.old) (λ input.
+        Appends (W.contents writer.old) (W.contents writer.new)
+            (M.opening machine.old ++ M.output machine.old (map reading_of (lines_of input))))) }
+
+    ensures lines { IfOk result (λ counts. IfSome (R.left reader.old) (λ input.
+        counts.lines ≡ length (lines_of input))) }
+
+    ensures steps { IfOk result (λ counts. IfSome (R.left reader.old) (λ input.
+        counts.steps ≡ steps_of M.is_step (map reading_of (lines_of input)))) }
+
+    // After a fault a front of the whole answer was written.
+    ensures front { OnErr result (IfSome (R.left reader.old) (λ input.
+        AppendsFront (W.contents writer.old) (W.contents writer.new)
+            (M.opening machine.old ++ M.output machine.old (map reading_of (lines_of input))))) }
+
+    // Where the end was reached, no read, write or flush failed.
+    ensures reads { OnOk result (R.has_failed reader.new ≡ R.has_failed reader.old) }
+    ensures writes { OnOk result (W.has_failed writer.new ≡ W.has_failed writer.old) }
+
+    // A fault has its cause.
+    ensures read { IsErrOf result RunFault.Read → (R.has_failed reader.new ≡ true)
+        ⊎ (min (R.calls reader.old + READ_LIMIT) (2 ^ 64 - 1) ≤ R.calls reader.new) }
+    ensures write { IsErrOf result RunFault.Write → W.has_failed writer.new ≡ true }
+{
+    let Ok(mut space) = room(alloc) else {
+        return Err(RunFault::Memory);
+    };
+    let buffer = space.as_mut_slice();
+    let mut pending = Pending::new(alloc);
+    match write_opening(alloc, machine, &mut pending.out, writer) {
+        Ok(()) => {}
+        Err(fault) => return Err(fault),
+    }
+    for _turn in 0..READ_LIMIT {
+        match reader.take(buffer) {
+            Ok(0) => match answer_rest(alloc, machine, &mut pending, writer) {
+                Ok(()) => return Ok(pending.counts),
+                Err(fault) => return Err(fault),
+            },
+            Ok(n) => match answer_piece(alloc, machine, &mut pending, writer, &buffer[..n]) {
+                Ok(()) => {}
+                Err(fault) => return Err(fault),
+            },
+            Err(_) => return Err(RunFault::Read),
+        }
+    }
+    Err(RunFault::Read)
+}
+
+// The room for one read.
+fn room(alloc: Global) -> Result<Vec<u8>, AllocError>
+    ensures { IfOk result (λ buffer. vec_len buffer ≡ BUFFER_LEN) }
+{
+    vec![in alloc; 0u8; BUFFER_LEN]
+}

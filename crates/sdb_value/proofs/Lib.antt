@@ -1,0 +1,7 @@
+pub mod Depths
+pub mod Pieces
+pub mod Read
+pub mod Steps
+pub mod Texts
+pub mod Views
+pub mod Write

@@ -1,0 +1,23 @@
+use Rattle.std.proofs.Common.{◌≡◌, ◌≤◌, List, ◌++◌, drop, Some, option_map}
+use Rattle.serde_json.specs.Data as raw
+use Rattle.serde_json.specs.View as data-view
+use Rattle.serde_json.proofs.Views.{Entry}
+use Rattle.sdb_value.specs.Value.{join, items_depth, members_depth}
+use Rattle.sdb_value.specs.Profile.{of_items, of_members}
+use Rattle.sdb_value.specs.View.{items_view, members_view}
+use Rattle.sdb_value.proofs.convert.+read.Given as goal
+
+abbrev pub invariant-read_items-loop-item : goal.invariant-read_items-loop-item
+invariant-read_items-loop-item l = record {
+  reads : of_items (data-view.items_view l.item-items) ≡ option_map (join (items_view l.done.items)) (of_items (data-view.items_view (drop l.item-index l.item-items)));
+  low : items_depth (items_view l.done.items) ≤ l.left;
+  rest : raw.items_depth (data-view.items_view (drop l.item-index l.item-items)) ≤ raw.items_depth (data-view.items_view l.item-items);
+}
+
+abbrev pub invariant-read_members-loop-key : goal.invariant-read_members-loop-key
+invariant-read_members-loop-key l = record {
+  done : List Entry;
+  split : l.members.entries ≡ done ++ l.key-iterator;
+  reads : of_members (data-view.members_view done) ≡ Some (members_view l.made.entries);
+  low : members_depth (members_view l.made.entries) ≤ l.left;
+}

@@ -1,0 +1,14 @@
+use Rattle.std.proofs.Common.{Result, Ok, Err, IfErr}
+use Rattle.serde_json.specs.View.{view as data_view}
+use Rattle.sdb_value.specs.Profile.{in_profile, Refuses, Unread}
+use Rattle.sdb_value.specs.declared.convert.ValueFault.{ValueFault}
+use Rattle.sdb_value.specs.declared.value.Json.{Json}
+use Rattle.sdb_value.proofs.Depths.{unread}
+use Rattle.sdb_value.proofs.convert.from_value.Goals as goal
+
+of_err : {A : Type 0} {P Q : ValueFault → Type 0} (r : Result A ValueFault) → ((f : ValueFault) → P f → Q f) → IfErr r P → IfErr r Q
+of_err (Ok x) h e = tt
+of_err (Err f) h e = h f e
+
+pub returns-clause-err : goal.returns-clause-err
+returns-clause-err c = of_err {P = Refuses 50 (data_view c.args.value.now)} c.read.result (unread (data_view c.args.value.now)) c.read.ensures.err

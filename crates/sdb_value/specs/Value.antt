@@ -1,0 +1,147 @@
+-- What a value is (RFC 8259, section 3, with whole numbers alone), its parts, and its places.
+-- A text is its bytes in UTF-8 (RFC 8259, section 8.1); `Text` says how it is measured.
+use Rattle.std.specs.Prelude.{ℕ, zero, suc, max, ℤ, Bool, List, [], ◌∷◌, cond, if◌then◌else◌, nat_lt, nat_le, Option, Some, None, option_and_then}
+use Rattle.std.specs.Option.{option_map_or}
+use Rattle.std.specs.Ordering.{nat_cmp, is_eq, match_ordering}
+use Rattle.std.specs.Cmp.Lexicographic.{slice_cmp}
+
+mutual
+  pub data Value : Type 0 where
+    null : Value
+    truth : Bool → Value
+    whole : ℤ → Value
+    text : List ℕ → Value
+    list : Items → Value
+    object : Members → Value
+
+  pub data Items : Type 0 where
+    no_items : Items
+    item : Value → Items → Items
+
+  pub data Members : Type 0 where
+    no_members : Members
+    member : List ℕ → Value → Members → Members
+
+-- a step of a path: to the member of a key, or to the item of an index
+pub data PlainStep : Type 0 where
+  key : List ℕ → PlainStep
+  index : ℕ → PlainStep
+
+abbrev pub same_text : List ℕ → List ℕ → Bool
+same_text k l = is_eq (slice_cmp nat_cmp k l)
+
+-- the item at i, the member at k
+abbrev pub item_at : ℕ → Items → Option Value
+item_at i no_items = None
+item_at zero (item d ds) = Some d
+item_at (suc i) (item d ds) = item_at i ds
+
+abbrev pub member_at : List ℕ → Members → Option Value
+member_at k no_members = None
+member_at k (member l d ms) = cond (same_text k l) (Some d) (member_at k ms)
+
+-- the same, with u in its place
+abbrev pub set_item : ℕ → Items → Value → Items
+set_item i no_items u = no_items
+set_item zero (item d ds) u = item u ds
+set_item (suc i) (item d ds) u = item d (set_item i ds u)
+
+abbrev pub set_member : List ℕ → Members → Value → Members
+set_member k no_members u = no_members
+set_member k (member l d ms) u = cond (same_text k l) (member l u ms) (member l d (set_member k ms u))
+
+-- the members, with u at k: an equal key takes u, and a new one goes to its place in the order of bytes
+abbrev pub put : List ℕ → Value → Members → Members
+put k u no_members = member k u no_members
+put k u (member l d ms) = match_ordering (slice_cmp nat_cmp k l) (member k u (member l d ms)) (member l u ms) (member l d (put k u ms))
+
+-- the members without k
+abbrev pub without : List ℕ → Members → Members
+without k no_members = no_members
+without k (member l d ms) = cond (same_text k l) ms (member l d (without k ms))
+
+-- ---- lists, as joined pieces
+
+abbrev pub size : Items → ℕ
+size no_items = 0
+size (item d ds) = suc (size ds)
+
+-- the first i items, and those from i on
+abbrev pub take_items : ℕ → Items → Items
+take_items zero ds = no_items
+take_items (suc i) no_items = no_items
+take_items (suc i) (item d ds) = item d (take_items i ds)
+
+abbrev pub drop_items : ℕ → Items → Items
+drop_items zero ds = ds
+drop_items (suc i) no_items = no_items
+drop_items (suc i) (item d ds) = drop_items i ds
+
+abbrev pub join : Items → Items → Items
+join no_items es = es
+join (item d ds) es = item d (join ds es)
+
+-- u stands at i, and the items from i on follow; i is up to the length
+abbrev pub insert_item : ℕ → Value → Items → Option Items
+insert_item i u ds = if nat_le i (size ds) then Some (join (take_items i ds) (item u (drop_items i ds))) else None
+
+-- the item at i is taken out
+abbrev pub remove_item : ℕ → Items → Option Items
+remove_item i ds = if nat_lt i (size ds) then Some (join (take_items i ds) (drop_items (suc i) ds)) else None
+
+-- the item at i becomes u
+abbrev pub replace_item : ℕ → Value → Items → Option Items
+replace_item i u ds = if nat_lt i (size ds) then Some (join (take_items i ds) (item u (drop_items (suc i) ds))) else None
+
+-- how deep lists and objects nest
+abbrev mutual
+  pub depth : Value → ℕ
+  depth null = 0
+  depth (truth b) = 0
+  depth (whole n) = 0
+  depth (text s) = 0
+  depth (list ds) = suc (items_depth ds)
+  depth (object ms) = suc (members_depth ms)
+
+  pub items_depth : Items → ℕ
+  items_depth no_items = 0
+  items_depth (item d ds) = max (depth d) (items_depth ds)
+
+  pub members_depth : Members → ℕ
+  members_depth no_members = 0
+  members_depth (member k d ms) = max (depth d) (members_depth ms)
+
+-- the bytes of a text, the items of a list, the members of an object
+abbrev pub as_text : Value → Option (List ℕ)
+as_text (text s) = Some s
+as_text _ = None
+
+abbrev pub as_list : Value → Option Items
+as_list (list ds) = Some ds
+as_list _ = None
+
+abbrev pub as_object : Value → Option Members
+as_object (object ms) = Some ms
+as_object _ = None
+
+-- one step down
+abbrev pub one : PlainStep → Value → Option Value
+one (index i) (list ds) = item_at i ds
+one (key k) (object ms) = member_at k ms
+one _ _ = None
+
+-- d with what lies one step down replaced
+abbrev pub with_one : PlainStep → Value → Value → Value
+with_one (index i) (list ds) u = list (set_item i ds u)
+with_one (key k) (object ms) u = object (set_member k ms u)
+with_one _ d u = d
+
+-- `Place`: the value at the path p, if any
+abbrev pub at : Value → List PlainStep → Option Value
+at d [] = Some d
+at d (w ∷ p) = option_and_then (λ c. at c p) (one w d)
+
+-- `Place`: d with the one place at p replaced by u
+abbrev pub with : Value → List PlainStep → Value → Value
+with d [] u = u
+with d (w ∷ p) u = option_map_or (λ c. with_one w d (with c p u)) (one w d) d

@@ -1,0 +1,41 @@
+-- The value that a `Json` stands for.
+use Rattle.std.specs.Prelude.{List, [], ◌∷◌, map, String, string_bytes}
+use Rattle.std.specs.declared.alloc.Global.{Global}
+use Rattle.sdb_value.specs.Value.{Value, null, truth, whole, text, list, object, Items, no_items, item, Members, no_members, member, PlainStep, key, index}
+use Rattle.sdb_value.specs.declared.value.Json.{Json, fold-Json}
+use Rattle.sdb_value.specs.declared.value.Json.TheOpen.{Json-F}
+use Rattle.sdb_value.specs.declared.places.Step.{Step}
+use Rattle.sdb_value.specs.declared.places.Step.TheVariants.{Key, Index}
+
+abbrev pub items_of : List Value → Items
+items_of [] = no_items
+items_of (d ∷ ds) = item d (items_of ds)
+
+abbrev pub members_of : List (String Global × Value) → Members
+members_of [] = no_members
+members_of (m ∷ ms) = member (string_bytes m.0) m.1 (members_of ms)
+
+-- one level, with each value inside already seen
+abbrev pub view_step : Json-F Value → Value
+view_step Json-F.Null = null
+view_step (Json-F.Bool b) = truth b
+view_step (Json-F.Int n) = whole n
+view_step (Json-F.Text s) = text (string_bytes s)
+view_step (Json-F.List v) = list (items_of v.items)
+view_step (Json-F.Object m) = object (members_of m.entries)
+
+abbrev pub view : Json → Value
+view = fold-Json Value view_step
+
+abbrev pub items_view : List Json → Items
+items_view vs = items_of (map view vs)
+
+abbrev pub members_view : List (String Global × Json) → Members
+members_view ms = members_of (map (λ m. (m.0, view m.1)) ms)
+
+abbrev pub plain_step : Step → PlainStep
+plain_step (Key k) = key (string_bytes k)
+plain_step (Index i) = index i
+
+abbrev pub plain_path : List Step → List PlainStep
+plain_path = map plain_step

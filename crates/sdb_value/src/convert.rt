@@ -1,0 +1,119 @@
+//! From `serde_json`'s `Value`.
+ghost use Rattle.std.specs.Prelude.{◌≡◌, ◌<◌, ◌≤◌, Some, None, IfOk, IfErr, option_map};
+ghost use Rattle.sdb_value.specs.Value.{depth, items_depth, members_depth};
+ghost use Rattle.sdb_value.specs.Profile.{of_data, of_items, of_members, whole_of, in_profile, Unread, Refuses, RefusesItems, RefusesMembers};
+ghost use Rattle.sdb_value.specs.View.{view, items_view, members_view};
+ghost use Rattle.serde_json.specs.View.{view as data_view, items_view as data_items_view, members_view as data_members_view, number_view};
+
+use crate::parts::{push_item, put_member};
+use crate::value::{Json, Whole};
+use serde_json::{Map, Number, Value};
+use std::alloc::{AllocError, Global};
+use std::collections::BTreeMap;
+use thiserror::Error;
+
+/// Why a value is none of the profile.
+#[derive(Debug, Drop, Error)]
+pub enum ValueFault {
+    /// A number has a point or an exponent, or is past 9007199254740991 in size: E3.
+    #[error("a number is not whole or too large")]
+    Number,
+    /// Lists and objects nest more than 50 deep: E3.
+    #[error("a value nests too deep")]
+    Depth,
+    /// A growth was refused: E10.
+    #[error("out of memory")]
+    Memory,
+}
+
+impl From<AllocError> for ValueFault {
+    ghost use Rattle.sdb_value.specs.declared.convert.ValueFault.TheVariants.{Memory};
+
+    ghost from_gives = { λ _ f. f ≡ Memory };
+
+    fn from(_error: AllocError) -> ValueFault {
+        ValueFault::Memory
+    }
+}
+
+/// The value of the profile that a JSON value is, at most 50 deep. A number or a depth outside the
+/// profile is named as it is met first.
+pub fn from_value(alloc: Global, value: &Value) -> Result<Json, ValueFault>
+    ensures ok { IfOk result (λ j. in_profile (data_view value.now) ≡ Some (view j)) }
+    ensures err { IfErr result (λ f. Unread (in_profile (data_view value.now)) f) }
+    ensures cause { IfErr result (λ f. Refuses 50 (data_view value.now) f) }
+{
+    read(alloc, value, 50)
+}
+
+#[cycle(read)]
+fn read(alloc: Global, value: &Value, left: u64) -> Result<Json, ValueFault>
+    ensures ok { IfOk result (λ j. of_data (data_view value.now) ≡ Some (view j)) }
+    ensures low { IfOk result (λ j. depth (view j) ≤ left) }
+    ensures err { IfErr result (λ f. Refuses left (data_view value.now) f) }
+{
+    match value {
+        Value::Null => Ok(Json::Null),
+        Value::Bool(b) => Ok(Json::Bool(*b)),
+        Value::Number(number) => match whole(number) {
+            Some(n) => Ok(Json::Int(n)),
+            None => Err(ValueFault::Number),
+        },
+        Value::String(text) => Ok(Json::Text(text.clone()?)),
+        Value::Array(items) => {
+            if left == 0 {
+                return Err(ValueFault::Depth);
+            }
+            Ok(Json::List(read_items(alloc, items, left - 1)?))
+        }
+        Value::Object(members) => {
+            if left == 0 {
+                return Err(ValueFault::Depth);
+            }
+            Ok(Json::Object(read_members(alloc, members, left - 1)?))
+        }
+    }
+}
+
+#[cycle(read)]
+fn read_items(alloc: Global, items: &Vec<Value>, left: u64) -> Result<Vec<Json>, ValueFault>
+    ensures ok { IfOk result (λ v. of_items (data_items_view items.now.items) ≡ Some (items_view v.items)) }
+    ensures low { IfOk result (λ v. items_depth (items_view v.items) ≤ left) }
+    ensures err { IfErr result (λ f. RefusesItems left (data_items_view items.now.items) f) }
+{
+    let mut done = Vec::new(alloc);
+    for item in items {
+        let new = read(alloc, item, left)?;
+        push_item(&mut done, new)?;
+    }
+    Ok(done)
+}
+
+#[cycle(read)]
+fn read_members(
+    alloc: Global,
+    members: &Map<String, Value>,
+    left: u64,
+) -> Result<BTreeMap<String, Json>, ValueFault>
+    ensures ok { IfOk result (λ m. of_members (data_members_view members.now.entries) ≡ Some (members_view m.entries)) }
+    ensures low { IfOk result (λ m. members_depth (members_view m.entries) ≤ left) }
+    ensures err { IfErr result (λ f. RefusesMembers left (data_members_view members.now.entries) f) }
+{
+    let mut made = BTreeMap::new(alloc);
+    for (key, member) in members.iter() {
+        let new = read(alloc, member, left)?;
+        let name = key.clone()?;
+        put_member(&mut made, name, new)?;
+    }
+    Ok(made)
+}
+
+fn whole(number: &Number) -> Option<Whole>
+    ensures { result ≡ whole_of (number_view number.now) }
+{
+    let n = number.as_i128()?;
+    if n < -9007199254740991 || n > 9007199254740991 {
+        return None;
+    }
+    Whole::new(n as i64)
+}

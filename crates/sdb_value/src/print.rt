@@ -1,0 +1,56 @@
+//! To `serde_json`'s `Value`.
+ghost use Rattle.std.specs.Prelude.{◌≡◌, IfOk};
+ghost use Rattle.sdb_value.specs.Profile.{to_data, to_items, to_members};
+ghost use Rattle.sdb_value.specs.View.{view, items_view, members_view};
+ghost use Rattle.serde_json.specs.View.{view as data_view, items_view as data_items_view, members_view as data_members_view};
+
+use crate::value::Json;
+use serde_json::{Map, Number, Value};
+use std::alloc::{AllocError, Global};
+use std::collections::BTreeMap;
+
+pub fn to_value(alloc: Global, json: &Json) -> Result<Value, AllocError>
+    ensures { IfOk result (λ v. data_view v ≡ to_data (view json.now)) }
+{
+    write(alloc, json)
+}
+
+#[cycle(write)]
+fn write(alloc: Global, json: &Json) -> Result<Value, AllocError>
+    ensures { IfOk result (λ v. data_view v ≡ to_data (view json.now)) }
+{
+    match json {
+        Json::Null => Ok(Value::Null),
+        Json::Bool(b) => Ok(Value::Bool(*b)),
+        Json::Int(n) => Ok(Value::Number(Number::from(n.get()))),
+        Json::Text(text) => Ok(Value::String(text.clone()?)),
+        Json::List(items) => Ok(Value::Array(write_items(alloc, items)?)),
+        Json::Object(members) => Ok(Value::Object(write_members(alloc, members)?)),
+    }
+}
+
+#[cycle(write)]
+fn write_items(alloc: Global, items: &Vec<Json>) -> Result<Vec<Value>, AllocError>
+    ensures { IfOk result (λ v. data_items_view v.items ≡ to_items (items_view items.now.items)) }
+{
+    let mut made = Vec::new(alloc);
+    for item in items {
+        made.push(write(alloc, item)?)?;
+    }
+    Ok(made)
+}
+
+#[cycle(write)]
+fn write_members(
+    alloc: Global,
+    members: &BTreeMap<String, Json>,
+) -> Result<Map<String, Value>, AllocError>
+    ensures { IfOk result (λ m. data_members_view m.entries ≡ to_members (members_view members.now.entries)) }
+{
+    let mut made = BTreeMap::new(alloc);
+    for (key, member) in members.iter() {
+        let name = key.clone()?;
+        drop(made.insert(name, write(alloc, member)?)?);
+    }
+    Ok(made)
+}
