@@ -1,9 +1,8 @@
 -- How the counts go on, line after line.
-use Rattle.std.proofs.Common.{◌≡◌, ℕ, ◌+◌, ◌-◌, ◌*◌, ◌≤◌, ◌<◌, Bool, List, [], ◌∷◌, ◌++◌, Some, None, true, false, length, take, drop, map, refl, ap, sym, ◌∙◌, All, ◌≢◌, arith, inl, inr}
-use Rattle.std.specs.Prelude.{IfSome, if◌then◌else◌}
+use Rattle.std.proofs.Common.{◌≡◌, ℕ, ◌+◌, ◌-◌, ◌<◌, Bool, List, ◌∷◌, ◌++◌, length, take, drop, ap, ◌∙◌, All, ◌≢◌, arith}
+use Rattle.std.specs.Prelude.{if◌then◌else◌}
 use Rattle.std.specs.declared.option.Option.{Option}
-use Rattle.std.proofs.lemmas.List.{length-map}
-use Rattle.sdb_lines.specs.Lines.{reading_of, readings_from, lines_of}
+use Rattle.sdb_lines.specs.Lines.{readings_from}
 use Rattle.sdb_lines.specs.Counting.{takes_step, steps_of, counted}
 use Rattle.sdb_lines.specs.declared.runner.Counts.{Counts}
 use Rattle.sdb_lines.proofs.Writes.{line-goes-on, piece-splits}
@@ -29,4 +28,3 @@ pub count-end : {A : Type 0} (k : ℕ) (all : List ℕ → A) (f : List (Option 
     → ((tail : List ℕ) → all tail ≡ f (readings_from (rest ++ tail) held))
     → (tail : List ℕ) → all tail ≡ f (readings_from tail kept)
 count-end k all f held rest kept big plain e before tail = before tail ∙ ap f (line-goes-on k rest tail held kept big plain e)
-

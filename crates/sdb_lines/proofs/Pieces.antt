@@ -1,16 +1,16 @@
 -- How the lines of an input go on at a piece of it.
-use Rattle.std.proofs.Common.{◌≡◌, ℕ, ◌+◌, ◌-◌, ◌≤◌, ◌<◌, List, [], ◌∷◌, ◌++◌, None, Some, length, take, min, map, true, false, refl, ap, sym, ◌∙◌, append_assoc, append-nil, arith, rules, All, ◌≢◌, length-append, inl, inr, Ok, Err, OnOk, drop}
+use Rattle.std.proofs.Common.{◌≡◌, ℕ, ◌+◌, ◌-◌, ◌≤◌, ◌<◌, List, [], ◌∷◌, ◌++◌, None, Some, length, take, min, refl, ap, sym, ◌∙◌, append_assoc, append-nil, arith, All, ◌≢◌, length-append, inl, inr, Ok, Err, OnOk}
 use Rattle.std.specs.Prelude.{is_ok}
 use Rattle.std.specs.declared.result.Result.{Result}
-use Rattle.std.specs.Prelude.{nat_lt, ◌==◌, cond}
+use Rattle.std.specs.Prelude.{◌==◌, cond}
 use Rattle.std.proofs.Math.Seq.{take-append-add}
 use Rattle.std.proofs.Common.{subst}
 use Rattle.std.proofs.lemmas.List.{take_all, take-append-le, length-take}
 use Rattle.std.proofs.lemmas.List.Elements.{All-head, All-tail}
-use Rattle.std.proofs.lemmas.Bool.{lt-ltb, le-ltb, ne_eqb, eqb-true, cases_lt, cases_Bool}
+use Rattle.std.proofs.lemmas.Bool.{lt-ltb, le-ltb, ne_eqb, cases_lt, cases_Bool}
 use Rattle.std.specs.Str.{is_utf8, IsUtf8}
 use Rattle.std.proofs.lemmas.Str.{is_utf8-from_IsUtf8, IsUtf8-from_is_utf8}
-use Rattle.sdb_lines.specs.Lines.{lines_from, last_line, reading_of, readings_from}
+use Rattle.sdb_lines.specs.Lines.{lines_from, reading_of, readings_from}
 
 pub reading-long : (l : List ℕ) → 1048576 < length l → reading_of l ≡ None
 reading-long l h = rw (lt-ltb 1048576 (length l) h) refl

@@ -1,5 +1,5 @@
 -- What is written, call after call.
-use Rattle.std.proofs.Common.{◌≡◌, ℕ, ◌+◌, ◌-◌, ◌≤◌, ◌<◌, List, [], ◌∷◌, ◌++◌, Some, None, length, take, drop, refl, ap, sym, ◌∙◌, subst, append_assoc, append-nil, take-append-drop, All, ◌≢◌, arith}
+use Rattle.std.proofs.Common.{◌≡◌, ℕ, ◌+◌, ◌-◌, ◌<◌, List, [], ◌∷◌, ◌++◌, Some, None, length, take, drop, refl, ap, sym, ◌∙◌, subst, append_assoc, append-nil, take-append-drop, All, ◌≢◌, arith}
 use Rattle.std.proofs.lemmas.List.{take_rest, take_all, length-take}
 use Rattle.std.proofs.Math.Seq.{take-add}
 use Rattle.std.specs.declared.option.Option.{Option}
@@ -7,7 +7,7 @@ use Rattle.std.specs.Io.KnownBytes.{Appends, Keeps}
 use Rattle.std.proofs.KnownBytes.{Appends-trans, Consumes-trans, Consumes-whole}
 use Rattle.std.specs.Io.KnownBytes.{Consumes, IsAtEnd}
 use Rattle.std.specs.Prelude.{IfSome}
-use Rattle.sdb_lines.specs.Lines.{reading_of, readings_from, lines_from}
+use Rattle.sdb_lines.specs.Lines.{reading_of, readings_from}
 use Rattle.sdb_lines.specs.Told.{Wrote, AppendsFront, Stopped, IsFront}
 use Rattle.sdb_lines.specs.declared.runner.Counts.{Counts}
 use Rattle.sdb_lines.proofs.Pieces.{lines-plain, reading-front, readings-front}
@@ -146,7 +146,7 @@ stopped-empty a c out f e w = (w.0, w.1, λ rest. ((w.2 rest).0, ap (λ l. l ++ 
 abbrev pub Went : Option (List ℕ) → Option (List ℕ) → Option (List ℕ) → Option (List ℕ) → (List (Option (List ℕ)) → List ℕ) → (List (Option (List ℕ)) → List ℕ) → (List (Option (List ℕ)) → Counts) → (List (Option (List ℕ)) → Counts) → List ℕ → Type 0
 Went left left' old new o o' n n' held =
     (taken : List ℕ) × Consumes left left' taken × Wrote old new (λ rest. o (readings_from (taken ++ rest) [])) (λ rest. o' (readings_from rest held))
-        × ((rest : List ℕ) → n (readings_from (taken ++ rest) []) ≡ n' (readings_from rest held))
+    × ((rest : List ℕ) → n (readings_from (taken ++ rest) []) ≡ n' (readings_from rest held))
 
 pub went-on : (left left' left'' a b c : Option (List ℕ)) (o o' o'' : List (Option (List ℕ)) → List ℕ) (n n' n'' : List (Option (List ℕ)) → Counts) (held held' piece : List ℕ)
     → Went left left' a b o o' n n' held → Consumes left' left'' piece
@@ -199,4 +199,3 @@ pub went-whole_front : (left left' left'' a b c : Option (List ℕ)) (o o' : Lis
 went-whole_front left left' left'' a b c o o' n n' held none e (taken, reads, w, k) more ends v =
     Consumes-whole left left'' (taken ++ none) (λ input. AppendsFront a c (o (readings_from input []))) (Consumes-trans left left' left'' taken none reads more) ends
     (w.0 ++ v.0, Appends-trans a b c _ _ w.1 v.1, (v.2.0, ap (λ l. o (readings_from (taken ++ l) [])) e ∙ w.2 [] ∙ ap (λ l. w.0 ++ l) v.2.1 ∙ sym (append_assoc w.0 v.0 v.2.0)))
-

@@ -2,7 +2,7 @@
 //!
 //! A line ends at a line feed, which is no part of it. A carriage return is a byte of its line like any other.
 //! What follows the last line feed is a line too, unless it is empty.
-ghost use Rattle.std.specs.Prelude.{◌≡◌, ℕ, ◌+◌, ◌-◌, ◌^◌, ◌≤◌, ◌<◌, Bool, List, [], ◌∷◌, ◌++◌, None, Some, true, length, take, drop, OnOk, OnErr, IfOk, IfSome, IfNone, OnSome, vec_len, IsErrOf, All, ◌≢◌};
+ghost use Rattle.std.specs.Prelude.{◌≡◌, ℕ, ◌+◌, ◌^◌, ◌≤◌, ◌<◌, Bool, List, [], ◌∷◌, ◌++◌, None, Some, true, length, take, drop, OnOk, OnErr, IfOk, IfSome, IfNone, vec_len, IsErrOf, All, ◌≢◌};
 ghost use Rattle.std.specs.declared.option.Option.{Option};
 ghost use Rattle.std.specs.Io.KnownBytes.{Appends};
 ghost use Rattle.sdb_lines.specs.Lines.{reading_of, readings_from};

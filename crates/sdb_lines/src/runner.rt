@@ -2,7 +2,7 @@
 //!
 //! All that is pending is written and flushed before the next read, so whoever writes a line and waits gets the answer
 //! without having to send more.
-ghost use Rattle.std.specs.Prelude.{◌≡◌, ℕ, ◌+◌, ◌-◌, ◌^◌, ◌≤◌, ◌<◌, ◌⊎◌, ◌++◌, List, [], true, if◌then◌else◌, length, min, map, OnOk, OnErr, IfOk, IfSome, vec_len, IsErrOf};
+ghost use Rattle.std.specs.Prelude.{◌≡◌, ◌+◌, ◌-◌, ◌^◌, ◌≤◌, ◌<◌, ◌⊎◌, ◌++◌, true, if◌then◌else◌, length, min, map, OnOk, OnErr, IfOk, IfSome, vec_len, IsErrOf};
 ghost use Rattle.std.specs.Io.KnownBytes.{Appends};
 ghost use Rattle.sdb_lines.specs.Lines.{reading_of, lines_of};
 ghost use Rattle.sdb_lines.specs.Counting.{steps_of};
@@ -12,6 +12,8 @@ ghost use Rattle.sdb_lines.specs.declared.runner.RunFault.{RunFault};
 use crate::cutting::{Pending, Replier, answer_piece, answer_rest, write_opening};
 use crate::streams::{Sink, Source};
 use std::alloc::{AllocError, Global};
+use std::error::Error;
+use std::fmt;
 
 /// The most reads that one run makes: 2^40.
 pub const READ_LIMIT: u64 = 1_099_511_627_776;
@@ -54,6 +56,18 @@ pub enum RunFault {
     Memory,
 }
 
+impl fmt::Display for RunFault {
+    fn fmt<W: fmt::Write>(&self, f: &mut fmt::Formatter<W>) -> fmt::Result {
+        match self {
+            RunFault::Read => write!(f, "the input could not be read to its end"),
+            RunFault::Write => write!(f, "an answer could not be written"),
+            RunFault::Memory => write!(f, "out of memory"),
+        }
+    }
+}
+
+impl Error for RunFault {}
+
 /// Writes the opening text, reads the input to its end, and writes the answer to each of its lines.
 ///
 /// What is pending is written and flushed before each read and at the end, and also, unflushed, once it has reached
@@ -70,7 +84,7 @@ pub fn run_lines<M: Replier, R: Source, W: Sink>(
 ) -> Result<Counts, RunFault>
     ensures whole { OnOk result (IfSome (R.left reader.old) (λ input.
         Appends (W.contents writer.old) (W.contents writer.new)
-            (M.opening machine.old ++ M.output machine.old (map reading_of (lines_of input))))) }
+        (M.opening machine.old ++ M.output machine.old (map reading_of (lines_of input))))) }
 
     ensures lines { IfOk result (λ counts. IfSome (R.left reader.old) (λ input.
         counts.lines ≡ length (lines_of input))) }
@@ -81,7 +95,7 @@ pub fn run_lines<M: Replier, R: Source, W: Sink>(
     // After a fault a front of the whole answer was written.
     ensures front { OnErr result (IfSome (R.left reader.old) (λ input.
         AppendsFront (W.contents writer.old) (W.contents writer.new)
-            (M.opening machine.old ++ M.output machine.old (map reading_of (lines_of input))))) }
+        (M.opening machine.old ++ M.output machine.old (map reading_of (lines_of input))))) }
 
     // Where the end was reached, no read, write or flush failed.
     ensures reads { OnOk result (R.has_failed reader.new ≡ R.has_failed reader.old) }

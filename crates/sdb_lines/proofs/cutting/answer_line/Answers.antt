@@ -1,4 +1,4 @@
-use Rattle.std.proofs.Common.{◌≡◌, ℕ, List, ◌∷◌, ◌++◌, Some, None, OnOk, ◌∙◌, ap, sym, arith, length, ◌≤◌, refl}
+use Rattle.std.proofs.Common.{◌≡◌, Some, None, ◌∙◌, ap, sym, arith, length, ◌≤◌, refl}
 use Rattle.sdb_lines.specs.Lines.{reading_of}
 use Rattle.sdb_lines.proofs.Pieces.{reading-good, reading-bad}
 use Rattle.sdb_lines.proofs.cutting.answer_line.Goals as goal

@@ -1,4 +1,4 @@
-use Rattle.std.proofs.Common.{◌++◌, List, ℕ}
+use Rattle.std.proofs.Common.{◌++◌}
 use Rattle.sdb_lines.specs.Lines.{readings_from}
 use Rattle.sdb_lines.proofs.Writes.{shown, shown-front, stopped-empty}
 use Rattle.sdb_lines.proofs.cutting.answer_piece.Goals as goal

@@ -1,4 +1,4 @@
-use Rattle.std.proofs.Common.{arith, ◌≡◌, ◌+◌, ◌-◌, ◌≤◌, length, min, take, ◌++◌}
+use Rattle.std.proofs.Common.{arith}
 use Rattle.sdb_lines.proofs.Pieces.{hold-more, on_ok-if}
 use Rattle.sdb_lines.proofs.cutting.hold.Goals as goal
 

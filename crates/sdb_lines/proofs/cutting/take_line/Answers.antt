@@ -1,4 +1,4 @@
-use Rattle.std.proofs.Common.{rules, sym, ap, ◌∙◌, ◌+◌, ◌++◌, ◌∷◌, [], List, ℕ, ◌≡◌}
+use Rattle.std.proofs.Common.{rules, sym, ap, ◌∙◌, ◌+◌, ◌++◌, ◌∷◌, [], List, ℕ}
 use Rattle.std.specs.Prelude.{if◌then◌else◌}
 use Rattle.std.specs.declared.option.Option.{Option}
 use Rattle.sdb_lines.specs.Lines.{reading_of, readings_from}

@@ -1,4 +1,4 @@
-use Rattle.std.proofs.Common.{arith, rules, sym, ap, ◌∙◌, ◌≡◌, ◌+◌, ◌-◌, ◌++◌, ◌∷◌, ◌<◌, List, ℕ, length, take, drop, length-drop}
+use Rattle.std.proofs.Common.{arith, rules, ◌∙◌, ◌+◌, ◌-◌, ◌++◌, length, drop, length-drop}
 use Rattle.std.proofs.lemmas.List.{length-take}
 use Rattle.sdb_lines.specs.Lines.{readings_from}
 use Rattle.sdb_lines.specs.Counting.{counted}

@@ -1,4 +1,4 @@
-use Rattle.std.proofs.Common.{◌≡◌, ℕ, ◌+◌, ◌-◌, ◌≤◌, ◌++◌, List, length, take, vec_len}
+use Rattle.std.proofs.Common.{◌≡◌, ℕ, ◌+◌, ◌≤◌, ◌++◌, List, length, vec_len}
 use Rattle.sdb_lines.specs.Told.{Wrote}
 use Rattle.sdb_lines.specs.Lines.{readings_from}
 use Rattle.sdb_lines.specs.Counting.{counted}

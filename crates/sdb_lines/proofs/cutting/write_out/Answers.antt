@@ -1,4 +1,4 @@
-use Rattle.std.proofs.Common.{arith, length, ◌++◌, ◌∙◌, take}
+use Rattle.std.proofs.Common.{arith, ◌∙◌}
 use Rattle.std.proofs.lemmas.Bool.{ne_eqb}
 use Rattle.sdb_lines.proofs.Writes.{put-more, front-taken, Appends-kept}
 use Rattle.sdb_lines.proofs.cutting.write_out.Goals as goal

@@ -1,5 +1,4 @@
-use Rattle.std.proofs.Common.{arith, rules, ◌≡◌, ◌++◌, ◌+◌, ◌*◌, ℕ, List, inl, inr, take, [], length, ap, ◌∙◌, refl}
-use Rattle.std.specs.declared.option.Option.{Option}
+use Rattle.std.proofs.Common.{arith, ◌++◌, take, [], ap, ◌∙◌}
 use Rattle.std.proofs.lemmas.List.{length-take}
 use Rattle.sdb_lines.specs.Lines.{readings_from}
 use Rattle.sdb_lines.specs.Counting.{counted}

@@ -1,7 +1,5 @@
-use Rattle.std.proofs.Common.{◌≡◌, ℕ, ◌+◌, ◌-◌, ◌*◌, ◌^◌, ◌≤◌, ◌<◌, ◌++◌, List, min, vec_len, length, []}
-use Rattle.std.specs.declared.option.Option.{Option}
+use Rattle.std.proofs.Common.{◌≡◌, ◌+◌, ◌-◌, ◌*◌, ◌^◌, ◌≤◌, ◌++◌, min, vec_len, length, []}
 use Rattle.sdb_lines.specs.Counting.{counted}
-use Rattle.sdb_lines.specs.declared.runner.Counts.{Counts}
 use Rattle.sdb_lines.proofs.Writes.{Went}
 use Rattle.sdb_lines.proofs.runner.run_lines.Given as goal
 

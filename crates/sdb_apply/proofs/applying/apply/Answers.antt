@@ -1,0 +1,34 @@
+use Rattle.std.proofs.Common.{◌≡◌, ℕ, ◌+◌, ◌<◌, List, length, get_or, take, drop, Some, None, Err, ◌∙◌, ap, sym, subst}
+use Rattle.std.proofs.lemmas.List.{take-append-drop}
+use Rattle.sdb_value.specs.Value.{Value}
+use Rattle.sdb_value.specs.View.{view}
+use Rattle.sdb_component.specs.Plain.{PlainComponent}
+use Rattle.sdb_apply.specs.Does.{does, applies}
+use Rattle.sdb_apply.specs.Outcome.{Outcome, takes_memory}
+use Rattle.sdb_apply.specs.declared.applying.ApplyFault.{ApplyFault}
+use Rattle.sdb_apply.specs.declared.applying.ApplyFault.TheVariants.{NotApplied}
+use Rattle.sdb_apply.proofs.Lists.{more_taken, none_more}
+use Rattle.sdb_apply.proofs.applying.apply.Goals as goal
+
+-- the component at i of what is read comes next
+next_is : (s op : List PlainComponent) (i : ℕ) (c : PlainComponent) (d e : Value) → s ≡ op → i < length s → c ≡ get_or s i c → applies (take i op) d ≡ Some e → applies (take (i + 1) op) d ≡ does c e
+next_is s op i c d e same h is done = rw (← same) (more_taken s i c d e h is (rw same done))
+
+-- nothing comes of the whole where nothing comes of a front of it
+front_none : (op : List PlainComponent) (n : ℕ) (d : Value) → applies (take n op) d ≡ None → applies op d ≡ None
+front_none op n d h = ap (λ l. applies l d) (sym (take-append-drop n op)) ∙ none_more (take n op) (drop n op) d h
+
+pub loop-at-preserved : goal.loop-at-preserved
+loop-at-preserved c =
+    next_is _ c.args.op.now c.loop-at.at c.component-item.result (view c.args.value.now) (view c.loop-at.value) c.components-component-items.ensures c.loop-at-test.true c.component-item.is c.loop-at.invariant
+    ∙ c.in-Ok.ensures
+
+pub returns-in-Err-clause-refused : goal.returns-in-Err-clause-refused
+returns-in-Err-clause-refused c =
+    let one = c.component-item.result in
+    let Says : ApplyFault → Type 0 = λ f. Outcome (takes_memory one.act) (Err f) (does one (view c.loop-at.value)) (view c.loop-at.value) (view c.act_at.new.value) in
+    λ no. next_is _ c.args.op.now c.loop-at.at one (view c.args.value.now) (view c.loop-at.value) c.components-component-items.ensures c.loop-at-test.true c.component-item.is c.loop-at.invariant
+    ∙ (subst Says no c.in-Err.ensures).0
+
+pub returns-in-Err-clause-none : goal.returns-in-Err-clause-none
+returns-in-Err-clause-none c = λ no. front_none c.args.op.now (c.loop-at.at + 1) (view c.args.value.now) (returns-in-Err-clause-refused c no)

@@ -1,0 +1,20 @@
+-- How a change in place ends.
+use Rattle.std.specs.Prelude.{◌≡◌, Bool, true, false, Option, Some, None, Result, Ok, Err, ⊤}
+use Rattle.sdb_component.specs.Plain.{PlainAct, na, si, sd, li, ld, lr, oi, od, or}
+use Rattle.sdb_apply.specs.declared.applying.ApplyFault.{ApplyFault}
+use Rattle.sdb_apply.specs.declared.applying.ApplyFault.TheVariants.{NotApplied, Memory}
+
+-- only what puts something in takes memory
+abbrev pub takes_memory : PlainAct → Bool
+takes_memory (na x) = false
+takes_memory (sd p s) = false
+takes_memory (ld i x) = false
+takes_memory (od k x) = false
+takes_memory _ = true
+
+-- done, and the value is the effect; not applied, there is none, and the value is as it was; or memory was
+-- wanting, and the value is as it was
+abbrev pub Outcome : {A : Type 0} → Bool → Result ⊤ ApplyFault → Option A → A → A → Type 0
+Outcome grows (Ok _) o d e = o ≡ Some e
+Outcome grows (Err NotApplied) o d e = (o ≡ None) × (e ≡ d)
+Outcome grows (Err Memory) o d e = (grows ≡ true) × (e ≡ d)

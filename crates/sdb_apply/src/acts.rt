@@ -1,0 +1,129 @@
+//! What each act does at its place.
+ghost use Rattle.std.specs.Prelude.{◌≡◌, ◌+ℤ◌, false, true, if◌then◌else◌, string_bytes};
+ghost use Rattle.sdb_value.specs.Profile.{in_range};
+ghost use Rattle.sdb_value.specs.Text.{insert_text, remove_text};
+ghost use Rattle.sdb_value.specs.Value.{insert_item, remove_item, replace_item, put, without};
+ghost use Rattle.sdb_value.specs.View.{view};
+ghost use Rattle.sdb_component.specs.View.{plain_act};
+ghost use Rattle.sdb_apply.specs.Does.{effect, on_number, on_text, on_list, on_object};
+ghost use Rattle.sdb_apply.specs.declared.applying.ApplyFault.TheVariants.{NotApplied};
+ghost use Rattle.sdb_apply.specs.Outcome.{Outcome, takes_memory};
+
+use crate::applying::ApplyFault;
+use sdb_component::{Act, Piece};
+use sdb_value::{
+    Json, Whole, insert_item, insert_text, list_mut, object_mut, put_member, remove_item,
+    remove_member, remove_text, replace_item, text_mut,
+};
+use std::alloc::Global;
+
+pub(crate) fn act_on(alloc: Global, place: &mut Json, act: &Act) -> Result<(), ApplyFault>
+    ensures { Outcome (takes_memory (plain_act act.now)) result (effect (plain_act act.now) (view place.old)) (view place.old) (view place.new) }
+{
+    match act {
+        Act::Na(amount) => add(place, *amount),
+        Act::Si(offset, piece) => insert_at(place, *offset, piece),
+        Act::Sd(offset, piece) => delete_at(place, *offset, piece),
+        Act::Li(index, value) => insert(alloc, place, *index, value),
+        Act::Ld(index, _removed) => delete(place, *index),
+        Act::Lr(index, _removed, value) => replace(alloc, place, *index, value),
+        Act::Oi(key, value) => set_key(alloc, place, key, value),
+        Act::Od(key, _removed) => remove_key(place, key),
+        Act::Or(key, _removed, value) => set_key(alloc, place, key, value),
+    }
+}
+
+fn add(place: &mut Json, amount: Whole) -> Result<(), ApplyFault>
+    ensures { Outcome false result (on_number (λ n. in_range (n +ℤ amount)) (view place.old)) (view place.old) (view place.new) }
+{
+    if let Json::Int(n) = place {
+        match n.plus(amount) {
+            Some(sum) => {
+                *n = sum;
+                return Ok(());
+            }
+            None => {}
+        }
+    }
+    Err(ApplyFault::NotApplied)
+}
+
+fn insert_at(place: &mut Json, offset: u64, piece: &Piece) -> Result<(), ApplyFault>
+    ensures { Outcome true result (on_text (insert_text offset piece.now) (view place.old)) (view place.old) (view place.new) }
+{
+    match text_mut(place) {
+        Some(text) => done_if(insert_text(text, offset, piece.as_str())?),
+        None => Err(ApplyFault::NotApplied),
+    }
+}
+
+fn delete_at(place: &mut Json, offset: u64, piece: &Piece) -> Result<(), ApplyFault>
+    ensures { Outcome false result (on_text (remove_text offset piece.now) (view place.old)) (view place.old) (view place.new) }
+{
+    match text_mut(place) {
+        Some(text) => done_if(remove_text(text, offset, piece.as_str())),
+        None => Err(ApplyFault::NotApplied),
+    }
+}
+
+fn insert(alloc: Global, place: &mut Json, index: u64, value: &Json) -> Result<(), ApplyFault>
+    ensures { Outcome true result (on_list (insert_item index (view value.now)) (view place.old)) (view place.old) (view place.new) }
+{
+    let copy = value.try_clone(alloc)?;
+    match list_mut(place) {
+        Some(items) => done_if(insert_item(items, index, copy)?),
+        None => Err(ApplyFault::NotApplied),
+    }
+}
+
+fn delete(place: &mut Json, index: u64) -> Result<(), ApplyFault>
+    ensures { Outcome false result (on_list (remove_item index) (view place.old)) (view place.old) (view place.new) }
+{
+    match list_mut(place) {
+        Some(items) => done_if(remove_item(items, index)),
+        None => Err(ApplyFault::NotApplied),
+    }
+}
+
+fn replace(alloc: Global, place: &mut Json, index: u64, value: &Json) -> Result<(), ApplyFault>
+    ensures { Outcome true result (on_list (replace_item index (view value.now)) (view place.old)) (view place.old) (view place.new) }
+{
+    let copy = value.try_clone(alloc)?;
+    match list_mut(place) {
+        Some(items) => done_if(replace_item(items, index, copy)),
+        None => Err(ApplyFault::NotApplied),
+    }
+}
+
+fn set_key(alloc: Global, place: &mut Json, key: &String, value: &Json) -> Result<(), ApplyFault>
+    ensures { Outcome true result (on_object (put (string_bytes key.now) (view value.now)) (view place.old)) (view place.old) (view place.new) }
+{
+    let name = key.clone()?;
+    let copy = value.try_clone(alloc)?;
+    match object_mut(place) {
+        Some(members) => Ok(put_member(members, name, copy)?),
+        None => Err(ApplyFault::NotApplied),
+    }
+}
+
+fn remove_key(place: &mut Json, key: &String) -> Result<(), ApplyFault>
+    ensures { Outcome false result (on_object (without (string_bytes key.now)) (view place.old)) (view place.old) (view place.new) }
+{
+    match object_mut(place) {
+        Some(members) => {
+            remove_member(members, key);
+            Ok(())
+        }
+        None => Err(ApplyFault::NotApplied),
+    }
+}
+
+fn done_if(done: bool) -> Result<(), ApplyFault>
+    ensures { result ≡ (if done then Ok tt else Err NotApplied) }
+{
+    if done {
+        Ok(())
+    } else {
+        Err(ApplyFault::NotApplied)
+    }
+}

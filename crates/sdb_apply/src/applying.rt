@@ -1,0 +1,102 @@
+//! Components and operations, applied.
+ghost use Rattle.std.specs.Prelude.{◌≡◌, ◌+◌, ◌<◌, take, length, true, OnOk, OnErr, IfErr, IsErrOf, Some, None};
+ghost use Rattle.sdb_value.specs.View.{view};
+ghost use Rattle.sdb_component.specs.View.{plain_act};
+ghost use Rattle.sdb_apply.specs.Does.{does, applies, effect};
+ghost use Rattle.sdb_apply.specs.Outcome.{Outcome, takes_memory};
+ghost use Rattle.sdb_apply.specs.declared.applying.ApplyFault.TheVariants.{NotApplied, Memory};
+
+use crate::acts::act_on;
+use sdb_component::{Act, Component, Op};
+use sdb_value::{Change, Json, change_at};
+use std::alloc::{AllocError, Global};
+use thiserror::Error;
+
+/// Why a component changed nothing.
+#[derive(Clone, Copy, PartialEq, Eq, Debug, Drop, Error)]
+pub enum ApplyFault {
+    /// It has no effect on the value: E8.
+    #[error("operation can not be applied")]
+    NotApplied,
+    /// A growth was refused: E10.
+    #[error("out of memory")]
+    Memory,
+}
+
+impl From<AllocError> for ApplyFault {
+    ghost use Rattle.sdb_apply.specs.declared.applying.ApplyFault.TheVariants.{Memory};
+
+    ghost from_gives = { λ _ f. f ≡ Memory };
+
+    fn from(_error: AllocError) -> ApplyFault {
+        ApplyFault::Memory
+    }
+}
+
+/// The component of an operation that was refused, by its place in the list, and why.
+#[derive(Clone, Copy, Debug, Drop)]
+pub struct Refused {
+    /// How many components stand before it.
+    pub at: usize,
+    /// Why it was refused.
+    pub why: ApplyFault,
+}
+
+/// Applies the component in place, through a borrow of the one value that it changes. After a
+/// refusal the value is unchanged.
+pub fn apply_one(alloc: Global, value: &mut Json, component: &Component) -> Result<(), ApplyFault>
+    ensures done { OnOk result (does component.now (view value.old) ≡ Some (view value.new)) }
+    ensures refused { IsErrOf result NotApplied → does component.now (view value.old) ≡ None }
+    ensures memory { IsErrOf result Memory → takes_memory component.now.act ≡ true }
+    ensures unchanged { OnErr result (view value.new ≡ view value.old) }
+{
+    act_at(alloc, value, component)
+}
+
+fn act_at(alloc: Global, value: &mut Json, component: &Component) -> Result<(), ApplyFault>
+    ensures { Outcome (takes_memory component.now.act) result (does component.now (view value.old)) (view value.old) (view value.new) }
+{
+    let turn = Turn {
+        alloc,
+        act: component.act(),
+    };
+    match change_at(value, component.path(), turn) {
+        Some(done) => done,
+        None => Err(ApplyFault::NotApplied),
+    }
+}
+
+/// Applies the components one after the other, in place. After a refusal the value is what the
+/// components before the refused one made of it.
+pub fn apply(alloc: Global, value: &mut Json, op: &Op) -> Result<(), Refused>
+    ensures done { OnOk result (applies op.now (view value.old) ≡ Some (view value.new)) }
+    ensures before { IfErr result (λ r. applies (take r.at op.now) (view value.old) ≡ Some (view value.new)) }
+    ensures within { IfErr result (λ r. r.at < length op.now) }
+    ensures refused { IfErr result (λ r. r.why ≡ NotApplied → applies (take (r.at + 1) op.now) (view value.old) ≡ None) }
+    ensures none { IfErr result (λ r. r.why ≡ NotApplied → applies op.now (view value.old) ≡ None) }
+{
+    for (at, component) in op.components().iter().enumerate() {
+        match act_at(alloc, value, component) {
+            Ok(()) => {}
+            Err(why) => return Err(Refused { at, why }),
+        }
+    }
+    Ok(())
+}
+
+// The act of a component, on its way to the place.
+#[derive(Drop)]
+struct Turn<'a> {
+    alloc: Global,
+    act: &'a Act,
+}
+
+impl Change for Turn<'_> {
+    type Output = Result<(), ApplyFault>;
+
+    ghost makes = { λ t d e r. Outcome (takes_memory (plain_act t.act.now)) r (effect (plain_act t.act.now) d) d e };
+
+    fn change(self, place: &mut Json) -> Result<(), ApplyFault> {
+        act_on(self.alloc, place, self.act)
+    }
+}

@@ -1,0 +1,7 @@
+//! Operations applied to a value in place.
+#![tactic(auto)]
+
+mod acts;
+mod applying;
+
+pub use applying::{ApplyFault, Refused, apply, apply_one};
