@@ -1,6 +1,6 @@
 //! Components and operations, applied.
 ghost use Rattle.std.specs.Prelude.{◌≡◌, ◌+◌, ◌<◌, take, length, true, OnOk, OnErr, IfErr, IsErrOf, Some, None};
-ghost use Rattle.sdb_value.specs.View.{view};
+ghost use Rattle.sdb_value.specs.View.{view, plain_path};
 ghost use Rattle.sdb_component.specs.View.{plain_act};
 ghost use Rattle.sdb_apply.specs.Does.{does, applies, effect};
 ghost use Rattle.sdb_apply.specs.Outcome.{Outcome, takes_memory};
@@ -8,7 +8,7 @@ ghost use Rattle.sdb_apply.specs.declared.applying.ApplyFault.TheVariants.{NotAp
 
 use crate::acts::act_on;
 use sdb_component::{Act, Component, Op};
-use sdb_value::{Change, Json, change_at};
+use sdb_value::{Change, Json, Step, change_at};
 use std::alloc::{AllocError, Global};
 use thiserror::Error;
 
@@ -53,17 +53,21 @@ pub fn apply_one(alloc: Global, value: &mut Json, component: &Component) -> Resu
     act_at(alloc, value, component)
 }
 
-fn act_at(alloc: Global, value: &mut Json, component: &Component) -> Result<(), ApplyFault>
-    ensures { Outcome (takes_memory component.now.act) result (does component.now (view value.old)) (view value.old) (view value.new) }
+/// Applies the act at the path, as a component of both would be: for a value that lies deeper in a
+/// document than the path tells.
+pub fn apply_at(alloc: Global, value: &mut Json, path: &[Step], act: &Act) -> Result<(), ApplyFault>
+    ensures { Outcome (takes_memory (plain_act act.now)) result (does (record { path = plain_path path.now; act = plain_act act.now }) (view value.old)) (view value.old) (view value.new) }
 {
-    let turn = Turn {
-        alloc,
-        act: component.act(),
-    };
-    match change_at(value, component.path(), turn) {
+    match change_at(value, path, Turn { alloc, act }) {
         Some(done) => done,
         None => Err(ApplyFault::NotApplied),
     }
+}
+
+fn act_at(alloc: Global, value: &mut Json, component: &Component) -> Result<(), ApplyFault>
+    ensures { Outcome (takes_memory component.now.act) result (does component.now (view value.old)) (view value.old) (view value.new) }
+{
+    apply_at(alloc, value, component.path(), component.act())
 }
 
 /// Applies the components one after the other, in place. After a refusal the value is what the

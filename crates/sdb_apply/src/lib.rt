@@ -4,4 +4,4 @@
 mod acts;
 mod applying;
 
-pub use applying::{ApplyFault, Refused, apply, apply_one};
+pub use applying::{ApplyFault, Refused, apply, apply_at, apply_one};

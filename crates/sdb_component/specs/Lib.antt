@@ -4,3 +4,4 @@ pub mod Prints
 pub mod Reads
 pub mod View
 pub mod Weighs
+pub mod Worked

@@ -1,4 +1,4 @@
--- Components as plain data (json0's README, "Summary of operations").
+-- Components as plain data.
 use Rattle.std.specs.Prelude.{ℕ, ℤ, List}
 use Rattle.sdb_value.specs.Value.{Value, PlainStep}
 

@@ -3,7 +3,7 @@ use Rattle.std.specs.Prelude.{ℕ, List, [], ◌∷◌, ◌++◌, codes}
 use Rattle.serde_json.specs.Data as raw
 use Rattle.serde_json.specs.Data.{Data}
 use Rattle.serde_json.specs.Find.{of_integer}
-use Rattle.sdb_value.specs.Value.{Value, PlainStep, key, index}
+use Rattle.sdb_value.specs.Value.{PlainStep, key, index}
 use Rattle.sdb_value.specs.Profile.{to_data}
 use Rattle.sdb_component.specs.Plain.{PlainAct, na, si, sd, li, ld, lr, oi, od, or, PlainComponent}
 
@@ -18,17 +18,21 @@ path_items (s ∷ p) = raw.item (step_data s) (path_items p)
 abbrev pub path_data : List PlainStep → Data
 path_data p = raw.array (path_items p)
 
+-- the last step of the path, where the act has one
+abbrev pub last_step : PlainAct → List PlainStep
+last_step (na x) = []
+last_step (si p s) = index p ∷ []
+last_step (sd p s) = index p ∷ []
+last_step (li i v) = index i ∷ []
+last_step (ld i x) = index i ∷ []
+last_step (lr i x y) = index i ∷ []
+last_step (oi k v) = key k ∷ []
+last_step (od k x) = key k ∷ []
+last_step (or k x y) = key k ∷ []
+
 -- the container's path with the last step behind it
 abbrev pub whole_path : List PlainStep → PlainAct → List PlainStep
-whole_path q (na x) = q
-whole_path q (si p s) = q ++ index p ∷ []
-whole_path q (sd p s) = q ++ index p ∷ []
-whole_path q (li i v) = q ++ index i ∷ []
-whole_path q (ld i x) = q ++ index i ∷ []
-whole_path q (lr i x y) = q ++ index i ∷ []
-whole_path q (oi k v) = q ++ key k ∷ []
-whole_path q (od k x) = q ++ key k ∷ []
-whole_path q (or k x y) = q ++ key k ∷ []
+whole_path q a = q ++ last_step a
 
 abbrev pub one_member : List ℕ → Data → raw.Members
 one_member k d = raw.member k d raw.no_members

@@ -1,4 +1,4 @@
--- Which operation a JSON value is (json0's README, "Summary of operations"; the profile's limits).
+-- Which operation a JSON value is, within the limits on its size.
 use Rattle.std.specs.Prelude.{◌≡◌, ℕ, suc, ℤ, List, [], ◌∷◌, ◌++◌, Bool, true, false, ◌||◌, if◌then◌else◌, nat_lt, codes, Option, Some, None, option_map, option_and_then, ⊤}
 use Rattle.std.specs.Option.{is_some}
 use Rattle.serde_json.specs.Data as raw
@@ -64,18 +64,25 @@ shape_of d =
 
 -- ---- a component
 
--- what is made of the path without its last step, and of that step, where it is a number; where it is a text
+-- the path without its last step, and that step, where it is a number; where it is a text
+abbrev pub index_last : List PlainStep → Option (List PlainStep × ℕ)
+index_last [] = None
+index_last (index i ∷ []) = Some ([], i)
+index_last (key k ∷ []) = None
+index_last (s ∷ t ∷ p) = option_map (λ l. (s ∷ l.0, l.1)) (index_last (t ∷ p))
+
+abbrev pub key_last : List PlainStep → Option (List PlainStep × List ℕ)
+key_last [] = None
+key_last (key k ∷ []) = Some ([], k)
+key_last (index i ∷ []) = None
+key_last (s ∷ t ∷ p) = option_map (λ l. (s ∷ l.0, l.1)) (key_last (t ∷ p))
+
+-- what is made of these two
 abbrev pub at_index : {A : Type 0} → (List PlainStep → ℕ → Option A) → List PlainStep → Option A
-at_index f [] = None
-at_index f (index i ∷ []) = f [] i
-at_index f (key k ∷ []) = None
-at_index f (s ∷ t ∷ p) = at_index (λ q i. f (s ∷ q) i) (t ∷ p)
+at_index f p = option_and_then (λ l. f l.0 l.1) (index_last p)
 
 abbrev pub at_key : {A : Type 0} → (List PlainStep → List ℕ → Option A) → List PlainStep → Option A
-at_key f [] = None
-at_key f (key k ∷ []) = f [] k
-at_key f (index i ∷ []) = None
-at_key f (s ∷ t ∷ p) = at_key (λ q k. f (s ∷ q) k) (t ∷ p)
+at_key f p = option_and_then (λ l. f l.0 l.1) (key_last p)
 
 abbrev pub whole_at : List ℕ → Data → Option ℤ
 whole_at k d = option_and_then whole_of (option_and_then as_number (get k d))

@@ -73,4 +73,12 @@ impl Component {
     {
         &self.act
     }
+
+    /// The container's path and what is done there, given up.
+    pub fn into_parts(self) -> (Vec<Step>, Act)
+        ensures path { plain_path result.0.items ≡ self.path }
+        ensures act { plain_act result.1 ≡ self.act }
+    {
+        (self.path, self.act)
+    }
 }

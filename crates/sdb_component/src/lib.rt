@@ -1,14 +1,26 @@
-//! Operations: lists of components, each a change of one place (json0's README, "Summary of
-//! operations").
+//! Operations: lists of components, each a change of one place.
 #![tactic(auto)]
 
 mod component;
+mod copies;
+mod lists;
+mod members;
 mod operation;
+mod paths;
 mod piece;
+mod printing;
 mod reading;
 mod shape;
+mod shaped;
+mod weighing;
 
 pub use component::{Act, Component};
+pub use copies::copy_path;
 pub use operation::Op;
 pub use piece::Piece;
-pub use reading::OpFault;
+pub use printing::op_value;
+pub use reading::{OpFault, read_op};
+pub use weighing::weight;
+
+#[cfg(test)]
+mod tests;

@@ -47,4 +47,12 @@ impl Piece {
         let text = self.text.clone()?;
         Ok(Piece { text })
     }
+
+    /// The text, given up.
+    pub fn into_string(self) -> String
+        ensures value { string_bytes result ≡ self }
+        ensures filled { 0 < length (string_bytes result) }
+    {
+        self.text
+    }
 }

@@ -1,9 +1,14 @@
 //! Reads operations.
-ghost use Rattle.std.specs.Prelude.{◌≡◌, IfOk, IfErr, Some};
-ghost use Rattle.serde_json.specs.View.{view as data_view};
-ghost use Rattle.sdb_component.specs.Reads.{op_of, Unread};
+ghost use Rattle.std.specs.Prelude.{◌≡◌, IfOk, IfErr, Some, option_to_list};
+ghost use Rattle.serde_json.specs.View.{view as data_view, items_view};
+ghost use Rattle.sdb_component.specs.Reads.{component_of, components_of, op_of, Unread};
 
+use crate::component::Component;
+use crate::lists::push_some;
 use crate::operation::Op;
+use crate::paths::path_of;
+use crate::shape::shape_of;
+use crate::shaped::shaped;
 use serde_json::Value;
 use std::alloc::{AllocError, Global};
 use thiserror::Error;
@@ -11,10 +16,10 @@ use thiserror::Error;
 /// Why a value is no operation.
 #[derive(Debug, Drop, Error)]
 pub enum OpFault {
-    /// It is none of the nine shapes, or passes a limit: E3.
+    /// A part of it is of none of the nine shapes, or passes a limit.
     #[error("operation is badly formed")]
     Form,
-    /// A growth was refused: E10.
+    /// An allocation failed. Nothing is said of the value.
     #[error("out of memory")]
     Memory,
 }
@@ -27,4 +32,54 @@ impl From<AllocError> for OpFault {
     fn from(_error: AllocError) -> OpFault {
         OpFault::Memory
     }
+}
+
+/// The operation that a JSON value is: an array of at most 256 components, each an object with a
+/// path `p` of at most 50 steps and the members of one of the nine shapes. Other members are left
+/// aside, but for `lm`, `t` and `o`, which no component may have.
+///
+/// A step is a text or a whole number from 0 to 9007199254740991; the number of `na` is whole, at
+/// most 9007199254740991 in size; a value nests at most 50 deep, and has such numbers alone. An
+/// insert or a delete of an empty text is checked like any other, counts as a component, and is then
+/// dropped.
+#[tactic(auto, using(crate::proofs::Sizes::view_size))]
+pub fn read_op(alloc: Global, value: &Value) -> Result<Op, OpFault>
+    ensures ok { IfOk result (λ o. op_of (data_view value.now) ≡ Some o) }
+    ensures err { IfErr result (λ f. Unread (op_of (data_view value.now)) f) }
+{
+    let Some(items) = value.as_array() else {
+        return Err(OpFault::Form);
+    };
+    if items.len() > 256 {
+        return Err(OpFault::Form);
+    }
+    let components = components_of(alloc, items)?;
+    Ok(Op::new(components))
+}
+
+fn components_of(alloc: Global, items: &Vec<Value>) -> Result<Vec<Component>, OpFault>
+    ensures ok { IfOk result (λ cs. components_of (items_view items.now.items) ≡ Some cs.items) }
+    ensures err { IfErr result (λ f. Unread (components_of (items_view items.now.items)) f) }
+{
+    let mut components = Vec::new(alloc);
+    for item in items {
+        let component = component_of(alloc, item)?;
+        push_some(&mut components, component)?;
+    }
+    Ok(components)
+}
+
+// The component that a value is, or none where it is dropped.
+fn component_of(alloc: Global, value: &Value) -> Result<Option<Component>, OpFault>
+    ensures ok { IfOk result (λ c. component_of (data_view value.now) ≡ Some (option_to_list c)) }
+    ensures err { IfErr result (λ f. Unread (component_of (data_view value.now)) f) }
+{
+    let Some(shape) = shape_of(value) else {
+        return Err(OpFault::Form);
+    };
+    let Some(sent) = value.get("p") else {
+        return Err(OpFault::Form);
+    };
+    let path = path_of(alloc, sent)?;
+    shaped(alloc, shape, path, value)
 }

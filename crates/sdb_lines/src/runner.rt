@@ -68,7 +68,8 @@ impl fmt::Display for RunFault {
 
 impl Error for RunFault {}
 
-/// Writes the opening text, reads the input to its end, and writes the answer to each of its lines.
+/// Writes the opening text, reads the input to its end, and writes the answer to each of its lines. On `Ok` it tells how
+/// many lines there were, and how many of them were steps.
 ///
 /// What is pending is written and flushed before each read and at the end, and also, unflushed, once it has reached
 /// 64 KiB. A read takes at most 64 KiB, and at most [`READ_LIMIT`] reads are made. At most 1,048,577 bytes of a line are

@@ -238,3 +238,16 @@ fn tells_of_a_failed_write(rt: HostRuntime) {
         assert!(rt; OUTPUT.starts_with(writer.taken.as_slice()), "at flush {k}");
     }
 }
+
+#[test]
+fn prints_faults(rt: HostRuntime) -> Result<(), AllocError> {
+    let cases = [
+        (RunFault::Read, "the input could not be read to its end"),
+        (RunFault::Write, "an answer could not be written"),
+        (RunFault::Memory, "out of memory"),
+    ];
+    for (fault, text) in cases {
+        assert_eq!(rt; fault.to_string(rt.alloc())?.as_str(), text);
+    }
+    Ok(())
+}

@@ -1,0 +1,87 @@
+//! Paths as sent.
+ghost use Rattle.std.specs.Prelude.{◌≡◌, ◌++◌, ◌∷◌, [], Some, IfOk, IfErr, OnOk, string_bytes};
+ghost use Rattle.serde_json.specs.View.{view as data_view, items_view};
+ghost use Rattle.sdb_component.specs.Reads.{Unread, index_last, key_last, path_of, step_of, steps_of};
+ghost use Rattle.sdb_value.specs.View.{plain_path, plain_step};
+
+use crate::members::count_of;
+use crate::reading::OpFault;
+use sdb_value::Step;
+use serde_json::Value;
+use std::alloc::{AllocError, Global};
+
+fn step_of(value: &Value) -> Result<Step, OpFault>
+    ensures ok { IfOk result (λ s. step_of (data_view value.now) ≡ Some (plain_step s)) }
+    ensures err { IfErr result (λ f. Unread (step_of (data_view value.now)) f) }
+{
+    match value {
+        Value::String(text) => Ok(Step::Key(text.clone()?)),
+        _ => match count_of(value) {
+            Some(index) => Ok(Step::Index(index)),
+            None => Err(OpFault::Form),
+        },
+    }
+}
+
+fn push_step(steps: &mut Vec<Step>, step: Step) -> Result<(), AllocError>
+    ensures { OnOk result (steps.new.items ≡ steps.old.items ++ step ∷ []) }
+{
+    steps.push(step)?;
+    Ok(())
+}
+
+fn steps_of(alloc: Global, items: &Vec<Value>) -> Result<Vec<Step>, OpFault>
+    ensures ok { IfOk result (λ p. steps_of (items_view items.now.items) ≡ Some (plain_path p.items)) }
+    ensures err { IfErr result (λ f. Unread (steps_of (items_view items.now.items)) f) }
+{
+    let mut steps = Vec::new(alloc);
+    for item in items {
+        let step = step_of(item)?;
+        push_step(&mut steps, step)?;
+    }
+    Ok(steps)
+}
+
+#[tactic(auto, using(crate::proofs::Sizes::view_size))]
+pub(crate) fn path_of(alloc: Global, value: &Value) -> Result<Vec<Step>, OpFault>
+    ensures ok { IfOk result (λ p. path_of (data_view value.now) ≡ Some (plain_path p.items)) }
+    ensures err { IfErr result (λ f. Unread (path_of (data_view value.now)) f) }
+{
+    let Some(items) = value.as_array() else {
+        return Err(OpFault::Form);
+    };
+    if items.len() > 50 {
+        return Err(OpFault::Form);
+    }
+    steps_of(alloc, items)
+}
+
+// The path without its last step, and that step, where it is an index.
+#[tactic(auto, using(crate::proofs::Ends::index_at_end, crate::proofs::Ends::no_index_at_end))]
+pub(crate) fn index_last(mut path: Vec<Step>) -> Result<(Vec<Step>, u64), OpFault>
+    ensures ok { IfOk result (λ l. index_last (plain_path path.items) ≡ Some (plain_path l.0.items, l.1)) }
+    ensures err { IfErr result (λ f. Unread (index_last (plain_path path.items)) f) }
+{
+    let Some(last) = path.pop() else {
+        return Err(OpFault::Form);
+    };
+    match last {
+        Step::Index(index) => Ok((path, index)),
+        Step::Key(_) => Err(OpFault::Form),
+    }
+}
+
+// The path without its last step, and that step, where it is a key.
+#[tactic(auto, using(crate::proofs::Ends::key_at_end, crate::proofs::Ends::no_key_at_end))]
+pub(crate) fn key_last(mut path: Vec<Step>) -> Result<(Vec<Step>, String), OpFault>
+    ensures ok { IfOk result (λ l. key_last (plain_path path.items) ≡ Some (plain_path l.0.items, string_bytes l.1)) }
+    ensures err { IfErr result (λ f. Unread (key_last (plain_path path.items)) f) }
+{
+    let Some(last) = path.pop() else {
+        return Err(OpFault::Form);
+    };
+    match last {
+        Step::Key(key) => Ok((path, key)),
+        Step::Index(_) => Err(OpFault::Form),
+    }
+}

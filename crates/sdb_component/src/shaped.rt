@@ -1,0 +1,128 @@
+//! Components of each shape.
+ghost use Rattle.std.specs.Prelude.{◌≡◌, Some, IfOk, IfErr, option_to_list};
+ghost use Rattle.serde_json.specs.View.{view as data_view};
+ghost use Rattle.sdb_component.specs.Reads.{Unread, shaped};
+ghost use Rattle.sdb_value.specs.View.{plain_path};
+
+use crate::component::{Act, Component};
+use crate::members::{text_at, value_at, whole_at};
+use crate::paths::{index_last, key_last};
+use crate::piece::Piece;
+use crate::reading::OpFault;
+use crate::shape::Shape;
+use sdb_value::Step;
+use serde_json::Value;
+use std::alloc::Global;
+
+// What a component of the shape does at the path, or nothing where its text is empty.
+pub(crate) fn shaped(
+    alloc: Global,
+    shape: Shape,
+    path: Vec<Step>,
+    value: &Value,
+) -> Result<Option<Component>, OpFault>
+    ensures ok { IfOk result (λ c. shaped shape (plain_path path.items) (data_view value.now) ≡ Some (option_to_list c)) }
+    ensures err { IfErr result (λ f. Unread (shaped shape (plain_path path.items) (data_view value.now)) f) }
+{
+    match shape {
+        Shape::Na => add_number(path, value),
+        Shape::Si => insert_text(alloc, path, value),
+        Shape::Sd => delete_text(alloc, path, value),
+        Shape::Li => insert_item(alloc, path, value),
+        Shape::Ld => delete_item(alloc, path, value),
+        Shape::Lr => replace_item(alloc, path, value),
+        Shape::Oi => insert_key(alloc, path, value),
+        Shape::Od => delete_key(alloc, path, value),
+        Shape::Or => replace_key(alloc, path, value),
+    }
+}
+
+fn add_number(path: Vec<Step>, value: &Value) -> Result<Option<Component>, OpFault>
+    ensures ok { IfOk result (λ c. shaped Shape.Na (plain_path path.items) (data_view value.now) ≡ Some (option_to_list c)) }
+    ensures err { IfErr result (λ f. Unread (shaped Shape.Na (plain_path path.items) (data_view value.now)) f) }
+{
+    match whole_at(value, "na") {
+        Some(amount) => Ok(Some(Component::new(path, Act::Na(amount)))),
+        None => Err(OpFault::Form),
+    }
+}
+
+fn insert_text(alloc: Global, path: Vec<Step>, value: &Value) -> Result<Option<Component>, OpFault>
+    ensures ok { IfOk result (λ c. shaped Shape.Si (plain_path path.items) (data_view value.now) ≡ Some (option_to_list c)) }
+    ensures err { IfErr result (λ f. Unread (shaped Shape.Si (plain_path path.items) (data_view value.now)) f) }
+{
+    let (container, offset) = index_last(path)?;
+    let text = text_at(alloc, value, "si")?;
+    match Piece::new(text) {
+        Some(piece) => Ok(Some(Component::new(container, Act::Si(offset, piece)))),
+        None => Ok(None),
+    }
+}
+
+fn delete_text(alloc: Global, path: Vec<Step>, value: &Value) -> Result<Option<Component>, OpFault>
+    ensures ok { IfOk result (λ c. shaped Shape.Sd (plain_path path.items) (data_view value.now) ≡ Some (option_to_list c)) }
+    ensures err { IfErr result (λ f. Unread (shaped Shape.Sd (plain_path path.items) (data_view value.now)) f) }
+{
+    let (container, offset) = index_last(path)?;
+    let text = text_at(alloc, value, "sd")?;
+    match Piece::new(text) {
+        Some(piece) => Ok(Some(Component::new(container, Act::Sd(offset, piece)))),
+        None => Ok(None),
+    }
+}
+
+fn insert_item(alloc: Global, path: Vec<Step>, value: &Value) -> Result<Option<Component>, OpFault>
+    ensures ok { IfOk result (λ c. shaped Shape.Li (plain_path path.items) (data_view value.now) ≡ Some (option_to_list c)) }
+    ensures err { IfErr result (λ f. Unread (shaped Shape.Li (plain_path path.items) (data_view value.now)) f) }
+{
+    let (container, index) = index_last(path)?;
+    let new = value_at(alloc, value, "li")?;
+    Ok(Some(Component::new(container, Act::Li(index, new))))
+}
+
+fn delete_item(alloc: Global, path: Vec<Step>, value: &Value) -> Result<Option<Component>, OpFault>
+    ensures ok { IfOk result (λ c. shaped Shape.Ld (plain_path path.items) (data_view value.now) ≡ Some (option_to_list c)) }
+    ensures err { IfErr result (λ f. Unread (shaped Shape.Ld (plain_path path.items) (data_view value.now)) f) }
+{
+    let (container, index) = index_last(path)?;
+    let old = value_at(alloc, value, "ld")?;
+    Ok(Some(Component::new(container, Act::Ld(index, old))))
+}
+
+fn replace_item(alloc: Global, path: Vec<Step>, value: &Value) -> Result<Option<Component>, OpFault>
+    ensures ok { IfOk result (λ c. shaped Shape.Lr (plain_path path.items) (data_view value.now) ≡ Some (option_to_list c)) }
+    ensures err { IfErr result (λ f. Unread (shaped Shape.Lr (plain_path path.items) (data_view value.now)) f) }
+{
+    let (container, index) = index_last(path)?;
+    let old = value_at(alloc, value, "ld")?;
+    let new = value_at(alloc, value, "li")?;
+    Ok(Some(Component::new(container, Act::Lr(index, old, new))))
+}
+
+fn insert_key(alloc: Global, path: Vec<Step>, value: &Value) -> Result<Option<Component>, OpFault>
+    ensures ok { IfOk result (λ c. shaped Shape.Oi (plain_path path.items) (data_view value.now) ≡ Some (option_to_list c)) }
+    ensures err { IfErr result (λ f. Unread (shaped Shape.Oi (plain_path path.items) (data_view value.now)) f) }
+{
+    let (container, key) = key_last(path)?;
+    let new = value_at(alloc, value, "oi")?;
+    Ok(Some(Component::new(container, Act::Oi(key, new))))
+}
+
+fn delete_key(alloc: Global, path: Vec<Step>, value: &Value) -> Result<Option<Component>, OpFault>
+    ensures ok { IfOk result (λ c. shaped Shape.Od (plain_path path.items) (data_view value.now) ≡ Some (option_to_list c)) }
+    ensures err { IfErr result (λ f. Unread (shaped Shape.Od (plain_path path.items) (data_view value.now)) f) }
+{
+    let (container, key) = key_last(path)?;
+    let old = value_at(alloc, value, "od")?;
+    Ok(Some(Component::new(container, Act::Od(key, old))))
+}
+
+fn replace_key(alloc: Global, path: Vec<Step>, value: &Value) -> Result<Option<Component>, OpFault>
+    ensures ok { IfOk result (λ c. shaped Shape.Or (plain_path path.items) (data_view value.now) ≡ Some (option_to_list c)) }
+    ensures err { IfErr result (λ f. Unread (shaped Shape.Or (plain_path path.items) (data_view value.now)) f) }
+{
+    let (container, key) = key_last(path)?;
+    let old = value_at(alloc, value, "od")?;
+    let new = value_at(alloc, value, "oi")?;
+    Ok(Some(Component::new(container, Act::Or(key, old, new))))
+}

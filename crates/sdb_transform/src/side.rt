@@ -1,0 +1,45 @@
+//! Sides, faults, and what comes of one act.
+
+use sdb_component::Act;
+use std::alloc::AllocError;
+use thiserror::Error;
+
+/// Which of two components at one place stands first.
+#[derive(Clone, Copy, PartialEq, Eq, Debug, Drop)]
+pub enum Side {
+    Left,
+    Right,
+}
+
+/// Why nothing was transformed.
+#[derive(Clone, Copy, PartialEq, Eq, Debug, Drop, Error)]
+pub enum Fault {
+    /// A cut falls inside a pair of UTF-16, or an index or offset passes 9007199254740991: E8.
+    #[error("operation can not be applied")]
+    NotTransformed,
+    /// A growth was refused: E10.
+    #[error("out of memory")]
+    Memory,
+}
+
+impl From<AllocError> for Fault {
+    ghost use Rattle.std.specs.Prelude.{◌≡◌};
+    ghost use Rattle.sdb_transform.specs.declared.side.Fault.TheVariants.{Memory};
+
+    ghost from_gives = { λ _ f. f ≡ Memory };
+
+    fn from(_error: AllocError) -> Fault {
+        Fault::Memory
+    }
+}
+
+// What comes of one act.
+#[derive(Drop)]
+pub(crate) enum Few {
+    Dropped,
+    One(Act),
+    Two(Act, Act),
+}
+
+// The greatest index or offset.
+pub(crate) const MAX: u64 = 9007199254740991;
