@@ -1,7 +1,7 @@
 //! Sides, faults, and what comes of one act.
 
 use sdb_component::Act;
-use std::alloc::AllocError;
+use std::alloc::{AllocError, AllocFailed};
 use thiserror::Error;
 
 /// Which of two components at one place stands first.
@@ -29,6 +29,17 @@ impl From<AllocError> for Fault {
     ghost from_gives = { λ _ f. f ≡ Memory };
 
     fn from(_error: AllocError) -> Fault {
+        Fault::Memory
+    }
+}
+
+impl<T: Drop> From<AllocFailed<T>> for Fault {
+    ghost use Rattle.std.specs.Prelude.{◌≡◌};
+    ghost use Rattle.sdb_transform.specs.declared.side.Fault.TheVariants.{Memory};
+
+    ghost from_gives = { λ _ f. f ≡ Memory };
+
+    fn from(_error: AllocFailed<T>) -> Fault {
         Fault::Memory
     }
 }

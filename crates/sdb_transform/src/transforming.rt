@@ -1,5 +1,5 @@
 //! Components, carried past one another.
-ghost use Rattle.std.specs.Prelude.{◌≡◌, ◌∷◌, [], ◌+◌, List, Some, None, IfOk, IfErr, length};
+ghost use Rattle.std.specs.Prelude.{◌≡◌, ◌∷◌, [], List, Some, None, IfOk, IfErr, length, option_map};
 ghost use Rattle.sdb_value.specs.Value.{PlainStep};
 ghost use Rattle.sdb_value.specs.View.{plain_path};
 ghost use Rattle.sdb_component.specs.View.{plain_act};
@@ -32,4 +32,109 @@ pub fn transform_one(
         Some(0) => at_container(alloc, path, act, other, side),
         Some(_) => stand_below(alloc, path, act, other, side),
     }
+}
+
+// How many steps of the path lie behind the front, if it begins with it.
+fn rest_len(front: &[Step], path: &[Step]) -> Option<usize>
+    ensures { result ≡ option_map length (behind (plain_path front.now) (plain_path path.now)) }
+{
+    Some(behind(front, path)?.len())
+}
+
+// Neither is at or below the other's container, or the other lies under the value that this removes.
+fn stand_apart(
+    alloc: Global,
+    path: Vec<Step>,
+    act: Act,
+    other: &Component,
+    side: Side,
+) -> Result<Vec<Component>, Fault>
+    requires { behind other.now.path (plain_path path.items) ≡ None }
+    ensures { Transforms result (transform side (at_path (plain_path path.items) (plain_act act)) other.now) }
+{
+    let act = match under_removed(path.as_slice(), &act, other.path()) {
+        Some(rest) => update(alloc, act, rest, other.act())?,
+        None => act,
+    };
+    one(alloc, path, act)
+}
+
+// Both are at one container.
+fn at_container(
+    alloc: Global,
+    path: Vec<Step>,
+    act: Act,
+    other: &Component,
+    side: Side,
+) -> Result<Vec<Component>, Fault>
+    requires { behind other.now.path (plain_path path.items) ≡ Some [] }
+    ensures { Transforms result (transform side (at_path (plain_path path.items) (plain_act act)) other.now) }
+{
+    match act_over(alloc, act, other.act(), side)? {
+        Few::Dropped => Ok(Vec::new(alloc)),
+        Few::One(act) => one(alloc, path, act),
+        Few::Two(first, second) => {
+            let copy = copy_path(alloc, path.as_slice())?;
+            two(
+                alloc,
+                Component::new(path, first),
+                Component::new(copy, second),
+            )
+        }
+    }
+}
+
+// The path leads on below the other's container.
+fn stand_below(
+    alloc: Global,
+    mut path: Vec<Step>,
+    act: Act,
+    other: &Component,
+    side: Side,
+) -> Result<Vec<Component>, Fault>
+    requires { (s : PlainStep) × (rest : List PlainStep) × (behind other.now.path (plain_path path.items) ≡ Some (s ∷ rest)) }
+    ensures { Transforms result (transform side (at_path (plain_path path.items) (plain_act act)) other.now) }
+{
+    let at = other.path().len();
+    match step_over(other.act(), &path[at])? {
+        Place::Stays => one(alloc, path, act),
+        Place::Gone => Ok(Vec::new(alloc)),
+        Place::At(index) => {
+            path[at] = Step::Index(index);
+            one(alloc, path, act)
+        }
+    }
+}
+
+fn act_over(alloc: Global, act: Act, other: &Act, side: Side) -> Result<Few, Fault>
+    ensures { Answers result (over side (plain_act act) (plain_act other.now)) }
+{
+    match act {
+        Act::Na(x) => Ok(Few::One(Act::Na(x))),
+        Act::Si(p, s) => texts::insert_past(p, s, other, side),
+        Act::Sd(p, d) => texts::delete_past(p, d, other),
+        Act::Li(j, v) => lists::insert_past(j, v, other, side),
+        Act::Ld(j, x) => lists::delete_past(j, x, other),
+        Act::Lr(j, w, z) => lists::replace_past(alloc, j, w, z, other, side),
+        Act::Oi(k, z) => objects::insert_past(alloc, k, z, other, side),
+        Act::Od(k, x) => objects::delete_past(k, x, other),
+        Act::Or(k, w, z) => objects::replace_past(alloc, k, w, z, other, side),
+    }
+}
+
+fn one(alloc: Global, path: Vec<Step>, act: Act) -> Result<Vec<Component>, Fault>
+    ensures { Transforms result (Some (at_path (plain_path path.items) (plain_act act) ∷ [])) }
+{
+    let mut components = Vec::new(alloc);
+    components.push(Component::new(path, act))?;
+    Ok(components)
+}
+
+fn two(alloc: Global, first: Component, second: Component) -> Result<Vec<Component>, Fault>
+    ensures { Transforms result (Some (first ∷ second ∷ [])) }
+{
+    let mut components = Vec::new(alloc);
+    components.push(first)?;
+    components.push(second)?;
+    Ok(components)
 }

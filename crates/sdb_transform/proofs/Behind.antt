@@ -1,0 +1,70 @@
+-- Paths that lead on below another.
+use Rattle.std.proofs.Common.{◌≡◌, ℕ, zero, suc, ◌+◌, ◌<◌, List, [], ◌∷◌, ◌++◌, map, length, get_or, set, Option, Some, None, option_map, Bool, true, false, is_eq, bytes_eq, nat_cmp, eqb, refl, sym, ap, ◌∙◌, arith, length-map, length-append}
+use Rattle.std.specs.Prelude.{if◌then◌else◌}
+use Rattle.std.proofs.lemmas.Bool.Decides.{nat_tests}
+use Rattle.std.proofs.lemmas.Map.Text.{is_eq-slice_cmp}
+use Rattle.std.proofs.lemmas.Slice.Eq.{bytes_eq-Decides}
+use Rattle.std.specs.Cmp.Lexicographic.{slice_cmp}
+use Rattle.sdb_value.specs.Value.{PlainStep, key, index, same_text}
+use Rattle.sdb_value.specs.View.{plain_step, plain_path}
+use Rattle.sdb_value.specs.declared.places.Step.{Step}
+use Rattle.sdb_value.specs.declared.places.Step.TheVariants.{Index}
+use Rattle.sdb_component.specs.Plain.{PlainComponent}
+use Rattle.sdb_transform.specs.declared.side.Side.{Side}
+use Rattle.sdb_transform.specs.Transform.{same_step, behind, step_over, moved, transform}
+
+equal_texts : (k l : List ℕ) → same_text k l ≡ true → k ≡ l
+equal_texts k l e = (bytes_eq-Decides k l).0 (sym (is_eq-slice_cmp k l) ∙ e)
+
+equal_numbers : (i j : ℕ) → eqb i j ≡ true → i ≡ j
+equal_numbers i j e = grind (arith, nat_tests)
+
+pub equal_steps : (s t : PlainStep) → same_step s t ≡ true → s ≡ t
+equal_steps (key k) (key l) e = ap key (equal_texts k l e)
+equal_steps (index i) (index j) e = ap index (equal_numbers i j e)
+equal_steps (key k) (index j) e = cc
+equal_steps (index i) (key l) e = cc
+
+behind_or : (b : Bool) (s t : PlainStep) (front path rest : List PlainStep) → same_step s t ≡ b → (if b then behind front path else None) ≡ Some rest
+    → (behind front path ≡ Some rest → path ≡ front ++ rest) → t ∷ path ≡ s ∷ (front ++ rest)
+behind_or true s t front path rest same e below = let p : path ≡ front ++ rest = below e in let q : s ≡ t = equal_steps s t same in rw (p, q) refl
+behind_or false s t front path rest same e below = cc
+
+-- a path is the front and what lies behind it
+pub behind_is : (front path rest : List PlainStep) → behind front path ≡ Some rest → path ≡ front ++ rest
+behind_is [] path rest e = let p : path ≡ rest = cc in p
+behind_is (s ∷ front) [] rest e = cc
+behind_is (s ∷ front) (t ∷ path) rest e = behind_or (same_step s t) s t front path rest refl e (behind_is front path rest)
+
+-- the path goes on below the front
+pub inside : (items front : List Step) (o : List PlainStep) (s : PlainStep) (rest : List PlainStep) → plain_path front ≡ o → plain_path items ≡ o ++ s ∷ rest → length front < length items
+inside items front o s rest f e =
+    let a : length (plain_path items) ≡ length items = length-map plain_step items in
+    let b : length (plain_path front) ≡ length front = length-map plain_step front in
+    let c : length (plain_path items) ≡ length o + suc (length rest) = ap length e ∙ length-append o (s ∷ rest) in
+    omega (arith, ap length f)
+
+at_front : (items : List Step) (o : List PlainStep) (s : PlainStep) (rest : List PlainStep) (x d : Step) → plain_path items ≡ o ++ s ∷ rest → x ≡ get_or items (length o) d → plain_step x ≡ s
+at_front [] [] s rest x d e is = cc
+at_front [] (t ∷ o) s rest x d e is = cc
+at_front (y ∷ items) [] s rest x d e is = let h : plain_step y ≡ s = cc in ap plain_step is ∙ h
+at_front (y ∷ items) (t ∷ o) s rest x d e is = let h : plain_path items ≡ o ++ s ∷ rest = cc in at_front items o s rest x d h is
+
+front_len : (front : List Step) (o : List PlainStep) → plain_path front ≡ o → length front ≡ length o
+front_len front o f = sym (length-map plain_step front) ∙ ap length f
+
+pub step_there : (items front : List Step) (o : List PlainStep) (s : PlainStep) (rest : List PlainStep) (x : Step) → plain_path front ≡ o → plain_path items ≡ o ++ s ∷ rest → x ≡ get_or items (length front) x → plain_step x ≡ s
+step_there items front o s rest x f e is = at_front items o s rest x x e (is ∙ ap (λ n. get_or items n x) (front_len front o f))
+
+set_front : (items : List Step) (o : List PlainStep) (s : PlainStep) (rest : List PlainStep) (x : Step) → plain_path items ≡ o ++ s ∷ rest → plain_path (set items (length o) x) ≡ o ++ plain_step x ∷ rest
+set_front [] [] s rest x e = cc
+set_front [] (t ∷ o) s rest x e = cc
+set_front (y ∷ items) [] s rest x e = let h : plain_path items ≡ rest = cc in ap (λ p. plain_step x ∷ p) h
+set_front (y ∷ items) (t ∷ o) s rest x e = let h : plain_path items ≡ o ++ s ∷ rest = cc in let g : plain_step y ≡ t = cc in rw (g, set_front items o s rest x h) refl
+
+pub set_there : (items front : List Step) (o : List PlainStep) (s : PlainStep) (rest : List PlainStep) (x : Step) → plain_path front ≡ o → plain_path items ≡ o ++ s ∷ rest → plain_path (set items (length front) x) ≡ o ++ plain_step x ∷ rest
+set_there items front o s rest x f e = ap (λ n. plain_path (set items n x)) (front_len front o f) ∙ set_front items o s rest x e
+
+-- below the other's container the step alone decides
+pub below_is : (side : Side) (c o : PlainComponent) (s t : PlainStep) (rest : List PlainStep) (m : Option (Option PlainStep)) → behind o.path c.path ≡ Some (s ∷ rest) → t ≡ s → step_over o.act t ≡ m → transform side c o ≡ option_map (moved c o rest) m
+below_is side c o s t rest m e same h = rw (e, ← same, h) refl
