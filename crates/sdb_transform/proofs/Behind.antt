@@ -1,5 +1,6 @@
 -- Paths that lead on below another.
-use Rattle.std.proofs.Common.{◌≡◌, ℕ, zero, suc, ◌+◌, ◌<◌, List, [], ◌∷◌, ◌++◌, map, length, get_or, set, Option, Some, None, option_map, Bool, true, false, is_eq, bytes_eq, nat_cmp, eqb, refl, sym, ap, ◌∙◌, arith, length-map, length-append}
+use Rattle.std.proofs.Common.{◌≡◌, ℕ, zero, suc, ◌+◌, ◌<◌, List, [], ◌∷◌, ◌++◌, map, length, get_or, set, Option, Some, None, option_map, Bool, true, false, is_eq, bytes_eq, nat_cmp, eqb, refl, sym, ap, ◌∙◌, arith, length-append}
+use Rattle.std.proofs.lemmas.List.{length-map}
 use Rattle.std.specs.Prelude.{if◌then◌else◌}
 use Rattle.std.proofs.lemmas.Bool.Decides.{nat_tests}
 use Rattle.std.proofs.lemmas.Map.Text.{is_eq-slice_cmp}
@@ -11,7 +12,10 @@ use Rattle.sdb_value.specs.declared.places.Step.{Step}
 use Rattle.sdb_value.specs.declared.places.Step.TheVariants.{Index}
 use Rattle.sdb_component.specs.Plain.{PlainComponent}
 use Rattle.sdb_transform.specs.declared.side.Side.{Side}
-use Rattle.sdb_transform.specs.Transform.{same_step, behind, step_over, moved, transform}
+use Rattle.sdb_transform.specs.Transform.{same_step, behind, step_over, moved, transform, at_path}
+use Rattle.sdb_transform.specs.Acts.{IsFaultOf}
+use Rattle.sdb_transform.specs.declared.side.Fault.{Fault}
+use Rattle.sdb_transform.specs.declared.side.Fault.TheVariants.{NotTransformed, Memory}
 
 equal_texts : (k l : List ℕ) → same_text k l ≡ true → k ≡ l
 equal_texts k l e = (bytes_eq-Decides k l).0 (sym (is_eq-slice_cmp k l) ∙ e)
@@ -39,8 +43,8 @@ behind_is (s ∷ front) (t ∷ path) rest e = behind_or (same_step s t) s t fron
 -- the path goes on below the front
 pub inside : (items front : List Step) (o : List PlainStep) (s : PlainStep) (rest : List PlainStep) → plain_path front ≡ o → plain_path items ≡ o ++ s ∷ rest → length front < length items
 inside items front o s rest f e =
-    let a : length (plain_path items) ≡ length items = length-map plain_step items in
-    let b : length (plain_path front) ≡ length front = length-map plain_step front in
+    let a : length (plain_path items) ≡ length items = length-map items plain_step in
+    let b : length (plain_path front) ≡ length front = length-map front plain_step in
     let c : length (plain_path items) ≡ length o + suc (length rest) = ap length e ∙ length-append o (s ∷ rest) in
     omega (arith, ap length f)
 
@@ -51,7 +55,7 @@ at_front (y ∷ items) [] s rest x d e is = let h : plain_step y ≡ s = cc in a
 at_front (y ∷ items) (t ∷ o) s rest x d e is = let h : plain_path items ≡ o ++ s ∷ rest = cc in at_front items o s rest x d h is
 
 front_len : (front : List Step) (o : List PlainStep) → plain_path front ≡ o → length front ≡ length o
-front_len front o f = sym (length-map plain_step front) ∙ ap length f
+front_len front o f = sym (length-map front plain_step) ∙ ap length f
 
 pub step_there : (items front : List Step) (o : List PlainStep) (s : PlainStep) (rest : List PlainStep) (x : Step) → plain_path front ≡ o → plain_path items ≡ o ++ s ∷ rest → x ≡ get_or items (length front) x → plain_step x ≡ s
 step_there items front o s rest x f e is = at_front items o s rest x x e (is ∙ ap (λ n. get_or items n x) (front_len front o f))
@@ -68,3 +72,24 @@ set_there items front o s rest x f e = ap (λ n. plain_path (set items n x)) (fr
 -- below the other's container the step alone decides
 pub below_is : (side : Side) (c o : PlainComponent) (s t : PlainStep) (rest : List PlainStep) (m : Option (Option PlainStep)) → behind o.path c.path ≡ Some (s ∷ rest) → t ≡ s → step_over o.act t ≡ m → transform side c o ≡ option_map (moved c o rest) m
 below_is side c o s t rest m e same h = rw (e, ← same, h) refl
+
+pub none_below : (f : Fault) (side : Side) (c o : PlainComponent) (s t : PlainStep) (rest : List PlainStep) → behind o.path c.path ≡ Some (s ∷ rest) → t ≡ s → IsFaultOf f (step_over o.act t) → IsFaultOf f (transform side c o)
+none_below NotTransformed side c o s t rest e same h = below_is side c o s t rest None e same h
+none_below Memory side c o s t rest e same h = tt
+
+pub stays_below : (side : Side) (c o : PlainComponent) (s t : PlainStep) (rest : List PlainStep) → behind o.path c.path ≡ Some (s ∷ rest) → t ≡ s → step_over o.act t ≡ Some (Some t) → Some (c ∷ []) ≡ transform side c o
+stays_below side c o s t rest e same h =
+    let path : c.path ≡ o.path ++ t ∷ rest = behind_is o.path c.path (s ∷ rest) e ∙ ap (λ x. o.path ++ x ∷ rest) (sym same) in
+    sym (below_is side c o s t rest (Some (Some t)) e same h ∙ ap (λ p. Some (at_path p c.act ∷ [])) (sym path))
+
+pub gone_below : (side : Side) (c o : PlainComponent) (s t : PlainStep) (rest : List PlainStep) → behind o.path c.path ≡ Some (s ∷ rest) → t ≡ s → step_over o.act t ≡ Some None → transform side c o ≡ Some []
+gone_below side c o s t rest e same h = below_is side c o s t rest (Some None) e same h
+
+pub set_below : (side : Side) (c o : PlainComponent) (s t u : PlainStep) (rest path : List PlainStep) → behind o.path c.path ≡ Some (s ∷ rest) → t ≡ s → step_over o.act t ≡ Some (Some u) → path ≡ o.path ++ u ∷ rest → Some (at_path path c.act ∷ []) ≡ transform side c o
+set_below side c o s t u rest path e same h p = sym (below_is side c o s t rest (Some (Some u)) e same h ∙ ap (λ q. Some (at_path q c.act ∷ [])) (sym p))
+
+-- steps are left behind the front
+pub some_left : (o : Option (List PlainStep)) (n : ℕ) → Some n ≡ option_map length o → (n ≡ 0 → ⊥) → (s : PlainStep) × (rest : List PlainStep) × (o ≡ Some (s ∷ rest))
+some_left None n e h = cc
+some_left (Some []) n e h = let z : n ≡ 0 = cc in absurd (h z)
+some_left (Some (s ∷ rest)) n e h = (s, rest, refl)
