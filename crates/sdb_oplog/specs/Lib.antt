@@ -1,0 +1,7 @@
+pub mod Coding
+pub mod Decide
+pub mod Over
+pub mod Plain
+pub mod Refused
+pub mod Snap
+pub mod View

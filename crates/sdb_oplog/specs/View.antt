@@ -1,0 +1,10 @@
+-- What a kind of content stands for.
+use Rattle.sdb_value.specs.View.{view}
+use Rattle.sdb_oplog.specs.Plain.{PlainContent, create, delete, edit}
+use Rattle.sdb_oplog.specs.declared.contents.Kind.{Kind}
+use Rattle.sdb_oplog.specs.declared.contents.Kind.TheVariants.{Create, Delete, Edit}
+
+abbrev pub plain_kind : Kind → PlainContent
+plain_kind (Create v) = create (view v)
+plain_kind Delete = delete
+plain_kind (Edit op) = edit op

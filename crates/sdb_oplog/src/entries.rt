@@ -1,0 +1,177 @@
+//! What is sent, and what is stored of it.
+ghost use Rattle.std.specs.Prelude.{◌≡◌, IfOk, string_bytes};
+ghost use Rattle.sdb_oplog.specs.Snap.{is_from};
+
+use crate::contents::Content;
+use std::alloc::{AllocError, Global};
+use std::marker::Model;
+
+/// What a session asks of one document.
+#[derive(Drop)]
+pub struct Submission {
+    src: String,
+    seq: u64,
+    version: Option<u64>,
+    content: Content,
+    via: String,
+    by: u64,
+}
+
+impl Model for Submission {
+    ghost use Rattle.std.specs.Prelude.{string_bytes};
+    ghost use Rattle.sdb_oplog.specs.Plain.{PlainSubmission};
+    ghost use Rattle.sdb_oplog.specs.Coding.{submission_code};
+
+    ghost Value = { PlainSubmission };
+
+    ghost coded = { submission_code };
+
+    ghost view = { λ s. record { src = string_bytes s.src; seq = s.seq; version = s.version; content = s.content; via = string_bytes s.via; by = s.by } };
+}
+
+impl Submission {
+    /// A submission of the source, by its own sequence number, made at the version, or at the
+    /// version at which it is decided where that is `None`. `via` is the collection name it comes
+    /// through, `by` the number of the pass.
+    pub fn new(
+        src: String,
+        seq: u64,
+        version: Option<u64>,
+        content: Content,
+        via: String,
+        by: u64,
+    ) -> Submission
+        ensures { result ≡ record { src = string_bytes src; seq = seq; version = version; content = content; via = string_bytes via; by = by } }
+    {
+        Submission {
+            src,
+            seq,
+            version,
+            content,
+            via,
+            by,
+        }
+    }
+
+    /// The source.
+    pub fn src(&self) -> &str
+        ensures { result.now ≡ self.now.src }
+    {
+        self.src.as_str()
+    }
+
+    /// The number that its source gave it.
+    pub fn seq(&self) -> u64
+        ensures { result ≡ self.now.seq }
+    {
+        self.seq
+    }
+
+    /// The version that it was made at.
+    pub fn version(&self) -> Option<u64>
+        ensures { result ≡ self.now.version }
+    {
+        self.version
+    }
+
+    /// What it asks.
+    pub fn content(&self) -> &Content
+        ensures { result.now ≡ self.now.content }
+    {
+        &self.content
+    }
+
+    /// The collection name that it came through.
+    pub fn via(&self) -> &str
+        ensures { result.now ≡ self.now.via }
+    {
+        self.via.as_str()
+    }
+
+    /// The number of the pass.
+    pub fn by(&self) -> u64
+        ensures { result ≡ self.now.by }
+    {
+        self.by
+    }
+
+    /// A copy.
+    pub fn try_clone(&self, alloc: Global) -> Result<Submission, AllocError>
+        ensures { IfOk result (λ s. s ≡ self.now) }
+    {
+        let src = self.src.clone()?;
+        let content = self.content.try_clone(alloc)?;
+        let via = self.via.clone()?;
+        Ok(Submission::new(src, self.seq, self.version, content, via, self.by))
+    }
+}
+
+/// A stored operation: the version that it was applied at, what was applied, and the submission that
+/// it came from, whose source, number, `via` and `by` are its own.
+#[derive(Drop)]
+pub struct Entry {
+    version: u64,
+    content: Content,
+    arrived: Submission,
+}
+
+impl Model for Entry {
+    ghost use Rattle.sdb_oplog.specs.Plain.{PlainEntry};
+    ghost use Rattle.sdb_oplog.specs.Coding.{entry_code};
+
+    ghost Value = { PlainEntry };
+
+    ghost coded = { entry_code };
+
+    ghost view = { λ e. record { version = e.version; content = e.content; arrived = e.arrived } };
+}
+
+impl Entry {
+    /// The entry of the content at the version.
+    pub fn new(version: u64, content: Content, arrived: Submission) -> Entry
+        ensures { result ≡ record { version = version; content = content; arrived = arrived } }
+    {
+        Entry {
+            version,
+            content,
+            arrived,
+        }
+    }
+
+    /// The version that it was applied at.
+    pub fn version(&self) -> u64
+        ensures { result ≡ self.now.version }
+    {
+        self.version
+    }
+
+    /// What was applied.
+    pub fn content(&self) -> &Content
+        ensures { result.now ≡ self.now.content }
+    {
+        &self.content
+    }
+
+    /// The submission as it arrived.
+    pub fn arrived(&self) -> &Submission
+        ensures { result.now ≡ self.now.arrived }
+    {
+        &self.arrived
+    }
+
+    /// Whether its submission has this source and number.
+    pub fn is_from(&self, src: &str, seq: u64) -> bool
+        ensures { result ≡ is_from src.now seq self.now }
+    {
+        self.arrived.seq == seq && self.arrived.src.as_str() == src
+    }
+
+    /// A copy.
+    pub fn try_clone(&self, alloc: Global) -> Result<Entry, AllocError>
+        ensures { IfOk result (λ e. e ≡ self.now) }
+    {
+        let content = self.content.try_clone(alloc)?;
+        let arrived = self.arrived.try_clone(alloc)?;
+        Ok(Entry::new(self.version, content, arrived))
+    }
+}

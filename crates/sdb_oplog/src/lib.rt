@@ -1,0 +1,12 @@
+//! The log of a document: what was stored, in order, each with the submission that it came from.
+#![tactic(auto)]
+
+mod codes;
+mod contents;
+mod entries;
+mod logs;
+
+pub use codes::Code;
+pub use contents::{Content, Kind, over};
+pub use entries::{Entry, Submission};
+pub use logs::{Log, MAX};
