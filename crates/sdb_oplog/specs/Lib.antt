@@ -1,5 +1,6 @@
 pub mod Coding
 pub mod Decide
+pub mod Keys
 pub mod Over
 pub mod Plain
 pub mod Refused

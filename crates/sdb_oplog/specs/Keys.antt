@@ -1,0 +1,32 @@
+-- Keys, and logs by key: the machine that takes each submission in one step.
+use Rattle.std.specs.Prelude.{ℕ, List, [], Bool, cond, string_bytes}
+use Rattle.std.specs.declared.cmp.Ordering.{Ordering}
+use Rattle.std.specs.Ordering.{nat_cmp, is_eq, ordering_then}
+use Rattle.std.specs.Cmp.Lexicographic.{slice_cmp}
+use Rattle.sdb_oplog.specs.Plain.{PlainEntry}
+use Rattle.sdb_oplog.specs.declared.keys.Key.{Key}
+
+pub record PlainKey : Type 0 where
+  pub collection : List ℕ
+  pub id : List ℕ
+
+abbrev pub plain_key : Key → PlainKey
+plain_key k = record { collection = string_bytes k.collection; id = string_bytes k.id }
+
+-- by collection, then by id
+abbrev pub key_cmp : PlainKey → PlainKey → Ordering
+key_cmp a b = ordering_then (slice_cmp nat_cmp a.collection b.collection) (slice_cmp nat_cmp a.id b.id)
+
+abbrev pub same_key : PlainKey → PlainKey → Bool
+same_key a b = is_eq (key_cmp a b)
+
+-- an absent key has the empty log
+abbrev pub Logs : Type 0
+Logs = PlainKey → List PlainEntry
+
+abbrev pub no_logs : Logs
+no_logs q = []
+
+-- the logs, with this one at k
+abbrev pub with_log : Logs → PlainKey → List PlainEntry → Logs
+with_log f k l q = cond (same_key k q) l (f q)

@@ -1,0 +1,134 @@
+-- The text of an answer: `Text`. Members stand in the order of their bytes, and the text is compact.
+use Rattle.std.specs.Prelude.{ℕ, List, true, Option, Some, None, codes}
+use Rattle.serde_json.specs.Data.{Data, null, boolean, number, unsigned, string, object, Members, no_members, member, put}
+use Rattle.serde_json.specs.Written.{compact_text}
+use Rattle.sdb_value.specs.Value.{Value}
+use Rattle.sdb_value.specs.Profile.{to_data}
+use Rattle.sdb_component.specs.Prints.{op_data}
+use Rattle.sdb_oplog.specs.Keys.{PlainKey}
+use Rattle.sdb_oplog.specs.Plain.{PlainContent, create, delete, edit, PlainEntry}
+use Rattle.sdb_oplog.specs.declared.codes.Code.{Code}
+use Rattle.sdb_oplog.specs.declared.codes.Code.TheVariants.{E1, E2, E3, E4, E5, E6, E7, E8, E9, E10, E11}
+use Rattle.sdb_wire.specs.Wire.{PlainEcho, PlainWord, text, count}
+
+pub data PlainAnswer : Type 0 where
+  -- the session's source
+  init : List ℕ → PlainAnswer
+  -- the present version, and the document there
+  fetched : PlainKey → ℕ → Option Value → PlainAnswer
+  -- the end of a list of stored operations
+  listed : PlainKey → PlainAnswer
+  -- a stored operation
+  op_message : PlainKey → PlainEntry → PlainAnswer
+  -- a submission of this source and number is stored at this version
+  acknowledged : PlainKey → List ℕ → ℕ → ℕ → PlainAnswer
+  failed : PlainEcho → Code → PlainAnswer
+
+abbrev pub code_name : Code → List ℕ
+code_name E1 = codes "ERR_MESSAGE_BADLY_FORMED"
+code_name E2 = codes "ERR_DOC_TYPE_NOT_RECOGNIZED"
+code_name E3 = codes "ERR_OT_OP_BADLY_FORMED"
+code_name E4 = codes "ERR_OP_VERSION_NEWER_THAN_CURRENT_SNAPSHOT"
+code_name E5 = codes "ERR_DOC_WAS_DELETED"
+code_name E6 = codes "ERR_DOC_ALREADY_CREATED"
+code_name E7 = codes "ERR_DOC_DOES_NOT_EXIST"
+code_name E8 = codes "ERR_OT_OP_NOT_APPLIED"
+code_name E9 = codes "ERR_OP_NOT_ALLOWED_IN_PROJECTION"
+code_name E10 = codes "ERR_OUT_OF_MEMORY"
+code_name E11 = codes "ERR_LIMIT"
+
+abbrev pub code_text : Code → List ℕ
+code_text E1 = codes "message is badly formed"
+code_text E2 = codes "document type is not recognized"
+code_text E3 = codes "operation is badly formed"
+code_text E4 = codes "version is newer than the current snapshot"
+code_text E5 = codes "document was deleted"
+code_text E6 = codes "document was already created"
+code_text E7 = codes "document does not exist"
+code_text E8 = codes "operation can not be applied"
+code_text E9 = codes "operation is not allowed in the projection"
+code_text E10 = codes "out of memory"
+code_text E11 = codes "limit reached"
+
+abbrev pub snapshot_data : ℕ → Option Value → Data
+snapshot_data v None = object (member (codes "type") null (member (codes "v") (number (unsigned v)) no_members))
+snapshot_data v (Some d) = object (member (codes "data") (to_data d) (member (codes "v") (number (unsigned v)) no_members))
+
+abbrev pub word_data : PlainWord → Data
+word_data (text s) = string s
+word_data (count n) = number (unsigned n)
+
+-- with a member, unless it is none
+abbrev pub put_some : List ℕ → Option PlainWord → Members → Members
+put_some k None ms = ms
+put_some k (Some w) ms = put k (word_data w) ms
+
+abbrev pub error_data : Code → Data
+error_data e = object (member (codes "code") (string (code_name e)) (member (codes "message") (string (code_text e)) no_members))
+
+abbrev pub type_data : Data
+type_data = string (codes "http://sharejs.org/types/JSONv0")
+
+-- ---- a stored operation
+
+abbrev pub create_data : Value → Data
+create_data v = object (member (codes "data") (to_data v) (member (codes "type") type_data no_members))
+
+-- from `op` on
+abbrev pub op_tail : PlainEntry → Members
+op_tail e = member (codes "seq") (number (unsigned e.arrived.seq)) (member (codes "src") (string e.arrived.src) (member (codes "v") (number (unsigned e.version)) no_members))
+
+abbrev pub op_members : List ℕ → List ℕ → PlainEntry → PlainContent → Members
+op_members c d e (create v) = member (codes "c") (string c) (member (codes "create") (create_data v) (member (codes "d") (string d) (op_tail e)))
+op_members c d e delete = member (codes "c") (string c) (member (codes "d") (string d) (member (codes "del") (boolean true) (op_tail e)))
+op_members c d e (edit op) = member (codes "c") (string c) (member (codes "d") (string d) (member (codes "op") (op_data op) (op_tail e)))
+
+abbrev pub op_message_data : PlainKey → PlainEntry → PlainContent → Data
+op_message_data k e m = object (member (codes "a") (string (codes "op")) (op_members k.collection k.id e m))
+
+-- the same without `a` and the key
+abbrev pub entry_members : PlainEntry → PlainContent → Members
+entry_members e (create v) = member (codes "create") (create_data v) (op_tail e)
+entry_members e delete = member (codes "del") (boolean true) (op_tail e)
+entry_members e (edit op) = member (codes "op") (op_data op) (op_tail e)
+
+abbrev pub entry_data : PlainEntry → Data
+entry_data e = object (entry_members e e.content)
+
+-- ---- answers
+
+abbrev pub answer_data : PlainAnswer → Data
+answer_data (init src) = object (
+    member (codes "a") (string (codes "init"))
+    (member (codes "id") (string src)
+    (member (codes "protocol") (number (unsigned 1))
+    (member (codes "protocolMinor") (number (unsigned 1))
+    (member (codes "type") type_data no_members)))))
+answer_data (fetched k v d) = object (
+    member (codes "a") (string (codes "f"))
+    (member (codes "c") (string k.collection)
+    (member (codes "d") (string k.id)
+    (member (codes "data") (snapshot_data v d) no_members))))
+answer_data (listed k) = object (
+    member (codes "a") (string (codes "f"))
+    (member (codes "c") (string k.collection)
+    (member (codes "d") (string k.id) no_members)))
+answer_data (op_message k e) = op_message_data k e e.content
+answer_data (acknowledged k src seq v) = object (
+    member (codes "a") (string (codes "op"))
+    (member (codes "c") (string k.collection)
+    (member (codes "d") (string k.id)
+    (member (codes "seq") (number (unsigned seq))
+    (member (codes "src") (string src)
+    (member (codes "v") (number (unsigned v)) no_members))))))
+answer_data (failed s e) = object (
+    put_some (codes "src") s.src
+    (put_some (codes "seq") s.seq
+    (put_some (codes "id") s.id
+    (put (codes "error") (error_data e)
+    (put_some (codes "d") s.d
+    (put_some (codes "c") s.c
+    (put_some (codes "a") s.a no_members)))))))
+
+abbrev pub answer_text : PlainAnswer → List ℕ
+answer_text a = compact_text (answer_data a)

@@ -1,0 +1,51 @@
+-- What the code's types stand for.
+use Rattle.std.specs.Prelude.{◌≡◌, Option, Result, Ok, Err, option_map, string_bytes, ⊤}
+use Rattle.serde_json.specs.Data.{Data}
+use Rattle.sdb_value.specs.View.{view}
+use Rattle.sdb_oplog.specs.Keys.{plain_key}
+use Rattle.sdb_oplog.specs.declared.codes.Code.{Code}
+use Rattle.sdb_oplog.specs.declared.codes.Code.TheVariants.{E10}
+use Rattle.sdb_wire.specs.Wire.{PlainRequest, fetch, submit, PlainEcho, said, PlainWord, text, count, PlainBad, with_echo, message_of, PlainHeard}
+use Rattle.sdb_wire.specs.Answers.{PlainAnswer, init, fetched, listed, op_message, acknowledged, failed}
+use Rattle.sdb_wire.specs.declared.requests.Word.{Word}
+use Rattle.sdb_wire.specs.declared.requests.Word.TheVariants.{Text, Count}
+use Rattle.sdb_wire.specs.declared.requests.Echo.{Echo}
+use Rattle.sdb_wire.specs.declared.requests.Bad.{Bad}
+use Rattle.sdb_wire.specs.declared.requests.Request.{Request}
+use Rattle.sdb_wire.specs.declared.requests.Request.TheVariants.{Fetch, Submit}
+use Rattle.sdb_wire.specs.declared.requests.Heard.{Heard}
+use Rattle.sdb_wire.specs.declared.requests.Answer.{Answer}
+use Rattle.sdb_wire.specs.declared.requests.Answer.TheVariants.{Init, Fetched, Listed, OpMessage, Acknowledged, Failed}
+
+abbrev pub plain_word : Word → PlainWord
+plain_word (Text s) = text (string_bytes s)
+plain_word (Count n) = count n
+
+abbrev pub plain_echo : Echo → PlainEcho
+plain_echo e = record { a = option_map plain_word e.a; c = option_map plain_word e.c; d = option_map plain_word e.d; id = option_map plain_word e.id; seq = option_map plain_word e.seq; src = option_map plain_word e.src }
+
+abbrev pub plain_request : Request → PlainRequest
+plain_request (Fetch k v) = fetch (plain_key k) v
+plain_request (Submit k v n s m) = submit (plain_key k) v n (option_map string_bytes s) m
+
+abbrev pub asked : Result Request Code → Result PlainRequest Code
+asked (Ok r) = Ok (plain_request r)
+asked (Err c) = Err c
+
+abbrev pub plain_heard : Heard → PlainHeard
+plain_heard h = record { echo = plain_echo h.echo; request = asked h.request }
+
+abbrev pub plain_answer : Answer → PlainAnswer
+plain_answer (Init src) = init src.now
+plain_answer (Fetched k v d) = fetched (plain_key k.now) v (option_map (λ j. view j.now) d)
+plain_answer (Listed k) = listed (plain_key k.now)
+plain_answer (OpMessage k e) = op_message (plain_key k.now) e.now
+plain_answer (Acknowledged k src seq v) = acknowledged (plain_key k.now) src.now seq v
+plain_answer (Failed echo code) = failed (plain_echo echo.now) code
+
+-- the fault is the one that is due, or memory was wanting
+abbrev pub IsFault : Bad → Result PlainRequest PlainBad → Type 0
+IsFault b r = (b.code ≡ E10 → ⊥) → r ≡ Err (record { echo = plain_echo b.echo; code = b.code })
+
+abbrev pub IsFaultOf : Bad → Data → Type 0
+IsFaultOf b d = IsFault b (with_echo (said d) (message_of d))

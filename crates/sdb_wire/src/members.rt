@@ -1,0 +1,133 @@
+//! Members of a message.
+ghost use Rattle.std.specs.Prelude.{◌≡◌, Ok, IfOk, IfErr, option_map, option_and_then, string_bytes};
+ghost use Rattle.std.specs.Option.{ok_or};
+ghost use Rattle.serde_json.specs.View.{view as data_view};
+ghost use Rattle.serde_json.specs.Find.{get};
+ghost use Rattle.sdb_component.specs.Reads.{count_of};
+ghost use Rattle.sdb_oplog.specs.Refused.{RefusedBy};
+ghost use Rattle.sdb_oplog.specs.declared.codes.Code.TheVariants.{E1};
+ghost use Rattle.sdb_wire.specs.Wire.{as_name, as_word, count_at, name_at, word_at, present, unless_null, may, said};
+ghost use Rattle.sdb_wire.specs.View.{plain_word, plain_echo};
+
+use crate::requests::{Echo, Word};
+use sdb_oplog::Code;
+use serde_json::Value;
+use std::alloc::{AllocError, Global};
+
+pub(crate) fn count_of(value: &Value) -> Option<u64>
+    ensures { result ≡ count_of (data_view value.now) }
+{
+    let n = value.as_u64()?;
+    if n > 9007199254740991 {
+        return None;
+    }
+    Some(n)
+}
+
+pub(crate) fn as_name(value: &Value) -> Option<&str>
+    ensures { option_map (λ s. s.now) result ≡ as_name (data_view value.now) }
+{
+    let text = value.as_str()?;
+    if text.is_empty() || text.len() > 200 {
+        return None;
+    }
+    Some(text)
+}
+
+// A member that is there and not null.
+pub(crate) fn present<'v>(value: &'v Value, key: &str) -> Option<&'v Value>
+    ensures { option_map (λ v. data_view v.now) result ≡ present key.now (data_view value.now) }
+{
+    let member = value.get(key)?;
+    if member.is_null() { None } else { Some(member) }
+}
+
+pub(crate) fn count_at(value: &Value, key: &str) -> Option<u64>
+    ensures { result ≡ count_at key.now (data_view value.now) }
+{
+    count_of(value.get(key)?)
+}
+
+pub(crate) fn name_at<'v>(value: &'v Value, key: &str) -> Option<&'v str>
+    ensures { option_map (λ s. s.now) result ≡ name_at key.now (data_view value.now) }
+{
+    as_name(value.get(key)?)
+}
+
+// A member that must be a name.
+pub(crate) fn need_name(alloc: Global, value: &Value, key: &str) -> Result<String, Code>
+    ensures ok { IfOk result (λ s. ok_or (name_at key.now (data_view value.now)) E1 ≡ Ok (string_bytes s)) }
+    ensures err { IfErr result (λ code. RefusedBy (ok_or (name_at key.now (data_view value.now)) E1) code) }
+{
+    match name_at(value, key) {
+        Some(name) => Ok(String::from_str(alloc, name)?),
+        None => Err(Code::E1),
+    }
+}
+
+// A name that may be absent or null.
+pub(crate) fn may_name(alloc: Global, value: &Value, key: &str) -> Result<Option<String>, Code>
+    ensures ok { IfOk result (λ s. may as_name (present key.now (data_view value.now)) ≡ Ok (option_map string_bytes s)) }
+    ensures err { IfErr result (λ code. RefusedBy (may as_name (present key.now (data_view value.now))) code) }
+{
+    match present(value, key) {
+        None => Ok(None),
+        Some(member) => match as_name(member) {
+            Some(name) => Ok(Some(String::from_str(alloc, name)?)),
+            None => Err(Code::E1),
+        },
+    }
+}
+
+pub(crate) fn may_count(value: &Value, key: &str) -> Result<Option<u64>, Code>
+    ensures { result ≡ may count_of (present key.now (data_view value.now)) }
+{
+    match present(value, key) {
+        None => Ok(None),
+        Some(member) => match count_of(member) {
+            Some(n) => Ok(Some(n)),
+            None => Err(Code::E1),
+        },
+    }
+}
+
+fn as_word(alloc: Global, value: &Value) -> Result<Option<Word>, AllocError>
+    ensures { IfOk result (λ w. option_map plain_word w ≡ as_word (data_view value.now)) }
+{
+    match as_name(value) {
+        Some(name) => Ok(Some(Word::Text(String::from_str(alloc, name)?))),
+        None => match count_of(value) {
+            Some(n) => Ok(Some(Word::Count(n))),
+            None => Ok(None),
+        },
+    }
+}
+
+fn word_at(alloc: Global, value: &Value, key: &str) -> Result<Option<Word>, AllocError>
+    ensures { IfOk result (λ w. option_map plain_word w ≡ word_at key.now (data_view value.now)) }
+{
+    match value.get(key) {
+        Some(member) => as_word(alloc, member),
+        None => Ok(None),
+    }
+}
+
+// What an error shows of the message.
+pub(crate) fn echo_of(alloc: Global, value: &Value) -> Result<Echo, AllocError>
+    ensures { IfOk result (λ e. plain_echo e ≡ said (data_view value.now)) }
+{
+    let a = word_at(alloc, value, "a")?;
+    let c = word_at(alloc, value, "c")?;
+    let d = word_at(alloc, value, "d")?;
+    let id = word_at(alloc, value, "id")?;
+    let seq = word_at(alloc, value, "seq")?;
+    let src = word_at(alloc, value, "src")?;
+    Ok(Echo {
+        a,
+        c,
+        d,
+        id,
+        seq,
+        src,
+    })
+}

@@ -1,0 +1,215 @@
+//! Reads messages.
+ghost use Rattle.std.specs.Prelude.{◌≡◌, Ok, IfOk, IfErr, option_map, codes};
+ghost use Rattle.serde_json.specs.View.{view as data_view};
+ghost use Rattle.sdb_oplog.specs.Keys.{plain_key};
+ghost use Rattle.sdb_oplog.specs.Refused.{RefusedBy};
+ghost use Rattle.sdb_wire.specs.Wire.{key_of, fetch_of, submit_of, message_of, content_of, is_deletion, creation, created, edition, wire, hear, nothing_said};
+ghost use Rattle.sdb_wire.specs.View.{plain_request, plain_echo, plain_heard, IsFault, IsFaultOf};
+
+use crate::members::{count_at, echo_of, may_count, may_name, name_at, need_name, present};
+use crate::requests::{Bad, Echo, Heard, Request};
+use sdb_component::{OpFault, read_op};
+use sdb_oplog::{Code, Content, Key};
+use sdb_value::{ValueFault, from_value};
+use serde_json::Value;
+use std::alloc::{AllocError, Global};
+
+/// The request that a text is, or the first code in order, E1 to E3, with what the error shows.
+pub fn read_message(alloc: Global, text: &str) -> Result<Request, Bad>
+    ensures ok { IfOk result (λ r. wire text.now ≡ Ok (plain_request r)) }
+    ensures err { IfErr result (λ b. IsFault b (wire text.now)) }
+{
+    match Value::from_str(alloc, text) {
+        Ok(value) => read_value(alloc, &value),
+        Err(error) => {
+            let code = if error.is_memory() {
+                Code::E10
+            } else {
+                Code::E1
+            };
+            Err(Bad {
+                echo: no_echo(),
+                code,
+            })
+        }
+    }
+}
+
+/// What a line says: as [`read_message`], but the echo is there with a request too, since a refusal
+/// by the log shows it.
+pub fn hear(alloc: Global, text: &str) -> Result<Heard, AllocError>
+    ensures { IfOk result (λ h. plain_heard h ≡ hear text.now) }
+{
+    match Value::from_str(alloc, text) {
+        Ok(value) => {
+            let echo = echo_of(alloc, &value)?;
+            match message_of(alloc, &value) {
+                Ok(request) => Ok(Heard {
+                    echo,
+                    request: Ok(request),
+                }),
+                Err(code) => match code {
+                    Code::E10 => Err(AllocError),
+                    code => Ok(Heard {
+                        echo,
+                        request: Err(code),
+                    }),
+                },
+            }
+        }
+        Err(error) => {
+            if error.is_memory() {
+                return Err(AllocError);
+            }
+            Ok(Heard {
+                echo: no_echo(),
+                request: Err(Code::E1),
+            })
+        }
+    }
+}
+
+/// Shows nothing.
+pub fn no_echo() -> Echo
+    ensures { plain_echo result ≡ nothing_said }
+{
+    Echo {
+        a: None,
+        c: None,
+        d: None,
+        id: None,
+        seq: None,
+        src: None,
+    }
+}
+
+fn read_value(alloc: Global, value: &Value) -> Result<Request, Bad>
+    ensures ok { IfOk result (λ r. message_of (data_view value.now) ≡ Ok (plain_request r)) }
+    ensures err { IfErr result (λ b. IsFaultOf b (data_view value.now)) }
+{
+    match message_of(alloc, value) {
+        Ok(request) => Ok(request),
+        Err(code) => match echo_of(alloc, value) {
+            Ok(echo) => Err(Bad { echo, code }),
+            Err(_) => Err(Bad {
+                echo: no_echo(),
+                code: Code::E10,
+            }),
+        },
+    }
+}
+
+fn message_of(alloc: Global, value: &Value) -> Result<Request, Code>
+    ensures ok { IfOk result (λ r. message_of (data_view value.now) ≡ Ok (plain_request r)) }
+    ensures err { IfErr result (λ code. RefusedBy (message_of (data_view value.now)) code) }
+{
+    match name_at(value, "a") {
+        Some("f") => fetch_of(alloc, value),
+        Some("op") => submit_of(alloc, value),
+        _ => Err(Code::E1),
+    }
+}
+
+fn key_of(alloc: Global, value: &Value) -> Result<Key, Code>
+    ensures ok { IfOk result (λ p. key_of (data_view value.now) ≡ Ok (plain_key p)) }
+    ensures err { IfErr result (λ code. RefusedBy (key_of (data_view value.now)) code) }
+{
+    let collection = need_name(alloc, value, "c")?;
+    let id = need_name(alloc, value, "d")?;
+    Ok(Key { collection, id })
+}
+
+fn fetch_of(alloc: Global, value: &Value) -> Result<Request, Code>
+    ensures ok { IfOk result (λ r. fetch_of (data_view value.now) ≡ Ok (plain_request r)) }
+    ensures err { IfErr result (λ code. RefusedBy (fetch_of (data_view value.now)) code) }
+{
+    let key = key_of(alloc, value)?;
+    match may_count(value, "v") {
+        Ok(version) => Ok(Request::Fetch(key, version)),
+        Err(code) => Err(code),
+    }
+}
+
+fn submit_of(alloc: Global, value: &Value) -> Result<Request, Code>
+    ensures ok { IfOk result (λ r. submit_of (data_view value.now) ≡ Ok (plain_request r)) }
+    ensures err { IfErr result (λ code. RefusedBy (submit_of (data_view value.now)) code) }
+{
+    let key = key_of(alloc, value)?;
+    let Ok(version) = may_count(value, "v") else {
+        return Err(Code::E1);
+    };
+    let Some(seq) = count_at(value, "seq") else {
+        return Err(Code::E1);
+    };
+    let source = may_name(alloc, value, "src")?;
+    let content = read_content(alloc, value)?;
+    Ok(Request::Submit(key, version, seq, source, content))
+}
+
+/// The one content of a message: an operation, a create or a delete. Another number of them is E1, as
+/// is a create that is no object with a text `type`; another type is E2; an operation or data outside
+/// the profile are E3.
+pub fn read_content(alloc: Global, value: &Value) -> Result<Content, Code>
+    ensures ok { IfOk result (λ m. content_of (data_view value.now) ≡ Ok m) }
+    ensures err { IfErr result (λ code. RefusedBy (content_of (data_view value.now)) code) }
+{
+    let op = present(value, "op");
+    let create = present(value, "create");
+    match (op, create, is_deletion(value)) {
+        (Some(op), None, false) => edition(alloc, op),
+        (None, Some(create), false) => creation(alloc, create),
+        (None, None, true) => Ok(Content::delete()),
+        _ => Err(Code::E1),
+    }
+}
+
+fn is_deletion(value: &Value) -> bool
+    ensures { result ≡ is_deletion (data_view value.now) }
+{
+    value.get("del").and_then(Value::as_bool).unwrap_or(false)
+}
+
+fn edition(alloc: Global, value: &Value) -> Result<Content, Code>
+    ensures ok { IfOk result (λ m. edition (data_view value.now) ≡ Ok m) }
+    ensures err { IfErr result (λ code. RefusedBy (edition (data_view value.now)) code) }
+{
+    match read_op(alloc, value) {
+        Ok(op) => Ok(Content::edit(op)),
+        Err(fault) => match fault {
+            OpFault::Form => Err(Code::E3),
+            OpFault::Memory => Err(Code::E10),
+        },
+    }
+}
+
+fn creation(alloc: Global, value: &Value) -> Result<Content, Code>
+    ensures ok { IfOk result (λ m. creation (data_view value.now) ≡ Ok m) }
+    ensures err { IfErr result (λ code. RefusedBy (creation (data_view value.now)) code) }
+{
+    match value.get("type").and_then(Value::as_str) {
+        Some(name) => {
+            if name != "http://sharejs.org/types/JSONv0" && name != "json0" {
+                return Err(Code::E2);
+            }
+            match value.get("data") {
+                Some(member) => created(alloc, member),
+                None => created(alloc, &Value::Null),
+            }
+        }
+        None => Err(Code::E1),
+    }
+}
+
+fn created(alloc: Global, value: &Value) -> Result<Content, Code>
+    ensures ok { IfOk result (λ m. created (data_view value.now) ≡ Ok m) }
+    ensures err { IfErr result (λ code. RefusedBy (created (data_view value.now)) code) }
+{
+    match from_value(alloc, value) {
+        Ok(json) => Ok(Content::create(json)),
+        Err(fault) => match fault {
+            ValueFault::Number => Err(Code::E3),
+            ValueFault::Depth => Err(Code::E3),
+            ValueFault::Memory => Err(Code::E10),
+        },
+    }
+}

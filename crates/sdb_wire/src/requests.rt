@@ -1,0 +1,63 @@
+//! What a message asks, and what an error shows of it.
+use sdb_oplog::{Code, Content, Entry, Key};
+use sdb_value::Json;
+
+/// A member that an error shows again: a text of 1 to 200 bytes, or a whole number from 0 to
+/// 9007199254740991.
+#[derive(Drop)]
+pub enum Word {
+    Text(String),
+    Count(u64),
+}
+
+/// The members of a message that an error shows again, each where it is there as a [`Word`].
+#[derive(Drop)]
+pub struct Echo {
+    pub a: Option<Word>,
+    pub c: Option<Word>,
+    pub d: Option<Word>,
+    pub id: Option<Word>,
+    pub seq: Option<Word>,
+    pub src: Option<Word>,
+}
+
+/// What a message asks.
+#[derive(Drop)]
+pub enum Request {
+    /// The present document; with a version the stored operations from there on.
+    Fetch(Key, Option<u64>),
+    /// A submission: the version that it was made at, its number, its source, its content. Without a
+    /// source it is the session's.
+    Submit(Key, Option<u64>, u64, Option<String>, Content),
+}
+
+/// Why a message asks nothing, and what the error shows of it. E10 is want of memory.
+#[derive(Drop)]
+pub struct Bad {
+    pub echo: Echo,
+    pub code: Code,
+}
+
+/// What a line says: the request, or the code that refuses it, and what an error shows of it.
+#[derive(Drop)]
+pub struct Heard {
+    pub echo: Echo,
+    pub request: Result<Request, Code>,
+}
+
+/// An answer, of which each is one text.
+#[derive(Drop)]
+pub enum Answer<'a> {
+    /// The opening text: the session's source.
+    Init(&'a str),
+    /// The present version, and the document there.
+    Fetched(&'a Key, u64, Option<&'a Json>),
+    /// The end of a list of stored operations.
+    Listed(&'a Key),
+    /// A stored operation.
+    OpMessage(&'a Key, &'a Entry),
+    /// A submission is stored: its source, its number, the version.
+    Acknowledged(&'a Key, &'a str, u64, u64),
+    /// A message is refused.
+    Failed(&'a Echo, Code),
+}
