@@ -1,4 +1,4 @@
--- Components as plain data.
+-- Components as plain data: the nine shapes of json0 (its README, "Summary of operations").
 use Rattle.std.specs.Prelude.{ℕ, ℤ, List}
 use Rattle.sdb_value.specs.Value.{Value, PlainStep}
 

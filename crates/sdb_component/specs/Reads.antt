@@ -1,4 +1,4 @@
--- Which operation a JSON value is, within the limits on its size.
+-- Which operation a JSON value is (json0's README, "Summary of operations"), within the profile's limits.
 use Rattle.std.specs.Prelude.{◌≡◌, ℕ, suc, ℤ, List, [], ◌∷◌, ◌++◌, Bool, true, false, ◌||◌, if◌then◌else◌, nat_lt, codes, Option, Some, None, option_map, option_and_then, ⊤}
 use Rattle.std.specs.Option.{is_some}
 use Rattle.serde_json.specs.Data as raw

@@ -8,7 +8,7 @@ use crate::operation::Op;
 use sdb_value::Step;
 use std::alloc::{AllocError, Global};
 
-/// A copy of a path, its keys copied too.
+/// A copy of a path, its keys copied too. Fails only where an allocation does.
 pub fn copy_path(alloc: Global, path: &[Step]) -> Result<Vec<Step>, AllocError>
     ensures { IfOk result (λ p. plain_path p.items ≡ plain_path path.now) }
 {
@@ -29,7 +29,7 @@ fn copy_step(step: &Step) -> Result<Step, AllocError>
 }
 
 impl Act {
-    /// A copy, its texts and values copied too.
+    /// A copy, its texts and values copied too. Fails only where an allocation does.
     pub fn try_clone(&self, alloc: Global) -> Result<Act, AllocError>
         ensures { IfOk result (λ a. plain_act a ≡ plain_act self.now) }
     {
@@ -52,7 +52,7 @@ impl Act {
 }
 
 impl Component {
-    /// A copy, its path and act copied too.
+    /// A copy, its path and act copied too. Fails only where an allocation does.
     pub fn try_clone(&self, alloc: Global) -> Result<Component, AllocError>
         ensures { IfOk result (λ c. c ≡ self.now) }
     {
@@ -63,7 +63,7 @@ impl Component {
 }
 
 impl Op {
-    /// A copy, its components copied too.
+    /// A copy, its components copied too. Fails only where an allocation does.
     pub fn try_clone(&self, alloc: Global) -> Result<Op, AllocError>
         ensures { IfOk result (λ o. o ≡ self.now) }
     {

@@ -1,4 +1,5 @@
-//! Operations: lists of components, each a change of one place.
+//! Operations: lists of components, each a change of one place (json0's README, "Summary of
+//! operations").
 #![tactic(auto)]
 
 mod component;

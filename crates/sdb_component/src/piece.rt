@@ -40,7 +40,7 @@ impl Piece {
         self.text.as_str()
     }
 
-    /// A copy.
+    /// A copy. Fails only where an allocation does.
     pub fn try_clone(&self) -> Result<Piece, AllocError>
         ensures { IfOk result (λ p. p ≡ self.now) }
     {

@@ -15,7 +15,8 @@ use serde_json::{Value, json};
 use std::alloc::{AllocError, Global};
 
 /// The JSON value that the operation is sent as: an array of its components, each an object whose
-/// members stand in the order of their keys. A path is written whole, with its last step.
+/// members stand in the order of their keys. A path is written whole, with its last step. Fails only
+/// where an allocation does.
 pub fn op_value(alloc: Global, op: &Op) -> Result<Value, AllocError>
     ensures { IfOk result (λ v. data_view v ≡ op_data op.now) }
 {

@@ -35,13 +35,15 @@ impl From<AllocError> for OpFault {
 }
 
 /// The operation that a JSON value is: an array of at most 256 components, each an object with a
-/// path `p` of at most 50 steps and the members of one of the nine shapes. Other members are left
-/// aside, but for `lm`, `t` and `o`, which no component may have.
+/// path `p` of at most 50 steps and the members of exactly one of the nine shapes. A component that
+/// has `lm`, `t` or `o` is refused, and any other member is left aside.
 ///
-/// A step is a text or a whole number from 0 to 9007199254740991; the number of `na` is whole, at
-/// most 9007199254740991 in size; a value nests at most 50 deep, and has such numbers alone. An
-/// insert or a delete of an empty text is checked like any other, counts as a component, and is then
-/// dropped.
+/// A step is a text or a whole number from 0 to 9007199254740991. The number of `na` is whole, and
+/// at most 9007199254740991 in size. A value nests at most 50 deep, and its numbers are such numbers.
+/// An insert or a delete of an empty text is checked like any other and counts as a component, and
+/// is then dropped.
+///
+/// `Form` where the value is no such array, and `Memory` where an allocation failed.
 #[tactic(auto, using(crate::proofs::Sizes::view_size))]
 pub fn read_op(alloc: Global, value: &Value) -> Result<Op, OpFault>
     ensures ok { IfOk result (λ o. op_of (data_view value.now) ≡ Some o) }

@@ -18,7 +18,7 @@ impl Component {
     }
 }
 
-/// The sum of the components' weights. It takes no memory.
+/// The sum of the components' weights. It allocates nothing.
 pub fn weight(op: &Op) -> u128
     ensures { result ≡ weight op.now }
 {

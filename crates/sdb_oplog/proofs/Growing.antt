@@ -79,7 +79,7 @@ and_step : (p q r : Bool) → (p && q) ≡ true → (q ≡ true → r ≡ true) 
 and_step true q r e h = h e
 and_step false q r e h = e
 
-append_none : (es : List PlainEntry) → es ++ [] ≡ es
+pub append_none : (es : List PlainEntry) → es ++ [] ≡ es
 append_none [] = refl
 append_none (e ∷ es) = ap (λ l. e ∷ l) (append_none es)
 

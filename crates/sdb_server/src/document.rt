@@ -1,0 +1,141 @@
+//! One document: its log, and what it makes.
+ghost use Rattle.std.specs.Prelude.{◌≡◌, ◌≤◌, [], length, OnOk, OnErr, IfOk, IfErr, Ok, option_map};
+ghost use Rattle.sdb_value.specs.View.{view};
+ghost use Rattle.sdb_oplog.specs.Decide.{decide, settled, IsMade};
+ghost use Rattle.sdb_oplog.specs.Over.{over_all};
+ghost use Rattle.sdb_oplog.specs.Refused.{RefusedBy};
+ghost use Rattle.sdb_oplog.specs.Snap.{becomes, document};
+ghost use Rattle.sdb_server.specs.Told.{plain_reply};
+
+use sdb_oplog::{Code, Content, Entry, Log, MAX, Submission, over};
+use sdb_value::Json;
+use std::alloc::{AllocError, Global};
+use std::marker::Model;
+
+// What a submission is answered.
+#[derive(Drop)]
+pub enum Reply {
+    Stored { v: u64, missed: Vec<Entry> },
+    Repeat { v: u64 },
+    Refused(Code),
+}
+
+// A log, with the document that it makes beside it, so that nothing is replayed.
+#[derive(Drop)]
+pub struct Document {
+    log: Log,
+    present: Option<Json>,
+}
+
+impl Model for Document {
+    ghost use Rattle.std.specs.Prelude.{◌≡◌, Some, List, option_map};
+    ghost use Rattle.sdb_oplog.specs.Plain.{PlainEntry};
+    ghost use Rattle.sdb_oplog.specs.Coding.{log_code};
+
+    ghost Value = { List PlainEntry };
+
+    ghost coded = { log_code };
+
+    ghost use Rattle.sdb_value.specs.View.{view};
+    ghost use Rattle.sdb_oplog.specs.Snap.{snap};
+
+    ghost view = { λ d. d.log };
+
+    ghost invariant = { λ d. snap d.log ≡ Some (option_map view d.present) };
+}
+
+impl Document {
+    pub fn new(alloc: Global) -> Document
+        ensures { result ≡ [] }
+    {
+        Document {
+            log: Log::new(alloc),
+            present: None,
+        }
+    }
+
+    pub fn log(&self) -> &Log
+        ensures { result.now ≡ self.now }
+    {
+        &self.log
+    }
+
+    pub fn present(&self) -> Option<&Json>
+        ensures { option_map (λ v. view v.now) result ≡ document self.now }
+    {
+        self.present.as_ref()
+    }
+
+    // Decides a submission. After want of memory the log is unchanged.
+    pub fn decide(&mut self, alloc: Global, submission: Submission) -> Result<Reply, AllocError>
+        ensures reply { IfOk result (λ r. plain_reply r ≡ (decide self.old submission).reply) }
+        ensures log { OnOk result (self.new ≡ (decide self.old submission).log) }
+        ensures made { OnOk result (IsMade self.old → IsMade self.new) }
+        ensures err { OnErr result (self.new ≡ self.old) }
+    {
+        if let Some(v) = self.log.stored_at(submission.src(), submission.seq()) {
+            return Ok(Reply::Repeat { v });
+        }
+        match settle(alloc, &self.log, self.present.as_ref(), &submission) {
+            Ok((content, after)) => {
+                let v = self.log.len();
+                let since = submission.version().unwrap_or(v);
+                let missed = copies(alloc, self.log.entries_from(since))?;
+                self.log.push(Entry::new(v, content, submission))?;
+                self.present = after;
+                Ok(Reply::Stored { v, missed })
+            }
+            Err(code) => match code {
+                Code::E10 => Err(AllocError),
+                code => Ok(Reply::Refused(code)),
+            },
+        }
+    }
+}
+
+// The content as it will be stored, and the document that it makes.
+fn settle(
+    alloc: Global,
+    log: &Log,
+    present: Option<&Json>,
+    submission: &Submission,
+) -> Result<(Content, Option<Json>), Code>
+    requires { option_map (λ v. view v.now) present.entry ≡ document log.now }
+    ensures ok { IfOk result (λ m. settled log.now submission.now ≡ Ok m.0) }
+    ensures after { IfOk result (λ m. becomes m.0 (document log.now) ≡ Ok (option_map view m.1)) }
+    ensures err { IfErr result (λ code. RefusedBy (settled log.now submission.now) code) }
+{
+    let n = log.len();
+    if n == MAX {
+        return Err(Code::E11);
+    }
+    let since = submission.version().unwrap_or(n);
+    if n < since {
+        return Err(Code::E4);
+    }
+    let content = over_all(alloc, submission.content(), log.entries_from(since))?;
+    let after = content.applied_to(alloc, present)?;
+    Ok((content, after))
+}
+
+// The content after all of the entries, one by one.
+fn over_all(alloc: Global, content: &Content, entries: &[Entry]) -> Result<Content, Code>
+    ensures ok { IfOk result (λ m. over_all content.now entries.now ≡ Ok m) }
+    ensures err { IfErr result (λ code. RefusedBy (over_all content.now entries.now) code) }
+{
+    let mut carried = content.try_clone(alloc)?;
+    for entry in entries {
+        carried = over(alloc, &carried, entry.content())?;
+    }
+    Ok(carried)
+}
+
+fn copies(alloc: Global, entries: &[Entry]) -> Result<Vec<Entry>, AllocError>
+    ensures { IfOk result (λ v. v.items ≡ entries.now) }
+{
+    let mut made = Vec::with_capacity(alloc, entries.len())?;
+    for entry in entries {
+        made.push(entry.try_clone(alloc)?)?;
+    }
+    Ok(made)
+}

@@ -1,0 +1,7 @@
+//! The server.
+#![tactic(auto)]
+
+mod document;
+mod documents;
+
+fn main() {}
