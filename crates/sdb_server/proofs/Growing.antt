@@ -64,3 +64,8 @@ made_by log s None h e = made_store log s (settled log s) h (ap (λ o. option_ma
 -- a decision keeps a log made
 pub made_decided : (log : List PlainEntry) (s : PlainSubmission) → IsMade log → IsMade (decide log s).log
 made_decided log s h = made_by log s (stored_at s.src s.seq log) h refl
+
+-- the document after what is stored
+pub after_more : (log : List PlainEntry) (e : PlainEntry) (m : PlainContent) (d : Option Value) → is_some (snap log) ≡ true → e.content ≡ m → becomes m (document log) ≡ Ok d → snap (log ++ e ∷ []) ≡ Some d
+after_more log e m d lives is makes =
+    snap_one log e None (document log) (is_document (snap log) lives) ∙ ap (λ x. result_ok (becomes x (document log))) is ∙ ap result_ok makes

@@ -1,2 +1,3 @@
-pub mod Looks
 pub mod Growing
+pub mod Looks
+pub mod Shown

@@ -12,7 +12,7 @@ use Rattle.std.proofs.Common.{Result, Ok, Err, OnOk, OnErr}
 use Rattle.std.proofs.lemmas.Map.Steps.{set_value_same}
 use Rattle.sdb_oplog.specs.Plain.{PlainEntry}
 use Rattle.sdb_oplog.specs.Keys.{PlainKey, key_cmp, same_key, with_log, plain_key}
-use Rattle.sdb_server.specs.Holds.{held}
+use Rattle.sdb_server.specs.Keyed.{held}
 use Rattle.sdb_oplog.specs.declared.keys.Key.{Key}
 
 abbrev pub Pair : Type 0

@@ -31,17 +31,17 @@ fetch_answers e k (Some v) log = if nat_lt (length log) v then failed e E4 ∷ [
 -- ---- submissions
 
 -- what was missed comes before the acknowledgement
-abbrev pub reply_answers : PlainEcho → PlainKey → PlainSubmission → PlainReply → List PlainAnswer
-reply_answers e k s (stored v missed) = map (op_message k) missed ++ acknowledged k s.src s.seq v ∷ []
-reply_answers e k s (repeated v) = acknowledged k s.src s.seq v ∷ []
-reply_answers e k s (refused code) = failed e code ∷ []
+abbrev pub reply_answers : PlainEcho → PlainKey → List ℕ → ℕ → PlainReply → List PlainAnswer
+reply_answers e k src seq (stored v missed) = map (op_message k) missed ++ acknowledged k src seq v ∷ []
+reply_answers e k src seq (repeated v) = acknowledged k src seq v ∷ []
+reply_answers e k src seq (refused code) = failed e code ∷ []
 
 -- a message that names no source has the session's
 abbrev pub submission_of : PlainKey → Option ℕ → ℕ → Option (List ℕ) → PlainContent → PlainSubmission
 submission_of k v n src m = record { src = unwrap_or src own_source; seq = n; version = v; content = m; via = k.collection; by = 0 }
 
 abbrev pub decided_turn : PlainEcho → PlainKey → PlainSubmission → Logs → Decided → Turn
-decided_turn e k s logs d = record { answers = reply_answers e k s d.reply; logs = with_log logs k d.log }
+decided_turn e k s logs d = record { answers = reply_answers e k s.src s.seq d.reply; logs = with_log logs k d.log }
 
 abbrev pub submit_turn : PlainEcho → PlainKey → PlainSubmission → Logs → Turn
 submit_turn e k s logs = decided_turn e k s logs (decide (logs k) s)
@@ -66,7 +66,7 @@ is_request line = is_ok (hear line).request
 -- each text with a line feed
 abbrev pub shown : List PlainAnswer → List ℕ
 shown [] = []
-shown (a ∷ as) = (answer_text a ++ 10 ∷ []) ++ shown as
+shown (a ∷ more) = (answer_text a ++ 10 ∷ []) ++ shown more
 
 abbrev pub opening : List ℕ
 opening = shown (init own_source ∷ [])

@@ -1,17 +1,11 @@
--- The logs that the map of documents holds.
-use Rattle.std.specs.Prelude.{◌≡◌, List, [], Result, Ok, unwrap_or, option_map, ⊤}
-use Rattle.std.specs.Map.{lookup}
-use Rattle.std.specs.BTreeMap.{is_at}
+-- What a document keeps beside its log.
+use Rattle.std.specs.Prelude.{◌≡◌, List, Some, option_map}
+use Rattle.std.specs.declared.option.Option.{Option}
 use Rattle.sdb_value.specs.View.{view}
 use Rattle.sdb_value.specs.declared.value.Json.{Json}
-use Rattle.std.specs.declared.option.Option.{Option}
-use Rattle.sdb_oplog.specs.Plain.{PlainContent, PlainEntry}
-use Rattle.sdb_oplog.specs.Keys.{key_cmp, plain_key, Logs}
-use Rattle.sdb_oplog.specs.declared.keys.Key.{Key}
-use Rattle.sdb_server.specs.declared.documents.Documents.{Documents}
+use Rattle.sdb_oplog.specs.Plain.{PlainEntry}
+use Rattle.sdb_oplog.specs.Snap.{snap}
 
-abbrev pub held : List (Key × List PlainEntry) → Logs
-held es q = unwrap_or (lookup (is_at (λ k. key_cmp q (plain_key k))) es) []
-
-abbrev pub logs_of : Documents → Logs
-logs_of m = held m.by_key.entries
+-- the log makes this document
+abbrev pub makes : List PlainEntry → Option Json → Type 0
+makes log present = snap log ≡ Some (option_map view present)

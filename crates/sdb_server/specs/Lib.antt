@@ -1,3 +1,4 @@
 pub mod Dialogue
 pub mod Holds
+pub mod Keyed
 pub mod Told

@@ -15,7 +15,9 @@ use std::marker::Model;
 // What a submission is answered.
 #[derive(Drop)]
 pub enum Reply {
+    // The version it is stored at, and the entries that it had not seen.
     Stored { v: u64, missed: Vec<Entry> },
+    // The version it was stored at long since.
     Repeat { v: u64 },
     Refused(Code),
 }
@@ -28,7 +30,7 @@ pub struct Document {
 }
 
 impl Model for Document {
-    ghost use Rattle.std.specs.Prelude.{◌≡◌, Some, List, option_map};
+    ghost use Rattle.std.specs.Prelude.{List};
     ghost use Rattle.sdb_oplog.specs.Plain.{PlainEntry};
     ghost use Rattle.sdb_oplog.specs.Coding.{log_code};
 
@@ -36,12 +38,11 @@ impl Model for Document {
 
     ghost coded = { log_code };
 
-    ghost use Rattle.sdb_value.specs.View.{view};
-    ghost use Rattle.sdb_oplog.specs.Snap.{snap};
+    ghost use Rattle.sdb_server.specs.Holds.{makes};
 
     ghost view = { λ d. d.log };
 
-    ghost invariant = { λ d. snap d.log ≡ Some (option_map view d.present) };
+    ghost invariant = { λ d. makes d.log d.present };
 }
 
 impl Document {
@@ -100,7 +101,7 @@ fn settle(
     present: Option<&Json>,
     submission: &Submission,
 ) -> Result<(Content, Option<Json>), Code>
-    requires { option_map (λ v. view v.now) present.entry ≡ document log.now }
+    requires { option_map (λ v. view v.now) present ≡ document log.now }
     ensures ok { IfOk result (λ m. settled log.now submission.now ≡ Ok m.0) }
     ensures after { IfOk result (λ m. becomes m.0 (document log.now) ≡ Ok (option_map view m.1)) }
     ensures err { IfErr result (λ code. RefusedBy (settled log.now submission.now) code) }

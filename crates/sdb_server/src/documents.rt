@@ -2,7 +2,7 @@
 ghost use Rattle.std.specs.Prelude.{◌≡◌, [], IfOk, OnOk, OnErr, option_map, unwrap_or};
 ghost use Rattle.sdb_oplog.specs.Decide.{decide};
 ghost use Rattle.sdb_oplog.specs.Keys.{no_logs, with_log, plain_key};
-ghost use Rattle.sdb_server.specs.Holds.{logs_of};
+ghost use Rattle.sdb_server.specs.Keyed.{logs_of};
 ghost use Rattle.sdb_server.specs.Told.{plain_reply};
 
 use crate::document::{Document, Reply};

@@ -1,6 +1,7 @@
 //! The server.
 #![tactic(auto)]
 
+mod answering;
 mod document;
 mod documents;
 

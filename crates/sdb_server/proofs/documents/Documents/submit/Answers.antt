@@ -2,7 +2,7 @@ use Rattle.std.proofs.Common.{sym, ap, ◌∙◌}
 use Rattle.sdb_oplog.specs.Decide.{decide}
 use Rattle.std.specs.BTreeMap.{insert_entry}
 use Rattle.sdb_oplog.specs.Keys.{key_cmp, with_log, plain_key}
-use Rattle.sdb_server.specs.Holds.{held}
+use Rattle.sdb_server.specs.Keyed.{held}
 use Rattle.sdb_server.proofs.Looks.{write_through, put_back, inserted, held_found, held_none, on_ok, on_err}
 use Rattle.sdb_server.proofs.documents.Documents.submit.Goals as goal
 

@@ -1,0 +1,193 @@
+//! The answers to one line.
+ghost use Rattle.std.specs.Prelude.{◌≡◌, ◌++◌, ◌∷◌, [], IfOk, OnOk, length, map, option_map, unwrap_or, string_bytes};
+ghost use Rattle.sdb_value.specs.View.{view};
+ghost use Rattle.sdb_oplog.specs.Keys.{plain_key};
+ghost use Rattle.sdb_oplog.specs.Snap.{document};
+ghost use Rattle.sdb_wire.specs.Answers.{op_message};
+ghost use Rattle.sdb_wire.specs.View.{plain_answer, plain_echo, plain_request};
+ghost use Rattle.sdb_server.specs.Dialogue.{shown, turn, is_request, request_turn, fetch_answers, listing, reply_answers, submit_turn, submission_of};
+ghost use Rattle.sdb_server.specs.Keyed.{logs_of};
+ghost use Rattle.sdb_server.specs.Told.{plain_reply};
+
+use crate::document::{Document, Reply};
+use crate::documents::Documents;
+use sdb_oplog::{Code, Content, Entry, Key, Submission};
+use sdb_wire::{Answer, Echo, Heard, Request, hear, reply_text};
+use std::alloc::{AllocError, Global};
+
+// The source of the one session.
+const SOURCE: &str = "s1";
+
+// Writes the answers to a line behind what is to be written, and says whether it was a request.
+pub fn answer_line(
+    alloc: Global,
+    documents: &mut Documents,
+    line: &str,
+    out: &mut Vec<u8>,
+) -> Result<bool, AllocError>
+    ensures text { OnOk result (out.new.items ≡ out.old.items ++ shown (turn line.now (logs_of documents.old)).answers) }
+    ensures logs { OnOk result (logs_of documents.new ≡ (turn line.now (logs_of documents.old)).logs) }
+    ensures step { IfOk result (λ b. b ≡ is_request line.now) }
+{
+    let Heard { echo, request } = hear(alloc, line)?;
+    match request {
+        Ok(asked) => {
+            answer_request(alloc, documents, &echo, asked, out)?;
+            Ok(true)
+        }
+        Err(code) => {
+            say(alloc, &Answer::Failed(&echo, code), out)?;
+            Ok(false)
+        }
+    }
+}
+
+fn answer_request(
+    alloc: Global,
+    documents: &mut Documents,
+    echo: &Echo,
+    request: Request,
+    out: &mut Vec<u8>,
+) -> Result<(), AllocError>
+    ensures text { OnOk result (out.new.items ≡ out.old.items ++ shown (request_turn (plain_echo echo.now) (plain_request request) (logs_of documents.old)).answers) }
+    ensures logs { OnOk result (logs_of documents.new ≡ (request_turn (plain_echo echo.now) (plain_request request) (logs_of documents.old)).logs) }
+{
+    match request {
+        Request::Fetch(key, version) => fetch(alloc, documents, echo, &key, version, out),
+        Request::Submit(key, version, seq, src, content) => {
+            let submission = submission(alloc, &key, version, seq, src, content)?;
+            submit(alloc, documents, echo, &key, submission, out)
+        }
+    }
+}
+
+// A message that names no source has the session's.
+fn submission(
+    alloc: Global,
+    key: &Key,
+    version: Option<u64>,
+    seq: u64,
+    src: Option<String>,
+    content: Content,
+) -> Result<Submission, AllocError>
+    ensures { IfOk result (λ s. s ≡ submission_of (plain_key key.now) version seq (option_map string_bytes src) content) }
+{
+    let src = match src {
+        Some(given) => given,
+        None => String::from_str(alloc, SOURCE)?,
+    };
+    let via = key.collection.clone()?;
+    Ok(Submission::new(src, seq, version, content, via, 0))
+}
+
+// Writes an answer and a line feed.
+pub fn say(alloc: Global, answer: &Answer<'_>, out: &mut Vec<u8>) -> Result<(), AllocError>
+    ensures { OnOk result (out.new.items ≡ out.old.items ++ shown (plain_answer answer.now ∷ [])) }
+{
+    let text = reply_text(alloc, answer)?;
+    out.extend_from_slice(text.as_bytes())?;
+    out.push(b'\n')?;
+    Ok(())
+}
+
+// Writes each entry as an op message.
+fn say_entries(
+    alloc: Global,
+    key: &Key,
+    entries: &[Entry],
+    out: &mut Vec<u8>,
+) -> Result<(), AllocError>
+    ensures { OnOk result (out.new.items ≡ out.old.items ++ shown (map (op_message (plain_key key.now)) entries.now)) }
+{
+    for entry in entries {
+        say(alloc, &Answer::OpMessage(key, entry), out)?;
+    }
+    Ok(())
+}
+
+fn fetch(
+    alloc: Global,
+    documents: &Documents,
+    echo: &Echo,
+    key: &Key,
+    version: Option<u64>,
+    out: &mut Vec<u8>,
+) -> Result<(), AllocError>
+    ensures { OnOk result (out.new.items ≡ out.old.items ++ shown (fetch_answers (plain_echo echo.now) (plain_key key.now) version (logs_of documents.now (plain_key key.now)))) }
+{
+    match documents.find(key) {
+        Some(document) => fetch_from(alloc, document, echo, key, version, out),
+        None => {
+            let empty = Document::new(alloc);
+            fetch_from(alloc, &empty, echo, key, version, out)
+        }
+    }
+}
+
+fn fetch_from(
+    alloc: Global,
+    document: &Document,
+    echo: &Echo,
+    key: &Key,
+    version: Option<u64>,
+    out: &mut Vec<u8>,
+) -> Result<(), AllocError>
+    ensures { OnOk result (out.new.items ≡ out.old.items ++ shown (fetch_answers (plain_echo echo.now) (plain_key key.now) version document.now)) }
+{
+    let log = document.log();
+    match version {
+        None => say(
+            alloc,
+            &Answer::Fetched(key, log.len(), document.present()),
+            out,
+        ),
+        Some(from) => {
+            if from > log.len() {
+                return say(alloc, &Answer::Failed(echo, Code::E4), out);
+            }
+            say_entries(alloc, key, log.entries_from(from), out)?;
+            say(alloc, &Answer::Listed(key), out)
+        }
+    }
+}
+
+fn submit(
+    alloc: Global,
+    documents: &mut Documents,
+    echo: &Echo,
+    key: &Key,
+    submission: Submission,
+    out: &mut Vec<u8>,
+) -> Result<(), AllocError>
+    ensures text { OnOk result (out.new.items ≡ out.old.items ++ shown (submit_turn (plain_echo echo.now) (plain_key key.now) submission (logs_of documents.old)).answers) }
+    ensures logs { OnOk result (logs_of documents.new ≡ (submit_turn (plain_echo echo.now) (plain_key key.now) submission (logs_of documents.old)).logs) }
+{
+    let src = String::from_str(alloc, submission.src())?;
+    let seq = submission.seq();
+    match documents.submit(alloc, key.try_clone()?, submission) {
+        Ok(reply) => say_reply(alloc, echo, key, src.as_str(), seq, &reply, out),
+        Err(error) => Err(error),
+    }
+}
+
+// What was missed comes before the acknowledgement.
+fn say_reply(
+    alloc: Global,
+    echo: &Echo,
+    key: &Key,
+    src: &str,
+    seq: u64,
+    reply: &Reply,
+    out: &mut Vec<u8>,
+) -> Result<(), AllocError>
+    ensures { OnOk result (out.new.items ≡ out.old.items ++ shown (reply_answers (plain_echo echo.now) (plain_key key.now) src.now seq (plain_reply reply.now))) }
+{
+    match reply {
+        Reply::Stored { v, missed } => {
+            say_entries(alloc, key, missed.as_slice(), out)?;
+            say(alloc, &Answer::Acknowledged(key, src, seq, *v), out)
+        }
+        Reply::Repeat { v } => say(alloc, &Answer::Acknowledged(key, src, seq, *v), out),
+        Reply::Refused(code) => say(alloc, &Answer::Failed(echo, *code), out),
+    }
+}
