@@ -35,3 +35,7 @@ on_any (Err e) p = tt
 pub on_ok : {A E P Q : Type 0} (r : Result A E) → (P → Q) → OnOk r P → OnOk r Q
 on_ok (Ok x) f p = f p
 on_ok (Err e) f p = tt
+
+-- what is written now, and what is to come
+pub joins : (old new text rest later : List ℕ) → new ≡ old ++ text → later ≡ rest → old ++ (text ++ rest) ≡ new ++ later
+joins old new text rest later e r = sym (ap (λ n. n ++ later) e ∙ ap (λ l. (old ++ text) ++ l) r ∙ append_assoc old text rest)

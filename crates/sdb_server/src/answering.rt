@@ -16,7 +16,7 @@ use sdb_wire::{Answer, Echo, Heard, Request, hear, reply_text};
 use std::alloc::{AllocError, Global};
 
 // The source of the one session.
-const SOURCE: &str = "s1";
+pub const SOURCE: &str = "s1";
 
 // Writes the answers to a line behind what is to be written, and says whether it was a request.
 pub fn answer_line(
