@@ -1,4 +1,183 @@
+//! Whole runs, and streams that fail.
 use crate::running::run_lines;
-use sdb_lines::Watched;
+use sdb_lines::{RunFault, Watched};
 use std::alloc::Global;
 use std::test::Fail;
+
+// What is written for the input.
+fn answers(alloc: Global, input: &'static [u8]) -> Result<Vec<u8>, Fail> {
+    let mut reader = Watched::new(input);
+    let mut writer = Watched::new(Vec::new(alloc));
+    match run_lines(alloc, &mut reader, &mut writer) {
+        Ok(_) => Ok(writer.stream),
+        Err(_) => Err("a fault".into()),
+    }
+}
+
+#[test]
+fn an_absent_document(rt: HostRuntime) -> Result<(), Fail> {
+    let input = b"{\"a\":\"f\",\"c\":\"b\",\"d\":\"1\"}\n";
+    let output =
+        b"{\"a\":\"init\",\"id\":\"s1\",\"protocol\":1,\"protocolMinor\":1,\"type\":\"http://sharejs.org/types/JSONv0\"}\n\
+        {\"a\":\"f\",\"c\":\"b\",\"d\":\"1\",\"data\":{\"type\":null,\"v\":0}}\n";
+    assert_eq!(rt; answers(rt.alloc(), input)?.as_slice(), output.as_slice());
+    Ok(())
+}
+
+#[test]
+fn create_and_fetch(rt: HostRuntime) -> Result<(), Fail> {
+    let input =
+        b"{\"a\":\"op\",\"c\":\"b\",\"d\":\"1\",\"v\":null,\"src\":\"x\",\"seq\":1,\"create\":{\"type\":\"http://sharejs.org/types/JSONv0\",\"data\":{\"n\":1}}}\n\
+        {\"a\":\"f\",\"c\":\"b\",\"d\":\"1\"}\n";
+    let output =
+        b"{\"a\":\"init\",\"id\":\"s1\",\"protocol\":1,\"protocolMinor\":1,\"type\":\"http://sharejs.org/types/JSONv0\"}\n\
+        {\"a\":\"op\",\"c\":\"b\",\"d\":\"1\",\"seq\":1,\"src\":\"x\",\"v\":0}\n\
+        {\"a\":\"f\",\"c\":\"b\",\"d\":\"1\",\"data\":{\"data\":{\"n\":1},\"v\":1}}\n";
+    assert_eq!(rt; answers(rt.alloc(), input)?.as_slice(), output.as_slice());
+    Ok(())
+}
+
+#[test]
+fn a_repeat_has_its_first_version(rt: HostRuntime) -> Result<(), Fail> {
+    let input =
+        b"{\"a\":\"op\",\"c\":\"b\",\"d\":\"1\",\"v\":null,\"src\":\"x\",\"seq\":1,\"create\":{\"type\":\"http://sharejs.org/types/JSONv0\",\"data\":{\"n\":1}}}\n\
+        {\"a\":\"op\",\"c\":\"b\",\"d\":\"1\",\"src\":\"x\",\"seq\":2,\"op\":[{\"p\":[\"n\"],\"na\":1}]}\n\
+        {\"a\":\"op\",\"c\":\"b\",\"d\":\"1\",\"src\":\"x\",\"seq\":3,\"op\":[{\"p\":[\"n\"],\"na\":1}]}\n\
+        {\"a\":\"op\",\"c\":\"b\",\"d\":\"1\",\"src\":\"x\",\"seq\":4,\"op\":[{\"p\":[\"n\"],\"na\":1}]}\n\
+        {\"a\":\"op\",\"c\":\"b\",\"d\":\"1\",\"src\":\"x\",\"seq\":5,\"op\":[{\"p\":[\"n\"],\"na\":1}]}\n\
+        {\"a\":\"op\",\"c\":\"b\",\"d\":\"1\",\"src\":\"x\",\"seq\":6,\"op\":[{\"p\":[\"n\"],\"na\":1}]}\n\
+        {\"a\":\"op\",\"c\":\"b\",\"d\":\"1\",\"src\":\"x\",\"seq\":7,\"op\":[{\"p\":[\"n\"],\"na\":1}]}\n\
+        {\"a\":\"op\",\"c\":\"b\",\"d\":\"1\",\"src\":\"x\",\"seq\":8,\"op\":[{\"p\":[\"n\"],\"na\":1}]}\n\
+        {\"a\":\"op\",\"c\":\"b\",\"d\":\"1\",\"src\":\"x\",\"seq\":9,\"op\":[{\"p\":[\"n\"],\"na\":1}]}\n\
+        {\"a\":\"op\",\"c\":\"b\",\"d\":\"1\",\"src\":\"x\",\"seq\":10,\"op\":[{\"p\":[\"n\"],\"na\":1}]}\n\
+        {\"a\":\"op\",\"c\":\"b\",\"d\":\"1\",\"src\":\"x\",\"seq\":11,\"op\":[{\"p\":[\"n\"],\"na\":1}]}\n\
+        {\"a\":\"op\",\"c\":\"b\",\"d\":\"1\",\"v\":null,\"src\":\"x\",\"seq\":1,\"create\":{\"type\":\"http://sharejs.org/types/JSONv0\",\"data\":{\"n\":1}}}\n\
+        {\"a\":\"f\",\"c\":\"b\",\"d\":\"1\"}\n";
+    let output =
+        b"{\"a\":\"init\",\"id\":\"s1\",\"protocol\":1,\"protocolMinor\":1,\"type\":\"http://sharejs.org/types/JSONv0\"}\n\
+        {\"a\":\"op\",\"c\":\"b\",\"d\":\"1\",\"seq\":1,\"src\":\"x\",\"v\":0}\n\
+        {\"a\":\"op\",\"c\":\"b\",\"d\":\"1\",\"seq\":2,\"src\":\"x\",\"v\":1}\n\
+        {\"a\":\"op\",\"c\":\"b\",\"d\":\"1\",\"seq\":3,\"src\":\"x\",\"v\":2}\n\
+        {\"a\":\"op\",\"c\":\"b\",\"d\":\"1\",\"seq\":4,\"src\":\"x\",\"v\":3}\n\
+        {\"a\":\"op\",\"c\":\"b\",\"d\":\"1\",\"seq\":5,\"src\":\"x\",\"v\":4}\n\
+        {\"a\":\"op\",\"c\":\"b\",\"d\":\"1\",\"seq\":6,\"src\":\"x\",\"v\":5}\n\
+        {\"a\":\"op\",\"c\":\"b\",\"d\":\"1\",\"seq\":7,\"src\":\"x\",\"v\":6}\n\
+        {\"a\":\"op\",\"c\":\"b\",\"d\":\"1\",\"seq\":8,\"src\":\"x\",\"v\":7}\n\
+        {\"a\":\"op\",\"c\":\"b\",\"d\":\"1\",\"seq\":9,\"src\":\"x\",\"v\":8}\n\
+        {\"a\":\"op\",\"c\":\"b\",\"d\":\"1\",\"seq\":10,\"src\":\"x\",\"v\":9}\n\
+        {\"a\":\"op\",\"c\":\"b\",\"d\":\"1\",\"seq\":11,\"src\":\"x\",\"v\":10}\n\
+        {\"a\":\"op\",\"c\":\"b\",\"d\":\"1\",\"seq\":1,\"src\":\"x\",\"v\":0}\n\
+        {\"a\":\"f\",\"c\":\"b\",\"d\":\"1\",\"data\":{\"data\":{\"n\":11},\"v\":11}}\n";
+    assert_eq!(rt; answers(rt.alloc(), input)?.as_slice(), output.as_slice());
+    Ok(())
+}
+
+#[test]
+fn the_greatest_number(rt: HostRuntime) -> Result<(), Fail> {
+    let input =
+        b"{\"a\":\"op\",\"c\":\"b\",\"d\":\"4\",\"src\":\"x\",\"seq\":1,\"create\":{\"type\":\"http://sharejs.org/types/JSONv0\",\"data\":{\"n\":9007199254740991}}}\n\
+        {\"a\":\"op\",\"c\":\"b\",\"d\":\"4\",\"v\":1,\"src\":\"x\",\"seq\":2,\"op\":[{\"p\":[\"n\"],\"na\":1}]}\n\
+        {\"a\":\"f\",\"c\":\"b\",\"d\":\"4\"}\n";
+    let output =
+        b"{\"a\":\"init\",\"id\":\"s1\",\"protocol\":1,\"protocolMinor\":1,\"type\":\"http://sharejs.org/types/JSONv0\"}\n\
+        {\"a\":\"op\",\"c\":\"b\",\"d\":\"4\",\"seq\":1,\"src\":\"x\",\"v\":0}\n\
+        {\"a\":\"op\",\"c\":\"b\",\"d\":\"4\",\"error\":{\"code\":\"ERR_OT_OP_NOT_APPLIED\",\"message\":\"operation can not be applied\"},\"seq\":2,\"src\":\"x\"}\n\
+        {\"a\":\"f\",\"c\":\"b\",\"d\":\"4\",\"data\":{\"data\":{\"n\":9007199254740991},\"v\":1}}\n";
+    assert_eq!(rt; answers(rt.alloc(), input)?.as_slice(), output.as_slice());
+    Ok(())
+}
+
+#[test]
+fn bad_messages(rt: HostRuntime) -> Result<(), Fail> {
+    let input =
+        b"{\"a\":\"op\",\"c\":\"b\",\"d\":\"1\",\"v\":null,\"src\":\"x\",\"seq\":1,\"create\":{\"type\":\"http://sharejs.org/types/JSONv0\",\"data\":{\"n\":1}}}\n\
+        {\"a\":\"op\"\n\
+        {\"a\":\"op\",\"c\":\"b\",\"d\":\"1\",\"src\":\"x\",\"seq\":9,\"op\":[{\"p\":[\"k\"],\"oi\":1.5}]}\n\
+        {\"a\":\"op\",\"c\":\"b\",\"d\":\"1\",\"src\":\"x\",\"seq\":9,\"op\":[{\"p\":[\"a\",\"a\",\"a\",\"a\",\"a\",\"a\",\"a\",\"a\",\"a\",\"a\",\"a\",\"a\",\"a\",\"a\",\"a\",\"a\",\"a\",\"a\",\"a\",\"a\",\"a\",\"a\",\"a\",\"a\",\"a\",\"a\",\"a\",\"a\",\"a\",\"a\",\"a\",\"a\",\"a\",\"a\",\"a\",\"a\",\"a\",\"a\",\"a\",\"a\",\"a\",\"a\",\"a\",\"a\",\"a\",\"a\",\"a\",\"a\",\"a\",\"a\",\"a\"],\"oi\":1}]}\n\
+        {\"a\":\"op\",\"c\":\"b\",\"d\":\"1\",\"src\":\"x\",\"seq\":9,\"create\":{\"type\":\"text\"}}\n\
+        {\"a\":\"f\",\"c\":\"b\",\"d\":\"1\"}\n";
+    let output =
+        b"{\"a\":\"init\",\"id\":\"s1\",\"protocol\":1,\"protocolMinor\":1,\"type\":\"http://sharejs.org/types/JSONv0\"}\n\
+        {\"a\":\"op\",\"c\":\"b\",\"d\":\"1\",\"seq\":1,\"src\":\"x\",\"v\":0}\n\
+        {\"error\":{\"code\":\"ERR_MESSAGE_BADLY_FORMED\",\"message\":\"message is badly formed\"}}\n\
+        {\"a\":\"op\",\"c\":\"b\",\"d\":\"1\",\"error\":{\"code\":\"ERR_OT_OP_BADLY_FORMED\",\"message\":\"operation is badly formed\"},\"seq\":9,\"src\":\"x\"}\n\
+        {\"a\":\"op\",\"c\":\"b\",\"d\":\"1\",\"error\":{\"code\":\"ERR_OT_OP_BADLY_FORMED\",\"message\":\"operation is badly formed\"},\"seq\":9,\"src\":\"x\"}\n\
+        {\"a\":\"op\",\"c\":\"b\",\"d\":\"1\",\"error\":{\"code\":\"ERR_DOC_TYPE_NOT_RECOGNIZED\",\"message\":\"document type is not recognized\"},\"seq\":9,\"src\":\"x\"}\n\
+        {\"a\":\"f\",\"c\":\"b\",\"d\":\"1\",\"data\":{\"data\":{\"n\":1},\"v\":1}}\n";
+    assert_eq!(rt; answers(rt.alloc(), input)?.as_slice(), output.as_slice());
+    Ok(())
+}
+
+#[test]
+fn lenient_objects(rt: HostRuntime) -> Result<(), Fail> {
+    let input =
+        b"{\"a\":\"op\",\"c\":\"b\",\"d\":\"17\",\"src\":\"x\",\"seq\":1,\"create\":{\"type\":\"http://sharejs.org/types/JSONv0\",\"data\":{\"k\":1}}}\n\
+        {\"a\":\"op\",\"c\":\"b\",\"d\":\"17\",\"v\":1,\"src\":\"x\",\"seq\":2,\"op\":[{\"p\":[\"k\"],\"oi\":2},{\"p\":[\"z\"],\"od\":5}]}\n\
+        {\"a\":\"f\",\"c\":\"b\",\"d\":\"17\"}\n\
+        {\"a\":\"op\",\"c\":\"b\",\"d\":\"18\",\"src\":\"x\",\"seq\":1,\"op\":[]}\n";
+    let output =
+        b"{\"a\":\"init\",\"id\":\"s1\",\"protocol\":1,\"protocolMinor\":1,\"type\":\"http://sharejs.org/types/JSONv0\"}\n\
+        {\"a\":\"op\",\"c\":\"b\",\"d\":\"17\",\"seq\":1,\"src\":\"x\",\"v\":0}\n\
+        {\"a\":\"op\",\"c\":\"b\",\"d\":\"17\",\"seq\":2,\"src\":\"x\",\"v\":1}\n\
+        {\"a\":\"f\",\"c\":\"b\",\"d\":\"17\",\"data\":{\"data\":{\"k\":2},\"v\":2}}\n\
+        {\"a\":\"op\",\"c\":\"b\",\"d\":\"18\",\"error\":{\"code\":\"ERR_DOC_DOES_NOT_EXIST\",\"message\":\"document does not exist\"},\"seq\":1,\"src\":\"x\"}\n";
+    assert_eq!(rt; answers(rt.alloc(), input)?.as_slice(), output.as_slice());
+    Ok(())
+}
+
+#[test]
+fn offsets_inside_pairs(rt: HostRuntime) -> Result<(), Fail> {
+    let input =
+        b"{\"a\":\"op\",\"c\":\"b\",\"d\":\"8\",\"src\":\"x\",\"seq\":1,\"create\":{\"type\":\"http://sharejs.org/types/JSONv0\",\"data\":\"a\xf0\x9f\x98\x80b\"}}\n\
+        {\"a\":\"op\",\"c\":\"b\",\"d\":\"8\",\"v\":1,\"src\":\"x\",\"seq\":2,\"op\":[{\"p\":[2],\"si\":\"-\"}]}\n\
+        {\"a\":\"op\",\"c\":\"b\",\"d\":\"8\",\"v\":1,\"src\":\"x\",\"seq\":3,\"op\":[{\"p\":[3],\"si\":\"-\"}]}\n\
+        {\"a\":\"f\",\"c\":\"b\",\"d\":\"8\"}\n";
+    let output =
+        b"{\"a\":\"init\",\"id\":\"s1\",\"protocol\":1,\"protocolMinor\":1,\"type\":\"http://sharejs.org/types/JSONv0\"}\n\
+        {\"a\":\"op\",\"c\":\"b\",\"d\":\"8\",\"seq\":1,\"src\":\"x\",\"v\":0}\n\
+        {\"a\":\"op\",\"c\":\"b\",\"d\":\"8\",\"error\":{\"code\":\"ERR_OT_OP_NOT_APPLIED\",\"message\":\"operation can not be applied\"},\"seq\":2,\"src\":\"x\"}\n\
+        {\"a\":\"op\",\"c\":\"b\",\"d\":\"8\",\"seq\":3,\"src\":\"x\",\"v\":1}\n\
+        {\"a\":\"f\",\"c\":\"b\",\"d\":\"8\",\"data\":{\"data\":\"a\xf0\x9f\x98\x80-b\",\"v\":2}}\n";
+    assert_eq!(rt; answers(rt.alloc(), input)?.as_slice(), output.as_slice());
+    Ok(())
+}
+
+#[test]
+fn lines_that_are_no_text(rt: HostRuntime) -> Result<(), Fail> {
+    let input = b"[]\n\
+        {\"x\":\"\\ud800\"}\n\
+        {\"a\":\"op\",\"c\":\"b\",\"seq\":1}\n\
+        {\"a\":\"zz\",\"id\":3}\n\
+        \n\
+        {\"a\":\"op\",\"c\":\"b\",\"d\":\"1\",\"src\":\"x\",\"seq\":1,\"op\":[],\"del\":true}\n";
+    let output =
+        b"{\"a\":\"init\",\"id\":\"s1\",\"protocol\":1,\"protocolMinor\":1,\"type\":\"http://sharejs.org/types/JSONv0\"}\n\
+        {\"error\":{\"code\":\"ERR_MESSAGE_BADLY_FORMED\",\"message\":\"message is badly formed\"}}\n\
+        {\"error\":{\"code\":\"ERR_MESSAGE_BADLY_FORMED\",\"message\":\"message is badly formed\"}}\n\
+        {\"a\":\"op\",\"c\":\"b\",\"error\":{\"code\":\"ERR_MESSAGE_BADLY_FORMED\",\"message\":\"message is badly formed\"},\"seq\":1}\n\
+        {\"a\":\"zz\",\"error\":{\"code\":\"ERR_MESSAGE_BADLY_FORMED\",\"message\":\"message is badly formed\"},\"id\":3}\n\
+        {\"error\":{\"code\":\"ERR_MESSAGE_BADLY_FORMED\",\"message\":\"message is badly formed\"}}\n\
+        {\"a\":\"op\",\"c\":\"b\",\"d\":\"1\",\"error\":{\"code\":\"ERR_MESSAGE_BADLY_FORMED\",\"message\":\"message is badly formed\"},\"seq\":1,\"src\":\"x\"}\n";
+    assert_eq!(rt; answers(rt.alloc(), input)?.as_slice(), output.as_slice());
+    Ok(())
+}
+
+#[test]
+fn a_delete(rt: HostRuntime) -> Result<(), Fail> {
+    let input =
+        b"{\"a\":\"op\",\"c\":\"b\",\"d\":\"11\",\"src\":\"x\",\"seq\":1,\"create\":{\"type\":\"http://sharejs.org/types/JSONv0\",\"data\":{}}}\n\
+        {\"a\":\"op\",\"c\":\"b\",\"d\":\"11\",\"v\":1,\"src\":\"y\",\"seq\":1,\"del\":true}\n\
+        {\"a\":\"op\",\"c\":\"b\",\"d\":\"11\",\"v\":1,\"src\":\"z\",\"seq\":1,\"op\":[]}\n\
+        {\"a\":\"op\",\"c\":\"b\",\"d\":\"11\",\"v\":1,\"src\":\"z\",\"seq\":2,\"del\":true}\n\
+        {\"a\":\"f\",\"c\":\"b\",\"d\":\"11\"}\n";
+    let output =
+        b"{\"a\":\"init\",\"id\":\"s1\",\"protocol\":1,\"protocolMinor\":1,\"type\":\"http://sharejs.org/types/JSONv0\"}\n\
+        {\"a\":\"op\",\"c\":\"b\",\"d\":\"11\",\"seq\":1,\"src\":\"x\",\"v\":0}\n\
+        {\"a\":\"op\",\"c\":\"b\",\"d\":\"11\",\"seq\":1,\"src\":\"y\",\"v\":1}\n\
+        {\"a\":\"op\",\"c\":\"b\",\"d\":\"11\",\"error\":{\"code\":\"ERR_DOC_WAS_DELETED\",\"message\":\"document was deleted\"},\"seq\":1,\"src\":\"z\"}\n\
+        {\"a\":\"op\",\"c\":\"b\",\"d\":\"11\",\"del\":true,\"seq\":1,\"src\":\"y\",\"v\":1}\n\
+        {\"a\":\"op\",\"c\":\"b\",\"d\":\"11\",\"seq\":2,\"src\":\"z\",\"v\":2}\n\
+        {\"a\":\"f\",\"c\":\"b\",\"d\":\"11\",\"data\":{\"type\":null,\"v\":3}}\n";
+    assert_eq!(rt; answers(rt.alloc(), input)?.as_slice(), output.as_slice());
+    Ok(())
+}
