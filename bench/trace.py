@@ -1,0 +1,32 @@
+"""Writes the input of the second benchmark: a typing trace of 8 sources on one text, each up to 8 versions behind.
+
+Each source keeps what it has seen, so every operation fits the version that it names."""
+import json
+import random
+import sys
+
+TYPE = "http://sharejs.org/types/JSONv0"
+SOURCES = 8
+BEHIND = 8
+
+
+def main(operations):
+    pick = random.Random(2)
+    start = "The quick brown fox jumps over the lazy dog. " * 4
+    create = {"type": TYPE, "data": {"text": start}}
+    print(json.dumps({"a": "op", "c": "notes", "d": "1", "src": "u0", "seq": 0, "create": create}, separators=(",", ":")))
+    # a source inserts at a place that every version from the one it names on has, and never deletes past it
+    version = 1
+    shortest = len(start)
+    for number in range(1, operations):
+        source = number % SOURCES
+        at = max(1, version - pick.randrange(BEHIND + 1))
+        offset = pick.randrange(shortest)
+        message = {"a": "op", "c": "notes", "d": "1", "v": at, "src": f"u{source}", "seq": number}
+        message["op"] = [{"p": ["text", offset], "si": pick.choice("abcdefgh ")}]
+        print(json.dumps(message, separators=(",", ":")))
+        version += 1
+
+
+if __name__ == "__main__":
+    main(int(sys.argv[1]) if len(sys.argv) > 1 else 20_000)

@@ -1,0 +1,17 @@
+//! Each line read as JSON and printed again.
+use serde_json::Value;
+use std::io;
+use std::io::{BufRead, BufReader, BufWriter, Write};
+
+pub fn pass(rt: &HostRuntime) -> anyhow::Result<()> {
+    let alloc = rt.alloc();
+    let mut writer = BufWriter::new(alloc, io::writer(rt))?;
+    for line in BufReader::new(alloc, rt.reader())?.lines(alloc) {
+        let value = Value::from_str(alloc, line?.as_str())?;
+        let text = value.to_string(alloc)?;
+        writer.write_all(text.as_bytes())?;
+        writer.write_all(b"\n")?;
+    }
+    writer.flush()?;
+    Ok(())
+}

@@ -1,0 +1,5 @@
+//! Transforms.
+
+pub fn measure(_rt: &HostRuntime) -> anyhow::Result<()> {
+    Ok(())
+}
