@@ -1,18 +1,17 @@
 //! What is asked of a document.
-ghost use Rattle.std.specs.Prelude.{◌≡◌, IfOk, IfErr, Ok, Err, Some, option_map};
-ghost use Rattle.std.specs.Option.{option_map_or};
+ghost use Rattle.std.specs.Prelude.{◌≡◌, IfOk, IfErr, Ok, option_map};
 ghost use Rattle.sdb_value.specs.View.{view};
 ghost use Rattle.sdb_apply.specs.Does.{applies};
 ghost use Rattle.sdb_oplog.specs.Plain.{create, delete, edit};
 ghost use Rattle.sdb_oplog.specs.Refused.{RefusedBy};
 ghost use Rattle.sdb_oplog.specs.Over.{over, edit_over};
-ghost use Rattle.sdb_oplog.specs.declared.codes.Code.TheVariants.{E8};
 ghost use Rattle.sdb_oplog.specs.Snap.{becomes, edited};
 ghost use Rattle.sdb_oplog.specs.View.{plain_kind};
 
 use crate::codes::Code;
 use sdb_apply::{ApplyFault, apply};
 use sdb_component::Op;
+use sdb_transform::{Fault, Side, transform};
 use sdb_value::Json;
 use std::alloc::{AllocError, Global};
 use std::marker::Model;
@@ -162,14 +161,20 @@ pub fn over(alloc: Global, content: &Content, stored: &Content) -> Result<Conten
         Kind::Edit(other) => match content.kind() {
             Kind::Create(_) => Err(Code::E6),
             Kind::Delete => Ok(Content::delete()),
-            Kind::Edit(op) => Ok(Content::edit(edit_over(alloc, op, other)?)),
+            Kind::Edit(op) => edit_over(alloc, op, other),
         },
     }
 }
 
-fn edit_over(_alloc: Global, _op: &Op, _other: &Op) -> Result<Op, Code>
-    ensures ok { IfOk result (λ c. edit_over _op.now _other.now ≡ Some c) }
-    ensures err { IfErr result (λ code. RefusedBy (option_map_or (λ c. Ok c) (edit_over _op.now _other.now) (Err E8)) code) }
+fn edit_over(alloc: Global, op: &Op, other: &Op) -> Result<Content, Code>
+    ensures ok { IfOk result (λ c. edit_over op.now other.now ≡ Ok c) }
+    ensures err { IfErr result (λ code. RefusedBy (edit_over op.now other.now) code) }
 {
-    Err(Code::E8)
+    match transform(alloc, op, other, Side::Left) {
+        Ok(carried) => Ok(Content::edit(carried)),
+        Err(fault) => match fault {
+            Fault::NotTransformed => Err(Code::E8),
+            Fault::Memory => Err(Code::E10),
+        },
+    }
 }

@@ -1,2 +1,6 @@
 pub mod Behind
 pub mod Cuts
+pub mod Grid
+pub mod Run
+pub mod Stack
+pub mod Weights

@@ -1,11 +1,12 @@
 -- What the code's results stand for.
-use Rattle.std.specs.Prelude.{◌≡◌, List, [], ◌∷◌, Option, Some, None, Result, Ok, Err, Vec, ⊤}
+use Rattle.std.specs.Prelude.{◌≡◌, ℕ, Bool, ◌&&◌, List, [], ◌∷◌, Option, Some, None, Result, Ok, Err, Vec, ⊤}
+use Rattle.std.specs.Option.{is_none}
 use Rattle.std.specs.declared.alloc.Global.{Global}
-use Rattle.sdb_component.specs.Plain.{PlainAct, PlainComponent}
+use Rattle.sdb_component.specs.Plain.{PlainAct, si, sd, PlainComponent}
 use Rattle.sdb_component.specs.View.{plain_act}
 use Rattle.sdb_value.specs.Value.{PlainStep, index}
 use Rattle.sdb_component.specs.declared.component.Component.{Component}
-use Rattle.sdb_transform.specs.Transform.{Moved}
+use Rattle.sdb_transform.specs.Transform.{Moved, behind}
 use Rattle.sdb_transform.specs.declared.paths.Place.{Place}
 use Rattle.sdb_transform.specs.declared.paths.Place.TheVariants.{Stays, Gone, At}
 use Rattle.sdb_transform.specs.declared.side.Fault.{Fault}
@@ -42,3 +43,13 @@ place_step s (At i) = Some (index i)
 abbrev pub MovedTo : PlainStep → Result Place Fault → Moved → Type 0
 MovedTo s (Ok place) m = m ≡ Some (place_step s place)
 MovedTo s (Err fault) m = IsFaultOf fault m
+
+-- the text that is inserted or deleted
+abbrev pub text_of : PlainAct → List ℕ
+text_of (si p s) = s
+text_of (sd p d) = d
+text_of _ = []
+
+-- neither container's path begins with the other's, so neither changes the other
+abbrev pub apart : PlainComponent → PlainComponent → Bool
+apart c o = is_none (behind c.path o.path) && is_none (behind o.path c.path)

@@ -1,6 +1,6 @@
 -- What stands for a component after another one was applied: `Transform`. json0's README tells which pairs meet;
 -- the choices on ties are this project's own. None is E8. Offsets and lengths of texts count UTF-16 units.
-use Rattle.std.specs.Prelude.{ℕ, ◌+◌, ◌-◌, min, Bool, true, false, ◌&&◌, ◌||◌, if◌then◌else◌, nat_lt, nat_le, nat_eq, List, [], ◌∷◌, ◌++◌, take, drop, map, Option, Some, None, option_map, option_and_then}
+use Rattle.std.specs.Prelude.{ℕ, ◌+◌, ◌-◌, min, Bool, false, if◌then◌else◌, nat_lt, nat_le, nat_eq, List, [], ◌∷◌, ◌++◌, take, drop, map, Option, Some, None, option_map, option_and_then}
 use Rattle.std.specs.Option.{option_map_or}
 use Rattle.sdb_value.specs.Value.{Value, PlainStep, key, index, same_text}
 use Rattle.sdb_value.specs.Text.{units, cut_at}

@@ -1,6 +1,9 @@
-//! Operations made at one version, carried past one another.
+//! Operations made at one version, carried past one another: `transform_one` for two components,
+//! `cross` and `transform` for two operations, and the laws that hold of them.
 #![tactic(auto)]
 
+mod crossing;
+pub mod laws;
 mod lists;
 mod objects;
 mod paths;
@@ -8,6 +11,11 @@ mod removed;
 mod side;
 mod texts;
 mod transforming;
+mod turns;
 
+pub use crossing::{Crossed, cross, transform};
 pub use side::{Fault, Side};
 pub use transforming::transform_one;
+
+#[cfg(test)]
+mod tests;

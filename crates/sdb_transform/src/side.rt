@@ -4,10 +4,12 @@ use sdb_component::Act;
 use std::alloc::{AllocError, AllocFailed};
 use thiserror::Error;
 
-/// Which of two components at one place stands first.
+/// Which of two that were made at one version this is.
 #[derive(Clone, Copy, PartialEq, Eq, Debug, Drop)]
 pub enum Side {
+    /// The one that is put first, or that wins, where both contend for a place.
     Left,
+    /// The one that is put behind, or that gives way, there.
     Right,
 }
 

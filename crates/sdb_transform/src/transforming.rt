@@ -14,9 +14,12 @@ use sdb_component::{Act, Component, copy_path};
 use sdb_value::Step;
 use std::alloc::Global;
 
-/// The components that stand for one after another was applied, both made at one version. The
-/// component is given up, and nothing of it is copied that the other doesn't change; the other is
-/// lent.
+/// The components that stand for one after another was applied, both made at one version: none, one
+/// or two. Offsets and lengths of texts count UTF-16 units. The component is given up, and nothing of
+/// it is copied that the other doesn't change; the other is lent.
+///
+/// It is `Fault::NotTransformed` where a deletion would have to be cut inside a character, or an index
+/// or offset would pass 9007199254740991, and `Fault::Memory` where an allocation fails.
 pub fn transform_one(
     alloc: Global,
     component: Component,

@@ -1,4 +1,4 @@
-use Rattle.std.proofs.Common.{◌≡◌, ℕ, length, Option, Some, option_map, ap, ◌∙◌, arith}
+use Rattle.std.proofs.Common.{length, option_map, ap, ◌∙◌}
 use Rattle.sdb_value.specs.View.{plain_path}
 use Rattle.sdb_transform.specs.Transform.{behind}
 use Rattle.sdb_transform.proofs.Behind.{some_left}

@@ -1,0 +1,6 @@
+use Rattle.std.proofs.Common.{◌∙◌}
+use Rattle.sdb_transform.proofs.Stack.{top_reversed}
+use Rattle.sdb_transform.proofs.turns.from_top.Goals as goal
+
+pub returns : goal.returns
+returns c = c.reverse.ensures.items ∙ top_reversed c.args.waiting.items

@@ -1,0 +1,75 @@
+//! Operations, carried past one another.
+ghost use Rattle.std.specs.Prelude.{◌≡◌, ◌≤◌, ◌*◌, IfOk, IfErr, Some};
+ghost use Rattle.sdb_component.specs.Weighs.{weight};
+ghost use Rattle.sdb_transform.specs.Acts.{IsFaultOf};
+ghost use Rattle.sdb_transform.specs.Grid.{crossing, carried};
+ghost use Rattle.sdb_transform.specs.Stack.{Shows};
+
+use crate::side::{Fault, Side};
+use crate::turns::{Progress, from_top, pop_work, push_moving, push_pieces};
+use sdb_component::Op;
+use std::alloc::Global;
+
+/// Two operations that were carried past one another.
+#[derive(Drop)]
+pub struct Crossed {
+    /// What stands for the left operation after the right one.
+    pub left: Op,
+    /// What stands for the right operation after the left one.
+    pub right: Op,
+    /// How many pairs of components met. Where more than 2^128 - 1 did, this is 2^128 - 1.
+    pub pairs: u128,
+}
+
+/// Carries two operations past one another, both made at one version. Each pair of components that
+/// meet is transformed by the rule of `transform_one`, the left operation's as `Side::Left`, and what
+/// comes of them meets the components behind. Both operations are lent.
+///
+/// It is `Fault::NotTransformed` where one transform of a pair that meets is, and `Fault::Memory`
+/// where an allocation fails.
+///
+/// Each component is copied once, and at a pair at most one of the two once more. Apart from that the
+/// cost is the transforms of the pairs, at most as many as the product of both weights.
+pub fn cross(alloc: Global, left: &Op, right: &Op) -> Result<Crossed, Fault>
+    ensures ok { IfOk result (λ c. Shows c (crossing left.now right.now)) }
+    ensures err { IfErr result (λ f. IsFaultOf f (crossing left.now right.now)) }
+    ensures few { IfOk result (λ c. c.pairs ≤ weight left.now * weight right.now) }
+{
+    let mut progress = Progress {
+        waiting: Vec::new(alloc),
+        work: Vec::new(alloc),
+        done: Vec::new(alloc),
+        pairs: 0,
+    };
+    let left = left.try_clone(alloc)?;
+    let right = right.try_clone(alloc)?;
+    push_pieces(&mut progress.waiting, left.into_components())?;
+    push_moving(&mut progress.work, right.into_components())?;
+    while let Some(next) = pop_work(&mut progress.work) {
+        progress.step(alloc, next)?;
+    }
+    Ok(Crossed {
+        left: Op::new(from_top(progress.waiting)),
+        right: Op::new(progress.done),
+        pairs: progress.pairs,
+    })
+}
+
+/// What stands for an operation after another one was applied, both made at one version: the
+/// operation's part of what `cross` answers where it stands on this side. Both are lent. The errors
+/// and the cost are those of `cross`.
+pub fn transform(alloc: Global, op: &Op, other: &Op, side: Side) -> Result<Op, Fault>
+    ensures ok { IfOk result (λ t. carried side op.now other.now ≡ Some t) }
+    ensures err { IfErr result (λ f. IsFaultOf f (carried side op.now other.now)) }
+{
+    match side {
+        Side::Left => {
+            let crossed = cross(alloc, op, other)?;
+            Ok(crossed.left)
+        }
+        Side::Right => {
+            let crossed = cross(alloc, other, op)?;
+            Ok(crossed.right)
+        }
+    }
+}

@@ -1,0 +1,399 @@
+use crate::{Fault, Side, cross, transform, transform_one};
+use sdb_component::{Component, Op, op_value, read_op};
+use serde_json::Value;
+use std::alloc::{AllocError, Global};
+use std::test::Fail;
+
+// The rows of the table, each a JSON array: a component, another one, the side, and what stands for the
+// first after the second, or E8.
+
+// Worked rows.
+const WORKED: &str = r#"[
+  [[{"p":[1],"sd":"bcde"}], [{"p":[3],"si":"XYZ"}], "either", [{"p":[1],"sd":"bc"},{"p":[4],"sd":"de"}]],
+  [[{"p":[0],"sd":"a😀"}], [{"p":[2],"si":"x"}], "either", "E8"],
+  [[{"p":[2],"sd":"cde"}], [{"p":[1],"sd":"bcd"}], "either", [{"p":[1],"sd":"e"}]],
+  [[{"p":[3],"si":"x"}], [{"p":[3],"si":"yz"}], "left", [{"p":[3],"si":"x"}]],
+  [[{"p":[3],"si":"x"}], [{"p":[3],"si":"yz"}], "right", [{"p":[5],"si":"x"}]],
+  [[{"ld":1,"li":2,"p":[0]}], [{"ld":1,"p":[0]}], "either", [{"li":2,"p":[0]}]]
+]"#;
+
+// The other lies below the value that this removes.
+const CASE_1: &str = r#"[
+  [[{"ld":"ab","p":[1]}], [{"p":[1,1],"si":"z"}], "either", [{"ld":"azb","p":[1]}]],
+  [[{"ld":{"k":1},"li":2,"p":[1]}], [{"oi":5,"p":[1,"m"]}], "either", [{"ld":{"k":1,"m":5},"li":2,"p":[1]}]],
+  [[{"od":[1,2],"p":["k"]}], [{"ld":1,"p":["k",0]}], "either", [{"od":[2],"p":["k"]}]],
+  [[{"od":7,"oi":8,"p":["k"]}], [{"na":3,"p":["k"]}], "either", [{"od":10,"oi":8,"p":["k"]}]],
+  [[{"od":{"l":["a"]},"p":["k"]}], [{"li":"b","p":["k","l",1]}], "either", [{"od":{"l":["a","b"]},"p":["k"]}]],
+  [[{"ld":{"k":1},"p":["q",0]}], [{"od":1,"p":["q",0,"k"]}], "either", [{"ld":{},"p":["q",0]}]],
+  [[{"od":[1,2],"p":["k"]}], [{"p":["k",0],"si":"x"}], "either", [{"od":[1,2],"p":["k"]}]],
+  [[{"ld":"ab","p":[1]}], [{"p":[1,9],"si":"z"}], "either", [{"ld":"ab","p":[1]}]],
+  [[{"ld":"ab","p":[1]}], [{"p":[2,0],"si":"z"}], "either", [{"ld":"ab","p":[1]}]],
+  [[{"li":"ab","p":[1]}], [{"p":[1,0],"si":"z"}], "either", [{"li":"ab","p":[1]}]],
+  [[{"oi":1,"p":["k"]}], [{"na":3,"p":["k"]}], "either", [{"oi":1,"p":["k"]}]]
+]"#;
+
+// This lies below the other's container.
+const CASE_2: &str = r#"[
+  [[{"p":[2,0],"si":"x"}], [{"li":"v","p":[1]}], "either", [{"p":[3,0],"si":"x"}]],
+  [[{"p":[2,0],"si":"x"}], [{"li":"v","p":[2]}], "either", [{"p":[3,0],"si":"x"}]],
+  [[{"p":[2,0],"si":"x"}], [{"li":"v","p":[3]}], "either", [{"p":[2,0],"si":"x"}]],
+  [[{"p":[2,0],"si":"x"}], [{"ld":"v","p":[1]}], "either", [{"p":[1,0],"si":"x"}]],
+  [[{"p":[2,0],"si":"x"}], [{"ld":"v","p":[2]}], "either", []],
+  [[{"p":[2,0],"si":"x"}], [{"ld":"v","p":[3]}], "either", [{"p":[2,0],"si":"x"}]],
+  [[{"p":[2,0],"si":"x"}], [{"ld":"v","li":"w","p":[1]}], "either", [{"p":[2,0],"si":"x"}]],
+  [[{"p":[2,0],"si":"x"}], [{"ld":"v","li":"w","p":[2]}], "either", []],
+  [[{"p":[2,0],"si":"x"}], [{"ld":"v","li":"w","p":[3]}], "either", [{"p":[2,0],"si":"x"}]],
+  [[{"p":[2,0],"si":"x"}], [{"oi":1,"p":["k"]}], "either", [{"p":[2,0],"si":"x"}]],
+  [[{"p":[2,0],"si":"x"}], [{"od":1,"p":["k"]}], "either", [{"p":[2,0],"si":"x"}]],
+  [[{"p":[2,0],"si":"x"}], [{"od":1,"oi":2,"p":["k"]}], "either", [{"p":[2,0],"si":"x"}]],
+  [[{"p":[2,0],"si":"x"}], [{"p":[1],"si":"v"}], "either", [{"p":[2,0],"si":"x"}]],
+  [[{"p":[2,0],"si":"x"}], [{"p":[1],"sd":"v"}], "either", [{"p":[2,0],"si":"x"}]],
+  [[{"p":[2,0],"si":"x"}], [{"na":1,"p":[]}], "either", [{"p":[2,0],"si":"x"}]],
+  [[{"na":1,"p":[9007199254740991]}], [{"li":"v","p":[0]}], "either", "E8"],
+  [[{"na":1,"p":[9007199254740990]}], [{"li":"v","p":[0]}], "either", [{"na":1,"p":[9007199254740991]}]],
+  [[{"na":1,"p":["k","m"]}], [{"od":1,"p":["k"]}], "either", []],
+  [[{"na":1,"p":["k","m"]}], [{"od":1,"p":["l"]}], "either", [{"na":1,"p":["k","m"]}]],
+  [[{"na":1,"p":["k","m"]}], [{"od":1,"oi":2,"p":["k"]}], "either", []],
+  [[{"na":1,"p":["k","m"]}], [{"od":1,"oi":2,"p":["l"]}], "either", [{"na":1,"p":["k","m"]}]],
+  [[{"na":1,"p":["k","m"]}], [{"oi":1,"p":["k"]}], "either", [{"na":1,"p":["k","m"]}]],
+  [[{"na":1,"p":["k","m"]}], [{"ld":1,"p":[0]}], "either", [{"na":1,"p":["k","m"]}]],
+  [[{"na":1,"p":["k","m"]}], [{"li":1,"p":[0]}], "either", [{"na":1,"p":["k","m"]}]],
+  [[{"od":1,"p":["a",3,"b","k"]}], [{"ld":9,"p":["a",1]}], "either", [{"od":1,"p":["a",2,"b","k"]}]],
+  [[{"oi":1,"p":["a",3,"b","k"]}], [{"li":9,"p":["a",3]}], "either", [{"oi":1,"p":["a",4,"b","k"]}]],
+  [[{"oi":1,"p":["a",3,"b","k"]}], [{"od":9,"p":["a",3,"b"]}], "either", []]
+]"#;
+
+// Lists.
+const LISTS: &str = r#"[
+  [[{"li":"c","p":[2]}], [{"li":"o","p":[1]}], "either", [{"li":"c","p":[3]}]],
+  [[{"li":"c","p":[2]}], [{"li":"o","p":[2]}], "left", [{"li":"c","p":[2]}]],
+  [[{"li":"c","p":[2]}], [{"li":"o","p":[2]}], "right", [{"li":"c","p":[3]}]],
+  [[{"li":"c","p":[2]}], [{"li":"o","p":[3]}], "either", [{"li":"c","p":[2]}]],
+  [[{"li":"c","p":[9007199254740991]}], [{"li":"o","p":[0]}], "either", "E8"],
+  [[{"li":"c","p":[9007199254740991]}], [{"li":"o","p":[9007199254740991]}], "left", [{"li":"c","p":[9007199254740991]}]],
+  [[{"li":"c","p":[9007199254740991]}], [{"li":"o","p":[9007199254740991]}], "right", "E8"],
+  [[{"ld":"c","p":[2]}], [{"li":"o","p":[1]}], "either", [{"ld":"c","p":[3]}]],
+  [[{"ld":"c","p":[2]}], [{"li":"o","p":[2]}], "either", [{"ld":"c","p":[3]}]],
+  [[{"ld":"c","p":[2]}], [{"li":"o","p":[3]}], "either", [{"ld":"c","p":[2]}]],
+  [[{"ld":"c","p":[9007199254740991]}], [{"li":"o","p":[9007199254740991]}], "either", "E8"],
+  [[{"ld":"c","li":"z","p":[2]}], [{"li":"o","p":[1]}], "either", [{"ld":"c","li":"z","p":[3]}]],
+  [[{"ld":"c","li":"z","p":[2]}], [{"li":"o","p":[2]}], "either", [{"ld":"c","li":"z","p":[3]}]],
+  [[{"ld":"c","li":"z","p":[2]}], [{"li":"o","p":[3]}], "either", [{"ld":"c","li":"z","p":[2]}]],
+  [[{"ld":"c","li":"z","p":[9007199254740991]}], [{"li":"o","p":[0]}], "either", "E8"],
+  [[{"li":"c","p":[2]}], [{"ld":"o","p":[1]}], "either", [{"li":"c","p":[1]}]],
+  [[{"li":"c","p":[2]}], [{"ld":"o","p":[2]}], "either", [{"li":"c","p":[2]}]],
+  [[{"li":"c","p":[2]}], [{"ld":"o","p":[3]}], "either", [{"li":"c","p":[2]}]],
+  [[{"ld":"c","p":[2]}], [{"ld":"o","p":[1]}], "either", [{"ld":"c","p":[1]}]],
+  [[{"ld":"c","p":[2]}], [{"ld":"c","p":[2]}], "either", []],
+  [[{"ld":"c","p":[2]}], [{"ld":"o","p":[3]}], "either", [{"ld":"c","p":[2]}]],
+  [[{"ld":"c","li":"z","p":[2]}], [{"ld":"o","p":[1]}], "either", [{"ld":"c","li":"z","p":[1]}]],
+  [[{"ld":"c","li":"z","p":[2]}], [{"ld":"c","p":[2]}], "either", [{"li":"z","p":[2]}]],
+  [[{"ld":"c","li":"z","p":[2]}], [{"ld":"o","p":[3]}], "either", [{"ld":"c","li":"z","p":[2]}]],
+  [[{"li":"c","p":[2]}], [{"ld":"o","li":"y","p":[1]}], "either", [{"li":"c","p":[2]}]],
+  [[{"li":"c","p":[2]}], [{"ld":"o","li":"y","p":[2]}], "either", [{"li":"c","p":[2]}]],
+  [[{"li":"c","p":[2]}], [{"ld":"o","li":"y","p":[3]}], "either", [{"li":"c","p":[2]}]],
+  [[{"ld":"c","p":[2]}], [{"ld":"o","li":"y","p":[1]}], "either", [{"ld":"c","p":[2]}]],
+  [[{"ld":"c","p":[2]}], [{"ld":"c","li":"y","p":[2]}], "either", []],
+  [[{"ld":"c","p":[2]}], [{"ld":"o","li":"y","p":[3]}], "either", [{"ld":"c","p":[2]}]],
+  [[{"ld":"c","li":"z","p":[2]}], [{"ld":"o","li":"y","p":[1]}], "either", [{"ld":"c","li":"z","p":[2]}]],
+  [[{"ld":"c","li":"z","p":[2]}], [{"ld":"c","li":"y","p":[2]}], "left", [{"ld":"y","li":"z","p":[2]}]],
+  [[{"ld":"c","li":"z","p":[2]}], [{"ld":"c","li":"y","p":[2]}], "right", []],
+  [[{"ld":"c","li":"z","p":[2]}], [{"ld":"o","li":"y","p":[3]}], "either", [{"ld":"c","li":"z","p":[2]}]]
+]"#;
+
+// Objects.
+const OBJECTS: &str = r#"[
+  [[{"oi":2,"p":["k"]}], [{"oi":1,"p":["k"]}], "left", [{"od":1,"oi":2,"p":["k"]}]],
+  [[{"oi":2,"p":["k"]}], [{"oi":1,"p":["k"]}], "right", []],
+  [[{"od":0,"oi":2,"p":["k"]}], [{"oi":1,"p":["k"]}], "left", [{"od":1,"oi":2,"p":["k"]}]],
+  [[{"od":0,"oi":2,"p":["k"]}], [{"oi":1,"p":["k"]}], "right", []],
+  [[{"od":0,"p":["k"]}], [{"oi":1,"p":["k"]}], "either", [{"od":0,"p":["k"]}]],
+  [[{"oi":2,"p":["k"]}], [{"od":0,"p":["k"]}], "either", [{"oi":2,"p":["k"]}]],
+  [[{"od":0,"p":["k"]}], [{"od":0,"p":["k"]}], "either", []],
+  [[{"od":0,"oi":2,"p":["k"]}], [{"od":0,"p":["k"]}], "either", [{"oi":2,"p":["k"]}]],
+  [[{"oi":2,"p":["k"]}], [{"od":0,"oi":1,"p":["k"]}], "left", [{"od":1,"oi":2,"p":["k"]}]],
+  [[{"oi":2,"p":["k"]}], [{"od":0,"oi":1,"p":["k"]}], "right", []],
+  [[{"od":0,"oi":2,"p":["k"]}], [{"od":0,"oi":1,"p":["k"]}], "left", [{"od":1,"oi":2,"p":["k"]}]],
+  [[{"od":0,"oi":2,"p":["k"]}], [{"od":0,"oi":1,"p":["k"]}], "right", []],
+  [[{"od":0,"p":["k"]}], [{"od":0,"oi":1,"p":["k"]}], "either", []],
+  [[{"oi":2,"p":["k"]}], [{"oi":1,"p":["m"]}], "either", [{"oi":2,"p":["k"]}]],
+  [[{"oi":2,"p":["k"]}], [{"od":0,"p":["m"]}], "either", [{"oi":2,"p":["k"]}]],
+  [[{"oi":2,"p":["k"]}], [{"od":0,"oi":1,"p":["m"]}], "either", [{"oi":2,"p":["k"]}]],
+  [[{"od":0,"p":["k"]}], [{"oi":1,"p":["m"]}], "either", [{"od":0,"p":["k"]}]],
+  [[{"od":0,"p":["k"]}], [{"od":0,"p":["m"]}], "either", [{"od":0,"p":["k"]}]],
+  [[{"od":0,"p":["k"]}], [{"od":0,"oi":1,"p":["m"]}], "either", [{"od":0,"p":["k"]}]],
+  [[{"od":0,"oi":2,"p":["k"]}], [{"oi":1,"p":["m"]}], "either", [{"od":0,"oi":2,"p":["k"]}]],
+  [[{"od":0,"oi":2,"p":["k"]}], [{"od":0,"p":["m"]}], "either", [{"od":0,"oi":2,"p":["k"]}]],
+  [[{"od":0,"oi":2,"p":["k"]}], [{"od":0,"oi":1,"p":["m"]}], "either", [{"od":0,"oi":2,"p":["k"]}]]
+]"#;
+
+// Texts.
+const TEXTS: &str = r#"[
+  [[{"p":[3],"si":"x"}], [{"p":[1],"si":"yz"}], "either", [{"p":[5],"si":"x"}]],
+  [[{"p":[3],"si":"x"}], [{"p":[4],"si":"yz"}], "either", [{"p":[3],"si":"x"}]],
+  [[{"p":[1],"si":"x"}], [{"p":[0],"si":"😀"}], "either", [{"p":[3],"si":"x"}]],
+  [[{"p":[1],"si":"x"}], [{"p":[0],"si":"é"}], "either", [{"p":[2],"si":"x"}]],
+  [[{"p":[9007199254740991],"si":"x"}], [{"p":[0],"si":"y"}], "either", "E8"],
+  [[{"p":[9007199254740989],"si":"x"}], [{"p":[0],"si":"😀"}], "either", [{"p":[9007199254740991],"si":"x"}]],
+  [[{"p":[9007199254740991],"si":"x"}], [{"p":[9007199254740991],"si":"y"}], "left", [{"p":[9007199254740991],"si":"x"}]],
+  [[{"p":[9007199254740991],"si":"x"}], [{"p":[9007199254740991],"si":"y"}], "right", "E8"],
+  [[{"p":[2],"si":"x"}], [{"p":[3],"sd":"abc"}], "either", [{"p":[2],"si":"x"}]],
+  [[{"p":[3],"si":"x"}], [{"p":[3],"sd":"abc"}], "either", [{"p":[3],"si":"x"}]],
+  [[{"p":[4],"si":"x"}], [{"p":[3],"sd":"abc"}], "either", [{"p":[3],"si":"x"}]],
+  [[{"p":[6],"si":"x"}], [{"p":[3],"sd":"abc"}], "either", [{"p":[3],"si":"x"}]],
+  [[{"p":[7],"si":"x"}], [{"p":[3],"sd":"abc"}], "either", [{"p":[4],"si":"x"}]],
+  [[{"p":[7],"si":"x"}], [{"p":[3],"sd":"é😀"}], "either", [{"p":[4],"si":"x"}]],
+  [[{"p":[1],"sd":"bcde"}], [{"p":[0],"si":"XY"}], "either", [{"p":[3],"sd":"bcde"}]],
+  [[{"p":[1],"sd":"bcde"}], [{"p":[1],"si":"XY"}], "either", [{"p":[3],"sd":"bcde"}]],
+  [[{"p":[1],"sd":"bcde"}], [{"p":[2],"si":"XY"}], "either", [{"p":[1],"sd":"b"},{"p":[3],"sd":"cde"}]],
+  [[{"p":[1],"sd":"bcde"}], [{"p":[4],"si":"XY"}], "either", [{"p":[1],"sd":"bcd"},{"p":[3],"sd":"e"}]],
+  [[{"p":[1],"sd":"bcde"}], [{"p":[5],"si":"XY"}], "either", [{"p":[1],"sd":"bcde"}]],
+  [[{"p":[1],"sd":"bcde"}], [{"p":[6],"si":"XY"}], "either", [{"p":[1],"sd":"bcde"}]],
+  [[{"p":[0],"sd":"a😀"}], [{"p":[1],"si":"x"}], "either", [{"p":[0],"sd":"a"},{"p":[1],"sd":"😀"}]],
+  [[{"p":[0],"sd":"a😀"}], [{"p":[3],"si":"x"}], "either", [{"p":[0],"sd":"a😀"}]],
+  [[{"p":[9007199254740991],"sd":"a"}], [{"p":[0],"si":"x"}], "either", "E8"],
+  [[{"p":[9007199254740990],"sd":"abc"}], [{"p":[9007199254740991],"si":"xyz"}], "either", "E8"],
+  [[{"p":[3],"sd":"x"}], [{"p":[0],"sd":"ab"}], "either", [{"p":[1],"sd":"x"}]],
+  [[{"p":[2],"sd":"cd"}], [{"p":[0],"sd":"ab"}], "either", [{"p":[0],"sd":"cd"}]],
+  [[{"p":[2],"sd":"cd"}], [{"p":[4],"sd":"ef"}], "either", [{"p":[2],"sd":"cd"}]],
+  [[{"p":[2],"sd":"cd"}], [{"p":[5],"sd":"f"}], "either", [{"p":[2],"sd":"cd"}]],
+  [[{"p":[1],"sd":"bcd"}], [{"p":[2],"sd":"cde"}], "either", [{"p":[1],"sd":"b"}]],
+  [[{"p":[2],"sd":"c"}], [{"p":[1],"sd":"bcde"}], "either", []],
+  [[{"p":[1],"sd":"bcde"}], [{"p":[2],"sd":"c"}], "either", [{"p":[1],"sd":"bde"}]],
+  [[{"p":[1],"sd":"bcde"}], [{"p":[1],"sd":"bcde"}], "either", []],
+  [[{"p":[0],"sd":"a😀b"}], [{"p":[2],"sd":"b"}], "either", "E8"],
+  [[{"p":[1],"sd":"😀b"}], [{"p":[0],"sd":"ab"}], "either", "E8"]
+]"#;
+
+// Every other pair, and components that stand apart.
+const OTHERS: &str = r#"[
+  [[{"na":1,"p":[]}], [{"na":2,"p":[]}], "either", [{"na":1,"p":[]}]],
+  [[{"na":1,"p":[]}], [{"p":[0],"sd":"a"}], "either", [{"na":1,"p":[]}]],
+  [[{"na":1,"p":["k"]}], [{"oi":2,"p":["k"]}], "either", [{"na":1,"p":["k"]}]],
+  [[{"p":[1],"si":"x"}], [{"li":1,"p":[0]}], "either", [{"p":[1],"si":"x"}]],
+  [[{"p":[1],"si":"x"}], [{"od":1,"p":["k"]}], "either", [{"p":[1],"si":"x"}]],
+  [[{"p":[1],"sd":"x"}], [{"ld":1,"p":[0]}], "either", [{"p":[1],"sd":"x"}]],
+  [[{"p":[1],"sd":"x"}], [{"na":1,"p":[]}], "either", [{"p":[1],"sd":"x"}]],
+  [[{"li":1,"p":[1]}], [{"p":[0],"sd":"a"}], "either", [{"li":1,"p":[1]}]],
+  [[{"li":1,"p":[1]}], [{"oi":1,"p":["k"]}], "either", [{"li":1,"p":[1]}]],
+  [[{"ld":1,"p":[1]}], [{"p":[0],"si":"a"}], "either", [{"ld":1,"p":[1]}]],
+  [[{"ld":1,"p":[1]}], [{"od":1,"oi":2,"p":["k"]}], "either", [{"ld":1,"p":[1]}]],
+  [[{"ld":1,"li":2,"p":[1]}], [{"na":1,"p":[]}], "either", [{"ld":1,"li":2,"p":[1]}]],
+  [[{"ld":1,"li":2,"p":[1]}], [{"p":[1],"si":"a"}], "either", [{"ld":1,"li":2,"p":[1]}]],
+  [[{"oi":1,"p":["k"]}], [{"li":1,"p":[0]}], "either", [{"oi":1,"p":["k"]}]],
+  [[{"od":1,"p":["k"]}], [{"p":[0],"si":"a"}], "either", [{"od":1,"p":["k"]}]],
+  [[{"od":1,"oi":2,"p":["k"]}], [{"ld":1,"p":[0]}], "either", [{"od":1,"oi":2,"p":["k"]}]],
+  [[{"p":["a",1],"si":"x"}], [{"li":1,"p":["b",0]}], "either", [{"p":["a",1],"si":"x"}]],
+  [[{"li":1,"p":["a",0]}], [{"ld":1,"p":["a",1,0]}], "either", [{"li":1,"p":["a",0]}]],
+  [[{"ld":1,"p":["a",0]}], [{"ld":1,"p":["a",1,0]}], "either", [{"ld":1,"p":["a",0]}]],
+  [[{"p":["a","b",1],"sd":"x"}], [{"p":["a","c",0],"si":"y"}], "either", [{"p":["a","b",1],"sd":"x"}]],
+  [[{"oi":1,"p":["a","k"]}], [{"oi":2,"p":["b","k"]}], "either", [{"oi":1,"p":["a","k"]}]]
+]"#;
+
+fn read(alloc: Global, text: &str) -> Result<Op, Fail> {
+    let value = Value::from_str(alloc, text)?;
+    Ok(read_op(alloc, &value)?)
+}
+
+fn printed(alloc: Global, op: &Op) -> Result<String, Fail> {
+    Ok(op_value(alloc, op)?.to_string(alloc)?)
+}
+
+fn component(alloc: Global, value: &Value) -> Result<Component, Fail> {
+    let mut components = read_op(alloc, value)?.into_components();
+    Ok(components.pop().ok_or("no component")?)
+}
+
+// What stands for the component after the other one, or E8.
+fn transformed(alloc: Global, value: &Value, other: &Value, side: Side) -> Result<String, Fail> {
+    let other = component(alloc, other)?;
+    match transform_one(alloc, component(alloc, value)?, &other, side) {
+        Ok(components) => printed(alloc, &Op::new(components)),
+        Err(Fault::NotTransformed) => Ok(String::from_str(alloc, "\"E8\"")?),
+        Err(fault) => Err(fault.into()),
+    }
+}
+
+fn is_for(side: &Value, name: &str) -> bool {
+    side.as_str() == Some("either") || side.as_str() == Some(name)
+}
+
+// Tells the row where it doesn't hold as this side.
+fn broken(alloc: Global, row: &Value, name: &str, side: Side) -> Result<String, Fail> {
+    match row.as_array().ok_or("no row")?.as_slice() {
+        [value, other, sides, want] => {
+            if !is_for(sides, name) {
+                return Ok(String::new(alloc));
+            }
+            let shown = transformed(alloc, value, other, side)?;
+            if shown == want.to_string(alloc)? {
+                return Ok(String::new(alloc));
+            }
+            Ok(format!(in alloc; "{shown} at {row} as {name}")?)
+        }
+        _ => Err("no row of four".into()),
+    }
+}
+
+// Tells the rows that don't hold, and counts all.
+fn check_rows(alloc: Global, table: &str, broke: &mut String) -> Result<usize, Fail> {
+    let rows = Value::from_str(alloc, table)?;
+    let rows = rows.as_array().ok_or("no rows")?;
+    for row in rows {
+        broke.push_str(broken(alloc, row, "left", Side::Left)?.as_str())?;
+        broke.push_str(broken(alloc, row, "right", Side::Right)?.as_str())?;
+    }
+    Ok(rows.len())
+}
+
+#[test]
+fn each_row_of_the_table_holds(rt: HostRuntime) -> Result<(), Fail> {
+    let mut broke = String::new(rt.alloc());
+    for (table, count) in [
+        (WORKED, 6),
+        (CASE_1, 11),
+        (CASE_2, 27),
+        (LISTS, 34),
+        (OBJECTS, 22),
+        (TEXTS, 34),
+        (OTHERS, 21),
+    ] {
+        assert_eq!(rt; check_rows(rt.alloc(), table, &mut broke)?, count);
+    }
+    assert_eq!(rt; broke.as_str(), "");
+    Ok(())
+}
+
+// Two operations, what stands for each after the other, and the pairs that met.
+const CROSSINGS: &str = r#"[
+  [[], [{"li":1,"p":[0]}], [], [{"li":1,"p":[0]}], 0],
+  [[{"li":1,"p":[0]}], [], [{"li":1,"p":[0]}], [], 0],
+  [[{"li":"B","p":[0]}], [{"li":"A","p":[0]}], [{"li":"B","p":[0]}], [{"li":"A","p":[1]}], 1],
+  [[{"p":[0],"sd":"abcdef"}], [{"p":[5],"si":"x"},{"p":[3],"si":"y"},{"p":[1],"si":"z"}],
+   [{"p":[0],"sd":"a"},{"p":[1],"sd":"bc"},{"p":[2],"sd":"de"},{"p":[3],"sd":"f"}],
+   [{"p":[0],"si":"x"},{"p":[0],"si":"y"},{"p":[0],"si":"z"}], 6],
+  [[{"oi":1,"p":["k"]},{"na":2,"p":["k"]}], [{"oi":5,"p":["k"]},{"na":3,"p":["k"]}],
+   [{"od":8,"oi":1,"p":["k"]},{"na":2,"p":["k"]}], [], 2]
+]"#;
+
+// The row that these two operations make.
+fn crossing_row(alloc: Global, row: &Value) -> Result<String, Fail> {
+    match row.as_array().ok_or("no row")?.as_slice() {
+        [left, right, ..] => {
+            let crossed = cross(alloc, &read_op(alloc, left)?, &read_op(alloc, right)?)?;
+            let left_after = printed(alloc, &crossed.left)?;
+            let right_after = printed(alloc, &crossed.right)?;
+            let pairs = crossed.pairs;
+            Ok(format!(in alloc; "[{left},{right},{left_after},{right_after},{pairs}]")?)
+        }
+        _ => Err("no row of two".into()),
+    }
+}
+
+#[test]
+fn operations_cross(rt: HostRuntime) -> Result<(), Fail> {
+    let rows = Value::from_str(rt.alloc(), CROSSINGS)?;
+    for row in rows.as_array().ok_or("no rows")? {
+        let want = row.to_string(rt.alloc())?;
+        assert_eq!(rt; crossing_row(rt.alloc(), row)?.as_str(), want.as_str());
+    }
+    Ok(())
+}
+
+#[test]
+fn one_refusal_refuses_all(rt: HostRuntime) -> Result<(), Fail> {
+    let alloc = rt.alloc();
+    let left = read(
+        alloc,
+        "[{\"oi\":1,\"p\":[\"k\"]},{\"p\":[\"t\",0],\"sd\":\"a😀\"}]",
+    )?;
+    let right = read(
+        alloc,
+        "[{\"p\":[\"t\",0],\"si\":\"b\"},{\"p\":[\"t\",3],\"si\":\"x\"}]",
+    )?;
+    assert!(rt; matches!(cross(alloc, &left, &right), Err(Fault::NotTransformed)));
+    assert!(rt;
+        matches!(
+            transform(alloc, &right, &left, Side::Right),
+            Err(Fault::NotTransformed)
+        )
+    );
+    Ok(())
+}
+
+// The components, each but the first after a comma.
+fn joined(alloc: Global, parts: &[String]) -> Result<String, AllocError> {
+    let mut text = String::from_str(alloc, "[")?;
+    for part in parts {
+        if text.len() > 1 {
+            text.push(',')?;
+        }
+        text.push_str(part.as_str())?;
+    }
+    text.push(']')?;
+    Ok(text)
+}
+
+fn inserts(alloc: Global, spread: bool) -> Result<String, Fail> {
+    let mut parts = Vec::new(alloc);
+    for i in 0..100_u64 {
+        let at = if spread { 199 - 2 * i } else { 0 };
+        parts.push(format!(in alloc; "{{\"p\":[{at}],\"si\":\"x\"}}")?)?;
+    }
+    Ok(joined(alloc, parts.as_slice())?)
+}
+
+fn pieces(alloc: Global) -> Result<String, Fail> {
+    let mut parts = Vec::new(alloc);
+    for at in 0..101 {
+        let text = if at == 0 || at == 100 { "a" } else { "aa" };
+        parts.push(format!(in alloc; "{{\"p\":[{at}],\"sd\":\"{text}\"}}")?)?;
+    }
+    Ok(joined(alloc, parts.as_slice())?)
+}
+
+fn one_delete(alloc: Global) -> Result<String, Fail> {
+    let mut text = String::from_str(alloc, "[{\"p\":[0],\"sd\":\"")?;
+    for _ in 0..200 {
+        text.push('a')?;
+    }
+    text.push_str("\"}]")?;
+    Ok(text)
+}
+
+#[test]
+fn a_long_delete_is_cut_a_hundred_times(rt: HostRuntime) -> Result<(), Fail> {
+    let alloc = rt.alloc();
+    let left = read(alloc, one_delete(alloc)?.as_str())?;
+    let right = read(alloc, inserts(alloc, true)?.as_str())?;
+    let crossed = cross(alloc, &left, &right)?;
+    assert_eq!(rt; crossed.left.components().len(), 101);
+    assert_eq!(rt;
+        printed(alloc, &crossed.left)?.as_str(),
+        pieces(alloc)?.as_str()
+    );
+    assert_eq!(rt;
+        printed(alloc, &crossed.right)?.as_str(),
+        inserts(alloc, false)?.as_str()
+    );
+    assert_eq!(rt; crossed.pairs, 5050);
+    Ok(())
+}
+
+#[test]
+fn an_operation_is_transformed_as_either_side(rt: HostRuntime) -> Result<(), Fail> {
+    let alloc = rt.alloc();
+    let op = read(alloc, "[{\"li\":\"B\",\"p\":[0]}]")?;
+    let other = read(alloc, "[{\"li\":\"A\",\"p\":[0]}]")?;
+    let left = transform(alloc, &op, &other, Side::Left)?;
+    assert_eq!(rt;
+        printed(alloc, &left)?.as_str(),
+        "[{\"li\":\"B\",\"p\":[0]}]"
+    );
+    let right = transform(alloc, &op, &other, Side::Right)?;
+    assert_eq!(rt;
+        printed(alloc, &right)?.as_str(),
+        "[{\"li\":\"B\",\"p\":[1]}]"
+    );
+    Ok(())
+}

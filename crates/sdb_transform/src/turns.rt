@@ -1,0 +1,174 @@
+//! The work of a crossing, turn by turn.
+ghost use Rattle.std.specs.Prelude.{◌≡◌, ◌<◌, ◌∷◌, [], ◌++◌, length, MatchOption, IfOk, OnOk, IfErr, Some};
+ghost use Rattle.sdb_component.specs.View.{plain_act};
+ghost use Rattle.sdb_transform.specs.Acts.{IsFaultOf, Transforms, apart, text_of};
+ghost use Rattle.sdb_transform.specs.Grid.{Crossings};
+ghost use Rattle.sdb_transform.specs.Stack.{top, stack, token, Meets, IsRefusal, ToldWith, turns_with};
+ghost use Rattle.sdb_transform.specs.Transform.{transform};
+ghost use Rattle.sdb_transform.specs.Work.{Waits, moves};
+ghost use Rattle.sdb_transform.specs.declared.side.Fault.TheVariants.{Memory};
+ghost use Rattle.sdb_transform.specs.declared.side.Side.TheVariants.{Left, Right};
+
+use crate::paths::behind;
+use crate::side::{Fault, Side};
+use crate::transforming::transform_one;
+use sdb_component::{Act, Component};
+use std::alloc::Global;
+
+// Left components that wait from here on, or a right one on its way past those that wait.
+#[derive(Drop)]
+pub(crate) enum Pending {
+    Waiting(Vec<Component>),
+    Moving(Component),
+}
+
+// A crossing that goes on. Of the waiting components and of the work the last comes first. Done are
+// the right components that have passed all that waited.
+#[derive(Drop)]
+pub(crate) struct Progress {
+    pub(crate) waiting: Vec<Component>,
+    pub(crate) work: Vec<Pending>,
+    pub(crate) done: Vec<Component>,
+    pub(crate) pairs: u128,
+}
+
+impl Progress {
+    // Carries the next piece of work on.
+    pub(crate) fn step(&mut self, alloc: Global, next: Pending) -> Result<(), Fault>
+        ensures keeps { OnOk result ((goal : Crossings) → ToldWith (token next ∷ []) goal self.old → ToldWith [] goal self.new) }
+        ensures falls { OnOk result (turns_with [] self.new < turns_with (token next ∷ []) self.old) }
+        ensures refused { IfErr result (λ f. (goal : Crossings) → ToldWith (token next ∷ []) goal self.old → IsFaultOf f goal) }
+    {
+        match next {
+            Pending::Waiting(pieces) => push_pieces(&mut self.waiting, pieces),
+            Pending::Moving(right) => match pop_waiting(&mut self.waiting) {
+                None => {
+                    self.done.push(right)?;
+                    Ok(())
+                }
+                Some(left) => {
+                    self.pairs = self.pairs.saturating_add(1);
+                    meet(alloc, left, right, &mut self.work)
+                }
+            },
+        }
+    }
+}
+
+// Puts the components on top, the first one first.
+pub(crate) fn push_pieces(
+    waiting: &mut Vec<Component>,
+    mut pieces: Vec<Component>,
+) -> Result<(), Fault>
+    ensures ok { OnOk result (top waiting.new.items ≡ pieces.items ++ top waiting.old.items) }
+    ensures err { IfErr result (λ f. f ≡ Memory) }
+{
+    pieces.reverse();
+    waiting.append(&mut pieces)?;
+    Ok(())
+}
+
+fn pop_waiting(waiting: &mut Vec<Component>) -> Option<Component>
+    ensures { MatchOption result ((top waiting.old.items ≡ []) × (top waiting.new.items ≡ [])) (λ c. top waiting.old.items ≡ c ∷ top waiting.new.items) }
+{
+    waiting.pop()
+}
+
+// The components from the top.
+pub(crate) fn from_top(mut waiting: Vec<Component>) -> Vec<Component>
+    ensures { result.items ≡ top waiting.items }
+{
+    waiting.reverse();
+    waiting
+}
+
+pub(crate) fn pop_work(work: &mut Vec<Pending>) -> Option<Pending>
+    ensures { MatchOption result (stack work.old.items ≡ []) (λ p. stack work.old.items ≡ token p ∷ stack work.new.items) }
+{
+    work.pop()
+}
+
+fn push_waiting(work: &mut Vec<Pending>, pieces: Vec<Component>) -> Result<(), Fault>
+    ensures ok { OnOk result (stack work.new.items ≡ Waits pieces.items ∷ stack work.old.items) }
+    ensures err { IfErr result (λ f. f ≡ Memory) }
+{
+    work.push(Pending::Waiting(pieces))?;
+    Ok(())
+}
+
+pub(crate) fn push_moving(work: &mut Vec<Pending>, mut run: Vec<Component>) -> Result<(), Fault>
+    ensures ok { OnOk result (stack work.new.items ≡ moves run.items ++ stack work.old.items) }
+    ensures err { IfErr result (λ f. f ≡ Memory) }
+{
+    while let Some(component) = run.pop() {
+        work.push(Pending::Moving(component))?;
+    }
+    Ok(())
+}
+
+// Carries two components past one another, and puts what comes of them on the work.
+fn meet(
+    alloc: Global,
+    left: Component,
+    right: Component,
+    work: &mut Vec<Pending>,
+) -> Result<(), Fault>
+    ensures ok { OnOk result (Meets left right (stack work.old.items) (stack work.new.items)) }
+    ensures err { IfErr result (λ f. IsRefusal left right f) }
+{
+    let (pieces, run) = both_past(alloc, left, right)?;
+    push_waiting(work, pieces)?;
+    push_moving(work, run)
+}
+
+// What stands for each of two components after the other. Where they touch, the one with the shorter
+// text is copied, and nothing else.
+fn both_past(
+    alloc: Global,
+    left: Component,
+    right: Component,
+) -> Result<(Vec<Component>, Vec<Component>), Fault>
+    ensures left { IfOk result (λ p. transform Left left right ≡ Some p.0.items) }
+    ensures right { IfOk result (λ p. transform Right right left ≡ Some p.1.items) }
+    ensures err { IfErr result (λ f. IsRefusal left right f) }
+{
+    if are_apart(&left, &right) {
+        return Ok((only(alloc, left)?, only(alloc, right)?));
+    }
+    if text_len(left.act()) <= text_len(right.act()) {
+        let copy = left.try_clone(alloc)?;
+        let pieces = transform_one(alloc, copy, &right, Side::Left)?;
+        let run = transform_one(alloc, right, &left, Side::Right)?;
+        Ok((pieces, run))
+    } else {
+        let copy = right.try_clone(alloc)?;
+        let run = transform_one(alloc, copy, &left, Side::Right)?;
+        let pieces = transform_one(alloc, left, &right, Side::Left)?;
+        Ok((pieces, run))
+    }
+}
+
+fn are_apart(left: &Component, right: &Component) -> bool
+    ensures { result ≡ apart left.now right.now }
+{
+    behind(left.path(), right.path()).is_none() && behind(right.path(), left.path()).is_none()
+}
+
+fn only(alloc: Global, component: Component) -> Result<Vec<Component>, Fault>
+    ensures { Transforms result (Some (component ∷ [])) }
+{
+    let mut components = Vec::new(alloc);
+    components.push(component)?;
+    Ok(components)
+}
+
+// The bytes of the text that is inserted or deleted.
+fn text_len(act: &Act) -> usize
+    ensures { result ≡ length (text_of (plain_act act.now)) }
+{
+    match act {
+        Act::Si(_, text) => text.as_str().len(),
+        Act::Sd(_, text) => text.as_str().len(),
+        _ => 0,
+    }
+}
