@@ -1,5 +1,5 @@
 //! What is sent, and what is stored of it.
-ghost use Rattle.std.specs.Prelude.{◌≡◌, IfOk, string_bytes};
+ghost use Rattle.std.specs.Prelude.{◌≡◌, IfOk, string_bytes, unwrap_or};
 ghost use Rattle.sdb_oplog.specs.Snap.{is_from};
 
 use crate::contents::Content;
@@ -111,11 +111,13 @@ impl Submission {
 #[derive(Drop)]
 pub struct Entry {
     version: u64,
-    content: Content,
+    // none where it is stored as it arrived
+    content: Option<Content>,
     arrived: Submission,
 }
 
 impl Model for Entry {
+    ghost use Rattle.std.specs.Prelude.{unwrap_or};
     ghost use Rattle.sdb_oplog.specs.Plain.{PlainEntry};
     ghost use Rattle.sdb_oplog.specs.Coding.{entry_code};
 
@@ -123,13 +125,14 @@ impl Model for Entry {
 
     ghost coded = { entry_code };
 
-    ghost view = { λ e. record { version = e.version; content = e.content; arrived = e.arrived } };
+    ghost view = { λ e. record { version = e.version; content = unwrap_or e.content e.arrived.content; arrived = e.arrived } };
 }
 
 impl Entry {
-    /// The entry of the content at the version.
-    pub fn new(version: u64, content: Content, arrived: Submission) -> Entry
-        ensures { result ≡ record { version = version; content = content; arrived = arrived } }
+    /// The entry of the content at the version. Without a content it is that of the submission, as it
+    /// arrived.
+    pub fn new(version: u64, content: Option<Content>, arrived: Submission) -> Entry
+        ensures { result ≡ record { version = version; content = unwrap_or content arrived.content; arrived = arrived } }
     {
         Entry {
             version,
@@ -149,7 +152,10 @@ impl Entry {
     pub fn content(&self) -> &Content
         ensures { result.now ≡ self.now.content }
     {
-        &self.content
+        match &self.content {
+            Some(content) => content,
+            None => &self.arrived.content,
+        }
     }
 
     /// The submission as it arrived.
@@ -170,7 +176,10 @@ impl Entry {
     pub fn try_clone(&self, alloc: Global) -> Result<Entry, AllocError>
         ensures { IfOk result (λ e. e ≡ self.now) }
     {
-        let content = self.content.try_clone(alloc)?;
+        let content = match &self.content {
+            Some(content) => Some(content.try_clone(alloc)?),
+            None => None,
+        };
         let arrived = self.arrived.try_clone(alloc)?;
         Ok(Entry::new(self.version, content, arrived))
     }

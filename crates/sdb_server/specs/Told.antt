@@ -1,4 +1,9 @@
--- What a reply of the code stands for.
+-- What a reply and a message of the code stand for.
+use Rattle.std.specs.Prelude.{Option, option_map}
+use Rattle.std.specs.Borrow.{Bor}
+use Rattle.serde_json.specs.declared.value.Value.{Value}
+use Rattle.sdb_wire.specs.Wire.{PlainEcho}
+use Rattle.sdb_wire.specs.View.{echo_from}
 use Rattle.sdb_oplog.specs.Decide.{PlainReply, stored, repeated, refused}
 use Rattle.sdb_server.specs.declared.document.Reply.{Reply}
 use Rattle.sdb_server.specs.declared.document.Reply.TheVariants.{Stored, Repeat, Refused}
@@ -7,3 +12,7 @@ abbrev pub plain_reply : Reply → PlainReply
 plain_reply (Stored v missed) = stored v missed.items
 plain_reply (Repeat v) = repeated v
 plain_reply (Refused code) = refused code
+
+-- what an error shows of the message
+abbrev pub shown_of : Option (Bor Value) → PlainEcho
+shown_of m = echo_from (option_map (λ v. v.now) m)

@@ -3,8 +3,9 @@ ghost use Rattle.std.specs.Prelude.{◌≡◌, ◌++◌, ◌∷◌, [], IfOk, On
 ghost use Rattle.sdb_value.specs.View.{view};
 ghost use Rattle.sdb_oplog.specs.Keys.{plain_key};
 ghost use Rattle.sdb_oplog.specs.Snap.{document};
-ghost use Rattle.sdb_wire.specs.Answers.{op_message};
-ghost use Rattle.sdb_wire.specs.View.{plain_answer, plain_echo, plain_request};
+ghost use Rattle.sdb_wire.specs.Answers.{op_message, failed};
+ghost use Rattle.sdb_server.specs.Told.{shown_of};
+ghost use Rattle.sdb_wire.specs.View.{plain_answer, plain_request};
 ghost use Rattle.sdb_server.specs.Dialogue.{shown, turn, is_request, request_turn, fetch_answers, listing, reply_answers, submit_turn, submission_of};
 ghost use Rattle.sdb_server.specs.Keyed.{logs_of};
 ghost use Rattle.sdb_server.specs.Told.{plain_reply};
@@ -12,7 +13,8 @@ ghost use Rattle.sdb_server.specs.Told.{plain_reply};
 use crate::document::{Document, Reply};
 use crate::documents::Documents;
 use sdb_oplog::{Code, Content, Entry, Key, Submission};
-use sdb_wire::{Answer, Echo, Heard, Request, hear, reply_text};
+use sdb_wire::{Answer, Heard, Request, echo_of, hear, reply_text};
+use serde_json::Value;
 use std::alloc::{AllocError, Global};
 
 // The source of the one session.
@@ -29,14 +31,14 @@ pub fn answer_line(
     ensures logs { OnOk result (logs_of documents.new ≡ (turn line.now (logs_of documents.old)).logs) }
     ensures step { IfOk result (λ b. b ≡ is_request line.now) }
 {
-    let Heard { echo, request } = hear(alloc, line)?;
+    let Heard { message, request } = hear(alloc, line)?;
     match request {
         Ok(asked) => {
-            answer_request(alloc, documents, &echo, asked, out)?;
+            answer_request(alloc, documents, message.as_ref(), asked, out)?;
             Ok(true)
         }
         Err(code) => {
-            say(alloc, &Answer::Failed(&echo, code), out)?;
+            refuse(alloc, message.as_ref(), code, out)?;
             Ok(false)
         }
     }
@@ -45,18 +47,18 @@ pub fn answer_line(
 fn answer_request(
     alloc: Global,
     documents: &mut Documents,
-    echo: &Echo,
+    message: Option<&Value>,
     request: Request,
     out: &mut Vec<u8>,
 ) -> Result<(), AllocError>
-    ensures text { OnOk result (out.new.items ≡ out.old.items ++ shown (request_turn (plain_echo echo.now) (plain_request request) (logs_of documents.old)).answers) }
-    ensures logs { OnOk result (logs_of documents.new ≡ (request_turn (plain_echo echo.now) (plain_request request) (logs_of documents.old)).logs) }
+    ensures text { OnOk result (out.new.items ≡ out.old.items ++ shown (request_turn (shown_of message.entry) (plain_request request) (logs_of documents.old)).answers) }
+    ensures logs { OnOk result (logs_of documents.new ≡ (request_turn (shown_of message.entry) (plain_request request) (logs_of documents.old)).logs) }
 {
     match request {
-        Request::Fetch(key, version) => fetch(alloc, documents, echo, &key, version, out),
+        Request::Fetch(key, version) => fetch(alloc, documents, message, &key, version, out),
         Request::Submit(key, version, seq, src, content) => {
             let submission = submission(alloc, &key, version, seq, src, content)?;
-            submit(alloc, documents, echo, &key, submission, out)
+            submit(alloc, documents, message, &key, submission, out)
         }
     }
 }
@@ -90,6 +92,19 @@ pub fn say(alloc: Global, answer: &Answer<'_>, out: &mut Vec<u8>) -> Result<(), 
     Ok(())
 }
 
+// Writes the error reply to a message.
+fn refuse(
+    alloc: Global,
+    message: Option<&Value>,
+    code: Code,
+    out: &mut Vec<u8>,
+) -> Result<(), AllocError>
+    ensures { OnOk result (out.new.items ≡ out.old.items ++ shown (failed (shown_of message.entry) code ∷ [])) }
+{
+    let echo = echo_of(alloc, message)?;
+    say(alloc, &Answer::Failed(&echo, code), out)
+}
+
 // Writes each entry as an op message.
 fn say_entries(
     alloc: Global,
@@ -108,18 +123,18 @@ fn say_entries(
 fn fetch(
     alloc: Global,
     documents: &Documents,
-    echo: &Echo,
+    message: Option<&Value>,
     key: &Key,
     version: Option<u64>,
     out: &mut Vec<u8>,
 ) -> Result<(), AllocError>
-    ensures { OnOk result (out.new.items ≡ out.old.items ++ shown (fetch_answers (plain_echo echo.now) (plain_key key.now) version (logs_of documents.now (plain_key key.now)))) }
+    ensures { OnOk result (out.new.items ≡ out.old.items ++ shown (fetch_answers (shown_of message.entry) (plain_key key.now) version (logs_of documents.now (plain_key key.now)))) }
 {
     match documents.find(key) {
-        Some(document) => fetch_from(alloc, document, echo, key, version, out),
+        Some(document) => fetch_from(alloc, document, message, key, version, out),
         None => {
             let empty = Document::new(alloc);
-            fetch_from(alloc, &empty, echo, key, version, out)
+            fetch_from(alloc, &empty, message, key, version, out)
         }
     }
 }
@@ -127,12 +142,12 @@ fn fetch(
 fn fetch_from(
     alloc: Global,
     document: &Document,
-    echo: &Echo,
+    message: Option<&Value>,
     key: &Key,
     version: Option<u64>,
     out: &mut Vec<u8>,
 ) -> Result<(), AllocError>
-    ensures { OnOk result (out.new.items ≡ out.old.items ++ shown (fetch_answers (plain_echo echo.now) (plain_key key.now) version document.now)) }
+    ensures { OnOk result (out.new.items ≡ out.old.items ++ shown (fetch_answers (shown_of message.entry) (plain_key key.now) version document.now)) }
 {
     let log = document.log();
     match version {
@@ -143,7 +158,7 @@ fn fetch_from(
         ),
         Some(from) => {
             if from > log.len() {
-                return say(alloc, &Answer::Failed(echo, Code::E4), out);
+                return refuse(alloc, message, Code::E4, out);
             }
             say_entries(alloc, key, log.entries_from(from), out)?;
             say(alloc, &Answer::Listed(key), out)
@@ -154,18 +169,18 @@ fn fetch_from(
 fn submit(
     alloc: Global,
     documents: &mut Documents,
-    echo: &Echo,
+    message: Option<&Value>,
     key: &Key,
     submission: Submission,
     out: &mut Vec<u8>,
 ) -> Result<(), AllocError>
-    ensures text { OnOk result (out.new.items ≡ out.old.items ++ shown (submit_turn (plain_echo echo.now) (plain_key key.now) submission (logs_of documents.old)).answers) }
-    ensures logs { OnOk result (logs_of documents.new ≡ (submit_turn (plain_echo echo.now) (plain_key key.now) submission (logs_of documents.old)).logs) }
+    ensures text { OnOk result (out.new.items ≡ out.old.items ++ shown (submit_turn (shown_of message.entry) (plain_key key.now) submission (logs_of documents.old)).answers) }
+    ensures logs { OnOk result (logs_of documents.new ≡ (submit_turn (shown_of message.entry) (plain_key key.now) submission (logs_of documents.old)).logs) }
 {
     let src = String::from_str(alloc, submission.src())?;
     let seq = submission.seq();
-    match documents.submit(alloc, key.try_clone()?, submission) {
-        Ok(reply) => say_reply(alloc, echo, key, src.as_str(), seq, &reply, out),
+    match documents.submit(alloc, key, submission) {
+        Ok(reply) => say_reply(alloc, message, key, src.as_str(), seq, &reply, out),
         Err(error) => Err(error),
     }
 }
@@ -173,14 +188,14 @@ fn submit(
 // What was missed comes before the acknowledgement.
 fn say_reply(
     alloc: Global,
-    echo: &Echo,
+    message: Option<&Value>,
     key: &Key,
     src: &str,
     seq: u64,
     reply: &Reply,
     out: &mut Vec<u8>,
 ) -> Result<(), AllocError>
-    ensures { OnOk result (out.new.items ≡ out.old.items ++ shown (reply_answers (plain_echo echo.now) (plain_key key.now) src.now seq (plain_reply reply.now))) }
+    ensures { OnOk result (out.new.items ≡ out.old.items ++ shown (reply_answers (shown_of message.entry) (plain_key key.now) src.now seq (plain_reply reply.now))) }
 {
     match reply {
         Reply::Stored { v, missed } => {
@@ -188,6 +203,6 @@ fn say_reply(
             say(alloc, &Answer::Acknowledged(key, src, seq, *v), out)
         }
         Reply::Repeat { v } => say(alloc, &Answer::Acknowledged(key, src, seq, *v), out),
-        Reply::Refused(code) => say(alloc, &Answer::Failed(echo, *code), out),
+        Reply::Refused(code) => refuse(alloc, message, *code, out),
     }
 }

@@ -1,5 +1,5 @@
 //! One document: its log, and what it makes.
-ghost use Rattle.std.specs.Prelude.{◌≡◌, ◌≤◌, [], length, OnOk, OnErr, IfOk, IfErr, Ok, option_map};
+ghost use Rattle.std.specs.Prelude.{◌≡◌, ◌≤◌, [], length, OnOk, OnErr, IfOk, IfErr, Ok, option_map, unwrap_or};
 ghost use Rattle.sdb_value.specs.View.{view};
 ghost use Rattle.sdb_oplog.specs.Decide.{decide, settled, IsMade};
 ghost use Rattle.sdb_oplog.specs.Over.{over_all};
@@ -94,16 +94,17 @@ impl Document {
     }
 }
 
-// The content as it will be stored, and the document that it makes.
+// The content as it will be stored, none where it is the one that arrived, and the document that it
+// makes.
 fn settle(
     alloc: Global,
     log: &Log,
     present: Option<&Json>,
     submission: &Submission,
-) -> Result<(Content, Option<Json>), Code>
+) -> Result<(Option<Content>, Option<Json>), Code>
     requires { option_map (λ v. view v.now) present ≡ document log.now }
-    ensures ok { IfOk result (λ m. settled log.now submission.now ≡ Ok m.0) }
-    ensures after { IfOk result (λ m. becomes m.0 (document log.now) ≡ Ok (option_map view m.1)) }
+    ensures ok { IfOk result (λ m. settled log.now submission.now ≡ Ok (unwrap_or m.0 submission.now.content)) }
+    ensures after { IfOk result (λ m. becomes (unwrap_or m.0 submission.now.content) (document log.now) ≡ Ok (option_map view m.1)) }
     ensures err { IfErr result (λ code. RefusedBy (settled log.now submission.now) code) }
 {
     let n = log.len();
@@ -115,20 +116,29 @@ fn settle(
         return Err(Code::E4);
     }
     let content = over_all(alloc, submission.content(), log.entries_from(since))?;
-    let after = content.applied_to(alloc, present)?;
+    let after = carried_or(&content, submission.content()).applied_to(alloc, present)?;
     Ok((content, after))
 }
 
-// The content after all of the entries, one by one.
-fn over_all(alloc: Global, content: &Content, entries: &[Entry]) -> Result<Content, Code>
-    ensures ok { IfOk result (λ m. over_all content.now entries.now ≡ Ok m) }
+// The content after all of the entries, one by one; none where there are none.
+fn over_all(alloc: Global, content: &Content, entries: &[Entry]) -> Result<Option<Content>, Code>
+    ensures ok { IfOk result (λ m. over_all content.now entries.now ≡ Ok (unwrap_or m content.now)) }
     ensures err { IfErr result (λ code. RefusedBy (over_all content.now entries.now) code) }
 {
-    let mut carried = content.try_clone(alloc)?;
+    let mut carried = None;
     for entry in entries {
-        carried = over(alloc, &carried, entry.content())?;
+        carried = Some(over(alloc, carried_or(&carried, content), entry.content())?);
     }
     Ok(carried)
+}
+
+fn carried_or<'c>(carried: &'c Option<Content>, content: &'c Content) -> &'c Content
+    ensures { result.now ≡ unwrap_or carried.now content.now }
+{
+    match carried {
+        Some(carried) => carried,
+        None => content,
+    }
 }
 
 fn copies(alloc: Global, entries: &[Entry]) -> Result<Vec<Entry>, AllocError>

@@ -36,19 +36,19 @@ impl Documents {
     pub fn submit(
         &mut self,
         alloc: Global,
-        key: Key,
+        key: &Key,
         submission: Submission,
     ) -> Result<Reply, AllocError>
-        ensures reply { IfOk result (λ r. plain_reply r ≡ (decide (logs_of self.old (plain_key key)) submission).reply) }
-        ensures logs { OnOk result (logs_of self.new ≡ with_log (logs_of self.old) (plain_key key) (decide (logs_of self.old (plain_key key)) submission).log) }
+        ensures reply { IfOk result (λ r. plain_reply r ≡ (decide (logs_of self.old (plain_key key.now)) submission).reply) }
+        ensures logs { OnOk result (logs_of self.new ≡ with_log (logs_of self.old) (plain_key key.now) (decide (logs_of self.old (plain_key key.now)) submission).log) }
         ensures err { OnErr result (logs_of self.new ≡ logs_of self.old) }
     {
-        match self.by_key.get_mut(&key) {
+        match self.by_key.get_mut(key) {
             Some(document) => document.decide(alloc, submission),
             None => {
                 let mut document = Document::new(alloc);
                 let reply = document.decide(alloc, submission)?;
-                drop(self.by_key.insert(key, document)?);
+                drop(self.by_key.insert(key.try_clone()?, document)?);
                 Ok(reply)
             }
         }

@@ -181,3 +181,103 @@ fn a_delete(rt: HostRuntime) -> Result<(), Fail> {
     assert_eq!(rt; answers(rt.alloc(), input)?.as_slice(), output.as_slice());
     Ok(())
 }
+
+#[test]
+fn the_arriving_side_is_left(rt: HostRuntime) -> Result<(), Fail> {
+    let input =
+        b"{\"a\":\"op\",\"c\":\"b\",\"d\":\"5\",\"src\":\"x\",\"seq\":1,\"create\":{\"type\":\"http://sharejs.org/types/JSONv0\",\"data\":[\"x\"]}}\n\
+        {\"a\":\"op\",\"c\":\"b\",\"d\":\"5\",\"v\":1,\"src\":\"y\",\"seq\":1,\"op\":[{\"p\":[0],\"li\":\"A\"}]}\n\
+        {\"a\":\"op\",\"c\":\"b\",\"d\":\"5\",\"v\":1,\"src\":\"z\",\"seq\":1,\"op\":[{\"p\":[0],\"li\":\"B\"}]}\n\
+        {\"a\":\"f\",\"c\":\"b\",\"d\":\"5\"}\n";
+    let output =
+        b"{\"a\":\"init\",\"id\":\"s1\",\"protocol\":1,\"protocolMinor\":1,\"type\":\"http://sharejs.org/types/JSONv0\"}\n\
+        {\"a\":\"op\",\"c\":\"b\",\"d\":\"5\",\"seq\":1,\"src\":\"x\",\"v\":0}\n\
+        {\"a\":\"op\",\"c\":\"b\",\"d\":\"5\",\"seq\":1,\"src\":\"y\",\"v\":1}\n\
+        {\"a\":\"op\",\"c\":\"b\",\"d\":\"5\",\"op\":[{\"li\":\"A\",\"p\":[0]}],\"seq\":1,\"src\":\"y\",\"v\":1}\n\
+        {\"a\":\"op\",\"c\":\"b\",\"d\":\"5\",\"seq\":1,\"src\":\"z\",\"v\":2}\n\
+        {\"a\":\"f\",\"c\":\"b\",\"d\":\"5\",\"data\":{\"data\":[\"B\",\"A\",\"x\"],\"v\":3}}\n";
+    assert_eq!(rt; answers(rt.alloc(), input)?.as_slice(), output.as_slice());
+    Ok(())
+}
+
+#[test]
+fn insert_against_insert(rt: HostRuntime) -> Result<(), Fail> {
+    let input =
+        b"{\"a\":\"op\",\"c\":\"b\",\"d\":\"6\",\"src\":\"x\",\"seq\":1,\"create\":{\"type\":\"http://sharejs.org/types/JSONv0\",\"data\":{}}}\n\
+        {\"a\":\"op\",\"c\":\"b\",\"d\":\"6\",\"v\":1,\"src\":\"y\",\"seq\":1,\"op\":[{\"p\":[\"k\"],\"oi\":1}]}\n\
+        {\"a\":\"op\",\"c\":\"b\",\"d\":\"6\",\"v\":1,\"src\":\"z\",\"seq\":1,\"op\":[{\"p\":[\"k\"],\"oi\":2}]}\n\
+        {\"a\":\"f\",\"c\":\"b\",\"d\":\"6\",\"v\":2}\n";
+    let output =
+        b"{\"a\":\"init\",\"id\":\"s1\",\"protocol\":1,\"protocolMinor\":1,\"type\":\"http://sharejs.org/types/JSONv0\"}\n\
+        {\"a\":\"op\",\"c\":\"b\",\"d\":\"6\",\"seq\":1,\"src\":\"x\",\"v\":0}\n\
+        {\"a\":\"op\",\"c\":\"b\",\"d\":\"6\",\"seq\":1,\"src\":\"y\",\"v\":1}\n\
+        {\"a\":\"op\",\"c\":\"b\",\"d\":\"6\",\"op\":[{\"oi\":1,\"p\":[\"k\"]}],\"seq\":1,\"src\":\"y\",\"v\":1}\n\
+        {\"a\":\"op\",\"c\":\"b\",\"d\":\"6\",\"seq\":1,\"src\":\"z\",\"v\":2}\n\
+        {\"a\":\"op\",\"c\":\"b\",\"d\":\"6\",\"op\":[{\"od\":1,\"oi\":2,\"p\":[\"k\"]}],\"seq\":1,\"src\":\"z\",\"v\":2}\n\
+        {\"a\":\"f\",\"c\":\"b\",\"d\":\"6\"}\n";
+    assert_eq!(rt; answers(rt.alloc(), input)?.as_slice(), output.as_slice());
+    Ok(())
+}
+
+#[test]
+fn a_split_delete(rt: HostRuntime) -> Result<(), Fail> {
+    let input =
+        b"{\"a\":\"op\",\"c\":\"b\",\"d\":\"7\",\"src\":\"x\",\"seq\":1,\"create\":{\"type\":\"http://sharejs.org/types/JSONv0\",\"data\":\"abcdef\"}}\n\
+        {\"a\":\"op\",\"c\":\"b\",\"d\":\"7\",\"v\":1,\"src\":\"y\",\"seq\":1,\"op\":[{\"p\":[3],\"si\":\"XYZ\"}]}\n\
+        {\"a\":\"op\",\"c\":\"b\",\"d\":\"7\",\"v\":1,\"src\":\"z\",\"seq\":1,\"op\":[{\"p\":[1],\"sd\":\"bcde\"}]}\n\
+        {\"a\":\"f\",\"c\":\"b\",\"d\":\"7\",\"v\":2}\n\
+        {\"a\":\"f\",\"c\":\"b\",\"d\":\"7\"}\n";
+    let output =
+        b"{\"a\":\"init\",\"id\":\"s1\",\"protocol\":1,\"protocolMinor\":1,\"type\":\"http://sharejs.org/types/JSONv0\"}\n\
+        {\"a\":\"op\",\"c\":\"b\",\"d\":\"7\",\"seq\":1,\"src\":\"x\",\"v\":0}\n\
+        {\"a\":\"op\",\"c\":\"b\",\"d\":\"7\",\"seq\":1,\"src\":\"y\",\"v\":1}\n\
+        {\"a\":\"op\",\"c\":\"b\",\"d\":\"7\",\"op\":[{\"p\":[3],\"si\":\"XYZ\"}],\"seq\":1,\"src\":\"y\",\"v\":1}\n\
+        {\"a\":\"op\",\"c\":\"b\",\"d\":\"7\",\"seq\":1,\"src\":\"z\",\"v\":2}\n\
+        {\"a\":\"op\",\"c\":\"b\",\"d\":\"7\",\"op\":[{\"p\":[1],\"sd\":\"bc\"},{\"p\":[4],\"sd\":\"de\"}],\"seq\":1,\"src\":\"z\",\"v\":2}\n\
+        {\"a\":\"f\",\"c\":\"b\",\"d\":\"7\"}\n\
+        {\"a\":\"f\",\"c\":\"b\",\"d\":\"7\",\"data\":{\"data\":\"aXYZf\",\"v\":3}}\n";
+    assert_eq!(rt; answers(rt.alloc(), input)?.as_slice(), output.as_slice());
+    Ok(())
+}
+
+#[test]
+fn an_edit_of_what_is_gone(rt: HostRuntime) -> Result<(), Fail> {
+    let input =
+        b"{\"a\":\"op\",\"c\":\"b\",\"d\":\"9\",\"src\":\"x\",\"seq\":1,\"create\":{\"type\":\"http://sharejs.org/types/JSONv0\",\"data\":[{\"n\":1}]}}\n\
+        {\"a\":\"op\",\"c\":\"b\",\"d\":\"9\",\"v\":1,\"src\":\"y\",\"seq\":1,\"op\":[{\"p\":[0],\"ld\":{\"n\":1}}]}\n\
+        {\"a\":\"op\",\"c\":\"b\",\"d\":\"9\",\"v\":1,\"src\":\"z\",\"seq\":1,\"op\":[{\"p\":[0,\"n\"],\"na\":1}]}\n\
+        {\"a\":\"f\",\"c\":\"b\",\"d\":\"9\",\"v\":2}\n\
+        {\"a\":\"f\",\"c\":\"b\",\"d\":\"9\"}\n";
+    let output =
+        b"{\"a\":\"init\",\"id\":\"s1\",\"protocol\":1,\"protocolMinor\":1,\"type\":\"http://sharejs.org/types/JSONv0\"}\n\
+        {\"a\":\"op\",\"c\":\"b\",\"d\":\"9\",\"seq\":1,\"src\":\"x\",\"v\":0}\n\
+        {\"a\":\"op\",\"c\":\"b\",\"d\":\"9\",\"seq\":1,\"src\":\"y\",\"v\":1}\n\
+        {\"a\":\"op\",\"c\":\"b\",\"d\":\"9\",\"op\":[{\"ld\":{\"n\":1},\"p\":[0]}],\"seq\":1,\"src\":\"y\",\"v\":1}\n\
+        {\"a\":\"op\",\"c\":\"b\",\"d\":\"9\",\"seq\":1,\"src\":\"z\",\"v\":2}\n\
+        {\"a\":\"op\",\"c\":\"b\",\"d\":\"9\",\"op\":[],\"seq\":1,\"src\":\"z\",\"v\":2}\n\
+        {\"a\":\"f\",\"c\":\"b\",\"d\":\"9\"}\n\
+        {\"a\":\"f\",\"c\":\"b\",\"d\":\"9\",\"data\":{\"data\":[],\"v\":3}}\n";
+    assert_eq!(rt; answers(rt.alloc(), input)?.as_slice(), output.as_slice());
+    Ok(())
+}
+
+#[test]
+fn a_removed_value_brought_up_to_date(rt: HostRuntime) -> Result<(), Fail> {
+    let input =
+        b"{\"a\":\"op\",\"c\":\"b\",\"d\":\"10\",\"src\":\"x\",\"seq\":1,\"create\":{\"type\":\"http://sharejs.org/types/JSONv0\",\"data\":[{\"n\":1}]}}\n\
+        {\"a\":\"op\",\"c\":\"b\",\"d\":\"10\",\"v\":1,\"src\":\"y\",\"seq\":1,\"op\":[{\"p\":[0,\"n\"],\"na\":1}]}\n\
+        {\"a\":\"op\",\"c\":\"b\",\"d\":\"10\",\"v\":1,\"src\":\"z\",\"seq\":1,\"op\":[{\"p\":[0],\"ld\":{\"n\":1}}]}\n\
+        {\"a\":\"f\",\"c\":\"b\",\"d\":\"10\",\"v\":2}\n\
+        {\"a\":\"f\",\"c\":\"b\",\"d\":\"10\"}\n";
+    let output =
+        b"{\"a\":\"init\",\"id\":\"s1\",\"protocol\":1,\"protocolMinor\":1,\"type\":\"http://sharejs.org/types/JSONv0\"}\n\
+        {\"a\":\"op\",\"c\":\"b\",\"d\":\"10\",\"seq\":1,\"src\":\"x\",\"v\":0}\n\
+        {\"a\":\"op\",\"c\":\"b\",\"d\":\"10\",\"seq\":1,\"src\":\"y\",\"v\":1}\n\
+        {\"a\":\"op\",\"c\":\"b\",\"d\":\"10\",\"op\":[{\"na\":1,\"p\":[0,\"n\"]}],\"seq\":1,\"src\":\"y\",\"v\":1}\n\
+        {\"a\":\"op\",\"c\":\"b\",\"d\":\"10\",\"seq\":1,\"src\":\"z\",\"v\":2}\n\
+        {\"a\":\"op\",\"c\":\"b\",\"d\":\"10\",\"op\":[{\"ld\":{\"n\":2},\"p\":[0]}],\"seq\":1,\"src\":\"z\",\"v\":2}\n\
+        {\"a\":\"f\",\"c\":\"b\",\"d\":\"10\"}\n\
+        {\"a\":\"f\",\"c\":\"b\",\"d\":\"10\",\"data\":{\"data\":[],\"v\":3}}\n";
+    assert_eq!(rt; answers(rt.alloc(), input)?.as_slice(), output.as_slice());
+    Ok(())
+}

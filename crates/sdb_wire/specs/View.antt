@@ -1,11 +1,14 @@
 -- What the code's types stand for.
 use Rattle.std.specs.Prelude.{◌≡◌, Option, Result, Ok, Err, option_map, string_bytes, ⊤}
+use Rattle.std.specs.Option.{option_map_or}
 use Rattle.serde_json.specs.Data.{Data}
+use Rattle.serde_json.specs.View.{view as data_view}
+use Rattle.serde_json.specs.declared.value.Value.{Value}
 use Rattle.sdb_value.specs.View.{view}
 use Rattle.sdb_oplog.specs.Keys.{plain_key}
 use Rattle.sdb_oplog.specs.declared.codes.Code.{Code}
 use Rattle.sdb_oplog.specs.declared.codes.Code.TheVariants.{E10}
-use Rattle.sdb_wire.specs.Wire.{PlainRequest, fetch, submit, PlainEcho, said, PlainWord, text, count, PlainBad, with_echo, message_of, PlainHeard}
+use Rattle.sdb_wire.specs.Wire.{PlainRequest, fetch, submit, PlainEcho, said, nothing_said, PlainWord, text, count, PlainBad, with_echo, message_of, PlainHeard}
 use Rattle.sdb_wire.specs.Answers.{PlainAnswer, init, fetched, listed, op_message, acknowledged, failed}
 use Rattle.sdb_wire.specs.declared.requests.Word.{Word}
 use Rattle.sdb_wire.specs.declared.requests.Word.TheVariants.{Text, Count}
@@ -32,8 +35,12 @@ abbrev pub asked : Result Request Code → Result PlainRequest Code
 asked (Ok r) = Ok (plain_request r)
 asked (Err c) = Err c
 
+-- what an error shows of a message that has a reading, or of none
+abbrev pub echo_from : Option Value → PlainEcho
+echo_from m = option_map_or (λ v. said (data_view v)) m nothing_said
+
 abbrev pub plain_heard : Heard → PlainHeard
-plain_heard h = record { echo = plain_echo h.echo; request = asked h.request }
+plain_heard h = record { echo = echo_from h.message; request = asked h.request }
 
 abbrev pub plain_answer : Answer → PlainAnswer
 plain_answer (Init src) = init src.now

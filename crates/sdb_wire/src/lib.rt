@@ -7,6 +7,6 @@ mod reading;
 mod replies;
 mod requests;
 
-pub use reading::{hear, no_echo, read_content, read_message};
+pub use reading::{echo_of, hear, no_echo, read_content, read_message};
 pub use replies::{entry_value, reply_text};
 pub use requests::{Answer, Bad, Echo, Heard, Request, Word};

@@ -113,7 +113,7 @@ fn word_at(alloc: Global, value: &Value, key: &str) -> Result<Option<Word>, Allo
 }
 
 // What an error shows of the message.
-pub(crate) fn echo_of(alloc: Global, value: &Value) -> Result<Echo, AllocError>
+pub(crate) fn said(alloc: Global, value: &Value) -> Result<Echo, AllocError>
     ensures { IfOk result (λ e. plain_echo e ≡ said (data_view value.now)) }
 {
     let a = word_at(alloc, value, "a")?;

@@ -4,9 +4,9 @@ ghost use Rattle.serde_json.specs.View.{view as data_view};
 ghost use Rattle.sdb_oplog.specs.Keys.{plain_key};
 ghost use Rattle.sdb_oplog.specs.Refused.{RefusedBy};
 ghost use Rattle.sdb_wire.specs.Wire.{key_of, fetch_of, submit_of, message_of, content_of, is_deletion, creation, created, edition, wire, hear, nothing_said};
-ghost use Rattle.sdb_wire.specs.View.{plain_request, plain_echo, plain_heard, IsFault, IsFaultOf};
+ghost use Rattle.sdb_wire.specs.View.{plain_request, plain_echo, plain_heard, echo_from, IsFault, IsFaultOf};
 
-use crate::members::{count_at, echo_of, may_count, may_name, name_at, need_name, present};
+use crate::members::{count_at, may_count, may_name, name_at, need_name, present, said};
 use crate::requests::{Bad, Echo, Heard, Request};
 use sdb_component::{OpFault, read_op};
 use sdb_oplog::{Code, Content, Key};
@@ -35,37 +35,44 @@ pub fn read_message(alloc: Global, text: &str) -> Result<Request, Bad>
     }
 }
 
-/// What a line says: as [`read_message`], but the echo is there with a request too, since a refusal
-/// by the log shows it.
+/// What a line says: as [`read_message`], but with the message itself, since a refusal by the log
+/// shows members of it too.
 pub fn hear(alloc: Global, text: &str) -> Result<Heard, AllocError>
     ensures { IfOk result (λ h. plain_heard h ≡ hear text.now) }
 {
     match Value::from_str(alloc, text) {
         Ok(value) => {
-            let echo = echo_of(alloc, &value)?;
-            match message_of(alloc, &value) {
-                Ok(request) => Ok(Heard {
-                    echo,
-                    request: Ok(request),
-                }),
+            let request = match message_of(alloc, &value) {
+                Ok(request) => Ok(request),
                 Err(code) => match code {
-                    Code::E10 => Err(AllocError),
-                    code => Ok(Heard {
-                        echo,
-                        request: Err(code),
-                    }),
+                    Code::E10 => return Err(AllocError),
+                    code => Err(code),
                 },
-            }
+            };
+            Ok(Heard {
+                message: Some(value),
+                request,
+            })
         }
         Err(error) => {
             if error.is_memory() {
                 return Err(AllocError);
             }
             Ok(Heard {
-                echo: no_echo(),
+                message: None,
                 request: Err(Code::E1),
             })
         }
+    }
+}
+
+/// What an error shows of a message: nothing where it has no reading.
+pub fn echo_of(alloc: Global, message: Option<&Value>) -> Result<Echo, AllocError>
+    ensures { IfOk result (λ e. plain_echo e ≡ echo_from (option_map (λ v. v.now) message.entry)) }
+{
+    match message {
+        Some(value) => said(alloc, value),
+        None => Ok(no_echo()),
     }
 }
 
@@ -89,7 +96,7 @@ fn read_value(alloc: Global, value: &Value) -> Result<Request, Bad>
 {
     match message_of(alloc, value) {
         Ok(request) => Ok(request),
-        Err(code) => match echo_of(alloc, value) {
+        Err(code) => match said(alloc, value) {
             Ok(echo) => Err(Bad { echo, code }),
             Err(_) => Err(Bad {
                 echo: no_echo(),

@@ -1,6 +1,7 @@
 //! What a message asks, and what an error shows of it.
 use sdb_oplog::{Code, Content, Entry, Key};
 use sdb_value::Json;
+use serde_json::Value;
 
 /// A member that an error shows again: a text of 1 to 200 bytes, or a whole number from 0 to
 /// 9007199254740991.
@@ -38,10 +39,11 @@ pub struct Bad {
     pub code: Code,
 }
 
-/// What a line says: the request, or the code that refuses it, and what an error shows of it.
+/// What a line says: the request, or the code that refuses it, and the message as JSON, if it has a
+/// reading. An error shows some members of it ([`echo_of`](crate::echo_of)).
 #[derive(Drop)]
 pub struct Heard {
-    pub echo: Echo,
+    pub message: Option<Value>,
     pub request: Result<Request, Code>,
 }
 

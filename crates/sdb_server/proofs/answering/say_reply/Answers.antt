@@ -1,7 +1,7 @@
 use Rattle.std.proofs.Common.{◌≡◌, ◌∷◌, [], ◌++◌, map, sym, ap, ◌∙◌}
 use Rattle.sdb_oplog.specs.Keys.{plain_key}
 use Rattle.sdb_wire.specs.Answers.{op_message, acknowledged}
-use Rattle.sdb_wire.specs.View.{plain_echo}
+use Rattle.sdb_server.specs.Told.{shown_of}
 use Rattle.sdb_server.specs.Dialogue.{shown, reply_answers}
 use Rattle.sdb_server.specs.Told.{plain_reply}
 use Rattle.sdb_server.proofs.Shown.{says_more, on_ok}
@@ -14,4 +14,4 @@ returns-in_ok-say_entries-in-Stored c =
     let missed = c.in-Stored.missed.items in
     let said = c.in_ok-say_entries-in-Stored.ensures ∙ ap (λ es. old ++ shown (map (op_message k) es)) c.as_slice.ensures.value in
     on_ok c.say.result (λ h. says_more old _ _ (map (op_message k) missed) (acknowledged k c.args.src.now c.args.seq c.in-Stored.v ∷ []) said h
-    ∙ ap (λ r. old ++ shown (reply_answers (plain_echo c.args.echo.now) k c.args.src.now c.args.seq (plain_reply r))) (sym c.in-Stored.is)) c.say.ensures
+    ∙ ap (λ r. old ++ shown (reply_answers (shown_of c.args.message) k c.args.src.now c.args.seq (plain_reply r))) (sym c.in-Stored.is)) c.say.ensures

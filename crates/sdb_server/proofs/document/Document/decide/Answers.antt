@@ -1,4 +1,4 @@
-use Rattle.std.proofs.Common.{◌≡◌, option_map, ap, ◌∙◌, rules}
+use Rattle.std.proofs.Common.{◌≡◌, option_map, unwrap_or, ap, ◌∙◌, rules}
 use Rattle.sdb_value.specs.View.{view}
 use Rattle.sdb_oplog.specs.Decide.{decide}
 use Rattle.sdb_oplog.specs.Snap.{snap}
@@ -6,12 +6,12 @@ use Rattle.sdb_server.proofs.Growing.{lives_more, after_more, made_decided}
 use Rattle.sdb_server.proofs.document.Document.decide.Goals as goal
 
 pub push-requires-clause-lives : goal.push-requires-clause-lives
-push-requires-clause-lives c = lives_more c.self.inside.log c.args.submission c.in-Ok.content c.new.result c.in-Ok.ensures.ok c.len-v.ensures.lives (ap (λ e. e.content) c.new.ensures)
+push-requires-clause-lives c = lives_more c.self.inside.log c.args.submission (unwrap_or c.in-Ok.content c.args.submission.content) c.new.result c.in-Ok.ensures.ok c.len-v.ensures.lives (ap (λ e. e.content) c.new.ensures)
 
 pub invariant_of-self-in-Ok : goal.invariant_of-self-in-Ok
 invariant_of-self-in-Ok c =
     ap snap c.in_ok-push-in-Ok.ensures.ok
-    ∙ after_more c.self.inside.log c.new.result c.in-Ok.content (option_map view c.in-Ok.after) c.len-v.ensures.lives (ap (λ e. e.content) c.new.ensures) c.in-Ok.ensures.after
+    ∙ after_more c.self.inside.log c.new.result (unwrap_or c.in-Ok.content c.args.submission.content) (option_map view c.in-Ok.after) c.len-v.ensures.lives (ap (λ e. e.content) c.new.ensures) c.in-Ok.ensures.after
 
 pub returns-in-Ok-clause-made : goal.returns-in-Ok-clause-made
 returns-in-Ok-clause-made c =
