@@ -1,12 +1,12 @@
 -- What an act does at its place, and in the whole value.
-use Rattle.std.proofs.Common.{◌≡◌, ℕ, List, Option, Some, None, Ok, Err, Result, Bool, true, false, cond, refl, sym, ap, ◌∙◌, option_map}
+use Rattle.std.proofs.Common.{◌≡◌, ℕ, List, Option, Some, None, Ok, Err, Result, Bool, true, false, refl, sym, ap, ◌∙◌, option_map}
 use Rattle.std.specs.Prelude.{⊤, if◌then◌else◌}
 use Rattle.std.specs.Option.{option_and_then}
 use Rattle.sdb_value.specs.Value.{Value, Items, Members, PlainStep, null, truth, whole, text, list, object, at, with, as_text, as_list, as_object}
 use Rattle.sdb_value.specs.Change.{ChangedAt}
 use Rattle.sdb_value.specs.Edits.{Edits}
 use Rattle.sdb_value.proofs.Steps.{with_same, list_is, object_is}
-use Rattle.sdb_apply.specs.Does.{effect, on_text, on_list, on_object}
+use Rattle.sdb_apply.specs.Does.{on_text, on_list, on_object}
 use Rattle.sdb_apply.specs.Outcome.{Outcome}
 use Rattle.sdb_apply.specs.declared.applying.ApplyFault.{ApplyFault}
 use Rattle.sdb_apply.specs.declared.applying.ApplyFault.TheVariants.{NotApplied, Memory}

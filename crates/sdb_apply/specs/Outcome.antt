@@ -1,6 +1,6 @@
 -- How a change in place ends.
 use Rattle.std.specs.Prelude.{◌≡◌, Bool, true, false, Option, Some, None, Result, Ok, Err, ⊤}
-use Rattle.sdb_component.specs.Plain.{PlainAct, na, si, sd, li, ld, lr, oi, od, or}
+use Rattle.sdb_component.specs.Plain.{PlainAct, na, sd, ld, od}
 use Rattle.sdb_apply.specs.declared.applying.ApplyFault.{ApplyFault}
 use Rattle.sdb_apply.specs.declared.applying.ApplyFault.TheVariants.{NotApplied, Memory}
 

@@ -33,17 +33,23 @@ impl From<AllocError> for ApplyFault {
     }
 }
 
-/// The component of an operation that was refused, by its place in the list, and why.
+/// Which component of an operation was refused, and why. Those before it were applied, and those
+/// behind it were not tried.
 #[derive(Clone, Copy, Debug, Drop)]
 pub struct Refused {
-    /// How many components stand before it.
+    /// How many components stand before it: its place in the list, the first being 0.
     pub at: usize,
     /// Why it was refused.
     pub why: ApplyFault,
 }
 
-/// Applies the component in place, through a borrow of the one value that it changes. After a
-/// refusal the value is unchanged.
+/// Applies the component in place, through a borrow of the one value that it changes. Values that
+/// it removes aren't compared with those that stand there, but a deleted text is.
+///
+/// `NotApplied` where its path leads nowhere, another kind of value stands there, an index is out
+/// of range, an offset (of UTF-16 units) is inside a pair or past the end, another text stands
+/// where one is to be deleted, or a sum is outside -9007199254740991 to 9007199254740991. `Memory`
+/// only where something is put in. After a refusal the value is unchanged.
 pub fn apply_one(alloc: Global, value: &mut Json, component: &Component) -> Result<(), ApplyFault>
     ensures done { OnOk result (does component.now (view value.old) ≡ Some (view value.new)) }
     ensures refused { IsErrOf result NotApplied → does component.now (view value.old) ≡ None }
@@ -53,8 +59,8 @@ pub fn apply_one(alloc: Global, value: &mut Json, component: &Component) -> Resu
     act_at(alloc, value, component)
 }
 
-/// Applies the act at the path, as a component of both would be: for a value that lies deeper in a
-/// document than the path tells.
+/// Applies the act at the path, as a component of both would be, with the same refusals: for a value
+/// that lies deeper in a document than the path tells. After a refusal the value is unchanged.
 pub fn apply_at(alloc: Global, value: &mut Json, path: &[Step], act: &Act) -> Result<(), ApplyFault>
     ensures { Outcome (takes_memory (plain_act act.now)) result (does (record { path = plain_path path.now; act = plain_act act.now }) (view value.old)) (view value.old) (view value.new) }
 {
@@ -70,8 +76,9 @@ fn act_at(alloc: Global, value: &mut Json, component: &Component) -> Result<(), 
     apply_at(alloc, value, component.path(), component.act())
 }
 
-/// Applies the components one after the other, in place. After a refusal the value is what the
-/// components before the refused one made of it.
+/// Applies the components one after the other, in place, each to what the one before it made. Stops
+/// at the first that is refused, as [`apply_one`] says when: the value is then what the components
+/// before that one made of it.
 pub fn apply(alloc: Global, value: &mut Json, op: &Op) -> Result<(), Refused>
     ensures done { OnOk result (applies op.now (view value.old) ≡ Some (view value.new)) }
     ensures before { IfErr result (λ r. applies (take r.at op.now) (view value.old) ≡ Some (view value.new)) }

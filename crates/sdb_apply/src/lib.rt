@@ -5,3 +5,6 @@ mod acts;
 mod applying;
 
 pub use applying::{ApplyFault, Refused, apply, apply_at, apply_one};
+
+#[cfg(test)]
+mod tests;

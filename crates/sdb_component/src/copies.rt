@@ -12,7 +12,7 @@ use std::alloc::{AllocError, Global};
 pub fn copy_path(alloc: Global, path: &[Step]) -> Result<Vec<Step>, AllocError>
     ensures { IfOk result (λ p. plain_path p.items ≡ plain_path path.now) }
 {
-    let mut copies = Vec::new(alloc);
+    let mut copies = Vec::with_capacity(alloc, path.len())?;
     for step in path {
         copies.push(copy_step(step)?)?;
     }
@@ -67,7 +67,7 @@ impl Op {
     pub fn try_clone(&self, alloc: Global) -> Result<Op, AllocError>
         ensures { IfOk result (λ o. o ≡ self.now) }
     {
-        let mut copies = Vec::new(alloc);
+        let mut copies = Vec::with_capacity(alloc, self.components().len())?;
         for component in self.components() {
             copies.push(component.try_clone(alloc)?)?;
         }

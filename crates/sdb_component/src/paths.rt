@@ -34,7 +34,7 @@ fn steps_of(alloc: Global, items: &Vec<Value>) -> Result<Vec<Step>, OpFault>
     ensures ok { IfOk result (λ p. steps_of (items_view items.now.items) ≡ Some (plain_path p.items)) }
     ensures err { IfErr result (λ f. Unread (steps_of (items_view items.now.items)) f) }
 {
-    let mut steps = Vec::new(alloc);
+    let mut steps = Vec::with_capacity(alloc, items.len())?;
     for item in items {
         let step = step_of(item)?;
         push_step(&mut steps, step)?;

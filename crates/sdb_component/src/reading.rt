@@ -63,7 +63,7 @@ fn components_of(alloc: Global, items: &Vec<Value>) -> Result<Vec<Component>, Op
     ensures ok { IfOk result (λ cs. components_of (items_view items.now.items) ≡ Some cs.items) }
     ensures err { IfErr result (λ f. Unread (components_of (items_view items.now.items)) f) }
 {
-    let mut components = Vec::new(alloc);
+    let mut components = Vec::with_capacity(alloc, items.len())?;
     for item in items {
         let component = component_of(alloc, item)?;
         push_some(&mut components, component)?;

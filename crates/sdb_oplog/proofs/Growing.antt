@@ -1,13 +1,12 @@
 -- Logs that grow.
-use Rattle.std.proofs.Common.{◌≡◌, ℕ, zero, suc, ◌+◌, ◌<◌, ◌≤◌, List, [], ◌∷◌, ◌++◌, take, drop, length, get_or, Bool, true, false, cond, ◌&&◌, Option, Some, None, Result, Ok, Err, refl, sym, ap, ◌∙◌, subst, append_assoc, arith, nat_eq, nat_lt}
-use Rattle.std.proofs.lemmas.Bool.Decides.{nat_tests}
+use Rattle.std.proofs.Common.{◌≡◌, ℕ, zero, suc, ◌+◌, ◌<◌, List, [], ◌∷◌, ◌++◌, take, length, get_or, Bool, true, false, cond, ◌&&◌, Option, Some, None, Result, Err, refl, sym, ap, ◌∙◌, append_assoc, arith}
 use Rattle.std.proofs.lemmas.List.{take_more}
-use Rattle.std.specs.Option.{option_and_then, option_map, is_some, is_none, unwrap_or, option_map_or}
+use Rattle.std.specs.Option.{option_and_then, option_map, is_some, is_none}
 use Rattle.std.specs.Result.{result_ok}
 use Rattle.sdb_value.specs.Value.{Value}
 use Rattle.sdb_oplog.specs.declared.codes.Code.{Code}
 use Rattle.sdb_oplog.specs.declared.codes.Code.TheVariants.{E1, E2, E3, E4, E5, E6, E7, E8, E9, E10, E11}
-use Rattle.sdb_oplog.specs.Plain.{PlainEntry, PlainContent, PlainSubmission}
+use Rattle.sdb_oplog.specs.Plain.{PlainEntry}
 use Rattle.sdb_oplog.specs.Refused.{RefusedBy}
 use Rattle.sdb_oplog.specs.Snap.{becomes, snap_from, snap, stored_at, is_from, are_first}
 

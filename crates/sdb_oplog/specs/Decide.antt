@@ -1,5 +1,5 @@
 -- What one submission does to a log: `Decide`. The first case that holds decides.
-use Rattle.std.specs.Prelude.{◌≡◌, ℕ, List, [], ◌∷◌, ◌++◌, length, drop, if◌then◌else◌, nat_eq, nat_lt, Option, Result, Ok, Err, unwrap_or}
+use Rattle.std.specs.Prelude.{◌≡◌, ℕ, List, [], ◌∷◌, ◌++◌, length, drop, if◌then◌else◌, nat_eq, nat_lt, Result, Ok, Err, unwrap_or}
 use Rattle.std.specs.Option.{option_map_or}
 use Rattle.sdb_oplog.specs.Plain.{PlainContent, PlainSubmission, PlainEntry}
 use Rattle.sdb_oplog.specs.Refused.{result_then}

@@ -6,3 +6,4 @@ pub mod Plain
 pub mod Refused
 pub mod Snap
 pub mod View
+pub mod Worked

@@ -1,5 +1,5 @@
 -- What is answered to the lines of one session: `Dialogue`.
-use Rattle.std.specs.Prelude.{ℕ, List, [], ◌∷◌, ◌++◌, length, drop, map, if◌then◌else◌, nat_lt, Bool, true, false, Option, Some, None, Result, Ok, Err, unwrap_or, codes}
+use Rattle.std.specs.Prelude.{ℕ, List, [], ◌∷◌, ◌++◌, length, drop, map, if◌then◌else◌, nat_lt, Bool, Option, Some, None, Result, Ok, Err, unwrap_or, codes}
 use Rattle.std.specs.Result.{is_ok}
 use Rattle.sdb_oplog.specs.declared.codes.Code.{Code}
 use Rattle.sdb_oplog.specs.declared.codes.Code.TheVariants.{E1, E4}
@@ -7,7 +7,7 @@ use Rattle.sdb_oplog.specs.Plain.{PlainContent, PlainSubmission, PlainEntry}
 use Rattle.sdb_oplog.specs.Keys.{PlainKey, Logs, with_log}
 use Rattle.sdb_oplog.specs.Snap.{document}
 use Rattle.sdb_oplog.specs.Decide.{decide, PlainReply, stored, repeated, refused, Decided}
-use Rattle.sdb_wire.specs.Wire.{PlainEcho, PlainRequest, fetch, submit, PlainHeard, hear, nothing_said}
+use Rattle.sdb_wire.specs.Wire.{PlainEcho, PlainRequest, fetch, submit, hear, nothing_said}
 use Rattle.sdb_wire.specs.Answers.{PlainAnswer, init, fetched, listed, op_message, acknowledged, failed, answer_text}
 
 -- the answers to one line, in order, and the logs after it

@@ -1,3 +1,4 @@
+pub mod Cuts
 pub mod Depths
 pub mod Pieces
 pub mod Read

@@ -1,8 +1,8 @@
 -- The pieces of a list of a `Json`, beside those of the value that it stands for.
-use Rattle.std.proofs.Common.{◌≡◌, ℕ, zero, suc, ◌+◌, ◌<◌, ◌≤◌, List, [], ◌∷◌, ◌++◌, length, take, drop, Option, Some, None, Bool, true, false, ltb, leb, refl, sym, ap, ◌∙◌, arith, set}
+use Rattle.std.proofs.Common.{◌≡◌, ℕ, zero, suc, ◌<◌, ◌≤◌, List, [], ◌∷◌, ◌++◌, length, take, drop, Some, None, true, false, ltb, leb, refl, sym, ap, ◌∙◌, arith, set}
 use Rattle.std.specs.List.{insert, remove}
 use Rattle.std.proofs.lemmas.Bool.Decides.{nat_tests}
-use Rattle.sdb_value.specs.Value.{Value, Items, no_items, item, size, join, take_items, drop_items, insert_item, remove_item, replace_item}
+use Rattle.sdb_value.specs.Value.{item, size, join, take_items, drop_items, insert_item, remove_item, replace_item}
 use Rattle.sdb_value.specs.View.{view, items_view}
 use Rattle.sdb_value.specs.declared.value.Json.{Json}
 

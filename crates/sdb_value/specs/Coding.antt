@@ -1,8 +1,8 @@
 -- Codes of values and paths, by which a proof tells them apart. A type with an `impl Model` over them names one.
-use Rattle.std.specs.Prelude.{◌≡◌, ℕ, zero, suc, ℤ, List, [], ◌∷◌, Option, ◌⊎◌, refl}
-use Rattle.std.specs.Coded.{Coded, code_by, coded×, coded⊎, coded_ℕ, coded_ℤ, coded_bool, coded_list, coded_option}
+use Rattle.std.specs.Prelude.{◌≡◌, ℕ, zero, suc, ℤ, List, [], ◌∷◌, ◌⊎◌, refl}
+use Rattle.std.specs.Coded.{Coded, code_by, coded⊎, coded_ℕ, coded_list}
 use Rattle.std.proofs.Common.{inl, inr, sym, ap, ◌∙◌, Bool, true, false, pos, negsuc}
-use base.Stored.{Gv, gnil, gnum, gcons, coded_unit}
+use base.Stored.{Gv, gnil, gnum, gcons}
 use Rattle.sdb_value.specs.Value.{Value, null, truth, whole, text, list, object, Items, no_items, item, Members, no_members, member, PlainStep, key, index}
 
 abbrev bit_of : Bool → Gv

@@ -6,3 +6,4 @@ pub mod Rows
 pub mod Text
 pub mod Value
 pub mod View
+pub mod Worked

@@ -1,6 +1,6 @@
 -- Texts, as bytes of UTF-8 (RFC 3629), measured in the units of UTF-16 that json0's offsets count:
 -- a character is 1 wide, or 2 past U+FFFF. Its first byte tells, and the bytes after that add nothing.
-use Rattle.std.specs.Prelude.{◌≡◌, ℕ, suc, ◌+◌, ◌-◌, List, [], ◌∷◌, ◌++◌, length, take, drop, nat_lt, nat_le, nat_eq, bytes_eq, if◌then◌else◌, Option, Some, None, option_map, option_and_then}
+use Rattle.std.specs.Prelude.{ℕ, suc, ◌+◌, ◌-◌, List, [], ◌∷◌, length, drop, nat_lt, nat_le, nat_eq, if◌then◌else◌, Option, Some, None, option_map, option_and_then}
 use Rattle.std.specs.List.{insert_slice, remove_range, starts_with}
 
 -- of a byte: below 128 a character of one byte, below 192 no first byte, from 240 on the first of four

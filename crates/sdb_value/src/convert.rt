@@ -36,8 +36,9 @@ impl From<AllocError> for ValueFault {
     }
 }
 
-/// The value of the profile that a JSON value is, at most 50 deep. A number or a depth outside the
-/// profile is named as it is met first.
+/// The value of the profile that a JSON value is: each number whole, from -9007199254740991 to
+/// 9007199254740991, and lists and objects at most 50 deep. Where more than one thing is outside the
+/// profile, the error names the one that is met first.
 pub fn from_value(alloc: Global, value: &Value) -> Result<Json, ValueFault>
     ensures ok { IfOk result (λ j. in_profile (data_view value.now) ≡ Some (view j)) }
     ensures err { IfErr result (λ f. Unread (in_profile (data_view value.now)) f) }

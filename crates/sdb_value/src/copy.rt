@@ -8,13 +8,15 @@ use std::alloc::{AllocError, Global};
 use std::collections::BTreeMap;
 
 impl Json {
+    /// The same value again, in memory of its own. Fails only where memory is wanting.
     pub fn try_clone(&self, alloc: Global) -> Result<Json, AllocError>
         ensures { IfOk result (λ v. view v ≡ view self.now) }
     {
         copy(alloc, self)
     }
 
-    // How deep lists and objects nest, or the greatest u64 where that is more.
+    /// How deep lists and objects nest: 0 for a value that is neither, and for a list or an object
+    /// one more than the deepest value in it. `u64::MAX` where that is more.
     pub fn depth(&self) -> u64
         ensures { result ≡ min (depth (view self.now)) 18446744073709551615 }
     {

@@ -9,7 +9,8 @@ ghost use Rattle.sdb_value.specs.View.{view, items_view, members_view};
 use crate::value::Json;
 use std::collections::BTreeMap;
 
-/// The text's own buffer. What is left in it is the text afterwards.
+/// The text's own buffer, or `None` where the value is no text. What is left in it is the text
+/// afterwards.
 pub fn text_mut(value: &mut Json) -> Option<&mut String>
     ensures* writes_back { sem 𝓛 (LendsSo json_row text_row value.entry result
         (λ n w. OnSome result (view n ≡ text (string_bytes w))) (λ n. view n ≡ view value.old)) }
@@ -22,7 +23,8 @@ pub fn text_mut(value: &mut Json) -> Option<&mut String>
     }
 }
 
-/// The list's own items. What is left in them is the list afterwards.
+/// The list's own items, or `None` where the value is no list. What is left in them is the list
+/// afterwards.
 pub fn list_mut(value: &mut Json) -> Option<&mut Vec<Json>>
     ensures* writes_back { sem 𝓛 (LendsSo json_row list_row value.entry result
         (λ n w. OnSome result (view n ≡ list (items_view w.items))) (λ n. view n ≡ view value.old)) }
@@ -35,7 +37,8 @@ pub fn list_mut(value: &mut Json) -> Option<&mut Vec<Json>>
     }
 }
 
-/// The object's own members. What is left in them is the object afterwards.
+/// The object's own members, or `None` where the value is no object. What is left in them is the
+/// object afterwards.
 pub fn object_mut(value: &mut Json) -> Option<&mut BTreeMap<String, Json>>
     ensures* writes_back { sem 𝓛 (LendsSo json_row map_row value.entry result
         (λ n w. OnSome result (view n ≡ object (members_view w.entries))) (λ n. view n ≡ view value.old)) }

@@ -19,3 +19,6 @@ pub use places::{Change, Path, Step, change_at, find, find_mut};
 pub use print::to_value;
 pub use text::{cut_at, units};
 pub use value::{Json, Whole};
+
+#[cfg(test)]
+mod tests;

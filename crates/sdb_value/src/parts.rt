@@ -18,8 +18,9 @@ pub(crate) fn push_item(items: &mut Vec<Json>, new: Json) -> Result<(), AllocErr
     Ok(())
 }
 
-/// Puts an item at the index, up to the length, before those from there on. `false`, with the list
-/// unchanged, where the index is past the length.
+/// Puts an item at the index, from 0 to the length, before those from there on. `false`, with the
+/// list unchanged, where the index is past the length, and `Err`, with the list unchanged, where
+/// memory is wanting.
 pub fn insert_item(items: &mut Vec<Json>, index: u64, new: Json) -> Result<bool, AllocError>
     ensures ok { IfOk result (λ done. Edits done (insert_item index (view new) (items_view items.old.items)) (items_view items.old.items) (items_view items.new.items)) }
     ensures err { OnErr result (items_view items.new.items ≡ items_view items.old.items) }
@@ -31,7 +32,8 @@ pub fn insert_item(items: &mut Vec<Json>, index: u64, new: Json) -> Result<bool,
     Ok(true)
 }
 
-/// Takes the item at the index out. `false`, with the list unchanged, where there is none.
+/// Takes the item at the index, below the length, out, and moves those behind it up. `false`, with
+/// the list unchanged, where there is none.
 pub fn remove_item(items: &mut Vec<Json>, index: u64) -> bool
     ensures { Edits result (remove_item index (items_view items.old.items)) (items_view items.old.items) (items_view items.new.items) }
 {
@@ -42,8 +44,8 @@ pub fn remove_item(items: &mut Vec<Json>, index: u64) -> bool
     true
 }
 
-/// Puts another value in the place of the item at the index. `false`, with the list unchanged,
-/// where there is none.
+/// Puts another value in the place of the item at the index, below the length. `false`, with the
+/// list unchanged, where there is none.
 pub fn replace_item(items: &mut Vec<Json>, index: u64, new: Json) -> bool
     ensures { Edits result (replace_item index (view new) (items_view items.old.items)) (items_view items.old.items) (items_view items.new.items) }
 {
@@ -54,7 +56,8 @@ pub fn replace_item(items: &mut Vec<Json>, index: u64, new: Json) -> bool
     true
 }
 
-/// Gives the key this value, whether it was there before or not.
+/// Gives the key this value, whether it was there before or not. `Err`, with the object unchanged,
+/// where memory is wanting.
 pub fn put_member(
     members: &mut BTreeMap<String, Json>,
     key: String,
@@ -67,7 +70,7 @@ pub fn put_member(
     Ok(())
 }
 
-/// Takes the key out, if it is there.
+/// Takes the key and its value out, if it is there. Else the object is unchanged.
 pub fn remove_member(members: &mut BTreeMap<String, Json>, key: &String)
     ensures { members_view members.new.entries ≡ without (string_bytes key.now) (members_view members.old.entries) }
 {
@@ -75,7 +78,8 @@ pub fn remove_member(members: &mut BTreeMap<String, Json>, key: &String)
 }
 
 /// Puts a text at an offset of UTF-16 units, inside the text's own buffer where it fits. `false`,
-/// with the text unchanged, where the offset is inside a pair or past the end.
+/// with the text unchanged, where the offset is inside a pair or past the end, and `Err`, with the
+/// text unchanged, where memory is wanting.
 pub fn insert_text(text: &mut String, offset: u64, new: &str) -> Result<bool, AllocError>
     ensures ok { IfOk result (λ done. Edits done (texts.insert_text offset new.now (string_bytes text.old)) (string_bytes text.old) (string_bytes text.new)) }
     ensures err { OnErr result (string_bytes text.new ≡ string_bytes text.old) }

@@ -9,6 +9,8 @@ use serde_json::{Map, Number, Value};
 use std::alloc::{AllocError, Global};
 use std::collections::BTreeMap;
 
+/// The JSON value that a value is, its members in the order of their keys' bytes. Fails only where
+/// memory is wanting.
 pub fn to_value(alloc: Global, json: &Json) -> Result<Value, AllocError>
     ensures { IfOk result (λ v. data_view v ≡ to_data (view json.now)) }
 {

@@ -25,10 +25,11 @@ impl Model for Whole {
 }
 
 impl Whole {
-    /// The greatest, 9007199254740991.
+    /// The greatest, 9007199254740991. The least is `-Whole::MAX`.
     pub const MAX: i64 = 9007199254740991;
 
-    /// The number, or `None` where it is outside the range.
+    /// The whole number of this value, or `None` where it is below -9007199254740991 or above
+    /// 9007199254740991.
     pub fn new(value: i64) -> Option<Whole>
         ensures { result ≡ in_range value }
     {
@@ -38,28 +39,34 @@ impl Whole {
         Some(Whole { value })
     }
 
-    /// The number.
+    /// The number, from -9007199254740991 to 9007199254740991.
     pub fn get(self) -> i64
         ensures { result ≡ self }
     {
         self.value
     }
 
-    /// The sum, or `None` where it is outside the range.
+    /// The sum, or `None` where it is below -9007199254740991 or above 9007199254740991.
     pub fn plus(self, other: Whole) -> Option<Whole>
         ensures { result ≡ in_range (self +ℤ other) }
     {
-        Whole::new(self.value + other.value)
+        Whole::new(self.get() + other.get())
     }
 }
 
 /// A value of a document (RFC 8259, section 3), its numbers whole.
 #[derive(PartialEq, Drop)]
 pub enum Json {
+    /// `null`.
     Null,
+    /// `true` or `false`.
     Bool(bool),
+    /// A number, whole and within ±9007199254740991.
     Int(Whole),
+    /// A text. Its offsets count UTF-16 units ([`crate::units`]).
     Text(String),
+    /// A list, its items counted from 0.
     List(Vec<Json>),
+    /// An object, its members in the order of their keys' bytes.
     Object(BTreeMap<String, Json>),
 }

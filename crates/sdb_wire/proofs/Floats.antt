@@ -1,5 +1,5 @@
 -- No answer has a float.
-use Rattle.std.proofs.Common.{◌≡◌, List, [], ◌∷◌, ℕ, Option, Some, None, Bool, true, false, ◌||◌, Ordering, Less, Equal, Greater, nat_cmp, codes, refl, ap, ◌∙◌}
+use Rattle.std.proofs.Common.{◌≡◌, List, [], ◌∷◌, ℕ, Option, Some, None, Bool, true, false, ◌||◌, Ordering, Less, Equal, Greater, nat_cmp, codes, refl}
 use Rattle.std.specs.Cmp.Lexicographic.{slice_cmp}
 use Rattle.std.specs.Ordering.{match_ordering}
 use Rattle.std.proofs.Common.{pos, negsuc}

@@ -1,5 +1,5 @@
 -- What the code's types stand for.
-use Rattle.std.specs.Prelude.{◌≡◌, Option, Result, Ok, Err, option_map, string_bytes, ⊤}
+use Rattle.std.specs.Prelude.{◌≡◌, Option, Result, Ok, Err, option_map, string_bytes}
 use Rattle.std.specs.Option.{option_map_or}
 use Rattle.serde_json.specs.Data.{Data}
 use Rattle.serde_json.specs.View.{view as data_view}

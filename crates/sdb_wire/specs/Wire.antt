@@ -1,9 +1,9 @@
 -- Which request a text is, by the members of the JSON value that it denotes: `Wire`. The messages are this project's
 -- profile of those of ShareDB's protocol 1.
-use Rattle.std.specs.Prelude.{◌≡◌, ℕ, List, length, Bool, true, false, ◌&&◌, ◌||◌, if◌then◌else◌, nat_lt, bytes_eq, Option, Some, None, Result, Ok, Err, option_map, option_and_then, unwrap_or, codes}
+use Rattle.std.specs.Prelude.{ℕ, List, length, Bool, true, false, ◌&&◌, ◌||◌, if◌then◌else◌, nat_lt, bytes_eq, Option, Some, None, Result, Ok, Err, option_map, option_and_then, unwrap_or, codes}
 use Rattle.std.specs.Option.{option_map_or, ok_or}
 use Rattle.serde_json.specs.Data.{Data, null}
-use Rattle.serde_json.specs.Find.{get, as_str, as_number, as_u64, as_bool}
+use Rattle.serde_json.specs.Find.{get, as_str, as_bool}
 use Rattle.serde_json.specs.Read.{read}
 use Rattle.sdb_value.specs.Profile.{in_profile}
 use Rattle.sdb_component.specs.Reads.{count_of, op_of}

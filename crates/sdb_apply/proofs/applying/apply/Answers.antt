@@ -6,7 +6,6 @@ use Rattle.sdb_component.specs.Plain.{PlainComponent}
 use Rattle.sdb_apply.specs.Does.{does, applies}
 use Rattle.sdb_apply.specs.Outcome.{Outcome, takes_memory}
 use Rattle.sdb_apply.specs.declared.applying.ApplyFault.{ApplyFault}
-use Rattle.sdb_apply.specs.declared.applying.ApplyFault.TheVariants.{NotApplied}
 use Rattle.sdb_apply.proofs.Lists.{more_taken, none_more}
 use Rattle.sdb_apply.proofs.applying.apply.Goals as goal
 

@@ -1,6 +1,3 @@
-use Rattle.std.proofs.Common.{ap, ◌∙◌}
-use Rattle.sdb_oplog.specs.Decide.{decide}
-use Rattle.sdb_oplog.specs.Keys.{with_log}
 use Rattle.sdb_server.specs.Keyed.{logs_of}
 use Rattle.sdb_server.proofs.Shown.{on_any}
 use Rattle.sdb_server.proofs.answering.submit.Goals as goal

@@ -1,8 +1,7 @@
 use Rattle.std.proofs.Common.{Result, Ok, Err, IfErr}
 use Rattle.serde_json.specs.View.{view as data_view}
-use Rattle.sdb_value.specs.Profile.{in_profile, Refuses, Unread}
+use Rattle.sdb_value.specs.Profile.{Refuses}
 use Rattle.sdb_value.specs.declared.convert.ValueFault.{ValueFault}
-use Rattle.sdb_value.specs.declared.value.Json.{Json}
 use Rattle.sdb_value.proofs.Depths.{unread}
 use Rattle.sdb_value.proofs.convert.from_value.Goals as goal
 

@@ -1,5 +1,4 @@
-use Rattle.std.proofs.Common.{Some, refl, sym, ap, ◌∙◌, arith}
-use Rattle.sdb_value.specs.View.{items_view}
+use Rattle.std.proofs.Common.{refl, arith}
 use Rattle.sdb_value.proofs.Pieces.{replaced, not_replaced}
 use Rattle.sdb_value.proofs.parts.replace_item.Goals as goal
 

@@ -1,9 +1,13 @@
-use Rattle.std.proofs.Common.{◌≡◌, ◌+◌, ◌*◌, ◌≤◌, length, drop}
+use Rattle.std.proofs.Common.{◌≡◌, ◌-◌, ◌*◌, ◌≤◌, length, take}
 use Rattle.sdb_value.specs.Text.{units}
 use Rattle.sdb_value.proofs.text.units.Given as goal
 
-abbrev pub invariant-loop-byte : goal.invariant-loop-byte
-invariant-loop-byte l = record {
-  counted : l.count + units (drop l.byte-index l.byte-items) ≡ units l.byte-items;
-  few : l.count ≤ 2 * l.byte-index;
+abbrev pub invariant-loop-start : goal.invariant-loop-start
+invariant-loop-start l = record {
+  within : l.start ≤ length l.bytes;
+  counted : l.count ≡ units (take l.start l.bytes);
+  few : l.count ≤ 2 * l.start;
 }
+
+abbrev pub decreases-loop-start : goal.decreases-loop-start
+decreases-loop-start l = length l.bytes - l.start

@@ -1,4 +1,4 @@
-use Rattle.std.proofs.Common.{◌≡◌, true, false, sym, ap, ◌∙◌, arith}
+use Rattle.std.proofs.Common.{sym, ap, ◌∙◌}
 use Rattle.sdb_oplog.specs.Snap.{stored_at}
 use Rattle.sdb_oplog.proofs.Growing.{found_at, none_taken}
 use Rattle.sdb_oplog.proofs.logs.Log.stored_at.Goals as goal

@@ -1,4 +1,4 @@
-use Rattle.std.proofs.Common.{sym, ap, ◌∙◌}
+use Rattle.std.proofs.Common.{ap, ◌∙◌}
 use Rattle.sdb_oplog.specs.Decide.{decide}
 use Rattle.std.specs.BTreeMap.{insert_entry}
 use Rattle.sdb_oplog.specs.Keys.{key_cmp, with_log, plain_key}
