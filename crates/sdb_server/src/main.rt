@@ -2,6 +2,8 @@
 #![tactic(auto)]
 
 mod answering;
+#[cfg(test)]
+mod calls;
 mod document;
 mod documents;
 mod running;
