@@ -10,7 +10,7 @@ use std::time::Instant;
 
 const INSERTS: u64 = 100_000;
 
-pub fn measure(rt: &HostRuntime) -> anyhow::Result<()> {
+pub(crate) fn measure(rt: &HostRuntime) -> anyhow::Result<()> {
     for length in [250_000, 500_000, 1_000_000] {
         text_inserts(rt, length)?;
     }

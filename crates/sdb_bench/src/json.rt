@@ -3,7 +3,7 @@ use serde_json::Value;
 use std::io;
 use std::io::{BufRead, BufReader, BufWriter, Write};
 
-pub fn pass(rt: &HostRuntime) -> anyhow::Result<()> {
+pub(crate) fn pass(rt: &HostRuntime) -> anyhow::Result<()> {
     let alloc = rt.alloc();
     let mut writer = BufWriter::new(alloc, io::writer(rt))?;
     for line in BufReader::new(alloc, rt.reader())?.lines(alloc) {

@@ -3,7 +3,7 @@ use std::io;
 use std::time::Instant;
 
 /// Prints what one of so many calls took since the start.
-pub fn report(rt: &HostRuntime, name: &str, start: Instant, calls: u64) -> io::Result<()> {
+pub(crate) fn report(rt: &HostRuntime, name: &str, start: Instant, calls: u64) -> io::Result<()> {
     let nanos = start.elapsed(rt)?.as_nanos();
     let each = if calls == 0 { 0 } else { nanos / calls as u128 };
     println!(rt; "{name}: {each} ns for each of {calls}")

@@ -13,7 +13,7 @@ const COMPONENTS: u64 = 256;
 
 const MEMBERS: u64 = 1_000;
 
-pub fn measure(rt: &HostRuntime) -> anyhow::Result<()> {
+pub(crate) fn measure(rt: &HostRuntime) -> anyhow::Result<()> {
     let alloc = rt.alloc();
     let (left, right) = (text_insert(alloc, 9)?, text_insert(alloc, 5)?);
     carry(rt, "a text insert past another", left, &right, CALLS)?;

@@ -1,7 +1,9 @@
 //! Whole runs, and streams that fail.
+use crate::asks_lines;
 use crate::running::run_lines;
 use sdb_lines::{RunFault, Watched};
 use std::alloc::Global;
+use std::io;
 use std::test::Fail;
 
 // What is written for the input.
@@ -280,4 +282,54 @@ fn a_removed_value_brought_up_to_date(rt: HostRuntime) -> Result<(), Fail> {
         {\"a\":\"f\",\"c\":\"b\",\"d\":\"10\",\"data\":{\"data\":[],\"v\":3}}\n";
     assert_eq!(rt; answers(rt.alloc(), input)?.as_slice(), output.as_slice());
     Ok(())
+}
+
+fn words(alloc: Global, line: &str) -> Result<Vec<String>, Fail> {
+    let mut words = Vec::new(alloc);
+    for word in line.split_whitespace() {
+        words.push(String::from_str(alloc, word)?)?;
+    }
+    Ok(words)
+}
+
+#[test]
+fn command_lines(rt: HostRuntime) -> Result<(), Fail> {
+    let alloc = rt.alloc();
+    let given = words(alloc, "sdb_server --lines")?;
+    assert!(rt; matches!(asks_lines(alloc, given.as_slice()), Ok(true)));
+    let bare = words(alloc, "sdb_server")?;
+    assert!(rt; matches!(asks_lines(alloc, bare.as_slice()), Ok(false)));
+    let other = words(alloc, "sdb_server --lines --port")?;
+    assert!(rt; asks_lines(alloc, other.as_slice()).is_err());
+    Ok(())
+}
+
+// A writer that fails after so many calls, as a full disk does.
+#[derive(Drop)]
+struct Failing {
+    calls: u64,
+}
+
+impl io::Write for Failing {
+    fn write(&mut self, buf: &[u8]) -> io::Result<usize> {
+        if self.calls == 0 {
+            return Ok(0);
+        }
+        self.calls -= 1;
+        Ok(buf.len().min(7))
+    }
+
+    fn flush(&mut self) -> io::Result<()> {
+        Ok(())
+    }
+}
+
+#[test]
+fn a_writer_that_fails(rt: HostRuntime) {
+    for calls in 0..20 {
+        let mut reader = Watched::new(b"{\"a\":\"f\",\"c\":\"b\",\"d\":\"1\"}\n".as_slice());
+        let mut writer = Watched::new(Failing { calls });
+        let ended = run_lines(rt.alloc(), &mut reader, &mut writer);
+        assert!(rt; matches!(ended, Err(RunFault::Write)), "after {calls}");
+    }
 }

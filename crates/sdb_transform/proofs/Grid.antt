@@ -170,55 +170,55 @@ module _ {C : Type 0} {tl tr : Table C} {weigh : C → ℕ} (ok : Weighs tl tr w
 
   -- the right side in two parts, and the left side in two parts, up to a weight
   record Laws (n : ℕ) : Type 0 where
-    column : (L R1 R2 : List C) → total weigh L + total weigh R1 + total weigh R2 < n → X L (R1 ++ R2) ≡ and_then (X L R1) (λ x. and_then (X x.left R2) (λ y. Some (beside x y)))
+    column : (L Ra Rb : List C) → total weigh L + total weigh Ra + total weigh Rb < n → X L (Ra ++ Rb) ≡ and_then (X L Ra) (λ x. and_then (X x.left Rb) (λ y. Some (beside x y)))
     row : (L1 L2 R : List C) → total weigh L1 + total weigh L2 + total weigh R < n → X (L1 ++ L2) R ≡ and_then (X L1 R) (λ x. and_then (X L2 x.right) (λ y. Some (below x y)))
 
-  column_empty_left : (R1 R2 : List C) → X [] (R1 ++ R2) ≡ and_then (X [] R1) (λ x. and_then (X x.left R2) (λ y. Some (beside x y)))
+  column_empty_left : (Ra Rb : List C) → X [] (Ra ++ Rb) ≡ and_then (X [] Ra) (λ x. and_then (X x.left Rb) (λ y. Some (beside x y)))
   unfolding cross cross_in
-  column_empty_left R1 R2 = refl
+  column_empty_left Ra Rb = refl
 
-  column_empty_right : (L R2 : List C) → X L R2 ≡ and_then (X L []) (λ x. and_then (X x.left R2) (λ y. Some (beside x y)))
-  column_empty_right L R2 =
-      sym (ap (λ o. and_then o (λ x. and_then (X x.left R2) (λ y. Some (beside x y)))) (cross_right_empty L)
-      ∙ and_then_id (X L R2) _ (λ y. same_crossing _ _ _ _ _ _ refl refl (omega arith)))
+  column_empty_right : (L Rb : List C) → X L Rb ≡ and_then (X L []) (λ x. and_then (X x.left Rb) (λ y. Some (beside x y)))
+  column_empty_right L Rb =
+      sym (ap (λ o. and_then o (λ x. and_then (X x.left Rb) (λ y. Some (beside x y)))) (cross_right_empty L)
+      ∙ and_then_id (X L Rb) _ (λ y. same_crossing _ _ _ _ _ _ refl refl (omega arith)))
 
-  column_step : (n : ℕ) → Laws n → (l r : C) (L R1 R2 : List C) → total weigh (l ∷ L) + total weigh (r ∷ R1) + total weigh R2 < suc n → X (l ∷ L) ((r ∷ R1) ++ R2) ≡ and_then (X (l ∷ L) (r ∷ R1)) (λ x. and_then (X x.left R2) (λ y. Some (beside x y)))
-  column_step n ih l r L R1 R2 h =
-      let K = λ (x : Crossing C). and_then (X x.left R2) (λ y. Some (beside x y)) in
+  column_step : (n : ℕ) → Laws n → (l r : C) (L Ra Rb : List C) → total weigh (l ∷ L) + total weigh (r ∷ Ra) + total weigh Rb < suc n → X (l ∷ L) ((r ∷ Ra) ++ Rb) ≡ and_then (X (l ∷ L) (r ∷ Ra)) (λ x. and_then (X x.left Rb) (λ y. Some (beside x y)))
+  column_step n ih l r L Ra Rb h =
+      let K = λ (x : Crossing C). and_then (X x.left Rb) (λ y. Some (beside x y)) in
       let p1 = ok.heavy l in
       let p2 = ok.heavy r in
-      cross_pair l r L (R1 ++ R2)
+      cross_pair l r L (Ra ++ Rb)
       ∙ and_then_cong (tl l r) (tl l r) _ _ refl (λ l1 e1.
       and_then_cong (tr r l) (tr r l) _ _ refl (λ r1 e2.
       let h1 = ok.on_left l r l1 e1 in
       let h2 = ok.on_right r l r1 e2 in
-      ap (λ o. and_then o (λ u. and_then (X L r1) (λ v. and_then (X v.left u.right) (λ w. Some (joined u v w))))) (ih.column l1 R1 R2 (omega arith))
-      ∙ and_then_assoc (X l1 R1) _ _
-      ∙ and_then_cong (X l1 R1) (X l1 R1) _ _ refl (λ a ea.
-      let ia = cross_light l1 R1 a ea in
-      and_then_assoc (X a.left R2) _ _
-      ∙ and_then_swap (X a.left R2) (X L r1) (λ b v. and_then (X v.left (a.right ++ b.right)) (λ w. Some (joined (beside a b) v w)))
+      ap (λ o. and_then o (λ u. and_then (X L r1) (λ v. and_then (X v.left u.right) (λ w. Some (joined u v w))))) (ih.column l1 Ra Rb (omega arith))
+      ∙ and_then_assoc (X l1 Ra) _ _
+      ∙ and_then_cong (X l1 Ra) (X l1 Ra) _ _ refl (λ a ea.
+      let ia = cross_light l1 Ra a ea in
+      and_then_assoc (X a.left Rb) _ _
+      ∙ and_then_swap (X a.left Rb) (X L r1) (λ b v. and_then (X v.left (a.right ++ b.right)) (λ w. Some (joined (beside a b) v w)))
       ∙ and_then_cong (X L r1) (X L r1) _ _ refl (λ v ev.
       let iv = cross_light L r1 v ev in
-      and_then_cong (X a.left R2) (X a.left R2) _ (λ b. and_then (X v.left a.right) (λ c. and_then (X c.left b.right) (λ d. Some (joined (beside a b) v (beside c d))))) refl (λ b eb.
-      let ib = cross_light a.left R2 b eb in
+      and_then_cong (X a.left Rb) (X a.left Rb) _ (λ b. and_then (X v.left a.right) (λ c. and_then (X c.left b.right) (λ d. Some (joined (beside a b) v (beside c d))))) refl (λ b eb.
+      let ib = cross_light a.left Rb b eb in
       ap (λ o. and_then o (λ w. Some (joined (beside a b) v w))) (ih.column v.left a.right b.right (omega arith))
       ∙ and_then_assoc (X v.left a.right) _ _
       ∙ and_then_cong (X v.left a.right) (X v.left a.right) _ _ refl (λ c ec. and_then_assoc (X c.left b.right) _ _))
-      ∙ and_then_swap (X a.left R2) (X v.left a.right) (λ b c. and_then (X c.left b.right) (λ d. Some (joined (beside a b) v (beside c d))))
+      ∙ and_then_swap (X a.left Rb) (X v.left a.right) (λ b c. and_then (X c.left b.right) (λ d. Some (joined (beside a b) v (beside c d))))
       ∙ and_then_cong (X v.left a.right) (X v.left a.right) _ (λ c. K (joined a v c)) refl (λ c ec.
       let ic = cross_light v.left a.right c ec in
-      sym (ap (λ o. and_then o (λ y. Some (beside (joined a v c) y))) (ih.row a.left c.left R2 (omega arith))
-      ∙ and_then_assoc (X a.left R2) _ _
-      ∙ and_then_cong (X a.left R2) (X a.left R2) _ _ refl (λ b eb.
+      sym (ap (λ o. and_then o (λ y. Some (beside (joined a v c) y))) (ih.row a.left c.left Rb (omega arith))
+      ∙ and_then_assoc (X a.left Rb) _ _
+      ∙ and_then_cong (X a.left Rb) (X a.left Rb) _ _ refl (λ b eb.
       and_then_assoc (X c.left b.right) _ _
       ∙ and_then_cong (X c.left b.right) (X c.left b.right) _ _ refl (λ d ed. ap Some (sym (same_column a b v c d))))))
       ∙ sym (and_then_assoc (X v.left a.right) _ K))
       ∙ sym (and_then_assoc (X L r1) _ K))
-      ∙ sym (and_then_assoc (X l1 R1) _ K))
+      ∙ sym (and_then_assoc (X l1 Ra) _ K))
       ∙ sym (and_then_assoc (tr r l) _ K))
       ∙ sym (and_then_assoc (tl l r) _ K)
-      ∙ sym (ap (λ o. and_then o K) (cross_pair l r L R1))
+      ∙ sym (ap (λ o. and_then o K) (cross_pair l r L Ra))
 
   row_empty_left : (L2 R : List C) → X L2 R ≡ and_then (X [] R) (λ x. and_then (X L2 x.right) (λ y. Some (below x y)))
   unfolding cross cross_in
@@ -267,10 +267,10 @@ module _ {C : Type 0} {tl tr : Table C} {weigh : C → ℕ} (ok : Weighs tl tr w
       ∙ sym (and_then_assoc (tl l r) _ K)
       ∙ sym (ap (λ o. and_then o K) (cross_pair l r L1 R))
 
-  column_under : (n : ℕ) → Laws n → (L R1 R2 : List C) → total weigh L + total weigh R1 + total weigh R2 < suc n → X L (R1 ++ R2) ≡ and_then (X L R1) (λ x. and_then (X x.left R2) (λ y. Some (beside x y)))
-  column_under n ih [] R1 R2 h = column_empty_left R1 R2
-  column_under n ih (l ∷ L) [] R2 h = column_empty_right (l ∷ L) R2
-  column_under n ih (l ∷ L) (r ∷ R1) R2 h = column_step n ih l r L R1 R2 h
+  column_under : (n : ℕ) → Laws n → (L Ra Rb : List C) → total weigh L + total weigh Ra + total weigh Rb < suc n → X L (Ra ++ Rb) ≡ and_then (X L Ra) (λ x. and_then (X x.left Rb) (λ y. Some (beside x y)))
+  column_under n ih [] Ra Rb h = column_empty_left Ra Rb
+  column_under n ih (l ∷ L) [] Rb h = column_empty_right (l ∷ L) Rb
+  column_under n ih (l ∷ L) (r ∷ Ra) Rb h = column_step n ih l r L Ra Rb h
 
   row_under : (n : ℕ) → Laws n → (L1 L2 R : List C) → total weigh L1 + total weigh L2 + total weigh R < suc n → X (L1 ++ L2) R ≡ and_then (X L1 R) (λ x. and_then (X L2 x.right) (λ y. Some (below x y)))
   row_under n ih [] L2 R h = row_empty_left L2 R
@@ -278,11 +278,11 @@ module _ {C : Type 0} {tl tr : Table C} {weigh : C → ℕ} (ok : Weighs tl tr w
   row_under n ih (l ∷ L1) L2 (r ∷ R) h = row_step n ih l r L1 L2 R h
 
   laws : (n : ℕ) → Laws n
-  laws zero = record { column = λ L R1 R2 h. absurd (omega arith); row = λ L1 L2 R h. absurd (omega arith) }
+  laws zero = record { column = λ L Ra Rb h. absurd (omega arith); row = λ L1 L2 R h. absurd (omega arith) }
   laws (suc n) = let ih = laws n in record { column = column_under n ih; row = row_under n ih }
 
-  pub cross_column : (L R1 R2 : List C) → cross tl tr weigh L (R1 ++ R2) ≡ and_then (cross tl tr weigh L R1) (λ x. and_then (cross tl tr weigh x.left R2) (λ y. Some (beside x y)))
-  cross_column L R1 R2 = (laws (suc (total weigh L + total weigh R1 + total weigh R2))).column L R1 R2 (omega arith)
+  pub cross_column : (L Ra Rb : List C) → cross tl tr weigh L (Ra ++ Rb) ≡ and_then (cross tl tr weigh L Ra) (λ x. and_then (cross tl tr weigh x.left Rb) (λ y. Some (beside x y)))
+  cross_column L Ra Rb = (laws (suc (total weigh L + total weigh Ra + total weigh Rb))).column L Ra Rb (omega arith)
 
   pub cross_row : (L1 L2 R : List C) → cross tl tr weigh (L1 ++ L2) R ≡ and_then (cross tl tr weigh L1 R) (λ x. and_then (cross tl tr weigh L2 x.right) (λ y. Some (below x y)))
   cross_row L1 L2 R = (laws (suc (total weigh L1 + total weigh L2 + total weigh R))).row L1 L2 R (omega arith)

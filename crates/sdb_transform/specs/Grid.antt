@@ -1,8 +1,8 @@
 -- Two operations carried past one another: `Crossing`, over any table of transforms, and with this project's table.
 --
 --   X([], R) = ([], R)     X(L, []) = (L, [])
---   X(l::L, r::R) = (l2 ++ L2, r2 ++ R2), where l1 = T(l, r, left) and r1 = T(r, l, right),
---     (l2, R1) = X(l1, R), (L1, r2) = X(L, r1), and (L2, R2) = X(L1, R1)
+--   X(l::L, r::R) = (l2 ++ L2, r2 ++ Rb), where l1 = T(l, r, left) and r1 = T(r, l, right),
+--     (l2, Ra) = X(l1, R), (L1, r2) = X(L, r1), and (L2, Rb) = X(L1, Ra)
 --
 -- Each use of the rule for a pair counts one pair. Where one transform is refused, so is the whole: None.
 use Rattle.std.specs.Prelude.{◌≡◌, ℕ, zero, suc, ◌+◌, ◌*◌, ◌<◌, ◌≤◌, List, [], ◌∷◌, ◌++◌, Option, Some, None, option_map}

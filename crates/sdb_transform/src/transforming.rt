@@ -1,8 +1,9 @@
 //! Components, carried past one another.
-ghost use Rattle.std.specs.Prelude.{◌≡◌, ◌∷◌, [], List, Some, None, IfOk, IfErr, length, option_map};
+ghost use Rattle.std.specs.Prelude.{◌≡◌, ◌∷◌, [], List, Some, None, IfOk, IfErr, length, option_map, ◌≤◌};
 ghost use Rattle.sdb_value.specs.Value.{PlainStep};
 ghost use Rattle.sdb_value.specs.View.{plain_path};
 ghost use Rattle.sdb_component.specs.View.{plain_act};
+ghost use Rattle.sdb_component.specs.Weighs.{weigh, weight};
 ghost use Rattle.sdb_transform.specs.Acts.{Answers, Transforms, IsFaultOf};
 ghost use Rattle.sdb_transform.specs.Transform.{behind, over, transform, at_path, below};
 
@@ -28,6 +29,18 @@ pub fn transform_one(
 ) -> Result<Vec<Component>, Fault>
     ensures ok { IfOk result (λ v. transform side component other.now ≡ Some v.items) }
     ensures err { IfErr result (λ f. IsFaultOf f (transform side component other.now)) }
+    ensures light { IfOk result (λ v. weight v.items ≤ weigh component) }
+{
+    carry(alloc, component, other, side)
+}
+
+fn carry(
+    alloc: Global,
+    component: Component,
+    other: &Component,
+    side: Side,
+) -> Result<Vec<Component>, Fault>
+    ensures { Transforms result (transform side component other.now) }
 {
     let (path, act) = component.into_parts();
     match rest_len(other.path(), path.as_slice()) {

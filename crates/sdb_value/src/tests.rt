@@ -234,6 +234,12 @@ fn texts_are_measured(rt: HostRuntime) -> Result<(), Fail> {
     ] {
         assert_eq!(rt; cut_at(text.as_str(), offset), want, "long at {offset}");
     }
+    Ok(())
+}
+
+#[test]
+fn pairs_are_measured(rt: HostRuntime) -> Result<(), Fail> {
+    let alloc = rt.alloc();
     // Pairs alone, from the end of the first 4096 bytes to that of the third.
     let mut pairs = repeated(alloc, "a", 4096)?;
     pairs.push_str(repeated(alloc, "😀", 2048)?.as_str())?;

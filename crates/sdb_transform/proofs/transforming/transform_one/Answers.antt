@@ -1,10 +1,17 @@
-use Rattle.std.proofs.Common.{length, option_map, ap, ◌∙◌}
-use Rattle.sdb_value.specs.View.{plain_path}
-use Rattle.sdb_transform.specs.Transform.{behind}
-use Rattle.sdb_transform.proofs.Behind.{some_left}
+use Rattle.std.proofs.Common.{◌≤◌, List, Option, Result, Ok, Err, Vec, Global, IfOk}
+use Rattle.sdb_component.specs.Plain.{PlainComponent}
+use Rattle.sdb_component.specs.Weighs.{weigh, weight}
+use Rattle.sdb_component.specs.declared.component.Component.{Component}
+use Rattle.sdb_transform.specs.Acts.{Transforms}
+use Rattle.sdb_transform.specs.Transform.{transform}
+use Rattle.sdb_transform.specs.declared.side.Side.{Side}
+use Rattle.sdb_transform.specs.declared.side.Fault.{Fault}
+use Rattle.sdb_transform.proofs.Weights.{never_rises}
 use Rattle.sdb_transform.proofs.transforming.transform_one.Goals as goal
 
-pub stand_below-requires : goal.stand_below-requires
-stand_below-requires c =
-    let e = c.in-Some.ensures ∙ ap (λ p. option_map length (behind p (plain_path c.as_slice.result.now))) c.path.ensures ∙ ap (λ l. option_map length (behind c.args.other.now.path (plain_path l))) c.as_slice.ensures.value in
-    some_left (behind c.args.other.now.path (plain_path c.into_parts-path.result.0.items)) c.in-Some.field-0 e c.in-Some.field-0-test.1
+light_result : (r : Result (Vec Component Global) Fault) (side : Side) (c o : PlainComponent) → Transforms r (transform side c o) → IfOk r (λ v. weight v.items ≤ weigh c)
+light_result (Ok v) side c o e = never_rises side c o v.items e
+light_result (Err f) side c o e = tt
+
+pub returns-clause-light : goal.returns-clause-light
+returns-clause-light c = light_result c.carry.result c.args.side c.args.component c.args.other.now c.carry.ensures
