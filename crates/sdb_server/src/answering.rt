@@ -2,8 +2,8 @@
 ghost use Rattle.std.specs.Prelude.{◌≡◌, ◌++◌, ◌∷◌, [], IfOk, OnOk, length, map, option_map, unwrap_or, string_bytes};
 ghost use Rattle.sdb_value.specs.View.{view};
 ghost use Rattle.sdb_oplog.specs.Keys.{plain_key};
-ghost use Rattle.sdb_oplog.specs.Snap.{document};
-ghost use Rattle.sdb_wire.specs.Answers.{op_message, failed};
+ghost use Rattle.sdb_oplog.specs.Snap.{document as snapshot};
+ghost use Rattle.sdb_wire.specs.Answers.{op_message, fetched, failed};
 ghost use Rattle.sdb_server.specs.Told.{shown_of};
 ghost use Rattle.sdb_wire.specs.View.{plain_answer, plain_request};
 ghost use Rattle.sdb_server.specs.Dialogue.{shown, turn, is_request, request_turn, fetch_answers, listing, reply_answers, submit_turn, submission_of};
@@ -13,6 +13,7 @@ ghost use Rattle.sdb_server.specs.Told.{plain_reply};
 use crate::document::{Document, Reply};
 use crate::documents::Documents;
 use sdb_oplog::{Code, Content, Entry, Key, Submission};
+use sdb_value::Json;
 use sdb_wire::{Answer, Heard, Request, echo_of, hear, reply_text};
 use serde_json::Value;
 use std::alloc::{AllocError, Global};
@@ -151,11 +152,7 @@ fn fetch_from(
 {
     let log = document.log();
     match version {
-        None => say(
-            alloc,
-            &Answer::Fetched(key, log.len(), document.present()),
-            out,
-        ),
+        None => fetch_present(alloc, document, key, out),
         Some(from) => {
             if from > log.len() {
                 return refuse(alloc, message, Code::E4, out);
@@ -164,6 +161,36 @@ fn fetch_from(
             say(alloc, &Answer::Listed(key), out)
         }
     }
+}
+
+fn fetch_present(
+    alloc: Global,
+    document: &Document,
+    key: &Key,
+    out: &mut Vec<u8>,
+) -> Result<(), AllocError>
+    ensures { OnOk result (out.new.items ≡ out.old.items ++ shown (fetched (plain_key key.now) (length document.now) (snapshot document.now) ∷ [])) }
+{
+    let log = document.log();
+    match document.present() {
+        Some(present) => say_fetched(alloc, key, log.len(), present, out),
+        None => {
+            let replayed = log.replay(alloc, log.len())?;
+            say_fetched(alloc, key, log.len(), replayed.as_ref(), out)
+        }
+    }
+}
+
+fn say_fetched<'x>(
+    alloc: Global,
+    key: &'x Key,
+    version: u64,
+    present: Option<&'x Json>,
+    out: &mut Vec<u8>,
+) -> Result<(), AllocError>
+    ensures { OnOk result (out.new.items ≡ out.old.items ++ shown (fetched (plain_key key.now) version (option_map (λ v. view v.now) present.entry) ∷ [])) }
+{
+    say(alloc, &Answer::Fetched(key, version, present), out)
 }
 
 fn submit(

@@ -1,16 +1,18 @@
 //! One document: its log, and what it makes.
-ghost use Rattle.std.specs.Prelude.{◌≡◌, ◌≤◌, [], length, OnOk, OnErr, IfOk, IfErr, Ok, option_map, unwrap_or};
+ghost use Rattle.std.specs.Prelude.{◌≡◌, ◌≤◌, [], length, OnOk, OnErr, IfOk, IfErr, IfSome, Ok, Err, option_map, unwrap_or, is_some, true};
 ghost use Rattle.sdb_value.specs.View.{view};
 ghost use Rattle.sdb_oplog.specs.Decide.{decide, settled, IsMade};
 ghost use Rattle.sdb_oplog.specs.Over.{over_all};
 ghost use Rattle.sdb_oplog.specs.Refused.{RefusedBy};
-ghost use Rattle.sdb_oplog.specs.Snap.{becomes, document};
+ghost use Rattle.sdb_oplog.specs.Snap.{becomes, document, snap};
 ghost use Rattle.sdb_server.specs.Told.{plain_reply};
 
+use crate::present::{Kept, done_to};
 use sdb_oplog::{Code, Content, Entry, Log, MAX, Submission, over};
 use sdb_value::Json;
 use std::alloc::{AllocError, Global};
 use std::marker::Model;
+use std::mem;
 
 // What a submission is answered.
 #[derive(Drop)]
@@ -22,11 +24,19 @@ pub enum Reply {
     Refused(Code),
 }
 
-// A log, with the document that it makes beside it, so that nothing is replayed.
+// The document that a log makes, kept beside it.
+#[derive(Drop)]
+pub enum Present {
+    Known(Option<Json>),
+    // it was changed in place, and then its entry found no memory: the log tells
+    Lost,
+}
+
+// A log, with the document that it makes beside it, so that it is replayed only where that was lost.
 #[derive(Drop)]
 pub struct Document {
     log: Log,
-    present: Option<Json>,
+    present: Present,
 }
 
 impl Model for Document {
@@ -51,7 +61,7 @@ impl Document {
     {
         Document {
             log: Log::new(alloc),
-            present: None,
+            present: Present::Known(None),
         }
     }
 
@@ -61,10 +71,25 @@ impl Document {
         &self.log
     }
 
-    pub fn present(&self) -> Option<&Json>
-        ensures { option_map (λ v. view v.now) result ≡ document self.now }
+    // The present document, unless it was lost.
+    pub fn present(&self) -> Option<Option<&Json>>
+        ensures { IfSome result (λ d. option_map (λ v. view v.now) d ≡ document self.now) }
     {
-        self.present.as_ref()
+        match &self.present {
+            Present::Known(document) => Some(document.as_ref()),
+            Present::Lost => None,
+        }
+    }
+
+    // The present document, taken out to be changed.
+    fn take(&mut self, alloc: Global) -> Result<Option<Json>, AllocError>
+        ensures ok { IfOk result (λ d. option_map view d ≡ document self.old) }
+        ensures same { self.new ≡ self.old }
+    {
+        match mem::replace(&mut self.present, Present::Lost) {
+            Present::Known(document) => Ok(document),
+            Present::Lost => self.log.replay(alloc, self.log.len()),
+        }
     }
 
     // Decides a submission. After want of memory the log is unchanged.
@@ -77,47 +102,59 @@ impl Document {
         if let Some(v) = self.log.stored_at(submission.src(), submission.seq()) {
             return Ok(Reply::Repeat { v });
         }
-        match settle(alloc, &self.log, self.present.as_ref(), &submission) {
+        let document = self.take(alloc)?;
+        match settle(alloc, &self.log, document, &submission) {
             Ok((content, after)) => {
                 let v = self.log.len();
                 let since = submission.version().unwrap_or(v);
                 let missed = copies(alloc, self.log.entries_from(since))?;
                 self.log.push(Entry::new(v, content, submission))?;
-                self.present = after;
+                self.present = Present::Known(after);
                 Ok(Reply::Stored { v, missed })
             }
-            Err(code) => match code {
-                Code::E10 => Err(AllocError),
-                code => Ok(Reply::Refused(code)),
-            },
+            Err(kept) => {
+                self.present = Present::Known(kept.document);
+                match kept.code {
+                    Code::E10 => Err(AllocError),
+                    code => Ok(Reply::Refused(code)),
+                }
+            }
         }
     }
 }
 
 // The content as it will be stored, none where it is the one that arrived, and the document that it
-// makes.
+// makes of the present one.
 fn settle(
     alloc: Global,
     log: &Log,
-    present: Option<&Json>,
+    present: Option<Json>,
     submission: &Submission,
-) -> Result<(Option<Content>, Option<Json>), Code>
-    requires { option_map (λ v. view v.now) present ≡ document log.now }
+) -> Result<(Option<Content>, Option<Json>), Kept>
+    requires { option_map view present ≡ document log.now }
     ensures ok { IfOk result (λ m. settled log.now submission.now ≡ Ok (unwrap_or m.0 submission.now.content)) }
     ensures after { IfOk result (λ m. becomes (unwrap_or m.0 submission.now.content) (document log.now) ≡ Ok (option_map view m.1)) }
-    ensures err { IfErr result (λ code. RefusedBy (settled log.now submission.now) code) }
+    ensures err { IfErr result (λ k. RefusedBy (settled log.now submission.now) k.code) }
+    ensures same { IfErr result (λ k. option_map view k.document ≡ document log.now) }
+    ensures lives { is_some (snap log.now) ≡ true }
 {
     let n = log.len();
-    if n == MAX {
-        return Err(Code::E11);
-    }
     let since = submission.version().unwrap_or(n);
-    if n < since {
-        return Err(Code::E4);
+    if n == MAX {
+        return refused(Code::E11, present);
     }
-    let content = over_all(alloc, submission.content(), log.entries_from(since))?;
-    let after = carried_or(&content, submission.content()).applied_to(alloc, present)?;
-    Ok((content, after))
+    if n < since {
+        return refused(Code::E4, present);
+    }
+    match over_all(alloc, submission.content(), log.entries_from(since)) {
+        Err(code) => refused(code, present),
+        Ok(content) => {
+            match done_to(alloc, carried_or(&content, submission.content()), present) {
+                Ok(after) => Ok((content, after)),
+                Err(kept) => Err(kept),
+            }
+        }
+    }
 }
 
 // The content after all of the entries, one by one; none where there are none.
@@ -149,4 +186,10 @@ fn copies(alloc: Global, entries: &[Entry]) -> Result<Vec<Entry>, AllocError>
         made.push(entry.try_clone(alloc)?)?;
     }
     Ok(made)
+}
+
+fn refused(code: Code, document: Option<Json>) -> Result<(Option<Content>, Option<Json>), Kept>
+    ensures { result ≡ Err (record { code = code; document = document }) }
+{
+    Err(Kept { code, document })
 }

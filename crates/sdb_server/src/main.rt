@@ -6,6 +6,7 @@ mod answering;
 mod calls;
 mod document;
 mod documents;
+mod present;
 mod running;
 #[cfg(test)]
 mod tests;
