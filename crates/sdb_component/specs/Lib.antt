@@ -5,3 +5,4 @@ pub mod Reads
 pub mod View
 pub mod Weighs
 pub mod Worked
+pub mod Writes

@@ -14,6 +14,7 @@ mod reading;
 mod shape;
 mod shaped;
 mod weighing;
+mod writing;
 
 pub use component::{Act, Component};
 pub use copies::copy_path;
@@ -22,6 +23,7 @@ pub use piece::Piece;
 pub use printing::op_value;
 pub use reading::{OpFault, read_op};
 pub use weighing::weight;
+pub use writing::write_op;
 
 #[cfg(test)]
 mod tests;

@@ -1,4 +1,5 @@
-use crate::{OpFault, op_value, read_op, weight};
+use crate::{OpFault, op_value, read_op, weight, write_op};
+use json::Writer;
 use serde_json::Value;
 use std::alloc::{AllocError, Global};
 use std::test::Fail;
@@ -53,6 +54,14 @@ fn printed(alloc: Global, text: &str) -> Result<String, Fail> {
     Ok(op_value(alloc, &op)?.to_string(alloc)?)
 }
 
+// The same, written without a JSON value between.
+fn written(alloc: Global, text: &str) -> Result<Vec<u8>, Fail> {
+    let value = Value::from_str(alloc, text)?;
+    let mut out = Writer::new(Vec::new(alloc));
+    write_op(&read_op(alloc, &value)?, &mut out)?;
+    Ok(out.into_inner())
+}
+
 fn is_form(alloc: Global, text: &str) -> Result<bool, Fail> {
     let value = Value::from_str(alloc, text)?;
     Ok(matches!(read_op(alloc, &value), Err(OpFault::Form)))
@@ -85,6 +94,11 @@ fn each_shape_is_read_and_printed(rt: HostRuntime) -> Result<(), Fail> {
     for (text, want) in SHAPES {
         let shown = printed(rt.alloc(), text)?;
         assert_eq!(rt; shown.as_str(), want, "at {text}");
+        assert_eq!(rt;
+            written(rt.alloc(), text)?.as_slice(),
+            want.as_bytes(),
+            "at {text}"
+        );
     }
     Ok(())
 }

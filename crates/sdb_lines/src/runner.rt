@@ -84,24 +84,15 @@ pub fn run_lines<M: Replier, R: Source, W: Sink>(
     writer: &mut W,
 ) -> Result<Counts, RunFault>
     ensures whole { OnOk result (IfSome (R.left reader.old) (λ input.
-        Appends (W.contents writer.old) (W.contents writer.new)
-        (M.opening machine.old ++ M.output machine.old (map reading_of (lines_of input))))) }
-
-    ensures lines { IfOk result (λ counts. IfSome (R.left reader.old) (λ input.
-        counts.lines ≡ length (lines_of input))) }
-
-    ensures steps { IfOk result (λ counts. IfSome (R.left reader.old) (λ input.
-        counts.steps ≡ steps_of M.is_step (map reading_of (lines_of input)))) }
-
+        Appends (W.contents writer.old) (W.contents writer.new) (M.opening machine.old ++ M.output machine.old (map reading_of (lines_of input))))) }
+    ensures lines { IfOk result (λ counts. IfSome (R.left reader.old) (λ input. counts.lines ≡ length (lines_of input))) }
+    ensures steps { IfOk result (λ counts. IfSome (R.left reader.old) (λ input. counts.steps ≡ steps_of M.is_step (map reading_of (lines_of input)))) }
     // After a fault a front of the whole answer was written.
     ensures front { OnErr result (IfSome (R.left reader.old) (λ input.
-        AppendsFront (W.contents writer.old) (W.contents writer.new)
-        (M.opening machine.old ++ M.output machine.old (map reading_of (lines_of input))))) }
-
+        AppendsFront (W.contents writer.old) (W.contents writer.new) (M.opening machine.old ++ M.output machine.old (map reading_of (lines_of input))))) }
     // Where the end was reached, no read, write or flush failed.
     ensures reads { OnOk result (R.has_failed reader.new ≡ R.has_failed reader.old) }
     ensures writes { OnOk result (W.has_failed writer.new ≡ W.has_failed writer.old) }
-
     // A fault has its cause.
     ensures read { IsErrOf result RunFault.Read → (R.has_failed reader.new ≡ true)
         ⊎ (min (R.calls reader.old + READ_LIMIT) (2 ^ 64 - 1) ≤ R.calls reader.new) }

@@ -1,5 +1,6 @@
 -- Logs that grow.
-use Rattle.std.proofs.Common.{◌≡◌, ℕ, zero, suc, ◌+◌, ◌<◌, List, [], ◌∷◌, ◌++◌, take, length, get_or, Bool, true, false, cond, ◌&&◌, Option, Some, None, Result, Err, refl, sym, ap, ◌∙◌, append_assoc, arith}
+use Rattle.std.proofs.Common.{◌≡◌, ℕ, zero, suc, ◌+◌, ◌<◌, List, [], ◌∷◌, ◌++◌, take, length, map, get_or, Bool, true, false, cond, ◌&&◌, Option, Some, None, Result, Err, refl, sym, ap, ◌∙◌, append_assoc, arith}
+use Rattle.std.proofs.lemmas.Bool.{ne_eqb}
 use Rattle.std.proofs.lemmas.List.{take_more}
 use Rattle.std.specs.Option.{option_and_then, option_map, is_some, is_none}
 use Rattle.std.specs.Result.{result_ok}
@@ -73,6 +74,15 @@ none_more (x ∷ es) s n e h isnt = none_step (is_from s n x) (stored_at s n es)
 
 pub none_taken : (es : List PlainEntry) (s : List ℕ) (n i : ℕ) (e : PlainEntry) → i < length es → e ≡ get_or es i e → stored_at s n (take i es) ≡ None → is_from s n e ≡ false → stored_at s n (take (i + 1) es) ≡ None
 none_taken es s n i e h is none isnt = ap (stored_at s n) (take_more es i e h ∙ ap (λ x. take i es ++ x ∷ []) (sym is)) ∙ none_more (take i es) s n e none isnt
+
+-- an entry whose number is another is passed by
+pub none_numbered : (es : List PlainEntry) (s : List ℕ) (n i : ℕ) → i < length es → (get_or (map (λ e. e.arrived.seq) es) i 0 ≡ n → ⊥) → stored_at s n (take i es) ≡ None
+    → stored_at s n (take (i + 1) es) ≡ None
+none_numbered [] s n i h other none = absurd (omega arith)
+none_numbered (x ∷ es) s n zero h other none = rw (ne_eqb x.arrived.seq n other)
+none_numbered (x ∷ es) s n (suc i) h other none =
+    let next : suc i + 1 ≡ suc (i + 1) = omega arith in
+    ap (λ k. stored_at s n (take k (x ∷ es))) next ∙ none_step (is_from s n x) (stored_at s n (take i es)) (stored_at s n (take (i + 1) es)) none (λ k. none_numbered es s n i (omega arith) other k)
 
 and_step : (p q r : Bool) → (p && q) ≡ true → (q ≡ true → r ≡ true) → (p && r) ≡ true
 and_step true q r e h = h e

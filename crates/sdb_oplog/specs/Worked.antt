@@ -1,7 +1,7 @@
 -- Rows worked by hand: what submissions do to a log.
-use Rattle.std.specs.Prelude.{◌≡◌, ℕ, List, [], ◌∷◌, ◌++◌, Option, Some, None, codes, refl, pos}
-use Rattle.sdb_value.specs.Value.{Value, whole, text, list, object, item, no_items, member, no_members, key}
-use Rattle.sdb_component.specs.Plain.{PlainAct, na, li, oi, PlainComponent}
+use Rattle.std.specs.Prelude.{◌≡◌, ℕ, List, [], ◌∷◌, Option, Some, None, codes, refl, pos}
+use Rattle.sdb_value.specs.Value.{whole, text, list, object, item, no_items, member, no_members, key}
+use Rattle.sdb_component.specs.Plain.{PlainAct, na, li}
 use Rattle.sdb_transform.specs.Grid.{cross, cross_in}
 use Rattle.sdb_oplog.specs.Plain.{PlainContent, create, delete, edit, PlainSubmission, PlainEntry}
 use Rattle.sdb_oplog.specs.Snap.{snap, document}

@@ -17,10 +17,12 @@ pub const MAX: u64 = 9007199254740991;
 #[derive(Drop)]
 pub struct Log {
     entries: Vec<Entry>,
+    // the number of each entry's submission: a search for a repeat reads these, and few entries
+    numbers: Vec<u64>,
 }
 
 impl Model for Log {
-    ghost use Rattle.std.specs.Prelude.{◌≡◌, ◌≤◌, List, [], length, true, is_some};
+    ghost use Rattle.std.specs.Prelude.{◌≡◌, ◌≤◌, List, [], length, map, true, is_some};
     ghost use Rattle.sdb_oplog.specs.Plain.{PlainEntry};
     ghost use Rattle.sdb_oplog.specs.Coding.{log_code};
 
@@ -32,7 +34,7 @@ impl Model for Log {
 
     ghost view = { λ l. l.entries.items };
 
-    ghost invariant = { λ l. (are_first [] l.entries.items ≡ true) × (is_some (snap l.entries.items) ≡ true) × (length l.entries.items ≤ 9007199254740991) };
+    ghost invariant = { λ l. (are_first [] l.entries.items ≡ true) × (is_some (snap l.entries.items) ≡ true) × (length l.entries.items ≤ 9007199254740991) × (l.numbers.items ≡ map (λ e. e.arrived.seq) l.entries.items) };
 }
 
 impl Log {
@@ -42,6 +44,7 @@ impl Log {
     {
         Log {
             entries: Vec::new(alloc),
+            numbers: Vec::new(alloc),
         }
     }
 
@@ -82,8 +85,8 @@ impl Log {
     pub fn stored_at(&self, src: &str, seq: u64) -> Option<u64>
         ensures { result ≡ stored_at src.now seq self.now }
     {
-        for (at, entry) in self.entries.iter().enumerate() {
-            if entry.is_from(src, seq) {
+        for (at, number) in self.numbers.iter().enumerate() {
+            if *number == seq && self.entries[at].is_from(src, seq) {
                 return Some(at as u64);
             }
         }
@@ -98,8 +101,14 @@ impl Log {
         ensures ok { OnOk result (self.new ≡ self.old ++ entry ∷ []) }
         ensures err { OnErr result (self.new ≡ self.old) }
     {
-        self.entries.push(entry)?;
-        Ok(())
+        self.numbers.push(entry.arrived().seq())?;
+        match self.entries.push(entry) {
+            Ok(()) => Ok(()),
+            Err(_) => {
+                let _ = self.numbers.pop();
+                Err(AllocError)
+            }
+        }
     }
 
     /// The document after the first entries, at most all. It applies them one by one.

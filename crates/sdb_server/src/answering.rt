@@ -14,7 +14,7 @@ use crate::document::{Document, Reply};
 use crate::documents::Documents;
 use sdb_oplog::{Code, Content, Entry, Key, Submission};
 use sdb_value::Json;
-use sdb_wire::{Answer, Heard, Request, echo_of, hear, reply_text};
+use sdb_wire::{Answer, Heard, Request, echo_of, hear, write_reply};
 use serde_json::Value;
 use std::alloc::{AllocError, Global};
 
@@ -87,8 +87,7 @@ fn submission(
 pub fn say(alloc: Global, answer: &Answer<'_>, out: &mut Vec<u8>) -> Result<(), AllocError>
     ensures { OnOk result (out.new.items ≡ out.old.items ++ shown (plain_answer answer.now ∷ [])) }
 {
-    let text = reply_text(alloc, answer)?;
-    out.extend_from_slice(text.as_bytes())?;
+    write_reply(alloc, answer, out)?;
     out.push(b'\n')?;
     Ok(())
 }

@@ -19,6 +19,7 @@ use sdb_lines::{Counts, Replier, RunFault, Sink, Source, run_lines as run};
 use sdb_oplog::Code;
 use sdb_wire::{Answer, no_echo};
 use std::alloc::{AllocError, Global};
+use std::mem;
 
 // The one session, with all documents.
 #[derive(Drop)]
@@ -83,5 +84,8 @@ pub fn run_lines<R: Source, W: Sink>(
     let mut session = Dialogue {
         documents: Documents::new(alloc),
     };
-    run(alloc, &mut session, reader, writer)
+    let counts = run(alloc, &mut session, reader, writer);
+    // The process ends after its one run, and takes all documents with it at once.
+    mem::forget(session);
+    counts
 }

@@ -9,6 +9,7 @@ mod places;
 mod print;
 mod text;
 mod value;
+mod writing;
 
 pub use convert::{ValueFault, from_value};
 pub use lends::{list_mut, object_mut, text_mut};
@@ -19,6 +20,7 @@ pub use places::{Change, Path, Step, change_at, find, find_mut};
 pub use print::to_value;
 pub use text::{cut_at, units};
 pub use value::{Json, Whole};
+pub use writing::write_value;
 
 #[cfg(test)]
 mod tests;

@@ -4,8 +4,9 @@ ghost use Rattle.sdb_value.specs.View.{view};
 use crate::{
     Change, Json, Path, Step, ValueFault, Whole, change_at, cut_at, find, find_mut, from_value,
     insert_item, insert_text, list_mut, object_mut, put_member, remove_item, remove_member,
-    remove_text, replace_item, text_mut, to_value, units,
+    remove_text, replace_item, text_mut, to_value, units, write_value,
 };
+use json::Writer;
 use serde_json::Value;
 use std::alloc::{AllocError, Global};
 use std::test::Fail;
@@ -17,6 +18,12 @@ fn json(alloc: Global, text: &str) -> Result<Json, Fail> {
 
 fn shown(alloc: Global, json: &Json) -> Result<String, Fail> {
     Ok(to_value(alloc, json)?.to_string(alloc)?)
+}
+
+fn written(alloc: Global, json: &Json) -> Result<Vec<u8>, Fail> {
+    let mut out = Writer::new(Vec::new(alloc));
+    write_value(json, &mut out)?;
+    Ok(out.into_inner())
 }
 
 // The steps that a list of keys and indexes names.
@@ -64,6 +71,7 @@ fn a_value_is_read_copied_and_printed(rt: HostRuntime) -> Result<(), Fail> {
     assert!(rt; copy == value);
     drop(value);
     assert_eq!(rt; shown(alloc, &copy)?.as_str(), want);
+    assert_eq!(rt; written(alloc, &copy)?.as_slice(), want.as_bytes());
     Ok(())
 }
 

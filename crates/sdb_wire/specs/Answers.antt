@@ -1,6 +1,6 @@
 -- The text of an answer: `Text`. Members stand in the order of their bytes, and the text is compact.
 use Rattle.std.specs.Prelude.{ℕ, List, true, Option, Some, None, codes}
-use Rattle.serde_json.specs.Data.{Data, null, boolean, number, unsigned, string, object, Members, no_members, member, put}
+use Rattle.serde_json.specs.Data.{Data, null, boolean, number, unsigned, string, object, Members, no_members, member}
 use Rattle.serde_json.specs.Written.{compact_text}
 use Rattle.sdb_value.specs.Value.{Value}
 use Rattle.sdb_value.specs.Profile.{to_data}
@@ -58,10 +58,10 @@ abbrev pub word_data : PlainWord → Data
 word_data (text s) = string s
 word_data (count n) = number (unsigned n)
 
--- with a member, unless it is none
-abbrev pub put_some : List ℕ → Option PlainWord → Members → Members
-put_some k None ms = ms
-put_some k (Some w) ms = put k (word_data w) ms
+-- a member before the others, unless it is none
+abbrev pub some_member : List ℕ → Option PlainWord → Members → Members
+some_member k None ms = ms
+some_member k (Some w) ms = member k (word_data w) ms
 
 abbrev pub error_data : Code → Data
 error_data e = object (member (codes "code") (string (code_name e)) (member (codes "message") (string (code_text e)) no_members))
@@ -74,19 +74,17 @@ type_data = string (codes "http://sharejs.org/types/JSONv0")
 abbrev pub create_data : Value → Data
 create_data v = object (member (codes "data") (to_data v) (member (codes "type") type_data no_members))
 
--- from `op` on
+-- what follows the content
 abbrev pub op_tail : PlainEntry → Members
 op_tail e = member (codes "seq") (number (unsigned e.arrived.seq)) (member (codes "src") (string e.arrived.src) (member (codes "v") (number (unsigned e.version)) no_members))
 
-abbrev pub op_members : List ℕ → List ℕ → PlainEntry → PlainContent → Members
-op_members c d e (create v) = member (codes "c") (string c) (member (codes "create") (create_data v) (member (codes "d") (string d) (op_tail e)))
-op_members c d e delete = member (codes "c") (string c) (member (codes "d") (string d) (member (codes "del") (boolean true) (op_tail e)))
-op_members c d e (edit op) = member (codes "c") (string c) (member (codes "d") (string d) (member (codes "op") (op_data op) (op_tail e)))
+-- the key with the content, before the others
+abbrev pub content_members : PlainKey → PlainContent → Members → Members
+content_members k (create v) ms = member (codes "c") (string k.collection) (member (codes "create") (create_data v) (member (codes "d") (string k.id) ms))
+content_members k delete ms = member (codes "c") (string k.collection) (member (codes "d") (string k.id) (member (codes "del") (boolean true) ms))
+content_members k (edit op) ms = member (codes "c") (string k.collection) (member (codes "d") (string k.id) (member (codes "op") (op_data op) ms))
 
-abbrev pub op_message_data : PlainKey → PlainEntry → PlainContent → Data
-op_message_data k e m = object (member (codes "a") (string (codes "op")) (op_members k.collection k.id e m))
-
--- the same without `a` and the key
+-- a stored operation by itself, without `a` and the key
 abbrev pub entry_members : PlainEntry → PlainContent → Members
 entry_members e (create v) = member (codes "create") (create_data v) (op_tail e)
 entry_members e delete = member (codes "del") (boolean true) (op_tail e)
@@ -113,7 +111,7 @@ answer_data (listed k) = object (
     member (codes "a") (string (codes "f"))
     (member (codes "c") (string k.collection)
     (member (codes "d") (string k.id) no_members)))
-answer_data (op_message k e) = op_message_data k e e.content
+answer_data (op_message k e) = object (member (codes "a") (string (codes "op")) (content_members k e.content (op_tail e)))
 answer_data (acknowledged k src seq v) = object (
     member (codes "a") (string (codes "op"))
     (member (codes "c") (string k.collection)
@@ -122,13 +120,13 @@ answer_data (acknowledged k src seq v) = object (
     (member (codes "src") (string src)
     (member (codes "v") (number (unsigned v)) no_members))))))
 answer_data (failed s e) = object (
-    put_some (codes "src") s.src
-    (put_some (codes "seq") s.seq
-    (put_some (codes "id") s.id
-    (put (codes "error") (error_data e)
-    (put_some (codes "d") s.d
-    (put_some (codes "c") s.c
-    (put_some (codes "a") s.a no_members)))))))
+    some_member (codes "a") s.a
+    (some_member (codes "c") s.c
+    (some_member (codes "d") s.d
+    (member (codes "error") (error_data e)
+    (some_member (codes "id") s.id
+    (some_member (codes "seq") s.seq
+    (some_member (codes "src") s.src no_members)))))))
 
 abbrev pub answer_text : PlainAnswer → List ℕ
 answer_text a = compact_text (answer_data a)

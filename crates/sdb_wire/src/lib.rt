@@ -2,11 +2,13 @@
 #![tactic(auto)]
 
 mod codes;
+mod entries;
 mod members;
 mod reading;
 mod replies;
 mod requests;
 
+pub use entries::entry_value;
 pub use reading::{echo_of, hear, no_echo, read_content, read_message};
-pub use replies::{entry_value, reply_text};
+pub use replies::{reply_text, write_reply};
 pub use requests::{Answer, Bad, Echo, Heard, Request, Word};

@@ -1,236 +1,258 @@
-//! The texts of answers.
-ghost use Rattle.std.specs.Prelude.{◌≡◌, false, IfOk, OnOk, string_bytes, option_map};
-ghost use Rattle.serde_json.specs.View.{view as data_view, members_view};
-ghost use Rattle.serde_json.specs.Data.{object};
-ghost use Rattle.serde_json.specs.Written.{compact_text, has_float};
+//! The texts of answers, written token by token.
+ghost use Rattle.std.specs.Prelude.{◌≡◌, ◌∷◌, [], ◌++◌, IfOk, OnOk, string_bytes, option_map, decimal, codes};
+ghost use Rattle.json.specs.Print.{print};
+ghost use Rattle.json.specs.Token.{begin_object, key as key_token, string, number};
+ghost use Rattle.serde_json.specs.Data.{Members};
+ghost use Rattle.sdb_value.specs.Printed.{data_tokens, object_rest};
 ghost use Rattle.sdb_value.specs.View.{view};
 ghost use Rattle.sdb_oplog.specs.Keys.{plain_key};
-ghost use Rattle.sdb_oplog.specs.Plain.{create, delete, edit};
-ghost use Rattle.sdb_wire.specs.Answers.{answer_text, answer_data, init, fetched, listed, op_message, acknowledged, failed, snapshot_data, create_data, entry_data, op_message_data, error_data, word_data, put_some};
+ghost use Rattle.sdb_wire.specs.Answers.{answer_text, answer_data, init, fetched, listed, op_message, acknowledged, failed, snapshot_data, create_data, content_members, error_data, some_member};
 ghost use Rattle.sdb_wire.specs.View.{plain_answer, plain_echo, plain_word};
 
 use crate::codes::{code_name, code_text};
 use crate::requests::{Answer, Echo, Word};
-use sdb_component::{Op, op_value};
-use sdb_oplog::{Code, Entry, Key, Kind};
-use sdb_value::{Json, to_value};
-use serde_json::{Map, Value, json, put};
+use json::Writer;
+use sdb_component::write_op;
+use sdb_oplog::{Code, Content, Entry, Key, Kind};
+use sdb_value::{Json, write_value};
 use std::alloc::{AllocError, Global};
+use std::mem;
 
 // The address of the type, as ShareDB's json0 has it.
-const TYPE: &str = "http://sharejs.org/types/JSONv0";
+pub(crate) const TYPE: &str = "http://sharejs.org/types/JSONv0";
+
+// Room for most answers.
+const TEXT_LEN: usize = 128;
 
 /// The text of an answer, compact, with the members of each object in the order of their bytes.
 pub fn reply_text(alloc: Global, answer: &Answer<'_>) -> Result<String, AllocError>
     ensures { IfOk result (λ s. string_bytes s ≡ answer_text (plain_answer answer.now)) }
 {
-    let value = answer_value(alloc, answer)?;
-    text_of(alloc, &value)
+    let mut out = Writer::new(Vec::with_capacity(alloc, TEXT_LEN)?);
+    write_answer(answer, &mut out)?;
+    Ok(text_of(out))
 }
 
-fn answer_value(alloc: Global, answer: &Answer<'_>) -> Result<Value, AllocError>
-    ensures { IfOk result (λ v. data_view v ≡ answer_data (plain_answer answer.now)) }
+/// Writes the text of an answer, as [`reply_text`] gives it, behind what `out` holds. After want of
+/// memory `out` may hold a part of it.
+pub fn write_reply(alloc: Global, answer: &Answer<'_>, out: &mut Vec<u8>) -> Result<(), AllocError>
+    ensures { OnOk result (out.new.items ≡ out.old.items ++ answer_text (plain_answer answer.now)) }
+{
+    let mut writer = Writer::new(mem::replace(out, Vec::new(alloc)));
+    let written = write_answer(answer, &mut writer);
+    *out = writer.into_inner();
+    written
+}
+
+// What was written, which is UTF-8.
+fn text_of(out: Writer) -> String
+    requires { out.before ≡ [] }
+    ensures { string_bytes result ≡ print out.tokens }
+{
+    match String::from_utf8(out.into_inner()) {
+        Ok(text) => text,
+        Err(_) => unreachable!(),
+    }
+}
+
+fn write_answer(answer: &Answer<'_>, out: &mut Writer) -> Result<(), AllocError>
+    ensures tokens { OnOk result (out.new.tokens ≡ out.old.tokens ++ data_tokens (answer_data (plain_answer answer.now))) }
+    ensures before { out.new.before ≡ out.old.before }
 {
     match answer {
-        Answer::Init(src) => init_value(alloc, src),
-        Answer::Fetched(key, version, document) => fetched_value(alloc, key, *version, *document),
-        Answer::Listed(key) => listed_value(alloc, key),
-        Answer::OpMessage(key, entry) => op_message_value(alloc, key, entry),
+        Answer::Init(src) => write_init(src, out),
+        Answer::Fetched(key, version, document) => write_fetched(key, *version, *document, out),
+        Answer::Listed(key) => write_listed(key, out),
+        Answer::OpMessage(key, entry) => write_op_message(key, entry, out),
         Answer::Acknowledged(key, src, seq, version) => {
-            acknowledged_value(alloc, key, src, *seq, *version)
+            write_acknowledged(key, src, *seq, *version, out)
         }
-        Answer::Failed(echo, code) => failed_value(alloc, echo, *code),
+        Answer::Failed(echo, code) => write_failed(echo, *code, out),
     }
 }
 
-fn text_of(alloc: Global, value: &Value) -> Result<String, AllocError>
-    requires { has_float (data_view value.now) ≡ false }
-    ensures { IfOk result (λ s. string_bytes s ≡ compact_text (data_view value.now)) }
+fn write_text(name: &str, text: &str, out: &mut Writer) -> Result<(), AllocError>
+    ensures tokens { OnOk result (out.new.tokens ≡ out.old.tokens ++ key_token name.now ∷ string text.now ∷ []) }
+    ensures before { out.new.before ≡ out.old.before }
 {
-    value.to_string(alloc)
+    out.key(name)?;
+    out.string(text)
 }
 
-fn init_value(alloc: Global, src: &str) -> Result<Value, AllocError>
-    ensures { IfOk result (λ v. data_view v ≡ answer_data (init src.now)) }
+fn write_count(name: &str, count: u64, out: &mut Writer) -> Result<(), AllocError>
+    ensures tokens { OnOk result (out.new.tokens ≡ out.old.tokens ++ key_token name.now ∷ number (decimal count) ∷ []) }
+    ensures before { out.new.before ≡ out.old.before }
 {
-    json!(in alloc; {"a": "init", "id": src, "protocol": 1u64, "protocolMinor": 1u64, "type": TYPE})
+    out.key(name)?;
+    out.u64(count)
 }
 
-fn snapshot(alloc: Global, version: u64, document: Option<&Json>) -> Result<Value, AllocError>
-    ensures { IfOk result (λ v. data_view v ≡ snapshot_data version (option_map (λ d. view d.now) document.entry)) }
+// The first members of an answer about a document.
+fn write_head(kind: &str, key: &Key, out: &mut Writer) -> Result<(), AllocError>
+    ensures tokens { OnOk result (out.new.tokens ≡ out.old.tokens ++ begin_object ∷ key_token (codes "a") ∷ string kind.now ∷ key_token (codes "c") ∷ string (plain_key key.now).collection ∷ key_token (codes "d") ∷ string (plain_key key.now).id ∷ []) }
+    ensures before { out.new.before ≡ out.old.before }
 {
+    out.begin_object()?;
+    write_text("a", kind, out)?;
+    write_text("c", key.collection.as_str(), out)?;
+    write_text("d", key.id.as_str(), out)
+}
+
+fn write_init(src: &str, out: &mut Writer) -> Result<(), AllocError>
+    ensures tokens { OnOk result (out.new.tokens ≡ out.old.tokens ++ data_tokens (answer_data (init src.now))) }
+    ensures before { out.new.before ≡ out.old.before }
+{
+    out.begin_object()?;
+    write_text("a", "init", out)?;
+    write_text("id", src, out)?;
+    write_count("protocol", 1, out)?;
+    write_count("protocolMinor", 1, out)?;
+    write_text("type", TYPE, out)?;
+    out.end_object()
+}
+
+fn write_snapshot(version: u64, document: Option<&Json>, out: &mut Writer) -> Result<(), AllocError>
+    ensures tokens { OnOk result (out.new.tokens ≡ out.old.tokens ++ data_tokens (snapshot_data version (option_map (λ d. view d.now) document.entry))) }
+    ensures before { out.new.before ≡ out.old.before }
+{
+    out.begin_object()?;
     match document {
         Some(json) => {
-            let data = to_value(alloc, json)?;
-            json!(in alloc; {"data": data, "v": version})
+            out.key("data")?;
+            write_value(json, out)?;
         }
-        None => json!(in alloc; {"type": null, "v": version}),
+        None => {
+            out.key("type")?;
+            out.null()?;
+        }
     }
+    write_count("v", version, out)?;
+    out.end_object()
 }
 
-fn fetched_value(
-    alloc: Global,
+fn write_fetched(
     key: &Key,
     version: u64,
     document: Option<&Json>,
-) -> Result<Value, AllocError>
-    ensures { IfOk result (λ v. data_view v ≡ answer_data (fetched (plain_key key.now) version (option_map (λ d. view d.now) document.entry))) }
+    out: &mut Writer,
+) -> Result<(), AllocError>
+    ensures tokens { OnOk result (out.new.tokens ≡ out.old.tokens ++ data_tokens (answer_data (fetched (plain_key key.now) version (option_map (λ d. view d.now) document.entry)))) }
+    ensures before { out.new.before ≡ out.old.before }
 {
-    let shown = snapshot(alloc, version, document)?;
-    json!(in alloc; {"a": "f", "c": &key.collection, "d": &key.id, "data": shown})
+    write_head("f", key, out)?;
+    out.key("data")?;
+    write_snapshot(version, document, out)?;
+    out.end_object()
 }
 
-fn listed_value(alloc: Global, key: &Key) -> Result<Value, AllocError>
-    ensures { IfOk result (λ v. data_view v ≡ answer_data (listed (plain_key key.now))) }
+fn write_listed(key: &Key, out: &mut Writer) -> Result<(), AllocError>
+    ensures tokens { OnOk result (out.new.tokens ≡ out.old.tokens ++ data_tokens (answer_data (listed (plain_key key.now)))) }
+    ensures before { out.new.before ≡ out.old.before }
 {
-    json!(in alloc; {"a": "f", "c": &key.collection, "d": &key.id})
+    write_head("f", key, out)?;
+    out.end_object()
 }
 
-fn create_value(alloc: Global, value: &Json) -> Result<Value, AllocError>
-    ensures { IfOk result (λ v. data_view v ≡ create_data (view value.now)) }
+fn write_op_message(key: &Key, entry: &Entry, out: &mut Writer) -> Result<(), AllocError>
+    ensures tokens { OnOk result (out.new.tokens ≡ out.old.tokens ++ data_tokens (answer_data (op_message (plain_key key.now) entry.now))) }
+    ensures before { out.new.before ≡ out.old.before }
 {
-    let data = to_value(alloc, value)?;
-    json!(in alloc; {"data": data, "type": TYPE})
+    out.begin_object()?;
+    write_text("a", "op", out)?;
+    write_content(key, entry.content(), out)?;
+    write_count("seq", entry.arrived().seq(), out)?;
+    write_text("src", entry.arrived().src(), out)?;
+    write_count("v", entry.version(), out)?;
+    out.end_object()
 }
 
-fn op_message_value(alloc: Global, key: &Key, entry: &Entry) -> Result<Value, AllocError>
-    ensures { IfOk result (λ v. data_view v ≡ answer_data (op_message (plain_key key.now) entry.now)) }
+// The key with the content, whose name stands among the key's.
+fn write_content(key: &Key, content: &Content, out: &mut Writer) -> Result<(), AllocError>
+    ensures tokens { OnOk result ((rest : Members) → out.new.tokens ++ object_rest rest ≡ out.old.tokens ++ object_rest (content_members (plain_key key.now) content.now rest)) }
+    ensures before { out.new.before ≡ out.old.before }
 {
-    match entry.content().kind() {
-        Kind::Create(value) => create_message_value(alloc, key, entry, value),
-        Kind::Delete => delete_message_value(alloc, key, entry),
-        Kind::Edit(op) => edit_message_value(alloc, key, entry, op),
-    }
-}
-
-fn create_message_value(
-    alloc: Global,
-    key: &Key,
-    entry: &Entry,
-    value: &Json,
-) -> Result<Value, AllocError>
-    ensures { IfOk result (λ v. data_view v ≡ op_message_data (plain_key key.now) entry.now (create (view value.now))) }
-{
-    let create = create_value(alloc, value)?;
-    let (c, d) = (&key.collection, &key.id);
-    let (seq, src, v) = (
-        entry.arrived().seq(),
-        entry.arrived().src(),
-        entry.version(),
-    );
-    json!(in alloc; {"a": "op", "c": c, "create": create, "d": d, "seq": seq, "src": src, "v": v})
-}
-
-fn delete_message_value(alloc: Global, key: &Key, entry: &Entry) -> Result<Value, AllocError>
-    ensures { IfOk result (λ v. data_view v ≡ op_message_data (plain_key key.now) entry.now delete) }
-{
-    let (c, d) = (&key.collection, &key.id);
-    let (seq, src, v) = (
-        entry.arrived().seq(),
-        entry.arrived().src(),
-        entry.version(),
-    );
-    json!(in alloc; {"a": "op", "c": c, "d": d, "del": true, "seq": seq, "src": src, "v": v})
-}
-
-fn edit_message_value(alloc: Global, key: &Key, entry: &Entry, op: &Op) -> Result<Value, AllocError>
-    ensures { IfOk result (λ v. data_view v ≡ op_message_data (plain_key key.now) entry.now (edit op.now)) }
-{
-    let op = op_value(alloc, op)?;
-    let (c, d) = (&key.collection, &key.id);
-    let (seq, src, v) = (
-        entry.arrived().seq(),
-        entry.arrived().src(),
-        entry.version(),
-    );
-    json!(in alloc; {"a": "op", "c": c, "d": d, "op": op, "seq": seq, "src": src, "v": v})
-}
-
-/// The JSON value of a stored operation: its content, number, source and version. An op message has
-/// beside it `a`, and the document's `c` and `d`.
-pub fn entry_value(alloc: Global, entry: &Entry) -> Result<Value, AllocError>
-    ensures { IfOk result (λ v. data_view v ≡ entry_data entry.now) }
-{
-    let (seq, src, v) = (
-        entry.arrived().seq(),
-        entry.arrived().src(),
-        entry.version(),
-    );
-    match entry.content().kind() {
+    write_text("c", key.collection.as_str(), out)?;
+    match content.kind() {
         Kind::Create(value) => {
-            let create = create_value(alloc, value)?;
-            json!(in alloc; {"create": create, "seq": seq, "src": src, "v": v})
+            out.key("create")?;
+            write_create(value, out)?;
+            write_text("d", key.id.as_str(), out)
         }
-        Kind::Delete => json!(in alloc; {"del": true, "seq": seq, "src": src, "v": v}),
+        Kind::Delete => {
+            write_text("d", key.id.as_str(), out)?;
+            out.key("del")?;
+            out.boolean(true)
+        }
         Kind::Edit(op) => {
-            let op = op_value(alloc, op)?;
-            json!(in alloc; {"op": op, "seq": seq, "src": src, "v": v})
+            write_text("d", key.id.as_str(), out)?;
+            out.key("op")?;
+            write_op(op, out)
         }
     }
 }
 
-fn acknowledged_value(
-    alloc: Global,
+fn write_create(value: &Json, out: &mut Writer) -> Result<(), AllocError>
+    ensures tokens { OnOk result (out.new.tokens ≡ out.old.tokens ++ data_tokens (create_data (view value.now))) }
+    ensures before { out.new.before ≡ out.old.before }
+{
+    out.begin_object()?;
+    out.key("data")?;
+    write_value(value, out)?;
+    write_text("type", TYPE, out)?;
+    out.end_object()
+}
+
+fn write_acknowledged(
     key: &Key,
     src: &str,
     seq: u64,
     version: u64,
-) -> Result<Value, AllocError>
-    ensures { IfOk result (λ v. data_view v ≡ answer_data (acknowledged (plain_key key.now) src.now seq version)) }
-{
-    json!(in alloc; {"a": "op", "c": &key.collection, "d": &key.id, "seq": seq, "src": src, "v": version})
-}
-
-fn error_value(alloc: Global, code: Code) -> Result<Value, AllocError>
-    ensures { IfOk result (λ v. data_view v ≡ error_data code) }
-{
-    json!(in alloc; {"code": code_name(code), "message": code_text(code)})
-}
-
-// Puts a member in, unless it is none.
-fn put_word(
-    alloc: Global,
-    members: &mut Map<String, Value>,
-    key: &str,
-    word: &Option<Word>,
+    out: &mut Writer,
 ) -> Result<(), AllocError>
-    ensures { OnOk result (members_view members.new.entries ≡ put_some key.now (option_map plain_word word.now) (members_view members.old.entries)) }
+    ensures tokens { OnOk result (out.new.tokens ≡ out.old.tokens ++ data_tokens (answer_data (acknowledged (plain_key key.now) src.now seq version))) }
+    ensures before { out.new.before ≡ out.old.before }
+{
+    write_head("op", key, out)?;
+    write_count("seq", seq, out)?;
+    write_text("src", src, out)?;
+    write_count("v", version, out)?;
+    out.end_object()
+}
+
+fn write_failed(echo: &Echo, code: Code, out: &mut Writer) -> Result<(), AllocError>
+    ensures tokens { OnOk result (out.new.tokens ≡ out.old.tokens ++ data_tokens (answer_data (failed (plain_echo echo.now) code))) }
+    ensures before { out.new.before ≡ out.old.before }
+{
+    out.begin_object()?;
+    write_word("a", &echo.a, out)?;
+    write_word("c", &echo.c, out)?;
+    write_word("d", &echo.d, out)?;
+    out.key("error")?;
+    write_error(code, out)?;
+    write_word("id", &echo.id, out)?;
+    write_word("seq", &echo.seq, out)?;
+    write_word("src", &echo.src, out)?;
+    out.end_object()
+}
+
+// A member, unless it is none.
+fn write_word(name: &str, word: &Option<Word>, out: &mut Writer) -> Result<(), AllocError>
+    ensures tokens { OnOk result ((rest : Members) → out.new.tokens ++ object_rest rest ≡ out.old.tokens ++ object_rest (some_member name.now (option_map plain_word word.now) rest)) }
+    ensures before { out.new.before ≡ out.old.before }
 {
     match word {
         None => Ok(()),
-        Some(said) => {
-            let value = word_value(alloc, said)?;
-            put(members, alloc, key, value)
-        }
+        Some(Word::Text(text)) => write_text(name, text.as_str(), out),
+        Some(Word::Count(count)) => write_count(name, *count, out),
     }
 }
 
-fn word_value(alloc: Global, word: &Word) -> Result<Value, AllocError>
-    ensures { IfOk result (λ v. data_view v ≡ word_data (plain_word word.now)) }
+fn write_error(code: Code, out: &mut Writer) -> Result<(), AllocError>
+    ensures tokens { OnOk result (out.new.tokens ≡ out.old.tokens ++ data_tokens (error_data code)) }
+    ensures before { out.new.before ≡ out.old.before }
 {
-    match word {
-        Word::Text(text) => Value::try_from_str(alloc, text.as_str()),
-        Word::Count(n) => Ok(Value::from(*n)),
-    }
-}
-
-fn failed_members(alloc: Global, echo: &Echo, code: Code) -> Result<Map<String, Value>, AllocError>
-    ensures { IfOk result (λ m. object (members_view m.entries) ≡ answer_data (failed (plain_echo echo.now) code)) }
-{
-    let error = error_value(alloc, code)?;
-    let mut members = Map::new(alloc);
-    put_word(alloc, &mut members, "a", &echo.a)?;
-    put_word(alloc, &mut members, "c", &echo.c)?;
-    put_word(alloc, &mut members, "d", &echo.d)?;
-    put(&mut members, alloc, "error", error)?;
-    put_word(alloc, &mut members, "id", &echo.id)?;
-    put_word(alloc, &mut members, "seq", &echo.seq)?;
-    put_word(alloc, &mut members, "src", &echo.src)?;
-    Ok(members)
-}
-
-fn failed_value(alloc: Global, echo: &Echo, code: Code) -> Result<Value, AllocError>
-    ensures { IfOk result (λ v. data_view v ≡ answer_data (failed (plain_echo echo.now) code)) }
-{
-    Ok(Value::Object(failed_members(alloc, echo, code)?))
+    out.begin_object()?;
+    write_text("code", code_name(code), out)?;
+    write_text("message", code_text(code), out)?;
+    out.end_object()
 }

@@ -1,0 +1,12 @@
+use Rattle.std.proofs.Common.{◌≡◌, ◌∷◌, ◌++◌, drop}
+use Rattle.json.specs.Token.{begin_array}
+use Rattle.sdb_value.specs.Printed.{array_rest}
+use Rattle.sdb_value.specs.View.{plain_path}
+use Rattle.sdb_component.specs.Prints.{last_step, path_items}
+use Rattle.sdb_component.proofs.writing.write_path.Given as goal
+
+abbrev pub invariant-loop-step : goal.invariant-loop-step
+invariant-loop-step l = record {
+  before : l.out.before ≡ l.fn.out.before;
+  whole : l.out.tokens ++ array_rest (path_items (plain_path (drop l.step-index l.step-items) ++ last_step l.component.act)) ≡ l.fn.out.tokens ++ begin_array ∷ array_rest (path_items (plain_path l.step-items ++ last_step l.component.act));
+}

@@ -1,0 +1,128 @@
+//! Operations as text, written token by token.
+ghost use Rattle.std.specs.Prelude.{◌≡◌, ◌∷◌, [], ◌++◌, OnOk};
+ghost use Rattle.json.specs.Token.{key};
+ghost use Rattle.sdb_value.specs.Printed.{array_rest, data_tokens, object_rest};
+ghost use Rattle.sdb_value.specs.Profile.{to_data};
+ghost use Rattle.sdb_value.specs.View.{plain_step, view};
+ghost use Rattle.serde_json.specs.Data.{no_items, no_members, Members};
+ghost use Rattle.sdb_component.specs.Prints.{component_data, last_step, op_data, path_data, path_items, step_data, whole_path};
+ghost use Rattle.sdb_component.specs.View.{plain_act};
+ghost use Rattle.sdb_component.specs.Writes.{before_path, behind_path};
+
+use crate::component::{Act, Component};
+use crate::operation::Op;
+use json::Writer;
+use sdb_value::{Json, Step, write_value};
+use std::alloc::AllocError;
+
+/// Writes an operation behind what is written, compact, as [`op_value`](crate::op_value) spells it.
+/// Fails only where memory is wanting, and a part of it may then be written.
+pub fn write_op(op: &Op, out: &mut Writer) -> Result<(), AllocError>
+    ensures tokens { OnOk result (out.new.tokens ≡ out.old.tokens ++ data_tokens (op_data op.now)) }
+    ensures before { out.new.before ≡ out.old.before }
+{
+    out.begin_array()?;
+    for component in op.components() {
+        write_component(component, out)?;
+    }
+    out.end_array()
+}
+
+fn write_component(component: &Component, out: &mut Writer) -> Result<(), AllocError>
+    ensures tokens { OnOk result (out.new.tokens ≡ out.old.tokens ++ data_tokens (component_data component.now)) }
+    ensures before { out.new.before ≡ out.old.before }
+{
+    out.begin_object()?;
+    write_values(component.act(), out)?;
+    out.key("p")?;
+    write_path(component, out)?;
+    write_text(component.act(), out)?;
+    out.end_object()
+}
+
+// The amount, or the values removed and put.
+fn write_values(act: &Act, out: &mut Writer) -> Result<(), AllocError>
+    ensures tokens { OnOk result ((rest : Members) → out.new.tokens ++ object_rest rest ≡ out.old.tokens ++ object_rest (before_path (plain_act act.now) rest)) }
+    ensures before { out.new.before ≡ out.old.before }
+{
+    match act {
+        Act::Na(amount) => {
+            out.key("na")?;
+            out.i64(amount.get())
+        }
+        Act::Si(_, _) | Act::Sd(_, _) => Ok(()),
+        Act::Li(_, new) => write_member("li", new, out),
+        Act::Ld(_, old) => write_member("ld", old, out),
+        Act::Lr(_, old, new) => {
+            write_member("ld", old, out)?;
+            write_member("li", new, out)
+        }
+        Act::Oi(_, new) => write_member("oi", new, out),
+        Act::Od(_, old) => write_member("od", old, out),
+        Act::Or(_, old, new) => {
+            write_member("od", old, out)?;
+            write_member("oi", new, out)
+        }
+    }
+}
+
+fn write_member(name: &str, value: &Json, out: &mut Writer) -> Result<(), AllocError>
+    ensures tokens { OnOk result (out.new.tokens ≡ out.old.tokens ++ key name.now ∷ data_tokens (to_data (view value.now))) }
+    ensures before { out.new.before ≡ out.old.before }
+{
+    out.key(name)?;
+    write_value(value, out)
+}
+
+// The text put or taken.
+fn write_text(act: &Act, out: &mut Writer) -> Result<(), AllocError>
+    ensures tokens { OnOk result (out.new.tokens ++ object_rest no_members ≡ out.old.tokens ++ object_rest (behind_path (plain_act act.now))) }
+    ensures before { out.new.before ≡ out.old.before }
+{
+    match act {
+        Act::Si(_, text) => {
+            out.key("si")?;
+            out.string(text.as_str())
+        }
+        Act::Sd(_, text) => {
+            out.key("sd")?;
+            out.string(text.as_str())
+        }
+        _ => Ok(()),
+    }
+}
+
+fn write_path(component: &Component, out: &mut Writer) -> Result<(), AllocError>
+    ensures tokens { OnOk result (out.new.tokens ≡ out.old.tokens ++ data_tokens (path_data (whole_path component.now.path component.now.act))) }
+    ensures before { out.new.before ≡ out.old.before }
+{
+    out.begin_array()?;
+    for step in component.path() {
+        write_step(step, out)?;
+    }
+    write_last(component.act(), out)?;
+    out.end_array()
+}
+
+fn write_step(step: &Step, out: &mut Writer) -> Result<(), AllocError>
+    ensures tokens { OnOk result (out.new.tokens ≡ out.old.tokens ++ data_tokens (step_data (plain_step step.now))) }
+    ensures before { out.new.before ≡ out.old.before }
+{
+    match step {
+        Step::Key(name) => out.string(name.as_str()),
+        Step::Index(index) => out.u64(*index),
+    }
+}
+
+// The last step of the path, where the act has one.
+fn write_last(act: &Act, out: &mut Writer) -> Result<(), AllocError>
+    ensures tokens { OnOk result (out.new.tokens ++ array_rest no_items ≡ out.old.tokens ++ array_rest (path_items (last_step (plain_act act.now)))) }
+    ensures before { out.new.before ≡ out.old.before }
+{
+    match act {
+        Act::Na(_) => Ok(()),
+        Act::Si(at, _) | Act::Sd(at, _) => out.u64(*at),
+        Act::Li(at, _) | Act::Ld(at, _) | Act::Lr(at, _, _) => out.u64(*at),
+        Act::Oi(name, _) | Act::Od(name, _) | Act::Or(name, _, _) => out.string(name.as_str()),
+    }
+}

@@ -1,0 +1,18 @@
+use Rattle.std.proofs.Common.{◌≡◌, ◌++◌, drop}
+use Rattle.sdb_value.specs.Printed.{array_rest, object_rest}
+use Rattle.sdb_value.specs.Profile.{to_items, to_members}
+use Rattle.sdb_value.specs.View.{items_view, members_view}
+use Rattle.sdb_value.proofs.writing.+write.Given as goal
+
+-- what is written and what is left are the whole
+abbrev pub invariant-write_items-loop-item : goal.invariant-write_items-loop-item
+invariant-write_items-loop-item l = record {
+  before : l.out.before ≡ l.initial.out.before;
+  whole : l.out.tokens ++ array_rest (to_items (items_view (drop l.item-index l.item-items))) ≡ l.initial.out.tokens ++ array_rest (to_items (items_view l.item-items));
+}
+
+abbrev pub invariant-write_members-loop-key : goal.invariant-write_members-loop-key
+invariant-write_members-loop-key l = record {
+  before : l.out.before ≡ l.initial.out.before;
+  whole : l.out.tokens ++ object_rest (to_members (members_view l.key-iterator)) ≡ l.initial.out.tokens ++ object_rest (to_members (members_view l.members.entries));
+}

@@ -1,0 +1,63 @@
+//! Values as text, written token by token.
+ghost use Rattle.std.specs.Prelude.{◌≡◌, ◌++◌, OnOk};
+ghost use Rattle.sdb_value.specs.Printed.{array_rest, data_tokens, object_rest};
+ghost use Rattle.sdb_value.specs.Profile.{to_data, to_items, to_members};
+ghost use Rattle.sdb_value.specs.View.{view, items_view, members_view};
+
+use crate::value::Json;
+use json::Writer;
+use std::alloc::AllocError;
+use std::collections::BTreeMap;
+
+/// Writes a value behind what is written, compact, its members in the order of their keys' bytes. Fails
+/// only where memory is wanting, and a part of it may then be written.
+pub fn write_value(value: &Json, out: &mut Writer) -> Result<(), AllocError>
+    ensures tokens { OnOk result (out.new.tokens ≡ out.old.tokens ++ data_tokens (to_data (view value.now))) }
+    ensures before { out.new.before ≡ out.old.before }
+{
+    write(value, out)
+}
+
+#[cycle(write)]
+fn write(value: &Json, out: &mut Writer) -> Result<(), AllocError>
+    ensures tokens { OnOk result (out.new.tokens ≡ out.old.tokens ++ data_tokens (to_data (view value.now))) }
+    ensures before { out.new.before ≡ out.old.before }
+{
+    match value {
+        Json::Null => out.null(),
+        Json::Bool(b) => out.boolean(*b),
+        Json::Int(n) => out.i64(n.get()),
+        Json::Text(text) => out.string(text.as_str()),
+        Json::List(items) => {
+            out.begin_array()?;
+            write_items(items, out)
+        }
+        Json::Object(members) => {
+            out.begin_object()?;
+            write_members(members, out)
+        }
+    }
+}
+
+#[cycle(write)]
+fn write_items(items: &Vec<Json>, out: &mut Writer) -> Result<(), AllocError>
+    ensures tokens { OnOk result (out.new.tokens ≡ out.old.tokens ++ array_rest (to_items (items_view items.now.items))) }
+    ensures before { out.new.before ≡ out.old.before }
+{
+    for item in items {
+        write(item, out)?;
+    }
+    out.end_array()
+}
+
+#[cycle(write)]
+fn write_members(members: &BTreeMap<String, Json>, out: &mut Writer) -> Result<(), AllocError>
+    ensures tokens { OnOk result (out.new.tokens ≡ out.old.tokens ++ object_rest (to_members (members_view members.now.entries))) }
+    ensures before { out.new.before ≡ out.old.before }
+{
+    for (key, member) in members.iter() {
+        out.key(key.as_str())?;
+        write(member, out)?;
+    }
+    out.end_object()
+}
