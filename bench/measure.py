@@ -1,4 +1,4 @@
-"""Runs the programs over generated input, and prints what they took: the best of five runs each."""
+"""Runs the programs over generated input, in turn, and prints what they took: the best of fifteen runs each."""
 import os
 import subprocess
 import sys
@@ -8,17 +8,14 @@ import time
 HERE = os.path.dirname(os.path.abspath(__file__))
 SERVER = os.path.join(HERE, "..", "crates", "sdb_server", "out", "sdb_server")
 BENCH = os.path.join(HERE, "..", "crates", "sdb_bench", "out", "sdb_bench")
+RUNS = 15
 
 
 def timed(command, path):
-    best = None
-    for _ in range(5):
-        with open(path, "rb") as source, open(os.devnull, "wb") as sink:
-            start = time.perf_counter()
-            subprocess.run(command, stdin=source, stdout=sink, check=True)
-            took = time.perf_counter() - start
-        best = took if best is None else min(best, took)
-    return best
+    with open(path, "rb") as source, open(os.devnull, "wb") as sink:
+        start = time.perf_counter()
+        subprocess.run(command, stdin=source, stdout=sink, check=True)
+        return time.perf_counter() - start
 
 
 def compare(title, script, lines):
@@ -26,8 +23,10 @@ def compare(title, script, lines):
         subprocess.run([sys.executable, os.path.join(HERE, script), str(lines)], stdout=made, check=True)
         made.flush()
         size = os.path.getsize(made.name)
-        plain = timed([BENCH, "json"], made.name)
-        server = timed([SERVER, "--lines"], made.name)
+        plain = server = float("inf")
+        for _ in range(RUNS):
+            plain = min(plain, timed([BENCH, "json"], made.name))
+            server = min(server, timed([SERVER, "--lines"], made.name))
     print(f"{title}: {lines} lines, {size / 1e6:.1f} MB")
     print(f"  JSON read and printed: {plain:.3f} s, {lines / plain:,.0f} lines/s, {size / plain / 1e6:.1f} MB/s")
     print(f"  server:                {server:.3f} s, {lines / server:,.0f} lines/s, {size / server / 1e6:.1f} MB/s")
