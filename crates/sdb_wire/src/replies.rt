@@ -1,5 +1,5 @@
 //! The texts of answers, written token by token.
-ghost use Rattle.std.specs.Prelude.{◌≡◌, ◌∷◌, [], ◌++◌, IfOk, OnOk, string_bytes, option_map, decimal, codes};
+ghost use Rattle.std.specs.Prelude.{◌≡◌, ℕ, List, ◌∷◌, [], ◌++◌, IfOk, OnOk, OnErr, string_bytes, option_map, decimal, codes};
 ghost use Rattle.json.specs.Print.{print};
 ghost use Rattle.json.specs.Token.{begin_object, key as key_token, string, number};
 ghost use Rattle.serde_json.specs.Data.{Members};
@@ -34,9 +34,10 @@ pub fn reply_text(alloc: Global, answer: &Answer<'_>) -> Result<String, AllocErr
 }
 
 /// Writes the text of an answer, as [`reply_text`] gives it, behind what `out` holds. After want of
-/// memory `out` may hold a part of it.
+/// memory `out` holds what it held, and may hold a part of the text behind it.
 pub fn write_reply(alloc: Global, answer: &Answer<'_>, out: &mut Vec<u8>) -> Result<(), AllocError>
-    ensures { OnOk result (out.new.items ≡ out.old.items ++ answer_text (plain_answer answer.now)) }
+    ensures ok { OnOk result (out.new.items ≡ out.old.items ++ answer_text (plain_answer answer.now)) }
+    ensures err { OnErr result ((part : List ℕ) × (out.new.items ≡ out.old.items ++ part)) }
 {
     let mut writer = Writer::new(mem::replace(out, Vec::new(alloc)));
     let written = write_answer(answer, &mut writer);
