@@ -11,6 +11,7 @@ mod running;
 #[cfg(test)]
 mod tests;
 
+use clap::error::ErrorKind;
 use clap::{Arg, ArgAction, Command, Error};
 use running::run_lines;
 use sdb_lines::{RunFault, Watched};
@@ -60,20 +61,26 @@ fn answer_input(rt: &HostRuntime) -> ExitCode {
     ExitCode::FAILURE
 }
 
+// Answers a command line that asks for no run: it asks for help, or it is refused. Want of memory is
+// neither.
+fn answer_no_run(rt: &HostRuntime, error: &Error) -> anyhow::Result<ExitCode> {
+    if let ErrorKind::OutOfMemory = error.kind() {
+        return Err(AllocError.into());
+    }
+    if error.exit_code() == 0 {
+        error.print(rt)?;
+        return Ok(ExitCode::SUCCESS);
+    }
+    let text = format!(in rt.alloc(); "{error}")?;
+    Ok(refuse(rt, text.as_str())?)
+}
+
 fn main(rt: HostRuntime) -> anyhow::Result<ExitCode> {
     let alloc = rt.alloc();
     let words: Vec<String> = env::args(&rt)?.collect(alloc)?;
-    let exit = match asks_lines(alloc, words.as_slice()) {
-        Ok(true) => answer_input(&rt),
-        Ok(false) => refuse(&rt, "error: --lines is missing")?,
-        Err(error) => {
-            if error.exit_code() == 0 {
-                error.print(&rt)?;
-                return Ok(ExitCode::SUCCESS);
-            }
-            let text = format!(in alloc; "{error}")?;
-            refuse(&rt, text.as_str())?
-        }
-    };
-    Ok(exit)
+    match asks_lines(alloc, words.as_slice()) {
+        Ok(true) => Ok(answer_input(&rt)),
+        Ok(false) => Ok(refuse(&rt, "error: --lines is missing")?),
+        Err(error) => answer_no_run(&rt, &error),
+    }
 }

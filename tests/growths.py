@@ -1,0 +1,55 @@
+"""Lets each allocation of a run of the server fail in turn, and looks at what is written and at the status.
+
+Where one is refused, what is written is a front of the whole answer, then `fault: memory`, and the status is 1. A refused
+allocation that the run can do without changes nothing. Before the opening text a refusal ends the program with an error."""
+import os
+import subprocess
+import sys
+import tempfile
+
+HERE = os.path.dirname(os.path.abspath(__file__))
+SERVER = os.path.join(HERE, "..", "crates", "sdb_server", "out", "sdb_server")
+FAULT = b"fault: memory\n"
+
+
+def lines_of(script, count):
+    return subprocess.run([sys.executable, os.path.join(HERE, "..", "bench", script), str(count)], stdout=subprocess.PIPE, check=True).stdout
+
+
+def run(library, given, nth, counted):
+    env = dict(os.environ, LD_PRELOAD=library, FAIL_NTH=str(nth), FAIL_COUNT=counted)
+    ended = subprocess.run([SERVER, "--lines"], input=given, stdout=subprocess.PIPE, stderr=subprocess.PIPE, env=env, timeout=60)
+    return ended.returncode, ended.stdout
+
+
+def is_right(status, written, whole):
+    if status == 0:
+        return written == whole
+    front = written[: -len(FAULT)] if written.endswith(FAULT) else written
+    told = written.endswith(FAULT) or written == b""
+    return status == 1 and told and whole.startswith(front) and front[-1:] in (b"", b"\n")
+
+
+def sweep(name, given, library, counted):
+    status, whole = run(library, given, 0, counted)
+    assert status == 0, name
+    with open(counted) as file:
+        count = int(file.read())
+    wrong = [nth for nth in range(1, count + 1) if not is_right(*run(library, given, nth, counted), whole)]
+    print(f"{name}: {count} allocations, each refused in turn, {len(wrong)} runs went wrong {wrong[:10] or ''}")
+    return not wrong
+
+
+def main():
+    with tempfile.TemporaryDirectory() as made:
+        library, counted = os.path.join(made, "fail_nth.so"), os.path.join(made, "count")
+        subprocess.run(["cc", "-shared", "-fPIC", "-O1", "-o", library, os.path.join(HERE, "fail_nth.c"), "-ldl"], check=True)
+        with open(os.path.join(HERE, "..", "crates", "sdb_server", "stdin"), "rb") as file:
+            stored = file.read()
+        inputs = [("a create and a fetch", stored), ("40 lines on new documents", lines_of("lines.py", 40)), ("40 inserts into one text", lines_of("trace.py", 40))]
+        right = [sweep(name, given, library, counted) for name, given in inputs]
+    return 0 if all(right) else 1
+
+
+if __name__ == "__main__":
+    sys.exit(main())
