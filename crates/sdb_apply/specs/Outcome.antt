@@ -1,6 +1,6 @@
 -- How a change in place ends.
-use Rattle.std.specs.Prelude.{◌≡◌, Bool, true, false, Option, Some, None, Result, Ok, Err, ⊤}
-use Rattle.sdb_component.specs.Plain.{PlainAct, na, sd, ld, od}
+use Rattle.std.specs.Prelude.{◌≡◌, Bool, true, false, List, [], ◌∷◌, Option, Some, None, Result, Ok, Err, ⊤}
+use Rattle.sdb_component.specs.Plain.{PlainAct, na, sd, ld, od, PlainComponent}
 use Rattle.sdb_apply.specs.declared.applying.ApplyFault.{ApplyFault}
 use Rattle.sdb_apply.specs.declared.applying.ApplyFault.TheVariants.{NotApplied, Memory}
 
@@ -18,3 +18,9 @@ abbrev pub Outcome : {A : Type 0} → Bool → Result ⊤ ApplyFault → Option 
 Outcome grows (Ok _) o d e = o ≡ Some e
 Outcome grows (Err NotApplied) o d e = (o ≡ None) × (e ≡ d)
 Outcome grows (Err Memory) o d e = (grows ≡ true) × (e ≡ d)
+
+-- one component takes memory where its act does; of several, the place that they share is copied
+abbrev pub whole_takes_memory : List PlainComponent → Bool
+whole_takes_memory [] = false
+whole_takes_memory (c ∷ []) = takes_memory c.act
+whole_takes_memory (c ∷ o ∷ cs) = true

@@ -3,8 +3,10 @@
 
 mod acts;
 mod applying;
+mod whole;
 
 pub use applying::{ApplyFault, Refused, apply, apply_at, apply_one};
+pub use whole::apply_whole;
 
 #[cfg(test)]
 mod tests;
