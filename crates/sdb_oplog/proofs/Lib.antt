@@ -1,1 +1,4 @@
 pub mod Growing
+pub mod Indexed
+pub mod Logging
+pub mod Numbers

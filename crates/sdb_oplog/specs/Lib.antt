@@ -1,7 +1,10 @@
 pub mod Coding
 pub mod Decide
 pub mod Keys
+pub mod Laws
+pub mod Logged
 pub mod Over
+pub mod Placed
 pub mod Plain
 pub mod Refused
 pub mod Snap

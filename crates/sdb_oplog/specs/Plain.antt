@@ -21,3 +21,8 @@ pub record PlainEntry : Type 0 where
   pub version : ℕ
   pub content : PlainContent
   pub arrived : PlainSubmission
+
+-- a log, and a submission that room is made for in it
+pub record PlainPrepared : Type 0 where
+  pub log : List PlainEntry
+  pub submission : PlainSubmission

@@ -1,10 +1,11 @@
 -- A log as a list of entries, and the document that it makes: `Snap`.
-use Rattle.std.specs.Prelude.{ℕ, ◌+◌, List, [], ◌∷◌, ◌++◌, Bool, true, ◌&&◌, cond, nat_eq, bytes_eq, Option, Some, None, Result, Ok, Err, option_map, option_and_then, unwrap_or}
+use Rattle.std.specs.Prelude.{ℕ, ◌+◌, List, [], ◌∷◌, ◌++◌, Bool, true, false, ◌&&◌, cond, nat_eq, bytes_eq, Option, Some, None, Result, Ok, Err, option_map, option_and_then, unwrap_or}
 use Rattle.std.specs.Option.{option_map_or, is_none}
 use Rattle.std.specs.Result.{result_ok}
 use Rattle.sdb_value.specs.Value.{Value}
 use Rattle.sdb_component.specs.Plain.{PlainComponent}
 use Rattle.sdb_apply.specs.Does.{applies}
+use Rattle.sdb_apply.specs.Outcome.{whole_takes_memory}
 use Rattle.sdb_oplog.specs.Plain.{PlainContent, create, delete, edit, PlainEntry}
 use Rattle.sdb_oplog.specs.Refused.{result_then}
 use Rattle.sdb_oplog.specs.declared.codes.Code.{Code}
@@ -20,6 +21,12 @@ becomes (create v) (Some d) = Err E6
 becomes delete d = Ok None
 becomes (edit op) None = Err E7
 becomes (edit op) (Some d) = result_then (λ e. Ok (Some e)) (edited op d)
+
+-- a create copies its data, and an edit takes what its components take
+abbrev pub becoming_takes_memory : PlainContent → Bool
+becoming_takes_memory (create v) = true
+becoming_takes_memory delete = false
+becoming_takes_memory (edit op) = whole_takes_memory op
 
 -- the document after these entries, from this one on, if each has an effect
 abbrev pub snap_from : Option Value → List PlainEntry → Option (Option Value)

@@ -1,15 +1,17 @@
 //! What is asked of a document.
-ghost use Rattle.std.specs.Prelude.{◌≡◌, IfOk, IfErr, Ok, option_map};
+ghost use Rattle.std.specs.Prelude.{◌≡◌, true, IfOk, IfErr, OnOk, OnErr, IsErrOf, Ok, option_map, unwrap_or};
 ghost use Rattle.sdb_value.specs.View.{view};
-ghost use Rattle.sdb_apply.specs.Does.{applies};
+ghost use Rattle.sdb_apply.specs.Outcome.{whole_takes_memory};
 ghost use Rattle.sdb_oplog.specs.Plain.{create, delete, edit};
 ghost use Rattle.sdb_oplog.specs.Refused.{RefusedBy};
-ghost use Rattle.sdb_oplog.specs.Over.{over, edit_over};
-ghost use Rattle.sdb_oplog.specs.Snap.{becomes, edited};
+ghost use Rattle.sdb_oplog.specs.Over.{over, over_all, edit_over};
+ghost use Rattle.sdb_oplog.specs.Snap.{becomes, becoming_takes_memory, edited};
 ghost use Rattle.sdb_oplog.specs.View.{plain_kind};
+ghost use Rattle.sdb_oplog.specs.declared.codes.Code.TheVariants.{E10};
 
 use crate::codes::Code;
-use sdb_apply::{ApplyFault, apply};
+use crate::entries::Entry;
+use sdb_apply::{ApplyFault, apply_whole};
 use sdb_component::Op;
 use sdb_transform::{Fault, Side, transform};
 use sdb_value::Json;
@@ -90,54 +92,62 @@ impl Content {
         }
     }
 
-    /// What it makes of a document, which may be none. The document is given up and edited in place.
-    /// A create on a document is E6, an edit of none E7, one that has no effect E8.
-    pub fn apply_to(&self, alloc: Global, document: Option<Json>) -> Result<Option<Json>, Code>
-        ensures ok { IfOk result (λ d. becomes self.now (option_map view document) ≡ Ok (option_map view d)) }
-        ensures err { IfErr result (λ code. RefusedBy (becomes self.now (option_map view document)) code) }
+    /// Makes of a document, which may be none, what the content makes of it, in place. A create on a
+    /// document is E6, an edit of none E7, one that has no effect E8, want of memory E10. The document
+    /// is then as it was.
+    ///
+    /// An edit copies no more of the document than the value at the longest path that all of its
+    /// components share, and nothing where it has one component.
+    pub fn apply_to(&self, alloc: Global, document: &mut Option<Json>) -> Result<(), Code>
+        ensures ok { OnOk result (becomes self.now (option_map view document.old) ≡ Ok (option_map view document.new)) }
+        ensures err { IfErr result (λ code. RefusedBy (becomes self.now (option_map view document.old)) code) }
+        ensures memory { IsErrOf result E10 → becoming_takes_memory self.now ≡ true }
+        ensures same { OnErr result (option_map view document.new ≡ option_map view document.old) }
     {
         match &self.kind {
-            Kind::Create(value) => match document {
-                None => Ok(Some(value.try_clone(alloc)?)),
-                Some(_) => Err(Code::E6),
-            },
-            Kind::Delete => Ok(None),
-            Kind::Edit(op) => match document {
-                None => Err(Code::E7),
-                Some(value) => Ok(Some(edited(alloc, value, op)?)),
-            },
-        }
-    }
-
-    /// What it makes of a document that stays as it is. Only an edit copies it.
-    pub fn applied_to(&self, alloc: Global, document: Option<&Json>) -> Result<Option<Json>, Code>
-        ensures ok { IfOk result (λ d. becomes self.now (option_map (λ v. view v.now) document.entry) ≡ Ok (option_map view d)) }
-        ensures err { IfErr result (λ code. RefusedBy (becomes self.now (option_map (λ v. view v.now) document.entry)) code) }
-    {
-        match &self.kind {
-            Kind::Create(value) => match document {
-                None => Ok(Some(value.try_clone(alloc)?)),
-                Some(_) => Err(Code::E6),
-            },
-            Kind::Delete => Ok(None),
-            Kind::Edit(op) => match document {
-                None => Err(Code::E7),
-                Some(value) => {
-                    let copy = value.try_clone(alloc)?;
-                    Ok(Some(edited(alloc, copy, op)?))
-                }
-            },
+            Kind::Create(value) => create_in(alloc, value, document),
+            Kind::Delete => {
+                *document = None;
+                Ok(())
+            }
+            Kind::Edit(op) => edit_in(alloc, op, document),
         }
     }
 }
 
-fn edited(alloc: Global, mut value: Json, op: &Op) -> Result<Json, Code>
-    ensures ok { IfOk result (λ v. edited op.now (view value) ≡ Ok (view v)) }
-    ensures err { IfErr result (λ code. RefusedBy (edited op.now (view value)) code) }
+fn create_in(alloc: Global, value: &Json, document: &mut Option<Json>) -> Result<(), Code>
+    ensures ok { OnOk result (becomes (create (view value.now)) (option_map view document.old) ≡ Ok (option_map view document.new)) }
+    ensures err { IfErr result (λ code. RefusedBy (becomes (create (view value.now)) (option_map view document.old)) code) }
+    ensures same { OnErr result (option_map view document.new ≡ option_map view document.old) }
 {
-    match apply(alloc, &mut value, op) {
-        Ok(()) => Ok(value),
-        Err(refused) => match refused.why {
+    if document.is_some() {
+        return Err(Code::E6);
+    }
+    *document = Some(value.try_clone(alloc)?);
+    Ok(())
+}
+
+fn edit_in(alloc: Global, op: &Op, document: &mut Option<Json>) -> Result<(), Code>
+    ensures ok { OnOk result (becomes (edit op.now) (option_map view document.old) ≡ Ok (option_map view document.new)) }
+    ensures err { IfErr result (λ code. RefusedBy (becomes (edit op.now) (option_map view document.old)) code) }
+    ensures memory { IsErrOf result E10 → becoming_takes_memory (edit op.now) ≡ true }
+    ensures same { OnErr result (option_map view document.new ≡ option_map view document.old) }
+{
+    match document {
+        None => Err(Code::E7),
+        Some(value) => edit_value(alloc, op, value),
+    }
+}
+
+fn edit_value(alloc: Global, op: &Op, value: &mut Json) -> Result<(), Code>
+    ensures ok { OnOk result (edited op.now (view value.old) ≡ Ok (view value.new)) }
+    ensures err { IfErr result (λ code. RefusedBy (edited op.now (view value.old)) code) }
+    ensures memory { IsErrOf result E10 → whole_takes_memory op.now ≡ true }
+    ensures same { OnErr result (view value.new ≡ view value.old) }
+{
+    match apply_whole(alloc, value, op) {
+        Ok(()) => Ok(()),
+        Err(fault) => match fault {
             ApplyFault::NotApplied => Err(Code::E8),
             ApplyFault::Memory => Err(Code::E10),
         },
@@ -176,5 +186,31 @@ fn edit_over(alloc: Global, op: &Op, other: &Op) -> Result<Content, Code>
             Fault::NotTransformed => Err(Code::E8),
             Fault::Memory => Err(Code::E10),
         },
+    }
+}
+
+/// What a content becomes along stored entries, each after the one before, up to the first refusal.
+/// `None` where there are no entries: the content stays as it is.
+pub fn over_all(
+    alloc: Global,
+    content: &Content,
+    entries: &[Entry],
+) -> Result<Option<Content>, Code>
+    ensures ok { IfOk result (λ m. over_all content.now entries.now ≡ Ok (unwrap_or m content.now)) }
+    ensures err { IfErr result (λ code. RefusedBy (over_all content.now entries.now) code) }
+{
+    let mut carried = None;
+    for entry in entries {
+        carried = Some(over(alloc, carried_or(&carried, content), entry.content())?);
+    }
+    Ok(carried)
+}
+
+fn carried_or<'c>(carried: &'c Option<Content>, content: &'c Content) -> &'c Content
+    ensures { result.now ≡ unwrap_or carried.now content.now }
+{
+    match carried {
+        Some(carried) => carried,
+        None => content,
     }
 }

@@ -184,3 +184,14 @@ impl Entry {
         Ok(Entry::new(self.version, content, arrived))
     }
 }
+
+/// Copies of the entries, in their order.
+pub fn copy_entries(alloc: Global, entries: &[Entry]) -> Result<Vec<Entry>, AllocError>
+    ensures { IfOk result (λ v. v.items ≡ entries.now) }
+{
+    let mut copies = Vec::with_capacity(alloc, entries.len())?;
+    for entry in entries {
+        copies.push(entry.try_clone(alloc)?)?;
+    }
+    Ok(copies)
+}

@@ -2,13 +2,16 @@
 #![tactic(auto)]
 
 mod codes;
+mod comparing;
 mod contents;
 mod entries;
+mod index;
 mod keys;
 mod logs;
 
 pub use codes::Code;
-pub use contents::{Content, Kind, over};
-pub use entries::{Entry, Submission};
+pub use comparing::same_entries;
+pub use contents::{Content, Kind, over, over_all};
+pub use entries::{Entry, Submission, copy_entries};
 pub use keys::Key;
-pub use logs::{Log, MAX};
+pub use logs::{Log, MAX, Prepared, Unprepared};

@@ -1,10 +1,14 @@
 //! The log of a document.
-ghost use Rattle.std.specs.Prelude.{◌≡◌, ◌<◌, ◌≤◌, [], ◌∷◌, ◌++◌, length, take, drop, slice_get, true, Some, None, OnOk, OnErr, IfOk, option_map, is_some, IsTrue, ◌↔◌};
+ghost use Rattle.std.specs.Prelude.{◌≡◌, ◌<◌, ◌≤◌, ℕ, List, [], ◌∷◌, ◌++◌, length, vec_len, vec_capacity, bytes_eq, nat_eq, ◌&&◌, if◌then◌else◌, take, drop, slice_get, true, Some, None, OnOk, OnErr, IfOk, IfErr, option_map, is_some, unwrap_or, IsTrue, ◌↔◌};
 ghost use Rattle.sdb_value.specs.View.{view};
 ghost use Rattle.sdb_oplog.specs.Snap.{snap, stored_at, are_first};
+ghost use Rattle.sdb_oplog.specs.Logged.{stored_entry};
+ghost use Rattle.sdb_oplog.specs.Placed.{place_in, HasRoom};
 
 use crate::codes::Code;
-use crate::entries::Entry;
+use crate::contents::Content;
+use crate::entries::{Entry, Submission};
+use crate::index::Index;
 use sdb_value::Json;
 use std::alloc::{AllocError, Global};
 use std::marker::Model;
@@ -16,13 +20,13 @@ pub const MAX: u64 = 9007199254740991;
 /// an effect where it stands, and there are at most [`MAX`] of them.
 #[derive(Drop)]
 pub struct Log {
+    alloc: Global,
     entries: Vec<Entry>,
-    // the number of each entry's submission: a search for a repeat reads these, and few entries
-    numbers: Vec<u64>,
+    index: Index,
 }
 
 impl Model for Log {
-    ghost use Rattle.std.specs.Prelude.{◌≡◌, ◌≤◌, List, [], length, map, true, is_some};
+    ghost use Rattle.std.specs.Prelude.{List};
     ghost use Rattle.sdb_oplog.specs.Plain.{PlainEntry};
     ghost use Rattle.sdb_oplog.specs.Coding.{log_code};
 
@@ -30,11 +34,44 @@ impl Model for Log {
 
     ghost coded = { log_code };
 
-    ghost use Rattle.sdb_oplog.specs.Snap.{are_first, snap};
+    ghost use Rattle.sdb_oplog.specs.Logged.{IsLog};
 
     ghost view = { λ l. l.entries.items };
 
-    ghost invariant = { λ l. (are_first [] l.entries.items ≡ true) × (is_some (snap l.entries.items) ≡ true) × (length l.entries.items ≤ 9007199254740991) × (l.numbers.items ≡ map (λ e. e.arrived.seq) l.entries.items) };
+    ghost invariant = { λ l. IsLog l.entries.items l.index };
+}
+
+/// A log with a submission that room is made for: to store it takes no memory.
+#[derive(Drop)]
+pub struct Prepared {
+    alloc: Global,
+    entries: Vec<Entry>,
+    index: Index,
+    submission: Submission,
+}
+
+impl Model for Prepared {
+    ghost use Rattle.std.specs.Prelude.{◌<◌, vec_len, vec_capacity};
+    ghost use Rattle.sdb_oplog.specs.Plain.{PlainPrepared};
+    ghost use Rattle.sdb_oplog.specs.Coding.{prepared_code};
+
+    ghost Value = { PlainPrepared };
+
+    ghost coded = { prepared_code };
+
+    ghost use Rattle.sdb_oplog.specs.Logged.{IsLog};
+    ghost use Rattle.sdb_oplog.specs.Placed.{HasRoom};
+
+    ghost view = { λ p. record { log = p.entries.items; submission = p.submission } };
+
+    ghost invariant = { λ p. IsLog p.entries.items p.index × (vec_len p.entries < vec_capacity p.entries) × HasRoom p.index p.submission.src };
+}
+
+/// A log and a submission that no room could be made for, both as they were.
+#[derive(Drop)]
+pub struct Unprepared {
+    pub log: Log,
+    pub submission: Submission,
 }
 
 impl Log {
@@ -43,8 +80,9 @@ impl Log {
         ensures { result ≡ [] }
     {
         Log {
+            alloc,
             entries: Vec::new(alloc),
-            numbers: Vec::new(alloc),
+            index: Index::new(alloc),
         }
     }
 
@@ -80,17 +118,12 @@ impl Log {
         &self.entries.as_slice()[version as usize..]
     }
 
-    /// The version of the entry that came from this source and number, wherever it stands. It walks
-    /// the whole log.
+    /// The version of the entry that came from this source and number, wherever it stands. It is looked
+    /// up in an index, however long the log is.
     pub fn stored_at(&self, src: &str, seq: u64) -> Option<u64>
         ensures { result ≡ stored_at src.now seq self.now }
     {
-        for (at, number) in self.numbers.iter().enumerate() {
-            if *number == seq && self.entries[at].is_from(src, seq) {
-                return Some(at as u64);
-            }
-        }
-        None
+        self.index.find(src, seq)
     }
 
     /// Stores an entry. After want of memory the log is unchanged.
@@ -101,26 +134,51 @@ impl Log {
         ensures ok { OnOk result (self.new ≡ self.old ++ entry ∷ []) }
         ensures err { OnErr result (self.new ≡ self.old) }
     {
-        self.numbers.push(entry.arrived().seq())?;
-        match self.entries.push(entry) {
-            Ok(()) => Ok(()),
-            Err(_) => {
-                let _ = self.numbers.pop();
-                Err(AllocError)
-            }
+        make_room(self.alloc, &mut self.entries, &mut self.index, entry.arrived().src())?;
+        put(&mut self.entries, &mut self.index, entry);
+        Ok(())
+    }
+
+    /// Makes room for the entry of a submission, so that to store it takes no memory. After want of
+    /// memory the log and the submission come back as they were.
+    pub fn prepare(self, submission: Submission) -> Result<Prepared, Unprepared>
+        ensures ok { IfOk result (λ p. p ≡ record { log = self; submission = submission }) }
+        ensures log { IfErr result (λ u. u.log ≡ self) }
+        ensures submission { IfErr result (λ u. u.submission ≡ submission) }
+    {
+        let Log {
+            alloc,
+            mut entries,
+            mut index,
+        } = self;
+        match make_room(alloc, &mut entries, &mut index, submission.src()) {
+            Ok(()) => Ok(Prepared {
+                alloc,
+                entries,
+                index,
+                submission,
+            }),
+            Err(_) => Err(Unprepared {
+                log: Log {
+                    alloc,
+                    entries,
+                    index,
+                },
+                submission,
+            }),
         }
     }
 
     /// The document after the first entries, at most all. It applies them one by one.
-    pub fn replay(&self, alloc: Global, version: u64) -> Result<Option<Json>, AllocError>
+    pub fn replay(&self, version: u64) -> Result<Option<Json>, AllocError>
         requires { version ≤ length self.now }
         ensures { IfOk result (λ d. snap (take version self.now) ≡ Some (option_map view d)) }
     {
         let mut document = None;
         let entries = self.entries.as_slice();
         for at in 0..version as usize {
-            match entries[at].content().apply_to(alloc, document) {
-                Ok(after) => document = after,
+            match entries[at].content().apply_to(self.alloc, &mut document) {
+                Ok(()) => {}
                 Err(code) => match code {
                     Code::E10 => return Err(AllocError),
                     _ => unreachable!(),
@@ -129,4 +187,87 @@ impl Log {
         }
         Ok(document)
     }
+}
+
+impl Prepared {
+    /// The submission.
+    pub fn submission(&self) -> &Submission
+        ensures { result.now ≡ self.now.submission }
+    {
+        &self.submission
+    }
+
+    /// Stores the submission with this content; without one, with the content that arrived.
+    pub fn store(self, content: Option<Content>) -> Log
+        requires first { stored_at self.submission.src self.submission.seq self.log ≡ None }
+        requires lives { is_some (snap (self.log ++ stored_entry self content ∷ [])) ≡ true }
+        requires room { length self.log < MAX }
+        ensures { result ≡ self.log ++ stored_entry self content ∷ [] }
+    {
+        let Prepared {
+            alloc,
+            mut entries,
+            mut index,
+            submission,
+        } = self;
+        let version = entries.as_slice().len() as u64;
+        let entry = Entry::new(version, content, submission);
+        put(&mut entries, &mut index, entry);
+        Log {
+            alloc,
+            entries,
+            index,
+        }
+    }
+
+    /// The log and the submission, where nothing is stored.
+    pub fn give_up(self) -> (Log, Submission)
+        ensures log { result.0 ≡ self.log }
+        ensures submission { result.1 ≡ self.submission }
+    {
+        let Prepared {
+            alloc,
+            entries,
+            mut index,
+            submission,
+        } = self;
+        index.forget_unused(submission.src());
+        let log = Log {
+            alloc,
+            entries,
+            index,
+        };
+        (log, submission)
+    }
+}
+
+// Makes room for one more entry of the source.
+fn make_room(
+    alloc: Global,
+    entries: &mut Vec<Entry>,
+    index: &mut Index,
+    src: &str,
+) -> Result<(), AllocError>
+    ensures entries { entries.new.items ≡ entries.old.items }
+    ensures places { (s : List ℕ) (n : ℕ) → place_in index.new s n ≡ place_in index.old s n }
+    ensures room { OnOk result (vec_len entries.new < vec_capacity entries.new) }
+    ensures source { OnOk result (HasRoom index.new src.now) }
+{
+    entries.reserve(1)?;
+    index.make_room(alloc, src)
+}
+
+// Puts an entry behind the others. Room is made for it.
+fn put(entries: &mut Vec<Entry>, index: &mut Index, entry: Entry)
+    requires room { vec_len entries.old < vec_capacity entries.old }
+    requires source { HasRoom index.old entry.arrived.src }
+    ensures entries { entries.new.items ≡ entries.old.items ++ entry ∷ [] }
+    ensures places { (s : List ℕ) (n : ℕ) → place_in index.new s n
+        ≡ (if nat_eq entry.arrived.seq n && bytes_eq entry.arrived.src s then Some (length entries.old.items) else place_in index.old s n) }
+{
+    let at = entries.len() as u64;
+    index.put(entry.arrived().src(), entry.arrived().seq(), at);
+    let Ok(()) = entries.push(entry) else {
+        unreachable!();
+    };
 }

@@ -1,0 +1,18 @@
+-- A code of attempts, by which a proof tells them apart.
+use Rattle.std.specs.Prelude.{ℕ, List, Option, refl}
+use Rattle.std.specs.Coded.{Coded, code_by, coded×, coded_ℕ, coded_option}
+use Rattle.sdb_oplog.specs.Plain.{PlainEntry, PlainSubmission}
+use Rattle.sdb_oplog.specs.Coding.{submission_code, log_code}
+use Rattle.sdb_desk.specs.Machine.{PlainAttempt}
+
+-- the submission, and the look: version, repeat, missed
+abbrev Fields : Type 0
+Fields = PlainSubmission × ((ℕ × Option ℕ) × List PlainEntry)
+
+abbrev fields_code : Coded Fields
+fields_code = coded× submission_code (coded× (coded× coded_ℕ (coded_option coded_ℕ)) log_code)
+
+abbrev pub attempt_code : Coded PlainAttempt
+attempt_code =
+    code_by Fields fields_code (λ a. (a.submission, ((a.look.version, a.look.repeat), a.look.missed))) (λ p. record { submission = p.0; look = record { version = p.1.0.0; repeat = p.1.0.1; missed = p.1.1 } })
+    (λ _. refl)

@@ -1,0 +1,28 @@
+-- What a document keeps beside its log, and a submission that will be stored unless the document refuses it.
+use Rattle.std.specs.Prelude.{◌≡◌, ◌≢◌, ℕ, ◌<◌, ◌≤◌, List, [], length, Option, Some, None, option_map, unwrap_or, Ok}
+use Rattle.sdb_value.specs.View.{view}
+use Rattle.sdb_value.specs.declared.value.Json.{Json}
+use Rattle.sdb_oplog.specs.Plain.{PlainContent, PlainEntry}
+use Rattle.sdb_oplog.specs.Over.{over_all}
+use Rattle.sdb_oplog.specs.Snap.{snap, stored_at}
+use Rattle.sdb_oplog.specs.Decide.{since, missed, IsMade}
+use Rattle.sdb_desk.specs.Machine.{PlainAttempt}
+
+-- the document is the one that the log makes, and the log is made
+pub record IsMadeDocument (log : List PlainEntry) (present : Option Json) : Type 0 where
+  pub makes : snap log ≡ Some (option_map view present)
+  pub made : IsMade log
+
+-- and something is stored
+pub record IsDocument (log : List PlainEntry) (present : Option Json) : Type 0 where
+  pub keeps : IsMadeDocument log present
+  pub filled : log ≢ []
+
+-- the submission is new, there is room, its version has been reached, and along what it missed it became this content;
+-- without a content it stays as it arrived
+pub record Settles (log : List PlainEntry) (a : PlainAttempt) (content : Option PlainContent) : Type 0 where
+  pub first : stored_at a.submission.src a.submission.seq log ≡ None
+  pub room : length log < 9007199254740991
+  pub seen : since log a.submission ≤ length log
+  pub looked : a.look.missed ≡ missed log a.submission
+  pub over : over_all a.submission.content (missed log a.submission) ≡ Ok (unwrap_or content a.submission.content)

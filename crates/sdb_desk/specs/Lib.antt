@@ -1,0 +1,7 @@
+pub mod Coding
+pub mod Documents
+pub mod Held
+pub mod Keyed
+pub mod Machine
+pub mod Shown
+pub mod Told

@@ -1,0 +1,59 @@
+-- The machine that takes each submission in one step: what a look shows, what a commit does, and what is read.
+use Rattle.std.specs.Prelude.{◌≡◌, ◌≢◌, ℕ, List, length, drop, if◌then◌else◌, nat_lt, Option, Result, Ok, Err, ◌⊎◌}
+use Rattle.sdb_value.specs.Value.{Value}
+use Rattle.sdb_oplog.specs.Plain.{PlainEntry, PlainSubmission}
+use Rattle.sdb_oplog.specs.Decide.{PlainReply, refused, decide, missed}
+use Rattle.sdb_oplog.specs.Keys.{PlainKey, Logs, with_log}
+use Rattle.sdb_oplog.specs.Snap.{document, stored_at}
+use Rattle.sdb_oplog.specs.declared.codes.Code.{Code}
+use Rattle.sdb_oplog.specs.declared.codes.Code.TheVariants.{E4, E10}
+
+pub record PlainLook : Type 0 where
+  pub version : ℕ
+  pub repeat : Option ℕ
+  pub missed : List PlainEntry
+
+pub record PlainAttempt : Type 0 where
+  pub submission : PlainSubmission
+  pub look : PlainLook
+
+pub data PlainOutcome : Type 0 where
+  decided : PlainReply → PlainOutcome
+  moved : PlainLook → PlainOutcome
+
+-- a version, and the document there
+pub record PlainFetched : Type 0 where
+  pub version : ℕ
+  pub snapshot : Option Value
+
+-- what a look at a log shows: nothing is missed where the version is above the length
+abbrev pub look_at : List PlainEntry → PlainSubmission → PlainLook
+look_at log s = record { version = length log; repeat = stored_at s.src s.seq log; missed = missed log s }
+
+-- the submission was decided, or memory was wanting and nothing has changed
+abbrev pub Decides : Logs → PlainKey → PlainSubmission → PlainReply → Logs → Type 0
+Decides logs k s r new = ((r ≡ refused E10) × (new ≡ logs)) ⊎ ((r ≡ (decide (logs k) s).reply) × (new ≡ with_log logs k (decide (logs k) s).log))
+
+-- a commit decides where the log is as long as it was looked at. Elsewhere it shows the log afresh and changes nothing
+abbrev pub Commits : Logs → PlainKey → PlainAttempt → PlainOutcome → Logs → Type 0
+Commits logs k a (decided r) new =
+    ((r ≡ refused E10) × (new ≡ logs))
+    ⊎ ((length (logs k) ≡ a.look.version) × (r ≡ (decide (logs k) a.submission).reply) × (new ≡ with_log logs k (decide (logs k) a.submission).log))
+Commits logs k a (moved l) new = (length (logs k) ≢ a.look.version) × (l ≡ look_at (logs k) a.submission) × (new ≡ logs)
+
+-- a commit that doesn't decide leaves the work as it was
+abbrev pub Keeps : PlainOutcome → PlainAttempt → PlainAttempt → Type 0
+Keeps (moved l) old new = new ≡ old
+Keeps (decided r) old new = r ≡ refused E10 → new ≡ old
+
+-- the present version and document
+abbrev pub fetched : List PlainEntry → PlainFetched
+fetched log = record { version = length log; snapshot = document log }
+
+-- the entries from a version on, if the log has come so far
+abbrev pub operations : List PlainEntry → ℕ → Result (List PlainEntry) Code
+operations log v = if nat_lt (length log) v then Err E4 else Ok (drop v log)
+
+-- a read answers this, or memory was wanting
+abbrev pub Reads : {A : Type 0} → Result A Code → Result A Code → Type 0
+Reads r due = (r ≡ Err E10) ⊎ (r ≡ due)

@@ -1,0 +1,10 @@
+//! The documents of a server: what a look at one shows, and how a submission is committed to it.
+#![tactic(auto)]
+
+mod attempts;
+mod document;
+mod shard;
+
+pub use attempts::{Attempt, Look, Work};
+pub use document::Reply;
+pub use shard::{Fetched, Outcome, Shard};

@@ -1,0 +1,250 @@
+//! All documents, by key.
+ghost use Rattle.std.specs.Prelude.{◌≡◌, [], length, IfOk, IfErr, IsTrue, OnOk, OnErr, Ok, option_map, unwrap_or};
+ghost use Rattle.sdb_oplog.specs.Decide.{decide, missed, IsMade};
+ghost use Rattle.sdb_oplog.specs.Keys.{no_logs, with_log, plain_key};
+ghost use Rattle.sdb_value.specs.View.{view};
+ghost use Rattle.sdb_desk.specs.Keyed.{logs_of};
+ghost use Rattle.sdb_desk.specs.Machine.{look_at, fetched, operations, Decides, Commits, Keeps, Reads};
+ghost use Rattle.sdb_desk.specs.Shown.{plain_look, plain_outcome, told_fetched, told_entries};
+ghost use Rattle.sdb_desk.specs.Told.{plain_reply};
+
+use crate::attempts::{Attempt, Look, Work};
+use crate::document::{Document, Reply, look_at, missed_of};
+use sdb_oplog::{Code, Entry, Key, Log, Submission, copy_entries, same_entries};
+use sdb_value::Json;
+use std::alloc::{AllocError, Global};
+use std::collections::BTreeMap;
+use std::mem;
+
+/// What a commit answers.
+#[derive(Drop)]
+pub enum Outcome {
+    /// The submission is decided.
+    Decided(Reply),
+    /// The log is not as long as it was looked at: it is shown afresh.
+    Moved(Look),
+}
+
+/// A version, and the document there.
+#[derive(Drop)]
+pub struct Fetched {
+    pub version: u64,
+    pub snapshot: Option<Json>,
+}
+
+/// The documents that something is stored of, by key. A key without one has version 0.
+#[derive(Drop)]
+pub struct Shard {
+    alloc: Global,
+    by_key: BTreeMap<Key, Document>,
+}
+
+impl Shard {
+    /// A shard in which nothing is stored. It keeps the allocator.
+    pub fn new(alloc: Global) -> Shard
+        ensures { logs_of result ≡ no_logs }
+    {
+        Shard {
+            alloc,
+            by_key: BTreeMap::new(alloc),
+        }
+    }
+
+    // The document of the key, if something is stored of it.
+    fn find(&self, key: &Key) -> Option<&Document>
+        ensures { unwrap_or (option_map (λ d. d.now) result) [] ≡ logs_of self.now (plain_key key.now) }
+    {
+        self.by_key.get(key)
+    }
+
+    /// The log of the document, if something is stored of it. Each log is made: its entries are those
+    /// that were decided, one after the other.
+    pub fn log(&self, key: &Key) -> Option<&Log>
+        ensures log { unwrap_or (option_map (λ l. l.now) result) [] ≡ logs_of self.now (plain_key key.now) }
+        ensures made { IsMade (logs_of self.now (plain_key key.now)) }
+    {
+        match self.find(key) {
+            Some(document) => Some(document.log()),
+            None => None,
+        }
+    }
+
+    /// What a look at the document shows for a submission. It fails only for want of memory.
+    pub fn look(&self, key: &Key, submission: &Submission) -> Result<Look, AllocError>
+        ensures { IfOk result (λ l. plain_look l ≡ look_at (logs_of self.now (plain_key key.now)) submission.now) }
+    {
+        match self.find(key) {
+            Some(document) => look_at(self.alloc, document.log(), submission),
+            None => look_at(self.alloc, &Log::new(self.alloc), submission),
+        }
+    }
+
+    /// Decides the submission of a work, where the log is as long as it was looked at; elsewhere it
+    /// shows the log afresh. What was worked is used only where each entry that the look showed as
+    /// missed stands in the log; elsewhere the submission is worked afresh.
+    ///
+    /// `Refused(E10)` is want of memory. Then, and where the log has moved, nothing has changed and the
+    /// work is as it was.
+    pub fn commit(&mut self, key: &Key, work: &mut Work) -> Outcome
+        ensures commits { Commits (logs_of self.old) (plain_key key.now) work.old (plain_outcome result) (logs_of self.new) }
+        ensures keeps { Keeps (plain_outcome result) work.old work.new }
+    {
+        if self.version(key) != work.version() {
+            return match self.look(key, work.submission()) {
+                Ok(look) => Outcome::Moved(look),
+                Err(_) => Outcome::Decided(Reply::Refused(Code::E10)),
+            };
+        }
+        if !self.agrees(key, work) {
+            return Outcome::Decided(self.commit_now(key, work.submission()));
+        }
+        match self.decide(key, mem::replace(work, Work::blank(self.alloc))) {
+            Ok(reply) => Outcome::Decided(reply),
+            Err(back) => {
+                *work = back;
+                Outcome::Decided(Reply::Refused(Code::E10))
+            }
+        }
+    }
+
+    // Whether the entries that the work rests on are those that its submission missed.
+    fn agrees(&self, key: &Key, work: &Work) -> bool
+        ensures { IsTrue result → work.now.look.missed ≡ missed (logs_of self.now (plain_key key.now)) work.now.submission }
+    {
+        match self.find(key) {
+            Some(document) => {
+                same_entries(work.missed(), missed_of(document.log(), work.submission()))
+            }
+            None => work.missed().is_empty(),
+        }
+    }
+
+    /// Decides a submission in one step. `Refused(E10)` is want of memory: nothing has changed.
+    pub fn commit_now(&mut self, key: &Key, submission: &Submission) -> Reply
+        ensures { Decides (logs_of self.old) (plain_key key.now) submission.now (plain_reply result) (logs_of self.new) }
+    {
+        let Ok(work) = self.work_now(key, submission) else {
+            return Reply::Refused(Code::E10);
+        };
+        match self.decide(key, work) {
+            Ok(reply) => reply,
+            Err(_) => Reply::Refused(Code::E10),
+        }
+    }
+
+    // The submission, worked along the entries that it has missed now.
+    fn work_now(&self, key: &Key, submission: &Submission) -> Result<Work, AllocError>
+        ensures submission { IfOk result (λ w. w.submission ≡ submission.now) }
+        ensures missed { IfOk result (λ w. w.look.missed ≡ missed (logs_of self.now (plain_key key.now)) submission.now) }
+    {
+        let look = self.look(key, submission)?;
+        let attempt = Attempt {
+            submission: submission.try_clone(self.alloc)?,
+            look,
+        };
+        match Work::of(self.alloc, attempt) {
+            Ok(work) => Ok(work),
+            Err(_) => Err(AllocError),
+        }
+    }
+
+    // The present version.
+    fn version(&self, key: &Key) -> u64
+        ensures { result ≡ length (logs_of self.now (plain_key key.now)) }
+    {
+        match self.find(key) {
+            Some(document) => document.log().len(),
+            None => 0,
+        }
+    }
+
+    // Decides the submission of a work that rests on the entries that it missed. Where memory is wanting
+    // the work comes back, and nothing has changed.
+    fn decide(&mut self, key: &Key, work: Work) -> Result<Reply, Work>
+        requires { work.look.missed ≡ missed (logs_of self.old (plain_key key.now)) work.submission }
+        ensures reply { IfOk result (λ r. plain_reply r ≡ (decide (logs_of self.old (plain_key key.now)) work.submission).reply) }
+        ensures logs { OnOk result (logs_of self.new ≡ with_log (logs_of self.old) (plain_key key.now) (decide (logs_of self.old (plain_key key.now)) work.submission).log) }
+        ensures work { IfErr result (λ w. w ≡ work) }
+        ensures err { OnErr result (logs_of self.new ≡ logs_of self.old) }
+    {
+        match self.by_key.get_mut(key) {
+            Some(document) => document.decide(self.alloc, work),
+            None => self.decide_first(key, work),
+        }
+    }
+
+    // Decides a submission to a key that nothing is stored of. It works on a copy, so that nothing is left
+    // where there is no memory to keep the document.
+    fn decide_first(&mut self, key: &Key, work: Work) -> Result<Reply, Work>
+        requires nothing { [] ≡ logs_of self.old (plain_key key.now) }
+        requires missed { work.look.missed ≡ missed [] work.submission }
+        ensures reply { IfOk result (λ r. plain_reply r ≡ (decide [] work.submission).reply) }
+        ensures logs { OnOk result (logs_of self.new ≡ with_log (logs_of self.old) (plain_key key.now) (decide [] work.submission).log) }
+        ensures work { IfErr result (λ w. w ≡ work) }
+        ensures err { OnErr result (logs_of self.new ≡ logs_of self.old) }
+    {
+        let Ok(copy) = work.try_clone(self.alloc) else {
+            return Err(work);
+        };
+        let Ok((reply, made)) = Document::first(self.alloc, copy) else {
+            return Err(work);
+        };
+        match made {
+            None => Ok(reply),
+            Some(document) => match self.keep(key, document) {
+                Ok(()) => Ok(reply),
+                Err(_) => Err(work),
+            },
+        }
+    }
+
+    // Keeps the document of a key.
+    fn keep(&mut self, key: &Key, document: Document) -> Result<(), AllocError>
+        ensures ok { OnOk result (logs_of self.new ≡ with_log (logs_of self.old) (plain_key key.now) document) }
+        ensures err { OnErr result (logs_of self.new ≡ logs_of self.old) }
+    {
+        drop(self.by_key.insert(key.try_clone()?, document)?);
+        Ok(())
+    }
+
+    /// The present version, and a copy of the document there. E10 is want of memory.
+    pub fn fetch(&self, key: &Key) -> Result<Fetched, Code>
+        ensures { Reads (told_fetched result) (Ok (fetched (logs_of self.now (plain_key key.now)))) }
+    {
+        match self.find(key) {
+            Some(document) => Ok(Fetched {
+                version: document.log().len(),
+                snapshot: copy_of(self.alloc, document.present())?,
+            }),
+            None => Ok(Fetched {
+                version: 0,
+                snapshot: None,
+            }),
+        }
+    }
+
+    /// Copies of the stored operations from a version on. E4 where the version is above the present one,
+    /// E10 is want of memory.
+    pub fn ops_from(&self, key: &Key, version: u64) -> Result<Vec<Entry>, Code>
+        ensures { Reads (told_entries result) (operations (logs_of self.now (plain_key key.now)) version) }
+    {
+        if self.version(key) < version {
+            return Err(Code::E4);
+        }
+        match self.find(key) {
+            Some(document) => {
+                Ok(copy_entries(self.alloc, document.log().entries_from(version))?)
+            }
+            None => Ok(Vec::new(self.alloc)),
+        }
+    }
+}
+
+fn copy_of(alloc: Global, document: Option<&Json>) -> Result<Option<Json>, AllocError>
+    ensures { IfOk result (λ d. option_map view d ≡ option_map (λ v. view v.now) document.entry) }
+{
+    match document {
+        Some(value) => Ok(Some(value.try_clone(alloc)?)),
+        None => Ok(None),
+    }
+}

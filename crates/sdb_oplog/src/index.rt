@@ -1,0 +1,81 @@
+//! Where the submissions of a log stand, by source and number.
+ghost use Rattle.std.specs.Prelude.{◌≡◌, ℕ, List, Some, None, IfSome, OnOk, if◌then◌else◌, ◌&&◌, bytes_eq, nat_eq};
+ghost use Rattle.sdb_oplog.specs.Placed.{place_in, HasRoom};
+
+use std::alloc::{AllocError, Global};
+use std::collections::HashMap;
+
+// The place of each entry of a log, by the source and the number of its submission. A source may have
+// no number yet: room is then made for its first one.
+#[derive(Drop)]
+pub(crate) struct Index {
+    by_source: HashMap<String, HashMap<u64, u64>>,
+}
+
+impl Index {
+    pub(crate) fn new(alloc: Global) -> Index
+        ensures { (s : List ℕ) (n : ℕ) → place_in result s n ≡ None }
+    {
+        Index {
+            by_source: HashMap::new(alloc),
+        }
+    }
+
+    // The place of the entry of this source and number.
+    pub(crate) fn find(&self, src: &str, seq: u64) -> Option<u64>
+        ensures { result ≡ place_in self.now src.now seq }
+    {
+        let numbers = self.by_source.get(src)?;
+        numbers.get(&seq).copied()
+    }
+
+    // Makes room for one more number of the source.
+    pub(crate) fn make_room(&mut self, alloc: Global, src: &str) -> Result<(), AllocError>
+        ensures same { (s : List ℕ) (n : ℕ) → place_in self.new s n ≡ place_in self.old s n }
+        ensures room { OnOk result (HasRoom self.new src.now) }
+    {
+        match self.by_source.get_mut(src) {
+            Some(numbers) => numbers.reserve(1),
+            None => self.add_source(alloc, src),
+        }
+    }
+
+    // Puts a source in that has no number yet.
+    fn add_source(&mut self, alloc: Global, src: &str) -> Result<(), AllocError>
+        requires { (n : ℕ) → place_in self.old src.now n ≡ None }
+        ensures same { (s : List ℕ) (n : ℕ) → place_in self.new s n ≡ place_in self.old s n }
+        ensures room { OnOk result (HasRoom self.new src.now) }
+    {
+        let mut numbers = HashMap::new(alloc);
+        numbers.reserve(1)?;
+        let source = String::from_str(alloc, src)?;
+        drop(self.by_source.insert(source, numbers)?);
+        Ok(())
+    }
+
+    // Takes a source out that has no number.
+    pub(crate) fn forget_unused(&mut self, src: &str)
+        ensures { (s : List ℕ) (n : ℕ) → place_in self.new s n ≡ place_in self.old s n }
+    {
+        let Some(numbers) = self.by_source.get(src) else {
+            return;
+        };
+        if numbers.is_empty() {
+            drop(self.by_source.remove(src));
+        }
+    }
+
+    // Puts the place of one more number of the source. Room is made for it.
+    pub(crate) fn put(&mut self, src: &str, seq: u64, at: u64)
+        requires { HasRoom self.old src.now }
+        ensures { (s : List ℕ) (n : ℕ) → place_in self.new s n
+            ≡ (if nat_eq seq n && bytes_eq src.now s then Some at else place_in self.old s n) }
+    {
+        let Some(numbers) = self.by_source.get_mut(src) else {
+            unreachable!();
+        };
+        let Ok(_) = numbers.insert(seq, at) else {
+            unreachable!();
+        };
+    }
+}

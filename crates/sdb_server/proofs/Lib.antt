@@ -1,3 +1,0 @@
-pub mod Growing
-pub mod Looks
-pub mod Shown

@@ -1,6 +1,0 @@
-use Rattle.std.proofs.Common.{◌≡◌, drop, unwrap_or}
-use Rattle.sdb_oplog.specs.Over.{over_all}
-use Rattle.sdb_server.proofs.document.over_all.Given as goal
-
-abbrev pub invariant-loop-entry : goal.invariant-loop-entry
-invariant-loop-entry l = over_all l.content l.entries ≡ over_all (unwrap_or l.carried l.content) (drop l.entry-index l.entries)

@@ -1,0 +1,94 @@
+//! Desks: where documents are looked at, submissions committed and documents read.
+ghost use Rattle.std.specs.Prelude.{◌≡◌, ℕ};
+ghost use Rattle.sdb_oplog.specs.Keys.{PlainKey, plain_key};
+ghost use Rattle.sdb_desk.specs.Machine.{Keeps};
+ghost use Rattle.sdb_desk.specs.Shown.{plain_outcome, told_fetched, told_entries};
+ghost use Rattle.sdb_desk.specs.Told.{plain_reply};
+ghost use Rattle.sdb_submit.specs.Calls.{PlainCall, look, commit, commit_now, fetch, ops_from, AnswerTo, told_look};
+
+use sdb_desk::{Fetched, Look, Outcome, Reply, Work};
+use sdb_oplog::{Code, Entry, Key, Submission};
+use std::alloc::AllocError;
+
+/// Where documents are looked at, submissions committed and documents read. An implementation names
+/// how each of its calls relates the pass before it, what it answers and the pass after it.
+pub trait Desk {
+    /// What a caller holds to call the desk.
+    type Pass;
+
+    // Whether a pass may be used here.
+    ghost takes: { Self → Self.Pass → Type 0 };
+
+    // The number of a pass.
+    ghost number: { Self → Self.Pass → ℕ };
+
+    // How a call at a key relates the pass before, what is answered and the pass after.
+    ghost acts: { Self → PlainKey → (c : PlainCall) → Self.Pass → AnswerTo c → Self.Pass → Type 0 };
+
+    /// What a look at the document shows for a submission. It fails only for want of memory.
+    fn look(
+        &self,
+        pass: &mut Self::Pass,
+        key: &Key,
+        submission: &Submission,
+    ) -> Result<Look, AllocError>
+        requires takes { takes self.now pass.old }
+        requires by { submission.now.by ≡ number self.now pass.old }
+        ensures takes { takes self.now pass.new }
+        ensures number { number self.now pass.new ≡ number self.now pass.old }
+        ensures acts { acts self.now (plain_key key.now) (look submission.now) pass.old (told_look result) pass.new };
+
+    /// Decides the submission of the work, if the log stands as it was looked at.
+    fn commit(&self, pass: &mut Self::Pass, key: &Key, work: &mut Work) -> Outcome
+        requires takes { takes self.now pass.old }
+        requires by { work.old.submission.by ≡ number self.now pass.old }
+        ensures takes { takes self.now pass.new }
+        ensures number { number self.now pass.new ≡ number self.now pass.old }
+        ensures keeps { Keeps (plain_outcome result) work.old work.new }
+        ensures acts { acts self.now (plain_key key.now) (commit work.old) pass.old (plain_outcome result) pass.new };
+
+    /// Decides a submission.
+    fn commit_now(&self, pass: &mut Self::Pass, key: &Key, submission: &Submission) -> Reply
+        requires takes { takes self.now pass.old }
+        requires by { submission.now.by ≡ number self.now pass.old }
+        ensures takes { takes self.now pass.new }
+        ensures number { number self.now pass.new ≡ number self.now pass.old }
+        ensures acts { acts self.now (plain_key key.now) (commit_now submission.now) pass.old (plain_reply result) pass.new };
+
+    /// The present version and the document there, or E10.
+    fn fetch(&self, pass: &mut Self::Pass, key: &Key) -> Result<Fetched, Code>
+        requires { takes self.now pass.old }
+        ensures takes { takes self.now pass.new }
+        ensures number { number self.now pass.new ≡ number self.now pass.old }
+        ensures acts { acts self.now (plain_key key.now) fetch pass.old (told_fetched result) pass.new };
+
+    /// The stored operations from a version on; E4 where it is above the present one; or E10.
+    fn ops_from(
+        &self,
+        pass: &mut Self::Pass,
+        key: &Key,
+        version: u64,
+    ) -> Result<Vec<Entry>, Code>
+        requires { takes self.now pass.old }
+        ensures takes { takes self.now pass.new }
+        ensures number { number self.now pass.new ≡ number self.now pass.old }
+        ensures acts { acts self.now (plain_key key.now) (ops_from version) pass.old (told_entries result) pass.new };
+
+    /// The number of a pass: each submission through it has it as its `by`.
+    fn by(&self, pass: &Self::Pass) -> u64
+        ensures { result ≡ number self.now pass.now };
+}
+
+/// Is told before each commit of a submission.
+pub trait Gate {
+    /// The commit of this try, 1 to 8, comes next.
+    fn before_commit(&self, try_no: u64);
+}
+
+/// A gate that does nothing.
+#[derive(Clone, Copy, Drop)]
+pub struct NoGate;
+
+impl Gate for NoGate {
+    fn before_commit(&self, _try_no: u64) {}
+}

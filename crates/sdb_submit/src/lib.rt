@@ -1,0 +1,12 @@
+//! Submissions: a look, then tries of work and commit until one decides.
+#![tactic(auto)]
+
+mod desk;
+mod solo;
+mod submitting;
+mod working;
+
+pub use desk::{Desk, Gate, NoGate};
+pub use solo::{Solo, submit_solo};
+pub use submitting::submit;
+pub use working::work;

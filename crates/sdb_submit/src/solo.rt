@@ -1,0 +1,70 @@
+//! A desk for one caller, who holds the documents.
+ghost use Rattle.std.specs.Prelude.{◌≡◌, ⊤};
+ghost use Rattle.sdb_oplog.specs.Keys.{plain_key};
+ghost use Rattle.sdb_desk.specs.Keyed.{logs_of};
+ghost use Rattle.sdb_desk.specs.Machine.{Decides};
+ghost use Rattle.sdb_desk.specs.Told.{plain_reply};
+ghost use Rattle.sdb_submit.specs.Calls.{Acts};
+
+use crate::desk::{Desk, Gate};
+use crate::submitting::submit;
+use sdb_desk::{Fetched, Look, Outcome, Reply, Shard, Work};
+use sdb_oplog::{Code, Entry, Key, Submission};
+use std::alloc::{AllocError, Global};
+
+/// A desk whose pass is the shard itself. The number of the pass is 0, and no call waits.
+#[derive(Clone, Copy, Drop)]
+pub struct Solo;
+
+impl Desk for Solo {
+    type Pass = Shard;
+
+    ghost takes = { λ d p. ⊤ };
+
+    ghost number = { λ d p. 0 };
+
+    ghost acts = { λ d k c p a q. Acts (logs_of p) k c a (logs_of q) };
+
+    fn look(
+        &self,
+        pass: &mut Shard,
+        key: &Key,
+        submission: &Submission,
+    ) -> Result<Look, AllocError> {
+        pass.look(key, submission)
+    }
+
+    fn commit(&self, pass: &mut Shard, key: &Key, work: &mut Work) -> Outcome {
+        pass.commit(key, work)
+    }
+
+    fn commit_now(&self, pass: &mut Shard, key: &Key, submission: &Submission) -> Reply {
+        pass.commit_now(key, submission)
+    }
+
+    fn fetch(&self, pass: &mut Shard, key: &Key) -> Result<Fetched, Code> {
+        pass.fetch(key)
+    }
+
+    fn ops_from(&self, pass: &mut Shard, key: &Key, version: u64) -> Result<Vec<Entry>, Code> {
+        pass.ops_from(key, version)
+    }
+
+    fn by(&self, _pass: &Shard) -> u64 {
+        0
+    }
+}
+
+/// Submits to a shard: the submission is decided in one step, or answered E10 and nothing has changed.
+pub fn submit_solo<G: Gate>(
+    alloc: Global,
+    shard: &mut Shard,
+    key: &Key,
+    submission: &Submission,
+    gate: &G,
+) -> Reply
+    requires { submission.now.by ≡ 0 }
+    ensures { Decides (logs_of shard.old) (plain_key key.now) submission.now (plain_reply result) (logs_of shard.new) }
+{
+    submit(alloc, &Solo, shard, key, submission, gate)
+}

@@ -1,0 +1,105 @@
+//! The work on an attempt: its content, carried along the entries that it missed.
+ghost use Rattle.std.specs.Prelude.{◌≡◌, ◌≤◌, IfOk, IfErr, IfSome, IsTrue, length, take, drop};
+ghost use Rattle.sdb_oplog.specs.Over.{over_all};
+ghost use Rattle.sdb_oplog.specs.Refused.{result_then};
+ghost use Rattle.sdb_desk.specs.Shown.{plain_attempt, plain_look, content_or};
+
+use sdb_desk::{Attempt, Look, Work};
+use sdb_oplog::{Code, Content, Entry, Submission, over_all, same_entries};
+use std::alloc::Global;
+
+/// Works an attempt: it takes no lock and waits for nobody. The attempt is handed back, as it was, for
+/// want of memory alone.
+pub fn work(alloc: Global, attempt: Attempt) -> Result<Work, Attempt>
+    ensures ok { IfOk result (λ w. w ≡ plain_attempt attempt) }
+    ensures err { IfErr result (λ a. plain_attempt a ≡ plain_attempt attempt) }
+{
+    Work::of(alloc, attempt)
+}
+
+// The work for the look: the first work, or, where the log moved, what goes on from the last one.
+// None where memory is wanting.
+pub(crate) fn next_work(
+    alloc: Global,
+    submission: &Submission,
+    last: Option<Work>,
+    look: Look,
+) -> Option<Work>
+    requires { IfSome last (λ w. w.submission ≡ submission.now) }
+    ensures { IfSome result (λ w. w ≡ record { submission = submission.now; look = plain_look look }) }
+{
+    let made = match last {
+        Some(last) => go_on(alloc, last, look),
+        None => match submission.try_clone(alloc) {
+            Ok(submission) => work(alloc, Attempt { submission, look }),
+            Err(_) => return None,
+        },
+    };
+    made.ok()
+}
+
+// The work goes on by a fresh look. Only the entries behind those that were missed already are
+// transformed; where these aren't the first of the fresh look, or the submission has no version, it
+// starts afresh.
+fn go_on(alloc: Global, last: Work, look: Look) -> Result<Work, Attempt>
+    ensures { IfOk result (λ w. w ≡ record { submission = last.submission; look = plain_look look }) }
+{
+    let (attempt, worked) = last.into_parts();
+    let is_front = is_front(attempt.look.missed.as_slice(), look.missed.as_slice());
+    let known = attempt.look.missed.len();
+    let attempt = Attempt {
+        submission: attempt.submission,
+        look,
+    };
+    if attempt.submission.version().is_none() || !is_front {
+        return work(alloc, attempt);
+    }
+    let fresh = behind(attempt.look.missed.as_slice(), known);
+    match carried_on(alloc, attempt.submission.content(), worked, fresh) {
+        Some(worked) => Ok(Work::from_parts(attempt, worked)),
+        None => Err(attempt),
+    }
+}
+
+// Whether the entries are the first of the others.
+fn is_front(first: &[Entry], all: &[Entry]) -> bool
+    ensures long { IsTrue result → length first.now ≤ length all.now }
+    ensures same { IsTrue result → first.now ≡ take (length first.now) all.now }
+{
+    first.len() <= all.len() && same_entries(first, &all[..first.len()])
+}
+
+// The entries behind the first ones.
+fn behind(entries: &[Entry], first: usize) -> &[Entry]
+    requires { first ≤ length entries.now }
+    ensures { result.now ≡ drop first entries.now }
+{
+    &entries[first..]
+}
+
+// What was worked, along further entries; no content where it stays as it arrived. None where memory is
+// wanting.
+fn carried_on(
+    alloc: Global,
+    arrived: &Content,
+    worked: Result<Option<Content>, Code>,
+    entries: &[Entry],
+) -> Option<Result<Option<Content>, Code>>
+    ensures { IfSome result (λ r. content_or arrived.now r ≡ result_then (λ k. over_all k entries.now) (content_or arrived.now worked)) }
+{
+    match worked {
+        Err(code) => Some(Err(code)),
+        Ok(content) => {
+            let current = match &content {
+                Some(content) => content,
+                None => arrived,
+            };
+            match over_all(alloc, current, entries) {
+                Ok(None) => Some(Ok(content)),
+                Ok(Some(carried)) => Some(Ok(Some(carried))),
+                Err(Code::E10) => None,
+                Err(code) => Some(Err(code)),
+            }
+        }
+    }
+}
