@@ -1,8 +1,8 @@
 -- What is answered to the lines of one session: `Dialogue`.
-use Rattle.std.specs.Prelude.{ℕ, List, [], ◌∷◌, ◌++◌, length, drop, map, if◌then◌else◌, nat_lt, Bool, Option, Some, None, Result, Ok, Err, unwrap_or, codes}
+use Rattle.std.specs.Prelude.{ℕ, List, [], ◌∷◌, ◌++◌, length, drop, map, if◌then◌else◌, nat_lt, Bool, true, false, ◌≡◌, ◌⊎◌, Option, Some, None, Result, Ok, Err, unwrap_or, codes}
 use Rattle.std.specs.Result.{is_ok}
 use Rattle.sdb_oplog.specs.declared.codes.Code.{Code}
-use Rattle.sdb_oplog.specs.declared.codes.Code.TheVariants.{E1, E4}
+use Rattle.sdb_oplog.specs.declared.codes.Code.TheVariants.{E1, E4, E10}
 use Rattle.sdb_oplog.specs.Plain.{PlainContent, PlainSubmission, PlainEntry}
 use Rattle.sdb_oplog.specs.Keys.{PlainKey, Logs, with_log}
 use Rattle.sdb_oplog.specs.Snap.{document}
@@ -52,12 +52,17 @@ abbrev pub request_turn : PlainEcho → PlainRequest → Logs → Turn
 request_turn e (fetch k v) logs = record { answers = fetch_answers e k v (logs k); logs = logs }
 request_turn e (submit k v n src m) logs = submit_turn e k (submission_of k v n src m) logs
 
-abbrev pub heard_turn : PlainEcho → Result PlainRequest Code → Logs → Turn
-heard_turn e (Ok r) logs = request_turn e r logs
-heard_turn e (Err code) logs = record { answers = failed e code ∷ []; logs = logs }
+-- where the work on a request finds no memory it is answered E10, and nothing has changed
+abbrev pub marked : Bool → PlainEcho → Turn → Logs → Turn
+marked true e t logs = record { answers = failed e E10 ∷ []; logs = logs }
+marked false e t logs = t
 
-abbrev pub turn : List ℕ → Logs → Turn
-turn line logs = heard_turn (hear line).echo (hear line).request logs
+abbrev pub heard_turn : Bool → PlainEcho → Result PlainRequest Code → Logs → Turn
+heard_turn wanting e (Ok r) logs = marked wanting e (request_turn e r logs) logs
+heard_turn wanting e (Err code) logs = record { answers = failed e code ∷ []; logs = logs }
+
+abbrev pub turn : Bool → List ℕ → Logs → Turn
+turn wanting line logs = heard_turn wanting (hear line).echo (hear line).request logs
 
 -- a line is a step where it has a reading
 abbrev pub is_request : List ℕ → Bool
@@ -71,8 +76,16 @@ shown (a ∷ more) = (answer_text a ++ 10 ∷ []) ++ shown more
 abbrev pub opening : List ℕ
 opening = shown (init own_source ∷ [])
 
--- all that is written for the lines, from these logs on. None is a line that isn't UTF-8 or is too long
-abbrev pub dialogue : Logs → List (Option (List ℕ)) → List ℕ
-dialogue logs [] = []
-dialogue logs (None ∷ lines) = shown (failed nothing_said E1 ∷ []) ++ dialogue logs lines
-dialogue logs (Some line ∷ lines) = shown (turn line logs).answers ++ dialogue (turn line logs).logs lines
+-- a request is answered by these bytes and leaves these logs: by its turn, or for want of memory
+abbrev pub AnswersBy : PlainEcho → Turn → Logs → List ℕ → Logs → Type 0
+AnswersBy e t logs bytes new = (wanting : Bool) × (bytes ≡ shown (marked wanting e t logs).answers) × (new ≡ (marked wanting e t logs).logs)
+
+-- nothing has changed, or all that the turn changes
+abbrev pub Stands : Turn → Logs → Logs → Type 0
+Stands t logs new = (new ≡ logs) ⊎ (new ≡ t.logs)
+
+-- `Dialogue`: a line is answered by these bytes, on these logs, and leaves those. None is a line that isn't UTF-8 or is
+-- too long
+abbrev pub Dialogue : Logs → Option (List ℕ) → List ℕ → Logs → Type 0
+Dialogue logs None bytes new = (bytes ≡ shown (failed nothing_said E1 ∷ [])) × (new ≡ logs)
+Dialogue logs (Some line) bytes new = (wanting : Bool) × (bytes ≡ shown (turn wanting line logs).answers) × (new ≡ (turn wanting line logs).logs)

@@ -1,4 +1,3 @@
 pub mod Dialogue
-pub mod Holds
-pub mod Keyed
+pub mod Runs
 pub mod Told

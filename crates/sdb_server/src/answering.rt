@@ -1,19 +1,18 @@
 //! The answers to one line.
-ghost use Rattle.std.specs.Prelude.{◌≡◌, ◌++◌, ◌∷◌, [], IfOk, OnOk, length, map, option_map, unwrap_or, string_bytes};
-ghost use Rattle.sdb_value.specs.View.{view};
+ghost use Rattle.std.specs.Prelude.{◌≡◌, ◌⊎◌, false, Some, ◌++◌, ◌∷◌, [], IfOk, OnOk, OnErr, map, option_map, string_bytes};
 ghost use Rattle.sdb_oplog.specs.Keys.{plain_key};
-ghost use Rattle.sdb_oplog.specs.Snap.{document as snapshot};
-ghost use Rattle.sdb_wire.specs.Answers.{op_message, fetched, failed};
-ghost use Rattle.sdb_server.specs.Told.{shown_of};
+ghost use Rattle.sdb_oplog.specs.declared.codes.Code.TheVariants.{E10};
+ghost use Rattle.sdb_desk.specs.Keyed.{logs_of};
+ghost use Rattle.sdb_desk.specs.Told.{plain_reply};
+ghost use Rattle.sdb_lines.specs.Runs.{GrewBy};
+ghost use Rattle.sdb_wire.specs.Answers.{op_message, failed};
 ghost use Rattle.sdb_wire.specs.View.{plain_answer, plain_request};
-ghost use Rattle.sdb_server.specs.Dialogue.{shown, turn, is_request, request_turn, fetch_answers, listing, reply_answers, submit_turn, submission_of};
-ghost use Rattle.sdb_server.specs.Keyed.{logs_of};
-ghost use Rattle.sdb_server.specs.Told.{plain_reply};
+ghost use Rattle.sdb_server.specs.Told.{shown_of};
+ghost use Rattle.sdb_server.specs.Dialogue.{shown, is_request, turn, request_turn, submit_turn, fetch_answers, reply_answers, submission_of, AnswersBy, Dialogue, Stands};
 
-use crate::document::{Document, Reply};
-use crate::documents::Documents;
+use sdb_desk::{Reply, Shard};
 use sdb_oplog::{Code, Content, Entry, Key, Submission};
-use sdb_value::Json;
+use sdb_submit::{NoGate, submit_solo};
 use sdb_wire::{Answer, Heard, Request, echo_of, hear, write_reply};
 use serde_json::Value;
 use std::alloc::{AllocError, Global};
@@ -24,18 +23,19 @@ pub const SOURCE: &str = "s1";
 // Writes the answers to a line behind what is to be written, and says whether it was a request.
 pub fn answer_line(
     alloc: Global,
-    documents: &mut Documents,
+    shard: &mut Shard,
     line: &str,
     out: &mut Vec<u8>,
 ) -> Result<bool, AllocError>
-    ensures text { OnOk result (out.new.items ≡ out.old.items ++ shown (turn line.now (logs_of documents.old)).answers) }
-    ensures logs { OnOk result (logs_of documents.new ≡ (turn line.now (logs_of documents.old)).logs) }
+    ensures answer { OnOk result (GrewBy out.old.items out.new.items
+        (λ answer. Dialogue (logs_of shard.old) (Some line.now) answer (logs_of shard.new))) }
+    ensures stands { OnErr result (Stands (turn false line.now (logs_of shard.old)) (logs_of shard.old) (logs_of shard.new)) }
     ensures step { IfOk result (λ b. b ≡ is_request line.now) }
 {
     let Heard { message, request } = hear(alloc, line)?;
     match request {
         Ok(asked) => {
-            answer_request(alloc, documents, message.as_ref(), asked, out)?;
+            answer_request(alloc, shard, message.as_ref(), asked, out)?;
             Ok(true)
         }
         Err(code) => {
@@ -47,19 +47,22 @@ pub fn answer_line(
 
 fn answer_request(
     alloc: Global,
-    documents: &mut Documents,
+    shard: &mut Shard,
     message: Option<&Value>,
     request: Request,
     out: &mut Vec<u8>,
 ) -> Result<(), AllocError>
-    ensures text { OnOk result (out.new.items ≡ out.old.items ++ shown (request_turn (shown_of message.entry) (plain_request request) (logs_of documents.old)).answers) }
-    ensures logs { OnOk result (logs_of documents.new ≡ (request_turn (shown_of message.entry) (plain_request request) (logs_of documents.old)).logs) }
+    ensures answer { OnOk result (GrewBy out.old.items out.new.items
+        (λ answer. AnswersBy (shown_of message.entry) (request_turn (shown_of message.entry) (plain_request request) (logs_of shard.old)) (logs_of shard.old) answer (logs_of shard.new))) }
+    ensures stands { Stands (request_turn (shown_of message.entry) (plain_request request) (logs_of shard.old)) (logs_of shard.old) (logs_of shard.new) }
 {
     match request {
-        Request::Fetch(key, version) => fetch(alloc, documents, message, &key, version, out),
+        Request::Fetch(key, version) => fetch(alloc, shard, message, &key, version, out),
         Request::Submit(key, version, seq, src, content) => {
-            let submission = submission(alloc, &key, version, seq, src, content)?;
-            submit(alloc, documents, message, &key, submission, out)
+            let Ok(submission) = submission(alloc, &key, version, seq, src, content) else {
+                return refuse(alloc, message, Code::E10, out);
+            };
+            submit(alloc, shard, message, &key, &submission, out)
         }
     }
 }
@@ -120,95 +123,51 @@ fn say_entries(
     Ok(())
 }
 
+// Writes the document, or the stored operations from a version on.
 fn fetch(
     alloc: Global,
-    documents: &Documents,
+    shard: &Shard,
     message: Option<&Value>,
     key: &Key,
     version: Option<u64>,
     out: &mut Vec<u8>,
 ) -> Result<(), AllocError>
-    ensures { OnOk result (out.new.items ≡ out.old.items ++ shown (fetch_answers (shown_of message.entry) (plain_key key.now) version (logs_of documents.now (plain_key key.now)))) }
+    ensures { OnOk result ((out.new.items ≡ out.old.items ++ shown (failed (shown_of message.entry) E10 ∷ []))
+        ⊎ (out.new.items ≡ out.old.items ++ shown (fetch_answers (shown_of message.entry) (plain_key key.now) version (logs_of shard.now (plain_key key.now))))) }
 {
-    match documents.find(key) {
-        Some(document) => fetch_from(alloc, document, message, key, version, out),
-        None => {
-            let empty = Document::new(alloc);
-            fetch_from(alloc, &empty, message, key, version, out)
-        }
-    }
-}
-
-fn fetch_from(
-    alloc: Global,
-    document: &Document,
-    message: Option<&Value>,
-    key: &Key,
-    version: Option<u64>,
-    out: &mut Vec<u8>,
-) -> Result<(), AllocError>
-    ensures { OnOk result (out.new.items ≡ out.old.items ++ shown (fetch_answers (shown_of message.entry) (plain_key key.now) version document.now)) }
-{
-    let log = document.log();
     match version {
-        None => fetch_present(alloc, document, key, out),
-        Some(from) => {
-            if from > log.len() {
-                return refuse(alloc, message, Code::E4, out);
+        None => match shard.fetch(key) {
+            Ok(fetched) => {
+                let document = fetched.snapshot.as_ref();
+                say(alloc, &Answer::Fetched(key, fetched.version, document), out)
             }
-            say_entries(alloc, key, log.entries_from(from), out)?;
-            say(alloc, &Answer::Listed(key), out)
-        }
+            Err(code) => refuse(alloc, message, code, out),
+        },
+        Some(from) => match shard.ops_from(key, from) {
+            Ok(entries) => {
+                say_entries(alloc, key, entries.as_slice(), out)?;
+                say(alloc, &Answer::Listed(key), out)
+            }
+            Err(code) => refuse(alloc, message, code, out),
+        },
     }
-}
-
-fn fetch_present(
-    alloc: Global,
-    document: &Document,
-    key: &Key,
-    out: &mut Vec<u8>,
-) -> Result<(), AllocError>
-    ensures { OnOk result (out.new.items ≡ out.old.items ++ shown (fetched (plain_key key.now) (length document.now) (snapshot document.now) ∷ [])) }
-{
-    let log = document.log();
-    match document.present() {
-        Some(present) => say_fetched(alloc, key, log.len(), present, out),
-        None => {
-            let replayed = log.replay(alloc, log.len())?;
-            say_fetched(alloc, key, log.len(), replayed.as_ref(), out)
-        }
-    }
-}
-
-fn say_fetched<'x>(
-    alloc: Global,
-    key: &'x Key,
-    version: u64,
-    present: Option<&'x Json>,
-    out: &mut Vec<u8>,
-) -> Result<(), AllocError>
-    ensures { OnOk result (out.new.items ≡ out.old.items ++ shown (fetched (plain_key key.now) version (option_map (λ v. view v.now) present.entry) ∷ [])) }
-{
-    say(alloc, &Answer::Fetched(key, version, present), out)
 }
 
 fn submit(
     alloc: Global,
-    documents: &mut Documents,
+    shard: &mut Shard,
     message: Option<&Value>,
     key: &Key,
-    submission: Submission,
+    submission: &Submission,
     out: &mut Vec<u8>,
 ) -> Result<(), AllocError>
-    ensures text { OnOk result (out.new.items ≡ out.old.items ++ shown (submit_turn (shown_of message.entry) (plain_key key.now) submission (logs_of documents.old)).answers) }
-    ensures logs { OnOk result (logs_of documents.new ≡ (submit_turn (shown_of message.entry) (plain_key key.now) submission (logs_of documents.old)).logs) }
+    requires { submission.now.by ≡ 0 }
+    ensures answer { OnOk result (GrewBy out.old.items out.new.items
+        (λ answer. AnswersBy (shown_of message.entry) (submit_turn (shown_of message.entry) (plain_key key.now) submission.now (logs_of shard.old)) (logs_of shard.old) answer (logs_of shard.new))) }
+    ensures stands { Stands (submit_turn (shown_of message.entry) (plain_key key.now) submission.now (logs_of shard.old)) (logs_of shard.old) (logs_of shard.new) }
 {
-    let src = String::from_str(alloc, submission.src())?;
-    let seq = submission.seq();
-    match documents.submit(alloc, key, submission) {
-        Ok(reply) => say_reply(alloc, message, key, src.as_str(), seq, &reply, out),
-        Err(error) => Err(error),
-    }
+    let reply = submit_solo(alloc, shard, key, submission, &NoGate);
+    say_reply(alloc, message, key, submission.src(), submission.seq(), &reply, out)
 }
 
 // What was missed comes before the acknowledgement.

@@ -1,13 +1,244 @@
-//! Whole runs, and streams that fail.
-use crate::asks_lines;
+//! Whole runs: worked rows, command lines, and streams that fail.
+use crate::command::{DONE, FAULT, REFUSED, answer_no_run, asks_lines, end_with, refuse};
 use crate::running::run_lines;
 use sdb_lines::{RunFault, Watched};
-use std::alloc::Global;
+use std::alloc::{AllocError, Global};
+use std::cell::RefCell;
+use std::fmt::Display;
+use std::fmt::Write;
 use std::io;
 use std::test::Fail;
 
+// The line that each run begins with.
+const OPENING: &str = r#"{"a":"init","id":"s1","protocol":1,"protocolMinor":1,"type":"http://sharejs.org/types/JSONv0"}
+"#;
+
+// A run: its name, the lines read, and the lines written behind the opening.
+struct Row {
+    name: &'static str,
+    lines: &'static str,
+    answers: &'static str,
+}
+
+const ROWS: [Row; 14] = [
+    Row {
+        name: "absent",
+        lines: r#"{"a":"f","c":"b","d":"1"}
+"#,
+        answers: r#"{"a":"f","c":"b","d":"1","data":{"type":null,"v":0}}
+"#,
+    },
+    Row {
+        name: "create-fetch",
+        lines: r#"{"a":"op","c":"b","d":"1","v":null,"src":"x","seq":1,"create":{"type":"http://sharejs.org/types/JSONv0","data":{"n":1}}}
+{"a":"f","c":"b","d":"1"}
+"#,
+        answers: r#"{"a":"op","c":"b","d":"1","seq":1,"src":"x","v":0}
+{"a":"f","c":"b","d":"1","data":{"data":{"n":1},"v":1}}
+"#,
+    },
+    Row {
+        name: "repeat",
+        lines: r#"{"a":"op","c":"b","d":"1","v":null,"src":"x","seq":1,"create":{"type":"http://sharejs.org/types/JSONv0","data":{"n":1}}}
+{"a":"op","c":"b","d":"1","src":"x","seq":2,"op":[{"p":["n"],"na":1}]}
+{"a":"op","c":"b","d":"1","src":"x","seq":3,"op":[{"p":["n"],"na":1}]}
+{"a":"op","c":"b","d":"1","src":"x","seq":4,"op":[{"p":["n"],"na":1}]}
+{"a":"op","c":"b","d":"1","src":"x","seq":5,"op":[{"p":["n"],"na":1}]}
+{"a":"op","c":"b","d":"1","src":"x","seq":6,"op":[{"p":["n"],"na":1}]}
+{"a":"op","c":"b","d":"1","src":"x","seq":7,"op":[{"p":["n"],"na":1}]}
+{"a":"op","c":"b","d":"1","src":"x","seq":8,"op":[{"p":["n"],"na":1}]}
+{"a":"op","c":"b","d":"1","src":"x","seq":9,"op":[{"p":["n"],"na":1}]}
+{"a":"op","c":"b","d":"1","src":"x","seq":10,"op":[{"p":["n"],"na":1}]}
+{"a":"op","c":"b","d":"1","src":"x","seq":11,"op":[{"p":["n"],"na":1}]}
+{"a":"op","c":"b","d":"1","v":null,"src":"x","seq":1,"create":{"type":"http://sharejs.org/types/JSONv0","data":{"n":1}}}
+{"a":"f","c":"b","d":"1"}
+"#,
+        answers: r#"{"a":"op","c":"b","d":"1","seq":1,"src":"x","v":0}
+{"a":"op","c":"b","d":"1","seq":2,"src":"x","v":1}
+{"a":"op","c":"b","d":"1","seq":3,"src":"x","v":2}
+{"a":"op","c":"b","d":"1","seq":4,"src":"x","v":3}
+{"a":"op","c":"b","d":"1","seq":5,"src":"x","v":4}
+{"a":"op","c":"b","d":"1","seq":6,"src":"x","v":5}
+{"a":"op","c":"b","d":"1","seq":7,"src":"x","v":6}
+{"a":"op","c":"b","d":"1","seq":8,"src":"x","v":7}
+{"a":"op","c":"b","d":"1","seq":9,"src":"x","v":8}
+{"a":"op","c":"b","d":"1","seq":10,"src":"x","v":9}
+{"a":"op","c":"b","d":"1","seq":11,"src":"x","v":10}
+{"a":"op","c":"b","d":"1","seq":1,"src":"x","v":0}
+{"a":"f","c":"b","d":"1","data":{"data":{"n":11},"v":11}}
+"#,
+    },
+    Row {
+        name: "greatest",
+        lines: r#"{"a":"op","c":"b","d":"4","src":"x","seq":1,"create":{"type":"http://sharejs.org/types/JSONv0","data":{"n":9007199254740991}}}
+{"a":"op","c":"b","d":"4","v":1,"src":"x","seq":2,"op":[{"p":["n"],"na":1}]}
+{"a":"f","c":"b","d":"4"}
+"#,
+        answers: r#"{"a":"op","c":"b","d":"4","seq":1,"src":"x","v":0}
+{"a":"op","c":"b","d":"4","error":{"code":"ERR_OT_OP_NOT_APPLIED","message":"operation can not be applied"},"seq":2,"src":"x"}
+{"a":"f","c":"b","d":"4","data":{"data":{"n":9007199254740991},"v":1}}
+"#,
+    },
+    Row {
+        name: "left",
+        lines: r#"{"a":"op","c":"b","d":"5","src":"x","seq":1,"create":{"type":"http://sharejs.org/types/JSONv0","data":["x"]}}
+{"a":"op","c":"b","d":"5","v":1,"src":"y","seq":1,"op":[{"p":[0],"li":"A"}]}
+{"a":"op","c":"b","d":"5","v":1,"src":"z","seq":1,"op":[{"p":[0],"li":"B"}]}
+{"a":"f","c":"b","d":"5"}
+"#,
+        answers: r#"{"a":"op","c":"b","d":"5","seq":1,"src":"x","v":0}
+{"a":"op","c":"b","d":"5","seq":1,"src":"y","v":1}
+{"a":"op","c":"b","d":"5","op":[{"li":"A","p":[0]}],"seq":1,"src":"y","v":1}
+{"a":"op","c":"b","d":"5","seq":1,"src":"z","v":2}
+{"a":"f","c":"b","d":"5","data":{"data":["B","A","x"],"v":3}}
+"#,
+    },
+    Row {
+        name: "insert-insert",
+        lines: r#"{"a":"op","c":"b","d":"6","src":"x","seq":1,"create":{"type":"http://sharejs.org/types/JSONv0","data":{}}}
+{"a":"op","c":"b","d":"6","v":1,"src":"y","seq":1,"op":[{"p":["k"],"oi":1}]}
+{"a":"op","c":"b","d":"6","v":1,"src":"z","seq":1,"op":[{"p":["k"],"oi":2}]}
+{"a":"f","c":"b","d":"6","v":2}
+"#,
+        answers: r#"{"a":"op","c":"b","d":"6","seq":1,"src":"x","v":0}
+{"a":"op","c":"b","d":"6","seq":1,"src":"y","v":1}
+{"a":"op","c":"b","d":"6","op":[{"oi":1,"p":["k"]}],"seq":1,"src":"y","v":1}
+{"a":"op","c":"b","d":"6","seq":1,"src":"z","v":2}
+{"a":"op","c":"b","d":"6","op":[{"od":1,"oi":2,"p":["k"]}],"seq":1,"src":"z","v":2}
+{"a":"f","c":"b","d":"6"}
+"#,
+    },
+    Row {
+        name: "split",
+        lines: r#"{"a":"op","c":"b","d":"7","src":"x","seq":1,"create":{"type":"http://sharejs.org/types/JSONv0","data":"abcdef"}}
+{"a":"op","c":"b","d":"7","v":1,"src":"y","seq":1,"op":[{"p":[3],"si":"XYZ"}]}
+{"a":"op","c":"b","d":"7","v":1,"src":"z","seq":1,"op":[{"p":[1],"sd":"bcde"}]}
+{"a":"f","c":"b","d":"7","v":2}
+{"a":"f","c":"b","d":"7"}
+"#,
+        answers: r#"{"a":"op","c":"b","d":"7","seq":1,"src":"x","v":0}
+{"a":"op","c":"b","d":"7","seq":1,"src":"y","v":1}
+{"a":"op","c":"b","d":"7","op":[{"p":[3],"si":"XYZ"}],"seq":1,"src":"y","v":1}
+{"a":"op","c":"b","d":"7","seq":1,"src":"z","v":2}
+{"a":"op","c":"b","d":"7","op":[{"p":[1],"sd":"bc"},{"p":[4],"sd":"de"}],"seq":1,"src":"z","v":2}
+{"a":"f","c":"b","d":"7"}
+{"a":"f","c":"b","d":"7","data":{"data":"aXYZf","v":3}}
+"#,
+    },
+    Row {
+        name: "pairs",
+        lines: r#"{"a":"op","c":"b","d":"8","src":"x","seq":1,"create":{"type":"http://sharejs.org/types/JSONv0","data":"a😀b"}}
+{"a":"op","c":"b","d":"8","v":1,"src":"x","seq":2,"op":[{"p":[2],"si":"-"}]}
+{"a":"op","c":"b","d":"8","v":1,"src":"x","seq":3,"op":[{"p":[3],"si":"-"}]}
+{"a":"f","c":"b","d":"8"}
+"#,
+        answers: r#"{"a":"op","c":"b","d":"8","seq":1,"src":"x","v":0}
+{"a":"op","c":"b","d":"8","error":{"code":"ERR_OT_OP_NOT_APPLIED","message":"operation can not be applied"},"seq":2,"src":"x"}
+{"a":"op","c":"b","d":"8","seq":3,"src":"x","v":1}
+{"a":"f","c":"b","d":"8","data":{"data":"a😀-b","v":2}}
+"#,
+    },
+    Row {
+        name: "dropped",
+        lines: r#"{"a":"op","c":"b","d":"9","src":"x","seq":1,"create":{"type":"http://sharejs.org/types/JSONv0","data":[{"n":1}]}}
+{"a":"op","c":"b","d":"9","v":1,"src":"y","seq":1,"op":[{"p":[0],"ld":{"n":1}}]}
+{"a":"op","c":"b","d":"9","v":1,"src":"z","seq":1,"op":[{"p":[0,"n"],"na":1}]}
+{"a":"f","c":"b","d":"9","v":2}
+{"a":"f","c":"b","d":"9"}
+"#,
+        answers: r#"{"a":"op","c":"b","d":"9","seq":1,"src":"x","v":0}
+{"a":"op","c":"b","d":"9","seq":1,"src":"y","v":1}
+{"a":"op","c":"b","d":"9","op":[{"ld":{"n":1},"p":[0]}],"seq":1,"src":"y","v":1}
+{"a":"op","c":"b","d":"9","seq":1,"src":"z","v":2}
+{"a":"op","c":"b","d":"9","op":[],"seq":1,"src":"z","v":2}
+{"a":"f","c":"b","d":"9"}
+{"a":"f","c":"b","d":"9","data":{"data":[],"v":3}}
+"#,
+    },
+    Row {
+        name: "removed-value",
+        lines: r#"{"a":"op","c":"b","d":"10","src":"x","seq":1,"create":{"type":"http://sharejs.org/types/JSONv0","data":[{"n":1}]}}
+{"a":"op","c":"b","d":"10","v":1,"src":"y","seq":1,"op":[{"p":[0,"n"],"na":1}]}
+{"a":"op","c":"b","d":"10","v":1,"src":"z","seq":1,"op":[{"p":[0],"ld":{"n":1}}]}
+{"a":"f","c":"b","d":"10","v":2}
+{"a":"f","c":"b","d":"10"}
+"#,
+        answers: r#"{"a":"op","c":"b","d":"10","seq":1,"src":"x","v":0}
+{"a":"op","c":"b","d":"10","seq":1,"src":"y","v":1}
+{"a":"op","c":"b","d":"10","op":[{"na":1,"p":[0,"n"]}],"seq":1,"src":"y","v":1}
+{"a":"op","c":"b","d":"10","seq":1,"src":"z","v":2}
+{"a":"op","c":"b","d":"10","op":[{"ld":{"n":2},"p":[0]}],"seq":1,"src":"z","v":2}
+{"a":"f","c":"b","d":"10"}
+{"a":"f","c":"b","d":"10","data":{"data":[],"v":3}}
+"#,
+    },
+    Row {
+        name: "delete",
+        lines: r#"{"a":"op","c":"b","d":"11","src":"x","seq":1,"create":{"type":"http://sharejs.org/types/JSONv0","data":{}}}
+{"a":"op","c":"b","d":"11","v":1,"src":"y","seq":1,"del":true}
+{"a":"op","c":"b","d":"11","v":1,"src":"z","seq":1,"op":[]}
+{"a":"op","c":"b","d":"11","v":1,"src":"z","seq":2,"del":true}
+{"a":"f","c":"b","d":"11"}
+"#,
+        answers: r#"{"a":"op","c":"b","d":"11","seq":1,"src":"x","v":0}
+{"a":"op","c":"b","d":"11","seq":1,"src":"y","v":1}
+{"a":"op","c":"b","d":"11","error":{"code":"ERR_DOC_WAS_DELETED","message":"document was deleted"},"seq":1,"src":"z"}
+{"a":"op","c":"b","d":"11","del":true,"seq":1,"src":"y","v":1}
+{"a":"op","c":"b","d":"11","seq":2,"src":"z","v":2}
+{"a":"f","c":"b","d":"11","data":{"type":null,"v":3}}
+"#,
+    },
+    Row {
+        name: "bad",
+        lines: r#"{"a":"op","c":"b","d":"1","v":null,"src":"x","seq":1,"create":{"type":"http://sharejs.org/types/JSONv0","data":{"n":1}}}
+{"a":"op"
+{"a":"op","c":"b","d":"1","src":"x","seq":9,"op":[{"p":["k"],"oi":1.5}]}
+{"a":"op","c":"b","d":"1","src":"x","seq":9,"op":[{"p":["a","a","a","a","a","a","a","a","a","a","a","a","a","a","a","a","a","a","a","a","a","a","a","a","a","a","a","a","a","a","a","a","a","a","a","a","a","a","a","a","a","a","a","a","a","a","a","a","a","a","a"],"oi":1}]}
+{"a":"op","c":"b","d":"1","src":"x","seq":9,"create":{"type":"text"}}
+{"a":"f","c":"b","d":"1"}
+"#,
+        answers: r#"{"a":"op","c":"b","d":"1","seq":1,"src":"x","v":0}
+{"error":{"code":"ERR_MESSAGE_BADLY_FORMED","message":"message is badly formed"}}
+{"a":"op","c":"b","d":"1","error":{"code":"ERR_OT_OP_BADLY_FORMED","message":"operation is badly formed"},"seq":9,"src":"x"}
+{"a":"op","c":"b","d":"1","error":{"code":"ERR_OT_OP_BADLY_FORMED","message":"operation is badly formed"},"seq":9,"src":"x"}
+{"a":"op","c":"b","d":"1","error":{"code":"ERR_DOC_TYPE_NOT_RECOGNIZED","message":"document type is not recognized"},"seq":9,"src":"x"}
+{"a":"f","c":"b","d":"1","data":{"data":{"n":1},"v":1}}
+"#,
+    },
+    Row {
+        name: "lenient",
+        lines: r#"{"a":"op","c":"b","d":"17","src":"x","seq":1,"create":{"type":"http://sharejs.org/types/JSONv0","data":{"k":1}}}
+{"a":"op","c":"b","d":"17","v":1,"src":"x","seq":2,"op":[{"p":["k"],"oi":2},{"p":["z"],"od":5}]}
+{"a":"f","c":"b","d":"17"}
+{"a":"op","c":"b","d":"18","src":"x","seq":1,"op":[]}
+"#,
+        answers: r#"{"a":"op","c":"b","d":"17","seq":1,"src":"x","v":0}
+{"a":"op","c":"b","d":"17","seq":2,"src":"x","v":1}
+{"a":"f","c":"b","d":"17","data":{"data":{"k":2},"v":2}}
+{"a":"op","c":"b","d":"18","error":{"code":"ERR_DOC_DOES_NOT_EXIST","message":"document does not exist"},"seq":1,"src":"x"}
+"#,
+    },
+    Row {
+        name: "bad-texts",
+        lines: r#"[]
+{"x":"\ud800"}
+{"a":"op","c":"b","seq":1}
+{"a":"zz","id":3}
+
+{"a":"op","c":"b","d":"1","src":"x","seq":1,"op":[],"del":true}
+"#,
+        answers: r#"{"error":{"code":"ERR_MESSAGE_BADLY_FORMED","message":"message is badly formed"}}
+{"error":{"code":"ERR_MESSAGE_BADLY_FORMED","message":"message is badly formed"}}
+{"a":"op","c":"b","error":{"code":"ERR_MESSAGE_BADLY_FORMED","message":"message is badly formed"},"seq":1}
+{"a":"zz","error":{"code":"ERR_MESSAGE_BADLY_FORMED","message":"message is badly formed"},"id":3}
+{"error":{"code":"ERR_MESSAGE_BADLY_FORMED","message":"message is badly formed"}}
+{"a":"op","c":"b","d":"1","error":{"code":"ERR_MESSAGE_BADLY_FORMED","message":"message is badly formed"},"seq":1,"src":"x"}
+"#,
+    },
+];
+
 // What is written for the input.
-fn answers(alloc: Global, input: &'static [u8]) -> Result<Vec<u8>, Fail> {
+fn written(alloc: Global, input: &'static [u8]) -> Result<Vec<u8>, Fail> {
     let mut reader = Watched::new(input);
     let mut writer = Watched::new(Vec::new(alloc));
     match run_lines(alloc, &mut reader, &mut writer) {
@@ -16,271 +247,20 @@ fn answers(alloc: Global, input: &'static [u8]) -> Result<Vec<u8>, Fail> {
     }
 }
 
-#[test]
-fn an_absent_document(rt: HostRuntime) -> Result<(), Fail> {
-    let input = b"{\"a\":\"f\",\"c\":\"b\",\"d\":\"1\"}\n";
-    let output =
-        b"{\"a\":\"init\",\"id\":\"s1\",\"protocol\":1,\"protocolMinor\":1,\"type\":\"http://sharejs.org/types/JSONv0\"}\n\
-        {\"a\":\"f\",\"c\":\"b\",\"d\":\"1\",\"data\":{\"type\":null,\"v\":0}}\n";
-    assert_eq!(rt; answers(rt.alloc(), input)?.as_slice(), output.as_slice());
-    Ok(())
+fn whole(alloc: Global, answers: &str) -> Result<String, AllocError> {
+    let mut text = String::from_str(alloc, OPENING)?;
+    text.push_str(answers)?;
+    Ok(text)
 }
 
 #[test]
-fn create_and_fetch(rt: HostRuntime) -> Result<(), Fail> {
-    let input =
-        b"{\"a\":\"op\",\"c\":\"b\",\"d\":\"1\",\"v\":null,\"src\":\"x\",\"seq\":1,\"create\":{\"type\":\"http://sharejs.org/types/JSONv0\",\"data\":{\"n\":1}}}\n\
-        {\"a\":\"f\",\"c\":\"b\",\"d\":\"1\"}\n";
-    let output =
-        b"{\"a\":\"init\",\"id\":\"s1\",\"protocol\":1,\"protocolMinor\":1,\"type\":\"http://sharejs.org/types/JSONv0\"}\n\
-        {\"a\":\"op\",\"c\":\"b\",\"d\":\"1\",\"seq\":1,\"src\":\"x\",\"v\":0}\n\
-        {\"a\":\"f\",\"c\":\"b\",\"d\":\"1\",\"data\":{\"data\":{\"n\":1},\"v\":1}}\n";
-    assert_eq!(rt; answers(rt.alloc(), input)?.as_slice(), output.as_slice());
-    Ok(())
-}
-
-#[test]
-fn a_repeat_has_its_first_version(rt: HostRuntime) -> Result<(), Fail> {
-    let input =
-        b"{\"a\":\"op\",\"c\":\"b\",\"d\":\"1\",\"v\":null,\"src\":\"x\",\"seq\":1,\"create\":{\"type\":\"http://sharejs.org/types/JSONv0\",\"data\":{\"n\":1}}}\n\
-        {\"a\":\"op\",\"c\":\"b\",\"d\":\"1\",\"src\":\"x\",\"seq\":2,\"op\":[{\"p\":[\"n\"],\"na\":1}]}\n\
-        {\"a\":\"op\",\"c\":\"b\",\"d\":\"1\",\"src\":\"x\",\"seq\":3,\"op\":[{\"p\":[\"n\"],\"na\":1}]}\n\
-        {\"a\":\"op\",\"c\":\"b\",\"d\":\"1\",\"src\":\"x\",\"seq\":4,\"op\":[{\"p\":[\"n\"],\"na\":1}]}\n\
-        {\"a\":\"op\",\"c\":\"b\",\"d\":\"1\",\"src\":\"x\",\"seq\":5,\"op\":[{\"p\":[\"n\"],\"na\":1}]}\n\
-        {\"a\":\"op\",\"c\":\"b\",\"d\":\"1\",\"src\":\"x\",\"seq\":6,\"op\":[{\"p\":[\"n\"],\"na\":1}]}\n\
-        {\"a\":\"op\",\"c\":\"b\",\"d\":\"1\",\"src\":\"x\",\"seq\":7,\"op\":[{\"p\":[\"n\"],\"na\":1}]}\n\
-        {\"a\":\"op\",\"c\":\"b\",\"d\":\"1\",\"src\":\"x\",\"seq\":8,\"op\":[{\"p\":[\"n\"],\"na\":1}]}\n\
-        {\"a\":\"op\",\"c\":\"b\",\"d\":\"1\",\"src\":\"x\",\"seq\":9,\"op\":[{\"p\":[\"n\"],\"na\":1}]}\n\
-        {\"a\":\"op\",\"c\":\"b\",\"d\":\"1\",\"src\":\"x\",\"seq\":10,\"op\":[{\"p\":[\"n\"],\"na\":1}]}\n\
-        {\"a\":\"op\",\"c\":\"b\",\"d\":\"1\",\"src\":\"x\",\"seq\":11,\"op\":[{\"p\":[\"n\"],\"na\":1}]}\n\
-        {\"a\":\"op\",\"c\":\"b\",\"d\":\"1\",\"v\":null,\"src\":\"x\",\"seq\":1,\"create\":{\"type\":\"http://sharejs.org/types/JSONv0\",\"data\":{\"n\":1}}}\n\
-        {\"a\":\"f\",\"c\":\"b\",\"d\":\"1\"}\n";
-    let output =
-        b"{\"a\":\"init\",\"id\":\"s1\",\"protocol\":1,\"protocolMinor\":1,\"type\":\"http://sharejs.org/types/JSONv0\"}\n\
-        {\"a\":\"op\",\"c\":\"b\",\"d\":\"1\",\"seq\":1,\"src\":\"x\",\"v\":0}\n\
-        {\"a\":\"op\",\"c\":\"b\",\"d\":\"1\",\"seq\":2,\"src\":\"x\",\"v\":1}\n\
-        {\"a\":\"op\",\"c\":\"b\",\"d\":\"1\",\"seq\":3,\"src\":\"x\",\"v\":2}\n\
-        {\"a\":\"op\",\"c\":\"b\",\"d\":\"1\",\"seq\":4,\"src\":\"x\",\"v\":3}\n\
-        {\"a\":\"op\",\"c\":\"b\",\"d\":\"1\",\"seq\":5,\"src\":\"x\",\"v\":4}\n\
-        {\"a\":\"op\",\"c\":\"b\",\"d\":\"1\",\"seq\":6,\"src\":\"x\",\"v\":5}\n\
-        {\"a\":\"op\",\"c\":\"b\",\"d\":\"1\",\"seq\":7,\"src\":\"x\",\"v\":6}\n\
-        {\"a\":\"op\",\"c\":\"b\",\"d\":\"1\",\"seq\":8,\"src\":\"x\",\"v\":7}\n\
-        {\"a\":\"op\",\"c\":\"b\",\"d\":\"1\",\"seq\":9,\"src\":\"x\",\"v\":8}\n\
-        {\"a\":\"op\",\"c\":\"b\",\"d\":\"1\",\"seq\":10,\"src\":\"x\",\"v\":9}\n\
-        {\"a\":\"op\",\"c\":\"b\",\"d\":\"1\",\"seq\":11,\"src\":\"x\",\"v\":10}\n\
-        {\"a\":\"op\",\"c\":\"b\",\"d\":\"1\",\"seq\":1,\"src\":\"x\",\"v\":0}\n\
-        {\"a\":\"f\",\"c\":\"b\",\"d\":\"1\",\"data\":{\"data\":{\"n\":11},\"v\":11}}\n";
-    assert_eq!(rt; answers(rt.alloc(), input)?.as_slice(), output.as_slice());
-    Ok(())
-}
-
-#[test]
-fn the_greatest_number(rt: HostRuntime) -> Result<(), Fail> {
-    let input =
-        b"{\"a\":\"op\",\"c\":\"b\",\"d\":\"4\",\"src\":\"x\",\"seq\":1,\"create\":{\"type\":\"http://sharejs.org/types/JSONv0\",\"data\":{\"n\":9007199254740991}}}\n\
-        {\"a\":\"op\",\"c\":\"b\",\"d\":\"4\",\"v\":1,\"src\":\"x\",\"seq\":2,\"op\":[{\"p\":[\"n\"],\"na\":1}]}\n\
-        {\"a\":\"f\",\"c\":\"b\",\"d\":\"4\"}\n";
-    let output =
-        b"{\"a\":\"init\",\"id\":\"s1\",\"protocol\":1,\"protocolMinor\":1,\"type\":\"http://sharejs.org/types/JSONv0\"}\n\
-        {\"a\":\"op\",\"c\":\"b\",\"d\":\"4\",\"seq\":1,\"src\":\"x\",\"v\":0}\n\
-        {\"a\":\"op\",\"c\":\"b\",\"d\":\"4\",\"error\":{\"code\":\"ERR_OT_OP_NOT_APPLIED\",\"message\":\"operation can not be applied\"},\"seq\":2,\"src\":\"x\"}\n\
-        {\"a\":\"f\",\"c\":\"b\",\"d\":\"4\",\"data\":{\"data\":{\"n\":9007199254740991},\"v\":1}}\n";
-    assert_eq!(rt; answers(rt.alloc(), input)?.as_slice(), output.as_slice());
-    Ok(())
-}
-
-#[test]
-fn bad_messages(rt: HostRuntime) -> Result<(), Fail> {
-    let input =
-        b"{\"a\":\"op\",\"c\":\"b\",\"d\":\"1\",\"v\":null,\"src\":\"x\",\"seq\":1,\"create\":{\"type\":\"http://sharejs.org/types/JSONv0\",\"data\":{\"n\":1}}}\n\
-        {\"a\":\"op\"\n\
-        {\"a\":\"op\",\"c\":\"b\",\"d\":\"1\",\"src\":\"x\",\"seq\":9,\"op\":[{\"p\":[\"k\"],\"oi\":1.5}]}\n\
-        {\"a\":\"op\",\"c\":\"b\",\"d\":\"1\",\"src\":\"x\",\"seq\":9,\"op\":[{\"p\":[\"a\",\"a\",\"a\",\"a\",\"a\",\"a\",\"a\",\"a\",\"a\",\"a\",\"a\",\"a\",\"a\",\"a\",\"a\",\"a\",\"a\",\"a\",\"a\",\"a\",\"a\",\"a\",\"a\",\"a\",\"a\",\"a\",\"a\",\"a\",\"a\",\"a\",\"a\",\"a\",\"a\",\"a\",\"a\",\"a\",\"a\",\"a\",\"a\",\"a\",\"a\",\"a\",\"a\",\"a\",\"a\",\"a\",\"a\",\"a\",\"a\",\"a\",\"a\"],\"oi\":1}]}\n\
-        {\"a\":\"op\",\"c\":\"b\",\"d\":\"1\",\"src\":\"x\",\"seq\":9,\"create\":{\"type\":\"text\"}}\n\
-        {\"a\":\"f\",\"c\":\"b\",\"d\":\"1\"}\n";
-    let output =
-        b"{\"a\":\"init\",\"id\":\"s1\",\"protocol\":1,\"protocolMinor\":1,\"type\":\"http://sharejs.org/types/JSONv0\"}\n\
-        {\"a\":\"op\",\"c\":\"b\",\"d\":\"1\",\"seq\":1,\"src\":\"x\",\"v\":0}\n\
-        {\"error\":{\"code\":\"ERR_MESSAGE_BADLY_FORMED\",\"message\":\"message is badly formed\"}}\n\
-        {\"a\":\"op\",\"c\":\"b\",\"d\":\"1\",\"error\":{\"code\":\"ERR_OT_OP_BADLY_FORMED\",\"message\":\"operation is badly formed\"},\"seq\":9,\"src\":\"x\"}\n\
-        {\"a\":\"op\",\"c\":\"b\",\"d\":\"1\",\"error\":{\"code\":\"ERR_OT_OP_BADLY_FORMED\",\"message\":\"operation is badly formed\"},\"seq\":9,\"src\":\"x\"}\n\
-        {\"a\":\"op\",\"c\":\"b\",\"d\":\"1\",\"error\":{\"code\":\"ERR_DOC_TYPE_NOT_RECOGNIZED\",\"message\":\"document type is not recognized\"},\"seq\":9,\"src\":\"x\"}\n\
-        {\"a\":\"f\",\"c\":\"b\",\"d\":\"1\",\"data\":{\"data\":{\"n\":1},\"v\":1}}\n";
-    assert_eq!(rt; answers(rt.alloc(), input)?.as_slice(), output.as_slice());
-    Ok(())
-}
-
-#[test]
-fn lenient_objects(rt: HostRuntime) -> Result<(), Fail> {
-    let input =
-        b"{\"a\":\"op\",\"c\":\"b\",\"d\":\"17\",\"src\":\"x\",\"seq\":1,\"create\":{\"type\":\"http://sharejs.org/types/JSONv0\",\"data\":{\"k\":1}}}\n\
-        {\"a\":\"op\",\"c\":\"b\",\"d\":\"17\",\"v\":1,\"src\":\"x\",\"seq\":2,\"op\":[{\"p\":[\"k\"],\"oi\":2},{\"p\":[\"z\"],\"od\":5}]}\n\
-        {\"a\":\"f\",\"c\":\"b\",\"d\":\"17\"}\n\
-        {\"a\":\"op\",\"c\":\"b\",\"d\":\"18\",\"src\":\"x\",\"seq\":1,\"op\":[]}\n";
-    let output =
-        b"{\"a\":\"init\",\"id\":\"s1\",\"protocol\":1,\"protocolMinor\":1,\"type\":\"http://sharejs.org/types/JSONv0\"}\n\
-        {\"a\":\"op\",\"c\":\"b\",\"d\":\"17\",\"seq\":1,\"src\":\"x\",\"v\":0}\n\
-        {\"a\":\"op\",\"c\":\"b\",\"d\":\"17\",\"seq\":2,\"src\":\"x\",\"v\":1}\n\
-        {\"a\":\"f\",\"c\":\"b\",\"d\":\"17\",\"data\":{\"data\":{\"k\":2},\"v\":2}}\n\
-        {\"a\":\"op\",\"c\":\"b\",\"d\":\"18\",\"error\":{\"code\":\"ERR_DOC_DOES_NOT_EXIST\",\"message\":\"document does not exist\"},\"seq\":1,\"src\":\"x\"}\n";
-    assert_eq!(rt; answers(rt.alloc(), input)?.as_slice(), output.as_slice());
-    Ok(())
-}
-
-#[test]
-fn offsets_inside_pairs(rt: HostRuntime) -> Result<(), Fail> {
-    let input =
-        b"{\"a\":\"op\",\"c\":\"b\",\"d\":\"8\",\"src\":\"x\",\"seq\":1,\"create\":{\"type\":\"http://sharejs.org/types/JSONv0\",\"data\":\"a\xf0\x9f\x98\x80b\"}}\n\
-        {\"a\":\"op\",\"c\":\"b\",\"d\":\"8\",\"v\":1,\"src\":\"x\",\"seq\":2,\"op\":[{\"p\":[2],\"si\":\"-\"}]}\n\
-        {\"a\":\"op\",\"c\":\"b\",\"d\":\"8\",\"v\":1,\"src\":\"x\",\"seq\":3,\"op\":[{\"p\":[3],\"si\":\"-\"}]}\n\
-        {\"a\":\"f\",\"c\":\"b\",\"d\":\"8\"}\n";
-    let output =
-        b"{\"a\":\"init\",\"id\":\"s1\",\"protocol\":1,\"protocolMinor\":1,\"type\":\"http://sharejs.org/types/JSONv0\"}\n\
-        {\"a\":\"op\",\"c\":\"b\",\"d\":\"8\",\"seq\":1,\"src\":\"x\",\"v\":0}\n\
-        {\"a\":\"op\",\"c\":\"b\",\"d\":\"8\",\"error\":{\"code\":\"ERR_OT_OP_NOT_APPLIED\",\"message\":\"operation can not be applied\"},\"seq\":2,\"src\":\"x\"}\n\
-        {\"a\":\"op\",\"c\":\"b\",\"d\":\"8\",\"seq\":3,\"src\":\"x\",\"v\":1}\n\
-        {\"a\":\"f\",\"c\":\"b\",\"d\":\"8\",\"data\":{\"data\":\"a\xf0\x9f\x98\x80-b\",\"v\":2}}\n";
-    assert_eq!(rt; answers(rt.alloc(), input)?.as_slice(), output.as_slice());
-    Ok(())
-}
-
-#[test]
-fn lines_that_are_no_text(rt: HostRuntime) -> Result<(), Fail> {
-    let input = b"[]\n\
-        {\"x\":\"\\ud800\"}\n\
-        {\"a\":\"op\",\"c\":\"b\",\"seq\":1}\n\
-        {\"a\":\"zz\",\"id\":3}\n\
-        \n\
-        {\"a\":\"op\",\"c\":\"b\",\"d\":\"1\",\"src\":\"x\",\"seq\":1,\"op\":[],\"del\":true}\n";
-    let output =
-        b"{\"a\":\"init\",\"id\":\"s1\",\"protocol\":1,\"protocolMinor\":1,\"type\":\"http://sharejs.org/types/JSONv0\"}\n\
-        {\"error\":{\"code\":\"ERR_MESSAGE_BADLY_FORMED\",\"message\":\"message is badly formed\"}}\n\
-        {\"error\":{\"code\":\"ERR_MESSAGE_BADLY_FORMED\",\"message\":\"message is badly formed\"}}\n\
-        {\"a\":\"op\",\"c\":\"b\",\"error\":{\"code\":\"ERR_MESSAGE_BADLY_FORMED\",\"message\":\"message is badly formed\"},\"seq\":1}\n\
-        {\"a\":\"zz\",\"error\":{\"code\":\"ERR_MESSAGE_BADLY_FORMED\",\"message\":\"message is badly formed\"},\"id\":3}\n\
-        {\"error\":{\"code\":\"ERR_MESSAGE_BADLY_FORMED\",\"message\":\"message is badly formed\"}}\n\
-        {\"a\":\"op\",\"c\":\"b\",\"d\":\"1\",\"error\":{\"code\":\"ERR_MESSAGE_BADLY_FORMED\",\"message\":\"message is badly formed\"},\"seq\":1,\"src\":\"x\"}\n";
-    assert_eq!(rt; answers(rt.alloc(), input)?.as_slice(), output.as_slice());
-    Ok(())
-}
-
-#[test]
-fn a_delete(rt: HostRuntime) -> Result<(), Fail> {
-    let input =
-        b"{\"a\":\"op\",\"c\":\"b\",\"d\":\"11\",\"src\":\"x\",\"seq\":1,\"create\":{\"type\":\"http://sharejs.org/types/JSONv0\",\"data\":{}}}\n\
-        {\"a\":\"op\",\"c\":\"b\",\"d\":\"11\",\"v\":1,\"src\":\"y\",\"seq\":1,\"del\":true}\n\
-        {\"a\":\"op\",\"c\":\"b\",\"d\":\"11\",\"v\":1,\"src\":\"z\",\"seq\":1,\"op\":[]}\n\
-        {\"a\":\"op\",\"c\":\"b\",\"d\":\"11\",\"v\":1,\"src\":\"z\",\"seq\":2,\"del\":true}\n\
-        {\"a\":\"f\",\"c\":\"b\",\"d\":\"11\"}\n";
-    let output =
-        b"{\"a\":\"init\",\"id\":\"s1\",\"protocol\":1,\"protocolMinor\":1,\"type\":\"http://sharejs.org/types/JSONv0\"}\n\
-        {\"a\":\"op\",\"c\":\"b\",\"d\":\"11\",\"seq\":1,\"src\":\"x\",\"v\":0}\n\
-        {\"a\":\"op\",\"c\":\"b\",\"d\":\"11\",\"seq\":1,\"src\":\"y\",\"v\":1}\n\
-        {\"a\":\"op\",\"c\":\"b\",\"d\":\"11\",\"error\":{\"code\":\"ERR_DOC_WAS_DELETED\",\"message\":\"document was deleted\"},\"seq\":1,\"src\":\"z\"}\n\
-        {\"a\":\"op\",\"c\":\"b\",\"d\":\"11\",\"del\":true,\"seq\":1,\"src\":\"y\",\"v\":1}\n\
-        {\"a\":\"op\",\"c\":\"b\",\"d\":\"11\",\"seq\":2,\"src\":\"z\",\"v\":2}\n\
-        {\"a\":\"f\",\"c\":\"b\",\"d\":\"11\",\"data\":{\"type\":null,\"v\":3}}\n";
-    assert_eq!(rt; answers(rt.alloc(), input)?.as_slice(), output.as_slice());
-    Ok(())
-}
-
-#[test]
-fn the_arriving_side_is_left(rt: HostRuntime) -> Result<(), Fail> {
-    let input =
-        b"{\"a\":\"op\",\"c\":\"b\",\"d\":\"5\",\"src\":\"x\",\"seq\":1,\"create\":{\"type\":\"http://sharejs.org/types/JSONv0\",\"data\":[\"x\"]}}\n\
-        {\"a\":\"op\",\"c\":\"b\",\"d\":\"5\",\"v\":1,\"src\":\"y\",\"seq\":1,\"op\":[{\"p\":[0],\"li\":\"A\"}]}\n\
-        {\"a\":\"op\",\"c\":\"b\",\"d\":\"5\",\"v\":1,\"src\":\"z\",\"seq\":1,\"op\":[{\"p\":[0],\"li\":\"B\"}]}\n\
-        {\"a\":\"f\",\"c\":\"b\",\"d\":\"5\"}\n";
-    let output =
-        b"{\"a\":\"init\",\"id\":\"s1\",\"protocol\":1,\"protocolMinor\":1,\"type\":\"http://sharejs.org/types/JSONv0\"}\n\
-        {\"a\":\"op\",\"c\":\"b\",\"d\":\"5\",\"seq\":1,\"src\":\"x\",\"v\":0}\n\
-        {\"a\":\"op\",\"c\":\"b\",\"d\":\"5\",\"seq\":1,\"src\":\"y\",\"v\":1}\n\
-        {\"a\":\"op\",\"c\":\"b\",\"d\":\"5\",\"op\":[{\"li\":\"A\",\"p\":[0]}],\"seq\":1,\"src\":\"y\",\"v\":1}\n\
-        {\"a\":\"op\",\"c\":\"b\",\"d\":\"5\",\"seq\":1,\"src\":\"z\",\"v\":2}\n\
-        {\"a\":\"f\",\"c\":\"b\",\"d\":\"5\",\"data\":{\"data\":[\"B\",\"A\",\"x\"],\"v\":3}}\n";
-    assert_eq!(rt; answers(rt.alloc(), input)?.as_slice(), output.as_slice());
-    Ok(())
-}
-
-#[test]
-fn insert_against_insert(rt: HostRuntime) -> Result<(), Fail> {
-    let input =
-        b"{\"a\":\"op\",\"c\":\"b\",\"d\":\"6\",\"src\":\"x\",\"seq\":1,\"create\":{\"type\":\"http://sharejs.org/types/JSONv0\",\"data\":{}}}\n\
-        {\"a\":\"op\",\"c\":\"b\",\"d\":\"6\",\"v\":1,\"src\":\"y\",\"seq\":1,\"op\":[{\"p\":[\"k\"],\"oi\":1}]}\n\
-        {\"a\":\"op\",\"c\":\"b\",\"d\":\"6\",\"v\":1,\"src\":\"z\",\"seq\":1,\"op\":[{\"p\":[\"k\"],\"oi\":2}]}\n\
-        {\"a\":\"f\",\"c\":\"b\",\"d\":\"6\",\"v\":2}\n";
-    let output =
-        b"{\"a\":\"init\",\"id\":\"s1\",\"protocol\":1,\"protocolMinor\":1,\"type\":\"http://sharejs.org/types/JSONv0\"}\n\
-        {\"a\":\"op\",\"c\":\"b\",\"d\":\"6\",\"seq\":1,\"src\":\"x\",\"v\":0}\n\
-        {\"a\":\"op\",\"c\":\"b\",\"d\":\"6\",\"seq\":1,\"src\":\"y\",\"v\":1}\n\
-        {\"a\":\"op\",\"c\":\"b\",\"d\":\"6\",\"op\":[{\"oi\":1,\"p\":[\"k\"]}],\"seq\":1,\"src\":\"y\",\"v\":1}\n\
-        {\"a\":\"op\",\"c\":\"b\",\"d\":\"6\",\"seq\":1,\"src\":\"z\",\"v\":2}\n\
-        {\"a\":\"op\",\"c\":\"b\",\"d\":\"6\",\"op\":[{\"od\":1,\"oi\":2,\"p\":[\"k\"]}],\"seq\":1,\"src\":\"z\",\"v\":2}\n\
-        {\"a\":\"f\",\"c\":\"b\",\"d\":\"6\"}\n";
-    assert_eq!(rt; answers(rt.alloc(), input)?.as_slice(), output.as_slice());
-    Ok(())
-}
-
-#[test]
-fn a_split_delete(rt: HostRuntime) -> Result<(), Fail> {
-    let input =
-        b"{\"a\":\"op\",\"c\":\"b\",\"d\":\"7\",\"src\":\"x\",\"seq\":1,\"create\":{\"type\":\"http://sharejs.org/types/JSONv0\",\"data\":\"abcdef\"}}\n\
-        {\"a\":\"op\",\"c\":\"b\",\"d\":\"7\",\"v\":1,\"src\":\"y\",\"seq\":1,\"op\":[{\"p\":[3],\"si\":\"XYZ\"}]}\n\
-        {\"a\":\"op\",\"c\":\"b\",\"d\":\"7\",\"v\":1,\"src\":\"z\",\"seq\":1,\"op\":[{\"p\":[1],\"sd\":\"bcde\"}]}\n\
-        {\"a\":\"f\",\"c\":\"b\",\"d\":\"7\",\"v\":2}\n\
-        {\"a\":\"f\",\"c\":\"b\",\"d\":\"7\"}\n";
-    let output =
-        b"{\"a\":\"init\",\"id\":\"s1\",\"protocol\":1,\"protocolMinor\":1,\"type\":\"http://sharejs.org/types/JSONv0\"}\n\
-        {\"a\":\"op\",\"c\":\"b\",\"d\":\"7\",\"seq\":1,\"src\":\"x\",\"v\":0}\n\
-        {\"a\":\"op\",\"c\":\"b\",\"d\":\"7\",\"seq\":1,\"src\":\"y\",\"v\":1}\n\
-        {\"a\":\"op\",\"c\":\"b\",\"d\":\"7\",\"op\":[{\"p\":[3],\"si\":\"XYZ\"}],\"seq\":1,\"src\":\"y\",\"v\":1}\n\
-        {\"a\":\"op\",\"c\":\"b\",\"d\":\"7\",\"seq\":1,\"src\":\"z\",\"v\":2}\n\
-        {\"a\":\"op\",\"c\":\"b\",\"d\":\"7\",\"op\":[{\"p\":[1],\"sd\":\"bc\"},{\"p\":[4],\"sd\":\"de\"}],\"seq\":1,\"src\":\"z\",\"v\":2}\n\
-        {\"a\":\"f\",\"c\":\"b\",\"d\":\"7\"}\n\
-        {\"a\":\"f\",\"c\":\"b\",\"d\":\"7\",\"data\":{\"data\":\"aXYZf\",\"v\":3}}\n";
-    assert_eq!(rt; answers(rt.alloc(), input)?.as_slice(), output.as_slice());
-    Ok(())
-}
-
-#[test]
-fn an_edit_of_what_is_gone(rt: HostRuntime) -> Result<(), Fail> {
-    let input =
-        b"{\"a\":\"op\",\"c\":\"b\",\"d\":\"9\",\"src\":\"x\",\"seq\":1,\"create\":{\"type\":\"http://sharejs.org/types/JSONv0\",\"data\":[{\"n\":1}]}}\n\
-        {\"a\":\"op\",\"c\":\"b\",\"d\":\"9\",\"v\":1,\"src\":\"y\",\"seq\":1,\"op\":[{\"p\":[0],\"ld\":{\"n\":1}}]}\n\
-        {\"a\":\"op\",\"c\":\"b\",\"d\":\"9\",\"v\":1,\"src\":\"z\",\"seq\":1,\"op\":[{\"p\":[0,\"n\"],\"na\":1}]}\n\
-        {\"a\":\"f\",\"c\":\"b\",\"d\":\"9\",\"v\":2}\n\
-        {\"a\":\"f\",\"c\":\"b\",\"d\":\"9\"}\n";
-    let output =
-        b"{\"a\":\"init\",\"id\":\"s1\",\"protocol\":1,\"protocolMinor\":1,\"type\":\"http://sharejs.org/types/JSONv0\"}\n\
-        {\"a\":\"op\",\"c\":\"b\",\"d\":\"9\",\"seq\":1,\"src\":\"x\",\"v\":0}\n\
-        {\"a\":\"op\",\"c\":\"b\",\"d\":\"9\",\"seq\":1,\"src\":\"y\",\"v\":1}\n\
-        {\"a\":\"op\",\"c\":\"b\",\"d\":\"9\",\"op\":[{\"ld\":{\"n\":1},\"p\":[0]}],\"seq\":1,\"src\":\"y\",\"v\":1}\n\
-        {\"a\":\"op\",\"c\":\"b\",\"d\":\"9\",\"seq\":1,\"src\":\"z\",\"v\":2}\n\
-        {\"a\":\"op\",\"c\":\"b\",\"d\":\"9\",\"op\":[],\"seq\":1,\"src\":\"z\",\"v\":2}\n\
-        {\"a\":\"f\",\"c\":\"b\",\"d\":\"9\"}\n\
-        {\"a\":\"f\",\"c\":\"b\",\"d\":\"9\",\"data\":{\"data\":[],\"v\":3}}\n";
-    assert_eq!(rt; answers(rt.alloc(), input)?.as_slice(), output.as_slice());
-    Ok(())
-}
-
-#[test]
-fn a_removed_value_brought_up_to_date(rt: HostRuntime) -> Result<(), Fail> {
-    let input =
-        b"{\"a\":\"op\",\"c\":\"b\",\"d\":\"10\",\"src\":\"x\",\"seq\":1,\"create\":{\"type\":\"http://sharejs.org/types/JSONv0\",\"data\":[{\"n\":1}]}}\n\
-        {\"a\":\"op\",\"c\":\"b\",\"d\":\"10\",\"v\":1,\"src\":\"y\",\"seq\":1,\"op\":[{\"p\":[0,\"n\"],\"na\":1}]}\n\
-        {\"a\":\"op\",\"c\":\"b\",\"d\":\"10\",\"v\":1,\"src\":\"z\",\"seq\":1,\"op\":[{\"p\":[0],\"ld\":{\"n\":1}}]}\n\
-        {\"a\":\"f\",\"c\":\"b\",\"d\":\"10\",\"v\":2}\n\
-        {\"a\":\"f\",\"c\":\"b\",\"d\":\"10\"}\n";
-    let output =
-        b"{\"a\":\"init\",\"id\":\"s1\",\"protocol\":1,\"protocolMinor\":1,\"type\":\"http://sharejs.org/types/JSONv0\"}\n\
-        {\"a\":\"op\",\"c\":\"b\",\"d\":\"10\",\"seq\":1,\"src\":\"x\",\"v\":0}\n\
-        {\"a\":\"op\",\"c\":\"b\",\"d\":\"10\",\"seq\":1,\"src\":\"y\",\"v\":1}\n\
-        {\"a\":\"op\",\"c\":\"b\",\"d\":\"10\",\"op\":[{\"na\":1,\"p\":[0,\"n\"]}],\"seq\":1,\"src\":\"y\",\"v\":1}\n\
-        {\"a\":\"op\",\"c\":\"b\",\"d\":\"10\",\"seq\":1,\"src\":\"z\",\"v\":2}\n\
-        {\"a\":\"op\",\"c\":\"b\",\"d\":\"10\",\"op\":[{\"ld\":{\"n\":2},\"p\":[0]}],\"seq\":1,\"src\":\"z\",\"v\":2}\n\
-        {\"a\":\"f\",\"c\":\"b\",\"d\":\"10\"}\n\
-        {\"a\":\"f\",\"c\":\"b\",\"d\":\"10\",\"data\":{\"data\":[],\"v\":3}}\n";
-    assert_eq!(rt; answers(rt.alloc(), input)?.as_slice(), output.as_slice());
+fn worked_rows(rt: HostRuntime) -> Result<(), Fail> {
+    let alloc = rt.alloc();
+    for row in &ROWS {
+        let wanted = whole(alloc, row.answers)?;
+        let name = row.name;
+        assert_eq!(rt; written(alloc, row.lines.as_bytes())?.as_slice(), wanted.as_bytes(), "{name}");
+    }
     Ok(())
 }
 
@@ -292,6 +272,91 @@ fn words(alloc: Global, line: &str) -> Result<Vec<String>, Fail> {
     Ok(words)
 }
 
+// What is printed: standard output, standard error.
+#[derive(Drop)]
+struct Terminal {
+    alloc: Global,
+    out: RefCell<String>,
+    err: RefCell<String>,
+}
+
+impl Terminal {
+    fn new(alloc: Global) -> Terminal {
+        Terminal {
+            alloc,
+            out: RefCell::new(String::new(alloc)),
+            err: RefCell::new(String::new(alloc)),
+        }
+    }
+}
+
+fn add<D: Display + Drop>(text: &RefCell<String>, value: D, end: &str) -> io::Result<()> {
+    match text.try_borrow_mut() {
+        Ok(mut text) => match write!(text, "{value}{end}") {
+            Ok(()) => Ok(()),
+            Err(_) => Err(io::Error::from(io::ErrorKind::OutOfMemory)),
+        },
+        Err(_) => Err(io::Error::from(io::ErrorKind::ResourceBusy)),
+    }
+}
+
+impl Print for Terminal {
+    fn print<D: Display + Drop>(&self, value: D) -> io::Result<()> {
+        add(&self.out, value, "")
+    }
+
+    fn println<D: Display + Drop>(&self, value: D) -> io::Result<()> {
+        add(&self.out, value, "\n")
+    }
+
+    fn write_all(&self, _bytes: &[u8]) -> io::Result<()> {
+        Err(io::Error::from(io::ErrorKind::Unsupported))
+    }
+}
+
+impl Eprint for Terminal {
+    fn eprint<D: Display + Drop>(&self, value: D) -> io::Result<()> {
+        add(&self.err, value, "")
+    }
+
+    fn eprintln<D: Display + Drop>(&self, value: D) -> io::Result<()> {
+        add(&self.err, value, "\n")
+    }
+}
+
+impl Alloc for Terminal {
+    type A = Global;
+
+    fn alloc(&self) -> Global {
+        self.alloc
+    }
+}
+
+impl AllocGlobal for Terminal {}
+
+#[test]
+fn faults_are_told(rt: HostRuntime) -> Result<(), Fail> {
+    for (fault, told) in [
+        (RunFault::Read, "fault: read\n"),
+        (RunFault::Write, ""),
+        (RunFault::Memory, "fault: memory\n"),
+    ] {
+        let terminal = Terminal::new(rt.alloc());
+        assert_eq!(rt; end_with(&terminal, fault), FAULT);
+        assert_eq!(rt; terminal.out.into_inner().as_str(), told);
+    }
+    Ok(())
+}
+
+#[test]
+fn a_refusal_is_one_line_on_standard_error(rt: HostRuntime) -> Result<(), Fail> {
+    let terminal = Terminal::new(rt.alloc());
+    assert_eq!(rt; refuse(&terminal, "error: no\nmore of it")?, REFUSED);
+    assert_eq!(rt; terminal.err.into_inner().as_str(), "error: no\n");
+    assert!(rt; terminal.out.into_inner().is_empty());
+    Ok(())
+}
+
 #[test]
 fn command_lines(rt: HostRuntime) -> Result<(), Fail> {
     let alloc = rt.alloc();
@@ -299,8 +364,30 @@ fn command_lines(rt: HostRuntime) -> Result<(), Fail> {
     assert!(rt; matches!(asks_lines(alloc, given.as_slice()), Ok(true)));
     let bare = words(alloc, "sdb_server")?;
     assert!(rt; matches!(asks_lines(alloc, bare.as_slice()), Ok(false)));
-    let other = words(alloc, "sdb_server --lines --port")?;
-    assert!(rt; asks_lines(alloc, other.as_slice()).is_err());
+    Ok(())
+}
+
+#[test]
+fn a_command_line_that_asks_for_no_run(rt: HostRuntime) -> Result<(), Fail> {
+    let alloc = rt.alloc();
+    for (line, status, on_error) in [
+        ("sdb_server --lines --port", REFUSED, true),
+        ("sdb_server more", REFUSED, true),
+        ("sdb_server --help", DONE, false),
+    ] {
+        let given = words(alloc, line)?;
+        let Err(error) = asks_lines(alloc, given.as_slice()) else {
+            return Err("it asks for a run".into());
+        };
+        let terminal = Terminal::new(alloc);
+        let Ok(ended) = answer_no_run(&terminal, &error) else {
+            return Err("no status".into());
+        };
+        assert_eq!(rt; ended, status, "{line}");
+        let (out, err) = (terminal.out.into_inner(), terminal.err.into_inner());
+        assert_eq!(rt; out.is_empty(), on_error, "{line}");
+        assert_eq!(rt; err.as_str().lines().count(), if on_error { 1 } else { 0 }, "{line}");
+    }
     Ok(())
 }
 
@@ -327,7 +414,7 @@ impl io::Write for Failing {
 #[test]
 fn a_writer_that_fails(rt: HostRuntime) {
     for calls in 0..20 {
-        let mut reader = Watched::new(b"{\"a\":\"f\",\"c\":\"b\",\"d\":\"1\"}\n".as_slice());
+        let mut reader = Watched::new(r#"{"a":"f","c":"b","d":"1"}"#.as_bytes());
         let mut writer = Watched::new(Failing { calls });
         let ended = run_lines(rt.alloc(), &mut reader, &mut writer);
         assert!(rt; matches!(ended, Err(RunFault::Write)), "after {calls}");

@@ -1,0 +1,62 @@
+-- A submission that is stored, or refused by the document.
+use Rattle.std.proofs.Common.{◌≡◌, ℕ, List, [], ◌∷◌, ◌++◌, length, true, Option, Some, None, Result, Ok, Err, option_map, unwrap_or, sym, ap, ◌∙◌, subst}
+use Rattle.std.specs.Option.{is_some}
+use Rattle.sdb_value.specs.Value.{Value}
+use Rattle.sdb_value.specs.View.{view}
+use Rattle.sdb_value.specs.declared.value.Json.{Json}
+use Rattle.sdb_oplog.specs.declared.codes.Code.{Code}
+use Rattle.sdb_oplog.specs.declared.codes.Code.TheVariants.{E10}
+use Rattle.sdb_oplog.specs.Plain.{PlainContent, PlainEntry, PlainSubmission, PlainPrepared}
+use Rattle.sdb_oplog.specs.Logged.{stored_entry}
+use Rattle.sdb_oplog.specs.Refused.{RefusedBy}
+use Rattle.sdb_oplog.specs.Snap.{becomes, snap, document}
+use Rattle.sdb_oplog.specs.Decide.{decide, entry_of, missed, stored, refused, IsMade}
+use Rattle.sdb_oplog.specs.Laws.{due_code, document_is, stored_makes, decides_stored, decides_refused, made_decided}
+use Rattle.sdb_desk.specs.Machine.{PlainAttempt}
+use Rattle.sdb_desk.specs.Documents.{IsMadeDocument, Settles}
+
+abbrev pub prepared_of : List PlainEntry → PlainSubmission → PlainPrepared
+prepared_of log s = record { log = log; submission = s }
+
+-- the document after what is stored
+makes_stored : (p : PlainPrepared) (log : List PlainEntry) (s : PlainSubmission) (content : Option PlainContent) (m : PlainContent) (d n : Option Value) → p ≡ prepared_of log s → snap log ≡ Some d → m ≡ unwrap_or content p.submission.content
+    → becomes m d ≡ Ok n → snap (p.log ++ stored_entry p content ∷ []) ≡ Some n
+makes_stored p log s content m d n is lives e makes =
+    let P : PlainPrepared → Type 0 = λ q. m ≡ unwrap_or content q.submission.content → snap (q.log ++ stored_entry q content ∷ []) ≡ Some n in
+    subst P (sym is) (λ h. stored_makes log (stored_entry (prepared_of log s) content) d n lives (ap (λ k. becomes k d) (sym h) ∙ makes)) e
+
+pub lives_stored : (p : PlainPrepared) (log : List PlainEntry) (s : PlainSubmission) (content : Option PlainContent) (m : PlainContent) (old new : Option Json) → p ≡ prepared_of log s → IsMadeDocument log old → m ≡ unwrap_or content p.submission.content
+    → becomes m (option_map view old) ≡ Ok (option_map view new) → is_some (snap (p.log ++ stored_entry p content ∷ [])) ≡ true
+lives_stored p log s content m old new is keeps e makes = ap is_some (makes_stored p log s content m (option_map view old) (option_map view new) is keeps.makes e makes)
+
+-- what is decided
+pub decided_stored : (p : PlainPrepared) (log : List PlainEntry) (a : PlainAttempt) (content : Option PlainContent) (m : PlainContent) (old new : Option Json) → p ≡ prepared_of log a.submission → IsMadeDocument log old → Settles log a content
+    → m ≡ unwrap_or content p.submission.content → becomes m (option_map view old) ≡ Ok (option_map view new)
+    → decide log a.submission ≡ record { reply = stored (length log) (missed log a.submission); log = p.log ++ stored_entry p content ∷ [] }
+decided_stored p log a content m old new is keeps settles e makes =
+    let s = a.submission in
+    let P : PlainPrepared → Type 0 = λ q. m ≡ unwrap_or content q.submission.content → decide log s ≡ record { reply = stored (length log) (missed log s); log = q.log ++ stored_entry q content ∷ [] } in
+    subst P (sym is) (λ h. decides_stored log s (unwrap_or content s.content) (option_map view new) settles.first settles.room settles.seen settles.over (ap (λ k. becomes k (document log)) (sym h) ∙ ap (becomes m) (document_is log (option_map view old) keeps.makes) ∙ makes)) e
+
+pub keeps_stored : (r : List PlainEntry) (p : PlainPrepared) (log : List PlainEntry) (a : PlainAttempt) (content : Option PlainContent) (m : PlainContent) (old new : Option Json) → r ≡ p.log ++ stored_entry p content ∷ []
+    → p ≡ prepared_of log a.submission → IsMadeDocument log old → Settles log a content → m ≡ unwrap_or content p.submission.content → becomes m (option_map view old) ≡ Ok (option_map view new) → IsMadeDocument r new
+keeps_stored r p log a content m old new is of keeps settles e makes =
+    let P : List PlainEntry → Type 0 = λ l. IsMade l in record {
+      makes = ap snap is ∙ makes_stored p log a.submission content m (option_map view old) (option_map view new) of keeps.makes e makes;
+      made = subst P (sym (is ∙ sym (ap (λ d. d.log) (decided_stored p log a content m old new of keeps settles e makes)))) (made_decided log a.submission keeps.made);
+    }
+
+-- what the document refuses
+pub decided_refused : (p : PlainPrepared) (log : List PlainEntry) (a : PlainAttempt) (content : Option PlainContent) (m : PlainContent) (old : Option Json) (code : Code) → p ≡ prepared_of log a.submission → IsMadeDocument log old → Settles log a content
+    → m ≡ unwrap_or content p.submission.content → RefusedBy (becomes m (option_map view old)) code → (code ≡ E10 → ⊥) → decide log a.submission ≡ record { reply = refused code; log = log }
+decided_refused p log a content m old code is keeps settles e refuses other =
+    let s = a.submission in
+    let same : m ≡ unwrap_or content s.content = e ∙ ap (λ q. unwrap_or content q.submission.content) is in
+    decides_refused log s (unwrap_or content s.content) code settles.first settles.room settles.seen settles.over
+    (ap (λ k. becomes k (document log)) (sym same) ∙ ap (becomes m) (document_is log (option_map view old) keeps.makes) ∙ due_code (becomes m (option_map view old)) code other refuses)
+
+pub keeps_same : (r log : List PlainEntry) (old new : Option Json) → r ≡ log → option_map view new ≡ option_map view old → IsMadeDocument log old → IsMadeDocument r new
+keeps_same r log old new is same keeps = let P : List PlainEntry → Type 0 = λ l. IsMade l in record {
+  makes = ap snap is ∙ keeps.makes ∙ ap Some (sym same);
+  made = subst P (sym is) keeps.made;
+}
