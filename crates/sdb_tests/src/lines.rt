@@ -1,8 +1,10 @@
-ghost use Rattle.std.specs.Prelude.{◌≡◌, ℕ, List, [], ◌∷◌, ◌++◌, refl, decimal, OnOk};
-ghost use Rattle.sdb_lines.specs.LongestLine.{answers, has_bytes};
+//! Tests of `sdb_lines`: what no clause says of a run over lines.
+ghost use Rattle.std.specs.Prelude.{◌≡◌, ◌∷◌, [], ◌++◌, decimal, OnOk};
+ghost use Rattle.sdb_tests.specs.LongestLine.{TakesLine, has_bytes};
 
-use crate::{Counts, LINE_LIMIT, Replier, RunFault, Watched, run_lines};
+use sdb_lines::{Counts, LINE_LIMIT, Replier, RunFault, WatchedReader, WatchedWriter, run_lines};
 use std::alloc::{AllocError, Global};
+use std::cell::Cell;
 use std::io;
 use std::io::{ErrorKind, Read, Write};
 use std::test::Fail;
@@ -26,7 +28,7 @@ impl Longest {
 impl Replier for Longest {
     ghost opening = { λ s. decimal s.longest ++ 10 ∷ [] };
 
-    ghost output = { λ s lines. answers s.longest lines };
+    ghost takes = { λ s line answer t. TakesLine s.longest line answer t.longest };
 
     ghost is_step = { has_bytes };
 
@@ -43,8 +45,6 @@ impl Replier for Longest {
     fn reply_unreadable(&mut self, _alloc: Global, out: &mut Vec<u8>) -> Result<(), AllocError> {
         out.extend_from_slice(b"bad\n")
     }
-
-    ghost at_end = { λ s. refl };
 }
 
 // A reader of two bytes a call, whose read of the given number fails.
@@ -152,8 +152,8 @@ fn run_slowly(
     trouble: Trouble,
 ) -> (Result<Counts, RunFault>, Narrow) {
     let mut machine = Longest { longest: 0 };
-    let mut reader = Watched::new(Slow::new(INPUT, fails_at));
-    let mut writer = Watched::new(Narrow::new(alloc, trouble));
+    let mut reader = WatchedReader::new(Slow::new(INPUT, fails_at));
+    let mut writer = WatchedWriter::new(Narrow::new(alloc, trouble));
     let ended = run_lines(alloc, &mut machine, &mut reader, &mut writer);
     (ended, writer.stream)
 }
@@ -161,8 +161,8 @@ fn run_slowly(
 // Answers these bytes.
 fn run_over(alloc: Global, input: &[u8]) -> (Result<Counts, RunFault>, Vec<u8>) {
     let mut machine = Longest { longest: 0 };
-    let mut reader = Watched::new(input);
-    let mut writer = Watched::new(Vec::new(alloc));
+    let mut reader = WatchedReader::new(input);
+    let mut writer = WatchedWriter::new(Vec::new(alloc));
     let ended = run_lines(alloc, &mut machine, &mut reader, &mut writer);
     (ended, writer.stream)
 }
@@ -237,6 +237,108 @@ fn tells_of_a_failed_write(rt: HostRuntime) {
         assert_eq!(rt; ended, Err(RunFault::Write), "at flush {k}");
         assert!(rt; OUTPUT.starts_with(writer.taken.as_slice()), "at flush {k}");
     }
+}
+
+// How many bytes were written, and how many of them were flushed.
+#[derive(Drop)]
+struct Flow {
+    written: Cell<usize>,
+    flushed: Cell<usize>,
+}
+
+// A reader of four bytes a call, which notes a read before which something written was not flushed.
+#[derive(Drop)]
+struct Waiting<'a> {
+    bytes: &'static [u8],
+    flow: &'a Flow,
+    is_early: bool,
+}
+
+impl<'a> Read for Waiting<'a> {
+    fn read(&mut self, buf: &mut [u8]) -> io::Result<usize> {
+        let flushed = self.flow.flushed.get();
+        if flushed == 0 || flushed != self.flow.written.get() {
+            self.is_early = true;
+        }
+        let n = buf.len().min(self.bytes.len()).min(4);
+        buf[..n].copy_from_slice(&self.bytes[..n]);
+        self.bytes = &self.bytes[n..];
+        Ok(n)
+    }
+}
+
+// A writer that takes all, and notes the most bytes that it was given at once.
+#[derive(Drop)]
+struct Wide<'a> {
+    flow: &'a Flow,
+    most: usize,
+}
+
+impl<'a> Write for Wide<'a> {
+    fn write(&mut self, buf: &[u8]) -> io::Result<usize> {
+        self.most = self.most.max(buf.len());
+        self.flow
+            .written
+            .set(self.flow.written.get().saturating_add(buf.len()));
+        Ok(buf.len())
+    }
+
+    fn flush(&mut self) -> io::Result<()> {
+        self.flow.flushed.set(self.flow.written.get());
+        Ok(())
+    }
+}
+
+// Answers the input, and tells whether a read came too early.
+fn run_waiting<'a>(alloc: Global, flow: &'a Flow) -> (Result<Counts, RunFault>, bool) {
+    let mut machine = Longest { longest: 0 };
+    let mut reader = WatchedReader::new(Waiting {
+        bytes: INPUT,
+        flow,
+        is_early: false,
+    });
+    let mut writer = WatchedWriter::new(Wide { flow, most: 0 });
+    let ended = run_lines(alloc, &mut machine, &mut reader, &mut writer);
+    (ended, reader.stream.is_early)
+}
+
+#[test]
+fn flushes_before_each_read(rt: HostRuntime) {
+    let flow = Flow {
+        written: Cell::new(0),
+        flushed: Cell::new(0),
+    };
+    let (ended, is_early) = run_waiting(rt.alloc(), &flow);
+    assert_eq!(rt; ended, Ok(COUNTS));
+    assert!(rt; !is_early);
+    assert_eq!(rt; flow.flushed.get(), OUTPUT.len());
+}
+
+#[test]
+fn writes_before_much_is_pending(rt: HostRuntime) -> Result<(), AllocError> {
+    let flow = Flow {
+        written: Cell::new(0),
+        flushed: Cell::new(0),
+    };
+    // One read gives all these lines, each with an answer of two bytes.
+    let input = vec![in rt.alloc(); b'\n'; 50_000]?;
+    let mut machine = Longest { longest: 0 };
+    let mut reader = WatchedReader::new(input.as_slice());
+    let mut writer = WatchedWriter::new(Wide {
+        flow: &flow,
+        most: 0,
+    });
+    let ended = run_lines(rt.alloc(), &mut machine, &mut reader, &mut writer);
+    assert_eq!(rt;
+        ended,
+        Ok(Counts {
+            lines: 50_000,
+            steps: 0
+        })
+    );
+    assert_eq!(rt; flow.written.get(), 100_002);
+    assert_eq!(rt; writer.stream.most, 65_536);
+    Ok(())
 }
 
 #[test]
