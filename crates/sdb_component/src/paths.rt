@@ -4,9 +4,8 @@ ghost use Rattle.serde_json.specs.View.{view as data_view, items_view};
 ghost use Rattle.sdb_component.specs.Reads.{Unread, index_last, key_last, path_of, step_of, steps_of};
 ghost use Rattle.sdb_value.specs.View.{plain_path, plain_step};
 
-use crate::members::count_of;
 use crate::reading::OpFault;
-use sdb_value::Step;
+use sdb_value::{Step, count_of};
 use serde_json::Value;
 use std::alloc::{AllocError, Global};
 

@@ -1,13 +1,14 @@
 //! From `serde_json`'s `Value`.
 ghost use Rattle.std.specs.Prelude.{◌≡◌, ◌<◌, ◌≤◌, Some, None, IfOk, IfErr, option_map};
 ghost use Rattle.sdb_value.specs.Value.{depth, items_depth, members_depth};
-ghost use Rattle.sdb_value.specs.Profile.{of_data, of_items, of_members, whole_of, in_profile, Unread, Refuses, RefusesItems, RefusesMembers};
+ghost use Rattle.sdb_value.specs.Profile.{of_data, of_items, of_members, in_profile, Unread, Refuses, RefusesItems, RefusesMembers};
 ghost use Rattle.sdb_value.specs.View.{view, items_view, members_view};
-ghost use Rattle.serde_json.specs.View.{view as data_view, items_view as data_items_view, members_view as data_members_view, number_view};
+ghost use Rattle.serde_json.specs.View.{view as data_view, items_view as data_items_view, members_view as data_members_view};
 
+use crate::numbers::whole_of;
 use crate::parts::{push_item, put_member};
-use crate::value::{Json, Whole};
-use serde_json::{Map, Number, Value};
+use crate::value::Json;
+use serde_json::{Map, Value};
 use std::alloc::{AllocError, Global};
 use std::collections::BTreeMap;
 use thiserror::Error;
@@ -56,7 +57,7 @@ fn read(alloc: Global, value: &Value, left: u64) -> Result<Json, ValueFault>
     match value {
         Value::Null => Ok(Json::Null),
         Value::Bool(b) => Ok(Json::Bool(*b)),
-        Value::Number(number) => match whole(number) {
+        Value::Number(number) => match whole_of(number) {
             Some(n) => Ok(Json::Int(n)),
             None => Err(ValueFault::Number),
         },
@@ -107,14 +108,4 @@ fn read_members(
         put_member(&mut made, name, new)?;
     }
     Ok(made)
-}
-
-fn whole(number: &Number) -> Option<Whole>
-    ensures { result ≡ whole_of (number_view number.now) }
-{
-    let n = number.as_i128()?;
-    if n < -9007199254740991 || n > 9007199254740991 {
-        return None;
-    }
-    Whole::new(n as i64)
 }

@@ -4,6 +4,7 @@
 mod convert;
 mod copy;
 mod lends;
+mod numbers;
 mod parts;
 mod places;
 mod print;
@@ -13,6 +14,7 @@ mod writing;
 
 pub use convert::{ValueFault, from_value};
 pub use lends::{list_mut, object_mut, text_mut};
+pub use numbers::{MAX, count_of, whole_of};
 pub use parts::{
     insert_item, insert_text, put_member, remove_item, remove_member, remove_text, replace_item,
 };

@@ -2,6 +2,7 @@
 ghost use Rattle.std.specs.Prelude.{◌≡◌, ◌+ℤ◌};
 ghost use Rattle.sdb_value.specs.Profile.{in_range};
 
+use crate::numbers::MAX;
 use std::collections::BTreeMap;
 use std::marker::Model;
 
@@ -26,7 +27,7 @@ impl Model for Whole {
 
 impl Whole {
     /// The greatest, 9007199254740991. The least is `-Whole::MAX`.
-    pub const MAX: i64 = 9007199254740991;
+    pub const MAX: i64 = MAX as i64;
 
     /// The whole number of this value, or `None` where it is below -9007199254740991 or above
     /// 9007199254740991.
