@@ -4,7 +4,9 @@ pub mod Edits
 pub mod Printed
 pub mod Profile
 pub mod Rows
+pub mod Size
 pub mod Text
 pub mod Value
 pub mod View
+pub mod WellFormed
 pub mod Worked

@@ -3,7 +3,9 @@
 
 mod convert;
 mod copy;
+pub mod laws;
 mod lends;
+mod measures;
 mod numbers;
 mod parts;
 mod places;
