@@ -29,9 +29,9 @@ fn push_step(steps: &mut Vec<Step>, step: Step) -> Result<(), AllocError>
     Ok(())
 }
 
-fn steps_of(alloc: Global, items: &Vec<Value>) -> Result<Vec<Step>, OpFault>
-    ensures ok { IfOk result (λ p. steps_of (items_view items.now.items) ≡ Some (plain_path p.items)) }
-    ensures err { IfErr result (λ f. Unread (steps_of (items_view items.now.items)) f) }
+fn steps_of(alloc: Global, items: &[Value]) -> Result<Vec<Step>, OpFault>
+    ensures ok { IfOk result (λ p. steps_of (items_view items.now) ≡ Some (plain_path p.items)) }
+    ensures err { IfErr result (λ f. Unread (steps_of (items_view items.now)) f) }
 {
     let mut steps = Vec::with_capacity(alloc, items.len())?;
     for item in items {

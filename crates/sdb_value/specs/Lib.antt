@@ -1,6 +1,7 @@
 pub mod Change
 pub mod Coding
 pub mod Edits
+pub mod Law
 pub mod Printed
 pub mod Profile
 pub mod Rows

@@ -25,6 +25,3 @@ pub use print::to_value;
 pub use text::{cut_at, units};
 pub use value::{Json, Whole};
 pub use writing::write_value;
-
-#[cfg(test)]
-mod tests;

@@ -1,7 +1,8 @@
 use Rattle.std.proofs.Common.{◌∷◌, ap, sym, ◌∙◌}
 use Rattle.sdb_value.specs.Value.{key}
 use Rattle.sdb_value.specs.View.{view, plain_step, plain_path}
-use Rattle.sdb_value.proofs.Steps.{known, list_step, object_step, list_nothing, object_nothing}
+use Rattle.sdb_value.specs.Law.{known}
+use Rattle.sdb_value.proofs.Steps.{list_step, object_step, list_nothing, object_nothing}
 use Rattle.sdb_value.proofs.places.+change_at.Goals as goal
 
 pub returns-in_ok-place-in-Index : goal.returns-in_ok-place-in-Index
