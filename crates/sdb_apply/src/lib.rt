@@ -5,6 +5,3 @@ mod acts;
 mod applying;
 
 pub use applying::{ApplyFault, Refused, apply, apply_at, apply_one};
-
-#[cfg(test)]
-mod tests;

@@ -3,4 +3,10 @@
 #![tactic(auto)]
 
 #[cfg(test)]
+mod apply;
+#[cfg(test)]
+mod component;
+#[cfg(test)]
 mod lines;
+#[cfg(test)]
+mod value;

@@ -1,12 +1,13 @@
+//! `sdb_value`: values read, measured, found, changed and printed.
 ghost use Rattle.std.specs.Prelude.{◌≡◌};
 ghost use Rattle.sdb_value.specs.View.{view};
 
-use crate::{
-    Change, Json, Path, Step, ValueFault, Whole, change_at, cut_at, find, find_mut, from_value,
-    insert_item, insert_text, list_mut, object_mut, put_member, remove_item, remove_member,
-    remove_text, replace_item, text_mut, to_value, units, write_value,
-};
 use json::Writer;
+use sdb_value::{
+    Change, Json, MAX, Path, Step, ValueFault, Whole, change_at, count_of, cut_at, find, find_mut,
+    from_value, insert_item, insert_text, laws, list_mut, object_mut, put_member, remove_item,
+    remove_member, remove_text, replace_item, text_mut, to_value, units, whole_of, write_value,
+};
 use serde_json::Value;
 use std::alloc::{AllocError, Global};
 use std::test::Fail;
@@ -62,10 +63,10 @@ fn a_value_is_read_copied_and_printed(rt: HostRuntime) -> Result<(), Fail> {
     let alloc = rt.alloc();
     let value = json(
         alloc,
-        "{\"b\":[null,true,false,-9007199254740991,9007199254740991,\"aé😀\\\"\\n\",[],{}],\"a\":{\"k\":0}}",
+        r#"{"b":[null,true,false,-9007199254740991,9007199254740991,"aé😀\"\n",[],{}],"a":{"k":0}}"#,
     )?;
     let want =
-        "{\"a\":{\"k\":0},\"b\":[null,true,false,-9007199254740991,9007199254740991,\"aé😀\\\"\\n\",[],{}]}";
+        r#"{"a":{"k":0},"b":[null,true,false,-9007199254740991,9007199254740991,"aé😀\"\n",[],{}]}"#;
     assert_eq!(rt; shown(alloc, &value)?.as_str(), want);
     let copy = value.try_clone(alloc)?;
     assert!(rt; copy == value);
@@ -84,7 +85,7 @@ fn the_profile_is_kept(rt: HostRuntime) -> Result<(), Fail> {
         "1e2",
         "9007199254740992",
         "-9007199254740992",
-        "{\"k\":[0,1.5]}",
+        r#"{"k":[0,1.5]}"#,
     ] {
         let value = Value::from_str(alloc, text)?;
         assert!(rt;
@@ -98,8 +99,39 @@ fn the_profile_is_kept(rt: HostRuntime) -> Result<(), Fail> {
     assert_eq!(rt; shown(alloc, &value)?.as_str(), deepest.as_str());
     let deeper = Value::from_str(alloc, deep(alloc, 51)?.as_str())?;
     assert!(rt; matches!(from_value(alloc, &deeper), Err(ValueFault::Depth)));
-    assert_eq!(rt; json(alloc, "{\"a\":[1],\"b\":{\"c\":[]}}")?.depth(), 3);
-    assert_eq!(rt; json(alloc, "\"a\"")?.depth(), 0);
+    assert_eq!(rt; json(alloc, r#"{"a":[1],"b":{"c":[]}}"#)?.depth(), 3);
+    assert_eq!(rt; json(alloc, r#""a""#)?.depth(), 0);
+    Ok(())
+}
+
+// JSON numbers, as whole numbers and as counts.
+const NUMBERS: [(&str, Option<i64>, Option<u64>); 9] = [
+    ("0", Some(0), Some(0)),
+    (
+        "9007199254740991",
+        Some(9007199254740991),
+        Some(9007199254740991),
+    ),
+    ("9007199254740992", None, None),
+    ("18446744073709551615", None, None),
+    ("-1", Some(-1), None),
+    ("-9007199254740991", Some(-9007199254740991), None),
+    ("-9007199254740992", None, None),
+    ("1.0", None, None),
+    ("1e2", None, None),
+];
+
+#[test]
+fn numbers_are_read(rt: HostRuntime) -> Result<(), Fail> {
+    for (text, want, count) in NUMBERS {
+        let value = Value::from_str(rt.alloc(), text)?;
+        let whole = value.as_number().and_then(whole_of);
+        assert_eq!(rt; whole.map(Whole::get), want, "{text}");
+        assert_eq!(rt; count_of(&value), count, "{text}");
+    }
+    assert!(rt; count_of(&Value::from_str(rt.alloc(), "[1]")?).is_none());
+    assert_eq!(rt; MAX, 9007199254740991);
+    assert_eq!(rt; Whole::MAX, 9007199254740991);
     Ok(())
 }
 
@@ -123,25 +155,69 @@ fn whole_numbers_stay_in_range(rt: HostRuntime) -> Result<(), Fail> {
     Ok(())
 }
 
-// Paths into `{"a":[1,{"b":"x"}],"c":null}`, and what they lead to; "" where there is nothing.
-const PLACES: [(&str, &str); 11] = [
-    ("[]", "{\"a\":[1,{\"b\":\"x\"}],\"c\":null}"),
-    ("[\"a\"]", "[1,{\"b\":\"x\"}]"),
-    ("[\"a\",0]", "1"),
-    ("[\"a\",1,\"b\"]", "\"x\""),
-    ("[\"c\"]", "null"),
-    ("[\"b\"]", ""),
-    ("[\"a\",2]", ""),
-    ("[\"a\",9007199254740991]", ""),
-    ("[\"a\",\"b\"]", ""),
+// Values, and how much there is to copy of each.
+const SIZES: [(&str, u64); 7] = [
+    ("null", 1),
+    (r#""""#, 1),
+    (r#""aé""#, 4),
+    ("[]", 1),
+    ("[1,[true,null]]", 5),
+    (r#"{"key":1}"#, 5),
+    (r#"{"":"😀","b":{"c":[]}}"#, 10),
+];
+
+#[test]
+fn sizes_are_counted_up_to_a_limit(rt: HostRuntime) -> Result<(), Fail> {
+    for (text, want) in SIZES {
+        let value = json(rt.alloc(), text)?;
+        laws::well_formed(&value);
+        for limit in [0, 1, 2, 3, 4, 5, 9, 10, 11, 64, 18446744073709551615] {
+            assert_eq!(rt; value.size(limit), limit.min(want), "{text} up to {limit}");
+        }
+    }
+    Ok(())
+}
+
+#[test]
+fn faults_are_named(rt: HostRuntime) -> Result<(), Fail> {
+    for (fault, want) in [
+        (ValueFault::Number, "a number is not whole or too large"),
+        (ValueFault::Depth, "a value nests too deep"),
+        (ValueFault::Memory, "out of memory"),
+    ] {
+        let text = format!(in rt.alloc(); "{fault}")?;
+        assert_eq!(rt; text.as_str(), want);
+    }
+    Ok(())
+}
+
+// A value, paths into it, and what they lead to; "" where there is nothing.
+const PLACED: &str = r#"{"a":[1,{"b":"x"}],"c":null,"d":true}"#;
+
+const PLACES: [(&str, &str); 17] = [
+    ("[]", PLACED),
+    (r#"["a"]"#, r#"[1,{"b":"x"}]"#),
+    (r#"["a",0]"#, "1"),
+    (r#"["a",1,"b"]"#, r#""x""#),
+    (r#"["c"]"#, "null"),
+    (r#"["b"]"#, ""),
+    (r#"["a",2]"#, ""),
+    (r#"["a",9007199254740991]"#, ""),
+    (r#"["a","b"]"#, ""),
+    (r#"["a",0,0]"#, ""),
+    (r#"["a",0,"b"]"#, ""),
+    (r#"["a",1,"b",0]"#, ""),
+    (r#"["a",1,"b","b"]"#, ""),
     ("[0]", ""),
-    ("[\"c\",0]", ""),
+    (r#"["c",0]"#, ""),
+    (r#"["c","b"]"#, ""),
+    (r#"["d",0,"b"]"#, ""),
 ];
 
 #[test]
 fn places_are_found(rt: HostRuntime) -> Result<(), Fail> {
     let alloc = rt.alloc();
-    let mut value = json(alloc, "{\"a\":[1,{\"b\":\"x\"}],\"c\":null}")?;
+    let mut value = json(alloc, PLACED)?;
     for (text, want) in PLACES {
         let steps = path(alloc, text)?;
         let found = match find(&value, &steps) {
@@ -154,13 +230,15 @@ fn places_are_found(rt: HostRuntime) -> Result<(), Fail> {
             None => String::from_str(alloc, "")?,
         };
         assert_eq!(rt; lent.as_str(), want, "lent at {text}");
+        // No clause says that a search that finds nothing changes nothing.
+        assert_eq!(rt; shown(alloc, &value)?.as_str(), PLACED, "after {text}");
     }
-    if let Some(place) = find_mut(&mut value, &path(alloc, "[\"a\",1,\"b\"]")?) {
+    if let Some(place) = find_mut(&mut value, &path(alloc, r#"["a",1,"b"]"#)?) {
         *place = Json::Bool(true);
     }
     assert_eq!(rt;
         shown(alloc, &value)?.as_str(),
-        "{\"a\":[1,{\"b\":true}],\"c\":null}"
+        r#"{"a":[1,{"b":true}],"c":null,"d":true}"#
     );
     Ok(())
 }
@@ -186,15 +264,11 @@ impl Change for Replace {
 #[test]
 fn one_place_is_changed(rt: HostRuntime) -> Result<(), Fail> {
     let alloc = rt.alloc();
-    let mut value = json(alloc, "{\"a\":[1,{\"b\":[[]]}],\"c\":2}")?;
+    let mut value = json(alloc, r#"{"a":[1,{"b":[[]]}],"c":2}"#)?;
     for (text, want, after) in [
-        (
-            "[\"a\",1,\"b\"]",
-            Some(2),
-            "{\"a\":[1,{\"b\":null}],\"c\":2}",
-        ),
-        ("[\"a\",2]", None, "{\"a\":[1,{\"b\":null}],\"c\":2}"),
-        ("[\"b\"]", None, "{\"a\":[1,{\"b\":null}],\"c\":2}"),
+        (r#"["a",1,"b"]"#, Some(2), r#"{"a":[1,{"b":null}],"c":2}"#),
+        (r#"["a",2]"#, None, r#"{"a":[1,{"b":null}],"c":2}"#),
+        (r#"["b"]"#, None, r#"{"a":[1,{"b":null}],"c":2}"#),
         ("[]", Some(3), "null"),
     ] {
         let done = change_at(&mut value, &path(alloc, text)?, Replace { new: Json::Null });
@@ -273,21 +347,21 @@ fn parts_are_changed_in_place(rt: HostRuntime) -> Result<(), Fail> {
     if let Some(items) = list_mut(&mut list) {
         assert!(rt; insert_item(items, 3, json(alloc, "4")?)?);
         assert!(rt; remove_item(items, 0));
-        assert!(rt; replace_item(items, 1, json(alloc, "\"q\"")?));
+        assert!(rt; replace_item(items, 1, json(alloc, r#""q""#)?));
     }
-    assert_eq!(rt; shown(alloc, &list)?.as_str(), "[2,\"q\",4]");
-    let mut object = json(alloc, "{\"a\":1,\"c\":3}")?;
+    assert_eq!(rt; shown(alloc, &list)?.as_str(), r#"[2,"q",4]"#);
+    let mut object = json(alloc, r#"{"a":1,"c":3}"#)?;
     if let Some(members) = object_mut(&mut object) {
         put_member(members, String::from_str(alloc, "b")?, json(alloc, "2")?)?;
         put_member(members, String::from_str(alloc, "c")?, Json::Null)?;
-        remove_member(members, &String::from_str(alloc, "a")?);
+        remove_member(members, "a");
     }
-    assert_eq!(rt; shown(alloc, &object)?.as_str(), "{\"b\":2,\"c\":null}");
-    let mut text = json(alloc, "\"a😀b\"")?;
+    assert_eq!(rt; shown(alloc, &object)?.as_str(), r#"{"b":2,"c":null}"#);
+    let mut text = json(alloc, r#""a😀b""#)?;
     if let Some(inside) = text_mut(&mut text) {
         assert!(rt; insert_text(inside, 3, "xy")?);
         assert!(rt; remove_text(inside, 1, "😀x"));
     }
-    assert_eq!(rt; shown(alloc, &text)?.as_str(), "\"ayb\"");
+    assert_eq!(rt; shown(alloc, &text)?.as_str(), r#""ayb""#);
     Ok(())
 }

@@ -1,4 +1,5 @@
-use crate::{ApplyFault, apply, apply_at, apply_one};
+//! `sdb_apply`: components and operations applied.
+use sdb_apply::{ApplyFault, apply, apply_at, apply_one};
 use sdb_component::{Op, read_op};
 use sdb_value::{Json, Step, from_value, to_value};
 use serde_json::Value;
@@ -193,5 +194,17 @@ fn an_act_is_applied_at_a_path(rt: HostRuntime) -> Result<(), Fail> {
         apply_at(alloc, &mut value, &path, component.act())?;
     }
     assert_eq!(rt; shown(alloc, &value)?.as_str(), r#"{"l":[[],"abc"]}"#);
+    Ok(())
+}
+
+#[test]
+fn faults_are_named(rt: HostRuntime) -> Result<(), Fail> {
+    for (fault, want) in [
+        (ApplyFault::NotApplied, "operation can not be applied"),
+        (ApplyFault::Memory, "out of memory"),
+    ] {
+        let text = format!(in rt.alloc(); "{fault}")?;
+        assert_eq!(rt; text.as_str(), want);
+    }
     Ok(())
 }
