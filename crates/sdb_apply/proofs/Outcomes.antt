@@ -5,7 +5,7 @@ use Rattle.std.specs.Option.{option_and_then}
 use Rattle.sdb_value.specs.Value.{Value, Items, Members, PlainStep, null, truth, whole, text, list, object, at, with, as_text, as_list, as_object}
 use Rattle.sdb_value.specs.Change.{ChangedAt}
 use Rattle.sdb_value.specs.Edits.{Edits}
-use Rattle.sdb_value.proofs.Steps.{with_same, list_is, object_is}
+use Rattle.sdb_value.specs.Law.{with_same, text_is, list_is, object_is}
 use Rattle.sdb_apply.specs.Does.{on_text, on_list, on_object}
 use Rattle.sdb_apply.specs.Outcome.{Outcome}
 use Rattle.sdb_apply.specs.declared.applying.ApplyFault.{ApplyFault}
@@ -17,14 +17,6 @@ pub outcome_at : (r : Result ⊤ ApplyFault) (g : Bool) (f : Value → Option Va
 outcome_at (Ok x) g f d e p h = rw (h.found, h.turned) (ap Some (sym h.placed))
 outcome_at (Err NotApplied) g f d e p h = (rw (h.found, h.turned.0) refl, h.placed ∙ ap (with d p) h.turned.1 ∙ with_same p d h.before h.found)
 outcome_at (Err Memory) g f d e p h = (h.turned.0, h.placed ∙ ap (with d p) h.turned.1 ∙ with_same p d h.before h.found)
-
-pub text_is : (d : Value) (t : List ℕ) → Some t ≡ as_text d → d ≡ text t
-text_is null t e = cc
-text_is (truth b) t e = cc
-text_is (whole n) t e = cc
-text_is (text s) t e = cc
-text_is (list es) t e = cc
-text_is (object ms) t e = cc
 
 abbrev pub answered : Bool → Result ⊤ ApplyFault
 answered done = if done then Ok tt else Err NotApplied

@@ -1,5 +1,5 @@
 -- How a change in place ends.
-use Rattle.std.specs.Prelude.{◌≡◌, Bool, true, false, List, [], ◌∷◌, Option, Some, None, Result, Ok, Err, ⊤}
+use Rattle.std.specs.Prelude.{◌≡◌, ℕ, zero, suc, List, [], ◌∷◌, Bool, true, false, Option, Some, None, Result, Ok, Err, ⊤}
 use Rattle.sdb_component.specs.Plain.{PlainAct, na, sd, ld, od, PlainComponent}
 use Rattle.sdb_apply.specs.declared.applying.ApplyFault.{ApplyFault}
 use Rattle.sdb_apply.specs.declared.applying.ApplyFault.TheVariants.{NotApplied, Memory}
@@ -11,6 +11,12 @@ takes_memory (sd p s) = false
 takes_memory (ld i x) = false
 takes_memory (od k x) = false
 takes_memory _ = true
+
+-- the component that stands behind i others does
+abbrev pub takes_memory_at : ℕ → List PlainComponent → Bool
+takes_memory_at i [] = false
+takes_memory_at zero (c ∷ cs) = takes_memory c.act
+takes_memory_at (suc i) (c ∷ cs) = takes_memory_at i cs
 
 -- done, and the value is the effect; not applied, there is none, and the value is as it was; or memory was
 -- wanting, and the value is as it was

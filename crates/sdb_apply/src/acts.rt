@@ -1,5 +1,5 @@
 //! What each act does at its place.
-ghost use Rattle.std.specs.Prelude.{◌≡◌, ◌+ℤ◌, false, true, if◌then◌else◌, string_bytes};
+ghost use Rattle.std.specs.Prelude.{◌≡◌, ◌+ℤ◌, false, true, if◌then◌else◌};
 ghost use Rattle.sdb_value.specs.Profile.{in_range};
 ghost use Rattle.sdb_value.specs.Text.{insert_text, remove_text};
 ghost use Rattle.sdb_value.specs.Value.{insert_item, remove_item, replace_item, put, without};
@@ -18,7 +18,8 @@ use sdb_value::{
 use std::alloc::Global;
 
 pub(crate) fn act_on(alloc: Global, place: &mut Json, act: &Act) -> Result<(), ApplyFault>
-    ensures { Outcome (takes_memory (plain_act act.now)) result (effect (plain_act act.now) (view place.old)) (view place.old) (view place.new) }
+    ensures { Outcome (takes_memory (plain_act act.now)) result
+        (effect (plain_act act.now) (view place.old)) (view place.old) (view place.new) }
 {
     match act {
         Act::Na(amount) => add(place, *amount),
@@ -27,14 +28,15 @@ pub(crate) fn act_on(alloc: Global, place: &mut Json, act: &Act) -> Result<(), A
         Act::Li(index, value) => insert(alloc, place, *index, value),
         Act::Ld(index, _removed) => delete(place, *index),
         Act::Lr(index, _removed, value) => replace(alloc, place, *index, value),
-        Act::Oi(key, value) => set_key(alloc, place, key, value),
-        Act::Od(key, _removed) => remove_key(place, key),
-        Act::Or(key, _removed, value) => set_key(alloc, place, key, value),
+        Act::Oi(key, value) => set_key(alloc, place, key.as_str(), value),
+        Act::Od(key, _removed) => remove_key(place, key.as_str()),
+        Act::Or(key, _removed, value) => set_key(alloc, place, key.as_str(), value),
     }
 }
 
 fn add(place: &mut Json, amount: Whole) -> Result<(), ApplyFault>
-    ensures { Outcome false result (on_number (λ n. in_range (n +ℤ amount)) (view place.old)) (view place.old) (view place.new) }
+    ensures { Outcome false result
+        (on_number (λ n. in_range (n +ℤ amount)) (view place.old)) (view place.old) (view place.new) }
 {
     if let Json::Int(n) = place {
         match n.plus(amount) {
@@ -49,7 +51,8 @@ fn add(place: &mut Json, amount: Whole) -> Result<(), ApplyFault>
 }
 
 fn insert_at(place: &mut Json, offset: u64, piece: &Piece) -> Result<(), ApplyFault>
-    ensures { Outcome true result (on_text (insert_text offset piece.now) (view place.old)) (view place.old) (view place.new) }
+    ensures { Outcome true result
+        (on_text (insert_text offset piece.now) (view place.old)) (view place.old) (view place.new) }
 {
     match text_mut(place) {
         Some(text) => done_if(insert_text(text, offset, piece.as_str())?),
@@ -58,7 +61,8 @@ fn insert_at(place: &mut Json, offset: u64, piece: &Piece) -> Result<(), ApplyFa
 }
 
 fn delete_at(place: &mut Json, offset: u64, piece: &Piece) -> Result<(), ApplyFault>
-    ensures { Outcome false result (on_text (remove_text offset piece.now) (view place.old)) (view place.old) (view place.new) }
+    ensures { Outcome false result
+        (on_text (remove_text offset piece.now) (view place.old)) (view place.old) (view place.new) }
 {
     match text_mut(place) {
         Some(text) => done_if(remove_text(text, offset, piece.as_str())),
@@ -67,7 +71,8 @@ fn delete_at(place: &mut Json, offset: u64, piece: &Piece) -> Result<(), ApplyFa
 }
 
 fn insert(alloc: Global, place: &mut Json, index: u64, value: &Json) -> Result<(), ApplyFault>
-    ensures { Outcome true result (on_list (insert_item index (view value.now)) (view place.old)) (view place.old) (view place.new) }
+    ensures { Outcome true result
+        (on_list (insert_item index (view value.now)) (view place.old)) (view place.old) (view place.new) }
 {
     let copy = value.try_clone(alloc)?;
     match list_mut(place) {
@@ -77,7 +82,8 @@ fn insert(alloc: Global, place: &mut Json, index: u64, value: &Json) -> Result<(
 }
 
 fn delete(place: &mut Json, index: u64) -> Result<(), ApplyFault>
-    ensures { Outcome false result (on_list (remove_item index) (view place.old)) (view place.old) (view place.new) }
+    ensures { Outcome false result
+        (on_list (remove_item index) (view place.old)) (view place.old) (view place.new) }
 {
     match list_mut(place) {
         Some(items) => done_if(remove_item(items, index)),
@@ -86,7 +92,8 @@ fn delete(place: &mut Json, index: u64) -> Result<(), ApplyFault>
 }
 
 fn replace(alloc: Global, place: &mut Json, index: u64, value: &Json) -> Result<(), ApplyFault>
-    ensures { Outcome true result (on_list (replace_item index (view value.now)) (view place.old)) (view place.old) (view place.new) }
+    ensures { Outcome true result
+        (on_list (replace_item index (view value.now)) (view place.old)) (view place.old) (view place.new) }
 {
     let copy = value.try_clone(alloc)?;
     match list_mut(place) {
@@ -95,10 +102,11 @@ fn replace(alloc: Global, place: &mut Json, index: u64, value: &Json) -> Result<
     }
 }
 
-fn set_key(alloc: Global, place: &mut Json, key: &String, value: &Json) -> Result<(), ApplyFault>
-    ensures { Outcome true result (on_object (put (string_bytes key.now) (view value.now)) (view place.old)) (view place.old) (view place.new) }
+fn set_key(alloc: Global, place: &mut Json, key: &str, value: &Json) -> Result<(), ApplyFault>
+    ensures { Outcome true result
+        (on_object (put key.now (view value.now)) (view place.old)) (view place.old) (view place.new) }
 {
-    let name = key.clone()?;
+    let name = String::from_str(alloc, key)?;
     let copy = value.try_clone(alloc)?;
     match object_mut(place) {
         Some(members) => Ok(put_member(members, name, copy)?),
@@ -106,8 +114,9 @@ fn set_key(alloc: Global, place: &mut Json, key: &String, value: &Json) -> Resul
     }
 }
 
-fn remove_key(place: &mut Json, key: &String) -> Result<(), ApplyFault>
-    ensures { Outcome false result (on_object (without (string_bytes key.now)) (view place.old)) (view place.old) (view place.new) }
+fn remove_key(place: &mut Json, key: &str) -> Result<(), ApplyFault>
+    ensures { Outcome false result
+        (on_object (without key.now) (view place.old)) (view place.old) (view place.new) }
 {
     match object_mut(place) {
         Some(members) => {

@@ -3,7 +3,7 @@ ghost use Rattle.std.specs.Prelude.{◌≡◌, ◌+◌, ◌<◌, take, length, t
 ghost use Rattle.sdb_value.specs.View.{view, plain_path};
 ghost use Rattle.sdb_component.specs.View.{plain_act};
 ghost use Rattle.sdb_apply.specs.Does.{does, applies, effect};
-ghost use Rattle.sdb_apply.specs.Outcome.{Outcome, takes_memory};
+ghost use Rattle.sdb_apply.specs.Outcome.{Outcome, takes_memory, takes_memory_at};
 ghost use Rattle.sdb_apply.specs.declared.applying.ApplyFault.TheVariants.{NotApplied, Memory};
 
 use crate::acts::act_on;
@@ -62,7 +62,9 @@ pub fn apply_one(alloc: Global, value: &mut Json, component: &Component) -> Resu
 /// Applies the act at the path, as a component of both would be, with the same refusals: for a value
 /// that lies deeper in a document than the path tells. After a refusal the value is unchanged.
 pub fn apply_at(alloc: Global, value: &mut Json, path: &[Step], act: &Act) -> Result<(), ApplyFault>
-    ensures { Outcome (takes_memory (plain_act act.now)) result (does (record { path = plain_path path.now; act = plain_act act.now }) (view value.old)) (view value.old) (view value.new) }
+    ensures { Outcome (takes_memory (plain_act act.now)) result
+        (does (record { path = plain_path path.now; act = plain_act act.now }) (view value.old))
+        (view value.old) (view value.new) }
 {
     match change_at(value, path, Turn { alloc, act }) {
         Some(done) => done,
@@ -71,20 +73,23 @@ pub fn apply_at(alloc: Global, value: &mut Json, path: &[Step], act: &Act) -> Re
 }
 
 fn act_at(alloc: Global, value: &mut Json, component: &Component) -> Result<(), ApplyFault>
-    ensures { Outcome (takes_memory component.now.act) result (does component.now (view value.old)) (view value.old) (view value.new) }
+    ensures { Outcome (takes_memory component.now.act) result
+        (does component.now (view value.old)) (view value.old) (view value.new) }
 {
     apply_at(alloc, value, component.path(), component.act())
 }
 
 /// Applies the components one after the other, in place, each to what the one before it made. Stops
 /// at the first that is refused, as [`apply_one`] says when: the value is then what the components
-/// before that one made of it.
+/// before that one made of it. `Memory` only at a component that puts something in.
 pub fn apply(alloc: Global, value: &mut Json, op: &Op) -> Result<(), Refused>
     ensures done { OnOk result (applies op.now (view value.old) ≡ Some (view value.new)) }
     ensures before { IfErr result (λ r. applies (take r.at op.now) (view value.old) ≡ Some (view value.new)) }
     ensures within { IfErr result (λ r. r.at < length op.now) }
-    ensures refused { IfErr result (λ r. r.why ≡ NotApplied → applies (take (r.at + 1) op.now) (view value.old) ≡ None) }
+    ensures refused { IfErr result (λ r. r.why ≡ NotApplied
+        → applies (take (r.at + 1) op.now) (view value.old) ≡ None) }
     ensures none { IfErr result (λ r. r.why ≡ NotApplied → applies op.now (view value.old) ≡ None) }
+    ensures memory { IfErr result (λ r. r.why ≡ Memory → takes_memory_at r.at op.now ≡ true) }
 {
     for (at, component) in op.components().iter().enumerate() {
         match act_at(alloc, value, component) {

@@ -7,6 +7,3 @@ mod whole;
 
 pub use applying::{ApplyFault, Refused, apply, apply_at, apply_one};
 pub use whole::apply_whole;
-
-#[cfg(test)]
-mod tests;

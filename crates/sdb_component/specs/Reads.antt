@@ -3,9 +3,9 @@ use Rattle.std.specs.Prelude.{◌≡◌, ℕ, suc, ℤ, List, [], ◌∷◌, ◌
 use Rattle.std.specs.Option.{is_some}
 use Rattle.serde_json.specs.Data as raw
 use Rattle.serde_json.specs.Data.{Data}
-use Rattle.serde_json.specs.Find.{get, as_str, as_number, as_u64, as_array}
+use Rattle.serde_json.specs.Find.{get, as_str, as_number, as_array}
 use Rattle.sdb_value.specs.Value.{Value, PlainStep, key, index}
-use Rattle.sdb_value.specs.Profile.{whole_of, in_profile}
+use Rattle.sdb_value.specs.Profile.{count_of, whole_of, in_profile}
 use Rattle.sdb_component.specs.Plain.{PlainAct, na, si, sd, li, ld, lr, oi, od, or, PlainComponent}
 use Rattle.sdb_component.specs.declared.shape.Shape.{Shape}
 use Rattle.sdb_component.specs.declared.shape.Shape.TheVariants.{Na, Si, Sd, Li, Ld, Lr, Oi, Od, Or}
@@ -13,10 +13,6 @@ use Rattle.sdb_component.specs.declared.reading.OpFault.{OpFault}
 use Rattle.sdb_component.specs.declared.reading.OpFault.TheVariants.{Form, Memory}
 
 -- ---- the path
-
--- a whole number from 0 to 9007199254740991
-abbrev pub count_of : Data → Option ℕ
-count_of d = option_and_then (λ n. if nat_lt 9007199254740991 n then None else Some n) (option_and_then as_u64 (as_number d))
 
 -- a step is a text or a whole number
 abbrev pub step_of : Data → Option PlainStep

@@ -3,8 +3,10 @@ ghost use Rattle.std.specs.Prelude.{◌≡◌, IfOk};
 ghost use Rattle.sdb_value.specs.View.{plain_path};
 ghost use Rattle.sdb_component.specs.View.{plain_act};
 
+use crate::copies::copy_path;
 use crate::piece::Piece;
 use sdb_value::{Json, Step, Whole};
+use std::alloc::{AllocError, Global};
 use std::marker::Model;
 
 /// What a component does at the place that its path leads to. With it stands the last step of the
@@ -29,6 +31,29 @@ pub enum Act {
     Od(String, Json),
     /// Replaces the value of the key: the one removed, the one put.
     Or(String, Json, Json),
+}
+
+impl Act {
+    /// A copy, its texts and values copied too. Fails only where an allocation does.
+    pub fn try_clone(&self, alloc: Global) -> Result<Act, AllocError>
+        ensures { IfOk result (λ a. plain_act a ≡ plain_act self.now) }
+    {
+        match self {
+            Act::Na(amount) => Ok(Act::Na(*amount)),
+            Act::Si(offset, text) => Ok(Act::Si(*offset, text.try_clone()?)),
+            Act::Sd(offset, text) => Ok(Act::Sd(*offset, text.try_clone()?)),
+            Act::Li(index, new) => Ok(Act::Li(*index, new.try_clone(alloc)?)),
+            Act::Ld(index, old) => Ok(Act::Ld(*index, old.try_clone(alloc)?)),
+            Act::Lr(index, old, new) => {
+                Ok(Act::Lr(*index, old.try_clone(alloc)?, new.try_clone(alloc)?))
+            }
+            Act::Oi(key, new) => Ok(Act::Oi(key.clone()?, new.try_clone(alloc)?)),
+            Act::Od(key, old) => Ok(Act::Od(key.clone()?, old.try_clone(alloc)?)),
+            Act::Or(key, old, new) => {
+                Ok(Act::Or(key.clone()?, old.try_clone(alloc)?, new.try_clone(alloc)?))
+            }
+        }
+    }
 }
 
 /// A change of one place.
@@ -80,5 +105,14 @@ impl Component {
         ensures act { plain_act result.1 ≡ self.act }
     {
         (self.path, self.act)
+    }
+
+    /// A copy, its path and act copied too. Fails only where an allocation does.
+    pub fn try_clone(&self, alloc: Global) -> Result<Component, AllocError>
+        ensures { IfOk result (λ c. c ≡ self.now) }
+    {
+        let path = copy_path(alloc, self.path())?;
+        let act = self.act().try_clone(alloc)?;
+        Ok(Component::new(path, act))
     }
 }

@@ -24,6 +24,3 @@ pub use printing::op_value;
 pub use reading::{OpFault, read_op};
 pub use weighing::weight;
 pub use writing::write_op;
-
-#[cfg(test)]
-mod tests;

@@ -1,13 +1,12 @@
 //! Members of a component as sent.
 ghost use Rattle.std.specs.Prelude.{◌≡◌, Some, IfOk, IfErr, string_bytes};
-ghost use Rattle.serde_json.specs.View.{view as data_view, number_view};
-ghost use Rattle.sdb_component.specs.Reads.{Unread, count_of, has, text_at, value_at, whole_at};
-ghost use Rattle.sdb_value.specs.Profile.{whole_of};
+ghost use Rattle.serde_json.specs.View.{view as data_view};
+ghost use Rattle.sdb_component.specs.Reads.{Unread, has, text_at, value_at, whole_at};
 ghost use Rattle.sdb_value.specs.View.{view};
 
 use crate::reading::OpFault;
-use sdb_value::{Json, ValueFault, Whole, from_value};
-use serde_json::{Number, Value};
+use sdb_value::{Json, ValueFault, Whole, from_value, whole_of};
+use serde_json::Value;
 use std::alloc::Global;
 
 pub(crate) fn has(value: &Value, key: &str) -> bool
@@ -16,31 +15,10 @@ pub(crate) fn has(value: &Value, key: &str) -> bool
     value.get(key).is_some()
 }
 
-// A number from 0 to 9007199254740991.
-pub(crate) fn count_of(value: &Value) -> Option<u64>
-    ensures { result ≡ count_of (data_view value.now) }
-{
-    let n = value.as_u64()?;
-    if n > 9007199254740991 {
-        return None;
-    }
-    Some(n)
-}
-
 pub(crate) fn whole_at(value: &Value, key: &str) -> Option<Whole>
     ensures { result ≡ whole_at key.now (data_view value.now) }
 {
     whole_of(value.get(key)?.as_number()?)
-}
-
-fn whole_of(number: &Number) -> Option<Whole>
-    ensures { result ≡ whole_of (number_view number.now) }
-{
-    let n = number.as_i128()?;
-    if n < -9007199254740991 || n > 9007199254740991 {
-        return None;
-    }
-    Whole::new(n as i64)
 }
 
 pub(crate) fn text_at(alloc: Global, value: &Value, key: &str) -> Result<String, OpFault>

@@ -1,7 +1,8 @@
 //! Operations.
-ghost use Rattle.std.specs.Prelude.{◌≡◌};
+ghost use Rattle.std.specs.Prelude.{◌≡◌, IfOk};
 
 use crate::component::Component;
+use std::alloc::{AllocError, Global};
 use std::marker::Model;
 
 /// An operation: components that are applied one after the other.
@@ -42,5 +43,16 @@ impl Op {
         ensures { result.items ≡ self }
     {
         self.components
+    }
+
+    /// A copy, its components copied too. Fails only where an allocation does.
+    pub fn try_clone(&self, alloc: Global) -> Result<Op, AllocError>
+        ensures { IfOk result (λ o. o ≡ self.now) }
+    {
+        let mut copies = Vec::with_capacity(alloc, self.components().len())?;
+        for component in self.components() {
+            copies.push(component.try_clone(alloc)?)?;
+        }
+        Ok(Op::new(copies))
     }
 }

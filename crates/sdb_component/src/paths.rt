@@ -4,9 +4,8 @@ ghost use Rattle.serde_json.specs.View.{view as data_view, items_view};
 ghost use Rattle.sdb_component.specs.Reads.{Unread, index_last, key_last, path_of, step_of, steps_of};
 ghost use Rattle.sdb_value.specs.View.{plain_path, plain_step};
 
-use crate::members::count_of;
 use crate::reading::OpFault;
-use sdb_value::Step;
+use sdb_value::{Step, count_of};
 use serde_json::Value;
 use std::alloc::{AllocError, Global};
 
@@ -30,9 +29,9 @@ fn push_step(steps: &mut Vec<Step>, step: Step) -> Result<(), AllocError>
     Ok(())
 }
 
-fn steps_of(alloc: Global, items: &Vec<Value>) -> Result<Vec<Step>, OpFault>
-    ensures ok { IfOk result (λ p. steps_of (items_view items.now.items) ≡ Some (plain_path p.items)) }
-    ensures err { IfErr result (λ f. Unread (steps_of (items_view items.now.items)) f) }
+fn steps_of(alloc: Global, items: &[Value]) -> Result<Vec<Step>, OpFault>
+    ensures ok { IfOk result (λ p. steps_of (items_view items.now) ≡ Some (plain_path p.items)) }
+    ensures err { IfErr result (λ f. Unread (steps_of (items_view items.now)) f) }
 {
     let mut steps = Vec::with_capacity(alloc, items.len())?;
     for item in items {

@@ -1,18 +1,20 @@
 //! Operations as JSON values.
-ghost use Rattle.std.specs.Prelude.{◌≡◌, [], IfOk, option_to_list};
-ghost use Rattle.serde_json.specs.Data.{object};
-ghost use Rattle.serde_json.specs.View.{view as data_view, items_view};
+ghost use Rattle.std.specs.Prelude.{◌≡◌, IfOk, OnOk, codes, option_to_list};
+ghost use Rattle.serde_json.specs.Data.{Data, put, string};
+ghost use Rattle.serde_json.specs.View.{view as data_view, items_view, members_view};
+ghost use Rattle.sdb_value.specs.Profile.{to_data};
 ghost use Rattle.sdb_value.specs.View.{plain_path, plain_step, view};
-ghost use Rattle.sdb_component.specs.Plain.{od, or};
-ghost use Rattle.sdb_component.specs.Prints.{act_members, component_data, component_items, last_step, op_data, path_data, path_items, step_data, whole_path};
+ghost use Rattle.sdb_component.specs.Prints.{act_members, one_member, component_data, component_items, op_data};
+ghost use Rattle.sdb_component.specs.Prints.{last_step, path_data, path_items, step_data, whole_path};
 ghost use Rattle.sdb_component.specs.View.{plain_act};
 
 use crate::component::{Act, Component};
 use crate::lists::push_some;
 use crate::operation::Op;
 use sdb_value::{Json, Step, to_value};
-use serde_json::{Value, json};
+use serde_json::{Map, Value};
 use std::alloc::{AllocError, Global};
+use std::collections::BTreeMap;
 
 /// The JSON value that the operation is sent as: an array of its components, each an object whose
 /// members stand in the order of their keys. A path is written whole, with its last step. Fails only
@@ -36,52 +38,77 @@ fn component_values(alloc: Global, components: &[Component]) -> Result<Vec<Value
 fn component_value(alloc: Global, component: &Component) -> Result<Value, AllocError>
     ensures { IfOk result (λ v. data_view v ≡ component_data component.now) }
 {
-    let path = path_value(alloc, component)?;
-    act_value(alloc, component.act(), path)
+    let mut members = BTreeMap::new(alloc);
+    put(alloc, &mut members, "p", path_value(alloc, component)?)?;
+    put_act(alloc, &mut members, component.act())?;
+    Ok(Value::Object(members))
 }
 
-fn act_value(alloc: Global, act: &Act, path: Value) -> Result<Value, AllocError>
-    ensures { IfOk result (λ v. data_view v ≡ object (act_members (plain_act act.now) (data_view path))) }
+// The amount, the text or the values of an act, put to its path.
+fn put_act(alloc: Global, members: &mut Map<String, Value>, act: &Act) -> Result<(), AllocError>
+    ensures { OnOk result ((path : Data) → members_view members.old.entries ≡ one_member (codes "p") path
+        → members_view members.new.entries ≡ act_members (plain_act act.now) path) }
 {
     match act {
-        Act::Na(amount) => json!(in alloc; {"na": amount.get(), "p": path}),
-        Act::Si(_, text) => json!(in alloc; {"p": path, "si": text.as_str()}),
-        Act::Sd(_, text) => json!(in alloc; {"p": path, "sd": text.as_str()}),
-        Act::Li(_, new) => {
-            let put = to_value(alloc, new)?;
-            json!(in alloc; {"li": put, "p": path})
-        }
-        Act::Ld(_, old) => {
-            let removed = to_value(alloc, old)?;
-            json!(in alloc; {"ld": removed, "p": path})
-        }
+        Act::Na(amount) => put(alloc, members, "na", Value::from(amount.get())),
+        Act::Si(_, text) => put_text(alloc, members, "si", text.as_str()),
+        Act::Sd(_, text) => put_text(alloc, members, "sd", text.as_str()),
+        Act::Li(_, new) => put_value(alloc, members, "li", new),
+        Act::Ld(_, old) => put_value(alloc, members, "ld", old),
         Act::Lr(_, old, new) => {
-            let removed = to_value(alloc, old)?;
-            let put = to_value(alloc, new)?;
-            json!(in alloc; {"ld": removed, "li": put, "p": path})
+            put_value(alloc, members, "ld", old)?;
+            put_value(alloc, members, "li", new)
         }
-        Act::Oi(_, new) => {
-            let put = to_value(alloc, new)?;
-            json!(in alloc; {"oi": put, "p": path})
+        Act::Oi(_, new) => put_value(alloc, members, "oi", new),
+        Act::Od(_, old) => put_value(alloc, members, "od", old),
+        Act::Or(_, old, new) => {
+            put_value(alloc, members, "od", old)?;
+            put_value(alloc, members, "oi", new)
         }
-        Act::Od(_, old) => deleted_key(alloc, old, path),
-        Act::Or(_, old, new) => replaced_key(alloc, old, new, path),
     }
 }
 
-fn deleted_key(alloc: Global, old: &Json, path: Value) -> Result<Value, AllocError>
-    ensures { IfOk result (λ v. data_view v ≡ object (act_members (od [] (view old.now)) (data_view path))) }
+fn put_value(
+    alloc: Global,
+    members: &mut Map<String, Value>,
+    key: &str,
+    value: &Json,
+) -> Result<(), AllocError>
+    ensures { OnOk result (members_view members.new.entries
+        ≡ put key.now (to_data (view value.now)) (members_view members.old.entries)) }
 {
-    let removed = to_value(alloc, old)?;
-    json!(in alloc; {"od": removed, "p": path})
+    put(alloc, members, key, to_value(alloc, value)?)
 }
 
-fn replaced_key(alloc: Global, old: &Json, new: &Json, path: Value) -> Result<Value, AllocError>
-    ensures { IfOk result (λ v. data_view v ≡ object (act_members (or [] (view old.now) (view new.now)) (data_view path))) }
+fn put_text(
+    alloc: Global,
+    members: &mut Map<String, Value>,
+    key: &str,
+    text: &str,
+) -> Result<(), AllocError>
+    ensures { OnOk result (members_view members.new.entries
+        ≡ put key.now (string text.now) (members_view members.old.entries)) }
 {
-    let removed = to_value(alloc, old)?;
-    let put = to_value(alloc, new)?;
-    json!(in alloc; {"od": removed, "oi": put, "p": path})
+    put(
+        alloc,
+        members,
+        key,
+        Value::String(String::from_str(alloc, text)?),
+    )
+}
+
+fn put(
+    alloc: Global,
+    members: &mut Map<String, Value>,
+    key: &str,
+    value: Value,
+) -> Result<(), AllocError>
+    ensures { OnOk result (members_view members.new.entries
+        ≡ put key.now (data_view value) (members_view members.old.entries)) }
+{
+    let name = String::from_str(alloc, key)?;
+    drop(members.insert(name, value)?);
+    Ok(())
 }
 
 fn path_value(alloc: Global, component: &Component) -> Result<Value, AllocError>

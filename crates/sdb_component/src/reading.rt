@@ -59,9 +59,9 @@ pub fn read_op(alloc: Global, value: &Value) -> Result<Op, OpFault>
     Ok(Op::new(components))
 }
 
-fn components_of(alloc: Global, items: &Vec<Value>) -> Result<Vec<Component>, OpFault>
-    ensures ok { IfOk result (λ cs. components_of (items_view items.now.items) ≡ Some cs.items) }
-    ensures err { IfErr result (λ f. Unread (components_of (items_view items.now.items)) f) }
+fn components_of(alloc: Global, items: &[Value]) -> Result<Vec<Component>, OpFault>
+    ensures ok { IfOk result (λ cs. components_of (items_view items.now) ≡ Some cs.items) }
+    ensures err { IfErr result (λ f. Unread (components_of (items_view items.now)) f) }
 {
     let mut components = Vec::with_capacity(alloc, items.len())?;
     for item in items {

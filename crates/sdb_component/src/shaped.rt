@@ -21,7 +21,8 @@ pub(crate) fn shaped(
     path: Vec<Step>,
     value: &Value,
 ) -> Result<Option<Component>, OpFault>
-    ensures ok { IfOk result (λ c. shaped shape (plain_path path.items) (data_view value.now) ≡ Some (option_to_list c)) }
+    ensures ok { IfOk result (λ c. shaped shape (plain_path path.items) (data_view value.now)
+        ≡ Some (option_to_list c)) }
     ensures err { IfErr result (λ f. Unread (shaped shape (plain_path path.items) (data_view value.now)) f) }
 {
     match shape {
@@ -38,7 +39,8 @@ pub(crate) fn shaped(
 }
 
 fn add_number(path: Vec<Step>, value: &Value) -> Result<Option<Component>, OpFault>
-    ensures ok { IfOk result (λ c. shaped Shape.Na (plain_path path.items) (data_view value.now) ≡ Some (option_to_list c)) }
+    ensures ok { IfOk result (λ c. shaped Shape.Na (plain_path path.items) (data_view value.now)
+        ≡ Some (option_to_list c)) }
     ensures err { IfErr result (λ f. Unread (shaped Shape.Na (plain_path path.items) (data_view value.now)) f) }
 {
     match whole_at(value, "na") {
@@ -48,7 +50,8 @@ fn add_number(path: Vec<Step>, value: &Value) -> Result<Option<Component>, OpFau
 }
 
 fn insert_text(alloc: Global, path: Vec<Step>, value: &Value) -> Result<Option<Component>, OpFault>
-    ensures ok { IfOk result (λ c. shaped Shape.Si (plain_path path.items) (data_view value.now) ≡ Some (option_to_list c)) }
+    ensures ok { IfOk result (λ c. shaped Shape.Si (plain_path path.items) (data_view value.now)
+        ≡ Some (option_to_list c)) }
     ensures err { IfErr result (λ f. Unread (shaped Shape.Si (plain_path path.items) (data_view value.now)) f) }
 {
     let (container, offset) = index_last(path)?;
@@ -60,7 +63,8 @@ fn insert_text(alloc: Global, path: Vec<Step>, value: &Value) -> Result<Option<C
 }
 
 fn delete_text(alloc: Global, path: Vec<Step>, value: &Value) -> Result<Option<Component>, OpFault>
-    ensures ok { IfOk result (λ c. shaped Shape.Sd (plain_path path.items) (data_view value.now) ≡ Some (option_to_list c)) }
+    ensures ok { IfOk result (λ c. shaped Shape.Sd (plain_path path.items) (data_view value.now)
+        ≡ Some (option_to_list c)) }
     ensures err { IfErr result (λ f. Unread (shaped Shape.Sd (plain_path path.items) (data_view value.now)) f) }
 {
     let (container, offset) = index_last(path)?;
@@ -72,7 +76,8 @@ fn delete_text(alloc: Global, path: Vec<Step>, value: &Value) -> Result<Option<C
 }
 
 fn insert_item(alloc: Global, path: Vec<Step>, value: &Value) -> Result<Option<Component>, OpFault>
-    ensures ok { IfOk result (λ c. shaped Shape.Li (plain_path path.items) (data_view value.now) ≡ Some (option_to_list c)) }
+    ensures ok { IfOk result (λ c. shaped Shape.Li (plain_path path.items) (data_view value.now)
+        ≡ Some (option_to_list c)) }
     ensures err { IfErr result (λ f. Unread (shaped Shape.Li (plain_path path.items) (data_view value.now)) f) }
 {
     let (container, index) = index_last(path)?;
@@ -81,7 +86,8 @@ fn insert_item(alloc: Global, path: Vec<Step>, value: &Value) -> Result<Option<C
 }
 
 fn delete_item(alloc: Global, path: Vec<Step>, value: &Value) -> Result<Option<Component>, OpFault>
-    ensures ok { IfOk result (λ c. shaped Shape.Ld (plain_path path.items) (data_view value.now) ≡ Some (option_to_list c)) }
+    ensures ok { IfOk result (λ c. shaped Shape.Ld (plain_path path.items) (data_view value.now)
+        ≡ Some (option_to_list c)) }
     ensures err { IfErr result (λ f. Unread (shaped Shape.Ld (plain_path path.items) (data_view value.now)) f) }
 {
     let (container, index) = index_last(path)?;
@@ -90,7 +96,8 @@ fn delete_item(alloc: Global, path: Vec<Step>, value: &Value) -> Result<Option<C
 }
 
 fn replace_item(alloc: Global, path: Vec<Step>, value: &Value) -> Result<Option<Component>, OpFault>
-    ensures ok { IfOk result (λ c. shaped Shape.Lr (plain_path path.items) (data_view value.now) ≡ Some (option_to_list c)) }
+    ensures ok { IfOk result (λ c. shaped Shape.Lr (plain_path path.items) (data_view value.now)
+        ≡ Some (option_to_list c)) }
     ensures err { IfErr result (λ f. Unread (shaped Shape.Lr (plain_path path.items) (data_view value.now)) f) }
 {
     let (container, index) = index_last(path)?;
@@ -100,7 +107,8 @@ fn replace_item(alloc: Global, path: Vec<Step>, value: &Value) -> Result<Option<
 }
 
 fn insert_key(alloc: Global, path: Vec<Step>, value: &Value) -> Result<Option<Component>, OpFault>
-    ensures ok { IfOk result (λ c. shaped Shape.Oi (plain_path path.items) (data_view value.now) ≡ Some (option_to_list c)) }
+    ensures ok { IfOk result (λ c. shaped Shape.Oi (plain_path path.items) (data_view value.now)
+        ≡ Some (option_to_list c)) }
     ensures err { IfErr result (λ f. Unread (shaped Shape.Oi (plain_path path.items) (data_view value.now)) f) }
 {
     let (container, key) = key_last(path)?;
@@ -109,7 +117,8 @@ fn insert_key(alloc: Global, path: Vec<Step>, value: &Value) -> Result<Option<Co
 }
 
 fn delete_key(alloc: Global, path: Vec<Step>, value: &Value) -> Result<Option<Component>, OpFault>
-    ensures ok { IfOk result (λ c. shaped Shape.Od (plain_path path.items) (data_view value.now) ≡ Some (option_to_list c)) }
+    ensures ok { IfOk result (λ c. shaped Shape.Od (plain_path path.items) (data_view value.now)
+        ≡ Some (option_to_list c)) }
     ensures err { IfErr result (λ f. Unread (shaped Shape.Od (plain_path path.items) (data_view value.now)) f) }
 {
     let (container, key) = key_last(path)?;
@@ -118,7 +127,8 @@ fn delete_key(alloc: Global, path: Vec<Step>, value: &Value) -> Result<Option<Co
 }
 
 fn replace_key(alloc: Global, path: Vec<Step>, value: &Value) -> Result<Option<Component>, OpFault>
-    ensures ok { IfOk result (λ c. shaped Shape.Or (plain_path path.items) (data_view value.now) ≡ Some (option_to_list c)) }
+    ensures ok { IfOk result (λ c. shaped Shape.Or (plain_path path.items) (data_view value.now)
+        ≡ Some (option_to_list c)) }
     ensures err { IfErr result (λ f. Unread (shaped Shape.Or (plain_path path.items) (data_view value.now)) f) }
 {
     let (container, key) = key_last(path)?;

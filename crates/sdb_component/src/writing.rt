@@ -5,7 +5,8 @@ ghost use Rattle.sdb_value.specs.Printed.{array_rest, data_tokens, object_rest};
 ghost use Rattle.sdb_value.specs.Profile.{to_data};
 ghost use Rattle.sdb_value.specs.View.{plain_step, view};
 ghost use Rattle.serde_json.specs.Data.{no_items, no_members, Members};
-ghost use Rattle.sdb_component.specs.Prints.{component_data, last_step, op_data, path_data, path_items, step_data, whole_path};
+ghost use Rattle.sdb_component.specs.Prints.{component_data, op_data, step_data};
+ghost use Rattle.sdb_component.specs.Prints.{last_step, path_data, path_items, whole_path};
 ghost use Rattle.sdb_component.specs.View.{plain_act};
 ghost use Rattle.sdb_component.specs.Writes.{before_path, behind_path};
 
@@ -42,7 +43,8 @@ fn write_component(component: &Component, out: &mut Writer) -> Result<(), AllocE
 
 // The amount, or the values removed and put.
 fn write_values(act: &Act, out: &mut Writer) -> Result<(), AllocError>
-    ensures tokens { OnOk result ((rest : Members) → out.new.tokens ++ object_rest rest ≡ out.old.tokens ++ object_rest (before_path (plain_act act.now) rest)) }
+    ensures tokens { OnOk result ((rest : Members) → out.new.tokens ++ object_rest rest
+        ≡ out.old.tokens ++ object_rest (before_path (plain_act act.now) rest)) }
     ensures before { out.new.before ≡ out.old.before }
 {
     match act {
@@ -67,7 +69,8 @@ fn write_values(act: &Act, out: &mut Writer) -> Result<(), AllocError>
 }
 
 fn write_member(name: &str, value: &Json, out: &mut Writer) -> Result<(), AllocError>
-    ensures tokens { OnOk result (out.new.tokens ≡ out.old.tokens ++ key name.now ∷ data_tokens (to_data (view value.now))) }
+    ensures tokens { OnOk result (out.new.tokens
+        ≡ out.old.tokens ++ key name.now ∷ data_tokens (to_data (view value.now))) }
     ensures before { out.new.before ≡ out.old.before }
 {
     out.key(name)?;
@@ -76,7 +79,8 @@ fn write_member(name: &str, value: &Json, out: &mut Writer) -> Result<(), AllocE
 
 // The text put or taken.
 fn write_text(act: &Act, out: &mut Writer) -> Result<(), AllocError>
-    ensures tokens { OnOk result (out.new.tokens ++ object_rest no_members ≡ out.old.tokens ++ object_rest (behind_path (plain_act act.now))) }
+    ensures tokens { OnOk result (out.new.tokens ++ object_rest no_members
+        ≡ out.old.tokens ++ object_rest (behind_path (plain_act act.now))) }
     ensures before { out.new.before ≡ out.old.before }
 {
     match act {
@@ -93,7 +97,8 @@ fn write_text(act: &Act, out: &mut Writer) -> Result<(), AllocError>
 }
 
 fn write_path(component: &Component, out: &mut Writer) -> Result<(), AllocError>
-    ensures tokens { OnOk result (out.new.tokens ≡ out.old.tokens ++ data_tokens (path_data (whole_path component.now.path component.now.act))) }
+    ensures tokens { OnOk result (out.new.tokens
+        ≡ out.old.tokens ++ data_tokens (path_data (whole_path component.now.path component.now.act))) }
     ensures before { out.new.before ≡ out.old.before }
 {
     out.begin_array()?;
@@ -116,7 +121,8 @@ fn write_step(step: &Step, out: &mut Writer) -> Result<(), AllocError>
 
 // The last step of the path, where the act has one.
 fn write_last(act: &Act, out: &mut Writer) -> Result<(), AllocError>
-    ensures tokens { OnOk result (out.new.tokens ++ array_rest no_items ≡ out.old.tokens ++ array_rest (path_items (last_step (plain_act act.now)))) }
+    ensures tokens { OnOk result (out.new.tokens ++ array_rest no_items
+        ≡ out.old.tokens ++ array_rest (path_items (last_step (plain_act act.now)))) }
     ensures before { out.new.before ≡ out.old.before }
 {
     match act {

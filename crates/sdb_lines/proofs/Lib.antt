@@ -1,3 +1,4 @@
 pub mod Pieces
-pub mod Writes
-pub mod Counted
+pub mod Runs
+pub mod Writing
+pub mod Progress

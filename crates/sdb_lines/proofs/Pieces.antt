@@ -1,16 +1,20 @@
 -- How the lines of an input go on at a piece of it.
-use Rattle.std.proofs.Common.{◌≡◌, ℕ, ◌+◌, ◌-◌, ◌≤◌, ◌<◌, List, [], ◌∷◌, ◌++◌, None, Some, length, take, min, refl, ap, sym, ◌∙◌, append_assoc, append-nil, arith, All, ◌≢◌, length-append, inl, inr, Ok, Err, OnOk}
+use Rattle.std.proofs.Common.{◌≡◌, ℕ, ◌+◌, ◌-◌, ◌≤◌, ◌<◌, List, [], ◌∷◌, ◌++◌, None, Some, length, take, drop, min, refl, ap, sym, ◌∙◌, append_assoc, append-nil, arith, All, ◌≢◌, length-append, inl, inr, Ok, Err, OnOk}
 use Rattle.std.specs.Prelude.{is_ok}
 use Rattle.std.specs.declared.result.Result.{Result}
-use Rattle.std.specs.Prelude.{◌==◌, cond}
+use Rattle.std.specs.Prelude.{◌==◌, cond, if◌then◌else◌, Bool}
 use Rattle.std.proofs.Math.Seq.{take-append-add}
 use Rattle.std.proofs.Common.{subst}
-use Rattle.std.proofs.lemmas.List.{take_all, take-append-le, length-take}
+use Rattle.std.proofs.lemmas.List.{take_all, take_rest, take-append-le, length-take}
 use Rattle.std.proofs.lemmas.List.Elements.{All-head, All-tail}
 use Rattle.std.proofs.lemmas.Bool.{lt-ltb, le-ltb, ne_eqb, cases_lt, cases_Bool}
 use Rattle.std.specs.Str.{is_utf8, IsUtf8}
 use Rattle.std.proofs.lemmas.Str.{is_utf8-from_IsUtf8, IsUtf8-from_is_utf8}
 use Rattle.sdb_lines.specs.Lines.{lines_from, reading_of, readings_from}
+use Rattle.sdb_lines.specs.Pieces.{ended_in, unended_in, held_of}
+use Rattle.sdb_lines.specs.Counting.{takes_step, steps_of, counted}
+use Rattle.sdb_lines.specs.declared.runner.Counts.{Counts}
+use Rattle.std.specs.declared.option.Option.{Option}
 
 pub reading-long : (l : List ℕ) → 1048576 < length l → reading_of l ≡ None
 reading-long l h = rw (lt-ltb 1048576 (length l) h) refl
@@ -61,6 +65,70 @@ readings-front k (x ∷ xs) p q long e = elim (cases_Bool (x == 10)) [
   | inr t ↦ rw t (readings-front k xs (p ++ x ∷ []) (q ++ x ∷ []) long (same-front k p q x e))
 ]
 
+front-again : (k : ℕ) (l : List ℕ) → take k (take k l) ≡ take k l
+front-again k l = take_all k (take k l) (omega (arith, length-take k l))
+
+-- what is held of a line is read as the line is
+pub reading-held : (line : List ℕ) → reading_of (held_of line) ≡ reading_of line
+reading-held line = reading-front 1048577 (held_of line) line (omega arith) (front-again 1048577 line)
+
+pub readings-held : (rest line : List ℕ) → readings_from rest (held_of line) ≡ readings_from rest line
+readings-held rest line = readings-front 1048577 rest (held_of line) line (omega arith) (front-again 1048577 line)
+
+-- a piece up to its first line feed
+pub ended-line : (piece rest pending : List ℕ) → All (λ x. x ≢ 10) piece → ended_in (piece ++ 10 ∷ rest) pending ≡ reading_of (pending ++ piece) ∷ ended_in rest []
+ended-line [] rest pending h = rw append-nil refl
+ended-line (x ∷ xs) rest pending h = rw (ne_eqb x 10 (All-head (λ x. x ≢ 10) x xs h)) (ended-line xs rest (pending ++ x ∷ []) (All-tail (λ x. x ≢ 10) x xs h) ∙ ap (λ l. reading_of l ∷ ended_in rest []) (append_assoc pending (x ∷ []) xs))
+
+pub unended-line : (piece rest pending : List ℕ) → All (λ x. x ≢ 10) piece → unended_in (piece ++ 10 ∷ rest) pending ≡ unended_in rest []
+unended-line [] rest pending h = refl
+unended-line (x ∷ xs) rest pending h = rw (ne_eqb x 10 (All-head (λ x. x ≢ 10) x xs h)) (unended-line xs rest (pending ++ x ∷ []) (All-tail (λ x. x ≢ 10) x xs h))
+
+-- a piece, its first line feed at an index, and what is left of it behind that
+module _ (rest held held' : List ℕ) (at : ℕ) (plain : All (λ x. x ≢ 10) (take at rest)) (e : rest ≡ take at rest ++ 10 ∷ drop (at + 1) rest) (f : held' ≡ []) where
+  pub ended-at : ended_in rest held ≡ reading_of (held ++ take at rest) ∷ ended_in (take (length rest - (at + 1)) (drop (at + 1) rest)) held'
+  ended-at = ap (λ l. ended_in l held) e ∙ ended-line (take at rest) (drop (at + 1) rest) held plain
+      ∙ ap (λ l. reading_of (held ++ take at rest) ∷ ended_in l []) (sym (take_rest rest (at + 1)))
+      ∙ ap (λ l. reading_of (held ++ take at rest) ∷ ended_in (take (length rest - (at + 1)) (drop (at + 1) rest)) l) (sym f)
+
+  pub unended-at : unended_in rest held ≡ unended_in (take (length rest - (at + 1)) (drop (at + 1) rest)) held'
+  unended-at = ap (λ l. unended_in l held) e ∙ unended-line (take at rest) (drop (at + 1) rest) held plain
+      ∙ ap (λ l. unended_in l []) (sym (take_rest rest (at + 1)))
+      ∙ ap (λ l. unended_in (take (length rest - (at + 1)) (drop (at + 1) rest)) l) (sym f)
+
+-- a piece without a line feed
+pub ended-plain : (piece pending : List ℕ) → All (λ x. x ≢ 10) piece → ended_in piece pending ≡ []
+ended-plain [] pending h = refl
+ended-plain (x ∷ xs) pending h = rw (ne_eqb x 10 (All-head (λ x. x ≢ 10) x xs h)) (ended-plain xs (pending ++ x ∷ []) (All-tail (λ x. x ≢ 10) x xs h))
+
+pub unended-plain : (piece pending : List ℕ) → All (λ x. x ≢ 10) piece → unended_in piece pending ≡ pending ++ piece
+unended-plain [] pending h = sym (append-nil pending)
+unended-plain (x ∷ xs) pending h = rw (ne_eqb x 10 (All-head (λ x. x ≢ 10) x xs h)) (unended-plain xs (pending ++ x ∷ []) (All-tail (λ x. x ≢ 10) x xs h) ∙ append_assoc pending (x ∷ []) xs)
+
+-- a last line that isn't empty
+pub readings-last : (line : List ℕ) → 0 < length line → readings_from [] line ≡ reading_of line ∷ []
+readings-last [] h = absurd (omega arith)
+readings-last (x ∷ xs) h = refl
+
+pub readings-none : (line : List ℕ) → length line ≡ 0 → readings_from [] line ≡ []
+readings-none [] h = refl
+readings-none (x ∷ xs) h = absurd (omega arith)
+
+-- a piece and what follows it
+pub readings-piece : (piece rest pending : List ℕ) → readings_from (piece ++ rest) pending ≡ ended_in piece pending ++ readings_from rest (unended_in piece pending)
+readings-piece [] rest pending = refl
+readings-piece (x ∷ xs) rest pending = elim (cases_Bool (x == 10)) [
+  | inl t ↦ rw t (ap (λ r. reading_of pending ∷ r) (readings-piece xs rest []))
+  | inr t ↦ rw t (readings-piece xs rest (pending ++ x ∷ []))
+]
+
+pub ended-few : (piece pending : List ℕ) → length (ended_in piece pending) ≤ length piece
+ended-few [] pending = omega arith
+ended-few (x ∷ xs) pending = elim (cases_Bool (x == 10)) [
+  | inl t ↦ rw t (omega (arith, ended-few xs []))
+  | inr t ↦ rw t (omega (arith, ended-few xs (pending ++ x ∷ [])))
+]
+
 -- what is held of a line and room for more of it
 pub hold-more : (held piece : List ℕ) (n : ℕ) → length held ≤ 1048577 → n ≡ min (length piece) (1048577 - length held) → held ++ take n piece ≡ take 1048577 (held ++ piece)
 hold-more held piece n h e = elim (cases_lt (1048577 - length held) (length piece)) [
@@ -75,3 +143,22 @@ hold-more held piece n h e = elim (cases_lt (1048577 - length held) (length piec
 pub on_ok-if : {T E : Type 0} (r : Result T E) (new a b t : List ℕ) → new ≡ cond (is_ok r) a b → a ≡ t → OnOk r (new ≡ t)
 on_ok-if (Ok x) new a b t e f = e ∙ f
 on_ok-if (Err x) new a b t e f = tt
+
+-- one more line is counted
+pub counted-one : (s : List ℕ → Bool) (old new : Counts) (line : Option (List ℕ)) → new.lines ≡ old.lines + 1 → new.steps ≡ old.steps + (if takes_step s line then 1 else 0) → new ≡ counted s old (line ∷ [])
+counted-one s old new line e f =
+    let a : new.lines ≡ old.lines + length (line ∷ []) = omega (arith, e) in
+    let b : new.steps ≡ old.steps + steps_of s (line ∷ []) = omega (arith, f) in
+    let whole : ◌≡◌ {A = Counts} (record { lines = new.lines; steps = new.steps }) (counted s old (line ∷ [])) = cc (a, b) in
+    whole
+
+steps-append : (s : List ℕ → Bool) (a b : List (Option (List ℕ))) → steps_of s (a ++ b) ≡ steps_of s a + steps_of s b
+steps-append s [] b = omega arith
+steps-append s (line ∷ a) b = omega (arith, steps-append s a b)
+
+-- lines counted after lines
+pub counted-append : (s : List ℕ → Bool) (counts : Counts) (a b : List (Option (List ℕ))) → counted s (counted s counts a) b ≡ counted s counts (a ++ b)
+counted-append s counts a b =
+    let e : (counts.lines + length a) + length b ≡ counts.lines + length (a ++ b) = omega (arith, length-append a b) in
+    let f : (counts.steps + steps_of s a) + steps_of s b ≡ counts.steps + steps_of s (a ++ b) = omega (arith, steps-append s a b) in
+    cc (e, f)

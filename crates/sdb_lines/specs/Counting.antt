@@ -15,4 +15,5 @@ steps_of is_step (line ∷ lines) = (if takes_step is_step line then 1 else 0) +
 
 -- the counts, once these lines are counted too
 abbrev pub counted : (List ℕ → Bool) → Counts → List (Option (List ℕ)) → Counts
-counted is_step counts lines = record { lines = counts.lines + length lines; steps = counts.steps + steps_of is_step lines }
+counted is_step counts lines =
+    record { lines = counts.lines + length lines; steps = counts.steps + steps_of is_step lines }

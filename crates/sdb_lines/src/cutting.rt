@@ -2,12 +2,15 @@
 //!
 //! A line ends at a line feed, which is no part of it. A carriage return is a byte of its line like any other.
 //! What follows the last line feed is a line too, unless it is empty.
-ghost use Rattle.std.specs.Prelude.{◌≡◌, ℕ, ◌+◌, ◌^◌, ◌≤◌, ◌<◌, Bool, List, [], ◌∷◌, ◌++◌, None, Some, true, length, take, drop, OnOk, OnErr, IfOk, IfSome, IfNone, vec_len, IsErrOf, All, ◌≢◌};
+ghost use Rattle.std.specs.Prelude.{◌≡◌, ℕ, ◌+◌, ◌^◌, ◌≤◌, ◌<◌, ◌⊎◌, Bool, List, [], ◌∷◌, ◌++◌, None, Some, true, length, take, drop, OnOk, OnErr, IfOk, IfSome, IfNone, vec_len, IsErrOf, All, ◌≢◌};
 ghost use Rattle.std.specs.declared.option.Option.{Option};
 ghost use Rattle.std.specs.Io.KnownBytes.{Appends};
+ghost use Rattle.sdb_lines.specs.Limits.{most_held};
 ghost use Rattle.sdb_lines.specs.Lines.{reading_of, readings_from};
+ghost use Rattle.sdb_lines.specs.Pieces.{ended_in, unended_in, held_of};
 ghost use Rattle.sdb_lines.specs.Counting.{takes_step, counted};
-ghost use Rattle.sdb_lines.specs.Told.{Wrote, AppendsFront, Stopped};
+ghost use Rattle.sdb_lines.specs.Told.{AppendsFront};
+ghost use Rattle.sdb_lines.specs.Runs.{GrewBy, Answers, AnswersBut, AnswersFront};
 ghost use Rattle.sdb_lines.specs.declared.runner.RunFault.{RunFault};
 
 use crate::runner::{Counts, RunFault};
@@ -29,31 +32,29 @@ pub trait Replier {
     // What is written before the first line is read.
     ghost opening: { Self → List ℕ };
 
-    // What is written for these lines, from this state on. `None` is a line that is too long or not UTF-8.
-    ghost output: { Self → List (Option (List ℕ)) → List ℕ };
+    // Whether the first machine answers this line by these bytes, and then is the second machine. `None` is a line that
+    // is too long or not UTF-8.
+    ghost takes: { Self → Option (List ℕ) → List ℕ → Self → Type 0 };
 
     // Whether a line is a step, by its text alone.
     ghost is_step: { List ℕ → Bool };
 
-    /// Appends the opening text to `out`. After an error `out` may hold a part of it.
+    /// Appends the opening text to `out`. After an error nothing is said of `out`, and nothing of it is written.
     fn open(&self, alloc: Global, out: &mut Vec<u8>) -> Result<(), AllocError>
         ensures { OnOk result (out.new.items ≡ out.old.items ++ opening self.now) };
 
     /// Takes a line, without its line feed, and appends the answer to `out`. It answers whether the line is a step.
     ///
-    /// After an error the run ends, and nothing is said of `self` and `out`.
+    /// After an error the run ends: nothing is said of `self` and `out`, and nothing of `out` is written.
     fn reply(&mut self, alloc: Global, line: &str, out: &mut Vec<u8>) -> Result<bool, AllocError>
-        ensures output { OnOk result ((lines : List (Option (List ℕ))) →
-            out.old.items ++ output self.old (Some line.now ∷ lines) ≡ out.new.items ++ output self.new lines) }
+        ensures answer { OnOk result (GrewBy out.old.items out.new.items
+            (λ answer. takes self.old (Some line.now) answer self.new)) }
         ensures step { IfOk result (λ b. b ≡ is_step line.now) };
 
     /// Takes a line that is longer than [`LINE_LIMIT`] or not UTF-8, and appends the answer to `out`. It is no step.
     fn reply_unreadable(&mut self, alloc: Global, out: &mut Vec<u8>) -> Result<(), AllocError>
-        ensures { OnOk result ((lines : List (Option (List ℕ))) →
-            out.old.items ++ output self.old (None ∷ lines) ≡ out.new.items ++ output self.new lines) };
-
-    // No lines, no output.
-    ghost at_end: { (s : Self) → output s [] ≡ [] };
+        ensures { OnOk result (GrewBy out.old.items out.new.items
+            (λ answer. takes self.old None answer self.new)) };
 }
 
 // What a run carries from one piece of its input to the next.
@@ -64,6 +65,8 @@ pub(crate) struct Pending {
     // The answers that are not written yet.
     pub out: Vec<u8>,
     pub counts: Counts,
+    ghost bounded: { vec_len held ≤ most_held },
+    ghost ordered: { counts.steps ≤ counts.lines },
 }
 
 impl Pending {
@@ -88,8 +91,8 @@ fn answer_line<M: Replier>(
     line: &[u8],
     out: &mut Vec<u8>,
 ) -> Result<bool, AllocError>
-    ensures output { OnOk result ((lines : List (Option (List ℕ))) →
-        out.old.items ++ M.output machine.old (reading_of line.now ∷ lines) ≡ out.new.items ++ M.output machine.new lines) }
+    ensures answer { OnOk result (GrewBy out.old.items out.new.items
+        (λ answer. M.takes machine.old (reading_of line.now) answer machine.new)) }
     ensures step { IfOk result (λ b. b ≡ takes_step M.is_step (reading_of line.now)) }
 {
     if line.len() > LINE_LIMIT {
@@ -108,7 +111,7 @@ fn answer_line<M: Replier>(
 // Holds the piece behind what is held of the line, up to the limit.
 fn hold(held: &mut Vec<u8>, piece: &[u8]) -> Result<(), AllocError>
     requires { vec_len held.old ≤ HELD_LIMIT }
-    ensures items { OnOk result (held.new.items ≡ take HELD_LIMIT (held.old.items ++ piece.now)) }
+    ensures items { OnOk result (held.new.items ≡ held_of (held.old.items ++ piece.now)) }
     ensures bound { vec_len held.new ≤ HELD_LIMIT }
 {
     let room = HELD_LIMIT - held.len();
@@ -118,7 +121,7 @@ fn hold(held: &mut Vec<u8>, piece: &[u8]) -> Result<(), AllocError>
 
 // Writes all of the output.
 fn write_out<W: Sink>(out: &mut Vec<u8>, writer: &mut W) -> Result<(), RunFault>
-    ensures ok { OnOk result (out.new.items ≡ []) }
+    ensures empty { OnOk result (out.new.items ≡ []) }
     ensures wrote { OnOk result (Appends (W.contents writer.old) (W.contents writer.new) out.old.items) }
     ensures front { OnErr result (AppendsFront (W.contents writer.old) (W.contents writer.new) out.old.items) }
     ensures unfailed { OnOk result (W.has_failed writer.new ≡ W.has_failed writer.old) }
@@ -154,22 +157,17 @@ fn take_line<M: Replier, W: Sink>(
     writer: &mut W,
     piece: &[u8],
 ) -> Result<(), RunFault>
-    requires bound { vec_len pending.old.held ≤ HELD_LIMIT }
-    requires plain { All (λ x. x ≢ 10) piece.now }
     requires room { pending.old.counts.lines + 1 < 2 ^ 64 }
-    requires ordered { pending.old.counts.steps ≤ pending.old.counts.lines }
-    ensures ok { OnOk result (Wrote (W.contents writer.old) (W.contents writer.new)
-        (λ rest. pending.old.out.items ++ M.output machine.old (readings_from (piece.now ++ 10 ∷ rest) pending.old.held.items))
-        (λ rest. pending.new.out.items ++ M.output machine.new (readings_from rest pending.new.held.items))) }
-    ensures err { OnErr result (Stopped (W.contents writer.old) (W.contents writer.new)
-        (λ rest. pending.old.out.items ++ M.output machine.old (readings_from (piece.now ++ 10 ∷ rest) pending.old.held.items))) }
-    ensures counted { OnOk result ((rest : List ℕ) →
-        counted M.is_step pending.old.counts (readings_from (piece.now ++ 10 ∷ rest) pending.old.held.items)
-        ≡ counted M.is_step pending.new.counts (readings_from rest pending.new.held.items)) }
-    ensures one { OnOk result (pending.new.counts.lines ≡ pending.old.counts.lines + 1) }
-    ensures ordered { OnOk result (pending.new.counts.steps ≤ pending.new.counts.lines) }
-    ensures bound { OnOk result (vec_len pending.new.held ≤ HELD_LIMIT) }
-    ensures unfailed { OnOk result (W.has_failed writer.new ≡ W.has_failed writer.old) }
+    ensures held { OnOk result (pending.new.held.items ≡ []) }
+    ensures counted { OnOk result (pending.new.counts
+        ≡ counted M.is_step pending.old.counts (reading_of (pending.old.held.items ++ piece.now) ∷ [])) }
+    ensures all { OnOk result (AnswersBut M.takes pending.new.out.items
+        machine.old (reading_of (pending.old.held.items ++ piece.now) ∷ []) machine.new
+        pending.old.out.items (W.contents writer.old) (W.contents writer.new)) }
+    ensures front { OnErr result (AnswersFront M.takes
+        machine.old (reading_of (pending.old.held.items ++ piece.now) ∷ [])
+        pending.old.out.items (W.contents writer.old) (W.contents writer.new)) }
+    ensures writes { (W.has_failed writer.new ≡ W.has_failed writer.old) ⊎ IsErrOf result RunFault.Write }
     ensures write { IsErrOf result RunFault.Write → W.has_failed writer.new ≡ true }
     ensures read { IsErrOf result RunFault.Read → ⊥ }
 {
@@ -198,21 +196,16 @@ fn take_piece<M: Replier, W: Sink>(
     writer: &mut W,
     piece: &[u8],
 ) -> Result<(), RunFault>
-    requires bound { vec_len pending.old.held ≤ HELD_LIMIT }
     requires room { pending.old.counts.lines + length piece.now < 2 ^ 64 }
-    requires ordered { pending.old.counts.steps ≤ pending.old.counts.lines }
-    ensures ok { OnOk result (Wrote (W.contents writer.old) (W.contents writer.new)
-        (λ rest. pending.old.out.items ++ M.output machine.old (readings_from (piece.now ++ rest) pending.old.held.items))
-        (λ rest. pending.new.out.items ++ M.output machine.new (readings_from rest pending.new.held.items))) }
-    ensures err { OnErr result (Stopped (W.contents writer.old) (W.contents writer.new)
-        (λ rest. pending.old.out.items ++ M.output machine.old (readings_from (piece.now ++ rest) pending.old.held.items))) }
-    ensures counted { OnOk result ((rest : List ℕ) →
-        counted M.is_step pending.old.counts (readings_from (piece.now ++ rest) pending.old.held.items)
-        ≡ counted M.is_step pending.new.counts (readings_from rest pending.new.held.items)) }
-    ensures few { OnOk result (pending.new.counts.lines ≤ pending.old.counts.lines + length piece.now) }
-    ensures ordered { OnOk result (pending.new.counts.steps ≤ pending.new.counts.lines) }
-    ensures bound { OnOk result (vec_len pending.new.held ≤ HELD_LIMIT) }
-    ensures unfailed { OnOk result (W.has_failed writer.new ≡ W.has_failed writer.old) }
+    ensures held { OnOk result (pending.new.held.items ≡ held_of (unended_in piece.now pending.old.held.items)) }
+    ensures counted { OnOk result (pending.new.counts
+        ≡ counted M.is_step pending.old.counts (ended_in piece.now pending.old.held.items)) }
+    ensures all { OnOk result (AnswersBut M.takes pending.new.out.items
+        machine.old (ended_in piece.now pending.old.held.items) machine.new
+        pending.old.out.items (W.contents writer.old) (W.contents writer.new)) }
+    ensures front { OnErr result (AnswersFront M.takes machine.old (ended_in piece.now pending.old.held.items)
+        pending.old.out.items (W.contents writer.old) (W.contents writer.new)) }
+    ensures writes { (W.has_failed writer.new ≡ W.has_failed writer.old) ⊎ IsErrOf result RunFault.Write }
     ensures write { IsErrOf result RunFault.Write → W.has_failed writer.new ≡ true }
     ensures read { IsErrOf result RunFault.Read → ⊥ }
 {
@@ -232,7 +225,7 @@ fn take_piece<M: Replier, W: Sink>(
 
 // Writes all of the output, and flushes it.
 fn show<W: Sink>(out: &mut Vec<u8>, writer: &mut W) -> Result<(), RunFault>
-    ensures ok { OnOk result (out.new.items ≡ []) }
+    ensures empty { OnOk result (out.new.items ≡ []) }
     ensures wrote { OnOk result (Appends (W.contents writer.old) (W.contents writer.new) out.old.items) }
     ensures front { OnErr result (AppendsFront (W.contents writer.old) (W.contents writer.new) out.old.items) }
     ensures unfailed { OnOk result (W.has_failed writer.new ≡ W.has_failed writer.old) }
@@ -252,21 +245,20 @@ fn show<W: Sink>(out: &mut Vec<u8>, writer: &mut W) -> Result<(), RunFault>
 pub(crate) fn write_opening<M: Replier, W: Sink>(
     alloc: Global,
     machine: &M,
-    out: &mut Vec<u8>,
     writer: &mut W,
 ) -> Result<(), RunFault>
-    requires { out.old.items ≡ [] }
-    ensures empty { OnOk result (out.new.items ≡ []) }
     ensures wrote { OnOk result (Appends (W.contents writer.old) (W.contents writer.new) (M.opening machine.now)) }
-    ensures front { OnErr result (AppendsFront (W.contents writer.old) (W.contents writer.new) (M.opening machine.now)) }
-    ensures unfailed { OnOk result (W.has_failed writer.new ≡ W.has_failed writer.old) }
+    ensures front { OnErr result
+        (AppendsFront (W.contents writer.old) (W.contents writer.new) (M.opening machine.now)) }
+    ensures writes { (W.has_failed writer.new ≡ W.has_failed writer.old) ⊎ IsErrOf result RunFault.Write }
     ensures write { IsErrOf result RunFault.Write → W.has_failed writer.new ≡ true }
     ensures read { IsErrOf result RunFault.Read → ⊥ }
 {
-    let Ok(()) = machine.open(alloc, out) else {
+    let mut out = Vec::new(alloc);
+    let Ok(()) = machine.open(alloc, &mut out) else {
         return Err(RunFault::Memory);
     };
-    match show(out, writer) {
+    match show(&mut out, writer) {
         Ok(()) => Ok(()),
         Err(fault) => Err(fault),
     }
@@ -280,23 +272,17 @@ pub(crate) fn answer_piece<M: Replier, W: Sink>(
     writer: &mut W,
     piece: &[u8],
 ) -> Result<(), RunFault>
-    requires bound { vec_len pending.old.held ≤ HELD_LIMIT }
     requires empty { pending.old.out.items ≡ [] }
     requires room { pending.old.counts.lines + length piece.now < 2 ^ 64 }
-    requires ordered { pending.old.counts.steps ≤ pending.old.counts.lines }
     ensures empty { OnOk result (pending.new.out.items ≡ []) }
-    ensures ok { OnOk result (Wrote (W.contents writer.old) (W.contents writer.new)
-        (λ rest. M.output machine.old (readings_from (piece.now ++ rest) pending.old.held.items))
-        (λ rest. M.output machine.new (readings_from rest pending.new.held.items))) }
-    ensures err { OnErr result (Stopped (W.contents writer.old) (W.contents writer.new)
-        (λ rest. M.output machine.old (readings_from (piece.now ++ rest) pending.old.held.items))) }
-    ensures counted { OnOk result ((rest : List ℕ) →
-        counted M.is_step pending.old.counts (readings_from (piece.now ++ rest) pending.old.held.items)
-        ≡ counted M.is_step pending.new.counts (readings_from rest pending.new.held.items)) }
-    ensures few { OnOk result (pending.new.counts.lines ≤ pending.old.counts.lines + length piece.now) }
-    ensures ordered { OnOk result (pending.new.counts.steps ≤ pending.new.counts.lines) }
-    ensures bound { OnOk result (vec_len pending.new.held ≤ HELD_LIMIT) }
-    ensures unfailed { OnOk result (W.has_failed writer.new ≡ W.has_failed writer.old) }
+    ensures held { OnOk result (pending.new.held.items ≡ held_of (unended_in piece.now pending.old.held.items)) }
+    ensures counted { OnOk result (pending.new.counts
+        ≡ counted M.is_step pending.old.counts (ended_in piece.now pending.old.held.items)) }
+    ensures all { OnOk result (Answers M.takes machine.old (ended_in piece.now pending.old.held.items) machine.new
+        [] (W.contents writer.old) (W.contents writer.new)) }
+    ensures front { OnErr result (AnswersFront M.takes machine.old (ended_in piece.now pending.old.held.items)
+        [] (W.contents writer.old) (W.contents writer.new)) }
+    ensures writes { (W.has_failed writer.new ≡ W.has_failed writer.old) ⊎ IsErrOf result RunFault.Write }
     ensures write { IsErrOf result RunFault.Write → W.has_failed writer.new ≡ true }
     ensures read { IsErrOf result RunFault.Read → ⊥ }
 {
@@ -319,14 +305,13 @@ pub(crate) fn answer_rest<M: Replier, W: Sink>(
 ) -> Result<(), RunFault>
     requires empty { pending.old.out.items ≡ [] }
     requires room { pending.old.counts.lines + 1 < 2 ^ 64 }
-    requires ordered { pending.old.counts.steps ≤ pending.old.counts.lines }
-    ensures ok { OnOk result (Appends (W.contents writer.old) (W.contents writer.new)
-        (M.output machine.old (readings_from [] pending.old.held.items))) }
-    ensures err { OnErr result (AppendsFront (W.contents writer.old) (W.contents writer.new)
-        (M.output machine.old (readings_from [] pending.old.held.items))) }
-    ensures counted { OnOk result (counted M.is_step pending.old.counts (readings_from [] pending.old.held.items)
-        ≡ counted M.is_step pending.new.counts []) }
-    ensures unfailed { OnOk result (W.has_failed writer.new ≡ W.has_failed writer.old) }
+    ensures counted { OnOk result (pending.new.counts
+        ≡ counted M.is_step pending.old.counts (readings_from [] pending.old.held.items)) }
+    ensures all { OnOk result (Answers M.takes machine.old (readings_from [] pending.old.held.items) machine.new
+        [] (W.contents writer.old) (W.contents writer.new)) }
+    ensures front { OnErr result (AnswersFront M.takes machine.old (readings_from [] pending.old.held.items)
+        [] (W.contents writer.old) (W.contents writer.new)) }
+    ensures writes { (W.has_failed writer.new ≡ W.has_failed writer.old) ⊎ IsErrOf result RunFault.Write }
     ensures write { IsErrOf result RunFault.Write → W.has_failed writer.new ≡ true }
     ensures read { IsErrOf result RunFault.Read → ⊥ }
 {

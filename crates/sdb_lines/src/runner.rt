@@ -3,17 +3,16 @@
 //! All that is pending is written and flushed before the next read, so whoever writes a line and waits gets the answer
 //! without having to send more.
 ghost use Rattle.std.specs.Prelude.{◌≡◌, ◌+◌, ◌-◌, ◌^◌, ◌≤◌, ◌<◌, ◌⊎◌, ◌++◌, true, if◌then◌else◌, length, min, map, OnOk, OnErr, IfOk, IfSome, vec_len, IsErrOf};
-ghost use Rattle.std.specs.Io.KnownBytes.{Appends};
+ghost use Rattle.sdb_lines.specs.Limits.{read_limit};
 ghost use Rattle.sdb_lines.specs.Lines.{reading_of, lines_of};
 ghost use Rattle.sdb_lines.specs.Counting.{steps_of};
-ghost use Rattle.sdb_lines.specs.Told.{AppendsFront};
+ghost use Rattle.sdb_lines.specs.Runs.{Answers, AnswersFront};
 ghost use Rattle.sdb_lines.specs.declared.runner.RunFault.{RunFault};
 
 use crate::cutting::{Pending, Replier, answer_piece, answer_rest, write_opening};
 use crate::streams::{Sink, Source};
 use std::alloc::{AllocError, Global};
-use std::error::Error;
-use std::fmt;
+use thiserror::Error;
 
 /// The most reads that one run makes: 2^40.
 pub const READ_LIMIT: u64 = 1_099_511_627_776;
@@ -46,34 +45,25 @@ impl Counts {
 }
 
 /// Why a run stopped before the end of its input.
-#[derive(Clone, Copy, Debug, PartialEq, Eq)]
+#[derive(Clone, Copy, Debug, PartialEq, Eq, Error)]
 pub enum RunFault {
     /// A read failed, or [`READ_LIMIT`] reads did not reach the end of the input.
+    #[error("the input could not be read to its end")]
     Read,
     /// A write or a flush failed, or a write took 0 bytes of some.
+    #[error("an answer could not be written")]
     Write,
     /// There was not enough memory for the 64 KiB that a read fills, for a line or for its answer.
+    #[error("out of memory")]
     Memory,
 }
 
-impl fmt::Display for RunFault {
-    fn fmt<W: fmt::Write>(&self, f: &mut fmt::Formatter<W>) -> fmt::Result {
-        match self {
-            RunFault::Read => write!(f, "the input could not be read to its end"),
-            RunFault::Write => write!(f, "an answer could not be written"),
-            RunFault::Memory => write!(f, "out of memory"),
-        }
-    }
-}
-
-impl Error for RunFault {}
-
-/// Writes the opening text, reads the input to its end, and writes the answer to each of its lines. On `Ok` it tells how
-/// many lines there were, and how many of them were steps.
+/// Writes the opening text, reads the input to its end, and writes the answer to each of its lines. On `Ok` it tells
+/// how many lines there were, and how many of them were steps.
 ///
 /// What is pending is written and flushed before each read and at the end, and also, unflushed, once it has reached
-/// 64 KiB. A read takes at most 64 KiB, and at most [`READ_LIMIT`] reads are made. At most 1,048,577 bytes of a line are
-/// held, however long it is.
+/// 64 KiB. A read takes at most 64 KiB, and at most [`READ_LIMIT`] reads are made. At most 1,048,577 bytes of a line
+/// are held, however long it is.
 ///
 /// A last line needs no line feed. After a fault the reader may have given bytes of lines that were not answered, and
 /// the machine may have taken lines whose answers were not written.
@@ -83,30 +73,35 @@ pub fn run_lines<M: Replier, R: Source, W: Sink>(
     reader: &mut R,
     writer: &mut W,
 ) -> Result<Counts, RunFault>
+    // The machine took the lines of the input, in order and no other, and all that it answered was written.
     ensures whole { OnOk result (IfSome (R.left reader.old) (λ input.
-        Appends (W.contents writer.old) (W.contents writer.new) (M.opening machine.old ++ M.output machine.old (map reading_of (lines_of input))))) }
-    ensures lines { IfOk result (λ counts. IfSome (R.left reader.old) (λ input. counts.lines ≡ length (lines_of input))) }
-    ensures steps { IfOk result (λ counts. IfSome (R.left reader.old) (λ input. counts.steps ≡ steps_of M.is_step (map reading_of (lines_of input)))) }
-    // After a fault a front of the whole answer was written.
+        Answers M.takes machine.old (map reading_of (lines_of input)) machine.new
+        (M.opening machine.old) (W.contents writer.old) (W.contents writer.new))) }
+    ensures lines { IfOk result (λ counts. IfSome (R.left reader.old) (λ input.
+        counts.lines ≡ length (lines_of input))) }
+    ensures steps { IfOk result (λ counts. IfSome (R.left reader.old) (λ input.
+        counts.steps ≡ steps_of M.is_step (map reading_of (lines_of input)))) }
+    // After a fault a front of the opening and the answers to the first lines was written.
     ensures front { OnErr result (IfSome (R.left reader.old) (λ input.
-        AppendsFront (W.contents writer.old) (W.contents writer.new) (M.opening machine.old ++ M.output machine.old (map reading_of (lines_of input))))) }
-    // Where the end was reached, no read, write or flush failed.
-    ensures reads { OnOk result (R.has_failed reader.new ≡ R.has_failed reader.old) }
-    ensures writes { OnOk result (W.has_failed writer.new ≡ W.has_failed writer.old) }
-    // A fault has its cause.
+        AnswersFront M.takes machine.old (map reading_of (lines_of input))
+        (M.opening machine.old) (W.contents writer.old) (W.contents writer.new))) }
+    ensures calls { R.calls reader.new ≤ R.calls reader.old + read_limit }
+    // No read failed, and no write or flush, but for the one that is the fault.
+    ensures reads { (R.has_failed reader.new ≡ R.has_failed reader.old) ⊎ IsErrOf result RunFault.Read }
+    ensures writes { (W.has_failed writer.new ≡ W.has_failed writer.old) ⊎ IsErrOf result RunFault.Write }
     ensures read { IsErrOf result RunFault.Read → (R.has_failed reader.new ≡ true)
-        ⊎ (min (R.calls reader.old + READ_LIMIT) (2 ^ 64 - 1) ≤ R.calls reader.new) }
+        ⊎ (min (R.calls reader.old + read_limit) (2 ^ 64 - 1) ≤ R.calls reader.new) }
     ensures write { IsErrOf result RunFault.Write → W.has_failed writer.new ≡ true }
 {
     let Ok(mut space) = room(alloc) else {
         return Err(RunFault::Memory);
     };
     let buffer = space.as_mut_slice();
-    let mut pending = Pending::new(alloc);
-    match write_opening(alloc, machine, &mut pending.out, writer) {
+    match write_opening(alloc, machine, writer) {
         Ok(()) => {}
         Err(fault) => return Err(fault),
     }
+    let mut pending = Pending::new(alloc);
     for _turn in 0..READ_LIMIT {
         match reader.take(buffer) {
             Ok(0) => match answer_rest(alloc, machine, &mut pending, writer) {

@@ -47,25 +47,25 @@ pub trait Sink {
         ensures failed { has_failed self.new ≡ (is_err result || has_failed self.old) };
 }
 
-/// A reader or writer of `std`, watched. A failure is never forgotten, and stops no later call.
+/// A reader of `std`, watched. A failure is never forgotten, and stops no later call.
 #[derive(Drop)]
-pub struct Watched<S> {
-    /// The reader or writer itself. What is done to it directly isn't watched.
+pub struct WatchedReader<S> {
+    /// The reader itself. What is done to it directly isn't watched.
     pub stream: S,
-    /// Whether a call has failed.
+    /// Whether a read has failed.
     pub has_failed: bool,
-    /// The number of reads, which stays at `u64::MAX` once it gets there. Writes and flushes aren't counted.
+    /// The number of reads, which stays at `u64::MAX` once it gets there.
     pub calls: u64,
 }
 
-impl<S> Watched<S> {
-    /// Watches a stream from now on.
-    pub fn new(stream: S) -> Watched<S>
+impl<S> WatchedReader<S> {
+    /// Watches a reader from now on.
+    pub fn new(stream: S) -> WatchedReader<S>
         ensures stream { result.stream ≡ stream }
         ensures quiet { result.has_failed ≡ false }
         ensures uncalled { result.calls ≡ 0 }
     {
-        Watched {
+        WatchedReader {
             stream,
             has_failed: false,
             calls: 0,
@@ -73,7 +73,7 @@ impl<S> Watched<S> {
     }
 }
 
-impl<S: Read> Source for Watched<S> {
+impl<S: Read> Source for WatchedReader<S> {
     ghost left = { λ s. S.remaining s.stream };
 
     ghost has_failed = { λ s. s.has_failed };
@@ -90,7 +90,29 @@ impl<S: Read> Source for Watched<S> {
     }
 }
 
-impl<S: Write> Sink for Watched<S> {
+/// A writer of `std`, watched. A failure is never forgotten, and stops no later call.
+#[derive(Drop)]
+pub struct WatchedWriter<S> {
+    /// The writer itself. What is done to it directly isn't watched.
+    pub stream: S,
+    /// Whether a write or a flush has failed.
+    pub has_failed: bool,
+}
+
+impl<S> WatchedWriter<S> {
+    /// Watches a writer from now on.
+    pub fn new(stream: S) -> WatchedWriter<S>
+        ensures stream { result.stream ≡ stream }
+        ensures quiet { result.has_failed ≡ false }
+    {
+        WatchedWriter {
+            stream,
+            has_failed: false,
+        }
+    }
+}
+
+impl<S: Write> Sink for WatchedWriter<S> {
     ghost contents = { λ s. S.contents s.stream };
 
     ghost has_failed = { λ s. s.has_failed };

@@ -1,3 +1,12 @@
 //! Tests of the libraries' public calls, a module for each library. They stand in one crate above all
 //! of them, so that no library is proved a second time for its tests.
 #![tactic(auto)]
+
+#[cfg(test)]
+mod apply;
+#[cfg(test)]
+mod component;
+#[cfg(test)]
+mod lines;
+#[cfg(test)]
+mod value;

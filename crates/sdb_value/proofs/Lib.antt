@@ -1,5 +1,6 @@
 pub mod Cuts
 pub mod Depths
+pub mod Encoded
 pub mod Pieces
 pub mod Read
 pub mod Steps

@@ -2,13 +2,13 @@
 use Rattle.std.proofs.Common.{◌≡◌, ℕ, zero, suc, ◌<◌, ◌≤◌, List, [], ◌∷◌, ◌++◌, length, take, drop, Some, None, true, false, ltb, leb, refl, sym, ap, ◌∙◌, arith, set}
 use Rattle.std.specs.List.{insert, remove}
 use Rattle.std.proofs.lemmas.Bool.Decides.{nat_tests}
-use Rattle.sdb_value.specs.Value.{item, size, join, take_items, drop_items, insert_item, remove_item, replace_item}
+use Rattle.sdb_value.specs.Value.{item, count, join, take_items, drop_items, insert_item, remove_item, replace_item}
 use Rattle.sdb_value.specs.View.{view, items_view}
 use Rattle.sdb_value.specs.declared.value.Json.{Json}
 
-pub view-size : (vs : List Json) → size (items_view vs) ≡ length vs
-view-size [] = refl
-view-size (v ∷ vs) = ap suc (view-size vs)
+pub view-count : (vs : List Json) → count (items_view vs) ≡ length vs
+view-count [] = refl
+view-count (v ∷ vs) = ap suc (view-count vs)
 
 pub view-append : (vs us : List Json) → items_view (vs ++ us) ≡ join (items_view vs) (items_view us)
 view-append [] us = refl
@@ -37,16 +37,16 @@ not_below : (i n : ℕ) → n ≤ i → ltb i n ≡ false
 not_below i n h = grind (arith, nat_tests)
 
 pub inserted : (vs : List Json) (i : ℕ) (v : Json) → i ≤ length vs → insert_item i (view v) (items_view vs) ≡ Some (items_view (insert vs i v))
-inserted vs i v h = rw (view-size vs, within i (length vs) h) (ap Some (sym (view-append (take i vs) (v ∷ drop i vs) ∙ rw (view-take i vs, view-drop i vs))))
+inserted vs i v h = rw (view-count vs, within i (length vs) h) (ap Some (sym (view-append (take i vs) (v ∷ drop i vs) ∙ rw (view-take i vs, view-drop i vs))))
 
 pub not_inserted : (vs : List Json) (i : ℕ) (v : Json) → length vs < i → insert_item i (view v) (items_view vs) ≡ None
-not_inserted vs i v h = rw (view-size vs, not_within i (length vs) h) refl
+not_inserted vs i v h = rw (view-count vs, not_within i (length vs) h) refl
 
 pub removed : (vs : List Json) (i : ℕ) → i < length vs → remove_item i (items_view vs) ≡ Some (items_view (remove vs i))
-removed vs i h = rw (view-size vs, below i (length vs) h) (ap Some (sym (view-append (take i vs) (drop (suc i) vs) ∙ rw (view-take i vs, view-drop (suc i) vs))))
+removed vs i h = rw (view-count vs, below i (length vs) h) (ap Some (sym (view-append (take i vs) (drop (suc i) vs) ∙ rw (view-take i vs, view-drop (suc i) vs))))
 
 pub not_removed : (vs : List Json) (i : ℕ) → length vs ≤ i → remove_item i (items_view vs) ≡ None
-not_removed vs i h = rw (view-size vs, not_below i (length vs) h) refl
+not_removed vs i h = rw (view-count vs, not_below i (length vs) h) refl
 
 set_pieces : (i : ℕ) (vs : List Json) (v : Json) → i < length vs → items_view (set vs i v) ≡ join (take_items i (items_view vs)) (item (view v) (drop_items (suc i) (items_view vs)))
 set_pieces i [] v h = absurd (omega arith)
@@ -54,7 +54,7 @@ set_pieces zero (u ∷ vs) v h = refl
 set_pieces (suc i) (u ∷ vs) v h = ap (item (view u)) (set_pieces i vs v (omega arith))
 
 pub replaced : (vs : List Json) (i : ℕ) (v : Json) → i < length vs → replace_item i (view v) (items_view vs) ≡ Some (items_view (set vs i v))
-replaced vs i v h = rw (view-size vs, below i (length vs) h) (ap Some (sym (set_pieces i vs v h)))
+replaced vs i v h = rw (view-count vs, below i (length vs) h) (ap Some (sym (set_pieces i vs v h)))
 
 pub not_replaced : (vs : List Json) (i : ℕ) (v : Json) → length vs ≤ i → replace_item i (view v) (items_view vs) ≡ None
-not_replaced vs i v h = rw (view-size vs, not_below i (length vs) h) refl
+not_replaced vs i v h = rw (view-count vs, not_below i (length vs) h) refl

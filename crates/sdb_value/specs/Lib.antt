@@ -1,11 +1,14 @@
 pub mod Change
 pub mod Coding
 pub mod Edits
+pub mod Law
 pub mod Places
 pub mod Printed
 pub mod Profile
 pub mod Rows
+pub mod Size
 pub mod Text
 pub mod Value
 pub mod View
+pub mod WellFormed
 pub mod Worked

@@ -62,9 +62,9 @@ without k (member l d ms) = cond (same_text k l) ms (member l d (without k ms))
 
 -- ---- lists, as joined pieces
 
-abbrev pub size : Items → ℕ
-size no_items = 0
-size (item d ds) = suc (size ds)
+abbrev pub count : Items → ℕ
+count no_items = 0
+count (item d ds) = suc (count ds)
 
 -- the first i items, and those from i on
 abbrev pub take_items : ℕ → Items → Items
@@ -83,15 +83,15 @@ join (item d ds) es = item d (join ds es)
 
 -- u stands at i, and the items from i on follow; i is up to the length
 abbrev pub insert_item : ℕ → Value → Items → Option Items
-insert_item i u ds = if nat_le i (size ds) then Some (join (take_items i ds) (item u (drop_items i ds))) else None
+insert_item i u ds = if nat_le i (count ds) then Some (join (take_items i ds) (item u (drop_items i ds))) else None
 
 -- the item at i is taken out
 abbrev pub remove_item : ℕ → Items → Option Items
-remove_item i ds = if nat_lt i (size ds) then Some (join (take_items i ds) (drop_items (suc i) ds)) else None
+remove_item i ds = if nat_lt i (count ds) then Some (join (take_items i ds) (drop_items (suc i) ds)) else None
 
 -- the item at i becomes u
 abbrev pub replace_item : ℕ → Value → Items → Option Items
-replace_item i u ds = if nat_lt i (size ds) then Some (join (take_items i ds) (item u (drop_items (suc i) ds))) else None
+replace_item i u ds = if nat_lt i (count ds) then Some (join (take_items i ds) (item u (drop_items (suc i) ds))) else None
 
 -- how deep lists and objects nest
 abbrev mutual

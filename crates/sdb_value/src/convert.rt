@@ -1,13 +1,15 @@
 //! From `serde_json`'s `Value`.
 ghost use Rattle.std.specs.Prelude.{◌≡◌, ◌<◌, ◌≤◌, Some, None, IfOk, IfErr, option_map};
 ghost use Rattle.sdb_value.specs.Value.{depth, items_depth, members_depth};
-ghost use Rattle.sdb_value.specs.Profile.{of_data, of_items, of_members, whole_of, in_profile, Unread, Refuses, RefusesItems, RefusesMembers};
+ghost use Rattle.sdb_value.specs.Profile.{of_data, of_items, of_members, in_profile};
+ghost use Rattle.sdb_value.specs.Profile.{Unread, Refuses, RefusesItems, RefusesMembers};
 ghost use Rattle.sdb_value.specs.View.{view, items_view, members_view};
-ghost use Rattle.serde_json.specs.View.{view as data_view, items_view as data_items_view, members_view as data_members_view, number_view};
+ghost use Rattle.serde_json.specs.View as raw;
 
+use crate::numbers::whole_of;
 use crate::parts::{push_item, put_member};
-use crate::value::{Json, Whole};
-use serde_json::{Map, Number, Value};
+use crate::value::Json;
+use serde_json::{Map, Value};
 use std::alloc::{AllocError, Global};
 use std::collections::BTreeMap;
 use thiserror::Error;
@@ -40,23 +42,23 @@ impl From<AllocError> for ValueFault {
 /// 9007199254740991, and lists and objects at most 50 deep. Where more than one thing is outside the
 /// profile, the error names the one that is met first.
 pub fn from_value(alloc: Global, value: &Value) -> Result<Json, ValueFault>
-    ensures ok { IfOk result (λ j. in_profile (data_view value.now) ≡ Some (view j)) }
-    ensures err { IfErr result (λ f. Unread (in_profile (data_view value.now)) f) }
-    ensures cause { IfErr result (λ f. Refuses 50 (data_view value.now) f) }
+    ensures ok { IfOk result (λ j. in_profile (raw.view value.now) ≡ Some (view j)) }
+    ensures err { IfErr result (λ f. Unread (in_profile (raw.view value.now)) f) }
+    ensures cause { IfErr result (λ f. Refuses 50 (raw.view value.now) f) }
 {
     read(alloc, value, 50)
 }
 
 #[cycle(read)]
 fn read(alloc: Global, value: &Value, left: u64) -> Result<Json, ValueFault>
-    ensures ok { IfOk result (λ j. of_data (data_view value.now) ≡ Some (view j)) }
+    ensures ok { IfOk result (λ j. of_data (raw.view value.now) ≡ Some (view j)) }
     ensures low { IfOk result (λ j. depth (view j) ≤ left) }
-    ensures err { IfErr result (λ f. Refuses left (data_view value.now) f) }
+    ensures err { IfErr result (λ f. Refuses left (raw.view value.now) f) }
 {
     match value {
         Value::Null => Ok(Json::Null),
         Value::Bool(b) => Ok(Json::Bool(*b)),
-        Value::Number(number) => match whole(number) {
+        Value::Number(number) => match whole_of(number) {
             Some(n) => Ok(Json::Int(n)),
             None => Err(ValueFault::Number),
         },
@@ -77,10 +79,10 @@ fn read(alloc: Global, value: &Value, left: u64) -> Result<Json, ValueFault>
 }
 
 #[cycle(read)]
-fn read_items(alloc: Global, items: &Vec<Value>, left: u64) -> Result<Vec<Json>, ValueFault>
-    ensures ok { IfOk result (λ v. of_items (data_items_view items.now.items) ≡ Some (items_view v.items)) }
+fn read_items(alloc: Global, items: &[Value], left: u64) -> Result<Vec<Json>, ValueFault>
+    ensures ok { IfOk result (λ v. of_items (raw.items_view items.now) ≡ Some (items_view v.items)) }
     ensures low { IfOk result (λ v. items_depth (items_view v.items) ≤ left) }
-    ensures err { IfErr result (λ f. RefusesItems left (data_items_view items.now.items) f) }
+    ensures err { IfErr result (λ f. RefusesItems left (raw.items_view items.now) f) }
 {
     let mut done = Vec::new(alloc);
     for item in items {
@@ -96,9 +98,10 @@ fn read_members(
     members: &Map<String, Value>,
     left: u64,
 ) -> Result<BTreeMap<String, Json>, ValueFault>
-    ensures ok { IfOk result (λ m. of_members (data_members_view members.now.entries) ≡ Some (members_view m.entries)) }
+    ensures ok { IfOk result (λ m. of_members (raw.members_view members.now.entries)
+        ≡ Some (members_view m.entries)) }
     ensures low { IfOk result (λ m. members_depth (members_view m.entries) ≤ left) }
-    ensures err { IfErr result (λ f. RefusesMembers left (data_members_view members.now.entries) f) }
+    ensures err { IfErr result (λ f. RefusesMembers left (raw.members_view members.now.entries) f) }
 {
     let mut made = BTreeMap::new(alloc);
     for (key, member) in members.iter() {
@@ -107,14 +110,4 @@ fn read_members(
         put_member(&mut made, name, new)?;
     }
     Ok(made)
-}
-
-fn whole(number: &Number) -> Option<Whole>
-    ensures { result ≡ whole_of (number_view number.now) }
-{
-    let n = number.as_i128()?;
-    if n < -9007199254740991 || n > 9007199254740991 {
-        return None;
-    }
-    Whole::new(n as i64)
 }

@@ -3,7 +3,8 @@ ghost use Rattle.std.specs.Prelude.{◌≡◌, option_map, string_bytes};
 ghost use Rattle.std.specs.Option.{OnSome};
 ghost use Rattle.std.specs.Borrow.{LendsSo, sem};
 ghost use Rattle.sdb_value.specs.Rows.{json_row, list_row, map_row, text_row};
-ghost use Rattle.sdb_value.specs.Value.{text, list, object, as_text, as_list, as_object, item_at, member_at, set_item, set_member};
+ghost use Rattle.sdb_value.specs.Value.{text, list, object, as_text, as_list, as_object};
+ghost use Rattle.sdb_value.specs.Value.{item_at, member_at, set_item, set_member};
 ghost use Rattle.sdb_value.specs.View.{view, items_view, members_view};
 
 use crate::value::Json;
@@ -62,13 +63,13 @@ pub(crate) fn item_mut(items: &mut Vec<Json>, index: u64) -> Option<&mut Json>
 
 pub(crate) fn member_mut<'v>(
     members: &'v mut BTreeMap<String, Json>,
-    key: &String,
+    key: &str,
 ) -> Option<&'v mut Json>
     ensures* writes_back { sem 𝓛 (LendsSo map_row json_row members.entry result
-        (λ n w. OnSome result (members_view n.entries ≡ set_member (string_bytes key.now) (members_view members.old.entries) (view w)))
+        (λ n w. OnSome result
+        (members_view n.entries ≡ set_member key.now (members_view members.old.entries) (view w)))
         (λ n. members_view n.entries ≡ members_view members.old.entries)) }
-    ensures value { option_map (λ v. view v.now) result
-        ≡ member_at (string_bytes key.now) (members_view members.old.entries) }
+    ensures value { option_map (λ v. view v.now) result ≡ member_at key.now (members_view members.old.entries) }
 {
-    members.get_mut(key.as_str())
+    members.get_mut(key)
 }

@@ -3,7 +3,10 @@
 
 mod convert;
 mod copy;
+pub mod laws;
 mod lends;
+mod measures;
+mod numbers;
 mod parts;
 mod places;
 mod print;
@@ -13,6 +16,7 @@ mod writing;
 
 pub use convert::{ValueFault, from_value};
 pub use lends::{list_mut, object_mut, text_mut};
+pub use numbers::{MAX, count_of, whole_of};
 pub use parts::{
     insert_item, insert_text, put_member, remove_item, remove_member, remove_text, replace_item,
 };
@@ -21,6 +25,3 @@ pub use print::to_value;
 pub use text::{cut_at, units};
 pub use value::{Json, Whole};
 pub use writing::write_value;
-
-#[cfg(test)]
-mod tests;

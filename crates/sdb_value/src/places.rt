@@ -41,7 +41,7 @@ pub fn find_mut<'v>(value: &'v mut Json, path: &[Step]) -> Option<&'v mut Json>
     };
     match first {
         Step::Index(index) => find_mut(item_mut(list_mut(value)?, *index)?, rest),
-        Step::Key(key) => find_mut(member_mut(object_mut(value)?, key)?, rest),
+        Step::Key(key) => find_mut(member_mut(object_mut(value)?, key.as_str())?, rest),
     }
 }
 
@@ -55,24 +55,23 @@ fn child<'v>(value: &'v Json, step: &Step) -> Option<&'v Json>
             Step::Key(_) => None,
         },
         Json::Object(members) => match step {
-            Step::Key(key) => member(members, key),
+            Step::Key(key) => member(members, key.as_str()),
             Step::Index(_) => None,
         },
         _ => None,
     }
 }
 
-fn item(items: &Vec<Json>, index: u64) -> Option<&Json>
-    ensures { option_map (λ v. view v.now) result ≡ item_at index (items_view items.now.items) }
+fn item(items: &[Json], index: u64) -> Option<&Json>
+    ensures { option_map (λ v. view v.now) result ≡ item_at index (items_view items.now) }
 {
     items.get(index as usize)
 }
 
-fn member<'v>(members: &'v BTreeMap<String, Json>, key: &String) -> Option<&'v Json>
-    ensures { option_map (λ v. view v.now) result
-        ≡ member_at (string_bytes key.now) (members_view members.now.entries) }
+fn member<'v>(members: &'v BTreeMap<String, Json>, key: &str) -> Option<&'v Json>
+    ensures { option_map (λ v. view v.now) result ≡ member_at key.now (members_view members.now.entries) }
 {
-    members.get(key.as_str())
+    members.get(key)
 }
 
 /// What is done to the value at a place.
@@ -93,8 +92,10 @@ pub trait Change {
 /// `None`, with the value unchanged, where a key is missing, an index is out of range, or a step
 /// meets another kind of value.
 pub fn change_at<C: Change + Drop>(value: &mut Json, path: &[Step], change: C) -> Option<C::Output>
-    ensures { MatchOption result (NothingAt (view value.old) (plain_path path.now) (view value.new))
-        (λ r. ChangedAt (λ u v. C.Change.makes change u v r) (view value.old) (plain_path path.now) (view value.new)) }
+    ensures { MatchOption result
+        (NothingAt (view value.old) (plain_path path.now) (view value.new))
+        (λ r. ChangedAt (λ u v. C.Change.makes change u v r)
+        (view value.old) (plain_path path.now) (view value.new)) }
 {
     let Some((first, rest)) = path.split_first() else {
         return Some(change.change(value));
@@ -107,7 +108,7 @@ pub fn change_at<C: Change + Drop>(value: &mut Json, path: &[Step], change: C) -
         }
         Step::Key(key) => {
             let members = object_mut(value)?;
-            let place = member_mut(members, key)?;
+            let place = member_mut(members, key.as_str())?;
             change_at(place, rest, change)
         }
     }

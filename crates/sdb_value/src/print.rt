@@ -2,7 +2,7 @@
 ghost use Rattle.std.specs.Prelude.{◌≡◌, IfOk};
 ghost use Rattle.sdb_value.specs.Profile.{to_data, to_items, to_members};
 ghost use Rattle.sdb_value.specs.View.{view, items_view, members_view};
-ghost use Rattle.serde_json.specs.View.{view as data_view, items_view as data_items_view, members_view as data_members_view};
+ghost use Rattle.serde_json.specs.View as raw;
 
 use crate::value::Json;
 use serde_json::{Map, Number, Value};
@@ -12,14 +12,14 @@ use std::collections::BTreeMap;
 /// The JSON value that a value is, its members in the order of their keys' bytes. Fails only where
 /// memory is wanting.
 pub fn to_value(alloc: Global, json: &Json) -> Result<Value, AllocError>
-    ensures { IfOk result (λ v. data_view v ≡ to_data (view json.now)) }
+    ensures { IfOk result (λ v. raw.view v ≡ to_data (view json.now)) }
 {
     write(alloc, json)
 }
 
 #[cycle(write)]
 fn write(alloc: Global, json: &Json) -> Result<Value, AllocError>
-    ensures { IfOk result (λ v. data_view v ≡ to_data (view json.now)) }
+    ensures { IfOk result (λ v. raw.view v ≡ to_data (view json.now)) }
 {
     match json {
         Json::Null => Ok(Value::Null),
@@ -32,8 +32,8 @@ fn write(alloc: Global, json: &Json) -> Result<Value, AllocError>
 }
 
 #[cycle(write)]
-fn write_items(alloc: Global, items: &Vec<Json>) -> Result<Vec<Value>, AllocError>
-    ensures { IfOk result (λ v. data_items_view v.items ≡ to_items (items_view items.now.items)) }
+fn write_items(alloc: Global, items: &[Json]) -> Result<Vec<Value>, AllocError>
+    ensures { IfOk result (λ v. raw.items_view v.items ≡ to_items (items_view items.now)) }
 {
     let mut made = Vec::new(alloc);
     for item in items {
@@ -47,7 +47,7 @@ fn write_members(
     alloc: Global,
     members: &BTreeMap<String, Json>,
 ) -> Result<Map<String, Value>, AllocError>
-    ensures { IfOk result (λ m. data_members_view m.entries ≡ to_members (members_view members.now.entries)) }
+    ensures { IfOk result (λ m. raw.members_view m.entries ≡ to_members (members_view members.now.entries)) }
 {
     let mut made = BTreeMap::new(alloc);
     for (key, member) in members.iter() {

@@ -1,5 +1,8 @@
 //! Texts measured in UTF-16 units.
-ghost use Rattle.std.specs.Prelude.{◌≡◌, ◌+◌, ◌*◌, ◌≤◌, length, drop, take, IfSome, option_map};
+ghost use Rattle.std.specs.Prelude.{◌≡◌, ◌+◌, ◌*◌, ◌≤◌, ℕ, List, length, drop, IfSome, option_map};
+ghost use Rattle.std.specs.Char.Escape.{encode_utf16};
+ghost use Rattle.std.specs.List.{flat_map};
+ghost use Rattle.std.specs.Str.{encode_utf8_all};
 ghost use Rattle.std.specs.String.Boundary.{IsSplitPoint};
 ghost use Rattle.sdb_value.specs.Text.{width, units, cut_at};
 
@@ -7,9 +10,11 @@ ghost use Rattle.sdb_value.specs.Text.{width, units, cut_at};
 // over them runs on many bytes at a time.
 const CHUNK: usize = 4096;
 
-/// How many UTF-16 units the text has: 1 for a character, 2 for one past U+FFFF.
+/// How many UTF-16 units the text has: 1 for a character, 2 for one past U+FFFF. They are as many as
+/// its characters are encoded in.
 pub fn units(text: &str) -> u64
-    ensures { result ≡ units text.now }
+    ensures value { result ≡ units text.now }
+    ensures encoded { (cs : List ℕ) → encode_utf8_all cs ≡ text.now → result ≡ length (flat_map encode_utf16 cs) }
 {
     let bytes = text.as_bytes();
     let mut start = 0;
@@ -50,7 +55,8 @@ fn units_in(chunk: &[u8]) -> u64
 // and what is left then.
 fn skip(bytes: &[u8], offset: u64) -> (usize, u64)
     ensures within { result.0 ≤ length bytes.now }
-    ensures same { cut_at bytes.now offset ≡ option_map (λ i. result.0 + i) (cut_at (drop result.0 bytes.now) result.1) }
+    ensures same { cut_at bytes.now offset
+        ≡ option_map (λ i. result.0 + i) (cut_at (drop result.0 bytes.now) result.1) }
 {
     let mut start = 0;
     let mut left = offset;

@@ -1,7 +1,14 @@
 //! What a document holds.
-ghost use Rattle.std.specs.Prelude.{◌≡◌, ◌+ℤ◌};
+ghost use Rattle.std.specs.Prelude.{◌≡◌, ◌+ℤ◌, IfOk, min};
 ghost use Rattle.sdb_value.specs.Profile.{in_range};
+ghost use Rattle.sdb_value.specs.Size.{size};
+ghost use Rattle.sdb_value.specs.Value.{depth};
+ghost use Rattle.sdb_value.specs.View.{view};
 
+use crate::copy::copy;
+use crate::measures::{depth_of, size_of};
+use crate::numbers::MAX;
+use std::alloc::{AllocError, Global};
 use std::collections::BTreeMap;
 use std::marker::Model;
 
@@ -26,7 +33,7 @@ impl Model for Whole {
 
 impl Whole {
     /// The greatest, 9007199254740991. The least is `-Whole::MAX`.
-    pub const MAX: i64 = 9007199254740991;
+    pub const MAX: i64 = MAX as i64;
 
     /// The whole number of this value, or `None` where it is below -9007199254740991 or above
     /// 9007199254740991.
@@ -69,4 +76,29 @@ pub enum Json {
     List(Vec<Json>),
     /// An object, its members in the order of their keys' bytes.
     Object(BTreeMap<String, Json>),
+}
+
+impl Json {
+    /// The same value again, in memory of its own. Fails only where memory is wanting.
+    pub fn try_clone(&self, alloc: Global) -> Result<Json, AllocError>
+        ensures { IfOk result (λ v. view v ≡ view self.now) }
+    {
+        copy(alloc, self)
+    }
+
+    /// How deep lists and objects nest: 0 for a value that is neither, and for a list or an object
+    /// one more than the deepest value in it. `u64::MAX` where that is more.
+    pub fn depth(&self) -> u64
+        ensures { result ≡ min (depth (view self.now)) 18446744073709551615 }
+    {
+        depth_of(self)
+    }
+
+    /// How much there is to copy, up to the limit: the number of values in it, itself too, and the
+    /// bytes of its texts and keys. Where that is more, it is the limit, and the rest isn't looked at.
+    pub fn size(&self, limit: u64) -> u64
+        ensures { result ≡ min limit (size (view self.now)) }
+    {
+        size_of(self, limit)
+    }
 }

@@ -40,8 +40,8 @@ fn write(value: &Json, out: &mut Writer) -> Result<(), AllocError>
 }
 
 #[cycle(write)]
-fn write_items(items: &Vec<Json>, out: &mut Writer) -> Result<(), AllocError>
-    ensures tokens { OnOk result (out.new.tokens ≡ out.old.tokens ++ array_rest (to_items (items_view items.now.items))) }
+fn write_items(items: &[Json], out: &mut Writer) -> Result<(), AllocError>
+    ensures tokens { OnOk result (out.new.tokens ≡ out.old.tokens ++ array_rest (to_items (items_view items.now))) }
     ensures before { out.new.before ≡ out.old.before }
 {
     for item in items {
@@ -52,7 +52,8 @@ fn write_items(items: &Vec<Json>, out: &mut Writer) -> Result<(), AllocError>
 
 #[cycle(write)]
 fn write_members(members: &BTreeMap<String, Json>, out: &mut Writer) -> Result<(), AllocError>
-    ensures tokens { OnOk result (out.new.tokens ≡ out.old.tokens ++ object_rest (to_members (members_view members.now.entries))) }
+    ensures tokens { OnOk result (out.new.tokens
+        ≡ out.old.tokens ++ object_rest (to_members (members_view members.now.entries))) }
     ensures before { out.new.before ≡ out.old.before }
 {
     for (key, member) in members.iter() {

@@ -5,8 +5,8 @@ use Rattle.std.specs.Option.{option_map_or, ok_or}
 use Rattle.serde_json.specs.Data.{Data, null}
 use Rattle.serde_json.specs.Find.{get, as_str, as_bool}
 use Rattle.serde_json.specs.Read.{read}
-use Rattle.sdb_value.specs.Profile.{in_profile}
-use Rattle.sdb_component.specs.Reads.{count_of, op_of}
+use Rattle.sdb_value.specs.Profile.{count_of, in_profile}
+use Rattle.sdb_component.specs.Reads.{op_of}
 use Rattle.sdb_oplog.specs.Keys.{PlainKey}
 use Rattle.sdb_oplog.specs.Plain.{PlainContent, create, delete, edit}
 use Rattle.sdb_oplog.specs.Refused.{result_then}

@@ -3,7 +3,7 @@ ghost use Rattle.std.specs.Prelude.{◌≡◌, Ok, IfOk, IfErr, option_map, opti
 ghost use Rattle.std.specs.Option.{ok_or};
 ghost use Rattle.serde_json.specs.View.{view as data_view};
 ghost use Rattle.serde_json.specs.Find.{get};
-ghost use Rattle.sdb_component.specs.Reads.{count_of};
+ghost use Rattle.sdb_value.specs.Profile.{count_of};
 ghost use Rattle.sdb_oplog.specs.Refused.{RefusedBy};
 ghost use Rattle.sdb_oplog.specs.declared.codes.Code.TheVariants.{E1};
 ghost use Rattle.sdb_wire.specs.Wire.{as_name, as_word, count_at, name_at, word_at, present, unless_null, may, said};

@@ -1,6 +1,6 @@
 use Rattle.sdb_value.specs.Value.{remove_item}
 use Rattle.sdb_value.specs.View.{items_view}
-use Rattle.sdb_value.proofs.Steps.{known}
+use Rattle.sdb_value.specs.Law.{known}
 use Rattle.sdb_apply.proofs.Outcomes.{list_edited}
 use Rattle.sdb_apply.proofs.acts.delete.Goals as goal
 

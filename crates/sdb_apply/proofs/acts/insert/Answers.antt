@@ -3,7 +3,7 @@ use Rattle.std.proofs.lemmas.Result.{err_from_is_err_and}
 use Rattle.sdb_value.specs.Edits.{Edits}
 use Rattle.sdb_value.specs.Value.{Value, insert_item}
 use Rattle.sdb_value.specs.View.{view, items_view}
-use Rattle.sdb_value.proofs.Steps.{known}
+use Rattle.sdb_value.specs.Law.{known}
 use Rattle.sdb_apply.proofs.Outcomes.{list_edited, list_stays}
 use Rattle.sdb_apply.proofs.acts.insert.Goals as goal
 

@@ -2,7 +2,7 @@ use Rattle.std.proofs.Common.{subst}
 use Rattle.sdb_value.specs.Edits.{Edits}
 use Rattle.sdb_value.specs.Value.{Value, replace_item}
 use Rattle.sdb_value.specs.View.{view, items_view}
-use Rattle.sdb_value.proofs.Steps.{known}
+use Rattle.sdb_value.specs.Law.{known}
 use Rattle.sdb_apply.proofs.Outcomes.{list_edited}
 use Rattle.sdb_apply.proofs.acts.replace.Goals as goal
 

@@ -1,10 +1,10 @@
-use Rattle.std.proofs.Common.{◌≡◌, ℕ, ◌+◌, ◌<◌, List, length, get_or, take, drop, Some, None, Err, ◌∙◌, ap, sym, subst}
+use Rattle.std.proofs.Common.{◌≡◌, ℕ, zero, suc, ◌+◌, ◌<◌, List, [], ◌∷◌, length, get_or, take, drop, Some, None, Err, ◌∙◌, ap, sym, subst, arith}
 use Rattle.std.proofs.lemmas.List.{take-append-drop}
 use Rattle.sdb_value.specs.Value.{Value}
 use Rattle.sdb_value.specs.View.{view}
 use Rattle.sdb_component.specs.Plain.{PlainComponent}
 use Rattle.sdb_apply.specs.Does.{does, applies}
-use Rattle.sdb_apply.specs.Outcome.{Outcome, takes_memory}
+use Rattle.sdb_apply.specs.Outcome.{Outcome, takes_memory, takes_memory_at}
 use Rattle.sdb_apply.specs.declared.applying.ApplyFault.{ApplyFault}
 use Rattle.sdb_apply.proofs.Lists.{more_taken, none_more}
 use Rattle.sdb_apply.proofs.applying.apply.Goals as goal
@@ -31,3 +31,15 @@ returns-in-Err-clause-refused c =
 
 pub returns-in-Err-clause-none : goal.returns-in-Err-clause-none
 returns-in-Err-clause-none c = λ no. front_none c.args.op.now (c.loop-at.at + 1) (view c.args.value.now) (returns-in-Err-clause-refused c no)
+
+-- the component at i of what is read is the one that takes memory
+at_is : (s : List PlainComponent) (i : ℕ) (c : PlainComponent) → i < length s → c ≡ get_or s i c → takes_memory_at i s ≡ takes_memory c.act
+at_is [] i c h is = absurd (omega arith)
+at_is (x ∷ s) zero c h is = ap (λ y. takes_memory y.act) (sym is)
+at_is (x ∷ s) (suc i) c h is = at_is s i c (omega arith) is
+
+pub returns-in-Err-clause-memory : goal.returns-in-Err-clause-memory
+returns-in-Err-clause-memory c =
+    let one = c.component-item.result in
+    let Says : ApplyFault → Type 0 = λ f. Outcome (takes_memory one.act) (Err f) (does one (view c.loop-at.value)) (view c.loop-at.value) (view c.act_at.new.value) in
+    λ wants. ap (takes_memory_at c.loop-at.at) (sym c.components-component-items.ensures) ∙ at_is _ c.loop-at.at one c.loop-at-test.true c.component-item.is ∙ (subst Says wants c.in-Err.ensures).0

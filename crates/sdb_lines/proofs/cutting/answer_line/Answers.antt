@@ -3,12 +3,12 @@ use Rattle.sdb_lines.specs.Lines.{reading_of}
 use Rattle.sdb_lines.proofs.Pieces.{reading-good, reading-bad}
 use Rattle.sdb_lines.proofs.cutting.answer_line.Goals as goal
 
-pub returns-in-Ok-clause-output : goal.returns-in-Ok-clause-output
-returns-in-Ok-clause-output g c =
+pub returns-in-Ok-clause-answer : goal.returns-in-Ok-clause-answer
+returns-in-Ok-clause-answer g c =
     let line = c.args.line.now in
     let short : length line ≤ 1048576 = omega arith in
     let e : reading_of line ≡ Some c.in-Ok.text.now = reading-good line short c.in-Ok.ensures.cases.1 ∙ ap Some (sym c.in-Ok.ensures.cases.0) in
-    simp e c.reply.ensures.output
+    simp e c.reply.ensures.answer
 
 pub returns-in-Ok-clause-step : goal.returns-in-Ok-clause-step
 returns-in-Ok-clause-step g c =
@@ -17,8 +17,8 @@ returns-in-Ok-clause-step g c =
     let e : reading_of line ≡ Some c.in-Ok.text.now = reading-good line short c.in-Ok.ensures.cases.1 ∙ ap Some (sym c.in-Ok.ensures.cases.0) in
     simp e c.reply.ensures.step
 
-pub returns-in_ok-reply_unreadable-in-Err-clause-output : goal.returns-in_ok-reply_unreadable-in-Err-clause-output
-returns-in_ok-reply_unreadable-in-Err-clause-output g c =
+pub returns-in_ok-reply_unreadable-in-Err-clause-answer : goal.returns-in_ok-reply_unreadable-in-Err-clause-answer
+returns-in_ok-reply_unreadable-in-Err-clause-answer g c =
     let line = c.args.line.now in
     let short : length line ≤ 1048576 = omega arith in
     let e : reading_of line ≡ None = reading-bad line short c.in-Err.ensures.cases.0 in

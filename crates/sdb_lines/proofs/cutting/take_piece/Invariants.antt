@@ -1,20 +1,20 @@
-use Rattle.std.proofs.Common.{◌≡◌, ℕ, ◌+◌, ◌≤◌, ◌++◌, List, length, vec_len}
-use Rattle.sdb_lines.specs.Told.{Wrote}
-use Rattle.sdb_lines.specs.Lines.{readings_from}
+use Rattle.std.proofs.Common.{◌≡◌, ◌+◌, ◌≤◌, ◌++◌, List, ℕ, length}
+use Rattle.std.specs.declared.option.Option.{Option}
+use Rattle.sdb_lines.specs.Pieces.{ended_in, unended_in}
 use Rattle.sdb_lines.specs.Counting.{counted}
+use Rattle.sdb_lines.specs.Runs.{AnswersBut}
 use Rattle.sdb_lines.proofs.cutting.take_piece.Given as goal
 
 abbrev pub invariant-loop-at : goal.invariant-loop-at
 invariant-loop-at g l = record {
-  bound : vec_len l.pending.held ≤ 1048577;
   room : l.pending.counts.lines + length l.rest ≤ l.initial.pending.counts.lines + length l.initial.rest;
-  ordered : l.pending.counts.steps ≤ l.pending.counts.lines;
-  wrote : Wrote (g.W.Sink.contents l.initial.writer) (g.W.Sink.contents l.writer)
-      (λ rest. l.initial.pending.out.items ++ g.M.Replier.output l.initial.machine (readings_from (l.initial.rest ++ rest) l.initial.pending.held.items))
-      (λ rest. l.pending.out.items ++ g.M.Replier.output l.machine (readings_from (l.rest ++ rest) l.pending.held.items));
   unfailed : g.W.Sink.has_failed l.writer ≡ g.W.Sink.has_failed l.initial.writer;
-  counted : (tail : List ℕ) → counted g.M.Replier.is_step l.initial.pending.counts (readings_from (l.initial.rest ++ tail) l.initial.pending.held.items)
-      ≡ counted g.M.Replier.is_step l.pending.counts (readings_from (l.rest ++ tail) l.pending.held.items);
+  unended : unended_in l.initial.rest l.initial.pending.held.items ≡ unended_in l.rest l.pending.held.items;
+  taken : (lines : List (Option (List ℕ)))
+      × (ended_in l.initial.rest l.initial.pending.held.items ≡ lines ++ ended_in l.rest l.pending.held.items)
+      × (l.pending.counts ≡ counted g.M.Replier.is_step l.initial.pending.counts lines)
+      × AnswersBut g.M.Replier.takes l.pending.out.items l.initial.machine lines l.machine
+      l.initial.pending.out.items (g.W.Sink.contents l.initial.writer) (g.W.Sink.contents l.writer);
 }
 
 abbrev pub decreases-loop-at : goal.decreases-loop-at

@@ -1,6 +1,7 @@
 use Rattle.std.proofs.Common.{arith, ◌∙◌}
 use Rattle.std.proofs.lemmas.Bool.{ne_eqb}
-use Rattle.sdb_lines.proofs.Writes.{put-more, front-taken, Appends-kept}
+use Rattle.sdb_lines.proofs.Writing.{put-more, front-taken}
+use Rattle.sdb_lines.proofs.Runs.{Appends-kept}
 use Rattle.sdb_lines.proofs.cutting.write_out.Goals as goal
 
 pub returns-in-Ok-eq0-clause-front : goal.returns-in-Ok-eq0-clause-front

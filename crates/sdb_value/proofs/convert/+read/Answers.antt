@@ -17,7 +17,7 @@ use Rattle.sdb_value.proofs.convert.+read.Goals as goal
 
 pub read_items-loop-item-preserved : goal.read_items-loop-item-preserved
 read_items-loop-item-preserved t c =
-    let s = c.deref-item-items.result.now in let i = c.loop-item.item-index in let x = c.item-item.result in
+    let s = c.args.items.now in let i = c.loop-item.item-index in let x = c.item-item.result in
     let inside : i < length s = c.loop-item-test.true in
     let cut : data-view.items_view (drop i s) ≡ raw.item (data-view.view x) (data-view.items_view (drop (i + 1) s)) =
     ap data-view.items_view (drop_more s i x inside) ∙ ap (λ y. raw.item (data-view.view y) (data-view.items_view (drop (i + 1) s))) (sym c.item-item.is) in
@@ -31,8 +31,8 @@ read_items-loop-item-preserved t c =
 
 pub read_items-returns-clause-ok : goal.read_items-returns-clause-ok
 read_items-returns-clause-ok t c =
-    let s = c.deref-item-items.result.now in
-    rw (← c.deref-item-items.ensures.value) (read_all c.loop-item.done.items (data-view.items_view s) (c.loop-item.invariant.reads ∙ rw (drop_all c.loop-item.item-index s c.loop-item-test.false) refl))
+    let s = c.args.items.now in
+    read_all c.loop-item.done.items (data-view.items_view s) (c.loop-item.invariant.reads ∙ rw (drop_all c.loop-item.item-index s c.loop-item-test.false) refl)
 
 refused_below : (done : List Entry) (e : Entry) (more : List Entry) (n : ℕ) (f : ValueFault) → Refuses n (data-view.view e.1) f → RefusesMembers n (data-view.members_view (done ++ e ∷ more)) f
 refused_below done e more n Number h = member_none done e more h

@@ -9,9 +9,9 @@ use Rattle.sdb_value.proofs.convert.+read.Given as goal
 
 abbrev pub invariant-read_items-loop-item : goal.invariant-read_items-loop-item
 invariant-read_items-loop-item l = record {
-  reads : of_items (data-view.items_view l.item-items) ≡ option_map (join (items_view l.done.items)) (of_items (data-view.items_view (drop l.item-index l.item-items)));
+  reads : of_items (data-view.items_view l.items) ≡ option_map (join (items_view l.done.items)) (of_items (data-view.items_view (drop l.item-index l.items)));
   low : items_depth (items_view l.done.items) ≤ l.left;
-  rest : raw.items_depth (data-view.items_view (drop l.item-index l.item-items)) ≤ raw.items_depth (data-view.items_view l.item-items);
+  rest : raw.items_depth (data-view.items_view (drop l.item-index l.items)) ≤ raw.items_depth (data-view.items_view l.items);
 }
 
 abbrev pub invariant-read_members-loop-key : goal.invariant-read_members-loop-key

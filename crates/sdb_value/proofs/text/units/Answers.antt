@@ -1,6 +1,7 @@
-use Rattle.std.proofs.Common.{◌+◌, ◌-◌, drop, ap, arith, length-take}
+use Rattle.std.proofs.Common.{◌≡◌, ◌+◌, ◌-◌, drop, ap, sym, ◌∙◌, arith, length-take}
 use Rattle.sdb_value.specs.Text.{units}
 use Rattle.sdb_value.proofs.Cuts.{units_more, units_all}
+use Rattle.sdb_value.proofs.Encoded.{encoded}
 use Rattle.sdb_value.proofs.text.units.Goals as goal
 
 pub loop-start-preserved : goal.loop-start-preserved
@@ -21,4 +22,8 @@ returns c =
     let bytes = c.as_bytes-bytes.result.now in
     let all = units_all c.loop-start.start bytes c.loop-start.invariant.within in
     let same = ap units c.as_bytes-bytes.ensures.value in
-    omega (arith, all, same, c.loop-start.invariant.counted, c.units_in.ensures.value)
+    let value : c.loop-start.count + c.units_in.result ≡ units c.args.text.now = omega (arith, all, same, c.loop-start.invariant.counted, c.units_in.ensures.value) in
+    record {
+      value = value;
+      encoded = λ cs e. value ∙ sym (ap units e) ∙ encoded cs;
+    }

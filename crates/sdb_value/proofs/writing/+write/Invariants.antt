@@ -8,7 +8,7 @@ use Rattle.sdb_value.proofs.writing.+write.Given as goal
 abbrev pub invariant-write_items-loop-item : goal.invariant-write_items-loop-item
 invariant-write_items-loop-item l = record {
   before : l.out.before ≡ l.initial.out.before;
-  whole : l.out.tokens ++ array_rest (to_items (items_view (drop l.item-index l.item-items))) ≡ l.initial.out.tokens ++ array_rest (to_items (items_view l.item-items));
+  whole : l.out.tokens ++ array_rest (to_items (items_view (drop l.item-index l.items))) ≡ l.initial.out.tokens ++ array_rest (to_items (items_view l.items));
 }
 
 abbrev pub invariant-write_members-loop-key : goal.invariant-write_members-loop-key

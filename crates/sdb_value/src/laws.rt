@@ -1,0 +1,55 @@
+//! What holds of every value, proved of all that a `Json` can be. The functions do nothing.
+ghost use Rattle.std.specs.Str.{IsUtf8};
+ghost use Rattle.sdb_value.specs.View.{view, items_view, members_view};
+ghost use Rattle.sdb_value.specs.WellFormed.{IsInRange, IsWellFormed, AreWellFormed, MembersWellFormed};
+
+use crate::value::{Json, Whole};
+use std::collections::BTreeMap;
+
+/// The numbers of a value are in range, its texts and keys UTF-8, and the keys of each object in it
+/// ascend by their bytes, so that each is there once.
+pub fn well_formed(value: &Json)
+    ensures { IsWellFormed (view value.now) }
+{
+    all_well_formed(value);
+}
+
+#[cycle(well_formed)]
+fn all_well_formed(value: &Json)
+    ensures { IsWellFormed (view value.now) }
+{
+    match value {
+        Json::Int(number) => in_range(*number),
+        Json::Text(text) => is_text(text.as_str()),
+        Json::List(items) => items_well_formed(items),
+        Json::Object(members) => members_well_formed(members),
+        _ => {}
+    }
+}
+
+#[cycle(well_formed)]
+fn items_well_formed(items: &[Json])
+    ensures { AreWellFormed (items_view items.now) }
+{
+    for item in items {
+        all_well_formed(item);
+    }
+}
+
+#[cycle(well_formed)]
+fn members_well_formed(members: &BTreeMap<String, Json>)
+    ensures { MembersWellFormed (members_view members.now.entries) }
+{
+    for (key, member) in members.iter() {
+        is_text(key.as_str());
+        all_well_formed(member);
+    }
+}
+
+fn in_range(_number: Whole)
+    ensures { IsInRange _number }
+{}
+
+fn is_text(_text: &str)
+    ensures { IsUtf8 _text.now }
+{}

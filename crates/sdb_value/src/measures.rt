@@ -1,0 +1,85 @@
+//! How deep a value nests, and how much there is of it.
+ghost use Rattle.std.specs.Prelude.{◌≡◌, min};
+ghost use Rattle.sdb_value.specs.Size.{size, items_size, members_size};
+ghost use Rattle.sdb_value.specs.Value.{depth, items_depth, members_depth};
+ghost use Rattle.sdb_value.specs.View.{view, items_view, members_view};
+
+use crate::value::Json;
+use std::collections::BTreeMap;
+
+#[cycle(depths)]
+pub(crate) fn depth_of(value: &Json) -> u64
+    ensures { result ≡ min (depth (view value.now)) 18446744073709551615 }
+{
+    match value {
+        Json::List(items) => items_deep(items).saturating_add(1),
+        Json::Object(members) => members_deep(members).saturating_add(1),
+        _ => 0,
+    }
+}
+
+#[cycle(depths)]
+fn items_deep(items: &[Json]) -> u64
+    ensures { result ≡ min (items_depth (items_view items.now)) 18446744073709551615 }
+{
+    let mut deepest = 0;
+    for item in items {
+        deepest = depth_of(item).max(deepest);
+    }
+    deepest
+}
+
+#[cycle(depths)]
+fn members_deep(members: &BTreeMap<String, Json>) -> u64
+    ensures { result ≡ min (members_depth (members_view members.now.entries)) 18446744073709551615 }
+{
+    let mut deepest = 0;
+    for (_key, member) in members.iter() {
+        deepest = depth_of(member).max(deepest);
+    }
+    deepest
+}
+
+#[cycle(sizes)]
+pub(crate) fn size_of(value: &Json, limit: u64) -> u64
+    ensures { result ≡ min limit (size (view value.now)) }
+{
+    if limit == 0 {
+        return 0;
+    }
+    match value {
+        Json::Text(text) => (text.len() as u64).min(limit - 1) + 1,
+        Json::List(items) => items_size(items, limit - 1) + 1,
+        Json::Object(members) => members_size(members, limit - 1) + 1,
+        _ => 1,
+    }
+}
+
+#[cycle(sizes)]
+fn items_size(items: &[Json], limit: u64) -> u64
+    ensures { result ≡ min limit (items_size (items_view items.now)) }
+{
+    let mut left = limit;
+    for item in items {
+        if left == 0 {
+            return limit;
+        }
+        left -= size_of(item, left);
+    }
+    limit - left
+}
+
+#[cycle(sizes)]
+fn members_size(members: &BTreeMap<String, Json>, limit: u64) -> u64
+    ensures { result ≡ min limit (members_size (members_view members.now.entries)) }
+{
+    let mut left = limit;
+    for (key, member) in members.iter() {
+        if left == 0 {
+            return limit;
+        }
+        left -= (key.len() as u64).min(left);
+        left -= size_of(member, left);
+    }
+    limit - left
+}
