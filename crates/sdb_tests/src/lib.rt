@@ -7,4 +7,6 @@ mod apply;
 #[cfg(test)]
 mod component;
 #[cfg(test)]
+mod transform;
+#[cfg(test)]
 mod value;
