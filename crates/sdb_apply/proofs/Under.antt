@@ -11,7 +11,7 @@ use Rattle.sdb_apply.proofs.Lists.{one_more, none_more}
 use Rattle.sdb_value.specs.Value.{Value, PlainStep, at, with}
 use Rattle.sdb_value.specs.Change.{ChangedAt, NothingAt}
 use Rattle.sdb_value.specs.Places.{at_behind, with_behind, at_written, with_again}
-use Rattle.sdb_value.proofs.Steps.{with_same}
+use Rattle.sdb_value.specs.Law.{with_same}
 use Rattle.sdb_component.specs.Plain.{PlainComponent}
 use Rattle.sdb_apply.specs.Does.{effect, does, applies}
 use Rattle.sdb_apply.specs.Outcome.{Outcome}

@@ -2,6 +2,7 @@ pub mod Coding
 pub mod Plain
 pub mod Prints
 pub mod Reads
+pub mod Size
 pub mod View
 pub mod Weighs
 pub mod Worked

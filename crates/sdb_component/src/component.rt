@@ -1,9 +1,11 @@
 //! Components.
-ghost use Rattle.std.specs.Prelude.{◌≡◌, IfOk};
+ghost use Rattle.std.specs.Prelude.{◌≡◌, IfOk, min};
 ghost use Rattle.sdb_value.specs.View.{plain_path};
+ghost use Rattle.sdb_component.specs.Size.{component_size};
 ghost use Rattle.sdb_component.specs.View.{plain_act};
 
 use crate::copies::copy_path;
+use crate::measures::{size_of_act, size_of_path};
 use crate::piece::Piece;
 use sdb_value::{Json, Step, Whole};
 use std::alloc::{AllocError, Global};
@@ -114,5 +116,15 @@ impl Component {
         let path = copy_path(alloc, self.path())?;
         let act = self.act().try_clone(alloc)?;
         Ok(Component::new(path, act))
+    }
+
+    /// How much there is to copy, up to the limit: the steps of its path, the bytes of its keys and
+    /// texts, and the sizes of its values ([`Json::size`]). Where that is more, it is the limit, and
+    /// the rest isn't looked at.
+    pub fn size(&self, limit: u64) -> u64
+        ensures { result ≡ min limit (component_size self.now) }
+    {
+        let of_path = size_of_path(self.path(), limit);
+        of_path + size_of_act(self.act(), limit - of_path)
     }
 }

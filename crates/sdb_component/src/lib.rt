@@ -5,6 +5,7 @@
 mod component;
 mod copies;
 mod lists;
+mod measures;
 mod members;
 mod operation;
 mod paths;

@@ -233,3 +233,33 @@ fn faults_are_named(rt: HostRuntime) -> Result<(), Fail> {
     }
     Ok(())
 }
+
+// Operations of one component, and how much there is to copy of it.
+const SIZES: [(&str, u64); 9] = [
+    (r#"[{"na":-3,"p":["ab",0]}]"#, 4),
+    (r#"[{"p":["a",7],"si":"aé😀"}]"#, 9),
+    (r#"[{"p":[8],"sd":"x😀"}]"#, 5),
+    (r#"[{"li":[1,[]],"p":[2]}]"#, 3),
+    (r#"[{"ld":"abc","p":[3]}]"#, 4),
+    (r#"[{"ld":"abc","li":{"k":0},"p":[4]}]"#, 7),
+    (r#"[{"oi":null,"p":["abc"]}]"#, 4),
+    (r#"[{"od":"","p":[0,"abc"]}]"#, 5),
+    (r#"[{"od":"a","oi":[0],"p":["abc"]}]"#, 7),
+];
+
+#[test]
+fn sizes_are_counted_up_to_a_limit(rt: HostRuntime) -> Result<(), Fail> {
+    for (text, want) in SIZES {
+        let op = read_op(rt.alloc(), &Value::from_str(rt.alloc(), text)?)?;
+        for component in op.components() {
+            for limit in [0, 1, 2, 3, 4, 5, 6, 7, 8, 9, 10, 18446744073709551615] {
+                assert_eq!(rt;
+                    component.size(limit),
+                    limit.min(want),
+                    "{text} up to {limit}"
+                );
+            }
+        }
+    }
+    Ok(())
+}

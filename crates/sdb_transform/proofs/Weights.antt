@@ -219,8 +219,8 @@ above_light : (c o : PlainComponent) (r : Option (List PlainStep)) → weight (a
 above_light c o None = omega arith
 above_light c o (Some rest) = let u = updated_weight (updated (at_path rest o.act)) c.act in omega (arith, u)
 
-all_light : (side : Side) (c o : PlainComponent) (b : Option (List PlainStep)) → AreLight (weigh c) (option_map_or (below side c o) b (Some (above c o (under_removed c o))))
-all_light side c o None = above_light c o (under_removed c o)
+all_light : (side : Side) (c o : PlainComponent) (b : Option (List PlainStep)) → AreLight (weigh c) (option_map_or (below side c o) b (Some (above c o (under_removed c o.path))))
+all_light side c o None = above_light c o (under_removed c o.path)
 all_light side c o (Some rest) = below_light side c o rest
 
 some_light : (n : ℕ) (r : Option (List PlainComponent)) (cs : List PlainComponent) → AreLight n r → r ≡ Some cs → weight cs ≤ n

@@ -227,9 +227,9 @@ with_removed f (od k x) = od k (f x)
 with_removed f (or k x y) = or k (f x) y
 with_removed f a = a
 
--- what of o's path lies behind c's container path followed by c's last step: under the value that c removes
-abbrev pub under_removed : PlainComponent → PlainComponent → Option (List PlainStep)
-under_removed c o = option_and_then (λ s. option_and_then (behind (s ∷ [])) (behind c.path o.path)) (removes c.act)
+-- what of the path lies behind c's container path followed by c's last step: under the value that c removes
+abbrev pub under_removed : PlainComponent → List PlainStep → Option (List PlainStep)
+under_removed c path = option_and_then (λ s. option_and_then (behind (s ∷ [])) (behind c.path path)) (removes c.act)
 
 -- ---- all cases
 
@@ -255,4 +255,4 @@ above c o (Some rest) = at_path c.path (with_removed (updated (at_path rest o.ac
 
 -- `Transform`: the components that stand for c after o
 abbrev pub transform : Side → PlainComponent → PlainComponent → Result
-transform side c o = option_map_or (below side c o) (behind o.path c.path) (Some (above c o (under_removed c o)))
+transform side c o = option_map_or (below side c o) (behind o.path c.path) (Some (above c o (under_removed c o.path)))

@@ -2,6 +2,7 @@
 //! `cross` and `transform` for two operations, and the laws that hold of them.
 #![tactic(auto)]
 
+mod components;
 mod crossing;
 pub mod laws;
 mod lists;
@@ -16,6 +17,3 @@ mod turns;
 pub use crossing::{Crossed, cross, transform};
 pub use side::{Fault, Side};
 pub use transforming::transform_one;
-
-#[cfg(test)]
-mod tests;

@@ -5,22 +5,22 @@ ghost use Rattle.sdb_value.specs.View.{view};
 ghost use Rattle.sdb_transform.specs.Acts.{Answers};
 ghost use Rattle.sdb_transform.specs.Transform.{li_over, ld_over, lr_over, li_over_li, lr_over_lr};
 
-use crate::side::{Fault, Few, MAX, Side};
+use crate::side::{Fault, Remaining, Side};
 use sdb_component::Act;
-use sdb_value::Json;
+use sdb_value::{Json, MAX};
 use std::alloc::Global;
 
-pub(crate) fn insert_past(j: u64, v: Json, over: &Act, side: Side) -> Result<Few, Fault>
+pub(crate) fn insert_past(j: u64, v: Json, over: &Act, side: Side) -> Result<Remaining, Fault>
     ensures { Answers result (li_over side j (view v) (plain_act over.now)) }
 {
     match over {
         Act::Li(i, _) => insert_past_insert(j, v, *i, side),
-        Act::Ld(i, _) => Ok(Few::One(Act::Li(if *i < j { j - 1 } else { j }, v))),
-        _ => Ok(Few::One(Act::Li(j, v))),
+        Act::Ld(i, _) => Ok(Remaining::One(Act::Li(if *i < j { j - 1 } else { j }, v))),
+        _ => Ok(Remaining::One(Act::Li(j, v))),
     }
 }
 
-fn insert_past_insert(j: u64, v: Json, i: u64, side: Side) -> Result<Few, Fault>
+fn insert_past_insert(j: u64, v: Json, i: u64, side: Side) -> Result<Remaining, Fault>
     ensures { Answers result (li_over_li side j (view v) i) }
 {
     let moves = match side {
@@ -28,40 +28,40 @@ fn insert_past_insert(j: u64, v: Json, i: u64, side: Side) -> Result<Few, Fault>
         Side::Right => i <= j,
     };
     if !moves {
-        return Ok(Few::One(Act::Li(j, v)));
+        return Ok(Remaining::One(Act::Li(j, v)));
     }
     match next(j) {
-        Some(at) => Ok(Few::One(Act::Li(at, v))),
+        Some(at) => Ok(Remaining::One(Act::Li(at, v))),
         None => Err(Fault::NotTransformed),
     }
 }
 
-pub(crate) fn delete_past(j: u64, x: Json, over: &Act) -> Result<Few, Fault>
+pub(crate) fn delete_past(j: u64, x: Json, over: &Act) -> Result<Remaining, Fault>
     ensures { Answers result (ld_over j (view x) (plain_act over.now)) }
 {
     match over {
         Act::Li(i, _) => {
             if *i > j {
-                return Ok(Few::One(Act::Ld(j, x)));
+                return Ok(Remaining::One(Act::Ld(j, x)));
             }
             match next(j) {
-                Some(at) => Ok(Few::One(Act::Ld(at, x))),
+                Some(at) => Ok(Remaining::One(Act::Ld(at, x))),
                 None => Err(Fault::NotTransformed),
             }
         }
         Act::Ld(i, _) => Ok(if *i < j {
-            Few::One(Act::Ld(j - 1, x))
+            Remaining::One(Act::Ld(j - 1, x))
         } else if *i == j {
-            Few::Dropped
+            Remaining::Dropped
         } else {
-            Few::One(Act::Ld(j, x))
+            Remaining::One(Act::Ld(j, x))
         }),
         Act::Lr(i, _, _) => Ok(if *i == j {
-            Few::Dropped
+            Remaining::Dropped
         } else {
-            Few::One(Act::Ld(j, x))
+            Remaining::One(Act::Ld(j, x))
         }),
-        _ => Ok(Few::One(Act::Ld(j, x))),
+        _ => Ok(Remaining::One(Act::Ld(j, x))),
     }
 }
 
@@ -72,20 +72,20 @@ pub(crate) fn replace_past(
     z: Json,
     over: &Act,
     side: Side,
-) -> Result<Few, Fault>
+) -> Result<Remaining, Fault>
     ensures { Answers result (lr_over side j (view w) (view z) (plain_act over.now)) }
 {
     match over {
         Act::Li(i, _) => {
             if *i > j {
-                return Ok(Few::One(Act::Lr(j, w, z)));
+                return Ok(Remaining::One(Act::Lr(j, w, z)));
             }
             match next(j) {
-                Some(at) => Ok(Few::One(Act::Lr(at, w, z))),
+                Some(at) => Ok(Remaining::One(Act::Lr(at, w, z))),
                 None => Err(Fault::NotTransformed),
             }
         }
-        Act::Ld(i, _) => Ok(Few::One(if *i < j {
+        Act::Ld(i, _) => Ok(Remaining::One(if *i < j {
             Act::Lr(j - 1, w, z)
         } else if *i == j {
             Act::Li(j, z)
@@ -93,7 +93,7 @@ pub(crate) fn replace_past(
             Act::Lr(j, w, z)
         })),
         Act::Lr(i, _, y) => replace_past_replace(alloc, j, w, z, *i, y, side),
-        _ => Ok(Few::One(Act::Lr(j, w, z))),
+        _ => Ok(Remaining::One(Act::Lr(j, w, z))),
     }
 }
 
@@ -105,15 +105,15 @@ fn replace_past_replace(
     i: u64,
     y: &Json,
     side: Side,
-) -> Result<Few, Fault>
+) -> Result<Remaining, Fault>
     ensures { Answers result (lr_over_lr side j (view w) (view z) i (view y.now)) }
 {
     if i != j {
-        return Ok(Few::One(Act::Lr(j, w, z)));
+        return Ok(Remaining::One(Act::Lr(j, w, z)));
     }
     match side {
-        Side::Left => Ok(Few::One(Act::Lr(j, y.try_clone(alloc)?, z))),
-        Side::Right => Ok(Few::Dropped),
+        Side::Left => Ok(Remaining::One(Act::Lr(j, y.try_clone(alloc)?, z))),
+        Side::Right => Ok(Remaining::Dropped),
     }
 }
 

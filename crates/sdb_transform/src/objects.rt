@@ -7,14 +7,14 @@ ghost use Rattle.sdb_transform.specs.Acts.{Answers};
 ghost use Rattle.sdb_transform.specs.Transform.{oi_over, od_over, or_over, left_or, as_it_is, dropped};
 ghost use Rattle.sdb_component.specs.Plain.{or};
 
-use crate::side::{Fault, Few, Side};
+use crate::side::{Fault, Remaining, Side};
 use sdb_component::Act;
 use sdb_value::Json;
 use std::alloc::Global;
 
 // Whether both keys are the same.
-pub(crate) fn same_key(key: &String, other: &String) -> bool
-    ensures { result ≡ same_text (string_bytes key.now) (string_bytes other.now) }
+pub(crate) fn same_key(key: &str, other: &str) -> bool
+    ensures { result ≡ same_text key.now other.now }
 {
     key == other
 }
@@ -25,50 +25,56 @@ pub(crate) fn insert_past(
     z: Json,
     over: &Act,
     side: Side,
-) -> Result<Few, Fault>
+) -> Result<Remaining, Fault>
     ensures { Answers result (oi_over side (string_bytes key) (view z) (plain_act over.now)) }
 {
     match over {
         Act::Oi(other, y) => {
-            if same_key(other, &key) {
+            if same_key(other.as_str(), key.as_str()) {
                 put_past_put(alloc, key, z, y, side)
             } else {
-                Ok(Few::One(Act::Oi(key, z)))
+                Ok(Remaining::One(Act::Oi(key, z)))
             }
         }
         Act::Or(other, _, y) => {
-            if same_key(other, &key) {
+            if same_key(other.as_str(), key.as_str()) {
                 put_past_put(alloc, key, z, y, side)
             } else {
-                Ok(Few::One(Act::Oi(key, z)))
+                Ok(Remaining::One(Act::Oi(key, z)))
             }
         }
-        _ => Ok(Few::One(Act::Oi(key, z))),
+        _ => Ok(Remaining::One(Act::Oi(key, z))),
     }
 }
 
 // Both put a value at the key: the left one replaces the other's.
-fn put_past_put(alloc: Global, key: String, z: Json, y: &Json, side: Side) -> Result<Few, Fault>
+fn put_past_put(
+    alloc: Global,
+    key: String,
+    z: Json,
+    y: &Json,
+    side: Side,
+) -> Result<Remaining, Fault>
     ensures { Answers result (left_or side (as_it_is (or (string_bytes key) (view y.now) (view z))) dropped) }
 {
     match side {
-        Side::Left => Ok(Few::One(Act::Or(key, y.try_clone(alloc)?, z))),
-        Side::Right => Ok(Few::Dropped),
+        Side::Left => Ok(Remaining::One(Act::Or(key, y.try_clone(alloc)?, z))),
+        Side::Right => Ok(Remaining::Dropped),
     }
 }
 
-pub(crate) fn delete_past(key: String, x: Json, over: &Act) -> Result<Few, Fault>
+pub(crate) fn delete_past(key: String, x: Json, over: &Act) -> Result<Remaining, Fault>
     ensures { Answers result (od_over (string_bytes key) (view x) (plain_act over.now)) }
 {
     let meets = match over {
-        Act::Od(other, _) => same_key(other, &key),
-        Act::Or(other, _, _) => same_key(other, &key),
+        Act::Od(other, _) => same_key(other.as_str(), key.as_str()),
+        Act::Or(other, _, _) => same_key(other.as_str(), key.as_str()),
         _ => false,
     };
     Ok(if meets {
-        Few::Dropped
+        Remaining::Dropped
     } else {
-        Few::One(Act::Od(key, x))
+        Remaining::One(Act::Od(key, x))
     })
 }
 
@@ -79,29 +85,29 @@ pub(crate) fn replace_past(
     z: Json,
     over: &Act,
     side: Side,
-) -> Result<Few, Fault>
+) -> Result<Remaining, Fault>
     ensures { Answers result (or_over side (string_bytes key) (view w) (view z) (plain_act over.now)) }
 {
     match over {
         Act::Oi(other, y) => {
-            if same_key(other, &key) {
+            if same_key(other.as_str(), key.as_str()) {
                 put_past_put(alloc, key, z, y, side)
             } else {
-                Ok(Few::One(Act::Or(key, w, z)))
+                Ok(Remaining::One(Act::Or(key, w, z)))
             }
         }
-        Act::Od(other, _) => Ok(Few::One(if same_key(other, &key) {
+        Act::Od(other, _) => Ok(Remaining::One(if same_key(other.as_str(), key.as_str()) {
             Act::Oi(key, z)
         } else {
             Act::Or(key, w, z)
         })),
         Act::Or(other, _, y) => {
-            if same_key(other, &key) {
+            if same_key(other.as_str(), key.as_str()) {
                 put_past_put(alloc, key, z, y, side)
             } else {
-                Ok(Few::One(Act::Or(key, w, z)))
+                Ok(Remaining::One(Act::Or(key, w, z)))
             }
         }
-        _ => Ok(Few::One(Act::Or(key, w, z))),
+        _ => Ok(Remaining::One(Act::Or(key, w, z))),
     }
 }

@@ -1,8 +1,8 @@
 //! Removed values, brought up to date.
-ghost use Rattle.std.specs.Prelude.{◌≡◌, IfOk, IfErr, option_map, option_and_then, ◌∷◌, [], string_bytes};
+ghost use Rattle.std.specs.Prelude.{◌≡◌, IfOk, IfErr, option_map};
 ghost use Rattle.sdb_value.specs.View.{view, plain_step, plain_path};
 ghost use Rattle.sdb_component.specs.View.{plain_act};
-ghost use Rattle.sdb_transform.specs.Transform.{behind, removes, updated, with_removed, at_path, same_step, is_removed};
+ghost use Rattle.sdb_transform.specs.Transform.{under_removed, updated, with_removed, at_path, same_step, is_removed};
 ghost use Rattle.sdb_value.specs.Value.{index, key};
 ghost use Rattle.sdb_transform.specs.declared.side.Fault.TheVariants.{Memory};
 
@@ -21,8 +21,8 @@ fn removes(act: &Act, step: &Step) -> bool
     match act {
         Act::Ld(index, _) => is_index(*index, step),
         Act::Lr(index, _, _) => is_index(*index, step),
-        Act::Od(key, _) => is_key(key, step),
-        Act::Or(key, _, _) => is_key(key, step),
+        Act::Od(key, _) => is_key(key.as_str(), step),
+        Act::Or(key, _, _) => is_key(key.as_str(), step),
         _ => false,
     }
 }
@@ -36,18 +36,19 @@ fn is_index(number: u64, step: &Step) -> bool
     }
 }
 
-fn is_key(name: &String, step: &Step) -> bool
-    ensures { result ≡ same_step (key (string_bytes name.now)) (plain_step step.now) }
+fn is_key(name: &str, step: &Step) -> bool
+    ensures { result ≡ same_step (key name.now) (plain_step step.now) }
 {
     match step {
         Step::Index(_) => false,
-        Step::Key(other) => same_key(name, other),
+        Step::Key(other) => same_key(name, other.as_str()),
     }
 }
 
 // What of the other path lies under the value that the act at this path removes.
 pub(crate) fn under_removed<'p>(path: &[Step], act: &Act, other: &'p [Step]) -> Option<&'p [Step]>
-    ensures { option_map (λ rest. plain_path rest.now) result ≡ option_and_then (λ s. option_and_then (behind (s ∷ [])) (behind (plain_path path.now) (plain_path other.now))) (removes (plain_act act.now)) }
+    ensures { option_map (λ rest. plain_path rest.now) result
+        ≡ under_removed (at_path (plain_path path.now) (plain_act act.now)) (plain_path other.now) }
 {
     match behind(path, other)? {
         [] => None,
@@ -57,7 +58,8 @@ pub(crate) fn under_removed<'p>(path: &[Step], act: &Act, other: &'p [Step]) -> 
 
 // The act with the value that it removes changed at the path.
 pub(crate) fn update(alloc: Global, act: Act, path: &[Step], over: &Act) -> Result<Act, Fault>
-    ensures ok { IfOk result (λ a. plain_act a ≡ with_removed (updated (at_path (plain_path path.now) (plain_act over.now))) (plain_act act)) }
+    ensures ok { IfOk result (λ a. plain_act a
+        ≡ with_removed (updated (at_path (plain_path path.now) (plain_act over.now))) (plain_act act)) }
     ensures err { IfErr result (λ f. f ≡ Memory) }
 {
     match act {
@@ -71,7 +73,8 @@ pub(crate) fn update(alloc: Global, act: Act, path: &[Step], over: &Act) -> Resu
 
 // The value with the act done at the path, where it is accepted there.
 fn updated(alloc: Global, mut value: Json, path: &[Step], over: &Act) -> Result<Json, Fault>
-    ensures ok { IfOk result (λ v. view v ≡ updated (at_path (plain_path path.now) (plain_act over.now)) (view value)) }
+    ensures ok { IfOk result (λ v. view v
+        ≡ updated (at_path (plain_path path.now) (plain_act over.now)) (view value)) }
     ensures err { IfErr result (λ f. f ≡ Memory) }
 {
     match apply_at(alloc, &mut value, path, over) {

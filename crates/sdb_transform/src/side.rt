@@ -46,13 +46,10 @@ impl<T: Drop> From<AllocFailed<T>> for Fault {
     }
 }
 
-// What comes of one act.
+// What remains of one act after another.
 #[derive(Drop)]
-pub(crate) enum Few {
+pub(crate) enum Remaining {
     Dropped,
     One(Act),
     Two(Act, Act),
 }
-
-// The greatest index or offset.
-pub(crate) const MAX: u64 = 9007199254740991;

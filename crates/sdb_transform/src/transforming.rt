@@ -7,9 +7,10 @@ ghost use Rattle.sdb_component.specs.Weighs.{weigh, weight};
 ghost use Rattle.sdb_transform.specs.Acts.{Answers, Transforms, IsFaultOf};
 ghost use Rattle.sdb_transform.specs.Transform.{behind, over, transform, at_path, below};
 
-use crate::paths::{Place, behind, step_over};
+use crate::components::{only, two};
+use crate::paths::{StepAfter, behind, step_over};
 use crate::removed::{under_removed, update};
-use crate::side::{Fault, Few, Side};
+use crate::side::{Fault, Remaining, Side};
 use crate::{lists, objects, texts};
 use sdb_component::{Act, Component, copy_path};
 use sdb_value::Step;
@@ -87,9 +88,9 @@ fn at_container(
     ensures { Transforms result (transform side (at_path (plain_path path.items) (plain_act act)) other.now) }
 {
     match act_over(alloc, act, other.act(), side)? {
-        Few::Dropped => Ok(Vec::new(alloc)),
-        Few::One(act) => one(alloc, path, act),
-        Few::Two(first, second) => {
+        Remaining::Dropped => Ok(Vec::new(alloc)),
+        Remaining::One(act) => one(alloc, path, act),
+        Remaining::Two(first, second) => {
             let copy = copy_path(alloc, path.as_slice())?;
             two(
                 alloc,
@@ -108,25 +109,26 @@ fn stand_below(
     other: &Component,
     side: Side,
 ) -> Result<Vec<Component>, Fault>
-    requires { (s : PlainStep) × (rest : List PlainStep) × (behind other.now.path (plain_path path.items) ≡ Some (s ∷ rest)) }
+    requires { (s : PlainStep) × (rest : List PlainStep)
+        × (behind other.now.path (plain_path path.items) ≡ Some (s ∷ rest)) }
     ensures { Transforms result (transform side (at_path (plain_path path.items) (plain_act act)) other.now) }
 {
     let at = other.path().len();
     match step_over(other.act(), &path[at])? {
-        Place::Stays => one(alloc, path, act),
-        Place::Gone => Ok(Vec::new(alloc)),
-        Place::At(index) => {
+        StepAfter::Stays => one(alloc, path, act),
+        StepAfter::Gone => Ok(Vec::new(alloc)),
+        StepAfter::At(index) => {
             path[at] = Step::Index(index);
             one(alloc, path, act)
         }
     }
 }
 
-fn act_over(alloc: Global, act: Act, other: &Act, side: Side) -> Result<Few, Fault>
+fn act_over(alloc: Global, act: Act, other: &Act, side: Side) -> Result<Remaining, Fault>
     ensures { Answers result (over side (plain_act act) (plain_act other.now)) }
 {
     match act {
-        Act::Na(x) => Ok(Few::One(Act::Na(x))),
+        Act::Na(x) => Ok(Remaining::One(Act::Na(x))),
         Act::Si(p, s) => texts::insert_past(p, s, other, side),
         Act::Sd(p, d) => texts::delete_past(p, d, other),
         Act::Li(j, v) => lists::insert_past(j, v, other, side),
@@ -141,16 +143,5 @@ fn act_over(alloc: Global, act: Act, other: &Act, side: Side) -> Result<Few, Fau
 fn one(alloc: Global, path: Vec<Step>, act: Act) -> Result<Vec<Component>, Fault>
     ensures { Transforms result (Some (at_path (plain_path path.items) (plain_act act) ∷ [])) }
 {
-    let mut components = Vec::new(alloc);
-    components.push(Component::new(path, act))?;
-    Ok(components)
-}
-
-fn two(alloc: Global, first: Component, second: Component) -> Result<Vec<Component>, Fault>
-    ensures { Transforms result (Some (first ∷ second ∷ [])) }
-{
-    let mut components = Vec::new(alloc);
-    components.push(first)?;
-    components.push(second)?;
-    Ok(components)
+    only(alloc, Component::new(path, act))
 }

@@ -1,7 +1,7 @@
 //! The work of a crossing, turn by turn.
-ghost use Rattle.std.specs.Prelude.{◌≡◌, ◌<◌, ◌∷◌, [], ◌++◌, length, MatchOption, IfOk, OnOk, IfErr, Some};
-ghost use Rattle.sdb_component.specs.View.{plain_act};
-ghost use Rattle.sdb_transform.specs.Acts.{IsFaultOf, Transforms, apart, text_of};
+ghost use Rattle.std.specs.Prelude.{◌≡◌, ◌<◌, nat_le, ◌∷◌, [], ◌++◌, MatchOption, IfOk, OnOk, IfErr, Some};
+ghost use Rattle.sdb_component.specs.Size.{component_size};
+ghost use Rattle.sdb_transform.specs.Acts.{IsFaultOf, apart, measured};
 ghost use Rattle.sdb_transform.specs.Grid.{Crossings};
 ghost use Rattle.sdb_transform.specs.Stack.{top, stack, token, Meets, IsRefusal, ToldWith, turns_with};
 ghost use Rattle.sdb_transform.specs.Transform.{transform};
@@ -9,10 +9,11 @@ ghost use Rattle.sdb_transform.specs.Work.{Waits, moves};
 ghost use Rattle.sdb_transform.specs.declared.side.Fault.TheVariants.{Memory};
 ghost use Rattle.sdb_transform.specs.declared.side.Side.TheVariants.{Left, Right};
 
+use crate::components::only;
 use crate::paths::behind;
 use crate::side::{Fault, Side};
 use crate::transforming::transform_one;
-use sdb_component::{Act, Component};
+use sdb_component::Component;
 use std::alloc::Global;
 
 // Left components that wait from here on, or a right one on its way past those that wait.
@@ -35,9 +36,11 @@ pub(crate) struct Progress {
 impl Progress {
     // Carries the next piece of work on.
     pub(crate) fn step(&mut self, alloc: Global, next: Pending) -> Result<(), Fault>
-        ensures keeps { OnOk result ((goal : Crossings) → ToldWith (token next ∷ []) goal self.old → ToldWith [] goal self.new) }
+        ensures keeps { OnOk result ((goal : Crossings)
+            → ToldWith (token next ∷ []) goal self.old → ToldWith [] goal self.new) }
         ensures falls { OnOk result (turns_with [] self.new < turns_with (token next ∷ []) self.old) }
-        ensures refused { IfErr result (λ f. (goal : Crossings) → ToldWith (token next ∷ []) goal self.old → IsFaultOf f goal) }
+        ensures refused { IfErr result (λ f. (goal : Crossings)
+            → ToldWith (token next ∷ []) goal self.old → IsFaultOf f goal) }
     {
         match next {
             Pending::Waiting(pieces) => push_pieces(&mut self.waiting, pieces),
@@ -69,7 +72,9 @@ pub(crate) fn push_pieces(
 }
 
 fn pop_waiting(waiting: &mut Vec<Component>) -> Option<Component>
-    ensures { MatchOption result ((top waiting.old.items ≡ []) × (top waiting.new.items ≡ [])) (λ c. top waiting.old.items ≡ c ∷ top waiting.new.items) }
+    ensures { MatchOption result
+        ((top waiting.old.items ≡ []) × (top waiting.new.items ≡ []))
+        (λ c. top waiting.old.items ≡ c ∷ top waiting.new.items) }
 {
     waiting.pop()
 }
@@ -83,7 +88,8 @@ pub(crate) fn from_top(mut waiting: Vec<Component>) -> Vec<Component>
 }
 
 pub(crate) fn pop_work(work: &mut Vec<Pending>) -> Option<Pending>
-    ensures { MatchOption result (stack work.old.items ≡ []) (λ p. stack work.old.items ≡ token p ∷ stack work.new.items) }
+    ensures { MatchOption result
+        (stack work.old.items ≡ []) (λ p. stack work.old.items ≡ token p ∷ stack work.new.items) }
 {
     work.pop()
 }
@@ -121,8 +127,8 @@ fn meet(
     push_moving(work, run)
 }
 
-// What stands for each of two components after the other. Where they touch, the one with the shorter
-// text is copied, and nothing else.
+// What stands for each of two components after the other. Where they touch, the one of which there is
+// less to copy is copied, and nothing else.
 fn both_past(
     alloc: Global,
     left: Component,
@@ -135,7 +141,7 @@ fn both_past(
     if are_apart(&left, &right) {
         return Ok((only(alloc, left)?, only(alloc, right)?));
     }
-    if text_len(left.act()) <= text_len(right.act()) {
+    if is_no_larger(&left, &right) {
         let copy = left.try_clone(alloc)?;
         let pieces = transform_one(alloc, copy, &right, Side::Left)?;
         let run = transform_one(alloc, right, &left, Side::Right)?;
@@ -154,21 +160,20 @@ fn are_apart(left: &Component, right: &Component) -> bool
     behind(left.path(), right.path()).is_none() && behind(right.path(), left.path()).is_none()
 }
 
-fn only(alloc: Global, component: Component) -> Result<Vec<Component>, Fault>
-    ensures { Transforms result (Some (component ∷ [])) }
+// Whether there is no more to copy of the left one than of the right one. Both are measured up to a
+// limit that is doubled until one of them stays below it, so the larger one is never walked far past
+// the size of the smaller.
+fn is_no_larger(left: &Component, right: &Component) -> bool
+    ensures { result ≡ nat_le (measured (component_size left.now)) (measured (component_size right.now)) }
 {
-    let mut components = Vec::new(alloc);
-    components.push(component)?;
-    Ok(components)
-}
-
-// The bytes of the text that is inserted or deleted.
-fn text_len(act: &Act) -> usize
-    ensures { result ≡ length (text_of (plain_act act.now)) }
-{
-    match act {
-        Act::Si(_, text) => text.as_str().len(),
-        Act::Sd(_, text) => text.as_str().len(),
-        _ => 0,
+    let mut limit = 64;
+    while limit < u64::MAX {
+        let of_left = left.size(limit);
+        let of_right = right.size(limit);
+        if of_left < limit || of_right < limit {
+            return of_left <= of_right;
+        }
+        limit = limit.saturating_mul(2);
     }
+    left.size(u64::MAX) <= right.size(u64::MAX)
 }

@@ -5,7 +5,7 @@ use Rattle.sdb_value.specs.View.{plain_step, plain_path}
 use Rattle.sdb_value.specs.declared.places.Step.TheVariants.{Index}
 use Rattle.sdb_component.specs.View.{plain_act}
 use Rattle.sdb_transform.specs.Transform.{step_over, at_path}
-use Rattle.sdb_transform.specs.Acts.{Transforms, place_step}
+use Rattle.sdb_transform.specs.Acts.{Transforms, step_after}
 use Rattle.sdb_transform.proofs.Behind.{behind_is, inside, step_there, set_there, none_below, stays_below, gone_below, set_below}
 use Rattle.sdb_transform.proofs.transforming.stand_below.Goals as goal
 
@@ -35,7 +35,7 @@ returns-in-Stays c =
     let t = plain_step c.index.result.now in
     let o = c.args.other.now in
     let same : t ≡ r.0 = step_there c.args.path.items c.path-at.result.now o.path r.0 r.1 c.index.result.now c.path-at.ensures (behind_is _ _ _ r.2) c.index.ensures in
-    let h : step_over o.act t ≡ Some (Some t) = ap (λ a. step_over a t) (sym c.act.ensures) ∙ c.in_ok-step_over.ensures ∙ ap (λ p. Some (place_step t p)) c.in-Stays.is in
+    let h : step_over o.act t ≡ Some (Some t) = ap (λ a. step_over a t) (sym c.act.ensures) ∙ c.in_ok-step_over.ensures ∙ ap (λ p. Some (step_after t p)) c.in-Stays.is in
     subst (Transforms c.one.result) (stays_below c.args.side (at_path (plain_path c.args.path.items) (plain_act c.args.act)) o r.0 t r.1 r.2 same h) c.one.ensures
 
 pub returns-in-Gone : goal.returns-in-Gone
@@ -44,7 +44,7 @@ returns-in-Gone c =
     let t = plain_step c.index.result.now in
     let o = c.args.other.now in
     let same : t ≡ r.0 = step_there c.args.path.items c.path-at.result.now o.path r.0 r.1 c.index.result.now c.path-at.ensures (behind_is _ _ _ r.2) c.index.ensures in
-    let h : step_over o.act t ≡ Some None = ap (λ a. step_over a t) (sym c.act.ensures) ∙ c.in_ok-step_over.ensures ∙ ap (λ p. Some (place_step t p)) c.in-Gone.is in
+    let h : step_over o.act t ≡ Some None = ap (λ a. step_over a t) (sym c.act.ensures) ∙ c.in_ok-step_over.ensures ∙ ap (λ p. Some (step_after t p)) c.in-Gone.is in
     gone_below c.args.side (at_path (plain_path c.args.path.items) (plain_act c.args.act)) o r.0 t r.1 r.2 same h ∙ ap Some (sym c.new.ensures.items)
 
 pub returns-in-At : goal.returns-in-At
@@ -54,5 +54,5 @@ returns-in-At c =
     let o = c.args.other.now in
     let path_is = behind_is o.path (plain_path c.args.path.items) (r.0 ∷ r.1) r.2 in
     let same : t ≡ r.0 = step_there c.args.path.items c.path-at.result.now o.path r.0 r.1 c.index.result.now c.path-at.ensures path_is c.index.ensures in
-    let h : step_over o.act t ≡ Some (Some (index c.in-At.index)) = ap (λ a. step_over a t) (sym c.act.ensures) ∙ c.in_ok-step_over.ensures ∙ ap (λ p. Some (place_step t p)) c.in-At.is in
+    let h : step_over o.act t ≡ Some (Some (index c.in-At.index)) = ap (λ a. step_over a t) (sym c.act.ensures) ∙ c.in_ok-step_over.ensures ∙ ap (λ p. Some (step_after t p)) c.in-At.is in
     subst (Transforms c.one-in-At.result) (set_below c.args.side (at_path (plain_path c.args.path.items) (plain_act c.args.act)) o r.0 t (index c.in-At.index) r.1 _ r.2 same h (set_there c.args.path.items c.path-at.result.now o.path r.0 r.1 (Index c.in-At.index) c.path-at.ensures path_is)) c.one-in-At.ensures

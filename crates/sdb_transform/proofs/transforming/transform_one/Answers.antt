@@ -1,4 +1,4 @@
-use Rattle.std.proofs.Common.{◌≤◌, List, Option, Result, Ok, Err, Vec, Global, IfOk}
+use Rattle.std.proofs.Common.{◌≤◌, Result, Ok, Err, Vec, Global, IfOk}
 use Rattle.sdb_component.specs.Plain.{PlainComponent}
 use Rattle.sdb_component.specs.Weighs.{weigh, weight}
 use Rattle.sdb_component.specs.declared.component.Component.{Component}

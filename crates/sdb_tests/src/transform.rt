@@ -1,5 +1,6 @@
-use crate::{Fault, Side, cross, transform, transform_one};
+//! `sdb_transform`: components and operations carried past one another.
 use sdb_component::{Component, Op, op_value, read_op};
+use sdb_transform::{Fault, Side, cross, transform, transform_one};
 use serde_json::Value;
 use std::alloc::{AllocError, Global};
 use std::test::Fail;
@@ -395,5 +396,56 @@ fn an_operation_is_transformed_as_either_side(rt: HostRuntime) -> Result<(), Fai
         printed(alloc, &right)?.as_str(),
         "[{\"li\":\"B\",\"p\":[1]}]"
     );
+    Ok(())
+}
+
+// The front, so many letters, and the end.
+fn around(alloc: Global, front: &str, letters: u64, end: &str) -> Result<String, AllocError> {
+    let mut text = String::from_str(alloc, front)?;
+    for _ in 0..letters {
+        text.push_str("x")?;
+    }
+    text.push_str(end)?;
+    Ok(text)
+}
+
+#[test]
+fn a_removed_value_meets_edits_below_it(rt: HostRuntime) -> Result<(), Fail> {
+    let alloc = rt.alloc();
+    let edits = r#"[{"p":[3,0,0],"si":"yy"},{"li":1,"p":[3,1]},{"li":2,"p":[0]}]"#;
+    let right = read(alloc, edits)?;
+    for letters in [0, 1, 63, 64, 65, 4096, 100000] {
+        let removal = around(alloc, r#"[{"ld":[""#, letters, r#"",null],"p":[3]}]"#)?;
+        let after = around(alloc, r#"[{"ld":["yy"#, letters, r#"",1,null],"p":[4]}]"#)?;
+        let left = read(alloc, removal.as_str())?;
+        let crossed = cross(alloc, &left, &right)?;
+        assert_eq!(rt;
+            printed(alloc, &crossed.left)?.as_str(),
+            after.as_str(),
+            "{letters}"
+        );
+        assert_eq!(rt;
+            printed(alloc, &crossed.right)?.as_str(),
+            r#"[{"li":2,"p":[0]}]"#
+        );
+        let other = cross(alloc, &right, &left)?;
+        assert_eq!(rt;
+            printed(alloc, &other.right)?.as_str(),
+            after.as_str(),
+            "{letters}"
+        );
+    }
+    Ok(())
+}
+
+#[test]
+fn faults_are_named(rt: HostRuntime) -> Result<(), Fail> {
+    for (fault, want) in [
+        (Fault::NotTransformed, "operation can not be applied"),
+        (Fault::Memory, "out of memory"),
+    ] {
+        let text = format!(in rt.alloc(); "{fault}")?;
+        assert_eq!(rt; text.as_str(), want);
+    }
     Ok(())
 }
