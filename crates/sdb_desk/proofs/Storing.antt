@@ -1,5 +1,5 @@
 -- A submission that is stored, or refused by the document.
-use Rattle.std.proofs.Common.{◌≡◌, ℕ, List, [], ◌∷◌, ◌++◌, length, true, Option, Some, None, Result, Ok, Err, option_map, unwrap_or, sym, ap, ◌∙◌, subst}
+use Rattle.std.proofs.Common.{◌≡◌, List, [], ◌∷◌, ◌++◌, length, true, Option, Some, Ok, option_map, unwrap_or, sym, ap, ◌∙◌, subst}
 use Rattle.std.specs.Option.{is_some}
 use Rattle.sdb_value.specs.Value.{Value}
 use Rattle.sdb_value.specs.View.{view}
@@ -10,7 +10,7 @@ use Rattle.sdb_oplog.specs.Plain.{PlainContent, PlainEntry, PlainSubmission, Pla
 use Rattle.sdb_oplog.specs.Logged.{stored_entry}
 use Rattle.sdb_oplog.specs.Refused.{RefusedBy}
 use Rattle.sdb_oplog.specs.Snap.{becomes, snap, document}
-use Rattle.sdb_oplog.specs.Decide.{decide, entry_of, missed, stored, refused, IsMade}
+use Rattle.sdb_oplog.specs.Decide.{decide, missed, stored, refused, IsMade}
 use Rattle.sdb_oplog.specs.Laws.{due_code, document_is, stored_makes, decides_stored, decides_refused, made_decided}
 use Rattle.sdb_desk.specs.Machine.{PlainAttempt}
 use Rattle.sdb_desk.specs.Documents.{IsMadeDocument, Settles}

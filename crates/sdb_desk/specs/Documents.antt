@@ -1,5 +1,5 @@
 -- What a document keeps beside its log, and a submission that will be stored unless the document refuses it.
-use Rattle.std.specs.Prelude.{◌≡◌, ◌≢◌, ℕ, ◌<◌, ◌≤◌, List, [], length, Option, Some, None, option_map, unwrap_or, Ok}
+use Rattle.std.specs.Prelude.{◌≡◌, ◌≢◌, ◌<◌, ◌≤◌, List, [], length, Option, Some, None, option_map, unwrap_or, Ok}
 use Rattle.sdb_value.specs.View.{view}
 use Rattle.sdb_value.specs.declared.value.Json.{Json}
 use Rattle.sdb_oplog.specs.Plain.{PlainContent, PlainEntry}

@@ -1,6 +1,5 @@
 -- What looks, attempts and answers of the code stand for.
 use Rattle.std.specs.Prelude.{List, Option, option_map, unwrap_or, Result, Ok, Err, Vec}
-use Rattle.std.specs.declared.alloc.AllocError.{AllocError}
 use Rattle.std.specs.declared.alloc.Global.{Global}
 use Rattle.sdb_value.specs.View.{view}
 use Rattle.sdb_oplog.specs.Plain.{PlainContent, PlainEntry}

@@ -147,7 +147,14 @@ impl Work {
 
     // The work on nothing, which stands where a work was taken out.
     pub(crate) fn blank(alloc: Global) -> Work {
-        let submission = Submission::new(String::new(alloc), 0, None, Content::delete(), String::new(alloc), 0);
+        let submission = Submission::new(
+            String::new(alloc),
+            0,
+            None,
+            Content::delete(),
+            String::new(alloc),
+            0,
+        );
         let look = Look {
             version: 0,
             repeat: None,

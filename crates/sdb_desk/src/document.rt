@@ -149,10 +149,12 @@ fn store(
     let Attempt { submission, look } = attempt;
     let prepared = match mem::replace(log, Log::new(alloc)).prepare(submission) {
         Ok(prepared) => prepared,
-        Err(Unprepared {
-            log: kept,
-            submission,
-        }) => {
+        Err(
+            Unprepared {
+                log: kept,
+                submission,
+            },
+        ) => {
             *log = kept;
             return Err(Work::from_parts(Attempt { submission, look }, Ok(content)));
         }

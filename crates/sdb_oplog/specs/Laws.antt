@@ -1,15 +1,18 @@
 -- Laws of decisions: what is stored, and logs that are made.
-use Rattle.std.proofs.Common.{◌≡◌, ℕ, ◌<◌, ◌≤◌, ◌++◌, List, [], ◌∷◌, length, true, false, cond, Option, Some, None, Result, Ok, Err, refl, sym, ap, ◌∙◌, subst, append_assoc, nat_eq, nat_lt, arith}
+use Rattle.std.proofs.Common.{Bool, ◌≡◌, ℕ, ◌<◌, ◌≤◌, ◌++◌, List, [], ◌∷◌, length, true, false, cond, Option, Some, None, Result, Ok, Err, refl, sym, ap, ◌∙◌, subst, append_assoc, nat_eq, nat_lt, arith}
 use Rattle.std.proofs.lemmas.Bool.Decides.{nat_tests}
 use Rattle.std.specs.Option.{is_some, unwrap_or, option_and_then, option_map_or}
 use Rattle.std.specs.Result.{result_ok}
 use Rattle.sdb_value.specs.Value.{Value}
 use Rattle.sdb_oplog.specs.declared.codes.Code.{Code}
 use Rattle.sdb_oplog.specs.declared.codes.Code.TheVariants.{E1, E2, E3, E4, E5, E6, E7, E8, E9, E10, E11}
-use Rattle.sdb_oplog.specs.Plain.{PlainEntry, PlainContent, PlainSubmission}
+use Rattle.sdb_transform.specs.Grid.{carried}
+use Rattle.sdb_transform.specs.declared.side.Side.TheVariants.{Left}
+use Rattle.sdb_apply.specs.Does.{applies}
+use Rattle.sdb_oplog.specs.Plain.{PlainEntry, PlainContent, create, delete, edit, PlainSubmission}
 use Rattle.sdb_oplog.specs.Refused.{result_then, RefusedBy}
 use Rattle.sdb_oplog.specs.Over.{over, over_all}
-use Rattle.sdb_oplog.specs.Snap.{becomes, snap_from, snap, document, stored_at}
+use Rattle.sdb_oplog.specs.Snap.{edited, becomes, snap_from, snap, document, stored_at}
 use Rattle.sdb_oplog.specs.Decide.{decide, settled, since, missed, store, entry_of, stored, repeated, refused, MadeFrom, IsMade}
 
 -- ---- codes
@@ -154,3 +157,64 @@ over_then xs ys (Err e) h = refl
 pub over_more : (xs ys : List PlainEntry) (m : PlainContent) → over_all m (xs ++ ys) ≡ result_then (λ k. over_all k ys) (over_all m xs)
 over_more [] ys m = refl
 over_more (x ∷ xs) ys m = over_then xs ys (over m x.content) (λ k. over_more xs ys k)
+
+-- ---- want of memory: no definition ever refuses by E10
+
+abbrev Never : {A : Type 0} → Result A Code → Type 0
+Never r = r ≡ Err E10 → ⊥
+
+same_code : {A B : Type 0} (e : Code) → ◌≡◌ {A = Result A Code} (Err e) (Err E10) → ◌≡◌ {A = Result B Code} (Err e) (Err E10)
+same_code e h = let s : e ≡ E10 = cc in ap Err s
+
+never_then : {A B : Type 0} (r : Result A Code) (f : A → Result B Code) → Never r → ((x : A) → Never (f x)) → Never (result_then f r)
+never_then (Ok x) f a b h = b x h
+never_then (Err e) f a b h = a (same_code e h)
+
+never_edit : {A B : Type 0} (o : Option A) (f : A → B) → Never (option_map_or (λ x. Ok (f x)) o (Err E8))
+never_edit None f h = cc
+never_edit (Some x) f h = cc
+
+never_over : (m stored : PlainContent) → Never (over m stored)
+never_over (create v) (create w) h = cc
+never_over delete (create w) h = cc
+never_over (edit op) (create w) h = cc
+never_over (create v) delete h = cc
+never_over delete delete h = cc
+never_over (edit op) delete h = cc
+never_over (create v) (edit other) h = cc
+never_over delete (edit other) h = cc
+never_over (edit op) (edit other) h = never_edit (carried Left op other) edit h
+
+never_over_all : (es : List PlainEntry) (m : PlainContent) → Never (over_all m es)
+never_over_all [] m h = cc
+never_over_all (e ∷ es) m h = never_then (over m e.content) (λ k. over_all k es) (never_over m e.content) (λ k. never_over_all es k) h
+
+never_becomes : (m : PlainContent) (d : Option Value) → Never (becomes m d)
+never_becomes (create v) None h = cc
+never_becomes (create v) (Some d) h = cc
+never_becomes delete d h = cc
+never_becomes (edit op) None h = cc
+never_becomes (edit op) (Some d) h = never_then (edited op d) (λ e. Ok (Some e)) (never_edit (applies op d) (λ e. e)) (λ e k. cc) h
+
+never_cond : {A : Type 0} (a b : Bool) (r : Result A Code) → Never r → Never (cond a (Err E11) (cond b (Err E4) r))
+never_cond true b r n h = cc
+never_cond false true r n h = cc
+never_cond false false r n h = n h
+
+never_settled : (log : List PlainEntry) (s : PlainSubmission) → Never (settled log s)
+never_settled log s =
+    never_cond (nat_eq (length log) 9007199254740991) (nat_lt (length log) (since log s)) (result_then (λ m. result_then (λ d. Ok m) (becomes m (document log))) (over_all s.content (missed log s)))
+    (never_then (over_all s.content (missed log s)) (λ m. result_then (λ d. Ok m) (becomes m (document log))) (never_over_all (missed log s) s.content)
+    (λ m. never_then (becomes m (document log)) (λ d. Ok m) (never_becomes m (document log)) (λ d k. cc)))
+
+never_stored : (log : List PlainEntry) (s : PlainSubmission) (r : Result PlainContent Code) → Never r → (store log s r).reply ≡ refused E10 → ⊥
+never_stored log s (Ok m) n h = cc
+never_stored log s (Err e) n h = n (let c : e ≡ E10 = cc in ap Err c)
+
+never_first : (log : List PlainEntry) (s : PlainSubmission) (o : Option ℕ) → stored_at s.src s.seq log ≡ o → (decide log s).reply ≡ refused E10 → ⊥
+never_first log s (Some i) e h = let c : repeated i ≡ refused E10 = sym (ap (λ d. d.reply) (decides_repeat log s i e)) ∙ h in cc
+never_first log s None e h = never_stored log s (settled log s) (never_settled log s) (sym (ap (λ d. d.reply) (decides_settled log s (settled log s) e refl)) ∙ h)
+
+-- a decision is never want of memory
+pub decides_never_wanting : (log : List PlainEntry) (s : PlainSubmission) → (decide log s).reply ≡ refused E10 → ⊥
+decides_never_wanting log s = never_first log s (stored_at s.src s.seq log) refl

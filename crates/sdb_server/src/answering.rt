@@ -5,14 +5,13 @@ ghost use Rattle.sdb_oplog.specs.declared.codes.Code.TheVariants.{E10};
 ghost use Rattle.sdb_desk.specs.Keyed.{logs_of};
 ghost use Rattle.sdb_desk.specs.Told.{plain_reply};
 ghost use Rattle.sdb_lines.specs.Runs.{GrewBy};
-ghost use Rattle.sdb_wire.specs.Answers.{op_message, failed};
+ghost use Rattle.sdb_wire.specs.Answers.{op_message, acknowledged, failed};
 ghost use Rattle.sdb_wire.specs.View.{plain_answer, plain_request};
 ghost use Rattle.sdb_server.specs.Told.{shown_of};
 ghost use Rattle.sdb_server.specs.Dialogue.{shown, is_request, turn, request_turn, submit_turn, fetch_answers, reply_answers, submission_of, AnswersBy, Dialogue, Stands};
 
 use sdb_desk::{Reply, Shard};
 use sdb_oplog::{Code, Content, Entry, Key, Submission};
-use sdb_submit::{NoGate, submit_solo};
 use sdb_wire::{Answer, Heard, Request, echo_of, hear, write_reply};
 use serde_json::Value;
 use std::alloc::{AllocError, Global};
@@ -57,8 +56,14 @@ fn answer_request(
     ensures stands { Stands (request_turn (shown_of message.entry) (plain_request request) (logs_of shard.old)) (logs_of shard.old) (logs_of shard.new) }
 {
     match request {
-        Request::Fetch(key, version) => fetch(alloc, shard, message, &key, version, out),
-        Request::Submit(key, version, seq, src, content) => {
+        Request::Fetch { key, version } => fetch(alloc, shard, message, &key, version, out),
+        Request::Submit {
+            key,
+            version,
+            seq,
+            src,
+            content,
+        } => {
             let Ok(submission) = submission(alloc, &key, version, seq, src, content) else {
                 return refuse(alloc, message, Code::E10, out);
             };
@@ -105,7 +110,7 @@ fn refuse(
     ensures { OnOk result (out.new.items ≡ out.old.items ++ shown (failed (shown_of message.entry) code ∷ [])) }
 {
     let echo = echo_of(alloc, message)?;
-    say(alloc, &Answer::Failed(&echo, code), out)
+    say(alloc, &Answer::Failed { echo: &echo, code }, out)
 }
 
 // Writes each entry as an op message.
@@ -118,7 +123,7 @@ fn say_entries(
     ensures { OnOk result (out.new.items ≡ out.old.items ++ shown (map (op_message (plain_key key.now)) entries.now)) }
 {
     for entry in entries {
-        say(alloc, &Answer::OpMessage(key, entry), out)?;
+        say(alloc, &Answer::OpMessage { key, entry }, out)?;
     }
     Ok(())
 }
@@ -138,15 +143,21 @@ fn fetch(
     match version {
         None => match shard.fetch(key) {
             Ok(fetched) => {
+                let version = fetched.version;
                 let document = fetched.snapshot.as_ref();
-                say(alloc, &Answer::Fetched(key, fetched.version, document), out)
+                let answer = Answer::Fetched {
+                    key,
+                    version,
+                    document,
+                };
+                say(alloc, &answer, out)
             }
             Err(code) => refuse(alloc, message, code, out),
         },
         Some(from) => match shard.ops_from(key, from) {
             Ok(entries) => {
                 say_entries(alloc, key, entries.as_slice(), out)?;
-                say(alloc, &Answer::Listed(key), out)
+                say(alloc, &Answer::Listed { key }, out)
             }
             Err(code) => refuse(alloc, message, code, out),
         },
@@ -166,7 +177,7 @@ fn submit(
         (λ answer. AnswersBy (shown_of message.entry) (submit_turn (shown_of message.entry) (plain_key key.now) submission.now (logs_of shard.old)) (logs_of shard.old) answer (logs_of shard.new))) }
     ensures stands { Stands (submit_turn (shown_of message.entry) (plain_key key.now) submission.now (logs_of shard.old)) (logs_of shard.old) (logs_of shard.new) }
 {
-    let reply = submit_solo(alloc, shard, key, submission, &NoGate);
+    let reply = shard.commit_now(key, submission);
     say_reply(alloc, message, key, submission.src(), submission.seq(), &reply, out)
 }
 
@@ -185,9 +196,29 @@ fn say_reply(
     match reply {
         Reply::Stored { v, missed } => {
             say_entries(alloc, key, missed.as_slice(), out)?;
-            say(alloc, &Answer::Acknowledged(key, src, seq, *v), out)
+            say_stored(alloc, key, src, seq, *v, out)
         }
-        Reply::Repeat { v } => say(alloc, &Answer::Acknowledged(key, src, seq, *v), out),
+        Reply::Repeat { v } => say_stored(alloc, key, src, seq, *v, out),
         Reply::Refused(code) => refuse(alloc, message, *code, out),
     }
+}
+
+// Writes the acknowledgement of a submission that is stored at a version.
+fn say_stored(
+    alloc: Global,
+    key: &Key,
+    src: &str,
+    seq: u64,
+    version: u64,
+    out: &mut Vec<u8>,
+) -> Result<(), AllocError>
+    ensures { OnOk result (out.new.items ≡ out.old.items ++ shown (acknowledged (plain_key key.now) src.now seq version ∷ [])) }
+{
+    let answer = Answer::Acknowledged {
+        key,
+        src,
+        seq,
+        version,
+    };
+    say(alloc, &answer, out)
 }

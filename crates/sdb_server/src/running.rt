@@ -31,7 +31,7 @@ impl Replier for Session {
     ghost is_step = { is_request };
 
     fn open(&self, alloc: Global, out: &mut Vec<u8>) -> Result<(), AllocError> {
-        say(alloc, &Answer::Init(SOURCE), out)
+        say(alloc, &Answer::Init { src: SOURCE }, out)
     }
 
     fn reply(&mut self, alloc: Global, line: &str, out: &mut Vec<u8>) -> Result<bool, AllocError> {
@@ -50,7 +50,11 @@ fn say_unreadable(alloc: Global, shard: &Shard, out: &mut Vec<u8>) -> Result<(),
 {
     let _ = shard;
     let echo = no_echo();
-    say(alloc, &Answer::Failed(&echo, Code::E1), out)
+    let answer = Answer::Failed {
+        echo: &echo,
+        code: Code::E1,
+    };
+    say(alloc, &answer, out)
 }
 
 /// Answers the lines of one session from the reader, whose source is `s1`, on documents that are all

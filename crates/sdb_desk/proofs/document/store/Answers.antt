@@ -1,6 +1,6 @@
 use Rattle.std.proofs.Common.{◌≡◌, sym, ap, ◌∙◌}
 use Rattle.sdb_desk.specs.Shown.{plain_attempt}
-use Rattle.sdb_desk.proofs.Storing.{prepared_of, lives_stored, decided_stored, keeps_stored, decided_refused, keeps_same}
+use Rattle.sdb_desk.proofs.Storing.{prepared_of, lives_stored, keeps_stored, decided_refused, keeps_same}
 use Rattle.sdb_desk.proofs.document.store.Goals as goal
 
 pub store-requires-clause-lives : goal.store-requires-clause-lives
