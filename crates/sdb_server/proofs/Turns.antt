@@ -49,19 +49,19 @@ refuses_read e k v log code h = refuses_if (nat_lt (length log) v) e k (drop v l
 -- a read leaves the logs
 pub reads_turn : (e : PlainEcho) (k : PlainKey) (v : Option ℕ) (logs : Logs) (old new : List ℕ) → (new ≡ old ++ shown (failed e E10 ∷ [])) ⊎ (new ≡ old ++ shown (fetch_answers e k v (logs k)))
     → GrewBy old new (λ answer. AnswersBy e (request_turn e (fetch k v) logs) logs answer logs)
-reads_turn e k v logs old new (inl h) = (shown (failed e E10 ∷ []), (h, (true, (refl, refl))))
-reads_turn e k v logs old new (inr h) = (shown (fetch_answers e k v (logs k)), (h, (false, (refl, refl))))
+reads_turn e k v logs old new (inl h) = (shown (failed e E10 ∷ []), h, (true, refl, refl))
+reads_turn e k v logs old new (inr h) = (shown (fetch_answers e k v (logs k)), h, (false, refl, refl))
 
 -- a request that finds no memory leaves them too
 pub wants_turn : (e : PlainEcho) (t : Turn) (logs : Logs) (old new : List ℕ) → new ≡ old ++ shown (failed e E10 ∷ []) → GrewBy old new (λ answer. AnswersBy e t logs answer logs)
-wants_turn e t logs old new h = (shown (failed e E10 ∷ []), (h, (true, (refl, refl))))
+wants_turn e t logs old new h = (shown (failed e E10 ∷ []), h, (true, refl, refl))
 
 -- a submission is answered by its reply
 pub decides_turn : (e : PlainEcho) (k : PlainKey) (s : PlainSubmission) (r : PlainReply) (logs after : Logs) (old new : List ℕ) → Decides logs k s r after → new ≡ old ++ shown (reply_answers e k s.src s.seq r)
     → GrewBy old new (λ answer. AnswersBy e (submit_turn e k s logs) logs answer after)
-decides_turn e k s r logs after old new (inl h) said = (shown (failed e E10 ∷ []), (said ∙ ap (λ x. old ++ shown (reply_answers e k s.src s.seq x)) h.0, (true, (refl, h.1))))
+decides_turn e k s r logs after old new (inl h) said = (shown (failed e E10 ∷ []), said ∙ ap (λ x. old ++ shown (reply_answers e k s.src s.seq x)) h.0, (true, refl, h.1))
 decides_turn e k s r logs after old new (inr h) said =
-    (shown (reply_answers e k s.src s.seq (decide (logs k) s).reply), (said ∙ ap (λ x. old ++ shown (reply_answers e k s.src s.seq x)) h.0, (false, (refl, h.1))))
+    (shown (reply_answers e k s.src s.seq (decide (logs k) s).reply), said ∙ ap (λ x. old ++ shown (reply_answers e k s.src s.seq x)) h.0, (false, refl, h.1))
 
 pub decides_stands : (e : PlainEcho) (k : PlainKey) (s : PlainSubmission) (r : PlainReply) (logs after : Logs) → Decides logs k s r after → Stands (submit_turn e k s logs) logs after
 decides_stands e k s r logs after (inl h) = inl h.1
@@ -83,21 +83,23 @@ by_turn t u bytes new is b n = (b ∙ ap (λ x. shown x.answers) (sym is), n ∙
 -- a line that asks something
 pub line_asks : (line : List ℕ) (h : PlainHeard) (e : PlainEcho) (r : PlainRequest) (logs after : Logs) (old new : List ℕ) → h ≡ hear line → e ≡ h.echo → h.request ≡ Ok r
     → GrewBy old new (λ answer. AnswersBy e (request_turn e r logs) logs answer after) → GrewBy old new (λ answer. Dialogue logs (Some line) answer after)
-line_asks line h e r logs after old new is echo asks (bytes, (grew, (wanting, (b, n)))) =
-    (bytes, (grew, (wanting, by_turn (turn wanting line logs) (marked wanting e (request_turn e r logs) logs) bytes after (turn_asked wanting line h e r logs is echo asks) b n)))
+line_asks line h e r logs after old new is echo asks (bytes, grew, (wanting, b, n)) =
+    let same = by_turn (turn wanting line logs) (marked wanting e (request_turn e r logs) logs) bytes after (turn_asked wanting line h e r logs is echo asks) b n in
+    (bytes, grew, (wanting, same.0, same.1))
 
 -- a line that is refused
 pub line_wrong : (line : List ℕ) (h : PlainHeard) (e : PlainEcho) (code : Code) (logs : Logs) (old new : List ℕ) → h ≡ hear line → e ≡ h.echo → h.request ≡ Err code
     → new ≡ old ++ shown (failed e code ∷ []) → GrewBy old new (λ answer. Dialogue logs (Some line) answer logs)
 line_wrong line h e code logs old new is echo asks grew =
-    (shown (failed e code ∷ []), (grew, (false, by_turn (turn false line logs) (record { answers = failed e code ∷ []; logs = logs }) (shown (failed e code ∷ [])) logs (turn_wrong line h e code logs is echo asks) refl refl)))
+    let same = by_turn (turn false line logs) (record { answers = failed e code ∷ []; logs = logs }) (shown (failed e code ∷ [])) logs (turn_wrong line h e code logs is echo asks) refl refl in
+    (shown (failed e code ∷ []), grew, (false, same.0, same.1))
 
 -- ---- runs
 
 -- a run of a machine that keeps some logs is a run of the dialogue
 run_by : {S : Type 0} (f : S → Logs) (s : S) (lines : List (Option (List ℕ))) (bytes : List ℕ) (t : S) → Run (λ a line answer b. Dialogue (f a) line answer (f b)) s lines bytes t → Run Dialogue (f s) lines bytes (f t)
 run_by f s [] bytes t (b, same) = (b, ap f same)
-run_by f s (line ∷ lines) bytes t (answer, (next, (more, (takes, (rest, b))))) = (answer, (f next, (more, (takes, (run_by f next lines more t rest, b)))))
+run_by f s (line ∷ lines) bytes t (answer, next, more, takes, rest, b) = (answer, f next, more, takes, run_by f next lines more t rest, b)
 
 pub wrote_all : {S : Type 0} (f : S → Logs) (s t : S) (lines : List (Option (List ℕ))) (old new : Option (List ℕ)) → f s ≡ no_logs → Answers (λ a line answer b. Dialogue (f a) line answer (f b)) s lines t opening old new → Wrote lines old new
 wrote_all f s t lines old new none h = (f t, record { bytes = h.bytes; run = subst (λ (l : Logs). Run Dialogue l lines h.bytes (f t)) none (run_by f s lines h.bytes t h.run); wrote = h.wrote })

@@ -1,17 +1,20 @@
 //! The answers to one line.
 ghost use Rattle.std.specs.Prelude.{◌≡◌, ◌⊎◌, false, Some, ◌++◌, ◌∷◌, [], IfOk, OnOk, OnErr, map, option_map, string_bytes};
+ghost use Rattle.sdb_value.specs.View.{view};
 ghost use Rattle.sdb_oplog.specs.Keys.{plain_key};
 ghost use Rattle.sdb_oplog.specs.declared.codes.Code.TheVariants.{E10};
 ghost use Rattle.sdb_desk.specs.Keyed.{logs_of};
 ghost use Rattle.sdb_desk.specs.Told.{plain_reply};
 ghost use Rattle.sdb_lines.specs.Runs.{GrewBy};
-ghost use Rattle.sdb_wire.specs.Answers.{op_message, acknowledged, failed};
+ghost use Rattle.sdb_wire.specs.Answers.{op_message, acknowledged, failed, fetched};
 ghost use Rattle.sdb_wire.specs.View.{plain_answer, plain_request};
 ghost use Rattle.sdb_server.specs.Told.{shown_of};
 ghost use Rattle.sdb_server.specs.Dialogue.{shown, is_request, turn, request_turn, submit_turn, fetch_answers, reply_answers, submission_of, AnswersBy, Dialogue, Stands};
 
 use sdb_desk::{Reply, Shard};
 use sdb_oplog::{Code, Content, Entry, Key, Submission};
+use sdb_submit::{NoGate, submit_solo};
+use sdb_value::Json;
 use sdb_wire::{Answer, Heard, Request, echo_of, hear, write_reply};
 use serde_json::Value;
 use std::alloc::{AllocError, Global};
@@ -128,6 +131,24 @@ fn say_entries(
     Ok(())
 }
 
+// Writes a version and the document there.
+fn say_document<'a>(
+    alloc: Global,
+    key: &'a Key,
+    version: u64,
+    document: Option<&'a Json>,
+    out: &mut Vec<u8>,
+) -> Result<(), AllocError>
+    ensures { OnOk result (out.new.items ≡ out.old.items ++ shown (fetched (plain_key key.now) version (option_map (λ d. view d.now) document.entry) ∷ [])) }
+{
+    let answer = Answer::Fetched {
+        key,
+        version,
+        document,
+    };
+    say(alloc, &answer, out)
+}
+
 // Writes the document, or the stored operations from a version on.
 fn fetch(
     alloc: Global,
@@ -143,14 +164,7 @@ fn fetch(
     match version {
         None => match shard.fetch(key) {
             Ok(fetched) => {
-                let version = fetched.version;
-                let document = fetched.snapshot.as_ref();
-                let answer = Answer::Fetched {
-                    key,
-                    version,
-                    document,
-                };
-                say(alloc, &answer, out)
+                say_document(alloc, key, fetched.version, fetched.snapshot.as_ref(), out)
             }
             Err(code) => refuse(alloc, message, code, out),
         },
@@ -177,7 +191,7 @@ fn submit(
         (λ answer. AnswersBy (shown_of message.entry) (submit_turn (shown_of message.entry) (plain_key key.now) submission.now (logs_of shard.old)) (logs_of shard.old) answer (logs_of shard.new))) }
     ensures stands { Stands (submit_turn (shown_of message.entry) (plain_key key.now) submission.now (logs_of shard.old)) (logs_of shard.old) (logs_of shard.new) }
 {
-    let reply = shard.commit_now(key, submission);
+    let reply = submit_solo(alloc, shard, key, submission, &NoGate);
     say_reply(alloc, message, key, submission.src(), submission.seq(), &reply, out)
 }
 

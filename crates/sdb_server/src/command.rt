@@ -2,7 +2,7 @@
 use crate::running::run_lines;
 use clap::error::ErrorKind;
 use clap::{Arg, ArgAction, Command, Error};
-use sdb_lines::{RunFault, Watched};
+use sdb_lines::{RunFault, WatchedReader, WatchedWriter};
 use std::alloc::{AllocError, Global};
 use std::io;
 
@@ -69,8 +69,8 @@ where
 
 // Answers standard input.
 fn answer_input<R: AllocGlobal + Input + Print>(rt: &R) -> u8 {
-    let mut reader = Watched::new(rt.reader());
-    let mut writer = Watched::new(io::writer(rt));
+    let mut reader = WatchedReader::new(rt.reader());
+    let mut writer = WatchedWriter::new(io::writer(rt));
     match run_lines(rt.alloc(), &mut reader, &mut writer) {
         Ok(_) => DONE,
         Err(fault) => end_with(rt, fault),
