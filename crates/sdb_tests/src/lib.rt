@@ -10,3 +10,5 @@ mod component;
 mod lines;
 #[cfg(test)]
 mod value;
+#[cfg(test)]
+mod wire;
