@@ -18,3 +18,5 @@ mod submit;
 mod transform;
 #[cfg(test)]
 mod value;
+#[cfg(test)]
+mod wire;

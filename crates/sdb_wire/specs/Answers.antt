@@ -51,8 +51,12 @@ code_text E10 = codes "out of memory"
 code_text E11 = codes "limit reached"
 
 abbrev pub snapshot_data : ℕ → Option Value → Data
-snapshot_data v None = object (member (codes "type") null (member (codes "v") (number (unsigned v)) no_members))
-snapshot_data v (Some d) = object (member (codes "data") (to_data d) (member (codes "v") (number (unsigned v)) no_members))
+snapshot_data v None = object (
+    member (codes "type") null
+    (member (codes "v") (number (unsigned v)) no_members))
+snapshot_data v (Some d) = object (
+    member (codes "data") (to_data d)
+    (member (codes "v") (number (unsigned v)) no_members))
 
 abbrev pub word_data : PlainWord → Data
 word_data (text s) = string s
@@ -64,7 +68,9 @@ some_member k None ms = ms
 some_member k (Some w) ms = member k (word_data w) ms
 
 abbrev pub error_data : Code → Data
-error_data e = object (member (codes "code") (string (code_name e)) (member (codes "message") (string (code_text e)) no_members))
+error_data e = object (
+    member (codes "code") (string (code_name e))
+    (member (codes "message") (string (code_text e)) no_members))
 
 abbrev pub type_data : Data
 type_data = string (codes "http://sharejs.org/types/JSONv0")
@@ -76,13 +82,25 @@ create_data v = object (member (codes "data") (to_data v) (member (codes "type")
 
 -- what follows the content
 abbrev pub op_tail : PlainEntry → Members
-op_tail e = member (codes "seq") (number (unsigned e.arrived.seq)) (member (codes "src") (string e.arrived.src) (member (codes "v") (number (unsigned e.version)) no_members))
+op_tail e =
+    member (codes "seq") (number (unsigned e.arrived.seq))
+    (member (codes "src") (string e.arrived.src)
+    (member (codes "v") (number (unsigned e.version)) no_members))
 
 -- the key with the content, before the others
 abbrev pub content_members : PlainKey → PlainContent → Members → Members
-content_members k (create v) ms = member (codes "c") (string k.collection) (member (codes "create") (create_data v) (member (codes "d") (string k.id) ms))
-content_members k delete ms = member (codes "c") (string k.collection) (member (codes "d") (string k.id) (member (codes "del") (boolean true) ms))
-content_members k (edit op) ms = member (codes "c") (string k.collection) (member (codes "d") (string k.id) (member (codes "op") (op_data op) ms))
+content_members k (create v) ms =
+    member (codes "c") (string k.collection)
+    (member (codes "create") (create_data v)
+    (member (codes "d") (string k.id) ms))
+content_members k delete ms =
+    member (codes "c") (string k.collection)
+    (member (codes "d") (string k.id)
+    (member (codes "del") (boolean true) ms))
+content_members k (edit op) ms =
+    member (codes "c") (string k.collection)
+    (member (codes "d") (string k.id)
+    (member (codes "op") (op_data op) ms))
 
 -- a stored operation by itself, without `a` and the key
 abbrev pub entry_members : PlainEntry → PlainContent → Members
@@ -111,7 +129,9 @@ answer_data (listed k) = object (
     member (codes "a") (string (codes "f"))
     (member (codes "c") (string k.collection)
     (member (codes "d") (string k.id) no_members)))
-answer_data (op_message k e) = object (member (codes "a") (string (codes "op")) (content_members k e.content (op_tail e)))
+answer_data (op_message k e) = object (
+    member (codes "a") (string (codes "op"))
+    (content_members k e.content (op_tail e)))
 answer_data (acknowledged k src seq v) = object (
     member (codes "a") (string (codes "op"))
     (member (codes "c") (string k.collection)

@@ -25,7 +25,14 @@ plain_word (Text s) = text (string_bytes s)
 plain_word (Count n) = count n
 
 abbrev pub plain_echo : Echo → PlainEcho
-plain_echo e = record { a = option_map plain_word e.a; c = option_map plain_word e.c; d = option_map plain_word e.d; id = option_map plain_word e.id; seq = option_map plain_word e.seq; src = option_map plain_word e.src }
+plain_echo e = record {
+  a = option_map plain_word e.a;
+  c = option_map plain_word e.c;
+  d = option_map plain_word e.d;
+  id = option_map plain_word e.id;
+  seq = option_map plain_word e.seq;
+  src = option_map plain_word e.src;
+}
 
 abbrev pub plain_request : Request → PlainRequest
 plain_request (Fetch k v) = fetch (plain_key k) v

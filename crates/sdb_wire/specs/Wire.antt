@@ -59,7 +59,14 @@ pub record PlainEcho : Type 0 where
   pub src : Option PlainWord
 
 abbrev pub said : Data → PlainEcho
-said m = record { a = word_at (codes "a") m; c = word_at (codes "c") m; d = word_at (codes "d") m; id = word_at (codes "id") m; seq = word_at (codes "seq") m; src = word_at (codes "src") m }
+said m = record {
+  a = word_at (codes "a") m;
+  c = word_at (codes "c") m;
+  d = word_at (codes "d") m;
+  id = word_at (codes "id") m;
+  seq = word_at (codes "seq") m;
+  src = word_at (codes "src") m;
+}
 
 abbrev pub nothing_said : PlainEcho
 nothing_said = record { a = None; c = None; d = None; id = None; seq = None; src = None }
@@ -74,7 +81,9 @@ created d = option_map_or (λ v. Ok (create v)) (in_profile d) (Err E3)
 
 -- absent data are null
 abbrev pub creation : Data → Result PlainContent Code
-creation c = option_map_or (λ t. if is_type t then created (unwrap_or (get (codes "data") c) null) else Err E2) (option_and_then as_str (get (codes "type") c)) (Err E1)
+creation c =
+    option_map_or (λ t. if is_type t then created (unwrap_or (get (codes "data") c) null) else Err E2)
+    (option_and_then as_str (get (codes "type") c)) (Err E1)
 
 abbrev pub edition : Data → Result PlainContent Code
 edition o = option_map_or (λ op. Ok (edit op)) (op_of o) (Err E3)
@@ -102,7 +111,10 @@ pub data PlainRequest : Type 0 where
   submit : PlainKey → Option ℕ → ℕ → Option (List ℕ) → PlainContent → PlainRequest
 
 abbrev pub key_of : Data → Result PlainKey Code
-key_of d = result_then (λ c. result_then (λ i. Ok (record { collection = c; id = i })) (ok_or (name_at (codes "d") d) E1)) (ok_or (name_at (codes "c") d) E1)
+key_of d =
+    result_then (λ c. result_then (λ i. Ok (record { collection = c; id = i }))
+    (ok_or (name_at (codes "d") d) E1))
+    (ok_or (name_at (codes "c") d) E1)
 
 abbrev pub fetch_of : Data → Result PlainRequest Code
 fetch_of d = result_then (λ k. result_then (λ v. Ok (fetch k v)) (may count_of (present (codes "v") d))) (key_of d)
@@ -117,7 +129,10 @@ submit_of d =
     (key_of d)
 
 abbrev pub message_of : Data → Result PlainRequest Code
-message_of d = option_map_or (λ a. if bytes_eq a (codes "f") then fetch_of d else (if bytes_eq a (codes "op") then submit_of d else Err E1)) (name_at (codes "a") d) (Err E1)
+message_of d =
+    option_map_or
+    (λ a. if bytes_eq a (codes "f") then fetch_of d else (if bytes_eq a (codes "op") then submit_of d else Err E1))
+    (name_at (codes "a") d) (Err E1)
 
 -- ---- texts
 
@@ -129,9 +144,23 @@ abbrev pub with_echo : {A : Type 0} → PlainEcho → Result A Code → Result A
 with_echo e (Ok x) = Ok x
 with_echo e (Err c) = Err (record { echo = e; code = c })
 
+-- the longest text of a message, in bytes
+abbrev pub message_limit : ℕ
+message_limit = 1048576
+
+-- the JSON value of a message, unless its text is too long or has no reading
+abbrev pub value_of : List ℕ → Option Data
+value_of line = if nat_lt message_limit (length line) then None else read line
+
 -- `Wire`: the request, or the first code in order and what the error reply shows of the message
 abbrev pub wire : List ℕ → Result PlainRequest PlainBad
-wire line = option_map_or (λ d. with_echo (said d) (message_of d)) (read line) (Err (record { echo = nothing_said; code = E1 }))
+wire line =
+    option_map_or (λ d. with_echo (said d) (message_of d)) (value_of line)
+    (Err (record { echo = nothing_said; code = E1 }))
+
+-- what an error shows of a message
+abbrev pub echo_of : List ℕ → PlainEcho
+echo_of line = option_map_or said (value_of line) nothing_said
 
 -- ---- the same with the echo always, since a refusal by the log shows it too
 
@@ -144,4 +173,4 @@ heard_of None = record { echo = nothing_said; request = Err E1 }
 heard_of (Some d) = record { echo = said d; request = message_of d }
 
 abbrev pub hear : List ℕ → PlainHeard
-hear line = heard_of (read line)
+hear line = heard_of (value_of line)

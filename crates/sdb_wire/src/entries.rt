@@ -1,36 +1,57 @@
 //! Stored operations as JSON values.
-ghost use Rattle.std.specs.Prelude.{◌≡◌, IfOk};
-ghost use Rattle.serde_json.specs.View.{view as data_view};
+ghost use Rattle.std.specs.Prelude.{◌≡◌, IfOk, OnOk};
+ghost use Rattle.serde_json.specs.Data.{no_members};
+ghost use Rattle.serde_json.specs.View.{view as data_view, members_view};
 ghost use Rattle.sdb_value.specs.View.{view};
-ghost use Rattle.sdb_wire.specs.Answers.{create_data, entry_data};
+ghost use Rattle.sdb_wire.specs.Answers.{create_data, entry_data, entry_members, op_tail};
 
-use crate::replies::TYPE;
+use crate::requests::TYPE;
 use sdb_component::op_value;
 use sdb_oplog::{Entry, Kind};
 use sdb_value::{Json, to_value};
-use serde_json::{Value, json};
+use serde_json::{Map, Value, json, put};
 use std::alloc::{AllocError, Global};
+use std::collections::BTreeMap;
 
 /// The JSON value of a stored operation: its content, number, source and version. An op message has
 /// beside it `a`, and the document's `c` and `d`.
 pub fn entry_value(alloc: Global, entry: &Entry) -> Result<Value, AllocError>
     ensures { IfOk result (λ v. data_view v ≡ entry_data entry.now) }
 {
-    let (seq, src, v) = (
-        entry.arrived().seq(),
-        entry.arrived().src(),
-        entry.version(),
-    );
+    let mut members = BTreeMap::new(alloc);
+    put_tail(alloc, &mut members, entry)?;
+    put_content(alloc, &mut members, entry)?;
+    Ok(Value::Object(members))
+}
+
+// The number, the source and the version, put to no members.
+fn put_tail(
+    alloc: Global,
+    members: &mut Map<String, Value>,
+    entry: &Entry,
+) -> Result<(), AllocError>
+    requires { members_view members.old.entries ≡ no_members }
+    ensures { OnOk result (members_view members.new.entries ≡ op_tail entry.now) }
+{
+    let src = String::from_str(alloc, entry.arrived().src())?;
+    put(members, alloc, "seq", Value::from(entry.arrived().seq()))?;
+    put(members, alloc, "src", Value::String(src))?;
+    put(members, alloc, "v", Value::from(entry.version()))
+}
+
+// The content, put to what follows it.
+fn put_content(
+    alloc: Global,
+    members: &mut Map<String, Value>,
+    entry: &Entry,
+) -> Result<(), AllocError>
+    requires { members_view members.old.entries ≡ op_tail entry.now }
+    ensures { OnOk result (members_view members.new.entries ≡ entry_members entry.now (entry.now).content) }
+{
     match entry.content().kind() {
-        Kind::Create(value) => {
-            let create = create_value(alloc, value)?;
-            json!(in alloc; {"create": create, "seq": seq, "src": src, "v": v})
-        }
-        Kind::Delete => json!(in alloc; {"del": true, "seq": seq, "src": src, "v": v}),
-        Kind::Edit(op) => {
-            let op = op_value(alloc, op)?;
-            json!(in alloc; {"op": op, "seq": seq, "src": src, "v": v})
-        }
+        Kind::Create(value) => put(members, alloc, "create", create_value(alloc, value)?),
+        Kind::Delete => put(members, alloc, "del", Value::Bool(true)),
+        Kind::Edit(op) => put(members, alloc, "op", op_value(alloc, op)?),
     }
 }
 

@@ -11,18 +11,9 @@ ghost use Rattle.sdb_wire.specs.View.{plain_word, plain_echo};
 
 use crate::requests::{Echo, Word};
 use sdb_oplog::Code;
+use sdb_value::count_of;
 use serde_json::Value;
 use std::alloc::{AllocError, Global};
-
-pub(crate) fn count_of(value: &Value) -> Option<u64>
-    ensures { result ≡ count_of (data_view value.now) }
-{
-    let n = value.as_u64()?;
-    if n > 9007199254740991 {
-        return None;
-    }
-    Some(n)
-}
 
 pub(crate) fn as_name(value: &Value) -> Option<&str>
     ensures { option_map (λ s. s.now) result ≡ as_name (data_view value.now) }
@@ -67,7 +58,8 @@ pub(crate) fn need_name(alloc: Global, value: &Value, key: &str) -> Result<Strin
 
 // A name that may be absent or null.
 pub(crate) fn may_name(alloc: Global, value: &Value, key: &str) -> Result<Option<String>, Code>
-    ensures ok { IfOk result (λ s. may as_name (present key.now (data_view value.now)) ≡ Ok (option_map string_bytes s)) }
+    ensures ok { IfOk result (λ s.
+        may as_name (present key.now (data_view value.now)) ≡ Ok (option_map string_bytes s)) }
     ensures err { IfErr result (λ code. RefusedBy (may as_name (present key.now (data_view value.now))) code) }
 {
     match present(value, key) {
@@ -95,9 +87,11 @@ fn as_word(alloc: Global, value: &Value) -> Result<Option<Word>, AllocError>
     ensures { IfOk result (λ w. option_map plain_word w ≡ as_word (data_view value.now)) }
 {
     match as_name(value) {
-        Some(name) => Ok(Some(Word::Text(String::from_str(alloc, name)?))),
+        Some(name) => Ok(Some(Word::Text {
+            text: String::from_str(alloc, name)?,
+        })),
         None => match count_of(value) {
-            Some(n) => Ok(Some(Word::Count(n))),
+            Some(count) => Ok(Some(Word::Count { count })),
             None => Ok(None),
         },
     }

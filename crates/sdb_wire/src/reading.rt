@@ -1,37 +1,37 @@
 //! Reads messages.
-ghost use Rattle.std.specs.Prelude.{◌≡◌, Ok, IfOk, IfErr, option_map, codes};
+ghost use Rattle.std.specs.Prelude.{◌≡◌, ◌⊎◌, Ok, IfOk, IfErr, option_map, codes};
 ghost use Rattle.serde_json.specs.View.{view as data_view};
 ghost use Rattle.sdb_oplog.specs.Keys.{plain_key};
 ghost use Rattle.sdb_oplog.specs.Refused.{RefusedBy};
-ghost use Rattle.sdb_wire.specs.Wire.{key_of, fetch_of, submit_of, message_of, content_of, is_deletion, creation, created, edition, wire, hear, nothing_said};
+ghost use Rattle.sdb_wire.specs.Wire.{key_of, fetch_of, submit_of, message_of, content_of, is_deletion, creation, created, edition, wire, hear, value_of, echo_of, said, nothing_said};
 ghost use Rattle.sdb_wire.specs.View.{plain_request, plain_echo, plain_heard, echo_from, IsFault, IsFaultOf};
 
 use crate::members::{count_at, may_count, may_name, name_at, need_name, present, said};
-use crate::requests::{Bad, Echo, Heard, Request};
+use crate::requests::{Bad, Echo, Heard, MESSAGE_LIMIT, Request, TYPE};
 use sdb_component::{OpFault, read_op};
 use sdb_oplog::{Code, Content, Key};
 use sdb_value::{ValueFault, from_value};
 use serde_json::Value;
 use std::alloc::{AllocError, Global};
 
-/// The request that a text is, or the first code in order, E1 to E3, with what the error shows.
+/// The request that a text is, or the first code in order, E1 to E3, with what the error shows. A text of
+/// more than [`MESSAGE_LIMIT`] bytes isn't read, and is E1.
 pub fn read_message(alloc: Global, text: &str) -> Result<Request, Bad>
     ensures ok { IfOk result (λ r. wire text.now ≡ Ok (plain_request r)) }
     ensures err { IfErr result (λ b. IsFault b (wire text.now)) }
+    // For want of memory too, an error shows members of this message, or none.
+    ensures echo { IfErr result (λ b. (plain_echo b.echo ≡ echo_of text.now) ⊎ (plain_echo b.echo ≡ nothing_said)) }
 {
-    match Value::from_str(alloc, text) {
-        Ok(value) => read_value(alloc, &value),
-        Err(error) => {
-            let code = if error.is_memory() {
-                Code::E10
-            } else {
-                Code::E1
-            };
-            Err(Bad {
-                echo: no_echo(),
-                code,
-            })
-        }
+    match value_of(alloc, text) {
+        Ok(Some(value)) => read_value(alloc, &value),
+        Ok(None) => Err(Bad {
+            echo: no_echo(),
+            code: Code::E1,
+        }),
+        Err(_) => Err(Bad {
+            echo: no_echo(),
+            code: Code::E10,
+        }),
     }
 }
 
@@ -40,28 +40,39 @@ pub fn read_message(alloc: Global, text: &str) -> Result<Request, Bad>
 pub fn hear(alloc: Global, text: &str) -> Result<Heard, AllocError>
     ensures { IfOk result (λ h. plain_heard h ≡ hear text.now) }
 {
+    let Some(value) = value_of(alloc, text)? else {
+        return Ok(Heard {
+            message: None,
+            request: Err(Code::E1),
+        });
+    };
+    let request = match message_of(alloc, &value) {
+        Ok(request) => Ok(request),
+        Err(code) => match code {
+            Code::E10 => return Err(AllocError),
+            code => Err(code),
+        },
+    };
+    Ok(Heard {
+        message: Some(value),
+        request,
+    })
+}
+
+// The JSON value of a message, where its text has a reading and is not too long.
+fn value_of(alloc: Global, text: &str) -> Result<Option<Value>, AllocError>
+    ensures { IfOk result (λ v. option_map data_view v ≡ value_of text.now) }
+{
+    if text.len() > MESSAGE_LIMIT {
+        return Ok(None);
+    }
     match Value::from_str(alloc, text) {
-        Ok(value) => {
-            let request = match message_of(alloc, &value) {
-                Ok(request) => Ok(request),
-                Err(code) => match code {
-                    Code::E10 => return Err(AllocError),
-                    code => Err(code),
-                },
-            };
-            Ok(Heard {
-                message: Some(value),
-                request,
-            })
-        }
+        Ok(value) => Ok(Some(value)),
         Err(error) => {
             if error.is_memory() {
                 return Err(AllocError);
             }
-            Ok(Heard {
-                message: None,
-                request: Err(Code::E1),
-            })
+            Ok(None)
         }
     }
 }
@@ -93,6 +104,8 @@ pub fn no_echo() -> Echo
 fn read_value(alloc: Global, value: &Value) -> Result<Request, Bad>
     ensures ok { IfOk result (λ r. message_of (data_view value.now) ≡ Ok (plain_request r)) }
     ensures err { IfErr result (λ b. IsFaultOf b (data_view value.now)) }
+    ensures echo { IfErr result (λ b.
+        (plain_echo b.echo ≡ said (data_view value.now)) ⊎ (plain_echo b.echo ≡ nothing_said)) }
 {
     match message_of(alloc, value) {
         Ok(request) => Ok(request),
@@ -132,7 +145,7 @@ fn fetch_of(alloc: Global, value: &Value) -> Result<Request, Code>
 {
     let key = key_of(alloc, value)?;
     match may_count(value, "v") {
-        Ok(version) => Ok(Request::Fetch(key, version)),
+        Ok(version) => Ok(Request::Fetch { key, version }),
         Err(code) => Err(code),
     }
 }
@@ -148,9 +161,15 @@ fn submit_of(alloc: Global, value: &Value) -> Result<Request, Code>
     let Some(seq) = count_at(value, "seq") else {
         return Err(Code::E1);
     };
-    let source = may_name(alloc, value, "src")?;
+    let src = may_name(alloc, value, "src")?;
     let content = read_content(alloc, value)?;
-    Ok(Request::Submit(key, version, seq, source, content))
+    Ok(Request::Submit {
+        key,
+        version,
+        seq,
+        src,
+        content,
+    })
 }
 
 /// The one content of a message: an operation, a create or a delete. Another number of them is E1, as
@@ -195,7 +214,7 @@ fn creation(alloc: Global, value: &Value) -> Result<Content, Code>
 {
     match value.get("type").and_then(Value::as_str) {
         Some(name) => {
-            if name != "http://sharejs.org/types/JSONv0" && name != "json0" {
+            if name != TYPE && name != "json0" {
                 return Err(Code::E2);
             }
             match value.get("data") {

@@ -1,5 +1,5 @@
 //! The texts of answers, written token by token.
-ghost use Rattle.std.specs.Prelude.{◌≡◌, ℕ, List, ◌∷◌, [], ◌++◌, IfOk, OnOk, OnErr, string_bytes, option_map, decimal, codes};
+ghost use Rattle.std.specs.Prelude.{◌≡◌, ◌∷◌, [], ◌++◌, IfOk, OnOk, OnErr, string_bytes, option_map, decimal, codes};
 ghost use Rattle.json.specs.Print.{print};
 ghost use Rattle.json.specs.Token.{begin_object, key as key_token, string, number};
 ghost use Rattle.serde_json.specs.Data.{Members};
@@ -10,16 +10,13 @@ ghost use Rattle.sdb_wire.specs.Answers.{answer_text, answer_data, init, fetched
 ghost use Rattle.sdb_wire.specs.View.{plain_answer, plain_echo, plain_word};
 
 use crate::codes::{code_name, code_text};
-use crate::requests::{Answer, Echo, Word};
+use crate::requests::{Answer, Echo, TYPE, Word};
 use json::Writer;
 use sdb_component::write_op;
 use sdb_oplog::{Code, Content, Entry, Key, Kind};
 use sdb_value::{Json, write_value};
 use std::alloc::{AllocError, Global};
 use std::mem;
-
-// The address of the type, as ShareDB's json0 has it.
-pub(crate) const TYPE: &str = "http://sharejs.org/types/JSONv0";
 
 // Room for most answers.
 const TEXT_LEN: usize = 128;
@@ -34,14 +31,18 @@ pub fn reply_text(alloc: Global, answer: &Answer<'_>) -> Result<String, AllocErr
 }
 
 /// Writes the text of an answer, as [`reply_text`] gives it, behind what `out` holds. After want of
-/// memory `out` holds what it held, and may hold a part of the text behind it.
+/// memory `out` holds what it held.
 pub fn write_reply(alloc: Global, answer: &Answer<'_>, out: &mut Vec<u8>) -> Result<(), AllocError>
     ensures ok { OnOk result (out.new.items ≡ out.old.items ++ answer_text (plain_answer answer.now)) }
-    ensures err { OnErr result ((part : List ℕ) × (out.new.items ≡ out.old.items ++ part)) }
+    ensures err { OnErr result (out.new.items ≡ out.old.items) }
 {
+    let len = out.len();
     let mut writer = Writer::new(mem::replace(out, Vec::new(alloc)));
     let written = write_answer(answer, &mut writer);
     *out = writer.into_inner();
+    if written.is_err() {
+        out.truncate(len);
+    }
     written
 }
 
@@ -57,18 +58,26 @@ fn text_of(out: Writer) -> String
 }
 
 fn write_answer(answer: &Answer<'_>, out: &mut Writer) -> Result<(), AllocError>
-    ensures tokens { OnOk result (out.new.tokens ≡ out.old.tokens ++ data_tokens (answer_data (plain_answer answer.now))) }
+    ensures tokens { OnOk result (out.new.tokens
+        ≡ out.old.tokens ++ data_tokens (answer_data (plain_answer answer.now))) }
     ensures before { out.new.before ≡ out.old.before }
 {
     match answer {
-        Answer::Init(src) => write_init(src, out),
-        Answer::Fetched(key, version, document) => write_fetched(key, *version, *document, out),
-        Answer::Listed(key) => write_listed(key, out),
-        Answer::OpMessage(key, entry) => write_op_message(key, entry, out),
-        Answer::Acknowledged(key, src, seq, version) => {
-            write_acknowledged(key, src, *seq, *version, out)
-        }
-        Answer::Failed(echo, code) => write_failed(echo, *code, out),
+        Answer::Init { src } => write_init(src, out),
+        Answer::Fetched {
+            key,
+            version,
+            document,
+        } => write_fetched(key, *version, *document, out),
+        Answer::Listed { key } => write_listed(key, out),
+        Answer::OpMessage { key, entry } => write_op_message(key, entry, out),
+        Answer::Acknowledged {
+            key,
+            src,
+            seq,
+            version,
+        } => write_acknowledged(key, src, *seq, *version, out),
+        Answer::Failed { echo, code } => write_failed(echo, *code, out),
     }
 }
 
@@ -90,7 +99,10 @@ fn write_count(name: &str, count: u64, out: &mut Writer) -> Result<(), AllocErro
 
 // The first members of an answer about a document.
 fn write_head(kind: &str, key: &Key, out: &mut Writer) -> Result<(), AllocError>
-    ensures tokens { OnOk result (out.new.tokens ≡ out.old.tokens ++ begin_object ∷ key_token (codes "a") ∷ string kind.now ∷ key_token (codes "c") ∷ string (plain_key key.now).collection ∷ key_token (codes "d") ∷ string (plain_key key.now).id ∷ []) }
+    ensures tokens { OnOk result (out.new.tokens
+        ≡ out.old.tokens ++ begin_object ∷ key_token (codes "a") ∷ string kind.now
+        ∷ key_token (codes "c") ∷ string (plain_key key.now).collection
+        ∷ key_token (codes "d") ∷ string (plain_key key.now).id ∷ []) }
     ensures before { out.new.before ≡ out.old.before }
 {
     out.begin_object()?;
@@ -113,7 +125,9 @@ fn write_init(src: &str, out: &mut Writer) -> Result<(), AllocError>
 }
 
 fn write_snapshot(version: u64, document: Option<&Json>, out: &mut Writer) -> Result<(), AllocError>
-    ensures tokens { OnOk result (out.new.tokens ≡ out.old.tokens ++ data_tokens (snapshot_data version (option_map (λ d. view d.now) document.entry))) }
+    ensures tokens { OnOk result (out.new.tokens
+        ≡ out.old.tokens ++ data_tokens
+        (snapshot_data version (option_map (λ d. view d.now) document.entry))) }
     ensures before { out.new.before ≡ out.old.before }
 {
     out.begin_object()?;
@@ -137,7 +151,9 @@ fn write_fetched(
     document: Option<&Json>,
     out: &mut Writer,
 ) -> Result<(), AllocError>
-    ensures tokens { OnOk result (out.new.tokens ≡ out.old.tokens ++ data_tokens (answer_data (fetched (plain_key key.now) version (option_map (λ d. view d.now) document.entry)))) }
+    ensures tokens { OnOk result (out.new.tokens
+        ≡ out.old.tokens ++ data_tokens
+        (answer_data (fetched (plain_key key.now) version (option_map (λ d. view d.now) document.entry)))) }
     ensures before { out.new.before ≡ out.old.before }
 {
     write_head("f", key, out)?;
@@ -147,7 +163,8 @@ fn write_fetched(
 }
 
 fn write_listed(key: &Key, out: &mut Writer) -> Result<(), AllocError>
-    ensures tokens { OnOk result (out.new.tokens ≡ out.old.tokens ++ data_tokens (answer_data (listed (plain_key key.now)))) }
+    ensures tokens { OnOk result (out.new.tokens
+        ≡ out.old.tokens ++ data_tokens (answer_data (listed (plain_key key.now)))) }
     ensures before { out.new.before ≡ out.old.before }
 {
     write_head("f", key, out)?;
@@ -155,7 +172,8 @@ fn write_listed(key: &Key, out: &mut Writer) -> Result<(), AllocError>
 }
 
 fn write_op_message(key: &Key, entry: &Entry, out: &mut Writer) -> Result<(), AllocError>
-    ensures tokens { OnOk result (out.new.tokens ≡ out.old.tokens ++ data_tokens (answer_data (op_message (plain_key key.now) entry.now))) }
+    ensures tokens { OnOk result (out.new.tokens
+        ≡ out.old.tokens ++ data_tokens (answer_data (op_message (plain_key key.now) entry.now))) }
     ensures before { out.new.before ≡ out.old.before }
 {
     out.begin_object()?;
@@ -169,7 +187,8 @@ fn write_op_message(key: &Key, entry: &Entry, out: &mut Writer) -> Result<(), Al
 
 // The key with the content, whose name stands among the key's.
 fn write_content(key: &Key, content: &Content, out: &mut Writer) -> Result<(), AllocError>
-    ensures tokens { OnOk result ((rest : Members) → out.new.tokens ++ object_rest rest ≡ out.old.tokens ++ object_rest (content_members (plain_key key.now) content.now rest)) }
+    ensures tokens { OnOk result ((rest : Members) → out.new.tokens ++ object_rest rest
+        ≡ out.old.tokens ++ object_rest (content_members (plain_key key.now) content.now rest)) }
     ensures before { out.new.before ≡ out.old.before }
 {
     write_text("c", key.collection.as_str(), out)?;
@@ -210,7 +229,9 @@ fn write_acknowledged(
     version: u64,
     out: &mut Writer,
 ) -> Result<(), AllocError>
-    ensures tokens { OnOk result (out.new.tokens ≡ out.old.tokens ++ data_tokens (answer_data (acknowledged (plain_key key.now) src.now seq version))) }
+    ensures tokens { OnOk result (out.new.tokens
+        ≡ out.old.tokens ++ data_tokens
+        (answer_data (acknowledged (plain_key key.now) src.now seq version))) }
     ensures before { out.new.before ≡ out.old.before }
 {
     write_head("op", key, out)?;
@@ -221,7 +242,8 @@ fn write_acknowledged(
 }
 
 fn write_failed(echo: &Echo, code: Code, out: &mut Writer) -> Result<(), AllocError>
-    ensures tokens { OnOk result (out.new.tokens ≡ out.old.tokens ++ data_tokens (answer_data (failed (plain_echo echo.now) code))) }
+    ensures tokens { OnOk result (out.new.tokens
+        ≡ out.old.tokens ++ data_tokens (answer_data (failed (plain_echo echo.now) code))) }
     ensures before { out.new.before ≡ out.old.before }
 {
     out.begin_object()?;
@@ -238,13 +260,14 @@ fn write_failed(echo: &Echo, code: Code, out: &mut Writer) -> Result<(), AllocEr
 
 // A member, unless it is none.
 fn write_word(name: &str, word: &Option<Word>, out: &mut Writer) -> Result<(), AllocError>
-    ensures tokens { OnOk result ((rest : Members) → out.new.tokens ++ object_rest rest ≡ out.old.tokens ++ object_rest (some_member name.now (option_map plain_word word.now) rest)) }
+    ensures tokens { OnOk result ((rest : Members) → out.new.tokens ++ object_rest rest
+        ≡ out.old.tokens ++ object_rest (some_member name.now (option_map plain_word word.now) rest)) }
     ensures before { out.new.before ≡ out.old.before }
 {
     match word {
         None => Ok(()),
-        Some(Word::Text(text)) => write_text(name, text.as_str(), out),
-        Some(Word::Count(count)) => write_count(name, *count, out),
+        Some(Word::Text { text }) => write_text(name, text.as_str(), out),
+        Some(Word::Count { count }) => write_count(name, *count, out),
     }
 }
 

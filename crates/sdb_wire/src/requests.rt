@@ -3,12 +3,19 @@ use sdb_oplog::{Code, Content, Entry, Key};
 use sdb_value::Json;
 use serde_json::Value;
 
-/// A member that an error shows again: a text of 1 to 200 bytes, or a whole number from 0 to
-/// 9007199254740991.
+/// The longest text of a message, in bytes: 1,048,576.
+pub const MESSAGE_LIMIT: usize = 1_048_576;
+
+// The address of the type of all documents, as ShareDB's json0 has it.
+pub(crate) const TYPE: &str = "http://sharejs.org/types/JSONv0";
+
+/// A member that an error shows again.
 #[derive(Drop)]
 pub enum Word {
-    Text(String),
-    Count(u64),
+    /// A text of 1 to 200 bytes.
+    Text { text: String },
+    /// A whole number from 0 to 9007199254740991.
+    Count { count: u64 },
 }
 
 /// The members of a message that an error shows again, each where it is there as a [`Word`].
@@ -26,10 +33,19 @@ pub struct Echo {
 #[derive(Drop)]
 pub enum Request {
     /// The present document; with a version the stored operations from there on.
-    Fetch(Key, Option<u64>),
+    Fetch {
+        key: Key,
+        version: Option<u64>,
+    },
     /// A submission: the version that it was made at, its number, its source, its content. Without a
     /// source it is the session's.
-    Submit(Key, Option<u64>, u64, Option<String>, Content),
+    Submit {
+        key: Key,
+        version: Option<u64>,
+        seq: u64,
+        src: Option<String>,
+        content: Content,
+    },
 }
 
 /// Why a message asks nothing, and what the error shows of it. E10 is want of memory.
@@ -51,15 +67,34 @@ pub struct Heard {
 #[derive(Drop)]
 pub enum Answer<'a> {
     /// The opening text: the session's source.
-    Init(&'a str),
+    Init {
+        src: &'a str,
+    },
     /// The present version, and the document there.
-    Fetched(&'a Key, u64, Option<&'a Json>),
+    Fetched {
+        key: &'a Key,
+        version: u64,
+        document: Option<&'a Json>,
+    },
     /// The end of a list of stored operations.
-    Listed(&'a Key),
+    Listed {
+        key: &'a Key,
+    },
     /// A stored operation.
-    OpMessage(&'a Key, &'a Entry),
+    OpMessage {
+        key: &'a Key,
+        entry: &'a Entry,
+    },
     /// A submission is stored: its source, its number, the version.
-    Acknowledged(&'a Key, &'a str, u64, u64),
+    Acknowledged {
+        key: &'a Key,
+        src: &'a str,
+        seq: u64,
+        version: u64,
+    },
     /// A message is refused.
-    Failed(&'a Echo, Code),
+    Failed {
+        echo: &'a Echo,
+        code: Code,
+    },
 }

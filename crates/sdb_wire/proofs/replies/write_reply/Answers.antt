@@ -1,5 +1,4 @@
-use Rattle.std.proofs.Common.{◌≡◌, ◌++◌, Result, Ok, Err, ap, ◌∙◌}
-use Rattle.std.specs.Result.{OnErr}
+use Rattle.std.proofs.Common.{◌≡◌, ◌++◌, ap, ◌∙◌}
 use Rattle.std.proofs.lemmas.Result.{on_ok_weaker}
 use Rattle.json.specs.Print.{print}
 use Rattle.serde_json.proofs.Texts.{print-outline}
@@ -8,18 +7,9 @@ use Rattle.sdb_wire.specs.Answers.{answer_data}
 use Rattle.sdb_wire.specs.View.{plain_answer}
 use Rattle.sdb_wire.proofs.replies.write_reply.Goals as goal
 
-on_err : {T E P : Type 0} (r : Result T E) → P → OnErr r P
-on_err (Ok x) p = tt
-on_err (Err e) p = p
-
-pub returns-clause-ok : goal.returns-clause-ok
-returns-clause-ok c =
+pub returns-else-is_err-clause-ok : goal.returns-else-is_err-clause-ok
+returns-else-is_err-clause-ok c =
     let d = answer_data (plain_answer c.args.answer.now) in
     let before : c.write_answer-written.new.out.before ≡ c.args.out.now.items = c.write_answer-written.ensures.before ∙ c.new-writer.ensures.before ∙ ap (λ v. v.items) c.replace.ensures.value in
     on_ok_weaker c.write_answer-written.result (λ h. c.into_inner.ensures.items ∙ ap (λ b. b ++ print c.write_answer-written.new.out.tokens) before
     ∙ ap (λ text. c.args.out.now.items ++ text) (ap print (h ∙ ap (λ ts. ts ++ data_tokens d) c.new-writer.ensures.tokens) ∙ print-outline d)) c.write_answer-written.ensures.tokens
-
-pub returns-clause-err : goal.returns-clause-err
-returns-clause-err c =
-    let before : c.write_answer-written.new.out.before ≡ c.args.out.now.items = c.write_answer-written.ensures.before ∙ c.new-writer.ensures.before ∙ ap (λ v. v.items) c.replace.ensures.value in
-    on_err c.write_answer-written.result (print c.write_answer-written.new.out.tokens, c.into_inner.ensures.items ∙ ap (λ b. b ++ print c.write_answer-written.new.out.tokens) before)
