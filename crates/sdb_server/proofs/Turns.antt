@@ -1,5 +1,5 @@
 -- A turn of the dialogue, from what a shard and a message give.
-use Rattle.std.proofs.Common.{◌≡◌, ℕ, List, [], ◌∷◌, ◌++◌, length, drop, Bool, true, false, cond, nat_lt, Option, Some, None, Result, Ok, Err, OnOk, IfSome, ◌⊎◌, inl, inr, refl, sym, ap, ◌∙◌, subst}
+use Rattle.std.proofs.Common.{◌≡◌, ℕ, List, [], ◌∷◌, ◌++◌, length, drop, Bool, true, false, cond, nat_lt, Option, Some, None, Result, Ok, Err, OnOk, OnErr, ◌⊎◌, inl, inr, refl, sym, ap, ◌∙◌, subst}
 use Rattle.sdb_oplog.specs.Plain.{PlainSubmission, PlainEntry}
 use Rattle.sdb_oplog.specs.Keys.{PlainKey, Logs, no_logs}
 use Rattle.sdb_oplog.specs.Decide.{PlainReply, refused, decide}
@@ -12,13 +12,13 @@ use Rattle.sdb_wire.specs.Answers.{PlainAnswer, failed}
 use Rattle.sdb_server.specs.Dialogue.{shown, opening, Turn, listing, fetch_answers, reply_answers, request_turn, submit_turn, heard_turn, marked, turn, AnswersBy, Dialogue, Stands}
 use Rattle.sdb_server.specs.Runs.{Wrote, WroteFront}
 
-pub on_any : {A E P : Type 0} (r : Result A E) → P → OnOk r P
-on_any (Ok x) p = p
-on_any (Err e) p = tt
-
 pub on_ok : {A E P Q : Type 0} (r : Result A E) → (P → Q) → OnOk r P → OnOk r Q
 on_ok (Ok x) f p = f p
 on_ok (Err e) f p = tt
+
+pub on_err : {A E P Q : Type 0} (r : Result A E) → (P → Q) → OnErr r P → OnErr r Q
+on_err (Ok x) f p = tt
+on_err (Err e) f p = f p
 
 -- ---- reads
 

@@ -192,7 +192,15 @@ fn submit(
     ensures stands { Stands (submit_turn (shown_of message.entry) (plain_key key.now) submission.now (logs_of shard.old)) (logs_of shard.old) (logs_of shard.new) }
 {
     let reply = submit_solo(alloc, shard, key, submission, &NoGate);
-    say_reply(alloc, message, key, submission.src(), submission.seq(), &reply, out)
+    say_reply(
+        alloc,
+        message,
+        key,
+        submission.src(),
+        submission.seq(),
+        &reply,
+        out,
+    )
 }
 
 // What was missed comes before the acknowledgement.

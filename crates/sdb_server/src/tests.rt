@@ -1,16 +1,16 @@
 //! Whole runs: worked rows, command lines, and streams that fail.
 use crate::command::{DONE, FAULT, REFUSED, answer_no_run, asks_lines, end_with, refuse};
 use crate::running::run_lines;
-use sdb_lines::{RunFault, Watched};
+use sdb_lines::{RunFault, WatchedReader, WatchedWriter};
 use std::alloc::{AllocError, Global};
 use std::cell::RefCell;
-use std::fmt::Display;
-use std::fmt::Write;
+use std::fmt::{Display, Write};
 use std::io;
 use std::test::Fail;
 
 // The line that each run begins with.
-const OPENING: &str = r#"{"a":"init","id":"s1","protocol":1,"protocolMinor":1,"type":"http://sharejs.org/types/JSONv0"}
+const OPENING: &str =
+    r#"{"a":"init","id":"s1","protocol":1,"protocolMinor":1,"type":"http://sharejs.org/types/JSONv0"}
 "#;
 
 // A run: its name, the lines read, and the lines written behind the opening.
@@ -239,8 +239,8 @@ const ROWS: [Row; 14] = [
 
 // What is written for the input.
 fn written(alloc: Global, input: &'static [u8]) -> Result<Vec<u8>, Fail> {
-    let mut reader = Watched::new(input);
-    let mut writer = Watched::new(Vec::new(alloc));
+    let mut reader = WatchedReader::new(input);
+    let mut writer = WatchedWriter::new(Vec::new(alloc));
     match run_lines(alloc, &mut reader, &mut writer) {
         Ok(_) => Ok(writer.stream),
         Err(_) => Err("a fault".into()),
@@ -259,7 +259,11 @@ fn worked_rows(rt: HostRuntime) -> Result<(), Fail> {
     for row in &ROWS {
         let wanted = whole(alloc, row.answers)?;
         let name = row.name;
-        assert_eq!(rt; written(alloc, row.lines.as_bytes())?.as_slice(), wanted.as_bytes(), "{name}");
+        assert_eq!(rt;
+            written(alloc, row.lines.as_bytes())?.as_slice(),
+            wanted.as_bytes(),
+            "{name}"
+        );
     }
     Ok(())
 }
@@ -386,7 +390,11 @@ fn a_command_line_that_asks_for_no_run(rt: HostRuntime) -> Result<(), Fail> {
         assert_eq!(rt; ended, status, "{line}");
         let (out, err) = (terminal.out.into_inner(), terminal.err.into_inner());
         assert_eq!(rt; out.is_empty(), on_error, "{line}");
-        assert_eq!(rt; err.as_str().lines().count(), if on_error { 1 } else { 0 }, "{line}");
+        assert_eq!(rt;
+            err.as_str().lines().count(),
+            if on_error { 1 } else { 0 },
+            "{line}"
+        );
     }
     Ok(())
 }
@@ -414,8 +422,8 @@ impl io::Write for Failing {
 #[test]
 fn a_writer_that_fails(rt: HostRuntime) {
     for calls in 0..20 {
-        let mut reader = Watched::new(r#"{"a":"f","c":"b","d":"1"}"#.as_bytes());
-        let mut writer = Watched::new(Failing { calls });
+        let mut reader = WatchedReader::new(r#"{"a":"f","c":"b","d":"1"}"#.as_bytes());
+        let mut writer = WatchedWriter::new(Failing { calls });
         let ended = run_lines(rt.alloc(), &mut reader, &mut writer);
         assert!(rt; matches!(ended, Err(RunFault::Write)), "after {calls}");
     }
