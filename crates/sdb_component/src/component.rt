@@ -3,11 +3,12 @@ ghost use Rattle.std.specs.Prelude.{◌≡◌, IfOk, min};
 ghost use Rattle.sdb_value.specs.View.{plain_path};
 ghost use Rattle.sdb_component.specs.Size.{component_size};
 ghost use Rattle.sdb_component.specs.View.{plain_act};
+ghost use Rattle.sdb_component.specs.Weighs.{weigh};
 
 use crate::copies::copy_path;
 use crate::measures::{size_of_act, size_of_path};
 use crate::piece::Piece;
-use sdb_value::{Json, Step, Whole};
+use sdb_value::{Json, Step, Whole, units};
 use std::alloc::{AllocError, Global};
 use std::marker::Model;
 
@@ -116,6 +117,16 @@ impl Component {
         let path = copy_path(alloc, self.path())?;
         let act = self.act().try_clone(alloc)?;
         Ok(Component::new(path, act))
+    }
+
+    /// The UTF-16 units of the text that is deleted, or 1 where the component is no `Act::Sd`.
+    pub fn weight(&self) -> u64
+        ensures { result ≡ weigh self.now }
+    {
+        match self.act() {
+            Act::Sd(_, text) => units(text.as_str()).max(1),
+            _ => 1,
+        }
     }
 
     /// How much there is to copy, up to the limit: the steps of its path, the bytes of its keys and
