@@ -33,9 +33,44 @@ def compare(title, script, lines):
     print(f"  ratio:                 {server / plain:.2f}")
 
 
+# The best time of the server over what a script writes, in seconds, and the most memory it held, in bytes.
+def server_over(runs, script, *counts):
+    with tempfile.NamedTemporaryFile("w", suffix=".lines") as made:
+        subprocess.run([sys.executable, os.path.join(HERE, script), *map(str, counts)], stdout=made, check=True)
+        made.flush()
+        best, held = float("inf"), 0
+        for _ in range(runs):
+            with open(made.name, "rb") as source, open(os.devnull, "wb") as sink:
+                start = time.perf_counter()
+                server = subprocess.Popen([SERVER, "--lines"], stdin=source, stdout=sink)
+                _, status, used = os.wait4(server.pid, 0)
+                assert status == 0
+                best, held = min(best, time.perf_counter() - start), max(held, used.ru_maxrss * 1024)
+    return best, held
+
+
+def long_logs():
+    few, many = 10_000, 1_000_000
+    short, long = server_over(5, "counts.py", few)[0] / few, server_over(1, "counts.py", many)[0] / many
+    print(f"each increment of one number, on a log that grows to {few} entries: {short * 1e6:.2f} microseconds")
+    print(f"  to {many}: {long * 1e6:.2f} microseconds, ratio {long / short:.2f}")
+    held = server_over(1, "trace.py", many)[1] - server_over(1, "trace.py", few)[1]
+    print(f"memory for each insert of a character by 8 sources: {held / (many - few):.0f} bytes")
+
+
+def pairs():
+    edits = 1000
+    small, large = ((server_over(5, "pairs.py", size, edits)[0] - server_over(5, "pairs.py", size, 0)[0]) / edits for size in (100, 10_000))
+    print(f"an edit of two components in a text of 1 KB, in a document of 100 KB: {small * 1e6:.0f} microseconds")
+    print(f"  of 10 MB: {large * 1e6:.0f} microseconds, ratio {large / small:.2f}")
+
+
 def main():
     compare("1,000 documents", "lines.py", 100_000)
-    compare("one text, 8 sources up to 8 versions behind", "trace.py", 20_000)
+    compare("one text, 8 sources up to 8 versions behind", "trace.py", 100_000)
+    compare("one number", "counts.py", 100_000)
+    long_logs()
+    pairs()
     sys.stdout.flush()
     for part in ("apply", "transform"):
         subprocess.run([BENCH, part], check=True)

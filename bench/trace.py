@@ -1,6 +1,7 @@
 """Writes the input of the second benchmark: a typing trace of 8 sources on one text, each up to 8 versions behind.
 
-Each source keeps what it has seen, so every operation fits the version that it names."""
+Each inserts inside the text that the document began with. Nothing is deleted, so every operation fits the version that it
+names."""
 import json
 import random
 import sys
@@ -15,7 +16,7 @@ def main(operations):
     start = "The quick brown fox jumps over the lazy dog. " * 4
     create = {"type": TYPE, "data": {"text": start}}
     print(json.dumps({"a": "op", "c": "notes", "d": "1", "src": "u0", "seq": 0, "create": create}, separators=(",", ":")))
-    # a source inserts at a place that every version from the one it names on has, and never deletes past it
+    # every version has this offset
     version = 1
     shortest = len(start)
     for number in range(1, operations):

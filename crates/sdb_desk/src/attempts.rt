@@ -47,7 +47,8 @@ impl Model for Work {
 
     ghost view = { λ w. plain_attempt w.attempt };
 
-    ghost invariant = { λ w. content_or w.attempt.submission.content w.worked ≡ over_all w.attempt.submission.content w.attempt.look.missed.items };
+    ghost invariant = { λ w. content_or w.attempt.submission.content w.worked ≡
+        over_all w.attempt.submission.content w.attempt.look.missed.items };
 }
 
 impl Work {
@@ -116,14 +117,16 @@ impl Work {
     /// The attempt and what its content became, given back; no content where it stays as it arrived.
     pub fn into_parts(self) -> (Attempt, Result<Option<Content>, Code>)
         ensures attempt { plain_attempt result.0 ≡ self }
-        ensures worked { content_or self.submission.content result.1 ≡ over_all self.submission.content self.look.missed }
+        ensures worked { content_or self.submission.content result.1 ≡
+            over_all self.submission.content self.look.missed }
     {
         (self.attempt, self.worked)
     }
 
     /// The work of these parts, as [`into_parts`](Work::into_parts) gives them.
     pub fn from_parts(attempt: Attempt, worked: Result<Option<Content>, Code>) -> Work
-        requires { content_or attempt.submission.content worked ≡ over_all attempt.submission.content attempt.look.missed.items }
+        requires { content_or attempt.submission.content worked ≡
+            over_all attempt.submission.content attempt.look.missed.items }
         ensures { result ≡ plain_attempt attempt }
     {
         Work { attempt, worked }

@@ -86,7 +86,8 @@ impl Shard {
     /// `Refused(E10)` is want of memory. Then, and where the log has moved, nothing has changed and the
     /// work is as it was.
     pub fn commit(&mut self, key: &Key, work: &mut Work) -> Outcome
-        ensures commits { Commits (logs_of self.old) (plain_key key.now) work.old (plain_outcome result) (logs_of self.new) }
+        ensures commits { Commits (logs_of self.old) (plain_key key.now) work.old (plain_outcome result)
+            (logs_of self.new) }
         ensures keeps { Keeps (plain_outcome result) work.old work.new }
     {
         if self.version(key) != work.version() {
@@ -109,7 +110,8 @@ impl Shard {
 
     // Whether the entries that the work rests on are those that its submission missed.
     fn agrees(&self, key: &Key, work: &Work) -> bool
-        ensures { IsTrue result → work.now.look.missed ≡ missed (logs_of self.now (plain_key key.now)) work.now.submission }
+        ensures { IsTrue result → work.now.look.missed ≡
+            missed (logs_of self.now (plain_key key.now)) work.now.submission }
     {
         match self.find(key) {
             Some(document) => {
@@ -121,7 +123,8 @@ impl Shard {
 
     /// Decides a submission in one step. `Refused(E10)` is want of memory: nothing has changed.
     pub fn commit_now(&mut self, key: &Key, submission: &Submission) -> Reply
-        ensures { Decides (logs_of self.old) (plain_key key.now) submission.now (plain_reply result) (logs_of self.new) }
+        ensures { Decides (logs_of self.old) (plain_key key.now) submission.now (plain_reply result)
+            (logs_of self.new) }
     {
         let Ok(work) = self.work_now(key, submission) else {
             return Reply::Refused(Code::E10);
@@ -135,7 +138,8 @@ impl Shard {
     // The submission, worked along the entries that it has missed now.
     fn work_now(&self, key: &Key, submission: &Submission) -> Result<Work, AllocError>
         ensures submission { IfOk result (λ w. w.submission ≡ submission.now) }
-        ensures missed { IfOk result (λ w. w.look.missed ≡ missed (logs_of self.now (plain_key key.now)) submission.now) }
+        ensures missed { IfOk result
+            (λ w. w.look.missed ≡ missed (logs_of self.now (plain_key key.now)) submission.now) }
     {
         let look = self.look(key, submission)?;
         let attempt = Attempt {
@@ -162,8 +166,12 @@ impl Shard {
     // the work comes back, and nothing has changed.
     fn decide(&mut self, key: &Key, work: Work) -> Result<Reply, Work>
         requires { work.look.missed ≡ missed (logs_of self.old (plain_key key.now)) work.submission }
-        ensures reply { IfOk result (λ r. plain_reply r ≡ (decide (logs_of self.old (plain_key key.now)) work.submission).reply) }
-        ensures logs { OnOk result (logs_of self.new ≡ with_log (logs_of self.old) (plain_key key.now) (decide (logs_of self.old (plain_key key.now)) work.submission).log) }
+        ensures reply { IfOk result
+            (λ r. plain_reply r ≡ (decide (logs_of self.old (plain_key key.now)) work.submission).reply) }
+        ensures logs { OnOk result
+            (logs_of self.new ≡
+            with_log (logs_of self.old) (plain_key key.now)
+            (decide (logs_of self.old (plain_key key.now)) work.submission).log) }
         ensures work { IfErr result (λ w. w ≡ work) }
         ensures err { OnErr result (logs_of self.new ≡ logs_of self.old) }
     {
@@ -179,7 +187,8 @@ impl Shard {
         requires nothing { [] ≡ logs_of self.old (plain_key key.now) }
         requires missed { work.look.missed ≡ missed [] work.submission }
         ensures reply { IfOk result (λ r. plain_reply r ≡ (decide [] work.submission).reply) }
-        ensures logs { OnOk result (logs_of self.new ≡ with_log (logs_of self.old) (plain_key key.now) (decide [] work.submission).log) }
+        ensures logs { OnOk result
+            (logs_of self.new ≡ with_log (logs_of self.old) (plain_key key.now) (decide [] work.submission).log) }
         ensures work { IfErr result (λ w. w ≡ work) }
         ensures err { OnErr result (logs_of self.new ≡ logs_of self.old) }
     {

@@ -132,7 +132,6 @@ made_by log s None h e = made_store log s (settled log s) h (ap (λ o. option_ma
 pub made_decided : (log : List PlainEntry) (s : PlainSubmission) → IsMade log → IsMade (decide log s).log
 made_decided log s h = made_by log s (stored_at s.src s.seq log) h refl
 
-
 -- what is stored stays in front of what is stored later
 grown : (log : List PlainEntry) (s : PlainSubmission) (r : Result PlainContent Code) → (rest : List PlainEntry) × ((store log s r).log ≡ log ++ rest)
 grown log s (Err c) = ([], sym (append_none log))

@@ -3,9 +3,9 @@ ghost use Rattle.std.specs.Prelude.{◌≡◌, IsTrue};
 ghost use Rattle.sdb_value.specs.View.{view, items_view, members_view, plain_step, plain_path};
 ghost use Rattle.sdb_component.specs.View.{plain_act};
 
-use sdb_component::{Act, Component};
 use crate::contents::{Content, Kind};
 use crate::entries::{Entry, Submission};
+use sdb_component::{Act, Component};
 use sdb_value::{Json, Step};
 use std::collections::BTreeMap;
 

@@ -116,8 +116,10 @@ impl Content {
 }
 
 fn create_in(alloc: Global, value: &Json, document: &mut Option<Json>) -> Result<(), Code>
-    ensures ok { OnOk result (becomes (create (view value.now)) (option_map view document.old) ≡ Ok (option_map view document.new)) }
-    ensures err { IfErr result (λ code. RefusedBy (becomes (create (view value.now)) (option_map view document.old)) code) }
+    ensures ok { OnOk result
+        (becomes (create (view value.now)) (option_map view document.old) ≡ Ok (option_map view document.new)) }
+    ensures err { IfErr result
+        (λ code. RefusedBy (becomes (create (view value.now)) (option_map view document.old)) code) }
     ensures same { OnErr result (option_map view document.new ≡ option_map view document.old) }
 {
     if document.is_some() {
@@ -128,7 +130,8 @@ fn create_in(alloc: Global, value: &Json, document: &mut Option<Json>) -> Result
 }
 
 fn edit_in(alloc: Global, op: &Op, document: &mut Option<Json>) -> Result<(), Code>
-    ensures ok { OnOk result (becomes (edit op.now) (option_map view document.old) ≡ Ok (option_map view document.new)) }
+    ensures ok { OnOk result
+        (becomes (edit op.now) (option_map view document.old) ≡ Ok (option_map view document.new)) }
     ensures err { IfErr result (λ code. RefusedBy (becomes (edit op.now) (option_map view document.old)) code) }
     ensures memory { IsErrOf result E10 → becoming_takes_memory (edit op.now) ≡ true }
     ensures same { OnErr result (option_map view document.new ≡ option_map view document.old) }

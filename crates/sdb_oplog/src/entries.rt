@@ -41,7 +41,14 @@ impl Submission {
         via: String,
         by: u64,
     ) -> Submission
-        ensures { result ≡ record { src = string_bytes src; seq = seq; version = version; content = content; via = string_bytes via; by = by } }
+        ensures { result ≡ record {
+          src = string_bytes src;
+          seq = seq;
+          version = version;
+          content = content;
+          via = string_bytes via;
+          by = by;
+        } }
     {
         Submission {
             src,
@@ -132,7 +139,11 @@ impl Entry {
     /// The entry of the content at the version. Without a content it is that of the submission, as it
     /// arrived.
     pub fn new(version: u64, content: Option<Content>, arrived: Submission) -> Entry
-        ensures { result ≡ record { version = version; content = unwrap_or content arrived.content; arrived = arrived } }
+        ensures { result ≡ record {
+          version = version;
+          content = unwrap_or content arrived.content;
+          arrived = arrived;
+        } }
     {
         Entry {
             version,

@@ -64,7 +64,8 @@ impl Model for Prepared {
 
     ghost view = { λ p. record { log = p.entries.items; submission = p.submission } };
 
-    ghost invariant = { λ p. IsLog p.entries.items p.index × (vec_len p.entries < vec_capacity p.entries) × HasRoom p.index p.submission.src };
+    ghost invariant = { λ p. IsLog p.entries.items p.index × (vec_len p.entries < vec_capacity p.entries) ×
+        HasRoom p.index p.submission.src };
 }
 
 /// A log and a submission that no room could be made for, both as they were.
@@ -134,7 +135,12 @@ impl Log {
         ensures ok { OnOk result (self.new ≡ self.old ++ entry ∷ []) }
         ensures err { OnErr result (self.new ≡ self.old) }
     {
-        make_room(self.alloc, &mut self.entries, &mut self.index, entry.arrived().src())?;
+        make_room(
+            self.alloc,
+            &mut self.entries,
+            &mut self.index,
+            entry.arrived().src(),
+        )?;
         put(&mut self.entries, &mut self.index, entry);
         Ok(())
     }

@@ -1,8 +1,8 @@
 -- A turn of the dialogue, from what a shard and a message give.
-use Rattle.std.proofs.Common.{◌≡◌, ℕ, List, [], ◌∷◌, ◌++◌, length, drop, Bool, true, false, cond, nat_lt, Option, Some, None, Result, Ok, Err, OnOk, OnErr, ◌⊎◌, inl, inr, refl, sym, ap, ◌∙◌, subst}
+use Rattle.std.proofs.Common.{◌≡◌, ℕ, List, [], ◌∷◌, ◌++◌, length, drop, Bool, true, false, cond, nat_lt, Option, Some, Result, Ok, Err, OnOk, OnErr, ◌⊎◌, inl, inr, refl, sym, ap, ◌∙◌, subst}
 use Rattle.sdb_oplog.specs.Plain.{PlainSubmission, PlainEntry}
 use Rattle.sdb_oplog.specs.Keys.{PlainKey, Logs, no_logs}
-use Rattle.sdb_oplog.specs.Decide.{PlainReply, refused, decide}
+use Rattle.sdb_oplog.specs.Decide.{PlainReply, decide}
 use Rattle.sdb_oplog.specs.declared.codes.Code.{Code}
 use Rattle.sdb_oplog.specs.declared.codes.Code.TheVariants.{E4, E10}
 use Rattle.sdb_desk.specs.Machine.{Decides, Reads, operations}

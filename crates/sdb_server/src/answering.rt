@@ -31,7 +31,8 @@ pub fn answer_line(
 ) -> Result<bool, AllocError>
     ensures answer { OnOk result (GrewBy out.old.items out.new.items
         (λ answer. Dialogue (logs_of shard.old) (Some line.now) answer (logs_of shard.new))) }
-    ensures stands { OnErr result (Stands (turn false line.now (logs_of shard.old)) (logs_of shard.old) (logs_of shard.new)) }
+    ensures stands { OnErr result
+        (Stands (turn false line.now (logs_of shard.old)) (logs_of shard.old) (logs_of shard.new)) }
     ensures step { IfOk result (λ b. b ≡ is_request line.now) }
 {
     let Heard { message, request } = hear(alloc, line)?;
@@ -56,7 +57,8 @@ fn answer_request(
 ) -> Result<(), AllocError>
     ensures answer { OnOk result (GrewBy out.old.items out.new.items
         (λ answer. AnswersBy (shown_of message.entry) (request_turn (shown_of message.entry) (plain_request request) (logs_of shard.old)) (logs_of shard.old) answer (logs_of shard.new))) }
-    ensures stands { Stands (request_turn (shown_of message.entry) (plain_request request) (logs_of shard.old)) (logs_of shard.old) (logs_of shard.new) }
+    ensures stands { Stands (request_turn (shown_of message.entry) (plain_request request) (logs_of shard.old))
+        (logs_of shard.old) (logs_of shard.new) }
 {
     match request {
         Request::Fetch { key, version } => fetch(alloc, shard, message, &key, version, out),
@@ -84,7 +86,8 @@ fn submission(
     src: Option<String>,
     content: Content,
 ) -> Result<Submission, AllocError>
-    ensures { IfOk result (λ s. s ≡ submission_of (plain_key key.now) version seq (option_map string_bytes src) content) }
+    ensures { IfOk result
+        (λ s. s ≡ submission_of (plain_key key.now) version seq (option_map string_bytes src) content) }
 {
     let src = match src {
         Some(given) => given,
@@ -139,7 +142,9 @@ fn say_document<'a>(
     document: Option<&'a Json>,
     out: &mut Vec<u8>,
 ) -> Result<(), AllocError>
-    ensures { OnOk result (out.new.items ≡ out.old.items ++ shown (fetched (plain_key key.now) version (option_map (λ d. view d.now) document.entry) ∷ [])) }
+    ensures { OnOk result
+        (out.new.items ≡ out.old.items ++ shown
+        (fetched (plain_key key.now) version (option_map (λ d. view d.now) document.entry) ∷ [])) }
 {
     let answer = Answer::Fetched {
         key,
@@ -189,7 +194,9 @@ fn submit(
     requires { submission.now.by ≡ 0 }
     ensures answer { OnOk result (GrewBy out.old.items out.new.items
         (λ answer. AnswersBy (shown_of message.entry) (submit_turn (shown_of message.entry) (plain_key key.now) submission.now (logs_of shard.old)) (logs_of shard.old) answer (logs_of shard.new))) }
-    ensures stands { Stands (submit_turn (shown_of message.entry) (plain_key key.now) submission.now (logs_of shard.old)) (logs_of shard.old) (logs_of shard.new) }
+    ensures stands { Stands
+        (submit_turn (shown_of message.entry) (plain_key key.now) submission.now (logs_of shard.old))
+        (logs_of shard.old) (logs_of shard.new) }
 {
     let reply = submit_solo(alloc, shard, key, submission, &NoGate);
     say_reply(
@@ -213,7 +220,9 @@ fn say_reply(
     reply: &Reply,
     out: &mut Vec<u8>,
 ) -> Result<(), AllocError>
-    ensures { OnOk result (out.new.items ≡ out.old.items ++ shown (reply_answers (shown_of message.entry) (plain_key key.now) src.now seq (plain_reply reply.now))) }
+    ensures { OnOk result
+        (out.new.items ≡ out.old.items ++ shown
+        (reply_answers (shown_of message.entry) (plain_key key.now) src.now seq (plain_reply reply.now))) }
 {
     match reply {
         Reply::Stored { v, missed } => {
@@ -234,7 +243,8 @@ fn say_stored(
     version: u64,
     out: &mut Vec<u8>,
 ) -> Result<(), AllocError>
-    ensures { OnOk result (out.new.items ≡ out.old.items ++ shown (acknowledged (plain_key key.now) src.now seq version ∷ [])) }
+    ensures { OnOk result
+        (out.new.items ≡ out.old.items ++ shown (acknowledged (plain_key key.now) src.now seq version ∷ [])) }
 {
     let answer = Answer::Acknowledged {
         key,

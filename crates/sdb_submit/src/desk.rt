@@ -53,7 +53,8 @@ pub trait Desk {
         requires by { submission.now.by ≡ number self.now pass.old }
         ensures takes { takes self.now pass.new }
         ensures number { number self.now pass.new ≡ number self.now pass.old }
-        ensures acts { acts self.now (plain_key key.now) (commit_now submission.now) pass.old (plain_reply result) pass.new };
+        ensures acts { acts self.now (plain_key key.now) (commit_now submission.now) pass.old
+            (plain_reply result) pass.new };
 
     /// The present version and the document there, or E10.
     fn fetch(&self, pass: &mut Self::Pass, key: &Key) -> Result<Fetched, Code>
@@ -63,12 +64,7 @@ pub trait Desk {
         ensures acts { acts self.now (plain_key key.now) fetch pass.old (told_fetched result) pass.new };
 
     /// The stored operations from a version on; E4 where it is above the present one; or E10.
-    fn ops_from(
-        &self,
-        pass: &mut Self::Pass,
-        key: &Key,
-        version: u64,
-    ) -> Result<Vec<Entry>, Code>
+    fn ops_from(&self, pass: &mut Self::Pass, key: &Key, version: u64) -> Result<Vec<Entry>, Code>
         requires { takes self.now pass.old }
         ensures takes { takes self.now pass.new }
         ensures number { number self.now pass.new ≡ number self.now pass.old }

@@ -85,7 +85,8 @@ fn carried_on(
     worked: Result<Option<Content>, Code>,
     entries: &[Entry],
 ) -> Option<Result<Option<Content>, Code>>
-    ensures { IfSome result (λ r. content_or arrived.now r ≡ result_then (λ k. over_all k entries.now) (content_or arrived.now worked)) }
+    ensures { IfSome result
+        (λ r. content_or arrived.now r ≡ result_then (λ k. over_all k entries.now) (content_or arrived.now worked)) }
 {
     match worked {
         Err(code) => Some(Err(code)),
