@@ -125,7 +125,10 @@ const NUMBERS: [(&str, Option<i64>, Option<u64>); 9] = [
 fn numbers_are_read(rt: HostRuntime) -> Result<(), Fail> {
     for (text, want, count) in NUMBERS {
         let value = Value::from_str(rt.alloc(), text)?;
-        let whole = value.as_number().and_then(whole_of);
+        let whole = match value.as_number() {
+            Some(number) => whole_of(number),
+            None => None,
+        };
         assert_eq!(rt; whole.map(Whole::get), want, "{text}");
         assert_eq!(rt; count_of(&value), count, "{text}");
     }
