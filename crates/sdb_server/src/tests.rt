@@ -336,8 +336,6 @@ impl Alloc for Terminal {
     }
 }
 
-impl AllocGlobal for Terminal {}
-
 #[test]
 fn faults_are_told(rt: HostRuntime) -> Result<(), Fail> {
     for (fault, told) in [
@@ -380,14 +378,12 @@ fn a_command_line_that_asks_for_no_run(rt: HostRuntime) -> Result<(), Fail> {
         ("sdb_server --help", DONE, false),
     ] {
         let given = words(alloc, line)?;
-        let Err(error) = asks_lines(alloc, given.as_slice()) else {
-            return Err("it asks for a run".into());
-        };
         let terminal = Terminal::new(alloc);
-        let Ok(ended) = answer_no_run(&terminal, &error) else {
-            return Err("no status".into());
+        let ended = match asks_lines(alloc, given.as_slice()) {
+            Ok(_) => None,
+            Err(error) => answer_no_run(&terminal, &error).ok(),
         };
-        assert_eq!(rt; ended, status, "{line}");
+        assert_eq!(rt; ended, Some(status), "{line}");
         let (out, err) = (terminal.out.into_inner(), terminal.err.into_inner());
         assert_eq!(rt; out.is_empty(), on_error, "{line}");
         assert_eq!(rt;
