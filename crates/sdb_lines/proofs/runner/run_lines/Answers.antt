@@ -1,4 +1,4 @@
-use Rattle.std.proofs.Common.{arith, take, ap, ◌∙◌, length-take, refl}
+use Rattle.std.proofs.Common.{arith, inr, take, ap, ◌∙◌, length-take, refl}
 use Rattle.sdb_lines.proofs.Pieces.{ended-few}
 use Rattle.sdb_lines.proofs.Writing.{but-no_error}
 use Rattle.sdb_lines.proofs.Progress.{went-start, went-on, went-front, went-stop, went-whole, went-whole_front, went-lines, went-steps, opening-front}
@@ -75,3 +75,21 @@ returns-in-Ok-answer_rest-clause-steps g c =
     let nothing = ap (λ n. take n c.take.new.buf) c.in-Ok-eq0.field-0-test in
     let ends = bytes.1 c.in-Ok-eq0.field-0-test (omega (arith, c.loop-turn.invariant.room, c.take.auto.buf)) in
     went-steps takes g.M.Replier.is_step _ _ nothing c.loop-turn.invariant.went bytes.0 ends _ c.in-Ok-answer_rest.ensures.counted
+
+pub returns-in-Ok-answer_rest-clause-calls : goal.returns-in-Ok-answer_rest-clause-calls
+returns-in-Ok-answer_rest-clause-calls g c = omega (arith, c.loop-turn.invariant.at_most, c.take.ensures.calls)
+
+pub returns-in-Err-answer_rest-clause-calls : goal.returns-in-Err-answer_rest-clause-calls
+returns-in-Err-answer_rest-clause-calls g c = omega (arith, c.loop-turn.invariant.at_most, c.take.ensures.calls)
+
+pub returns-in-Err-answer_piece-clause-calls : goal.returns-in-Err-answer_piece-clause-calls
+returns-in-Err-answer_piece-clause-calls g c = omega (arith, c.loop-turn.invariant.at_most, c.take.ensures.calls)
+
+pub returns-in-Err-take-clause-calls : goal.returns-in-Err-take-clause-calls
+returns-in-Err-take-clause-calls g c = omega (arith, c.loop-turn.invariant.at_most, c.take.ensures.calls)
+
+pub returns-clause-calls : goal.returns-clause-calls
+returns-clause-calls g c = omega (arith, c.loop-turn.invariant.at_most)
+
+pub returns-clause-read : goal.returns-clause-read
+returns-clause-read g c = λ e. inr (omega (arith, c.loop-turn.invariant.calls))
