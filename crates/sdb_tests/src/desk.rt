@@ -18,13 +18,25 @@ fn number(n: i64) -> Result<Whole, Fail> {
 }
 
 // A submission that adds to the number that is the whole document.
-fn adds(alloc: Global, src: &str, seq: u64, version: Option<u64>, amount: i64) -> Result<Submission, Fail> {
+fn adds(
+    alloc: Global,
+    src: &str,
+    seq: u64,
+    version: Option<u64>,
+    amount: i64,
+) -> Result<Submission, Fail> {
     let component = Component::new(Vec::new(alloc), Act::Na(number(amount)?));
     let content = Content::edit(Op::new(vec![in alloc; component]?));
     from(alloc, src, seq, version, content)
 }
 
-fn from(alloc: Global, src: &str, seq: u64, version: Option<u64>, content: Content) -> Result<Submission, Fail> {
+fn from(
+    alloc: Global,
+    src: &str,
+    seq: u64,
+    version: Option<u64>,
+    content: Content,
+) -> Result<Submission, Fail> {
     let (src, via) = (String::from_str(alloc, src)?, String::from_str(alloc, "b")?);
     Ok(Submission::new(src, seq, version, content, via, 0))
 }
@@ -54,12 +66,20 @@ fn a_commit_decides_or_has_moved(rt: HostRuntime) -> Result<(), Fail> {
     let mut shard = started(alloc, &key)?;
     let mut late = worked(alloc, &shard, &key, adds(alloc, "y", 1, Some(1), 10)?)?;
     let mut first = worked(alloc, &shard, &key, adds(alloc, "z", 1, Some(1), 5)?)?;
-    assert!(rt; matches!(shard.commit(&key, &mut first), Outcome::Decided(Reply::Stored { v: 1, missed: _ })));
+    assert!(rt;
+        matches!(
+            shard.commit(&key, &mut first),
+            Outcome::Decided(Reply::Stored { v: 1, missed: _ })
+        )
+    );
     let Outcome::Moved(look) = shard.commit(&key, &mut late) else {
         return Err("not moved".into());
     };
     assert_eq!(rt; (look.version, look.missed.len()), (2, 1));
-    let Attempt { submission, look: _ } = late.into_attempt();
+    let Attempt {
+        submission,
+        look: _,
+    } = late.into_attempt();
     let Ok(mut again) = Work::of(alloc, Attempt { submission, look }) else {
         return Err("no work".into());
     };
@@ -84,7 +104,13 @@ fn a_repeat_and_a_refusal_change_nothing(rt: HostRuntime) -> Result<(), Fail> {
     assert!(rt; matches!(shard.commit_now(&key, &newer), Reply::Refused(Code::E4)));
     let path = vec![in alloc; Step::Index(0)]?;
     let nowhere = Component::new(path, Act::Na(number(1)?));
-    let edit = from(alloc, "y", 1, None, Content::edit(Op::new(vec![in alloc; nowhere]?)))?;
+    let edit = from(
+        alloc,
+        "y",
+        1,
+        None,
+        Content::edit(Op::new(vec![in alloc; nowhere]?)),
+    )?;
     assert!(rt; matches!(shard.commit_now(&key, &edit), Reply::Refused(Code::E8)));
     let log = shard.log(&key).ok_or("a log")?;
     assert_eq!(rt; log.len(), 1);

@@ -2,7 +2,9 @@
 ghost use Rattle.std.specs.Prelude.{◌≡◌, IfOk};
 
 use sdb_component::Op;
-use sdb_oplog::{Code, Content, Entry, Kind, Log, Submission, copy_entries, over, over_all, same_entries};
+use sdb_oplog::{
+    Code, Content, Entry, Kind, Log, Submission, copy_entries, over, over_all, same_entries,
+};
 use sdb_value::{Json, Whole};
 use std::alloc::Global;
 use std::test::Fail;
@@ -64,7 +66,11 @@ fn a_content_over_others(rt: HostRuntime) -> Result<(), Fail> {
     assert!(rt; matches!(passed.kind(), Kind::Delete));
     let none = over_all(alloc, &edit, &[]).or(Err("along nothing"))?;
     assert!(rt; none.is_none());
-    let entry = Entry::new(1, None, submission(alloc, 2, Content::edit(Op::new(Vec::new(alloc))))?);
+    let entry = Entry::new(
+        1,
+        None,
+        submission(alloc, 2, Content::edit(Op::new(Vec::new(alloc))))?,
+    );
     let one = over_all(alloc, &delete, &[entry]).or(Err("along an edit"))?;
     assert!(rt; matches!(one.ok_or("carried")?.kind(), Kind::Delete));
     Ok(())
@@ -74,9 +80,18 @@ fn a_content_over_others(rt: HostRuntime) -> Result<(), Fail> {
 fn a_content_done_to_a_document(rt: HostRuntime) -> Result<(), Fail> {
     let alloc = rt.alloc();
     let mut document = None;
-    assert!(rt; Content::create(three()?).apply_to(alloc, &mut document).is_ok());
+    assert!(rt;
+        Content::create(three()?)
+            .apply_to(alloc, &mut document)
+            .is_ok()
+    );
     assert!(rt; document == Some(three()?));
-    assert!(rt; matches!(Content::create(Json::Null).apply_to(alloc, &mut document), Err(Code::E6)));
+    assert!(rt;
+        matches!(
+            Content::create(Json::Null).apply_to(alloc, &mut document),
+            Err(Code::E6)
+        )
+    );
     assert!(rt; document == Some(three()?));
     assert!(rt; Content::delete().apply_to(alloc, &mut document).is_ok());
     assert!(rt; document.is_none());
