@@ -9,6 +9,8 @@ mod component;
 #[cfg(test)]
 mod lines;
 #[cfg(test)]
+mod oplog;
+#[cfg(test)]
 mod transform;
 #[cfg(test)]
 mod value;
