@@ -137,7 +137,7 @@ impl Work {
         ensures { IfOk result (λ w. w ≡ self.now) }
     {
         let attempt = Attempt {
-            submission: self.attempt.submission.try_clone(alloc)?,
+            submission: self.attempt.submission.try_clone()?,
             look: Look {
                 version: self.attempt.look.version,
                 repeat: self.attempt.look.repeat,
@@ -177,7 +177,7 @@ fn copy_worked(
     ensures { IfOk result (λ w. w ≡ worked.now) }
 {
     match worked {
-        Ok(Some(content)) => Ok(Ok(Some(content.try_clone(alloc)?))),
+        Ok(Some(content)) => Ok(Ok(Some(content.try_clone()?))),
         Ok(None) => Ok(Ok(None)),
         Err(code) => Ok(Err(*code)),
     }

@@ -10,8 +10,8 @@ ghost use Rattle.sdb_desk.specs.Told.{plain_reply};
 ghost use Rattle.sdb_desk.specs.Documents.{IsMadeDocument, Settles};
 
 use crate::attempts::{Attempt, Look, Work};
-use sdb_oplog::{Code, Content, Entry, Log, MAX, Prepared, Submission, Unprepared, copy_entries};
-use sdb_value::Json;
+use sdb_oplog::{Code, Content, Entry, Log, Prepared, Submission, Unprepared, copy_entries};
+use sdb_value::{Json, MAX};
 use std::alloc::{AllocError, Global};
 use std::marker::Model;
 use std::mem;

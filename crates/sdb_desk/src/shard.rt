@@ -143,7 +143,7 @@ impl Shard {
     {
         let look = self.look(key, submission)?;
         let attempt = Attempt {
-            submission: submission.try_clone(self.alloc)?,
+            submission: submission.try_clone()?,
             look,
         };
         match Work::of(self.alloc, attempt) {

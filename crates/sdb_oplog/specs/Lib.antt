@@ -1,5 +1,6 @@
 pub mod Coding
 pub mod Decide
+pub mod Faults
 pub mod Keys
 pub mod Laws
 pub mod Logged

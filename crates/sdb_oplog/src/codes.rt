@@ -1,6 +1,10 @@
 //! The codes of refusals.
 ghost use Rattle.std.specs.Prelude.{◌≡◌};
 
+use sdb_apply::ApplyFault;
+use sdb_component::OpFault;
+use sdb_transform::Fault;
+use sdb_value::ValueFault;
 use std::alloc::AllocError;
 use thiserror::Error;
 
@@ -49,5 +53,58 @@ impl From<AllocError> for Code {
 
     fn from(_error: AllocError) -> Code {
         Code::E10
+    }
+}
+
+impl From<ValueFault> for Code {
+    ghost use Rattle.sdb_oplog.specs.Faults.{of_value};
+
+    ghost from_gives = { λ fault code. code ≡ of_value fault };
+
+    fn from(fault: ValueFault) -> Code {
+        match fault {
+            ValueFault::Number => Code::E3,
+            ValueFault::Depth => Code::E3,
+            ValueFault::Memory => Code::E10,
+        }
+    }
+}
+
+impl From<OpFault> for Code {
+    ghost use Rattle.sdb_oplog.specs.Faults.{of_op};
+
+    ghost from_gives = { λ fault code. code ≡ of_op fault };
+
+    fn from(fault: OpFault) -> Code {
+        match fault {
+            OpFault::Form => Code::E3,
+            OpFault::Memory => Code::E10,
+        }
+    }
+}
+
+impl From<ApplyFault> for Code {
+    ghost use Rattle.sdb_oplog.specs.Faults.{of_apply};
+
+    ghost from_gives = { λ fault code. code ≡ of_apply fault };
+
+    fn from(fault: ApplyFault) -> Code {
+        match fault {
+            ApplyFault::NotApplied => Code::E8,
+            ApplyFault::Memory => Code::E10,
+        }
+    }
+}
+
+impl From<Fault> for Code {
+    ghost use Rattle.sdb_oplog.specs.Faults.{of_transform};
+
+    ghost from_gives = { λ fault code. code ≡ of_transform fault };
+
+    fn from(fault: Fault) -> Code {
+        match fault {
+            Fault::NotTransformed => Code::E8,
+            Fault::Memory => Code::E10,
+        }
     }
 }

@@ -11,25 +11,27 @@ ghost use Rattle.sdb_oplog.specs.declared.codes.Code.TheVariants.{E10};
 
 use crate::codes::Code;
 use crate::entries::Entry;
-use sdb_apply::{ApplyFault, apply_whole};
+use sdb_apply::apply_whole;
 use sdb_component::Op;
-use sdb_transform::{Fault, Side, transform};
+use sdb_transform::{Side, transform};
 use sdb_value::Json;
 use std::alloc::{AllocError, Global};
 use std::marker::Model;
+use std::sync::Arc;
 
-/// The three kinds of content.
+/// The three kinds of content. Copies of one content share its data and its operation.
 #[derive(Drop)]
 pub enum Kind {
     /// The document is created with these data.
-    Create(Json),
+    Create(Arc<Json>),
     /// The document is deleted.
     Delete,
     /// The document is edited.
-    Edit(Op),
+    Edit(Arc<Op>),
 }
 
-/// What a submission asks, and what an entry stores: a create, a delete or an edit.
+/// What a submission asks, and what an entry stores: a create, a delete or an edit. It never changes,
+/// and a copy of it copies nothing deep.
 #[derive(Drop)]
 pub struct Content {
     kind: Kind,
@@ -50,12 +52,12 @@ impl Model for Content {
 
 impl Content {
     /// A create with these data.
-    pub fn create(value: Json) -> Content
-        ensures { result ≡ create (view value) }
+    pub fn create(alloc: Global, value: Json) -> Result<Content, AllocError>
+        ensures { IfOk result (λ c. c ≡ create (view value)) }
     {
-        Content {
-            kind: Kind::Create(value),
-        }
+        Ok(Content {
+            kind: Kind::Create(Arc::new(alloc, value)?),
+        })
     }
 
     /// A delete.
@@ -66,12 +68,12 @@ impl Content {
     }
 
     /// An edit by this operation.
-    pub fn edit(op: Op) -> Content
-        ensures { result ≡ edit op }
+    pub fn edit(alloc: Global, op: Op) -> Result<Content, AllocError>
+        ensures { IfOk result (λ c. c ≡ edit op) }
     {
-        Content {
-            kind: Kind::Edit(op),
-        }
+        Ok(Content {
+            kind: Kind::Edit(Arc::new(alloc, op)?),
+        })
     }
 
     /// Which of the three it is.
@@ -81,15 +83,17 @@ impl Content {
         &self.kind
     }
 
-    /// A copy.
-    pub fn try_clone(&self, alloc: Global) -> Result<Content, AllocError>
+    /// A copy, which shares the data or the operation. It takes no memory; it fails only where there are
+    /// 2^63 copies already.
+    pub fn try_clone(&self) -> Result<Content, AllocError>
         ensures { IfOk result (λ c. c ≡ self.now) }
     {
-        match &self.kind {
-            Kind::Create(value) => Ok(Content::create(value.try_clone(alloc)?)),
-            Kind::Delete => Ok(Content::delete()),
-            Kind::Edit(op) => Ok(Content::edit(op.try_clone(alloc)?)),
-        }
+        let kind = match &self.kind {
+            Kind::Create(value) => Kind::Create(Arc::try_clone(value)?),
+            Kind::Delete => Kind::Delete,
+            Kind::Edit(op) => Kind::Edit(Arc::try_clone(op)?),
+        };
+        Ok(Content { kind })
     }
 
     /// Makes of a document, which may be none, what the content makes of it, in place. A create on a
@@ -148,13 +152,8 @@ fn edit_value(alloc: Global, op: &Op, value: &mut Json) -> Result<(), Code>
     ensures memory { IsErrOf result E10 → whole_takes_memory op.now ≡ true }
     ensures same { OnErr result (view value.new ≡ view value.old) }
 {
-    match apply_whole(alloc, value, op) {
-        Ok(()) => Ok(()),
-        Err(fault) => match fault {
-            ApplyFault::NotApplied => Err(Code::E8),
-            ApplyFault::Memory => Err(Code::E10),
-        },
-    }
+    apply_whole(alloc, value, op)?;
+    Ok(())
 }
 
 /// What a content made at one version becomes after a stored content of that version. Over a create
@@ -183,13 +182,8 @@ fn edit_over(alloc: Global, op: &Op, other: &Op) -> Result<Content, Code>
     ensures ok { IfOk result (λ c. edit_over op.now other.now ≡ Ok c) }
     ensures err { IfErr result (λ code. RefusedBy (edit_over op.now other.now) code) }
 {
-    match transform(alloc, op, other, Side::Left) {
-        Ok(carried) => Ok(Content::edit(carried)),
-        Err(fault) => match fault {
-            Fault::NotTransformed => Err(Code::E8),
-            Fault::Memory => Err(Code::E10),
-        },
-    }
+    let carried = transform(alloc, op, other, Side::Left)?;
+    Ok(Content::edit(alloc, carried)?)
 }
 
 /// What a content becomes along stored entries, each after the one before, up to the first refusal.

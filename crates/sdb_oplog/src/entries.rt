@@ -102,12 +102,12 @@ impl Submission {
         self.by
     }
 
-    /// A copy.
-    pub fn try_clone(&self, alloc: Global) -> Result<Submission, AllocError>
+    /// A copy, which shares the content.
+    pub fn try_clone(&self) -> Result<Submission, AllocError>
         ensures { IfOk result (λ s. s ≡ self.now) }
     {
         let src = self.src.clone()?;
-        let content = self.content.try_clone(alloc)?;
+        let content = self.content.try_clone()?;
         let via = self.via.clone()?;
         Ok(Submission::new(src, self.seq, self.version, content, via, self.by))
     }
@@ -183,15 +183,15 @@ impl Entry {
         self.arrived.seq == seq && self.arrived.src.as_str() == src
     }
 
-    /// A copy.
-    pub fn try_clone(&self, alloc: Global) -> Result<Entry, AllocError>
+    /// A copy, which shares the contents.
+    pub fn try_clone(&self) -> Result<Entry, AllocError>
         ensures { IfOk result (λ e. e ≡ self.now) }
     {
         let content = match &self.content {
-            Some(content) => Some(content.try_clone(alloc)?),
+            Some(content) => Some(content.try_clone()?),
             None => None,
         };
-        let arrived = self.arrived.try_clone(alloc)?;
+        let arrived = self.arrived.try_clone()?;
         Ok(Entry::new(self.version, content, arrived))
     }
 }
@@ -202,7 +202,7 @@ pub fn copy_entries(alloc: Global, entries: &[Entry]) -> Result<Vec<Entry>, Allo
 {
     let mut copies = Vec::with_capacity(alloc, entries.len())?;
     for entry in entries {
-        copies.push(entry.try_clone(alloc)?)?;
+        copies.push(entry.try_clone()?)?;
     }
     Ok(copies)
 }

@@ -14,4 +14,4 @@ pub use comparing::same_entries;
 pub use contents::{Content, Kind, over, over_all};
 pub use entries::{Entry, Submission, copy_entries};
 pub use keys::Key;
-pub use logs::{Log, MAX, Prepared, Unprepared};
+pub use logs::{Log, Prepared, Unprepared};

@@ -9,12 +9,9 @@ use crate::codes::Code;
 use crate::contents::Content;
 use crate::entries::{Entry, Submission};
 use crate::index::Index;
-use sdb_value::Json;
+use sdb_value::{Json, MAX};
 use std::alloc::{AllocError, Global};
 use std::marker::Model;
-
-/// The most entries of a log.
-pub const MAX: u64 = 9007199254740991;
 
 /// A list of entries. The sources and numbers of their submissions differ pairwise, each content has
 /// an effect where it stands, and there are at most [`MAX`] of them.
@@ -180,10 +177,26 @@ impl Log {
         requires { version ≤ length self.now }
         ensures { IfOk result (λ d. snap (take version self.now) ≡ Some (option_map view d)) }
     {
-        let mut document = None;
+        self.replay_on(None, 0, version)
+    }
+
+    /// The document after the first `to` entries, made of the one after the first `from`. It applies the
+    /// entries between them one by one.
+    pub fn replay_on(
+        &self,
+        document: Option<Json>,
+        from: u64,
+        to: u64,
+    ) -> Result<Option<Json>, AllocError>
+        requires order { from ≤ to }
+        requires reached { to ≤ length self.now }
+        requires document { snap (take from self.now) ≡ Some (option_map view document) }
+        ensures { IfOk result (λ d. snap (take to self.now) ≡ Some (option_map view d)) }
+    {
+        let mut replayed = document;
         let entries = self.entries.as_slice();
-        for at in 0..version as usize {
-            match entries[at].content().apply_to(self.alloc, &mut document) {
+        for at in from as usize..to as usize {
+            match entries[at].content().apply_to(self.alloc, &mut replayed) {
                 Ok(()) => {}
                 Err(code) => match code {
                     Code::E10 => return Err(AllocError),
@@ -191,7 +204,7 @@ impl Log {
                 },
             }
         }
-        Ok(document)
+        Ok(replayed)
     }
 }
 

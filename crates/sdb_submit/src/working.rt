@@ -30,7 +30,7 @@ pub(crate) fn next_work(
 {
     let made = match last {
         Some(last) => go_on(alloc, last, look),
-        None => match submission.try_clone(alloc) {
+        None => match submission.try_clone() {
             Ok(submission) => work(alloc, Attempt { submission, look }),
             Err(_) => return None,
         },

@@ -9,7 +9,7 @@ use std::alloc::Global;
 pub(crate) fn only(alloc: Global, component: Component) -> Result<Vec<Component>, Fault>
     ensures { Transforms result (Some (component ∷ [])) }
 {
-    let mut components = Vec::new(alloc);
+    let mut components = Vec::with_capacity(alloc, 1)?;
     components.push(component)?;
     Ok(components)
 }
@@ -21,7 +21,7 @@ pub(crate) fn two(
 ) -> Result<Vec<Component>, Fault>
     ensures { Transforms result (Some (first ∷ second ∷ [])) }
 {
-    let mut components = Vec::new(alloc);
+    let mut components = Vec::with_capacity(alloc, 2)?;
     components.push(first)?;
     components.push(second)?;
     Ok(components)

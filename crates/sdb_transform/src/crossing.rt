@@ -1,13 +1,15 @@
 //! Operations, carried past one another.
-ghost use Rattle.std.specs.Prelude.{◌≡◌, ◌≤◌, ◌*◌, IfOk, IfErr, Some};
+ghost use Rattle.std.specs.Prelude.{◌≡◌, ◌≤◌, ◌*◌, ◌∷◌, [], IfOk, IfErr, Some};
 ghost use Rattle.sdb_component.specs.Weighs.{weight};
 ghost use Rattle.sdb_transform.specs.Acts.{IsFaultOf};
 ghost use Rattle.sdb_transform.specs.Grid.{crossing, carried};
 ghost use Rattle.sdb_transform.specs.Stack.{Shows};
+ghost use Rattle.sdb_transform.specs.Transform.{transform};
 
 use crate::side::{Fault, Side};
+use crate::transforming::transform_one;
 use crate::turns::{Progress, from_top, pop_work, push_moving, push_pieces};
-use sdb_component::Op;
+use sdb_component::{Component, Op};
 use std::alloc::Global;
 
 /// Two operations that were carried past one another.
@@ -31,6 +33,47 @@ pub struct Crossed {
 /// Each component is copied once, and at a pair at most one of the two once more. Apart from that the
 /// cost is the transforms of the pairs, at most as many as the product of both weights.
 pub fn cross(alloc: Global, left: &Op, right: &Op) -> Result<Crossed, Fault>
+    ensures ok { IfOk result (λ c. Shows c (crossing left.now right.now)) }
+    ensures err { IfErr result (λ f. IsFaultOf f (crossing left.now right.now)) }
+    ensures few { IfOk result (λ c. c.pairs ≤ weight left.now * weight right.now) }
+{
+    match (left.components(), right.components()) {
+        ([left], [right]) => cross_pair(alloc, left, right),
+        _ => cross_all(alloc, left, right),
+    }
+}
+
+// Two operations of one component each.
+#[tactic(auto, using(crate::proofs::Pairs::left_fault, crate::proofs::Pairs::right_fault))]
+fn cross_pair(alloc: Global, left: &Component, right: &Component) -> Result<Crossed, Fault>
+    ensures ok { IfOk result (λ c. Shows c (crossing (left.now ∷ []) (right.now ∷ []))) }
+    ensures err { IfErr result (λ f. IsFaultOf f (crossing (left.now ∷ []) (right.now ∷ []))) }
+    ensures few { IfOk result (λ c. c.pairs ≤ weight (left.now ∷ []) * weight (right.now ∷ [])) }
+{
+    let pieces = past(alloc, left, right, Side::Left)?;
+    let run = past(alloc, right, left, Side::Right)?;
+    Ok(Crossed {
+        left: Op::new(pieces),
+        right: Op::new(run),
+        pairs: 1,
+    })
+}
+
+// What stands for a component after another one; both are lent.
+fn past(
+    alloc: Global,
+    component: &Component,
+    other: &Component,
+    side: Side,
+) -> Result<Vec<Component>, Fault>
+    ensures ok { IfOk result (λ v. transform side component.now other.now ≡ Some v.items) }
+    ensures err { IfErr result (λ f. IsFaultOf f (transform side component.now other.now)) }
+{
+    transform_one(alloc, component.try_clone(alloc)?, other, side)
+}
+
+// Operations of any components.
+fn cross_all(alloc: Global, left: &Op, right: &Op) -> Result<Crossed, Fault>
     ensures ok { IfOk result (λ c. Shows c (crossing left.now right.now)) }
     ensures err { IfErr result (λ f. IsFaultOf f (crossing left.now right.now)) }
     ensures few { IfOk result (λ c. c.pairs ≤ weight left.now * weight right.now) }

@@ -79,11 +79,12 @@ fn pop_waiting(waiting: &mut Vec<Component>) -> Option<Component>
     waiting.pop()
 }
 
-// The components from the top.
+// The components from the top, without room for more.
 pub(crate) fn from_top(mut waiting: Vec<Component>) -> Vec<Component>
     ensures { result.items ≡ top waiting.items }
 {
     waiting.reverse();
+    waiting.shrink_to_fit();
     waiting
 }
 

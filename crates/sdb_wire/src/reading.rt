@@ -8,9 +8,9 @@ ghost use Rattle.sdb_wire.specs.View.{plain_request, plain_echo, plain_heard, ec
 
 use crate::members::{count_at, may_count, may_name, name_at, need_name, present, said};
 use crate::requests::{Bad, Echo, Heard, MESSAGE_LIMIT, Request, TYPE};
-use sdb_component::{OpFault, read_op};
+use sdb_component::read_op;
 use sdb_oplog::{Code, Content, Key};
-use sdb_value::{ValueFault, from_value};
+use sdb_value::from_value;
 use serde_json::Value;
 use std::alloc::{AllocError, Global};
 
@@ -199,13 +199,8 @@ fn edition(alloc: Global, value: &Value) -> Result<Content, Code>
     ensures ok { IfOk result (λ m. edition (data_view value.now) ≡ Ok m) }
     ensures err { IfErr result (λ code. RefusedBy (edition (data_view value.now)) code) }
 {
-    match read_op(alloc, value) {
-        Ok(op) => Ok(Content::edit(op)),
-        Err(fault) => match fault {
-            OpFault::Form => Err(Code::E3),
-            OpFault::Memory => Err(Code::E10),
-        },
-    }
+    let op = read_op(alloc, value)?;
+    Ok(Content::edit(alloc, op)?)
 }
 
 fn creation(alloc: Global, value: &Value) -> Result<Content, Code>
@@ -230,12 +225,6 @@ fn created(alloc: Global, value: &Value) -> Result<Content, Code>
     ensures ok { IfOk result (λ m. created (data_view value.now) ≡ Ok m) }
     ensures err { IfErr result (λ code. RefusedBy (created (data_view value.now)) code) }
 {
-    match from_value(alloc, value) {
-        Ok(json) => Ok(Content::create(json)),
-        Err(fault) => match fault {
-            ValueFault::Number => Err(Code::E3),
-            ValueFault::Depth => Err(Code::E3),
-            ValueFault::Memory => Err(Code::E10),
-        },
-    }
+    let json = from_value(alloc, value)?;
+    Ok(Content::create(alloc, json)?)
 }

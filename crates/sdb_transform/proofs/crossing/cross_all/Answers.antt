@@ -2,7 +2,7 @@ use Rattle.std.proofs.Common.{◌∙◌, ap}
 use Rattle.sdb_transform.specs.Stack.{top, stack}
 use Rattle.sdb_transform.proofs.Stack.{top_none, stack_none}
 use Rattle.sdb_transform.proofs.Run.{starts, ends_few}
-use Rattle.sdb_transform.proofs.crossing.cross.Goals as goal
+use Rattle.sdb_transform.proofs.crossing.cross_all.Goals as goal
 
 pub loop-next-init : goal.loop-next-init
 loop-next-init c =

@@ -1,0 +1,10 @@
+use Rattle.std.proofs.Common.{◌≡◌, ◌∷◌, [], refl, sym}
+use Rattle.sdb_transform.proofs.Pairs.{one_pair}
+use Rattle.sdb_transform.proofs.Weights.{few_pairs}
+use Rattle.sdb_transform.proofs.crossing.cross_pair.Goals as goal
+
+pub returns-clause-ok : goal.returns-clause-ok
+returns-clause-ok c = (_, one_pair c.args.left.now c.args.right.now _ _ c.in_ok-pieces.ensures.ok c.in_ok-run.ensures.ok, c.new.ensures, c.new-2.ensures, refl)
+
+pub returns-clause-few : goal.returns-clause-few
+returns-clause-few c = few_pairs _ _ _ (one_pair c.args.left.now c.args.right.now _ _ c.in_ok-pieces.ensures.ok c.in_ok-run.ensures.ok)
