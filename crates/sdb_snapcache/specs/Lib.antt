@@ -1,0 +1,6 @@
+pub mod Kept
+pub mod Laws
+pub mod Lends
+pub mod Snaps
+pub mod View
+pub mod Worked
