@@ -1,11 +1,14 @@
 -- What a document keeps beside its log, and a submission that will be stored unless the document refuses it.
-use Rattle.std.specs.Prelude.{◌≡◌, ◌≢◌, ◌<◌, ◌≤◌, List, [], length, Option, Some, None, option_map, unwrap_or, Ok}
+use Rattle.std.specs.Prelude.{◌≡◌, ◌≢◌, ℕ, ◌<◌, ◌≤◌, List, [], length, Option, Some, None, option_map, unwrap_or, Ok}
+use Rattle.sdb_value.specs.Value.{Value}
 use Rattle.sdb_value.specs.View.{view}
 use Rattle.sdb_value.specs.declared.value.Json.{Json}
 use Rattle.sdb_oplog.specs.Plain.{PlainContent, PlainEntry}
 use Rattle.sdb_oplog.specs.Over.{over_all}
 use Rattle.sdb_oplog.specs.Snap.{snap, stored_at}
 use Rattle.sdb_oplog.specs.Decide.{since, missed, IsMade}
+use Rattle.sdb_snapcache.specs.Kept.{Snapshot}
+use Rattle.sdb_snapcache.specs.Snaps.{AreSnapsOf}
 use Rattle.sdb_desk.specs.Machine.{PlainAttempt}
 
 -- the document is the one that the log makes, and the log is made
@@ -13,10 +16,11 @@ pub record IsMadeDocument (log : List PlainEntry) (present : Option Json) : Type
   pub makes : snap log ≡ Some (option_map view present)
   pub made : IsMade log
 
--- and something is stored
-pub record IsDocument (log : List PlainEntry) (present : Option Json) : Type 0 where
+-- and something is stored, and what is kept are snapshots of the log
+pub record IsDocument (log : List PlainEntry) (present : Option Json) (kept : List Snapshot) : Type 0 where
   pub keeps : IsMadeDocument log present
   pub filled : log ≢ []
+  pub snaps : AreSnapsOf log kept
 
 -- the submission is new, there is room, its version has been reached, and along what it missed it became this content;
 -- without a content it stays as it arrived
@@ -26,3 +30,8 @@ pub record Settles (log : List PlainEntry) (a : PlainAttempt) (content : Option 
   pub seen : since log a.submission ≤ length log
   pub looked : a.look.missed ≡ missed log a.submission
   pub over : over_all a.submission.content (missed log a.submission) ≡ Ok (unwrap_or content a.submission.content)
+
+-- a replay begins with the snapshot that was found, or with nothing at version 0
+abbrev pub Begins : Option Snapshot → ℕ → Option Value → Type 0
+Begins None v d = (v ≡ 0) × (d ≡ None)
+Begins (Some s) v d = (v ≡ s.version) × (d ≡ Some s.value)

@@ -1,5 +1,5 @@
 -- The machine that takes each submission in one step: what a look shows, what a commit does, and what is read.
-use Rattle.std.specs.Prelude.{◌≡◌, ◌≢◌, ℕ, List, length, drop, if◌then◌else◌, nat_lt, Option, Result, Ok, Err, ◌⊎◌}
+use Rattle.std.specs.Prelude.{◌≡◌, ◌≢◌, ℕ, List, length, take, drop, if◌then◌else◌, nat_lt, Option, unwrap_or, Result, Ok, Err, ◌⊎◌}
 use Rattle.sdb_value.specs.Value.{Value}
 use Rattle.sdb_oplog.specs.Plain.{PlainEntry, PlainSubmission}
 use Rattle.sdb_oplog.specs.Decide.{PlainReply, refused, decide, missed}
@@ -53,6 +53,12 @@ fetched log = record { version = length log; snapshot = document log }
 -- the entries from a version on, if the log has come so far
 abbrev pub operations : List PlainEntry → ℕ → Result (List PlainEntry) Code
 operations log v = if nat_lt (length log) v then Err E4 else Ok (drop v log)
+
+-- a version, or the length where none is named, and the document there, if the log has come so far
+abbrev pub snapshot_at : List PlainEntry → Option ℕ → Result PlainFetched Code
+snapshot_at log v =
+    if nat_lt (length log) (unwrap_or v (length log)) then Err E4
+    else Ok (record { version = unwrap_or v (length log); snapshot = document (take (unwrap_or v (length log)) log) })
 
 -- a read answers this, or memory was wanting
 abbrev pub Reads : {A : Type 0} → Result A Code → Result A Code → Type 0

@@ -1,5 +1,5 @@
 //! One document: its log, and what it makes.
-ghost use Rattle.std.specs.Prelude.{◌≡◌, ◌≢◌, [], ◌∷◌, length, OnOk, OnErr, IfOk, IfErr, Some, Ok, Err, option_map, unwrap_or};
+ghost use Rattle.std.specs.Prelude.{◌≡◌, ◌≢◌, ◌≤◌, [], ◌∷◌, length, take, OnOk, OnErr, IfOk, IfErr, Some, Ok, Err, option_map, unwrap_or};
 ghost use Rattle.sdb_value.specs.View.{view};
 ghost use Rattle.sdb_oplog.specs.Decide.{decide, missed, IsMade};
 ghost use Rattle.sdb_oplog.specs.Snap.{document, snap, stored_at};
@@ -7,10 +7,13 @@ ghost use Rattle.sdb_oplog.specs.Over.{over_all};
 ghost use Rattle.sdb_desk.specs.Machine.{look_at};
 ghost use Rattle.sdb_desk.specs.Shown.{plain_look, plain_attempt, content_or};
 ghost use Rattle.sdb_desk.specs.Told.{plain_reply};
-ghost use Rattle.sdb_desk.specs.Documents.{IsMadeDocument, Settles};
+ghost use Rattle.sdb_snapcache.specs.Kept.{nearest, used_for};
+ghost use Rattle.sdb_snapcache.specs.View.{snapshot};
+ghost use Rattle.sdb_desk.specs.Documents.{IsMadeDocument, Settles, Begins};
 
 use crate::attempts::{Attempt, Look, Work};
 use sdb_oplog::{Code, Content, Entry, Log, Prepared, Submission, Unprepared, copy_entries};
+use sdb_snapcache::Cache;
 use sdb_value::{Json, MAX};
 use std::alloc::{AllocError, Global};
 use std::marker::Model;
@@ -27,11 +30,12 @@ pub enum Reply {
     Refused(Code),
 }
 
-// A log that isn't empty, with the document that it makes beside it.
+// A log that isn't empty, with the document that it makes beside it, and snapshots of older versions.
 #[derive(Drop)]
 pub(crate) struct Document {
     log: Log,
     present: Option<Json>,
+    cache: Cache,
 }
 
 impl Model for Document {
@@ -47,7 +51,7 @@ impl Model for Document {
 
     ghost view = { λ d. d.log };
 
-    ghost invariant = { λ d. IsDocument d.log d.present };
+    ghost invariant = { λ d. IsDocument d.log d.present d.cache };
 }
 
 impl Document {
@@ -65,7 +69,15 @@ impl Document {
         if log.is_empty() {
             return Ok((reply, None));
         }
-        Ok((reply, Some(Document { log, present })))
+        let cache = Cache::new(alloc);
+        Ok((
+            reply,
+            Some(Document {
+                log,
+                present,
+                cache,
+            }),
+        ))
     }
 
     pub(crate) fn log(&self) -> &Log
@@ -92,6 +104,96 @@ impl Document {
         ensures err { OnErr result (self.new ≡ self.old) }
     {
         decide(alloc, &mut self.log, &mut self.present, work)
+    }
+
+    // The document at a version, made of the nearest snapshot that is kept. It is kept then, where there
+    // is memory for it.
+    pub(crate) fn snapshot_at(
+        &mut self,
+        alloc: Global,
+        version: u64,
+    ) -> Result<Option<Json>, AllocError>
+        requires { version ≤ length self.old }
+        ensures snap { IfOk result (λ d. snap (take version self.old) ≡ Some (option_map view d)) }
+        ensures same { self.new ≡ self.old }
+    {
+        if version == self.log.len() {
+            return copy_of(alloc, self.present());
+        }
+        let (from, base) = self.nearest(alloc, version)?;
+        if from == version {
+            return Ok(base);
+        }
+        let snapshot = self.log.replay_on(base, from, version)?;
+        if let Some(value) = &snapshot {
+            self.offer(alloc, version, value);
+        }
+        Ok(snapshot)
+    }
+
+    // The kept snapshot of the greatest version up to this one; without one the version 0, where nothing
+    // is.
+    fn nearest(&mut self, alloc: Global, version: u64) -> Result<(u64, Option<Json>), AllocError>
+        requires { version ≤ length self.old }
+        ensures up_to { IfOk result (λ r. r.0 ≤ version) }
+        ensures snap { IfOk result (λ r. snap (take r.0 self.old) ≡ Some (option_map view r.1)) }
+        ensures same { self.new ≡ self.old }
+    {
+        let found = copy_nearest(alloc, &mut self.cache, version)?;
+        Ok(base_of(found))
+    }
+
+    // Keeps a copy of the snapshot, where there is memory for it.
+    fn offer(&mut self, alloc: Global, version: u64, value: &Json)
+        requires reached { version ≤ length self.old }
+        requires snap { snap (take version self.old) ≡ Some (Some (view value.now)) }
+        ensures { self.new ≡ self.old }
+    {
+        if let Ok(copy) = value.try_clone(alloc) {
+            let _ = self.cache.offer(version, copy);
+        }
+    }
+
+    // Lets the kept snapshots go.
+    pub(crate) fn forget(&mut self)
+        ensures { self.new ≡ self.old }
+    {
+        self.cache.forget();
+    }
+}
+
+// The kept snapshot of the greatest version up to this one, copied.
+fn copy_nearest(
+    alloc: Global,
+    cache: &mut Cache,
+    version: u64,
+) -> Result<Option<(u64, Json)>, AllocError>
+    ensures found { IfOk result (λ o. option_map snapshot o ≡ nearest version cache.old) }
+    ensures used { cache.new ≡ used_for version cache.old }
+{
+    match cache.nearest(version) {
+        Some((at, value)) => Ok(Some((at, value.try_clone(alloc)?))),
+        None => Ok(None),
+    }
+}
+
+// The version and the document to begin a replay with.
+fn base_of(found: Option<(u64, Json)>) -> (u64, Option<Json>)
+    ensures { Begins (option_map snapshot found) result.0 (option_map view result.1) }
+{
+    match found {
+        Some((at, value)) => (at, Some(value)),
+        None => (0, None),
+    }
+}
+
+// A copy of a document, which may be none.
+pub(crate) fn copy_of(alloc: Global, document: Option<&Json>) -> Result<Option<Json>, AllocError>
+    ensures { IfOk result (λ d. option_map view d ≡ option_map (λ v. view v.now) document.entry) }
+{
+    match document {
+        Some(value) => Ok(Some(value.try_clone(alloc)?)),
+        None => Ok(None),
     }
 }
 

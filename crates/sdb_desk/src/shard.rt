@@ -1,15 +1,16 @@
 //! All documents, by key.
-ghost use Rattle.std.specs.Prelude.{◌≡◌, [], length, IfOk, IfErr, IsTrue, OnOk, OnErr, Ok, option_map, unwrap_or};
+ghost use Rattle.std.specs.Prelude.{◌≡◌, ◌≤◌, [], length, take, IfOk, IfErr, IsTrue, OnOk, OnErr, Ok, option_map, unwrap_or};
 ghost use Rattle.sdb_oplog.specs.Decide.{decide, missed, IsMade};
 ghost use Rattle.sdb_oplog.specs.Keys.{no_logs, with_log, plain_key};
+ghost use Rattle.sdb_oplog.specs.Snap.{document};
 ghost use Rattle.sdb_value.specs.View.{view};
 ghost use Rattle.sdb_desk.specs.Keyed.{logs_of};
-ghost use Rattle.sdb_desk.specs.Machine.{look_at, fetched, operations, Decides, Commits, Keeps, Reads};
+ghost use Rattle.sdb_desk.specs.Machine.{look_at, fetched, operations, snapshot_at, Decides, Commits, Keeps, Reads};
 ghost use Rattle.sdb_desk.specs.Shown.{plain_look, plain_outcome, told_fetched, told_entries};
 ghost use Rattle.sdb_desk.specs.Told.{plain_reply};
 
 use crate::attempts::{Attempt, Look, Work};
-use crate::document::{Document, Reply, look_at, missed_of};
+use crate::document::{Document, Reply, copy_of, look_at, missed_of};
 use sdb_oplog::{Code, Entry, Key, Log, Submission, copy_entries, same_entries};
 use sdb_value::Json;
 use std::alloc::{AllocError, Global};
@@ -247,13 +248,45 @@ impl Shard {
             None => Ok(Vec::new(self.alloc)),
         }
     }
-}
 
-fn copy_of(alloc: Global, document: Option<&Json>) -> Result<Option<Json>, AllocError>
-    ensures { IfOk result (λ d. option_map view d ≡ option_map (λ v. view v.now) document.entry) }
-{
-    match document {
-        Some(value) => Ok(Some(value.try_clone(alloc)?)),
-        None => Ok(None),
+    /// The version, or the present one where none is named, and the document there. E4 where the version
+    /// is above the present one, E10 is want of memory.
+    ///
+    /// The document is made of the nearest older snapshot that is kept, and is kept itself, at most eight
+    /// of a document, those that were used last. So it costs the entries from there on, and two copies
+    /// of the document; the present one, and one that is kept, cost one copy.
+    pub fn snapshot_at(&mut self, key: &Key, version: Option<u64>) -> Result<Fetched, Code>
+        ensures snapshot { Reads (told_fetched result) (snapshot_at (logs_of self.old (plain_key key.now)) version) }
+        ensures logs { logs_of self.new ≡ logs_of self.old }
+    {
+        let present = self.version(key);
+        let version = version.unwrap_or(present);
+        if present < version {
+            return Err(Code::E4);
+        }
+        let snapshot = self.snapshot_of(key, version)?;
+        Ok(Fetched { version, snapshot })
+    }
+
+    // The document at a version, up to the present one.
+    fn snapshot_of(&mut self, key: &Key, version: u64) -> Result<Option<Json>, AllocError>
+        requires { version ≤ length (logs_of self.old (plain_key key.now)) }
+        ensures snapshot { IfOk result
+            (λ d. document (take version (logs_of self.old (plain_key key.now))) ≡ option_map view d) }
+        ensures logs { logs_of self.new ≡ logs_of self.old }
+    {
+        match self.by_key.get_mut(key) {
+            Some(document) => document.snapshot_at(self.alloc, version),
+            None => Ok(None),
+        }
+    }
+
+    /// Lets the snapshots go that are kept of the document. It takes no memory.
+    pub fn forget(&mut self, key: &Key)
+        ensures { logs_of self.new ≡ logs_of self.old }
+    {
+        if let Some(document) = self.by_key.get_mut(key) {
+            document.forget();
+        }
     }
 }

@@ -7,8 +7,9 @@ use Rattle.sdb_oplog.specs.Plain.{PlainContent, PlainSubmission, PlainEntry}
 use Rattle.sdb_oplog.specs.Keys.{PlainKey, Logs, with_log}
 use Rattle.sdb_oplog.specs.Snap.{document}
 use Rattle.sdb_oplog.specs.Decide.{decide, PlainReply, stored, repeated, refused, Decided}
-use Rattle.sdb_wire.specs.Wire.{PlainEcho, PlainRequest, fetch, submit, hear, nothing_said}
-use Rattle.sdb_wire.specs.Answers.{PlainAnswer, init, fetched, listed, op_message, acknowledged, failed, answer_text}
+use Rattle.sdb_desk.specs.Machine.{PlainFetched, snapshot_at}
+use Rattle.sdb_wire.specs.Wire.{PlainEcho, PlainRequest, fetch, submit, snapshot as asks_snapshot, hear, nothing_said}
+use Rattle.sdb_wire.specs.Answers.{PlainAnswer, init, fetched, listed, snapshot, op_message, acknowledged, failed, answer_text}
 
 -- the answers to one line, in order, and the logs after it
 pub record Turn : Type 0 where
@@ -27,6 +28,13 @@ listing k es = map (op_message k) es ++ listed k ∷ []
 abbrev pub fetch_answers : PlainEcho → PlainKey → Option ℕ → List PlainEntry → List PlainAnswer
 fetch_answers e k None log = fetched k (length log) (document log) ∷ []
 fetch_answers e k (Some v) log = if nat_lt (length log) v then failed e E4 ∷ [] else listing k (drop v log)
+
+-- ---- snapshots
+
+-- the document at a version, for the request of this number
+abbrev pub snapshot_answers : PlainEcho → ℕ → Result PlainFetched Code → List PlainAnswer
+snapshot_answers e n (Ok f) = snapshot n f.version f.snapshot ∷ []
+snapshot_answers e n (Err code) = failed e code ∷ []
 
 -- ---- submissions
 
@@ -51,6 +59,7 @@ submit_turn e k s logs = decided_turn e k s logs (decide (logs k) s)
 abbrev pub request_turn : PlainEcho → PlainRequest → Logs → Turn
 request_turn e (fetch k v) logs = record { answers = fetch_answers e k v (logs k); logs = logs }
 request_turn e (submit k v n src m) logs = submit_turn e k (submission_of k v n src m) logs
+request_turn e (asks_snapshot k v n) logs = record { answers = snapshot_answers e n (snapshot_at (logs k) v); logs = logs }
 
 -- where the work on a request finds no memory it is answered E10, and nothing has changed
 abbrev pub marked : Bool → PlainEcho → Turn → Logs → Turn

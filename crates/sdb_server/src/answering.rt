@@ -4,12 +4,13 @@ ghost use Rattle.sdb_value.specs.View.{view};
 ghost use Rattle.sdb_oplog.specs.Keys.{plain_key};
 ghost use Rattle.sdb_oplog.specs.declared.codes.Code.TheVariants.{E10};
 ghost use Rattle.sdb_desk.specs.Keyed.{logs_of};
+ghost use Rattle.sdb_desk.specs.Machine.{snapshot_at};
 ghost use Rattle.sdb_desk.specs.Told.{plain_reply};
 ghost use Rattle.sdb_lines.specs.Runs.{GrewBy};
-ghost use Rattle.sdb_wire.specs.Answers.{op_message, acknowledged, failed, fetched};
+ghost use Rattle.sdb_wire.specs.Answers.{op_message, acknowledged, failed, fetched, snapshot};
 ghost use Rattle.sdb_wire.specs.View.{plain_answer, plain_request};
 ghost use Rattle.sdb_server.specs.Told.{shown_of};
-ghost use Rattle.sdb_server.specs.Dialogue.{shown, is_request, turn, request_turn, submit_turn, fetch_answers, reply_answers, submission_of, AnswersBy, Dialogue, Stands};
+ghost use Rattle.sdb_server.specs.Dialogue.{shown, is_request, turn, request_turn, submit_turn, fetch_answers, snapshot_answers, reply_answers, submission_of, AnswersBy, Dialogue, Stands};
 
 use sdb_desk::{Reply, Shard};
 use sdb_oplog::{Code, Content, Entry, Key, Submission};
@@ -73,6 +74,9 @@ fn answer_request(
                 return refuse(alloc, message, Code::E10, out);
             };
             submit(alloc, shard, message, &key, &submission, out)
+        }
+        Request::Snapshot { key, version, id } => {
+            snapshot(alloc, shard, message, &key, version, id, out)
         }
     }
 }
@@ -181,6 +185,46 @@ fn fetch(
             Err(code) => refuse(alloc, message, code, out),
         },
     }
+}
+
+// Writes the document at a version.
+fn snapshot(
+    alloc: Global,
+    shard: &mut Shard,
+    message: Option<&Value>,
+    key: &Key,
+    version: Option<u64>,
+    id: u64,
+    out: &mut Vec<u8>,
+) -> Result<(), AllocError>
+    ensures answer { OnOk result ((out.new.items ≡ out.old.items ++ shown (failed (shown_of message.entry) E10 ∷ []))
+        ⊎ (out.new.items ≡ out.old.items ++ shown (snapshot_answers (shown_of message.entry) id (snapshot_at (logs_of shard.old (plain_key key.now)) version)))) }
+    ensures logs { logs_of shard.new ≡ logs_of shard.old }
+{
+    match shard.snapshot_at(key, version) {
+        Ok(found) => say_snapshot(alloc, id, found.version, found.snapshot.as_ref(), out),
+        Err(code) => refuse(alloc, message, code, out),
+    }
+}
+
+// Writes a version and the document there, for the request of this number.
+fn say_snapshot<'a>(
+    alloc: Global,
+    id: u64,
+    version: u64,
+    document: Option<&'a Json>,
+    out: &mut Vec<u8>,
+) -> Result<(), AllocError>
+    ensures { OnOk result
+        (out.new.items ≡ out.old.items ++ shown
+        (snapshot id version (option_map (λ d. view d.now) document.entry) ∷ [])) }
+{
+    let answer = Answer::Snapshot {
+        id,
+        version,
+        document,
+    };
+    say(alloc, &answer, out)
 }
 
 fn submit(

@@ -5,7 +5,7 @@ use Rattle.sdb_oplog.specs.Plain.{PlainEntry, PlainSubmission}
 use Rattle.sdb_oplog.specs.Decide.{PlainReply}
 use Rattle.sdb_oplog.specs.Keys.{PlainKey, Logs}
 use Rattle.sdb_oplog.specs.declared.codes.Code.{Code}
-use Rattle.sdb_desk.specs.Machine.{PlainLook, PlainAttempt, PlainOutcome, PlainFetched, look_at, fetched, operations, Commits, Decides, Reads}
+use Rattle.sdb_desk.specs.Machine.{PlainLook, PlainAttempt, PlainOutcome, PlainFetched, look_at, fetched, operations, snapshot_at, Commits, Decides, Reads}
 use Rattle.sdb_desk.specs.Shown.{plain_look}
 use Rattle.sdb_desk.specs.declared.attempts.Look.{Look}
 
@@ -16,6 +16,10 @@ pub data PlainCall : Type 0 where
   fetch : PlainCall
   -- from a version on
   ops_from : ℕ → PlainCall
+  -- at a version, or at the present one
+  snapshot : Option ℕ → PlainCall
+  -- the kept snapshots go
+  forget : PlainCall
 
 -- what each call answers. A look answers none where memory is wanting
 abbrev pub AnswerTo : PlainCall → Type 0
@@ -24,6 +28,8 @@ AnswerTo (commit a) = PlainOutcome
 AnswerTo (commit_now s) = PlainReply
 AnswerTo fetch = Result PlainFetched Code
 AnswerTo (ops_from v) = Result (List PlainEntry) Code
+AnswerTo (snapshot v) = Result PlainFetched Code
+AnswerTo forget = Unit {0}
 
 abbrev pub told_look : Result Look AllocError → Option PlainLook
 told_look (Ok l) = Some (plain_look l)
@@ -41,3 +47,5 @@ Acts logs k (commit a) o new = Commits logs k a o new
 Acts logs k (commit_now s) r new = Decides logs k s r new
 Acts logs k fetch r new = Reads r (Ok (fetched (logs k))) × (new ≡ logs)
 Acts logs k (ops_from v) r new = Reads r (operations (logs k) v) × (new ≡ logs)
+Acts logs k (snapshot v) r new = Reads r (snapshot_at (logs k) v) × (new ≡ logs)
+Acts logs k forget u new = new ≡ logs

@@ -4,7 +4,7 @@ ghost use Rattle.sdb_oplog.specs.Keys.{PlainKey, plain_key};
 ghost use Rattle.sdb_desk.specs.Machine.{Keeps};
 ghost use Rattle.sdb_desk.specs.Shown.{plain_outcome, told_fetched, told_entries};
 ghost use Rattle.sdb_desk.specs.Told.{plain_reply};
-ghost use Rattle.sdb_submit.specs.Calls.{PlainCall, look, commit, commit_now, fetch, ops_from, AnswerTo, told_look};
+ghost use Rattle.sdb_submit.specs.Calls.{PlainCall, look, commit, commit_now, fetch, ops_from, snapshot, forget, AnswerTo, told_look};
 
 use sdb_desk::{Fetched, Look, Outcome, Reply, Work};
 use sdb_oplog::{Code, Entry, Key, Submission};
@@ -69,6 +69,26 @@ pub trait Desk {
         ensures takes { takes self.now pass.new }
         ensures number { number self.now pass.new ≡ number self.now pass.old }
         ensures acts { acts self.now (plain_key key.now) (ops_from version) pass.old (told_entries result) pass.new };
+
+    /// The version, or the present one where none is named, and the document there; E4 where the version
+    /// is above the present one; or E10.
+    fn snapshot_at(
+        &self,
+        pass: &mut Self::Pass,
+        key: &Key,
+        version: Option<u64>,
+    ) -> Result<Fetched, Code>
+        requires { takes self.now pass.old }
+        ensures takes { takes self.now pass.new }
+        ensures number { number self.now pass.new ≡ number self.now pass.old }
+        ensures acts { acts self.now (plain_key key.now) (snapshot version) pass.old (told_fetched result) pass.new };
+
+    /// Lets the snapshots go that are kept of the document. It takes no memory.
+    fn forget(&self, pass: &mut Self::Pass, key: &Key)
+        requires { takes self.now pass.old }
+        ensures takes { takes self.now pass.new }
+        ensures number { number self.now pass.new ≡ number self.now pass.old }
+        ensures acts { acts self.now (plain_key key.now) forget pass.old tt pass.new };
 
     /// The number of a pass: each submission through it has it as its `by`.
     fn by(&self, pass: &Self::Pass) -> u64

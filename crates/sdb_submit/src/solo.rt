@@ -50,6 +50,19 @@ impl Desk for Solo {
         pass.ops_from(key, version)
     }
 
+    fn snapshot_at(
+        &self,
+        pass: &mut Shard,
+        key: &Key,
+        version: Option<u64>,
+    ) -> Result<Fetched, Code> {
+        pass.snapshot_at(key, version)
+    }
+
+    fn forget(&self, pass: &mut Shard, key: &Key) {
+        pass.forget(key)
+    }
+
     fn by(&self, _pass: &Shard) -> u64 {
         0
     }

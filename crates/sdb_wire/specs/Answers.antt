@@ -18,6 +18,8 @@ pub data PlainAnswer : Type 0 where
   fetched : PlainKey → ℕ → Option Value → PlainAnswer
   -- the end of a list of stored operations
   listed : PlainKey → PlainAnswer
+  -- the number of the request, a version, and the document there
+  snapshot : ℕ → ℕ → Option Value → PlainAnswer
   -- a stored operation
   op_message : PlainKey → PlainEntry → PlainAnswer
   -- a submission of this source and number is stored at this version
@@ -129,6 +131,17 @@ answer_data (listed k) = object (
     member (codes "a") (string (codes "f"))
     (member (codes "c") (string k.collection)
     (member (codes "d") (string k.id) no_members)))
+answer_data (snapshot n v None) = object (
+    member (codes "a") (string (codes "nf"))
+    (member (codes "id") (number (unsigned n))
+    (member (codes "type") null
+    (member (codes "v") (number (unsigned v)) no_members))))
+answer_data (snapshot n v (Some d)) = object (
+    member (codes "a") (string (codes "nf"))
+    (member (codes "data") (to_data d)
+    (member (codes "id") (number (unsigned n))
+    (member (codes "type") type_data
+    (member (codes "v") (number (unsigned v)) no_members)))))
 answer_data (op_message k e) = object (
     member (codes "a") (string (codes "op"))
     (content_members k e.content (op_tail e)))

@@ -109,6 +109,8 @@ pub data PlainRequest : Type 0 where
   fetch : PlainKey → Option ℕ → PlainRequest
   -- a version that is absent, a sequence number, a source that may be absent, a content
   submit : PlainKey → Option ℕ → ℕ → Option (List ℕ) → PlainContent → PlainRequest
+  -- the document at a version, or the present one, and the number that the answer shows again
+  snapshot : PlainKey → Option ℕ → ℕ → PlainRequest
 
 abbrev pub key_of : Data → Result PlainKey Code
 key_of d =
@@ -128,10 +130,19 @@ submit_of d =
     (may count_of (present (codes "v") d)))
     (key_of d)
 
+abbrev pub snapshot_of : Data → Result PlainRequest Code
+snapshot_of d =
+    result_then (λ k. result_then (λ v. result_then (λ n. Ok (snapshot k v n))
+    (ok_or (count_at (codes "id") d) E1))
+    (may count_of (present (codes "v") d)))
+    (key_of d)
+
 abbrev pub message_of : Data → Result PlainRequest Code
 message_of d =
     option_map_or
-    (λ a. if bytes_eq a (codes "f") then fetch_of d else (if bytes_eq a (codes "op") then submit_of d else Err E1))
+    (λ a. if bytes_eq a (codes "f") then fetch_of d
+    else (if bytes_eq a (codes "op") then submit_of d
+    else (if bytes_eq a (codes "nf") then snapshot_of d else Err E1)))
     (name_at (codes "a") d) (Err E1)
 
 -- ---- texts

@@ -3,7 +3,7 @@ ghost use Rattle.std.specs.Prelude.{◌≡◌, ◌⊎◌, Ok, IfOk, IfErr, optio
 ghost use Rattle.serde_json.specs.View.{view as data_view};
 ghost use Rattle.sdb_oplog.specs.Keys.{plain_key};
 ghost use Rattle.sdb_oplog.specs.Refused.{RefusedBy};
-ghost use Rattle.sdb_wire.specs.Wire.{key_of, fetch_of, submit_of, message_of, content_of, is_deletion, creation, created, edition, wire, hear, value_of, echo_of, said, nothing_said};
+ghost use Rattle.sdb_wire.specs.Wire.{key_of, fetch_of, submit_of, snapshot_of, message_of, content_of, is_deletion, creation, created, edition, wire, hear, value_of, echo_of, said, nothing_said};
 ghost use Rattle.sdb_wire.specs.View.{plain_request, plain_echo, plain_heard, echo_from, IsFault, IsFaultOf};
 
 use crate::members::{count_at, may_count, may_name, name_at, need_name, present, said};
@@ -126,6 +126,7 @@ fn message_of(alloc: Global, value: &Value) -> Result<Request, Code>
     match name_at(value, "a") {
         Some("f") => fetch_of(alloc, value),
         Some("op") => submit_of(alloc, value),
+        Some("nf") => snapshot_of(alloc, value),
         _ => Err(Code::E1),
     }
 }
@@ -170,6 +171,20 @@ fn submit_of(alloc: Global, value: &Value) -> Result<Request, Code>
         src,
         content,
     })
+}
+
+fn snapshot_of(alloc: Global, value: &Value) -> Result<Request, Code>
+    ensures ok { IfOk result (λ r. snapshot_of (data_view value.now) ≡ Ok (plain_request r)) }
+    ensures err { IfErr result (λ code. RefusedBy (snapshot_of (data_view value.now)) code) }
+{
+    let key = key_of(alloc, value)?;
+    let Ok(version) = may_count(value, "v") else {
+        return Err(Code::E1);
+    };
+    let Some(id) = count_at(value, "id") else {
+        return Err(Code::E1);
+    };
+    Ok(Request::Snapshot { key, version, id })
 }
 
 /// The one content of a message: an operation, a create or a delete. Another number of them is E1, as

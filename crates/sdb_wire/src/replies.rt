@@ -1,12 +1,12 @@
 //! The texts of answers, written token by token.
-ghost use Rattle.std.specs.Prelude.{◌≡◌, ◌∷◌, [], ◌++◌, IfOk, OnOk, OnErr, string_bytes, option_map, decimal, codes};
+ghost use Rattle.std.specs.Prelude.{◌≡◌, ◌∷◌, [], ◌++◌, Some, None, IfOk, OnOk, OnErr, string_bytes, option_map, decimal, codes};
 ghost use Rattle.json.specs.Print.{print};
 ghost use Rattle.json.specs.Token.{begin_object, key as key_token, string, number};
 ghost use Rattle.serde_json.specs.Data.{Members};
 ghost use Rattle.sdb_value.specs.Printed.{data_tokens, object_rest};
 ghost use Rattle.sdb_value.specs.View.{view};
 ghost use Rattle.sdb_oplog.specs.Keys.{plain_key};
-ghost use Rattle.sdb_wire.specs.Answers.{answer_text, answer_data, init, fetched, listed, op_message, acknowledged, failed, snapshot_data, create_data, content_members, error_data, some_member};
+ghost use Rattle.sdb_wire.specs.Answers.{answer_text, answer_data, init, fetched, listed, snapshot, op_message, acknowledged, failed, snapshot_data, create_data, content_members, error_data, some_member};
 ghost use Rattle.sdb_wire.specs.View.{plain_answer, plain_echo, plain_word};
 
 use crate::codes::{code_name, code_text};
@@ -70,6 +70,11 @@ fn write_answer(answer: &Answer<'_>, out: &mut Writer) -> Result<(), AllocError>
             document,
         } => write_fetched(key, *version, *document, out),
         Answer::Listed { key } => write_listed(key, out),
+        Answer::Snapshot {
+            id,
+            version,
+            document,
+        } => write_snapshot_at(*id, *version, *document, out),
         Answer::OpMessage { key, entry } => write_op_message(key, entry, out),
         Answer::Acknowledged {
             key,
@@ -168,6 +173,58 @@ fn write_listed(key: &Key, out: &mut Writer) -> Result<(), AllocError>
     ensures before { out.new.before ≡ out.old.before }
 {
     write_head("f", key, out)?;
+    out.end_object()
+}
+
+// The document at a version, or that there is none.
+fn write_snapshot_at(
+    id: u64,
+    version: u64,
+    document: Option<&Json>,
+    out: &mut Writer,
+) -> Result<(), AllocError>
+    ensures tokens { OnOk result (out.new.tokens
+        ≡ out.old.tokens ++ data_tokens
+        (answer_data (snapshot id version (option_map (λ d. view d.now) document.entry)))) }
+    ensures before { out.new.before ≡ out.old.before }
+{
+    match document {
+        Some(json) => write_document_at(id, version, json, out),
+        None => write_nothing_at(id, version, out),
+    }
+}
+
+fn write_document_at(
+    id: u64,
+    version: u64,
+    document: &Json,
+    out: &mut Writer,
+) -> Result<(), AllocError>
+    ensures tokens { OnOk result (out.new.tokens
+        ≡ out.old.tokens ++ data_tokens (answer_data (snapshot id version (Some (view document.now))))) }
+    ensures before { out.new.before ≡ out.old.before }
+{
+    out.begin_object()?;
+    write_text("a", "nf", out)?;
+    out.key("data")?;
+    write_value(document, out)?;
+    write_count("id", id, out)?;
+    write_text("type", TYPE, out)?;
+    write_count("v", version, out)?;
+    out.end_object()
+}
+
+fn write_nothing_at(id: u64, version: u64, out: &mut Writer) -> Result<(), AllocError>
+    ensures tokens { OnOk result (out.new.tokens
+        ≡ out.old.tokens ++ data_tokens (answer_data (snapshot id version None))) }
+    ensures before { out.new.before ≡ out.old.before }
+{
+    out.begin_object()?;
+    write_text("a", "nf", out)?;
+    write_count("id", id, out)?;
+    out.key("type")?;
+    out.null()?;
+    write_count("v", version, out)?;
     out.end_object()
 }
 

@@ -46,6 +46,12 @@ pub enum Request {
         src: Option<String>,
         content: Content,
     },
+    /// The document at a version, or the present one; `id` is the number that the answer shows again.
+    Snapshot {
+        key: Key,
+        version: Option<u64>,
+        id: u64,
+    },
 }
 
 /// Why a message asks nothing, and what the error shows of it. E10 is want of memory.
@@ -79,6 +85,12 @@ pub enum Answer<'a> {
     /// The end of a list of stored operations.
     Listed {
         key: &'a Key,
+    },
+    /// The document at a version: the number of the request, the version, the document.
+    Snapshot {
+        id: u64,
+        version: u64,
+        document: Option<&'a Json>,
     },
     /// A stored operation.
     OpMessage {

@@ -1,0 +1,61 @@
+-- What a document keeps: snapshots of its log.
+use Rattle.std.proofs.Common.{◌≡◌, ◌≢◌, ℕ, ◌≤◌, List, [], ◌∷◌, ◌++◌, take, Option, Some, None, Result, OnOk, OnErr, Ok, Err, sym, ap, ◌∙◌, subst, arith, refl}
+use Rattle.std.specs.Prelude.{⊤}
+use Rattle.sdb_value.specs.Value.{Value}
+use Rattle.sdb_value.specs.declared.value.Json.{Json}
+use Rattle.sdb_oplog.specs.Plain.{PlainEntry, PlainSubmission}
+use Rattle.sdb_oplog.specs.Decide.{decide}
+use Rattle.sdb_oplog.specs.Snap.{snap}
+use Rattle.sdb_oplog.specs.Laws.{decide_grows}
+use Rattle.sdb_snapcache.specs.Kept.{Snapshot, nearest, used_for, offered}
+use Rattle.sdb_snapcache.specs.Snaps.{IsSnapOf, AreSnapsOf}
+use Rattle.sdb_snapcache.specs.Laws.{nearest_snap, nearest_up_to, used_for_snaps, offered_snaps, longer_snaps}
+use Rattle.sdb_desk.specs.Documents.{IsMadeDocument, IsDocument, Begins}
+
+-- another list of snapshots
+pub with_kept : (log : List PlainEntry) (present : Option Json) (kept other : List Snapshot) → AreSnapsOf log other → IsDocument log present kept → IsDocument log present other
+with_kept log present kept other snaps d = record { keeps = d.keeps; filled = d.filled; snaps = snaps }
+
+pub with_used : (log : List PlainEntry) (present : Option Json) (kept other : List Snapshot) (v : ℕ) → other ≡ used_for v kept → IsDocument log present kept → IsDocument log present other
+with_used log present kept other v is d = with_kept log present kept other (subst (AreSnapsOf log) (sym is) (used_for_snaps log v kept d.snaps)) d
+
+-- the version that a replay begins with
+pub begins_up_to : (v w : ℕ) (o : Option Snapshot) (kept : List Snapshot) (d : Option Value) → nearest v kept ≡ o → Begins o w d → w ≤ v
+begins_up_to v w None kept d e h = let z = h.0 in omega (arith, z)
+begins_up_to v w (Some s) kept d e h = let z = h.0 in let n = nearest_up_to v kept s e in omega (arith, z, n)
+
+-- what is there is the document of that version
+pub begins_snap : (log : List PlainEntry) (v w : ℕ) (o : Option Snapshot) (kept : List Snapshot) (d : Option Value) → AreSnapsOf log kept → nearest v kept ≡ o → Begins o w d → snap (take w log) ≡ Some d
+begins_snap log v w None kept d snaps e h = ap (λ n. snap (take n log)) h.0 ∙ ap Some (sym h.1)
+begins_snap log v w (Some s) kept d snaps e h = ap (λ n. snap (take n log)) h.0 ∙ (nearest_snap log v kept s snaps e).is ∙ ap Some (sym h.1)
+
+-- a decision keeps the snapshots
+pub decided_snaps : (log : List PlainEntry) (s : PlainSubmission) (kept : List Snapshot) → AreSnapsOf log kept → AreSnapsOf (decide log s).log kept
+decided_snaps log s kept snaps = let g = decide_grows log s in subst (λ l. AreSnapsOf l kept) (sym g.1) (longer_snaps log g.0 kept snaps)
+
+-- what is kept after an offer that may have found no memory
+pub offered_or : {E : Type 0} (log : List PlainEntry) (v : ℕ) (d : Value) (kept other : List Snapshot) (r : Result ⊤ E) → IsSnapOf log (record { version = v; value = d }) → AreSnapsOf log kept
+    → OnOk r (other ≡ offered v d kept) → OnErr r (other ≡ kept) → AreSnapsOf log other
+offered_or log v d kept other (Ok u) is snaps ok err = subst (AreSnapsOf log) (sym ok) (offered_snaps log v d kept is snaps)
+offered_or log v d kept other (Err e) is snaps ok err = subst (AreSnapsOf log) (sym err) snaps
+
+none_of_more : (log rest : List PlainEntry) → log ++ rest ≡ [] → log ≡ []
+none_of_more [] rest e = refl
+none_of_more (x ∷ log) rest e = cc
+
+decided_filled : (log : List PlainEntry) (s : PlainSubmission) → log ≢ [] → (decide log s).log ≢ []
+decided_filled log s filled none = let g = decide_grows log s in filled (none_of_more log g.0 (sym g.1 ∙ none))
+
+-- a document after a decision that may have found no memory
+pub decided_document : {A E : Type 0} (log new : List PlainEntry) (s : PlainSubmission) (old present : Option Json) (kept : List Snapshot) (r : Result A E) → OnOk r (new ≡ (decide log s).log) → OnErr r (new ≡ log)
+    → IsMadeDocument new present → IsDocument log old kept → IsDocument new present kept
+decided_document log new s old present kept (Ok x) ok err made d = record {
+  keeps = made;
+  filled = subst (λ l. l ≢ []) (sym ok) (decided_filled log s d.filled);
+  snaps = subst (λ l. AreSnapsOf l kept) (sym ok) (decided_snaps log s kept d.snaps);
+}
+decided_document log new s old present kept (Err e) ok err made d = record {
+  keeps = made;
+  filled = subst (λ l. l ≢ []) (sym err) d.filled;
+  snaps = subst (λ l. AreSnapsOf l kept) (sym err) d.snaps;
+}

@@ -1,0 +1,19 @@
+use Rattle.std.proofs.Common.{take, sym, ap, ◌∙◌}
+use Rattle.sdb_oplog.specs.Snap.{snap}
+use Rattle.sdb_desk.proofs.Keeping.{with_used, begins_up_to, begins_snap}
+use Rattle.sdb_desk.proofs.document.Document.nearest.Goals as goal
+
+pub invariant_of-self : goal.invariant_of-self
+invariant_of-self c = with_used _ _ c.self.inside.cache _ c.args.version c.copy_nearest.ensures.used c.self.invariant
+
+pub invariant_of-self-2 : goal.invariant_of-self-2
+invariant_of-self-2 c = with_used _ _ c.self.inside.cache _ c.args.version c.copy_nearest.ensures.used c.self.invariant
+
+pub returns-clause-up_to : goal.returns-clause-up_to
+returns-clause-up_to c = begins_up_to c.args.version c.base_of.result.0 _ c.self.inside.cache _ (sym c.in_ok-found.ensures.found) c.base_of.ensures
+
+pub returns-clause-snap : goal.returns-clause-snap
+returns-clause-snap c =
+    let w = c.base_of.result.0 in
+    ap (λ l. snap (take w l)) (sym c.self.view_is)
+    ∙ begins_snap c.self.inside.log c.args.version w _ c.self.inside.cache _ c.self.invariant.snaps (sym c.in_ok-found.ensures.found) c.base_of.ensures

@@ -1,0 +1,16 @@
+use Rattle.std.proofs.Common.{◌≤◌, length, take, Some, sym, ap, ◌∙◌, subst}
+use Rattle.sdb_value.specs.View.{view}
+use Rattle.sdb_oplog.specs.Snap.{snap}
+use Rattle.sdb_snapcache.specs.Snaps.{IsSnapOf}
+use Rattle.sdb_desk.proofs.Keeping.{with_kept, offered_or}
+use Rattle.sdb_desk.proofs.document.Document.offer.Goals as goal
+
+pub invariant_of-self : goal.invariant_of-self
+invariant_of-self c =
+    let log = c.self.inside.log in
+    let v = c.args.version in
+    let is : IsSnapOf log (record { version = v; value = view c.in-Ok.copy }) = record {
+      within = subst (λ l. v ≤ length l) (sym c.self.view_is) c.requires.reached;
+      is = ap (λ l. snap (take v l)) c.self.view_is ∙ c.requires.snap ∙ ap (λ d. Some (Some d)) (sym c.in-Ok.ensures);
+    } in
+    with_kept log c.self.inside.present c.self.inside.cache _ (offered_or log v (view c.in-Ok.copy) c.self.inside.cache _ c.offer.result is c.self.invariant.snaps c.offer.ensures.ok c.offer.ensures.err) c.self.invariant
