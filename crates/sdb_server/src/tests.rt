@@ -20,7 +20,7 @@ struct Row {
     answers: &'static str,
 }
 
-const ROWS: [Row; 14] = [
+const ROWS: [Row; 15] = [
     Row {
         name: "absent",
         lines: r#"{"a":"f","c":"b","d":"1"}
@@ -216,6 +216,19 @@ const ROWS: [Row; 14] = [
 {"a":"op","c":"b","d":"17","seq":2,"src":"x","v":1}
 {"a":"f","c":"b","d":"17","data":{"data":{"k":2},"v":2}}
 {"a":"op","c":"b","d":"18","error":{"code":"ERR_DOC_DOES_NOT_EXIST","message":"document does not exist"},"seq":1,"src":"x"}
+"#,
+    },
+    Row {
+        name: "snapshots",
+        lines: r#"{"a":"op","c":"b","d":"1","v":null,"src":"x","seq":1,"create":{"type":"http://sharejs.org/types/JSONv0","data":{"n":1}}}
+{"a":"nf","id":7,"c":"b","d":"1","v":0}
+{"a":"nf","id":8,"c":"b","d":"1","v":1}
+{"a":"nf","id":9,"c":"b","d":"1","v":2}
+"#,
+        answers: r#"{"a":"op","c":"b","d":"1","seq":1,"src":"x","v":0}
+{"a":"nf","id":7,"type":null,"v":0}
+{"a":"nf","data":{"n":1},"id":8,"type":"http://sharejs.org/types/JSONv0","v":1}
+{"a":"nf","c":"b","d":"1","error":{"code":"ERR_OP_VERSION_NEWER_THAN_CURRENT_SNAPSHOT","message":"version is newer than the current snapshot"},"id":9}
 "#,
     },
     Row {

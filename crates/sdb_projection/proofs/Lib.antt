@@ -1,0 +1,3 @@
+pub mod Commuting
+pub mod Fields
+pub mod Walks

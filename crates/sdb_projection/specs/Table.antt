@@ -1,0 +1,39 @@
+-- A table of projections.
+use Rattle.std.specs.Prelude.{◌≡◌, ℕ, List, [], ◌∷◌, Bool, true, false, ◌||◌, cond, if◌then◌else◌, bytes_eq, Option, Some, None, ⊤}
+use Rattle.std.specs.List.{list_any}
+use Rattle.std.specs.Option.{is_some}
+use Rattle.sdb_projection.specs.declared.table.TableFault.{TableFault}
+use Rattle.sdb_projection.specs.declared.table.TableFault.TheVariants.{SecondName, OwnName, OfProjection, NoField, Memory}
+
+-- a collection name, the collection that it shows, and the fields
+pub record PlainProjection : Type 0 where
+  pub name : List ℕ
+  pub base : List ℕ
+  pub fields : List (List ℕ)
+
+-- the projection of this name
+abbrev pub projection_of : List ℕ → List PlainProjection → Option PlainProjection
+projection_of n [] = None
+projection_of n (p ∷ table) = cond (bytes_eq p.name n) (Some p) (projection_of n table)
+
+-- whether a projection of the table shows this collection
+abbrev pub is_base : List ℕ → List PlainProjection → Bool
+is_base n = list_any (λ p. bytes_eq p.base n)
+
+abbrev pub is_empty : List (List ℕ) → Bool
+is_empty [] = true
+is_empty (f ∷ fields) = false
+
+-- why the projection is refused; the first that holds
+abbrev pub refusal : PlainProjection → List PlainProjection → Option TableFault
+refusal p table =
+    if is_some (projection_of p.name table) then Some SecondName
+    else (if bytes_eq p.name p.base then Some OwnName
+    else (if is_some (projection_of p.base table) || is_base p.name table then Some OfProjection
+    else (if is_empty p.fields then Some NoField
+    else None)))
+
+-- the fault is the one that is due, or memory was wanting
+abbrev pub RefusedFor : Option TableFault → TableFault → Type 0
+RefusedFor r Memory = ⊤
+RefusedFor r f = r ≡ Some f

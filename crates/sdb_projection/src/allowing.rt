@@ -1,0 +1,57 @@
+//! What may be asked through a projection.
+ghost use Rattle.std.specs.Prelude.{◌≡◌};
+ghost use Rattle.std.specs.List.{list_all};
+ghost use Rattle.sdb_value.specs.View.{view, members_view};
+ghost use Rattle.sdb_projection.specs.Projected.{all_fields, allowed, allowed_data, is_shown};
+ghost use Rattle.sdb_projection.specs.View.{fields_of};
+
+use crate::projection::Projection;
+use sdb_component::Op;
+use sdb_oplog::{Content, Kind};
+use sdb_value::Json;
+use std::collections::BTreeMap;
+
+/// Whether the content may be asked through the projection: a create of null or of an object of its
+/// fields alone; a delete; an edit each of whose components has a path, as it is sent, that begins
+/// with a field. It takes no memory.
+pub fn allowed(projection: &Projection, content: &Content) -> bool
+    ensures { result ≡ allowed (fields_of projection.now) content.now }
+{
+    match content.kind() {
+        Kind::Create(value) => allowed_data(projection, value),
+        Kind::Delete => true,
+        Kind::Edit(op) => allowed_op(projection, op),
+    }
+}
+
+fn allowed_data(projection: &Projection, value: &Json) -> bool
+    ensures { result ≡ allowed_data (fields_of projection.now) (view value.now) }
+{
+    match value {
+        Json::Null => true,
+        Json::Object(members) => all_fields(projection, members),
+        _ => false,
+    }
+}
+
+fn all_fields(projection: &Projection, members: &BTreeMap<String, Json>) -> bool
+    ensures { result ≡ all_fields (fields_of projection.now) (members_view members.now.entries) }
+{
+    for (key, _) in members.iter() {
+        if !projection.is_field(key.as_str()) {
+            return false;
+        }
+    }
+    true
+}
+
+fn allowed_op(projection: &Projection, op: &Op) -> bool
+    ensures { result ≡ list_all (is_shown (fields_of projection.now)) op.now }
+{
+    for component in op.components() {
+        if !projection.shows(component) {
+            return false;
+        }
+    }
+    true
+}

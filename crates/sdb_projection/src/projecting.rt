@@ -1,0 +1,75 @@
+//! What a projection shows.
+ghost use Rattle.std.specs.Prelude.{◌≡◌, IfOk};
+ghost use Rattle.sdb_value.specs.View.{view, members_view};
+ghost use Rattle.sdb_projection.specs.Projected.{proj, proj_op, proj_content, shown};
+ghost use Rattle.sdb_projection.specs.View.{fields_of};
+
+use crate::projection::Projection;
+use sdb_component::Op;
+use sdb_oplog::{Content, Kind};
+use sdb_value::{Json, put_member};
+use std::alloc::{AllocError, Global};
+use std::collections::BTreeMap;
+
+/// What the projection shows of a document's data: of an object its fields alone, and null of other
+/// data. Fails only where an allocation does.
+pub fn project_data(
+    alloc: Global,
+    projection: &Projection,
+    value: &Json,
+) -> Result<Json, AllocError>
+    ensures { IfOk result (λ v. view v ≡ proj (fields_of projection.now) (view value.now)) }
+{
+    match value {
+        Json::Object(members) => Ok(Json::Object(shown(alloc, projection, members)?)),
+        _ => Ok(Json::Null),
+    }
+}
+
+// Copies of the members whose keys are fields.
+fn shown(
+    alloc: Global,
+    projection: &Projection,
+    members: &BTreeMap<String, Json>,
+) -> Result<BTreeMap<String, Json>, AllocError>
+    ensures { IfOk result
+        (λ m. members_view m.entries ≡ shown (fields_of projection.now) (members_view members.now.entries)) }
+{
+    let mut copies = BTreeMap::new(alloc);
+    for (key, member) in members.iter() {
+        if projection.is_field(key.as_str()) {
+            put_member(&mut copies, key.clone()?, member.try_clone(alloc)?)?;
+        }
+    }
+    Ok(copies)
+}
+
+/// What the projection shows of an operation: the components whose path, as it is sent, begins with a
+/// field, in their order. Fails only where an allocation does.
+pub fn project_op(alloc: Global, projection: &Projection, op: &Op) -> Result<Op, AllocError>
+    ensures { IfOk result (λ o. o ≡ proj_op (fields_of projection.now) op.now) }
+{
+    let mut copies = Vec::new(alloc);
+    for component in op.components() {
+        if projection.shows(component) {
+            copies.push(component.try_clone(alloc)?)?;
+        }
+    }
+    Ok(Op::new(copies))
+}
+
+/// What the projection shows of what an entry stores: of a create its data, of an edit its operation,
+/// and a delete as it is. Fails only where an allocation does.
+pub fn project_content(
+    alloc: Global,
+    projection: &Projection,
+    content: &Content,
+) -> Result<Content, AllocError>
+    ensures { IfOk result (λ c. c ≡ proj_content (fields_of projection.now) content.now) }
+{
+    match content.kind() {
+        Kind::Create(value) => Ok(Content::create(project_data(alloc, projection, value)?)),
+        Kind::Delete => Ok(Content::delete()),
+        Kind::Edit(op) => Ok(Content::edit(project_op(alloc, projection, op)?)),
+    }
+}

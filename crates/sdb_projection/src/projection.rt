@@ -1,0 +1,57 @@
+//! A projection, and which components it shows.
+ghost use Rattle.std.specs.Prelude.{◌≡◌, [], ◌∷◌};
+ghost use Rattle.sdb_value.specs.View.{plain_step};
+ghost use Rattle.sdb_component.specs.View.{plain_act};
+ghost use Rattle.sdb_component.specs.Prints.{last_step};
+ghost use Rattle.sdb_projection.specs.Projected.{is_field, is_shown, leads_to_field};
+ghost use Rattle.sdb_projection.specs.View.{fields_of};
+
+use sdb_component::{Act, Component};
+use sdb_value::Step;
+use std::collections::BTreeSet;
+
+/// A collection name over another collection, of whose documents it shows these top-level fields.
+#[derive(Drop)]
+pub struct Projection {
+    pub name: String,
+    pub base: String,
+    pub fields: BTreeSet<String>,
+}
+
+impl Projection {
+    // Whether the key is one of the fields.
+    pub(crate) fn is_field(&self, key: &str) -> bool
+        ensures { result ≡ is_field (fields_of self.now) key.now }
+    {
+        self.fields.contains(key)
+    }
+
+    // Whether the path of the component, as it is sent, begins with a field.
+    pub(crate) fn shows(&self, component: &Component) -> bool
+        ensures { result ≡ is_shown (fields_of self.now) component.now }
+    {
+        match component.path() {
+            [] => self.shows_act(component.act()),
+            [first, ..] => self.shows_step(first),
+        }
+    }
+
+    fn shows_step(&self, step: &Step) -> bool
+        ensures { result ≡ leads_to_field (fields_of self.now) (plain_step step.now ∷ []) }
+    {
+        match step {
+            Step::Key(key) => self.is_field(key.as_str()),
+            Step::Index(_) => false,
+        }
+    }
+
+    // Whether the act's last step is a field.
+    fn shows_act(&self, act: &Act) -> bool
+        ensures { result ≡ leads_to_field (fields_of self.now) (last_step (plain_act act.now)) }
+    {
+        match act {
+            Act::Oi(key, _) | Act::Od(key, _) | Act::Or(key, _, _) => self.is_field(key.as_str()),
+            _ => false,
+        }
+    }
+}

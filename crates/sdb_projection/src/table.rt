@@ -1,0 +1,122 @@
+//! The projections of a server.
+ghost use Rattle.std.specs.Prelude.{◌≡◌, [], ◌∷◌, ◌++◌, Some, Err, IfErr, OnOk, OnErr, option_map};
+ghost use Rattle.std.specs.Result.{result_err};
+ghost use Rattle.sdb_projection.specs.Table.{projection_of, is_base, refusal, RefusedFor};
+ghost use Rattle.sdb_projection.specs.View.{plain_projection};
+
+use crate::projection::Projection;
+use std::alloc::Global;
+use std::marker::Model;
+use thiserror::Error;
+
+/// Why a projection is not taken into a table.
+#[derive(Clone, Copy, Debug, PartialEq, Eq, Drop, Error)]
+pub enum TableFault {
+    /// The table has a projection of that name.
+    #[error("a projection has this name already")]
+    SecondName,
+    /// The name is that of the collection itself.
+    #[error("a projection can not have the name of its collection")]
+    OwnName,
+    /// The collection is a projection of the table, or the name is a collection that one of them shows.
+    #[error("a projection can not show a projection")]
+    OfProjection,
+    /// It shows no field.
+    #[error("a projection needs a field")]
+    NoField,
+    /// An allocation failed.
+    #[error("out of memory")]
+    Memory,
+}
+
+/// The projections that were taken in, in order.
+#[derive(Drop)]
+pub struct Table {
+    projections: Vec<Projection>,
+}
+
+impl Model for Table {
+    ghost use Rattle.std.specs.Prelude.{List, map};
+    ghost use Rattle.sdb_projection.specs.Table.{PlainProjection};
+    ghost use Rattle.sdb_projection.specs.Coding.{table_code};
+
+    ghost Value = { List PlainProjection };
+
+    ghost coded = { table_code };
+
+    ghost use Rattle.sdb_projection.specs.View.{plain_projection};
+
+    ghost view = { λ t. map plain_projection t.projections.items };
+}
+
+impl Table {
+    /// A table without projections.
+    pub fn new(alloc: Global) -> Table
+        ensures { result ≡ [] }
+    {
+        Table {
+            projections: Vec::new(alloc),
+        }
+    }
+
+    /// Takes a projection in, behind the others. Of the faults the first that holds is answered, in the
+    /// order of [`TableFault`], and the table is then unchanged.
+    pub fn add(&mut self, projection: Projection) -> Result<(), TableFault>
+        ensures refused { (fault : TableFault) → refusal (plain_projection projection) self.old ≡ Some fault
+            → result ≡ Err fault }
+        ensures ok { OnOk result (self.new ≡ self.old ++ plain_projection projection ∷ []) }
+        ensures err { IfErr result (λ fault. RefusedFor (refusal (plain_projection projection) self.old) fault) }
+        ensures same { OnErr result (self.new ≡ self.old) }
+    {
+        self.check(&projection)?;
+        match self.projections.push(projection) {
+            Ok(()) => Ok(()),
+            Err(_) => Err(TableFault::Memory),
+        }
+    }
+
+    // Refuses a projection that the table can't take in.
+    fn check(&self, projection: &Projection) -> Result<(), TableFault>
+        ensures { result_err result ≡ refusal (plain_projection projection.now) self.now }
+    {
+        let name = projection.name.as_str();
+        let base = projection.base.as_str();
+        if self.find(name).is_some() {
+            return Err(TableFault::SecondName);
+        }
+        if name == base {
+            return Err(TableFault::OwnName);
+        }
+        if self.find(base).is_some() || self.is_base(name) {
+            return Err(TableFault::OfProjection);
+        }
+        if projection.fields.is_empty() {
+            return Err(TableFault::NoField);
+        }
+        Ok(())
+    }
+
+    /// The projection of the name.
+    pub fn find(&self, name: &str) -> Option<&Projection>
+        ensures { option_map (λ p. plain_projection p.now) result ≡ projection_of name.now self.now }
+    {
+        for projection in &self.projections {
+            if projection.name.as_str() == name {
+                return Some(projection);
+            }
+        }
+        None
+    }
+
+    // Whether a projection shows this collection.
+    fn is_base(&self, name: &str) -> bool
+        ensures { result ≡ is_base name.now self.now }
+    {
+        for projection in &self.projections {
+            if projection.base.as_str() == name {
+                return true;
+            }
+        }
+        false
+    }
+}

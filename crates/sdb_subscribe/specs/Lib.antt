@@ -1,0 +1,4 @@
+pub mod Coding
+pub mod Laws
+pub mod Queue
+pub mod Worked

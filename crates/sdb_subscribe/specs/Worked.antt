@@ -1,0 +1,67 @@
+-- Rows worked by hand: queues of a log that grows.
+use Rattle.std.specs.Prelude.{◌≡◌, ℕ, List, [], ◌∷◌, map, take, Option, Some, None, Err, option_map, unwrap_or, codes, refl}
+use Rattle.std.specs.Result.{result_ok}
+use Rattle.sdb_oplog.specs.Plain.{delete, PlainEntry}
+use Rattle.sdb_oplog.specs.declared.codes.Code.TheVariants.{E11}
+use Rattle.sdb_subscribe.specs.Queue.{PlainQueue, PlainQueues, opened, taken_from, after_take, without}
+
+abbrev entry : ℕ → PlainEntry
+entry n = record { version = n; content = delete; arrived = record { src = codes "x"; seq = n; version = None; content = delete; via = codes "b"; by = 0 } }
+
+-- the log with this many entries
+abbrev log : ℕ → List PlainEntry
+log n = take n (entry 0 ∷ entry 1 ∷ entry 2 ∷ [])
+
+abbrev versions : Option (List PlainEntry) → Option (List ℕ)
+versions = option_map (map (λ e. e.version))
+
+-- two queues: from version 1 on, and from version 5 on
+abbrev none_open : PlainQueues
+none_open = record { next = 0; queues = [] }
+
+abbrev one_open : PlainQueues
+one_open = unwrap_or (result_ok (opened 1 none_open)) none_open
+
+abbrev two_open : PlainQueues
+two_open = unwrap_or (result_ok (opened 5 one_open)) none_open
+
+abbrev start : List (ℕ × PlainQueue)
+start = two_open.queues
+
+pub row_numbers : two_open.next ≡ 2
+row_numbers = refl
+
+-- the first is given version 1, then nothing, then version 2 once it is stored
+pub row_first : versions (taken_from (log 2) 0 10 start) ≡ Some (1 ∷ [])
+row_first = refl
+
+abbrev later : List (ℕ × PlainQueue)
+later = after_take (log 2) 0 10 start
+
+pub row_none : versions (taken_from (log 2) 0 10 later) ≡ Some []
+row_none = refl
+
+pub row_next : versions (taken_from (log 3) 0 10 later) ≡ Some (2 ∷ [])
+row_next = refl
+
+-- at most as many as are asked for
+pub row_most : versions (taken_from (log 3) 0 1 start) ≡ Some (1 ∷ [])
+row_most = refl
+
+-- the second waits for the log to reach its start
+pub row_beyond : versions (taken_from (log 3) 1 10 later) ≡ Some []
+row_beyond = refl
+
+-- no queue has the number 2, nor 0 after it is closed
+pub row_unknown : versions (taken_from (log 3) 2 10 start) ≡ None
+row_unknown = refl
+
+pub row_closed : versions (taken_from (log 3) 0 10 (without 0 start)) ≡ None
+row_closed = refl
+
+pub row_other : versions (taken_from (log 3) 1 10 (without 0 start)) ≡ Some []
+row_other = refl
+
+-- the numbers are used up
+pub row_used_up : opened 0 (record { next = 18446744073709551615; queues = [] }) ≡ Err E11
+row_used_up = refl
