@@ -7,9 +7,15 @@ mod apply;
 #[cfg(test)]
 mod component;
 #[cfg(test)]
+mod desk;
+#[cfg(test)]
+mod growths;
+#[cfg(test)]
 mod lines;
 #[cfg(test)]
 mod oplog;
+#[cfg(test)]
+mod submit;
 #[cfg(test)]
 mod transform;
 #[cfg(test)]
