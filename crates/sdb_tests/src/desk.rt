@@ -29,7 +29,7 @@ pub(crate) fn from(
 pub(crate) fn editing(alloc: Global, component: Component) -> Result<Content, Fail> {
     let mut components = Vec::new(alloc);
     components.push(component)?;
-    Ok(Content::edit(Op::new(components)))
+    Ok(Content::edit(alloc, Op::new(components))?)
 }
 
 // Adds to the number that is the whole document.
@@ -62,7 +62,12 @@ impl Board {
     // The document is the number 0.
     fn new(alloc: Global) -> Result<Board, Fail> {
         let mut board = Board::empty(alloc)?;
-        board.put(from(alloc, "w", None, Content::create(Json::Int(whole(0)?)))?)?;
+        board.put(from(
+            alloc,
+            "w",
+            None,
+            Content::create(alloc, Json::Int(whole(0)?))?,
+        )?)?;
         Ok(board)
     }
 
@@ -287,5 +292,53 @@ fn listed(alloc: Global, version: u64) -> Result<Result<usize, Code>, Fail> {
 fn operations_are_listed_from_a_version(rt: HostRuntime) -> Result<(), Fail> {
     assert_eq!(rt; listed(rt.alloc(), 0)?, Ok(1));
     assert_eq!(rt; listed(rt.alloc(), 2)?, Err(Code::E4));
+    Ok(())
+}
+
+// The number at each version from 1 on.
+fn history(board: &mut Board, versions: u64) -> Result<Vec<i64>, Fail> {
+    let mut numbers = Vec::new(board.alloc);
+    for version in 1..=versions {
+        numbers.push(number_at(board, version)?)?;
+    }
+    Ok(numbers)
+}
+
+fn number_at(board: &mut Board, version: u64) -> Result<i64, Fail> {
+    let found = board
+        .shard
+        .snapshot_at(&board.key, Some(version))
+        .or(Err("no snapshot"))?;
+    Ok(number(found.snapshot.as_ref()).ok_or("a number")?)
+}
+
+// The document is the number 11, to which 1 was added eleven times.
+fn eleven(alloc: Global) -> Result<Board, Fail> {
+    let mut board = Board::new(alloc)?;
+    for src in ["a", "b", "c", "d", "e", "f", "g", "h", "i", "j", "k"] {
+        board.put(board.edit(src, None, 1)?)?;
+    }
+    Ok(board)
+}
+
+#[test]
+fn a_document_at_each_version(rt: HostRuntime) -> Result<(), Fail> {
+    let mut board = eleven(rt.alloc())?;
+    let wanted = [0, 1, 2, 3, 4, 5, 6, 7, 8, 9, 10, 11];
+    assert_eq!(rt; history(&mut board, 12)?.as_slice(), wanted.as_slice());
+    board.shard.forget(&board.key);
+    assert_eq!(rt; history(&mut board, 12)?.as_slice(), wanted.as_slice());
+    Ok(())
+}
+
+#[test]
+fn no_document_before_the_first_version(rt: HostRuntime) -> Result<(), Fail> {
+    let mut board = eleven(rt.alloc())?;
+    let found = board
+        .shard
+        .snapshot_at(&board.key, Some(0))
+        .or(Err("no snapshot"))?;
+    assert!(rt; found.snapshot.is_none());
+    assert!(rt; matches!(board.shard.snapshot_at(&board.key, Some(13)), Err(Code::E4)));
     Ok(())
 }

@@ -12,7 +12,7 @@ use std::test::Fail;
 fn creating(alloc: Global, src: &str) -> Result<Submission, Fail> {
     let mut items = Vec::new(alloc);
     items.push(Json::Null)?;
-    from(alloc, src, None, Content::create(Json::List(items)))
+    from(alloc, src, None, Content::create(alloc, Json::List(items))?)
 }
 
 // Puts one more null into that list.

@@ -26,7 +26,11 @@ fn a_log_keeps_what_is_pushed(rt: HostRuntime) -> Result<(), Fail> {
     let alloc = rt.alloc();
     let mut log = Log::new(alloc);
     assert!(rt; log.is_empty());
-    log.push(Entry::new(0, None, submission(alloc, 1, Content::create(three()?))?))?;
+    log.push(Entry::new(
+        0,
+        None,
+        submission(alloc, 1, Content::create(alloc, three()?)?)?,
+    ))?;
     assert_eq!(rt; log.len(), 1);
     assert_eq!(rt; log.stored_at("x", 1), Some(0));
     assert_eq!(rt; log.stored_at("x", 2), None);
@@ -44,7 +48,7 @@ fn a_log_keeps_what_is_pushed(rt: HostRuntime) -> Result<(), Fail> {
 #[test]
 fn copies_are_the_same(rt: HostRuntime) -> Result<(), Fail> {
     let alloc = rt.alloc();
-    let submission = submission(alloc, 1, Content::create(Json::Null))?.try_clone(alloc)?;
+    let submission = submission(alloc, 1, Content::create(alloc, Json::Null)?)?.try_clone()?;
     let entry = Entry::new(5, Some(Content::delete()), submission);
     let copies = copy_entries(alloc, &[entry])?;
     let copy = copies.get(0).ok_or("a copy")?;
@@ -60,7 +64,10 @@ fn copies_are_the_same(rt: HostRuntime) -> Result<(), Fail> {
 #[test]
 fn a_content_over_others(rt: HostRuntime) -> Result<(), Fail> {
     let alloc = rt.alloc();
-    let (edit, delete) = (Content::edit(Op::new(Vec::new(alloc))), Content::delete());
+    let (edit, delete) = (
+        Content::edit(alloc, Op::new(Vec::new(alloc)))?,
+        Content::delete(),
+    );
     assert!(rt; matches!(over(alloc, &edit, &delete), Err(Code::E5)));
     let passed = over(alloc, &delete, &edit).or(Err("a delete passes"))?;
     assert!(rt; matches!(passed.kind(), Kind::Delete));
@@ -69,7 +76,7 @@ fn a_content_over_others(rt: HostRuntime) -> Result<(), Fail> {
     let entry = Entry::new(
         1,
         None,
-        submission(alloc, 2, Content::edit(Op::new(Vec::new(alloc))))?,
+        submission(alloc, 2, Content::edit(alloc, Op::new(Vec::new(alloc)))?)?,
     );
     let one = over_all(alloc, &delete, &[entry]).or(Err("along an edit"))?;
     assert!(rt; matches!(one.ok_or("carried")?.kind(), Kind::Delete));
@@ -81,21 +88,21 @@ fn a_content_done_to_a_document(rt: HostRuntime) -> Result<(), Fail> {
     let alloc = rt.alloc();
     let mut document = None;
     assert!(rt;
-        Content::create(three()?)
+        Content::create(alloc, three()?)?
             .apply_to(alloc, &mut document)
             .is_ok()
     );
     assert!(rt; document == Some(three()?));
     assert!(rt;
         matches!(
-            Content::create(Json::Null).apply_to(alloc, &mut document),
+            Content::create(alloc, Json::Null)?.apply_to(alloc, &mut document),
             Err(Code::E6)
         )
     );
     assert!(rt; document == Some(three()?));
     assert!(rt; Content::delete().apply_to(alloc, &mut document).is_ok());
     assert!(rt; document.is_none());
-    let edit = Content::edit(Op::new(Vec::new(alloc)));
+    let edit = Content::edit(alloc, Op::new(Vec::new(alloc)))?;
     assert!(rt; matches!(edit.apply_to(alloc, &mut document), Err(Code::E7)));
     Ok(())
 }

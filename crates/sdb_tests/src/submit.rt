@@ -85,6 +85,19 @@ impl Desk for Meddling {
         pass.shard.ops_from(key, version)
     }
 
+    fn snapshot_at(
+        &self,
+        pass: &mut Shared,
+        key: &Key,
+        version: Option<u64>,
+    ) -> Result<Fetched, Code> {
+        pass.shard.snapshot_at(key, version)
+    }
+
+    fn forget(&self, pass: &mut Shared, key: &Key) {
+        pass.shard.forget(key)
+    }
+
     fn by(&self, _pass: &Shared) -> u64 {
         0
     }
@@ -125,7 +138,13 @@ fn from(
 fn create(alloc: Global) -> Result<Submission, Fail>
     ensures { IfOk result (λ s. s.by ≡ 0) }
 {
-    from(alloc, "w", 0, None, Content::create(counter(alloc)?))
+    from(
+        alloc,
+        "w",
+        0,
+        None,
+        Content::create(alloc, counter(alloc)?)?,
+    )
 }
 
 // The submission that is tried: it adds 100, at version 1.

@@ -181,7 +181,7 @@ fn answers_are_written(rt: HostRuntime) -> Result<(), Fail> {
     let alloc = rt.alloc();
     let key = key(alloc)?;
     let document = Json::Int(Whole::new(3).ok_or("three")?);
-    let created = entry(alloc, Content::create(Json::Null))?;
+    let created = entry(alloc, Content::create(alloc, Json::Null)?)?;
     let deleted = entry(alloc, Content::delete())?;
     let nothing = no_echo();
     let cases = [
@@ -254,7 +254,7 @@ fn entries_are_shown(rt: HostRuntime) -> Result<(), Fail> {
     let edit = read_content(alloc, &Value::from_str(alloc, EDIT)?).or(Err("an edit"))?;
     let cases = [
         (
-            Content::create(Json::Null),
+            Content::create(alloc, Json::Null)?,
             r#"{"create":{"data":null,"type":"http://sharejs.org/types/JSONv0"},"seq":7,"src":"x","v":4}"#,
         ),
         (Content::delete(), r#"{"del":true,"seq":7,"src":"x","v":4}"#),
