@@ -65,12 +65,22 @@ def pairs():
     print(f"  of 10 MB: {large * 1e6:.0f} microseconds, ratio {large / small:.2f}")
 
 
+def snapshots():
+    entries, reads = 100_000, 10_000
+    alone = server_over(5, "snapshots.py", entries, 0, 0)[0]
+    present, near = ((server_over(5, "snapshots.py", entries, reads, back)[0] - alone) / reads for back in (0, 1000))
+    far = server_over(5, "snapshots.py", entries, 1, entries)[0] - alone
+    print(f"a document at the present version of a log of {entries} entries: {present * 1e6:.1f} microseconds")
+    print(f"  at a random one of the last 1,000: {near * 1e6:.1f} microseconds, at a random one of all: {far * 1e3:.1f} milliseconds")
+
+
 def main():
     compare("1,000 documents", "lines.py", 100_000)
     compare("one text, 8 sources up to 8 versions behind", "trace.py", 100_000)
     compare("one number", "counts.py", 100_000)
     long_logs()
     pairs()
+    snapshots()
     sys.stdout.flush()
     for part in ("apply", "transform"):
         subprocess.run([BENCH, part], check=True)

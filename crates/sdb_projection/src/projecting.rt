@@ -68,8 +68,8 @@ pub fn project_content(
     ensures { IfOk result (λ c. c ≡ proj_content (fields_of projection.now) content.now) }
 {
     match content.kind() {
-        Kind::Create(value) => Ok(Content::create(project_data(alloc, projection, value)?)),
+        Kind::Create(value) => Ok(Content::create(alloc, project_data(alloc, projection, value)?)?),
         Kind::Delete => Ok(Content::delete()),
-        Kind::Edit(op) => Ok(Content::edit(project_op(alloc, projection, op)?)),
+        Kind::Edit(op) => Ok(Content::edit(alloc, project_op(alloc, projection, op)?)?),
     }
 }
