@@ -1,210 +1,162 @@
 //! `sdb_apply`: components and operations applied.
-use sdb_apply::{ApplyFault, apply, apply_at, apply_one};
-use sdb_component::{Op, read_op};
-use sdb_value::{Json, Step, from_value, to_value};
+use crate::texts::{is_shown, json, op};
+use sdb_apply::{ApplyFault, Refused, apply, apply_at, apply_one, apply_whole};
+use sdb_component::read_op;
+use sdb_value::{Json, Step, from_value};
 use serde_json::Value;
 use std::alloc::Global;
 use std::test::Fail;
 
-// A value, an operation, which of its components can't be applied, and the value afterwards.
-const STEPS: [(&str, &str, Option<usize>, &str); 48] = [
-    ("5", r#"[{"p":[],"na":1}]"#, None, "6"),
-    ("5", r#"[{"p":[],"na":-7}]"#, None, "-2"),
-    (
-        "9007199254740990",
-        r#"[{"p":[],"na":1}]"#,
-        None,
-        "9007199254740991",
-    ),
-    (
-        "9007199254740991",
-        r#"[{"p":[],"na":1}]"#,
-        Some(0),
-        "9007199254740991",
-    ),
-    (
-        "-9007199254740991",
-        r#"[{"p":[],"na":-1}]"#,
-        Some(0),
-        "-9007199254740991",
-    ),
-    (r#""5""#, r#"[{"p":[],"na":1}]"#, Some(0), r#""5""#),
-    (r#""ab""#, r#"[{"p":[0],"si":"x"}]"#, None, r#""xab""#),
-    (r#""ab""#, r#"[{"p":[2],"si":"x"}]"#, None, r#""abx""#),
-    (r#""ab""#, r#"[{"p":[3],"si":"x"}]"#, Some(0), r#""ab""#),
-    (r#""a😀b""#, r#"[{"p":[2],"si":"x"}]"#, Some(0), r#""a😀b""#),
-    (r#""a😀b""#, r#"[{"p":[3],"si":"x"}]"#, None, r#""a😀xb""#),
-    (r#""aéb""#, r#"[{"p":[2],"si":"x"}]"#, None, r#""aéxb""#),
-    ("[1]", r#"[{"p":[0],"si":"x"}]"#, Some(0), "[1]"),
-    (r#""ab""#, r#"[{"p":[1],"sd":"b"}]"#, None, r#""a""#),
-    (r#""ab""#, r#"[{"p":[1],"sd":"x"}]"#, Some(0), r#""ab""#),
-    (r#""ab""#, r#"[{"p":[1],"sd":"bc"}]"#, Some(0), r#""ab""#),
-    (r#""a😀b""#, r#"[{"p":[1],"sd":"😀"}]"#, None, r#""ab""#),
-    (r#""a😀b""#, r#"[{"p":[2],"sd":"b"}]"#, Some(0), r#""a😀b""#),
-    (r#""ab""#, r#"[{"p":[9],"sd":""}]"#, None, r#""ab""#),
-    ("null", r#"[{"p":[0],"sd":"a"}]"#, Some(0), "null"),
-    ("[1,2,3]", r#"[{"p":[0],"li":4}]"#, None, "[4,1,2,3]"),
-    ("[1,2,3]", r#"[{"p":[3],"li":4}]"#, None, "[1,2,3,4]"),
-    ("[1,2,3]", r#"[{"p":[4],"li":4}]"#, Some(0), "[1,2,3]"),
-    ("{}", r#"[{"p":[0],"li":4}]"#, Some(0), "{}"),
-    ("[1,2,3]", r#"[{"p":[0],"ld":99}]"#, None, "[2,3]"),
-    ("[1,2,3]", r#"[{"p":[3],"ld":3}]"#, Some(0), "[1,2,3]"),
-    (r#""ab""#, r#"[{"p":[0],"ld":"a"}]"#, Some(0), r#""ab""#),
-    (
-        "[1,2,3]",
-        r#"[{"p":[1],"ld":9,"li":"q"}]"#,
-        None,
-        r#"[1,"q",3]"#,
-    ),
-    (
-        "[1,2,3]",
-        r#"[{"p":[3],"ld":9,"li":"q"}]"#,
-        Some(0),
-        "[1,2,3]",
-    ),
-    ("true", r#"[{"p":[0],"ld":9,"li":"q"}]"#, Some(0), "true"),
-    ("{}", r#"[{"p":["z"],"oi":[]}]"#, None, r#"{"z":[]}"#),
-    (r#"{"z":1}"#, r#"[{"p":["z"],"oi":2}]"#, None, r#"{"z":2}"#),
-    ("[]", r#"[{"p":["z"],"oi":2}]"#, Some(0), "[]"),
-    (
-        r#"{"y":1,"z":2}"#,
-        r#"[{"p":["z"],"od":9}]"#,
-        None,
-        r#"{"y":1}"#,
-    ),
-    (r#"{"y":1}"#, r#"[{"p":["z"],"od":2}]"#, None, r#"{"y":1}"#),
-    ("1", r#"[{"p":["z"],"od":2}]"#, Some(0), "1"),
-    ("{}", r#"[{"p":["z"],"od":1,"oi":2}]"#, None, r#"{"z":2}"#),
-    (
-        r#"{"z":7}"#,
-        r#"[{"p":["z"],"od":1,"oi":2}]"#,
-        None,
-        r#"{"z":2}"#,
-    ),
-    ("[]", r#"[{"p":["z"],"od":1,"oi":2}]"#, Some(0), "[]"),
-    (
-        r#"{"a":[{"n":1}]}"#,
-        r#"[{"p":["a",0,"n"],"na":1}]"#,
-        None,
-        r#"{"a":[{"n":2}]}"#,
-    ),
-    (
-        r#"{"a":[[]]}"#,
-        r#"[{"p":["a",0,0],"li":1}]"#,
-        None,
-        r#"{"a":[[1]]}"#,
-    ),
-    (
-        r#"{"a":[[]]}"#,
-        r#"[{"p":["b",0,0],"li":1}]"#,
-        Some(0),
-        r#"{"a":[[]]}"#,
-    ),
-    (
-        r#"{"a":[[]]}"#,
-        r#"[{"p":["a",1,0],"li":1}]"#,
-        Some(0),
-        r#"{"a":[[]]}"#,
-    ),
-    (
-        r#"{"a":[[]]}"#,
-        r#"[{"p":["a","0",0],"li":1}]"#,
-        Some(0),
-        r#"{"a":[[]]}"#,
-    ),
-    (
-        r#"{"a":[[]]}"#,
-        r#"[{"p":[0,0,0],"li":1}]"#,
-        Some(0),
-        r#"{"a":[[]]}"#,
-    ),
-    ("5", "[]", None, "5"),
-    (
-        r#"{"n":1,"t":"ab"}"#,
-        r#"[{"p":["n"],"na":1},{"p":["t",0],"sd":"x"},{"p":["n"],"na":1}]"#,
-        Some(1),
-        r#"{"n":2,"t":"ab"}"#,
-    ),
-    (
-        "[]",
-        r#"[{"p":[0],"li":"ab"},{"p":[0,2],"si":"c"},{"p":[0,0],"sd":"a"}]"#,
-        None,
-        r#"["bc"]"#,
-    ),
-];
+// Rows of a value, an operation, which of its components can't be applied, and the value afterwards.
+const STEPS: &str = r#"[
+  [5, [{"p":[],"na":1}], null, 6],
+  [5, [{"p":[],"na":-7}], null, -2],
+  [9007199254740990, [{"p":[],"na":1}], null, 9007199254740991],
+  [9007199254740991, [{"p":[],"na":1}], 0, 9007199254740991],
+  [-9007199254740991, [{"p":[],"na":-1}], 0, -9007199254740991],
+  ["5", [{"p":[],"na":1}], 0, "5"],
+  ["ab", [{"p":[0],"si":"x"}], null, "xab"],
+  ["ab", [{"p":[2],"si":"x"}], null, "abx"],
+  ["ab", [{"p":[3],"si":"x"}], 0, "ab"],
+  ["a😀b", [{"p":[2],"si":"x"}], 0, "a😀b"],
+  ["a😀b", [{"p":[3],"si":"x"}], null, "a😀xb"],
+  ["aéb", [{"p":[2],"si":"x"}], null, "aéxb"],
+  [[1], [{"p":[0],"si":"x"}], 0, [1]],
+  ["ab", [{"p":[1],"sd":"b"}], null, "a"],
+  ["ab", [{"p":[1],"sd":"x"}], 0, "ab"],
+  ["ab", [{"p":[1],"sd":"bc"}], 0, "ab"],
+  ["a😀b", [{"p":[1],"sd":"😀"}], null, "ab"],
+  ["a😀b", [{"p":[2],"sd":"b"}], 0, "a😀b"],
+  ["ab", [{"p":[9],"sd":""}], null, "ab"],
+  [null, [{"p":[0],"sd":"a"}], 0, null],
+  [[1,2,3], [{"p":[0],"li":4}], null, [4,1,2,3]],
+  [[1,2,3], [{"p":[3],"li":4}], null, [1,2,3,4]],
+  [[1,2,3], [{"p":[4],"li":4}], 0, [1,2,3]],
+  [{}, [{"p":[0],"li":4}], 0, {}],
+  [[1,2,3], [{"p":[0],"ld":99}], null, [2,3]],
+  [[1,2,3], [{"p":[3],"ld":3}], 0, [1,2,3]],
+  ["ab", [{"p":[0],"ld":"a"}], 0, "ab"],
+  [[1,2,3], [{"p":[1],"ld":9,"li":"q"}], null, [1,"q",3]],
+  [[1,2,3], [{"p":[3],"ld":9,"li":"q"}], 0, [1,2,3]],
+  [true, [{"p":[0],"ld":9,"li":"q"}], 0, true],
+  [{}, [{"p":["z"],"oi":[]}], null, {"z":[]}],
+  [{"z":1}, [{"p":["z"],"oi":2}], null, {"z":2}],
+  [[], [{"p":["z"],"oi":2}], 0, []],
+  [{"y":1,"z":2}, [{"p":["z"],"od":9}], null, {"y":1}],
+  [{"y":1}, [{"p":["z"],"od":2}], null, {"y":1}],
+  [1, [{"p":["z"],"od":2}], 0, 1],
+  [{}, [{"p":["z"],"od":1,"oi":2}], null, {"z":2}],
+  [{"z":7}, [{"p":["z"],"od":1,"oi":2}], null, {"z":2}],
+  [[], [{"p":["z"],"od":1,"oi":2}], 0, []],
+  [{"a":[{"n":1}]}, [{"p":["a",0,"n"],"na":1}], null, {"a":[{"n":2}]}],
+  [{"a":[[]]}, [{"p":["a",0,0],"li":1}], null, {"a":[[1]]}],
+  [{"a":[[]]}, [{"p":["b",0,0],"li":1}], 0, {"a":[[]]}],
+  [{"a":[[]]}, [{"p":["a",1,0],"li":1}], 0, {"a":[[]]}],
+  [{"a":[[]]}, [{"p":["a","0",0],"li":1}], 0, {"a":[[]]}],
+  [{"a":[[]]}, [{"p":[0,0,0],"li":1}], 0, {"a":[[]]}],
+  [5, [], null, 5],
+  [{"n":1,"t":"ab"}, [{"p":["n"],"na":1},{"p":["t",0],"sd":"x"},{"p":["n"],"na":1}], 1, {"n":2,"t":"ab"}],
+  [[], [{"p":[0],"li":"ab"},{"p":[0,2],"si":"c"},{"p":[0,0],"sd":"a"}], null, ["bc"]]
+]"#;
 
-fn json(alloc: Global, text: &str) -> Result<Json, Fail> {
-    let value = Value::from_str(alloc, text)?;
-    Ok(from_value(alloc, &value)?)
+// Which component was not applied.
+fn refused(applied: Result<(), Refused>) -> Result<Option<u64>, Fail> {
+    match applied {
+        Ok(()) => Ok(None),
+        Err(refusal) => match refusal.why {
+            ApplyFault::NotApplied => Ok(Some(refusal.at as u64)),
+            ApplyFault::Memory => Err("no memory".into()),
+        },
+    }
 }
 
-fn op(alloc: Global, text: &str) -> Result<Op, Fail> {
-    let value = Value::from_str(alloc, text)?;
-    Ok(read_op(alloc, &value)?)
-}
-
-fn shown(alloc: Global, json: &Json) -> Result<String, Fail> {
-    Ok(to_value(alloc, json)?.to_string(alloc)?)
+fn holds(alloc: Global, row: &Value) -> Result<bool, Fail> {
+    let [before, steps, at, after] = row.as_array().ok_or("no row")?.as_slice() else {
+        return Err("no row of four".into());
+    };
+    let mut value = from_value(alloc, before)?;
+    let why = refused(apply(alloc, &mut value, &read_op(alloc, steps)?))?;
+    Ok(why == at.as_u64() && is_shown(alloc, &value, after.to_string(alloc)?.as_str())?)
 }
 
 #[test]
 fn operations_are_applied_or_refused(rt: HostRuntime) -> Result<(), Fail> {
-    let alloc = rt.alloc();
-    for (before, text, refused, after) in STEPS {
-        let mut value = json(alloc, before)?;
-        let why = match apply(alloc, &mut value, &op(alloc, text)?) {
-            Ok(()) => None,
-            Err(refusal) => Some((refusal.at, refusal.why)),
-        };
-        let want = refused.map(|at| (at, ApplyFault::NotApplied));
-        assert_eq!(rt; why, want, "{text} on {before}");
-        let left = shown(alloc, &value)?;
-        assert_eq!(rt; left.as_str(), after, "{text} on {before}");
+    let rows = Value::from_str(rt.alloc(), STEPS)?;
+    let rows = rows.as_array().ok_or("no rows")?;
+    assert!(rt; rows.len() == 48);
+    for row in rows {
+        assert!(rt; holds(rt.alloc(), row)?, "{row}");
     }
     Ok(())
+}
+
+// Whether all of the operation is applied, or nothing of it.
+fn holds_whole(alloc: Global, row: &Value) -> Result<bool, Fail> {
+    let [before, steps, at, after] = row.as_array().ok_or("no row")?.as_slice() else {
+        return Err("no row of four".into());
+    };
+    let mut value = from_value(alloc, before)?;
+    let done = apply_whole(alloc, &mut value, &read_op(alloc, steps)?).is_ok();
+    let wanted = if done { after } else { before };
+    Ok(done == at.is_null() && is_shown(alloc, &value, wanted.to_string(alloc)?.as_str())?)
+}
+
+#[test]
+fn operations_are_applied_whole_or_refused(rt: HostRuntime) -> Result<(), Fail> {
+    let rows = Value::from_str(rt.alloc(), STEPS)?;
+    for row in rows.as_array().ok_or("no rows")? {
+        assert!(rt; holds_whole(rt.alloc(), row)?, "{row}");
+    }
+    Ok(())
+}
+
+// Applies the one component that the text names.
+fn applied_one(alloc: Global, value: &mut Json, text: &str) -> Result<bool, Fail> {
+    match op(alloc, text)?.components() {
+        [component] => Ok(apply_one(alloc, value, component).is_ok()),
+        _ => Err("no component".into()),
+    }
 }
 
 #[test]
 fn one_component_is_applied(rt: HostRuntime) -> Result<(), Fail> {
-    let alloc = rt.alloc();
-    let mut value = json(alloc, r#"{"l":[1]}"#)?;
-    let steps = op(
-        alloc,
-        r#"[{"p":["l",1],"li":2},{"p":["l",3],"li":4},{"p":["l",0],"ld":1}]"#,
-    )?;
-    for (component, (want, after)) in steps.components().iter().zip([
-        (Ok(()), r#"{"l":[1,2]}"#),
-        (Err(ApplyFault::NotApplied), r#"{"l":[1,2]}"#),
-        (Ok(()), r#"{"l":[2]}"#),
-    ]) {
-        assert_eq!(rt; apply_one(alloc, &mut value, component), want);
-        assert_eq!(rt; shown(alloc, &value)?.as_str(), after);
-    }
+    let mut value = json(rt.alloc(), r#"{"l":[1]}"#)?;
+    assert!(rt; applied_one(rt.alloc(), &mut value, r#"[{"p":["l",1],"li":2}]"#)?);
+    assert!(rt; is_shown(rt.alloc(), &value, r#"{"l":[1,2]}"#)?);
+    assert!(rt; !applied_one(rt.alloc(), &mut value, r#"[{"p":["l",3],"li":4}]"#)?);
+    assert!(rt; is_shown(rt.alloc(), &value, r#"{"l":[1,2]}"#)?);
     Ok(())
+}
+
+// Applies the act of the one component that the text names.
+fn applied_at(alloc: Global, value: &mut Json, path: &[Step], text: &str) -> Result<bool, Fail> {
+    match op(alloc, text)?.components() {
+        [component] => Ok(apply_at(alloc, value, path, component.act()).is_ok()),
+        _ => Err("no component".into()),
+    }
 }
 
 #[test]
 fn an_act_is_applied_at_a_path(rt: HostRuntime) -> Result<(), Fail> {
-    let alloc = rt.alloc();
-    let mut value = json(alloc, r#"{"l":[[],"ab"]}"#)?;
-    let mut path = Vec::new(alloc);
-    path.push(Step::Key(String::from_str(alloc, "l")?))?;
+    let mut value = json(rt.alloc(), r#"[[],"ab"]"#)?;
+    let mut path = Vec::new(rt.alloc());
     path.push(Step::Index(1))?;
-    for component in op(alloc, r#"[{"p":[2],"si":"c"}]"#)?.components() {
-        apply_at(alloc, &mut value, &path, component.act())?;
-    }
-    assert_eq!(rt; shown(alloc, &value)?.as_str(), r#"{"l":[[],"abc"]}"#);
+    assert!(rt;
+        applied_at(
+            rt.alloc(),
+            &mut value,
+            path.as_slice(),
+            r#"[{"p":[2],"si":"c"}]"#
+        )?
+    );
+    assert!(rt; is_shown(rt.alloc(), &value, r#"[[],"abc"]"#)?);
     Ok(())
 }
 
 #[test]
 fn faults_are_named(rt: HostRuntime) -> Result<(), Fail> {
-    for (fault, want) in [
-        (ApplyFault::NotApplied, "operation can not be applied"),
-        (ApplyFault::Memory, "out of memory"),
-    ] {
-        let text = format!(in rt.alloc(); "{fault}")?;
-        assert_eq!(rt; text.as_str(), want);
-    }
+    let refused = ApplyFault::NotApplied.to_string(rt.alloc())?;
+    assert!(rt; refused.as_str() == "operation can not be applied");
+    assert!(rt; ApplyFault::Memory.to_string(rt.alloc())?.as_str() == "out of memory");
     Ok(())
 }

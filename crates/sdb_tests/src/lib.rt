@@ -17,6 +17,8 @@ mod oplog;
 #[cfg(test)]
 mod submit;
 #[cfg(test)]
+mod texts;
+#[cfg(test)]
 mod transform;
 #[cfg(test)]
 mod value;

@@ -1,11 +1,9 @@
 //! `sdb_wire`: messages read, refused and answered.
-ghost use Rattle.std.specs.Prelude.{◌≡◌, IfOk};
-
 use sdb_component::op_value;
 use sdb_oplog::{Code, Content, Entry, Key, Kind, Submission};
-use sdb_value::{Json, Whole, to_value};
+use sdb_value::{Json, to_value};
 use sdb_wire::{
-    Answer, MESSAGE_LIMIT, Request, Word, echo_of, entry_value, hear, no_echo, read_content,
+    Answer, Echo, MESSAGE_LIMIT, Request, Word, echo_of, entry_value, hear, no_echo, read_content,
     read_message, reply_text, write_reply,
 };
 use serde_json::Value;
@@ -52,62 +50,71 @@ fn a_submission_is_read(rt: HostRuntime) -> Result<(), Fail> {
     else {
         return Err("no submission".into());
     };
-    assert_eq!(rt; (key.collection.as_str(), key.id.as_str()), ("b", "1"));
-    assert_eq!(rt; (version, seq), (Some(0), 4));
-    assert_eq!(rt; src.ok_or("a source")?.as_str(), "x");
-    assert_eq!(rt; brought(alloc, &content)?.as_str(), r#"[{"na":2,"p":[]}]"#);
+    assert!(rt; is_key(&key));
+    assert!(rt; (version, seq) == (Some(0), 4));
+    assert!(rt; src.ok_or("a source")?.as_str() == "x");
+    assert!(rt; brought(alloc, &content)?.as_str() == r#"[{"na":2,"p":[]}]"#);
     Ok(())
+}
+
+fn is_key(key: &Key) -> bool {
+    key.collection.as_str() == "b" && key.id.as_str() == "1"
+}
+
+// The version of a fetch of that document.
+fn fetched(alloc: Global, text: &str) -> Result<Option<u64>, Fail> {
+    let Ok(Request::Fetch { key, version }) = read_message(alloc, text) else {
+        return Err("no fetch".into());
+    };
+    if !is_key(&key) {
+        return Err("another document".into());
+    }
+    Ok(version)
 }
 
 #[test]
 fn a_fetch_is_read(rt: HostRuntime) -> Result<(), Fail> {
     let alloc = rt.alloc();
-    let cases = [
-        (r#"{"a":"f","c":"b","d":"1"}"#, None),
-        (r#"{"a":"f","c":"b","d":"1","v":null}"#, None),
-        (r#"{"v":3,"d":"1","c":"b","a":"f"}"#, Some(3)),
-    ];
-    for (text, wanted) in cases {
-        let Ok(Request::Fetch { key, version }) = read_message(alloc, text) else {
-            return Err("no fetch".into());
-        };
-        assert_eq!(rt; (key.collection.as_str(), key.id.as_str()), ("b", "1"));
-        assert_eq!(rt; version, wanted);
-    }
+    assert!(rt; fetched(alloc, r#"{"a":"f","c":"b","d":"1"}"#)?.is_none());
+    assert!(rt; fetched(alloc, r#"{"a":"f","c":"b","d":"1","v":null}"#)?.is_none());
+    assert!(rt; fetched(alloc, r#"{"v":3,"d":"1","c":"b","a":"f"}"#)? == Some(3));
     Ok(())
+}
+
+// Texts, and what they bring, or the code that refuses them.
+const CONTENTS: [(&str, Result<&str, Code>); 9] = [
+    (r#"{"del":true}"#, Ok("deleted")),
+    (
+        r#"{"op":[{"p":[0],"li":"z"}],"del":false}"#,
+        Ok(r#"[{"li":"z","p":[0]}]"#),
+    ),
+    (
+        r#"{"create":{"type":"json0","data":{"b":1,"a":[]}}}"#,
+        Ok(r#"{"a":[],"b":1}"#),
+    ),
+    (
+        r#"{"create":{"type":"http://sharejs.org/types/JSONv0"}}"#,
+        Ok("null"),
+    ),
+    ("{}", Err(Code::E1)),
+    (r#"{"del":true,"op":[]}"#, Err(Code::E1)),
+    (r#"{"create":{"type":"text"}}"#, Err(Code::E2)),
+    (r#"{"create":{"type":"json0","data":1.5}}"#, Err(Code::E3)),
+    (r#"{"op":[{"p":[]}]}"#, Err(Code::E3)),
+];
+
+// Whether the text is read as content that brings this, or refused with this code.
+fn is_read(alloc: Global, text: &str, wanted: Result<&str, Code>) -> Result<bool, Fail> {
+    match read_content(alloc, &Value::from_str(alloc, text)?) {
+        Ok(content) => Ok(wanted == Ok(brought(alloc, &content)?.as_str())),
+        Err(code) => Ok(wanted == Err(code)),
+    }
 }
 
 #[test]
 fn contents_are_read(rt: HostRuntime) -> Result<(), Fail> {
-    let alloc = rt.alloc();
-    let cases: [(&str, Result<&str, Code>); 9] = [
-        (r#"{"del":true}"#, Ok("deleted")),
-        (
-            r#"{"op":[{"p":[0],"li":"z"}],"del":false}"#,
-            Ok(r#"[{"li":"z","p":[0]}]"#),
-        ),
-        (
-            r#"{"create":{"type":"json0","data":{"b":1,"a":[]}}}"#,
-            Ok(r#"{"a":[],"b":1}"#),
-        ),
-        (
-            r#"{"create":{"type":"http://sharejs.org/types/JSONv0"}}"#,
-            Ok("null"),
-        ),
-        ("{}", Err(Code::E1)),
-        (r#"{"del":true,"op":[]}"#, Err(Code::E1)),
-        (r#"{"create":{"type":"text"}}"#, Err(Code::E2)),
-        (r#"{"create":{"type":"json0","data":1.5}}"#, Err(Code::E3)),
-        (r#"{"op":[{"p":[]}]}"#, Err(Code::E3)),
-    ];
-    for (text, wanted) in cases {
-        match (read_content(alloc, &Value::from_str(alloc, text)?), wanted) {
-            (Ok(content), Ok(wanted)) => {
-                assert_eq!(rt; brought(alloc, &content)?.as_str(), wanted);
-            }
-            (Err(code), Err(wanted)) => assert_eq!(rt; code, wanted),
-            _ => return Err("another outcome".into()),
-        }
+    for (text, wanted) in CONTENTS {
+        assert!(rt; is_read(rt.alloc(), text, wanted)?, "{text}");
     }
     Ok(())
 }
@@ -118,151 +125,258 @@ fn a_refused_message_is_shown(rt: HostRuntime) -> Result<(), Fail> {
     let Err(bad) = read_message(alloc, r#"{"a":"f","c":"b","id":7}"#) else {
         return Err("a request".into());
     };
-    assert!(rt; bad.code == Code::E1);
-    assert!(rt; matches!(bad.echo.id, Some(Word::Count { count: 7 })));
+    assert!(rt; is_count(bad.echo.id.as_ref(), 7));
     let shown = Answer::Failed {
         echo: &bad.echo,
         code: bad.code,
     };
-    assert_eq!(rt;
-        reply_text(alloc, &shown)?.as_str(),
-        r#"{"a":"f","c":"b","error":{"code":"ERR_MESSAGE_BADLY_FORMED","message":"message is badly formed"},"id":7}"#
+    assert!(rt;
+        is_written(
+            alloc,
+            &shown,
+            r#"{"a":"f","c":"b","error":{"code":"ERR_MESSAGE_BADLY_FORMED","message":"message is badly formed"},"id":7}"#
+        )?
     );
+    Ok(())
+}
+
+fn is_count(word: Option<&Word>, number: u64) -> bool {
+    match word {
+        Some(Word::Count { count }) => *count == number,
+        _ => false,
+    }
+}
+
+fn is_text(word: Option<&Word>, wanted: &str) -> bool {
+    match word {
+        Some(Word::Text { text }) => text.as_str() == wanted,
+        _ => false,
+    }
+}
+
+// A fetch, with spaces behind it up to so many bytes.
+fn padded(alloc: Global, length: usize) -> Result<String, Fail> {
+    let mut text = String::from_str(alloc, r#"{"a":"f","c":"b","d":"1"}"#)?;
+    for _ in text.len()..length {
+        text.push(' ')?;
+    }
+    Ok(text)
+}
+
+// Whether the text is a fetch, or the code that refuses it.
+fn fetches(alloc: Global, text: &str) -> Result<bool, Code> {
+    match read_message(alloc, text) {
+        Ok(Request::Fetch { .. }) => Ok(true),
+        Ok(_) => Ok(false),
+        Err(bad) => Err(bad.code),
+    }
+}
+
+#[test]
+fn a_text_of_the_limit_is_read(rt: HostRuntime) -> Result<(), Fail> {
+    let text = padded(rt.alloc(), 1_048_576)?;
+    assert!(rt; text.len() == MESSAGE_LIMIT);
+    assert!(rt; fetches(rt.alloc(), text.as_str()) == Ok(true));
+    assert!(rt; is_heard_as_json(rt.alloc(), text.as_str())?);
     Ok(())
 }
 
 #[test]
 fn a_text_past_the_limit_is_not_read(rt: HostRuntime) -> Result<(), Fail> {
-    let alloc = rt.alloc();
-    let message = r#"{"a":"f","c":"b","d":"1"}"#;
-    let mut text = String::from_str(alloc, message)?;
-    for _ in message.len()..MESSAGE_LIMIT {
-        text.push_str(" ")?;
-    }
-    assert_eq!(rt; text.len(), 1_048_576);
-    assert!(rt;
-        matches!(
-            read_message(alloc, text.as_str()),
-            Ok(Request::Fetch { .. })
-        )
-    );
-    assert!(rt; hear(alloc, text.as_str())?.message.is_some());
-    text.push_str(" ")?;
-    let Err(bad) = read_message(alloc, text.as_str()) else {
-        return Err("a request".into());
-    };
-    assert!(rt; bad.code == Code::E1);
-    assert!(rt; bad.echo.a.is_none());
-    let heard = hear(alloc, text.as_str())?;
-    assert!(rt; heard.message.is_none());
-    assert!(rt; matches!(heard.request, Err(Code::E1)));
+    let text = padded(rt.alloc(), 1_048_577)?;
+    assert!(rt; fetches(rt.alloc(), text.as_str()) == Err(Code::E1));
+    assert!(rt; !is_heard_as_json(rt.alloc(), text.as_str())?);
     Ok(())
+}
+
+fn is_heard_as_json(alloc: Global, text: &str) -> Result<bool, Fail> {
+    let heard = hear(alloc, text)?;
+    Ok(heard.message.is_some())
+}
+
+// The number of the submission or of the snapshot that is heard, or the code that refuses it.
+fn heard(alloc: Global, text: &str) -> Result<Result<u64, Code>, Fail> {
+    let heard = hear(alloc, text)?;
+    Ok(number_of(&heard.request))
+}
+
+// A fetch has none.
+fn number_of(request: &Result<Request, Code>) -> Result<u64, Code> {
+    match request {
+        Ok(Request::Submit { seq, .. }) => Ok(*seq),
+        Ok(Request::Fetch { .. }) => Ok(0),
+        Ok(Request::Snapshot { id, .. }) => Ok(*id),
+        Err(code) => Err(*code),
+    }
+}
+
+// What an error shows of what is heard.
+fn echoed(alloc: Global, text: &str) -> Result<Echo, Fail> {
+    let heard = hear(alloc, text)?;
+    Ok(echo_of(alloc, heard.message.as_ref())?)
 }
 
 #[test]
 fn a_line_is_heard(rt: HostRuntime) -> Result<(), Fail> {
-    let alloc = rt.alloc();
-    let heard = hear(alloc, EDIT)?;
-    assert!(rt; matches!(heard.request, Ok(Request::Submit { seq: 4, .. })));
-    let echo = echo_of(alloc, heard.message.as_ref())?;
-    assert!(rt; matches!(echo.seq, Some(Word::Count { count: 4 })));
-    let Some(Word::Text { text }) = &echo.src else {
-        return Err("no source".into());
-    };
-    assert_eq!(rt; text.as_str(), "x");
-    let heard = hear(alloc, "[")?;
-    assert!(rt; matches!(heard.request, Err(Code::E1)));
-    assert!(rt; echo_of(alloc, heard.message.as_ref())?.a.is_none());
+    assert!(rt; heard(rt.alloc(), EDIT)? == Ok(4));
+    let echo = echoed(rt.alloc(), EDIT)?;
+    assert!(rt; is_count(echo.seq.as_ref(), 4));
+    assert!(rt; is_text(echo.src.as_ref(), "x"));
     Ok(())
 }
 
 #[test]
-fn answers_are_written(rt: HostRuntime) -> Result<(), Fail> {
-    let alloc = rt.alloc();
-    let key = key(alloc)?;
-    let document = Json::Int(Whole::new(3).ok_or("three")?);
-    let created = entry(alloc, Content::create(alloc, Json::Null)?)?;
-    let deleted = entry(alloc, Content::delete())?;
-    let nothing = no_echo();
-    let cases = [
-        (
-            Answer::Init { src: "s1" },
-            r#"{"a":"init","id":"s1","protocol":1,"protocolMinor":1,"type":"http://sharejs.org/types/JSONv0"}"#,
-        ),
-        (
-            Answer::Fetched {
-                key: &key,
-                version: 2,
-                document: Some(&document),
-            },
-            r#"{"a":"f","c":"b","d":"1","data":{"data":3,"v":2}}"#,
-        ),
-        (
-            Answer::Fetched {
-                key: &key,
-                version: 0,
-                document: None,
-            },
-            r#"{"a":"f","c":"b","d":"1","data":{"type":null,"v":0}}"#,
-        ),
-        (Answer::Listed { key: &key }, r#"{"a":"f","c":"b","d":"1"}"#),
-        (
-            Answer::OpMessage {
-                key: &key,
-                entry: &created,
-            },
-            r#"{"a":"op","c":"b","create":{"data":null,"type":"http://sharejs.org/types/JSONv0"},"d":"1","seq":7,"src":"x","v":4}"#,
-        ),
-        (
-            Answer::OpMessage {
-                key: &key,
-                entry: &deleted,
-            },
-            r#"{"a":"op","c":"b","d":"1","del":true,"seq":7,"src":"x","v":4}"#,
-        ),
-        (
-            Answer::Acknowledged {
-                key: &key,
-                src: "x",
-                seq: 7,
-                version: 4,
-            },
-            r#"{"a":"op","c":"b","d":"1","seq":7,"src":"x","v":4}"#,
-        ),
-        (
-            Answer::Failed {
-                echo: &nothing,
-                code: Code::E4,
-            },
-            r#"{"error":{"code":"ERR_OP_VERSION_NEWER_THAN_CURRENT_SNAPSHOT","message":"version is newer than the current snapshot"}}"#,
-        ),
-    ];
-    for (answer, wanted) in cases {
-        assert_eq!(rt; reply_text(alloc, &answer)?.as_str(), wanted);
-        let mut out = Vec::new(alloc);
-        out.extend_from_slice(b"[")?;
-        write_reply(alloc, &answer, &mut out)?;
-        assert_eq!(rt; &out.as_slice()[..1], b"[".as_slice());
-        assert_eq!(rt; &out.as_slice()[1..], wanted.as_bytes());
-    }
+fn a_snapshot_is_asked(rt: HostRuntime) -> Result<(), Fail> {
+    assert!(rt; heard(rt.alloc(), r#"{"a":"nf","id":7,"c":"b","d":"1","v":0}"#)? == Ok(7));
+    assert!(rt; heard(rt.alloc(), r#"{"a":"nf","c":"b","d":"1","v":0}"#)? == Err(Code::E1));
     Ok(())
+}
+
+// The answer to the request 7 for the version 1.
+fn at_one<'a>(document: Option<&'a Json>) -> Answer<'a> {
+    Answer::Snapshot {
+        id: 7,
+        version: 1,
+        document,
+    }
+}
+
+#[test]
+fn snapshots_are_written(rt: HostRuntime) -> Result<(), Fail> {
+    let nothing = r#"{"a":"nf","id":7,"type":null,"v":1}"#;
+    assert!(rt; is_written(rt.alloc(), &at_one(None), nothing)?);
+    let null = r#"{"a":"nf","data":null,"id":7,"type":"http://sharejs.org/types/JSONv0","v":1}"#;
+    assert!(rt; is_written(rt.alloc(), &at_one(Some(&Json::Null)), null)?);
+    Ok(())
+}
+
+#[test]
+fn a_line_that_is_no_json_is_heard(rt: HostRuntime) -> Result<(), Fail> {
+    assert!(rt; heard(rt.alloc(), "[")? == Err(Code::E1));
+    assert!(rt; echoed(rt.alloc(), "[")?.a.is_none());
+    Ok(())
+}
+
+// Whether the answer is told as this text, and written so behind what was written.
+fn is_written(alloc: Global, answer: &Answer<'_>, wanted: &str) -> Result<bool, Fail> {
+    let mut out = Vec::new(alloc);
+    out.push(b'[')?;
+    write_reply(alloc, answer, &mut out)?;
+    let Some((first, written)) = out.as_slice().split_first() else {
+        return Ok(false);
+    };
+    let text = reply_text(alloc, answer)?;
+    Ok(*first == b'[' && written == wanted.as_bytes() && text.as_str() == wanted)
+}
+
+#[test]
+fn an_opening_is_written(rt: HostRuntime) -> Result<(), Fail> {
+    let wanted =
+        r#"{"a":"init","id":"s1","protocol":1,"protocolMinor":1,"type":"http://sharejs.org/types/JSONv0"}"#;
+    assert!(rt; is_written(rt.alloc(), &Answer::Init { src: "s1" }, wanted)?);
+    Ok(())
+}
+
+fn the_document<'a>(key: &'a Key, version: u64, document: Option<&'a Json>) -> Answer<'a> {
+    Answer::Fetched {
+        key,
+        version,
+        document,
+    }
+}
+
+#[test]
+fn a_document_is_written(rt: HostRuntime) -> Result<(), Fail> {
+    let (key, document) = (key(rt.alloc())?, Json::Bool(true));
+    let fetched = the_document(&key, 2, Some(&document));
+    let wanted = r#"{"a":"f","c":"b","d":"1","data":{"data":true,"v":2}}"#;
+    assert!(rt; is_written(rt.alloc(), &fetched, wanted)?);
+    Ok(())
+}
+
+#[test]
+fn no_document_is_written(rt: HostRuntime) -> Result<(), Fail> {
+    let key = key(rt.alloc())?;
+    let wanted = r#"{"a":"f","c":"b","d":"1","data":{"type":null,"v":0}}"#;
+    assert!(rt; is_written(rt.alloc(), &the_document(&key, 0, None), wanted)?);
+    Ok(())
+}
+
+#[test]
+fn the_end_of_a_list_is_written(rt: HostRuntime) -> Result<(), Fail> {
+    let listed = Answer::Listed {
+        key: &key(rt.alloc())?,
+    };
+    assert!(rt; is_written(rt.alloc(), &listed, r#"{"a":"f","c":"b","d":"1"}"#)?);
+    Ok(())
+}
+
+// Whether the message of an entry of the content is written as this text.
+fn is_sent(alloc: Global, content: Content, wanted: &str) -> Result<bool, Fail> {
+    let message = Answer::OpMessage {
+        key: &key(alloc)?,
+        entry: &entry(alloc, content)?,
+    };
+    is_written(alloc, &message, wanted)
+}
+
+#[test]
+fn op_messages_are_written(rt: HostRuntime) -> Result<(), Fail> {
+    let created =
+        r#"{"a":"op","c":"b","create":{"data":null,"type":"http://sharejs.org/types/JSONv0"},"d":"1","seq":7,"src":"x","v":4}"#;
+    assert!(rt;
+        is_sent(
+            rt.alloc(),
+            Content::create(rt.alloc(), Json::Null)?,
+            created
+        )?
+    );
+    let deleted = r#"{"a":"op","c":"b","d":"1","del":true,"seq":7,"src":"x","v":4}"#;
+    assert!(rt; is_sent(rt.alloc(), Content::delete(), deleted)?);
+    Ok(())
+}
+
+#[test]
+fn an_acknowledgement_is_written(rt: HostRuntime) -> Result<(), Fail> {
+    let acknowledged = Answer::Acknowledged {
+        key: &key(rt.alloc())?,
+        src: "x",
+        seq: 7,
+        version: 4,
+    };
+    let wanted = r#"{"a":"op","c":"b","d":"1","seq":7,"src":"x","v":4}"#;
+    assert!(rt; is_written(rt.alloc(), &acknowledged, wanted)?);
+    Ok(())
+}
+
+#[test]
+fn an_error_is_written(rt: HostRuntime) -> Result<(), Fail> {
+    let failed = Answer::Failed {
+        echo: &no_echo(),
+        code: Code::E4,
+    };
+    let wanted =
+        r#"{"error":{"code":"ERR_OP_VERSION_NEWER_THAN_CURRENT_SNAPSHOT","message":"version is newer than the current snapshot"}}"#;
+    assert!(rt; is_written(rt.alloc(), &failed, wanted)?);
+    Ok(())
+}
+
+// Whether an entry of the content is shown as this value.
+fn is_shown(alloc: Global, content: Content, wanted: &str) -> Result<bool, Fail> {
+    let value = entry_value(alloc, &entry(alloc, content)?)?;
+    Ok(value.to_string(alloc)?.as_str() == wanted)
 }
 
 #[test]
 fn entries_are_shown(rt: HostRuntime) -> Result<(), Fail> {
     let alloc = rt.alloc();
+    let created =
+        r#"{"create":{"data":null,"type":"http://sharejs.org/types/JSONv0"},"seq":7,"src":"x","v":4}"#;
+    assert!(rt; is_shown(alloc, Content::create(alloc, Json::Null)?, created)?);
+    let deleted = r#"{"del":true,"seq":7,"src":"x","v":4}"#;
+    assert!(rt; is_shown(alloc, Content::delete(), deleted)?);
     let edit = read_content(alloc, &Value::from_str(alloc, EDIT)?).or(Err("an edit"))?;
-    let cases = [
-        (
-            Content::create(alloc, Json::Null)?,
-            r#"{"create":{"data":null,"type":"http://sharejs.org/types/JSONv0"},"seq":7,"src":"x","v":4}"#,
-        ),
-        (Content::delete(), r#"{"del":true,"seq":7,"src":"x","v":4}"#),
-        (edit, r#"{"op":[{"na":2,"p":[]}],"seq":7,"src":"x","v":4}"#),
-    ];
-    for (content, wanted) in cases {
-        let value = entry_value(alloc, &entry(alloc, content)?)?;
-        assert_eq!(rt; value.to_string(alloc)?.as_str(), wanted);
-    }
+    let edited = r#"{"op":[{"na":2,"p":[]}],"seq":7,"src":"x","v":4}"#;
+    assert!(rt; is_shown(alloc, edit, edited)?);
     Ok(())
 }
