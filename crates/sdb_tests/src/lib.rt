@@ -11,6 +11,12 @@ mod lines;
 #[cfg(test)]
 mod oplog;
 #[cfg(test)]
+mod projection;
+#[cfg(test)]
+mod snapcache;
+#[cfg(test)]
+mod subscribe;
+#[cfg(test)]
 mod transform;
 #[cfg(test)]
 mod value;
