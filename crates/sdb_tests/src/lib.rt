@@ -15,7 +15,13 @@ mod lines;
 #[cfg(test)]
 mod oplog;
 #[cfg(test)]
+mod projection;
+#[cfg(test)]
+mod snapcache;
+#[cfg(test)]
 mod submit;
+#[cfg(test)]
+mod subscribe;
 #[cfg(test)]
 mod texts;
 #[cfg(test)]

@@ -1,0 +1,64 @@
+//! Kept snapshots.
+use sdb_snapcache::{Cache, MOST};
+use sdb_value::{Json, Whole};
+use std::alloc::Global;
+use std::test::Fail;
+
+fn number(n: i64) -> Result<Json, Fail> {
+    Ok(Json::Int(Whole::new(n).ok_or("a number")?))
+}
+
+// The version that is found, and whether the snapshot is this number.
+fn found(cache: &mut Cache, v: u64, n: i64) -> Result<Option<(u64, bool)>, Fail> {
+    let wanted = number(n)?;
+    match cache.nearest(v) {
+        Some((version, value)) => Ok(Some((version, *value == wanted))),
+        None => Ok(None),
+    }
+}
+
+// A cache that was offered the numbers 1 to 9, each at its version.
+fn nine(alloc: Global) -> Result<Cache, Fail> {
+    let mut cache = Cache::new(alloc);
+    for version in 1..10u8 {
+        cache.offer(u64::from(version), number(i64::from(version))?)?;
+    }
+    Ok(cache)
+}
+
+#[test]
+fn a_new_cache_has_nothing(rt: HostRuntime) -> Result<(), Fail> {
+    let mut cache = Cache::new(rt.alloc());
+    assert_eq!(rt; cache.len(), 0);
+    assert_eq!(rt; found(&mut cache, 9, 9)?, None);
+    Ok(())
+}
+
+#[test]
+fn eight_are_kept(rt: HostRuntime) -> Result<(), Fail> {
+    let mut cache = nine(rt.alloc())?;
+    assert_eq!(rt; cache.len(), MOST);
+    assert_eq!(rt; found(&mut cache, 1, 1)?, None);
+    assert_eq!(rt; found(&mut cache, 2, 2)?, Some((2, true)));
+    assert_eq!(rt; found(&mut cache, 100, 9)?, Some((9, true)));
+    Ok(())
+}
+
+#[test]
+fn the_least_recently_used_goes(rt: HostRuntime) -> Result<(), Fail> {
+    let mut cache = nine(rt.alloc())?;
+    assert_eq!(rt; found(&mut cache, 2, 2)?, Some((2, true)));
+    cache.offer(10, number(10)?)?;
+    assert_eq!(rt; cache.len(), MOST);
+    assert_eq!(rt; found(&mut cache, 3, 2)?, Some((2, true)));
+    Ok(())
+}
+
+#[test]
+fn a_cache_forgets(rt: HostRuntime) -> Result<(), Fail> {
+    let mut cache = nine(rt.alloc())?;
+    cache.forget();
+    assert_eq!(rt; cache.len(), 0);
+    assert_eq!(rt; found(&mut cache, 9, 9)?, None);
+    Ok(())
+}
