@@ -281,12 +281,12 @@ fn crossed(
     right: &str,
     left_after: &str,
     right_after: &str,
-) -> Result<Option<u64>, Fail> {
+) -> Result<Option<u128>, Fail> {
     let crossed = cross(alloc, &op(alloc, left)?, &op(alloc, right)?)?;
     if is_printed(alloc, &crossed.left, left_after)?
         && is_printed(alloc, &crossed.right, right_after)?
     {
-        return Ok(Some(crossed.pairs as u64));
+        return Ok(Some(crossed.pairs));
     }
     Ok(None)
 }
@@ -305,7 +305,7 @@ fn row_crosses(alloc: Global, row: &Value) -> Result<bool, Fail> {
         after.0.as_str(),
         after.1.as_str(),
     )?;
-    Ok(met.is_some() && met == pairs.as_u64())
+    Ok(met == Some(pairs.as_u64().ok_or("a count")? as u128))
 }
 
 #[test]
@@ -368,7 +368,7 @@ fn one_delete(alloc: Global) -> Result<String, Fail> {
 }
 
 // How many pairs meet where a delete is cut by inserts, if the cuts are right.
-fn cuts(alloc: Global) -> Result<Option<u64>, Fail> {
+fn cuts(alloc: Global) -> Result<Option<u128>, Fail> {
     let (left, right) = (one_delete(alloc)?, inserts(alloc, true)?);
     let after = (pieces(alloc)?, inserts(alloc, false)?);
     crossed(
