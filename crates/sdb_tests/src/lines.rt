@@ -170,72 +170,85 @@ fn run_over(alloc: Global, input: &[u8]) -> (Result<Counts, RunFault>, Vec<u8>) 
 #[test]
 fn answers_every_line(rt: HostRuntime) {
     let (ended, writer) = run_slowly(rt.alloc(), None, Trouble::Nothing);
-    assert_eq!(rt; ended, Ok(COUNTS));
-    assert_eq!(rt; writer.taken.as_slice(), OUTPUT);
-    assert_eq!(rt; writer.flushed, OUTPUT.len());
+    assert!(rt; ended == Ok(COUNTS));
+    assert!(rt; writer.taken.as_slice() == OUTPUT);
+    assert!(rt; writer.flushed == OUTPUT.len());
+}
+
+// Whether these bytes are answered so, with these counts.
+fn is_answered(alloc: Global, input: &[u8], output: &[u8], lines: u64, steps: u64) -> bool {
+    let (ended, written) = run_over(alloc, input);
+    ended == Ok(Counts { lines, steps }) && written.as_slice() == output
 }
 
 #[test]
 fn ends_lines_at_line_feeds(rt: HostRuntime) {
-    let cases: [(&[u8], &[u8], u64, u64); 5] = [
-        (b"", b"0\n", 0, 0),
-        (b"\n", b"0\n0\n", 1, 0),
-        (b"ab\r\n\n", b"0\n3\n3\n", 2, 1),
-        (b"a\n\nb", b"0\n1\n1\n1\n", 3, 2),
-        (b"\xc3\n\xc3\xa9\n", b"0\nbad\n2\n", 2, 1),
-    ];
-    for (input, output, lines, steps) in cases {
-        let (ended, written) = run_over(rt.alloc(), input);
-        assert_eq!(rt; ended, Ok(Counts { lines, steps }));
-        assert_eq!(rt; written.as_slice(), output);
+    assert!(rt; is_answered(rt.alloc(), b"", b"0\n", 0, 0));
+    assert!(rt; is_answered(rt.alloc(), b"\n", b"0\n0\n", 1, 0));
+    assert!(rt; is_answered(rt.alloc(), b"ab\r\n\n", b"0\n3\n3\n", 2, 1));
+    assert!(rt; is_answered(rt.alloc(), b"a\n\nb", b"0\n1\n1\n1\n", 3, 2));
+    assert!(rt; is_answered(rt.alloc(), b"\xc3\n\xc3\xa9\n", b"0\nbad\n2\n", 2, 1));
+}
+
+// A line of so many bytes, and one that is a byte longer.
+fn two_lines(alloc: Global, length: usize) -> Result<Vec<u8>, AllocError> {
+    let mut lines = vec![in alloc; b'a'; length]?;
+    lines.push(b'\n')?;
+    for _ in 0..=length {
+        lines.push(b'b')?;
     }
+    Ok(lines)
 }
 
 #[test]
 fn reads_lines_up_to_the_limit(rt: HostRuntime) -> Result<(), AllocError> {
-    let mut input = vec![in rt.alloc(); b'a'; LINE_LIMIT]?;
-    input.push(b'\n')?;
-    for _ in 0..=LINE_LIMIT {
-        input.push(b'b')?;
-    }
-    let (ended, written) = run_over(rt.alloc(), input.as_slice());
-    assert_eq!(rt; ended, Ok(Counts { lines: 2, steps: 1 }));
-    assert_eq!(rt; written.as_slice(), b"0\n1048576\nbad\n".as_slice());
+    let input = two_lines(rt.alloc(), LINE_LIMIT)?;
+    assert!(rt; is_answered(rt.alloc(), input.as_slice(), b"0\n1048576\nbad\n", 2, 1));
     Ok(())
+}
+
+// Whether the read of this number fails once this is written and flushed.
+fn fails_at_read(alloc: Global, k: u64, shown: &[u8]) -> bool {
+    let (ended, writer) = run_slowly(alloc, Some(k), Trouble::Nothing);
+    ended == Err(RunFault::Read)
+        && writer.taken.as_slice() == shown
+        && writer.flushed == shown.len()
 }
 
 #[test]
 fn tells_of_a_failed_read(rt: HostRuntime) {
-    let cases: [(u64, &[u8]); 6] = [
-        (1, b"0\n"),
-        (2, b"0\n"),
-        (3, b"0\n3\n"),
-        (6, b"0\n3\n5\n"),
-        (7, b"0\n3\n5\n5\n"),
-        (10, b"0\n3\n5\n5\nbad\n"),
-    ];
-    for (k, shown) in cases {
-        let (ended, writer) = run_slowly(rt.alloc(), Some(k), Trouble::Nothing);
-        assert_eq!(rt; ended, Err(RunFault::Read), "at read {k}");
-        assert_eq!(rt; writer.taken.as_slice(), shown, "at read {k}");
-        assert_eq!(rt; writer.flushed, shown.len(), "at read {k}");
+    assert!(rt; fails_at_read(rt.alloc(), 1, b"0\n"));
+    assert!(rt; fails_at_read(rt.alloc(), 2, b"0\n"));
+    assert!(rt; fails_at_read(rt.alloc(), 3, b"0\n3\n"));
+    assert!(rt; fails_at_read(rt.alloc(), 6, b"0\n3\n5\n"));
+    assert!(rt; fails_at_read(rt.alloc(), 7, b"0\n3\n5\n5\n"));
+    assert!(rt; fails_at_read(rt.alloc(), 10, b"0\n3\n5\n5\nbad\n"));
+}
+
+// How many bytes were written before the trouble, if they are the first of the answer.
+fn fails_to_write(alloc: Global, trouble: Trouble) -> Option<u64> {
+    let (ended, writer) = run_slowly(alloc, None, trouble);
+    if ended == Err(RunFault::Write) && OUTPUT.starts_with(writer.taken.as_slice()) {
+        return Some(writer.taken.len() as u64);
     }
+    None
 }
 
 #[test]
 fn tells_of_a_failed_write(rt: HostRuntime) {
     for k in 1..=14u64 {
-        for trouble in [Trouble::WriteFails(k), Trouble::WriteTakesNone(k)] {
-            let (ended, writer) = run_slowly(rt.alloc(), None, trouble);
-            assert_eq!(rt; ended, Err(RunFault::Write), "at write {k}");
-            assert_eq!(rt; writer.taken.len() as u64 + 1, k);
-            assert!(rt; OUTPUT.starts_with(writer.taken.as_slice()), "at write {k}");
-        }
+        let written = fails_to_write(rt.alloc(), Trouble::WriteFails(k));
+        assert!(rt; written == Some(k - 1), "at write {k}");
+        let written = fails_to_write(rt.alloc(), Trouble::WriteTakesNone(k));
+        assert!(rt; written == Some(k - 1), "at write {k}");
     }
+}
+
+#[test]
+fn tells_of_a_failed_flush(rt: HostRuntime) {
     for k in 1..=11u64 {
-        let (ended, writer) = run_slowly(rt.alloc(), None, Trouble::FlushFails(k));
-        assert_eq!(rt; ended, Err(RunFault::Write), "at flush {k}");
-        assert!(rt; OUTPUT.starts_with(writer.taken.as_slice()), "at flush {k}");
+        let written = fails_to_write(rt.alloc(), Trouble::FlushFails(k));
+        assert!(rt; written.is_some(), "at flush {k}");
     }
 }
 
@@ -309,9 +322,18 @@ fn flushes_before_each_read(rt: HostRuntime) {
         flushed: Cell::new(0),
     };
     let (ended, is_early) = run_waiting(rt.alloc(), &flow);
-    assert_eq!(rt; ended, Ok(COUNTS));
+    assert!(rt; ended == Ok(COUNTS));
     assert!(rt; !is_early);
-    assert_eq!(rt; flow.flushed.get(), OUTPUT.len());
+    assert!(rt; flow.flushed.get() == OUTPUT.len());
+}
+
+// Answers these bytes, and tells the most that was written at once.
+fn run_widely(alloc: Global, input: &[u8], flow: &Flow) -> (Result<Counts, RunFault>, usize) {
+    let mut machine = Longest { longest: 0 };
+    let mut reader = WatchedReader::new(input);
+    let mut writer = WatchedWriter::new(Wide { flow, most: 0 });
+    let ended = run_lines(alloc, &mut machine, &mut reader, &mut writer);
+    (ended, writer.stream.most)
 }
 
 #[test]
@@ -322,34 +344,18 @@ fn writes_before_much_is_pending(rt: HostRuntime) -> Result<(), AllocError> {
     };
     // One read gives all these lines, each with an answer of two bytes.
     let input = vec![in rt.alloc(); b'\n'; 50_000]?;
-    let mut machine = Longest { longest: 0 };
-    let mut reader = WatchedReader::new(input.as_slice());
-    let mut writer = WatchedWriter::new(Wide {
-        flow: &flow,
-        most: 0,
-    });
-    let ended = run_lines(rt.alloc(), &mut machine, &mut reader, &mut writer);
-    assert_eq!(rt;
-        ended,
-        Ok(Counts {
-            lines: 50_000,
-            steps: 0
-        })
-    );
-    assert_eq!(rt; flow.written.get(), 100_002);
-    assert_eq!(rt; writer.stream.most, 65_536);
+    let (ended, most) = run_widely(rt.alloc(), input.as_slice(), &flow);
+    assert!(rt; ended.is_ok());
+    assert!(rt; (flow.written.get(), most) == (100_002, 65_536));
     Ok(())
 }
 
 #[test]
 fn prints_faults(rt: HostRuntime) -> Result<(), AllocError> {
-    let cases = [
-        (RunFault::Read, "the input could not be read to its end"),
-        (RunFault::Write, "an answer could not be written"),
-        (RunFault::Memory, "out of memory"),
-    ];
-    for (fault, text) in cases {
-        assert_eq!(rt; fault.to_string(rt.alloc())?.as_str(), text);
-    }
+    let read = RunFault::Read.to_string(rt.alloc())?;
+    assert!(rt; read.as_str() == "the input could not be read to its end");
+    let write = RunFault::Write.to_string(rt.alloc())?;
+    assert!(rt; write.as_str() == "an answer could not be written");
+    assert!(rt; RunFault::Memory.to_string(rt.alloc())?.as_str() == "out of memory");
     Ok(())
 }

@@ -92,7 +92,12 @@ fn what_data_are_allowed(rt: HostRuntime) -> Result<(), Fail> {
     let alloc = rt.alloc();
     let projection = titles(alloc, "t", "b")?;
     assert!(rt; allowed(&projection, &Content::delete()));
-    assert!(rt; allowed(&projection, &Content::create(alloc, nulls(alloc, &["title"])?)?));
+    assert!(rt;
+        allowed(
+            &projection,
+            &Content::create(alloc, nulls(alloc, &["title"])?)?
+        )
+    );
     assert!(rt;
         !allowed(
             &projection,

@@ -1,8 +1,10 @@
 //! `sdb_transform`: components and operations carried past one another.
-use sdb_component::{Component, Op, op_value, read_op};
+use crate::texts::{extended, is_printed, op};
+use sdb_component::{Component, Op, read_op};
 use sdb_transform::{Fault, Side, cross, transform, transform_one};
 use serde_json::Value;
 use std::alloc::{AllocError, Global};
+use std::process::Abort;
 use std::test::Fail;
 
 // The rows of the table, each a JSON array: a component, another one, the side, and what stands for the
@@ -191,27 +193,28 @@ const OTHERS: &str = r#"[
   [[{"oi":1,"p":["a","k"]}], [{"oi":2,"p":["b","k"]}], "either", [{"oi":1,"p":["a","k"]}]]
 ]"#;
 
-fn read(alloc: Global, text: &str) -> Result<Op, Fail> {
-    let value = Value::from_str(alloc, text)?;
-    Ok(read_op(alloc, &value)?)
-}
-
-fn printed(alloc: Global, op: &Op) -> Result<String, Fail> {
-    Ok(op_value(alloc, op)?.to_string(alloc)?)
-}
-
 fn component(alloc: Global, value: &Value) -> Result<Component, Fail> {
     let mut components = read_op(alloc, value)?.into_components();
     Ok(components.pop().ok_or("no component")?)
 }
 
-// What stands for the component after the other one, or E8.
-fn transformed(alloc: Global, value: &Value, other: &Value, side: Side) -> Result<String, Fail> {
-    let other = component(alloc, other)?;
-    match transform_one(alloc, component(alloc, value)?, &other, side) {
-        Ok(components) => printed(alloc, &Op::new(components)),
-        Err(Fault::NotTransformed) => Ok(String::from_str(alloc, "\"E8\"")?),
-        Err(fault) => Err(fault.into()),
+// Whether this stands for the component after the other one, or E8.
+fn is_transformed(
+    alloc: Global,
+    component: Component,
+    other: &Component,
+    side: Side,
+    wanted: &Value,
+) -> Result<bool, Fail> {
+    match transform_one(alloc, component, other, side) {
+        Ok(components) => {
+            is_printed(
+                alloc,
+                &Op::new(components),
+                wanted.to_string(alloc)?.as_str(),
+            )
+        }
+        Err(fault) => Ok(fault == Fault::NotTransformed && wanted.as_str() == Some("E8")),
     }
 }
 
@@ -219,49 +222,43 @@ fn is_for(side: &Value, name: &str) -> bool {
     side.as_str() == Some("either") || side.as_str() == Some(name)
 }
 
-// Tells the row where it doesn't hold as this side.
-fn broken(alloc: Global, row: &Value, name: &str, side: Side) -> Result<String, Fail> {
-    match row.as_array().ok_or("no row")?.as_slice() {
-        [value, other, sides, want] => {
-            if !is_for(sides, name) {
-                return Ok(String::new(alloc));
-            }
-            let shown = transformed(alloc, value, other, side)?;
-            if shown == want.to_string(alloc)? {
-                return Ok(String::new(alloc));
-            }
-            Ok(format!(in alloc; "{shown} at {row} as {name}")?)
-        }
-        _ => Err("no row of four".into()),
+// Whether the row holds as this side, or isn't for it.
+fn holds(alloc: Global, row: &Value, name: &str, side: Side) -> Result<bool, Fail> {
+    let [value, other, sides, wanted] = row.as_array().ok_or("no row")?.as_slice() else {
+        return Err("no row of four".into());
+    };
+    if !is_for(sides, name) {
+        return Ok(true);
     }
+    is_transformed(
+        alloc,
+        component(alloc, value)?,
+        &component(alloc, other)?,
+        side,
+        wanted,
+    )
 }
 
-// Tells the rows that don't hold, and counts all.
-fn check_rows(alloc: Global, table: &str, broke: &mut String) -> Result<usize, Fail> {
+// Counts the rows, each of which has to hold.
+fn count_rows(rt: &impl Abort, alloc: Global, table: &str) -> Result<usize, Fail> {
     let rows = Value::from_str(alloc, table)?;
     let rows = rows.as_array().ok_or("no rows")?;
     for row in rows {
-        broke.push_str(broken(alloc, row, "left", Side::Left)?.as_str())?;
-        broke.push_str(broken(alloc, row, "right", Side::Right)?.as_str())?;
+        assert!(rt; holds(alloc, row, "left", Side::Left)?, "{row}");
+        assert!(rt; holds(alloc, row, "right", Side::Right)?, "{row}");
     }
     Ok(rows.len())
 }
 
 #[test]
 fn each_row_of_the_table_holds(rt: HostRuntime) -> Result<(), Fail> {
-    let mut broke = String::new(rt.alloc());
-    for (table, count) in [
-        (WORKED, 6),
-        (CASE_1, 11),
-        (CASE_2, 27),
-        (LISTS, 34),
-        (OBJECTS, 22),
-        (TEXTS, 34),
-        (OTHERS, 21),
-    ] {
-        assert_eq!(rt; check_rows(rt.alloc(), table, &mut broke)?, count);
-    }
-    assert_eq!(rt; broke.as_str(), "");
+    assert!(rt; count_rows(&rt, rt.alloc(), WORKED)? == 6);
+    assert!(rt; count_rows(&rt, rt.alloc(), CASE_1)? == 11);
+    assert!(rt; count_rows(&rt, rt.alloc(), CASE_2)? == 27);
+    assert!(rt; count_rows(&rt, rt.alloc(), LISTS)? == 34);
+    assert!(rt; count_rows(&rt, rt.alloc(), OBJECTS)? == 22);
+    assert!(rt; count_rows(&rt, rt.alloc(), TEXTS)? == 34);
+    assert!(rt; count_rows(&rt, rt.alloc(), OTHERS)? == 21);
     Ok(())
 }
 
@@ -277,48 +274,59 @@ const CROSSINGS: &str = r#"[
    [{"od":8,"oi":1,"p":["k"]},{"na":2,"p":["k"]}], [], 2]
 ]"#;
 
-// The row that these two operations make.
-fn crossing_row(alloc: Global, row: &Value) -> Result<String, Fail> {
-    match row.as_array().ok_or("no row")?.as_slice() {
-        [left, right, ..] => {
-            let crossed = cross(alloc, &read_op(alloc, left)?, &read_op(alloc, right)?)?;
-            let left_after = printed(alloc, &crossed.left)?;
-            let right_after = printed(alloc, &crossed.right)?;
-            let pairs = crossed.pairs;
-            Ok(format!(in alloc; "[{left},{right},{left_after},{right_after},{pairs}]")?)
-        }
-        _ => Err("no row of two".into()),
+// How many pairs of the operations met, where these stand for them.
+fn crossed(
+    alloc: Global,
+    left: &str,
+    right: &str,
+    left_after: &str,
+    right_after: &str,
+) -> Result<Option<u128>, Fail> {
+    let crossed = cross(alloc, &op(alloc, left)?, &op(alloc, right)?)?;
+    if is_printed(alloc, &crossed.left, left_after)?
+        && is_printed(alloc, &crossed.right, right_after)?
+    {
+        return Ok(Some(crossed.pairs));
     }
+    Ok(None)
+}
+
+fn row_crosses(alloc: Global, row: &Value) -> Result<bool, Fail> {
+    let [left, right, left_after, right_after, pairs] = row.as_array().ok_or("no row")?.as_slice()
+    else {
+        return Err("no row of five".into());
+    };
+    let (left, right) = (left.to_string(alloc)?, right.to_string(alloc)?);
+    let after = (left_after.to_string(alloc)?, right_after.to_string(alloc)?);
+    let met = crossed(
+        alloc,
+        left.as_str(),
+        right.as_str(),
+        after.0.as_str(),
+        after.1.as_str(),
+    )?;
+    Ok(met == Some(pairs.as_u64().ok_or("a count")? as u128))
 }
 
 #[test]
 fn operations_cross(rt: HostRuntime) -> Result<(), Fail> {
     let rows = Value::from_str(rt.alloc(), CROSSINGS)?;
     for row in rows.as_array().ok_or("no rows")? {
-        let want = row.to_string(rt.alloc())?;
-        assert_eq!(rt; crossing_row(rt.alloc(), row)?.as_str(), want.as_str());
+        assert!(rt; row_crosses(rt.alloc(), row)?, "{row}");
     }
     Ok(())
 }
 
+const REFUSED: &str = r#"[{"oi":1,"p":["k"]},{"p":["t",0],"sd":"a😀"}]"#;
+
+const REFUSING: &str = r#"[{"p":["t",0],"si":"b"},{"p":["t",3],"si":"x"}]"#;
+
 #[test]
 fn one_refusal_refuses_all(rt: HostRuntime) -> Result<(), Fail> {
-    let alloc = rt.alloc();
-    let left = read(
-        alloc,
-        "[{\"oi\":1,\"p\":[\"k\"]},{\"p\":[\"t\",0],\"sd\":\"a😀\"}]",
-    )?;
-    let right = read(
-        alloc,
-        "[{\"p\":[\"t\",0],\"si\":\"b\"},{\"p\":[\"t\",3],\"si\":\"x\"}]",
-    )?;
-    assert!(rt; matches!(cross(alloc, &left, &right), Err(Fault::NotTransformed)));
-    assert!(rt;
-        matches!(
-            transform(alloc, &right, &left, Side::Right),
-            Err(Fault::NotTransformed)
-        )
-    );
+    let (left, right) = (op(rt.alloc(), REFUSED)?, op(rt.alloc(), REFUSING)?);
+    assert!(rt; matches!(cross(rt.alloc(), &left, &right), Err(Fault::NotTransformed)));
+    let transformed = transform(rt.alloc(), &right, &left, Side::Right);
+    assert!(rt; matches!(transformed, Err(Fault::NotTransformed)));
     Ok(())
 }
 
@@ -354,98 +362,76 @@ fn pieces(alloc: Global) -> Result<String, Fail> {
 }
 
 fn one_delete(alloc: Global) -> Result<String, Fail> {
-    let mut text = String::from_str(alloc, "[{\"p\":[0],\"sd\":\"")?;
-    for _ in 0..200 {
-        text.push('a')?;
-    }
-    text.push_str("\"}]")?;
+    let mut text = extended(alloc, r#"[{"p":[0],"sd":""#, "a", 200)?;
+    text.push_str(r#""}]"#)?;
     Ok(text)
+}
+
+// How many pairs meet where a delete is cut by inserts, if the cuts are right.
+fn cuts(alloc: Global) -> Result<Option<u128>, Fail> {
+    let (left, right) = (one_delete(alloc)?, inserts(alloc, true)?);
+    let after = (pieces(alloc)?, inserts(alloc, false)?);
+    crossed(
+        alloc,
+        left.as_str(),
+        right.as_str(),
+        after.0.as_str(),
+        after.1.as_str(),
+    )
 }
 
 #[test]
 fn a_long_delete_is_cut_a_hundred_times(rt: HostRuntime) -> Result<(), Fail> {
-    let alloc = rt.alloc();
-    let left = read(alloc, one_delete(alloc)?.as_str())?;
-    let right = read(alloc, inserts(alloc, true)?.as_str())?;
-    let crossed = cross(alloc, &left, &right)?;
-    assert_eq!(rt; crossed.left.components().len(), 101);
-    assert_eq!(rt;
-        printed(alloc, &crossed.left)?.as_str(),
-        pieces(alloc)?.as_str()
-    );
-    assert_eq!(rt;
-        printed(alloc, &crossed.right)?.as_str(),
-        inserts(alloc, false)?.as_str()
-    );
-    assert_eq!(rt; crossed.pairs, 5050);
+    assert!(rt; cuts(rt.alloc())? == Some(5050));
     Ok(())
+}
+
+// Whether this stands for an insert of B, where one of A stands at the same place.
+fn is_left_as(alloc: Global, side: Side, wanted: &str) -> Result<bool, Fail> {
+    let insert = op(alloc, r#"[{"li":"B","p":[0]}]"#)?;
+    let other = op(alloc, r#"[{"li":"A","p":[0]}]"#)?;
+    is_printed(alloc, &transform(alloc, &insert, &other, side)?, wanted)
 }
 
 #[test]
 fn an_operation_is_transformed_as_either_side(rt: HostRuntime) -> Result<(), Fail> {
-    let alloc = rt.alloc();
-    let op = read(alloc, "[{\"li\":\"B\",\"p\":[0]}]")?;
-    let other = read(alloc, "[{\"li\":\"A\",\"p\":[0]}]")?;
-    let left = transform(alloc, &op, &other, Side::Left)?;
-    assert_eq!(rt;
-        printed(alloc, &left)?.as_str(),
-        "[{\"li\":\"B\",\"p\":[0]}]"
-    );
-    let right = transform(alloc, &op, &other, Side::Right)?;
-    assert_eq!(rt;
-        printed(alloc, &right)?.as_str(),
-        "[{\"li\":\"B\",\"p\":[1]}]"
-    );
+    assert!(rt; is_left_as(rt.alloc(), Side::Left, r#"[{"li":"B","p":[0]}]"#)?);
+    assert!(rt; is_left_as(rt.alloc(), Side::Right, r#"[{"li":"B","p":[1]}]"#)?);
     Ok(())
 }
 
 // The front, so many letters, and the end.
-fn around(alloc: Global, front: &str, letters: u64, end: &str) -> Result<String, AllocError> {
-    let mut text = String::from_str(alloc, front)?;
-    for _ in 0..letters {
-        text.push_str("x")?;
-    }
+fn around(alloc: Global, front: &str, letters: u64, end: &str) -> Result<String, Fail> {
+    let mut text = extended(alloc, front, "x", letters)?;
     text.push_str(end)?;
     Ok(text)
 }
 
+const BELOW: &str = r#"[{"p":[3,0,0],"si":"yy"},{"li":1,"p":[3,1]},{"li":2,"p":[0]}]"#;
+
+// Whether the removal of a text of so many letters meets edits below it, from either side.
+fn meets(alloc: Global, letters: u64) -> Result<bool, Fail> {
+    let removal = around(alloc, r#"[{"ld":[""#, letters, r#"",null],"p":[3]}]"#)?;
+    let after = around(alloc, r#"[{"ld":["yy"#, letters, r#"",1,null],"p":[4]}]"#)?;
+    let (removal, after, other) = (removal.as_str(), after.as_str(), r#"[{"li":2,"p":[0]}]"#);
+    Ok(
+        crossed(alloc, removal, BELOW, after, other)?.is_some()
+            && crossed(alloc, BELOW, removal, other, after)?.is_some(),
+    )
+}
+
 #[test]
 fn a_removed_value_meets_edits_below_it(rt: HostRuntime) -> Result<(), Fail> {
-    let alloc = rt.alloc();
-    let edits = r#"[{"p":[3,0,0],"si":"yy"},{"li":1,"p":[3,1]},{"li":2,"p":[0]}]"#;
-    let right = read(alloc, edits)?;
     for letters in [0, 1, 63, 64, 65, 4096, 100000] {
-        let removal = around(alloc, r#"[{"ld":[""#, letters, r#"",null],"p":[3]}]"#)?;
-        let after = around(alloc, r#"[{"ld":["yy"#, letters, r#"",1,null],"p":[4]}]"#)?;
-        let left = read(alloc, removal.as_str())?;
-        let crossed = cross(alloc, &left, &right)?;
-        assert_eq!(rt;
-            printed(alloc, &crossed.left)?.as_str(),
-            after.as_str(),
-            "{letters}"
-        );
-        assert_eq!(rt;
-            printed(alloc, &crossed.right)?.as_str(),
-            r#"[{"li":2,"p":[0]}]"#
-        );
-        let other = cross(alloc, &right, &left)?;
-        assert_eq!(rt;
-            printed(alloc, &other.right)?.as_str(),
-            after.as_str(),
-            "{letters}"
-        );
+        assert!(rt; meets(rt.alloc(), letters)?, "{letters}");
     }
     Ok(())
 }
 
 #[test]
 fn faults_are_named(rt: HostRuntime) -> Result<(), Fail> {
-    for (fault, want) in [
-        (Fault::NotTransformed, "operation can not be applied"),
-        (Fault::Memory, "out of memory"),
-    ] {
-        let text = format!(in rt.alloc(); "{fault}")?;
-        assert_eq!(rt; text.as_str(), want);
-    }
+    let refused = Fault::NotTransformed.to_string(rt.alloc())?;
+    assert!(rt; refused.as_str() == "operation can not be applied");
+    assert!(rt; Fault::Memory.to_string(rt.alloc())?.as_str() == "out of memory");
     Ok(())
 }

@@ -2,6 +2,7 @@
 ghost use Rattle.std.specs.Prelude.{◌≡◌};
 ghost use Rattle.sdb_value.specs.View.{view};
 
+use crate::texts::{extended, is_shown, json, shown};
 use json::Writer;
 use sdb_value::{
     Change, Json, MAX, Path, Step, ValueFault, Whole, change_at, count_of, cut_at, find, find_mut,
@@ -9,17 +10,9 @@ use sdb_value::{
     remove_member, remove_text, replace_item, text_mut, to_value, units, whole_of, write_value,
 };
 use serde_json::Value;
-use std::alloc::{AllocError, Global};
+use std::alloc::Global;
+use std::collections::BTreeMap;
 use std::test::Fail;
-
-fn json(alloc: Global, text: &str) -> Result<Json, Fail> {
-    let value = Value::from_str(alloc, text)?;
-    Ok(from_value(alloc, &value)?)
-}
-
-fn shown(alloc: Global, json: &Json) -> Result<String, Fail> {
-    Ok(to_value(alloc, json)?.to_string(alloc)?)
-}
 
 fn written(alloc: Global, json: &Json) -> Result<Vec<u8>, Fail> {
     let mut out = Writer::new(Vec::new(alloc));
@@ -27,58 +20,64 @@ fn written(alloc: Global, json: &Json) -> Result<Vec<u8>, Fail> {
     Ok(out.into_inner())
 }
 
-// The steps that a list of keys and indexes names.
-fn path(alloc: Global, text: &str) -> Result<Path, Fail> {
-    let mut steps = Vec::new(alloc);
-    if let Json::List(items) = json(alloc, text)? {
-        for item in items {
-            match item {
-                Json::Text(key) => steps.push(Step::Key(key))?,
-                Json::Int(index) => steps.push(Step::Index(index.get().unsigned_abs()))?,
-                _ => {}
-            }
-        }
+fn step(item: Json) -> Result<Step, Fail> {
+    match item {
+        Json::Text(key) => Ok(Step::Key(key)),
+        Json::Int(index) => Ok(Step::Index(index.get().unsigned_abs())),
+        _ => Err("no step".into()),
     }
-    Ok(steps)
 }
 
-// The part, so many times.
-fn repeated(alloc: Global, part: &str, count: u64) -> Result<String, AllocError> {
-    let mut text = String::from_str(alloc, "")?;
-    for _ in 0..count {
-        text.push_str(part)?;
+// The steps that a list of keys and indexes names.
+fn path_of(alloc: Global, steps: Json) -> Result<Path, Fail> {
+    let mut path = Vec::new(alloc);
+    let Json::List(items) = steps else {
+        return Err("no list".into());
+    };
+    for item in items {
+        path.push(step(item)?)?;
     }
-    Ok(text)
+    Ok(path)
 }
 
 // Lists, so many inside one another.
-fn deep(alloc: Global, depth: u64) -> Result<String, AllocError> {
-    let mut text = repeated(alloc, "[", depth)?;
-    text.push_str(repeated(alloc, "]", depth)?.as_str())?;
-    Ok(text)
+fn deep(alloc: Global, depth: u64) -> Result<String, Fail> {
+    let opened = extended(alloc, "", "[", depth)?;
+    extended(alloc, opened.as_str(), "]", depth)
 }
 
+const READ: &str =
+    r#"{"b":[null,true,false,-9007199254740991,9007199254740991,"aé😀\"\n",[],{}],"a":{"k":0}}"#;
+
+const PRINTED: &str =
+    r#"{"a":{"k":0},"b":[null,true,false,-9007199254740991,9007199254740991,"aé😀\"\n",[],{}]}"#;
+
 #[test]
-fn a_value_is_read_copied_and_printed(rt: HostRuntime) -> Result<(), Fail> {
-    let alloc = rt.alloc();
-    let value = json(
-        alloc,
-        r#"{"b":[null,true,false,-9007199254740991,9007199254740991,"aé😀\"\n",[],{}],"a":{"k":0}}"#,
-    )?;
-    let want =
-        r#"{"a":{"k":0},"b":[null,true,false,-9007199254740991,9007199254740991,"aé😀\"\n",[],{}]}"#;
-    assert_eq!(rt; shown(alloc, &value)?.as_str(), want);
-    let copy = value.try_clone(alloc)?;
-    assert!(rt; copy == value);
-    drop(value);
-    assert_eq!(rt; shown(alloc, &copy)?.as_str(), want);
-    assert_eq!(rt; written(alloc, &copy)?.as_slice(), want.as_bytes());
+fn a_value_is_read_and_printed(rt: HostRuntime) -> Result<(), Fail> {
+    let value = json(rt.alloc(), READ)?;
+    assert!(rt; is_shown(rt.alloc(), &value, PRINTED)?);
+    assert!(rt; written(rt.alloc(), &value)?.as_slice() == PRINTED.as_bytes());
     Ok(())
 }
 
 #[test]
-fn the_profile_is_kept(rt: HostRuntime) -> Result<(), Fail> {
-    let alloc = rt.alloc();
+fn a_copy_is_the_same(rt: HostRuntime) -> Result<(), Fail> {
+    let value = json(rt.alloc(), READ)?;
+    let copy = value.try_clone(rt.alloc())?;
+    assert!(rt; copy == value);
+    drop(value);
+    assert!(rt; is_shown(rt.alloc(), &copy, PRINTED)?);
+    Ok(())
+}
+
+// Whether the text is refused for a number in it.
+fn is_no_number(alloc: Global, text: &str) -> Result<bool, Fail> {
+    let value = Value::from_str(alloc, text)?;
+    Ok(matches!(from_value(alloc, &value), Err(ValueFault::Number)))
+}
+
+#[test]
+fn other_numbers_are_refused(rt: HostRuntime) -> Result<(), Fail> {
     for text in [
         "1.5",
         "1.0",
@@ -87,162 +86,225 @@ fn the_profile_is_kept(rt: HostRuntime) -> Result<(), Fail> {
         "-9007199254740992",
         r#"{"k":[0,1.5]}"#,
     ] {
-        let value = Value::from_str(alloc, text)?;
-        assert!(rt;
-            matches!(from_value(alloc, &value), Err(ValueFault::Number)),
-            "at {text}"
-        );
+        assert!(rt; is_no_number(rt.alloc(), text)?, "{text}");
     }
-    let deepest = deep(alloc, 50)?;
-    let value = json(alloc, deepest.as_str())?;
-    assert_eq!(rt; value.depth(), 50);
-    assert_eq!(rt; shown(alloc, &value)?.as_str(), deepest.as_str());
-    let deeper = Value::from_str(alloc, deep(alloc, 51)?.as_str())?;
-    assert!(rt; matches!(from_value(alloc, &deeper), Err(ValueFault::Depth)));
-    assert_eq!(rt; json(alloc, r#"{"a":[1],"b":{"c":[]}}"#)?.depth(), 3);
-    assert_eq!(rt; json(alloc, r#""a""#)?.depth(), 0);
     Ok(())
 }
 
-// JSON numbers, as whole numbers and as counts.
-const NUMBERS: [(&str, Option<i64>, Option<u64>); 9] = [
-    ("0", Some(0), Some(0)),
-    (
-        "9007199254740991",
-        Some(9007199254740991),
-        Some(9007199254740991),
-    ),
-    ("9007199254740992", None, None),
-    ("18446744073709551615", None, None),
-    ("-1", Some(-1), None),
-    ("-9007199254740991", Some(-9007199254740991), None),
-    ("-9007199254740992", None, None),
-    ("1.0", None, None),
-    ("1e2", None, None),
-];
+// How deep the value is.
+fn depth(alloc: Global, text: &str) -> Result<u64, Fail> {
+    Ok(json(alloc, text)?.depth())
+}
+
+#[test]
+fn depth_is_counted(rt: HostRuntime) -> Result<(), Fail> {
+    assert!(rt; depth(rt.alloc(), r#""a""#)? == 0);
+    assert!(rt; depth(rt.alloc(), r#"{"a":[1],"b":{"c":[]}}"#)? == 3);
+    let deepest = deep(rt.alloc(), 50)?;
+    assert!(rt; depth(rt.alloc(), deepest.as_str())? == 50);
+    assert!(rt;
+        is_shown(
+            rt.alloc(),
+            &json(rt.alloc(), deepest.as_str())?,
+            deepest.as_str()
+        )?
+    );
+    Ok(())
+}
+
+#[test]
+fn depth_is_limited(rt: HostRuntime) -> Result<(), Fail> {
+    let deeper = Value::from_str(rt.alloc(), deep(rt.alloc(), 51)?.as_str())?;
+    assert!(rt; matches!(from_value(rt.alloc(), &deeper), Err(ValueFault::Depth)));
+    Ok(())
+}
+
+// Rows of a JSON number, and what it is as a whole number and as a count.
+const NUMBERS: &str = r#"[
+  [0, 0, 0],
+  [9007199254740991, 9007199254740991, 9007199254740991],
+  [9007199254740992, null, null],
+  [18446744073709551615, null, null],
+  [-1, -1, null],
+  [-9007199254740991, -9007199254740991, null],
+  [-9007199254740992, null, null],
+  [1.0, null, null],
+  [1e2, null, null]
+]"#;
+
+fn whole(value: &Value) -> Option<i64> {
+    whole_of(value.as_number()?).map(Whole::get)
+}
+
+fn is_number(row: &Value) -> Result<bool, Fail> {
+    let [value, wanted, count] = row.as_array().ok_or("no row")?.as_slice() else {
+        return Err("no row of three".into());
+    };
+    Ok(whole(value) == wanted.as_i64() && count_of(value) == count.as_u64())
+}
 
 #[test]
 fn numbers_are_read(rt: HostRuntime) -> Result<(), Fail> {
-    for (text, want, count) in NUMBERS {
-        let value = Value::from_str(rt.alloc(), text)?;
-        let whole = match value.as_number() {
-            Some(number) => whole_of(number),
-            None => None,
-        };
-        assert_eq!(rt; whole.map(Whole::get), want, "{text}");
-        assert_eq!(rt; count_of(&value), count, "{text}");
+    let rows = Value::from_str(rt.alloc(), NUMBERS)?;
+    for row in rows.as_array().ok_or("no rows")? {
+        assert!(rt; is_number(row)?, "{row}");
     }
-    assert!(rt; count_of(&Value::from_str(rt.alloc(), "[1]")?).is_none());
-    assert_eq!(rt; MAX, 9007199254740991);
-    assert_eq!(rt; Whole::MAX, 9007199254740991);
+    assert!(rt; count_of(&rows).is_none());
+    assert!(rt; MAX == 9007199254740991);
+    assert!(rt; Whole::MAX == 9007199254740991);
     Ok(())
+}
+
+fn sum(a: i64, b: i64) -> Option<i64> {
+    Whole::new(a)?.plus(Whole::new(b)?).map(Whole::get)
 }
 
 #[test]
-fn whole_numbers_stay_in_range(rt: HostRuntime) -> Result<(), Fail> {
+fn whole_numbers_stay_in_range(rt: HostRuntime) {
     assert!(rt; Whole::new(9007199254740992).is_none());
     assert!(rt; Whole::new(-9007199254740992).is_none());
-    for (a, b, sum) in [
-        (Whole::MAX, 0, Some(Whole::MAX)),
-        (Whole::MAX, 1, None),
-        (-Whole::MAX, -1, None),
-        (Whole::MAX, -1, Some(9007199254740990)),
-        (3, -5, Some(-2)),
-    ] {
-        if let (Some(first), Some(second)) = (Whole::new(a), Whole::new(b)) {
-            assert_eq!(rt; first.plus(second).map(Whole::get), sum, "{a} and {b}");
-        } else {
-            assert!(rt; false, "{a} and {b} are in range");
-        }
-    }
-    Ok(())
+    assert!(rt; sum(Whole::MAX, 0) == Some(Whole::MAX));
+    assert!(rt; sum(Whole::MAX, 1).is_none());
+    assert!(rt; sum(-Whole::MAX, -1).is_none());
+    assert!(rt; sum(Whole::MAX, -1) == Some(9007199254740990));
+    assert!(rt; sum(3, -5) == Some(-2));
 }
 
-// Values, and how much there is to copy of each.
-const SIZES: [(&str, u64); 7] = [
-    ("null", 1),
-    (r#""""#, 1),
-    (r#""aé""#, 4),
-    ("[]", 1),
-    ("[1,[true,null]]", 5),
-    (r#"{"key":1}"#, 5),
-    (r#"{"":"😀","b":{"c":[]}}"#, 10),
-];
+// Rows of a value, and how much there is to copy of it.
+const SIZES: &str = r#"[
+  [null, 1],
+  ["", 1],
+  ["aé", 4],
+  [[], 1],
+  [[1,[true,null]], 5],
+  [{"key":1}, 5],
+  [{"":"😀","b":{"c":[]}}, 10]
+]"#;
+
+// Whether the size of the value is told so up to each limit.
+fn is_sized(value: &Json, wanted: u64) -> bool {
+    laws::well_formed(value);
+    for limit in 0..=11 {
+        if value.size(limit) != limit.min(wanted) {
+            return false;
+        }
+    }
+    value.size(18446744073709551615) == wanted
+}
+
+fn has_size(alloc: Global, row: &Value) -> Result<bool, Fail> {
+    let [value, size] = row.as_array().ok_or("no row")?.as_slice() else {
+        return Err("no row of two".into());
+    };
+    Ok(is_sized(&from_value(alloc, value)?, size.as_u64().ok_or("a size")?))
+}
 
 #[test]
 fn sizes_are_counted_up_to_a_limit(rt: HostRuntime) -> Result<(), Fail> {
-    for (text, want) in SIZES {
-        let value = json(rt.alloc(), text)?;
-        laws::well_formed(&value);
-        for limit in [0, 1, 2, 3, 4, 5, 9, 10, 11, 64, 18446744073709551615] {
-            assert_eq!(rt; value.size(limit), limit.min(want), "{text} up to {limit}");
-        }
+    let rows = Value::from_str(rt.alloc(), SIZES)?;
+    for row in rows.as_array().ok_or("no rows")? {
+        assert!(rt; has_size(rt.alloc(), row)?, "{row}");
     }
     Ok(())
 }
 
 #[test]
 fn faults_are_named(rt: HostRuntime) -> Result<(), Fail> {
-    for (fault, want) in [
-        (ValueFault::Number, "a number is not whole or too large"),
-        (ValueFault::Depth, "a value nests too deep"),
-        (ValueFault::Memory, "out of memory"),
-    ] {
-        let text = format!(in rt.alloc(); "{fault}")?;
-        assert_eq!(rt; text.as_str(), want);
+    let number = ValueFault::Number.to_string(rt.alloc())?;
+    assert!(rt; number.as_str() == "a number is not whole or too large");
+    let depth = ValueFault::Depth.to_string(rt.alloc())?;
+    assert!(rt; depth.as_str() == "a value nests too deep");
+    assert!(rt; ValueFault::Memory.to_string(rt.alloc())?.as_str() == "out of memory");
+    Ok(())
+}
+
+const PLACED: &str = r#"{"a":[1,{"b":"x"}],"c":null,"d":true}"#;
+
+// Rows of a path into that value, and what it leads to.
+const PLACES: &str = r#"[
+  [[], {"a":[1,{"b":"x"}],"c":null,"d":true}],
+  [["a"], [1,{"b":"x"}]],
+  [["a",0], 1],
+  [["a",1,"b"], "x"],
+  [["c"], null],
+  [["b"], "nothing"],
+  [["a",2], "nothing"],
+  [["a",9007199254740991], "nothing"],
+  [["a","b"], "nothing"],
+  [["a",0,0], "nothing"],
+  [["a",0,"b"], "nothing"],
+  [["a",1,"b",0], "nothing"],
+  [["a",1,"b","b"], "nothing"],
+  [[0], "nothing"],
+  [["c",0], "nothing"],
+  [["c","b"], "nothing"],
+  [["d",0,"b"], "nothing"]
+]"#;
+
+fn shown_or_nothing(alloc: Global, place: Option<&Json>) -> Result<String, Fail> {
+    match place {
+        Some(place) => shown(alloc, place),
+        None => Ok(String::from_str(alloc, r#""nothing""#)?),
+    }
+}
+
+fn found(alloc: Global, value: &Json, path: &Path) -> Result<String, Fail> {
+    shown_or_nothing(alloc, find(value, path))
+}
+
+fn lent(alloc: Global, value: &mut Json, path: &Path) -> Result<String, Fail> {
+    match find_mut(value, path) {
+        Some(place) => shown(alloc, place),
+        None => Ok(String::from_str(alloc, r#""nothing""#)?),
+    }
+}
+
+// Whether the path leads to this, read and lent. No clause says that a search that finds nothing changes
+// nothing.
+fn leads_to(alloc: Global, value: &mut Json, path: &Path, wanted: &str) -> Result<bool, Fail> {
+    Ok(
+        found(alloc, value, path)?.as_str() == wanted
+            && lent(alloc, value, path)?.as_str() == wanted
+            && is_shown(alloc, value, PLACED)?,
+    )
+}
+
+fn is_place(alloc: Global, row: &Value) -> Result<bool, Fail> {
+    let [steps, wanted] = row.as_array().ok_or("no row")?.as_slice() else {
+        return Err("no row of two".into());
+    };
+    let path = path_of(alloc, from_value(alloc, steps)?)?;
+    leads_to(
+        alloc,
+        &mut json(alloc, PLACED)?,
+        &path,
+        wanted.to_string(alloc)?.as_str(),
+    )
+}
+
+#[test]
+fn places_are_found(rt: HostRuntime) -> Result<(), Fail> {
+    let rows = Value::from_str(rt.alloc(), PLACES)?;
+    for row in rows.as_array().ok_or("no rows")? {
+        assert!(rt; is_place(rt.alloc(), row)?, "{row}");
     }
     Ok(())
 }
 
-// A value, paths into it, and what they lead to; "" where there is nothing.
-const PLACED: &str = r#"{"a":[1,{"b":"x"}],"c":null,"d":true}"#;
-
-const PLACES: [(&str, &str); 17] = [
-    ("[]", PLACED),
-    (r#"["a"]"#, r#"[1,{"b":"x"}]"#),
-    (r#"["a",0]"#, "1"),
-    (r#"["a",1,"b"]"#, r#""x""#),
-    (r#"["c"]"#, "null"),
-    (r#"["b"]"#, ""),
-    (r#"["a",2]"#, ""),
-    (r#"["a",9007199254740991]"#, ""),
-    (r#"["a","b"]"#, ""),
-    (r#"["a",0,0]"#, ""),
-    (r#"["a",0,"b"]"#, ""),
-    (r#"["a",1,"b",0]"#, ""),
-    (r#"["a",1,"b","b"]"#, ""),
-    ("[0]", ""),
-    (r#"["c",0]"#, ""),
-    (r#"["c","b"]"#, ""),
-    (r#"["d",0,"b"]"#, ""),
-];
-
-#[test]
-fn places_are_found(rt: HostRuntime) -> Result<(), Fail> {
-    let alloc = rt.alloc();
-    let mut value = json(alloc, PLACED)?;
-    for (text, want) in PLACES {
-        let steps = path(alloc, text)?;
-        let found = match find(&value, &steps) {
-            Some(place) => shown(alloc, place)?,
-            None => String::from_str(alloc, "")?,
-        };
-        assert_eq!(rt; found.as_str(), want, "at {text}");
-        let lent = match find_mut(&mut value, &steps) {
-            Some(place) => shown(alloc, place)?,
-            None => String::from_str(alloc, "")?,
-        };
-        assert_eq!(rt; lent.as_str(), want, "lent at {text}");
-        // No clause says that a search that finds nothing changes nothing.
-        assert_eq!(rt; shown(alloc, &value)?.as_str(), PLACED, "after {text}");
-    }
-    if let Some(place) = find_mut(&mut value, &path(alloc, r#"["a",1,"b"]"#)?) {
+// Puts a truth at the path.
+fn put_truth(value: &mut Json, path: &Path) {
+    if let Some(place) = find_mut(value, path) {
         *place = Json::Bool(true);
     }
-    assert_eq!(rt;
-        shown(alloc, &value)?.as_str(),
-        r#"{"a":[1,{"b":true}],"c":null,"d":true}"#
-    );
+}
+
+#[test]
+fn a_place_is_written(rt: HostRuntime) -> Result<(), Fail> {
+    let mut value = json(rt.alloc(), PLACED)?;
+    let path = path_of(rt.alloc(), json(rt.alloc(), r#"["a",1,"b"]"#)?)?;
+    put_truth(&mut value, &path);
+    let after = r#"{"a":[1,{"b":true}],"c":null,"d":true}"#;
+    assert!(rt; is_shown(rt.alloc(), &value, after)?);
     Ok(())
 }
 
@@ -264,29 +326,37 @@ impl Change for Replace {
     }
 }
 
+// Puts null at the path, and answers how deep the value there was.
+fn put_null(alloc: Global, value: &mut Json, steps: &str) -> Result<Option<u64>, Fail> {
+    let path = path_of(alloc, json(alloc, steps)?)?;
+    Ok(change_at(value, &path, Replace { new: Json::Null }))
+}
+
 #[test]
 fn one_place_is_changed(rt: HostRuntime) -> Result<(), Fail> {
-    let alloc = rt.alloc();
-    let mut value = json(alloc, r#"{"a":[1,{"b":[[]]}],"c":2}"#)?;
-    for (text, want, after) in [
-        (r#"["a",1,"b"]"#, Some(2), r#"{"a":[1,{"b":null}],"c":2}"#),
-        (r#"["a",2]"#, None, r#"{"a":[1,{"b":null}],"c":2}"#),
-        (r#"["b"]"#, None, r#"{"a":[1,{"b":null}],"c":2}"#),
-        ("[]", Some(3), "null"),
-    ] {
-        let done = change_at(&mut value, &path(alloc, text)?, Replace { new: Json::Null });
-        assert_eq!(rt; done, want, "at {text}");
-        assert_eq!(rt; shown(alloc, &value)?.as_str(), after, "at {text}");
-    }
+    let mut value = json(rt.alloc(), r#"{"a":[1,{"b":[[]]}],"c":2}"#)?;
+    let after = r#"{"a":[1,{"b":null}],"c":2}"#;
+    assert!(rt; put_null(rt.alloc(), &mut value, r#"["a",1,"b"]"#)? == Some(2));
+    assert!(rt; is_shown(rt.alloc(), &value, after)?);
+    assert!(rt; put_null(rt.alloc(), &mut value, r#"["a",2]"#)?.is_none());
+    assert!(rt; put_null(rt.alloc(), &mut value, r#"["b"]"#)?.is_none());
+    assert!(rt; is_shown(rt.alloc(), &value, after)?);
     Ok(())
 }
 
 #[test]
-fn texts_are_measured(rt: HostRuntime) -> Result<(), Fail> {
-    let alloc = rt.alloc();
-    assert_eq!(rt; units(""), 0);
-    assert_eq!(rt; units("a😀b"), 4);
-    assert_eq!(rt; units("aé€"), 3);
+fn the_whole_value_is_changed(rt: HostRuntime) -> Result<(), Fail> {
+    let mut value = json(rt.alloc(), r#"{"a":[1,{"b":null}],"c":2}"#)?;
+    assert!(rt; put_null(rt.alloc(), &mut value, "[]")? == Some(3));
+    assert!(rt; is_shown(rt.alloc(), &value, "null")?);
+    Ok(())
+}
+
+#[test]
+fn texts_are_measured(rt: HostRuntime) {
+    assert!(rt; units("") == 0);
+    assert!(rt; units("a😀b") == 4);
+    assert!(rt; units("aé€") == 3);
     for (offset, want) in [
         (0, Some(0)),
         (1, Some(1)),
@@ -295,14 +365,23 @@ fn texts_are_measured(rt: HostRuntime) -> Result<(), Fail> {
         (4, Some(6)),
         (5, None),
     ] {
-        assert_eq!(rt; cut_at("a😀b", offset), want, "at {offset}");
+        assert!(rt; cut_at("a😀b", offset) == want, "{offset}");
     }
-    // A pair over the end of the first 4096 bytes, and one more behind the second.
-    let mut text = repeated(alloc, "a", 4095)?;
+}
+
+// A pair over the end of the first 4096 bytes, and one more behind the second.
+fn long(alloc: Global) -> Result<String, Fail> {
+    let mut text = extended(alloc, "", "a", 4095)?;
     text.push_str("😀")?;
-    text.push_str(repeated(alloc, "b", 5000)?.as_str())?;
+    let mut text = extended(alloc, text.as_str(), "b", 5000)?;
     text.push_str("😀")?;
-    assert_eq!(rt; units(text.as_str()), 9099);
+    Ok(text)
+}
+
+#[test]
+fn long_texts_are_measured(rt: HostRuntime) -> Result<(), Fail> {
+    let text = long(rt.alloc())?;
+    assert!(rt; units(text.as_str()) == 9099);
     for (offset, want) in [
         (4094, Some(4094)),
         (4095, Some(4095)),
@@ -317,18 +396,21 @@ fn texts_are_measured(rt: HostRuntime) -> Result<(), Fail> {
         (9099, Some(9103)),
         (9100, None),
     ] {
-        assert_eq!(rt; cut_at(text.as_str(), offset), want, "long at {offset}");
+        assert!(rt; cut_at(text.as_str(), offset) == want, "{offset}");
     }
     Ok(())
 }
 
+// Pairs alone, from the end of the first 4096 bytes to that of the third.
+fn pairs(alloc: Global) -> Result<String, Fail> {
+    let text = extended(alloc, "", "a", 4096)?;
+    extended(alloc, text.as_str(), "😀", 2048)
+}
+
 #[test]
 fn pairs_are_measured(rt: HostRuntime) -> Result<(), Fail> {
-    let alloc = rt.alloc();
-    // Pairs alone, from the end of the first 4096 bytes to that of the third.
-    let mut pairs = repeated(alloc, "a", 4096)?;
-    pairs.push_str(repeated(alloc, "😀", 2048)?.as_str())?;
-    assert_eq!(rt; units(pairs.as_str()), 8192);
+    let text = pairs(rt.alloc())?;
+    assert!(rt; units(text.as_str()) == 8192);
     for (offset, want) in [
         (4096, Some(4096)),
         (4097, None),
@@ -338,33 +420,56 @@ fn pairs_are_measured(rt: HostRuntime) -> Result<(), Fail> {
         (8192, Some(12288)),
         (8193, None),
     ] {
-        assert_eq!(rt; cut_at(pairs.as_str(), offset), want, "pairs at {offset}");
+        assert!(rt; cut_at(text.as_str(), offset) == want, "{offset}");
     }
     Ok(())
 }
 
+fn change_items(alloc: Global, items: &mut Vec<Json>) -> Result<bool, Fail> {
+    Ok(
+        insert_item(items, 3, json(alloc, "4")?)?
+            && remove_item(items, 0)
+            && replace_item(items, 1, json(alloc, r#""q""#)?),
+    )
+}
+
 #[test]
-fn parts_are_changed_in_place(rt: HostRuntime) -> Result<(), Fail> {
-    let alloc = rt.alloc();
-    let mut list = json(alloc, "[1,2,3]")?;
+fn a_list_is_changed_in_place(rt: HostRuntime) -> Result<(), Fail> {
+    let mut list = json(rt.alloc(), "[1,2,3]")?;
     if let Some(items) = list_mut(&mut list) {
-        assert!(rt; insert_item(items, 3, json(alloc, "4")?)?);
-        assert!(rt; remove_item(items, 0));
-        assert!(rt; replace_item(items, 1, json(alloc, r#""q""#)?));
+        assert!(rt; change_items(rt.alloc(), items)?);
     }
-    assert_eq!(rt; shown(alloc, &list)?.as_str(), r#"[2,"q",4]"#);
-    let mut object = json(alloc, r#"{"a":1,"c":3}"#)?;
+    assert!(rt; is_shown(rt.alloc(), &list, r#"[2,"q",4]"#)?);
+    Ok(())
+}
+
+fn change_members(alloc: Global, members: &mut BTreeMap<String, Json>) -> Result<(), Fail> {
+    put_member(members, String::from_str(alloc, "b")?, json(alloc, "2")?)?;
+    put_member(members, String::from_str(alloc, "c")?, Json::Null)?;
+    remove_member(members, "a");
+    Ok(())
+}
+
+#[test]
+fn an_object_is_changed_in_place(rt: HostRuntime) -> Result<(), Fail> {
+    let mut object = json(rt.alloc(), r#"{"a":1,"c":3}"#)?;
     if let Some(members) = object_mut(&mut object) {
-        put_member(members, String::from_str(alloc, "b")?, json(alloc, "2")?)?;
-        put_member(members, String::from_str(alloc, "c")?, Json::Null)?;
-        remove_member(members, "a");
+        change_members(rt.alloc(), members)?;
     }
-    assert_eq!(rt; shown(alloc, &object)?.as_str(), r#"{"b":2,"c":null}"#);
-    let mut text = json(alloc, r#""a😀b""#)?;
+    assert!(rt; is_shown(rt.alloc(), &object, r#"{"b":2,"c":null}"#)?);
+    Ok(())
+}
+
+fn change_text(inside: &mut String) -> Result<bool, Fail> {
+    Ok(insert_text(inside, 3, "xy")? && remove_text(inside, 1, "😀x"))
+}
+
+#[test]
+fn a_text_is_changed_in_place(rt: HostRuntime) -> Result<(), Fail> {
+    let mut text = json(rt.alloc(), r#""a😀b""#)?;
     if let Some(inside) = text_mut(&mut text) {
-        assert!(rt; insert_text(inside, 3, "xy")?);
-        assert!(rt; remove_text(inside, 1, "😀x"));
+        assert!(rt; change_text(inside)?);
     }
-    assert_eq!(rt; shown(alloc, &text)?.as_str(), r#""ayb""#);
+    assert!(rt; is_shown(rt.alloc(), &text, r#""ayb""#)?);
     Ok(())
 }
