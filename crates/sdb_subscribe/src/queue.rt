@@ -2,7 +2,8 @@
 ghost use Rattle.std.specs.Prelude.{◌≡◌, ◌+◌, ◌<◌, ◌≤◌, length, IfOk, OnOk, OnErr};
 ghost use Rattle.sdb_subscribe.specs.Queue.{queue, waiting, moved};
 
-use sdb_oplog::{Entry, Log, MAX, copy_entries};
+use sdb_oplog::{Entry, Log, copy_entries};
+use sdb_value::MAX;
 use std::alloc::{AllocError, Global};
 use std::marker::Model;
 
