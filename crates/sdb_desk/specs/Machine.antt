@@ -1,9 +1,10 @@
 -- The machine that takes each submission in one step: what a look shows, what a commit does, and what is read.
-use Rattle.std.specs.Prelude.{◌≡◌, ◌≢◌, ℕ, List, length, take, drop, if◌then◌else◌, nat_lt, Option, unwrap_or, Result, Ok, Err, ◌⊎◌}
+use Rattle.std.specs.Prelude.{◌≡◌, ◌≢◌, ℕ, List, [], cond, length, take, drop, if◌then◌else◌, nat_lt, Option, Some, None, unwrap_or, Result, Ok, Err, ◌⊎◌}
 use Rattle.sdb_value.specs.Value.{Value}
 use Rattle.sdb_oplog.specs.Plain.{PlainEntry, PlainSubmission}
 use Rattle.sdb_oplog.specs.Decide.{PlainReply, refused, decide, missed}
-use Rattle.sdb_oplog.specs.Keys.{PlainKey, Logs, with_log}
+use Rattle.sdb_oplog.specs.Keys.{PlainKey, Logs, with_log, same_key}
+use Rattle.sdb_subscribe.specs.Queue.{PlainQueues, opened, taken_from, after_take, without}
 use Rattle.sdb_oplog.specs.Snap.{document, stored_at}
 use Rattle.sdb_oplog.specs.declared.codes.Code.{Code}
 use Rattle.sdb_oplog.specs.declared.codes.Code.TheVariants.{E4, E10}
@@ -59,6 +60,60 @@ abbrev pub snapshot_at : List PlainEntry → Option ℕ → Result PlainFetched 
 snapshot_at log v =
     if nat_lt (length log) (unwrap_or v (length log)) then Err E4
     else Ok (record { version = unwrap_or v (length log); snapshot = document (take (unwrap_or v (length log)) log) })
+
+-- ---- queues
+
+abbrev pub Queued : Type 0
+Queued = PlainKey → PlainQueues
+
+abbrev pub no_queues : PlainQueues
+no_queues = record { next = 0; queues = [] }
+
+-- the queues, with these at k
+abbrev pub with_queues : Queued → PlainKey → PlainQueues → Queued
+with_queues f k w q = cond (same_key k q) w (f q)
+
+-- the number of the queue, its start, and the version and document that are present
+pub record PlainSubscribed : Type 0 where
+  pub id : ℕ
+  pub start : ℕ
+  pub version : ℕ
+  pub snapshot : Option Value
+
+-- what a subscribe is answered, and the queues after it
+pub record Subscribing : Type 0 where
+  pub answer : Result PlainSubscribed Code
+  pub queues : PlainQueues
+
+-- a queue starts at the version named, or at the present one, if the log has come so far
+abbrev pub start_of : List PlainEntry → Option ℕ → Result ℕ Code
+start_of log v = if nat_lt (length log) (unwrap_or v (length log)) then Err E4 else Ok (unwrap_or v (length log))
+
+abbrev pub opening : List PlainEntry → ℕ → PlainQueues → Result PlainQueues Code → Subscribing
+opening log v q (Err code) = record { answer = Err code; queues = q }
+opening log v q (Ok new) = record { answer = Ok (record { id = q.next; start = v; version = length log; snapshot = document log }); queues = new }
+
+abbrev pub subscribing_from : List PlainEntry → PlainQueues → Result ℕ Code → Subscribing
+subscribing_from log q (Err code) = record { answer = Err code; queues = q }
+subscribing_from log q (Ok v) = opening log v q (opened v q)
+
+abbrev pub subscribing : List PlainEntry → Option ℕ → PlainQueues → Subscribing
+subscribing log v q = subscribing_from log q (start_of log v)
+
+-- a subscribe opens a queue, or memory was wanting and nothing has changed
+abbrev pub Subscribes : List PlainEntry → Option ℕ → PlainQueues → Result PlainSubscribed Code → PlainQueues → Type 0
+Subscribes log v q r new = ((r ≡ Err E10) × (new ≡ q)) ⊎ ((r ≡ (subscribing log v q).answer) × (new ≡ (subscribing log v q).queues))
+
+-- a take gives what comes next of that queue and moves it, or memory was wanting (none) and nothing has changed
+abbrev pub Takes : List PlainEntry → ℕ → ℕ → PlainQueues → Option (Option (List PlainEntry)) → PlainQueues → Type 0
+Takes log n max q None new = new ≡ q
+Takes log n max q (Some r) new = (r ≡ taken_from log n max q.queues) × (new ≡ record { next = q.next; queues = after_take log n max q.queues })
+
+-- a queue is closed
+abbrev pub closed : ℕ → PlainQueues → PlainQueues
+closed n q = record { next = q.next; queues = without n q.queues }
+
+-- ---- reads
 
 -- a read answers this, or memory was wanting
 abbrev pub Reads : {A : Type 0} → Result A Code → Result A Code → Type 0

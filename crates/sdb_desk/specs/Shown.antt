@@ -1,16 +1,18 @@
 -- What looks, attempts and answers of the code stand for.
-use Rattle.std.specs.Prelude.{List, Option, option_map, unwrap_or, Result, Ok, Err, Vec}
+use Rattle.std.specs.Prelude.{List, Option, Some, None, option_map, unwrap_or, Result, Ok, Err, Vec}
+use Rattle.std.specs.declared.alloc.AllocError.{AllocError}
 use Rattle.std.specs.declared.alloc.Global.{Global}
 use Rattle.sdb_value.specs.View.{view}
 use Rattle.sdb_oplog.specs.Plain.{PlainContent, PlainEntry}
 use Rattle.sdb_oplog.specs.declared.codes.Code.{Code}
-use Rattle.sdb_desk.specs.Machine.{PlainLook, PlainAttempt, PlainOutcome, decided, moved, PlainFetched}
+use Rattle.sdb_desk.specs.Machine.{PlainLook, PlainAttempt, PlainOutcome, decided, moved, PlainFetched, PlainSubscribed}
 use Rattle.sdb_desk.specs.Told.{plain_reply}
 use Rattle.sdb_desk.specs.declared.attempts.Look.{Look}
 use Rattle.sdb_desk.specs.declared.attempts.Attempt.{Attempt}
 use Rattle.sdb_desk.specs.declared.shard.Outcome.{Outcome}
 use Rattle.sdb_desk.specs.declared.shard.Outcome.TheVariants.{Decided, Moved}
 use Rattle.sdb_desk.specs.declared.shard.Fetched.{Fetched}
+use Rattle.sdb_desk.specs.declared.shard.Subscribed.{Subscribed}
 
 abbrev pub plain_look : Look → PlainLook
 plain_look l = record { version = l.version; repeat = l.repeat; missed = l.missed.items }
@@ -30,6 +32,14 @@ plain_outcome (Moved l) = moved (plain_look l)
 abbrev pub told_fetched : Result Fetched Code → Result PlainFetched Code
 told_fetched (Ok f) = Ok (record { version = f.version; snapshot = option_map view f.snapshot })
 told_fetched (Err code) = Err code
+
+abbrev pub told_subscribed : Result Subscribed Code → Result PlainSubscribed Code
+told_subscribed (Ok s) = Ok (record { id = s.id; start = s.start; version = s.version; snapshot = option_map view s.snapshot })
+told_subscribed (Err code) = Err code
+
+abbrev pub told_taken : Result (Option (Vec PlainEntry Global)) AllocError → Option (Option (List PlainEntry))
+told_taken (Ok r) = Some (option_map (λ v. v.items) r)
+told_taken (Err e) = None
 
 abbrev pub told_entries : Result (Vec PlainEntry Global) Code → Result (List PlainEntry) Code
 told_entries (Ok v) = Ok v.items

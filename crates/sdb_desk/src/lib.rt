@@ -7,4 +7,4 @@ mod shard;
 
 pub use attempts::{Attempt, Look, Work};
 pub use document::Reply;
-pub use shard::{Fetched, Outcome, Shard};
+pub use shard::{Fetched, Outcome, Shard, Subscribed};

@@ -2,16 +2,19 @@
 ghost use Rattle.std.specs.Prelude.{◌≡◌, ◌≤◌, [], length, take, IfOk, IfErr, IsTrue, OnOk, OnErr, Ok, option_map, unwrap_or};
 ghost use Rattle.sdb_oplog.specs.Decide.{decide, missed, IsMade};
 ghost use Rattle.sdb_oplog.specs.Keys.{no_logs, with_log, plain_key};
+ghost use Rattle.sdb_oplog.specs.Refused.{RefusedBy};
 ghost use Rattle.sdb_oplog.specs.Snap.{document};
+ghost use Rattle.sdb_subscribe.specs.Queue.{opened};
 ghost use Rattle.sdb_value.specs.View.{view};
-ghost use Rattle.sdb_desk.specs.Keyed.{logs_of};
-ghost use Rattle.sdb_desk.specs.Machine.{look_at, fetched, operations, snapshot_at, Decides, Commits, Keeps, Reads};
-ghost use Rattle.sdb_desk.specs.Shown.{plain_look, plain_outcome, told_fetched, told_entries};
+ghost use Rattle.sdb_desk.specs.Keyed.{logs_of, queues_of};
+ghost use Rattle.sdb_desk.specs.Machine.{look_at, fetched, operations, snapshot_at, no_queues, with_queues, closed, Decides, Commits, Keeps, Reads, Subscribes, Takes};
+ghost use Rattle.sdb_desk.specs.Shown.{plain_look, plain_outcome, told_fetched, told_entries, told_subscribed, told_taken};
 ghost use Rattle.sdb_desk.specs.Told.{plain_reply};
 
 use crate::attempts::{Attempt, Look, Work};
 use crate::document::{Document, Reply, copy_of, look_at, missed_of};
 use sdb_oplog::{Code, Entry, Key, Log, Submission, copy_entries, same_entries};
+use sdb_subscribe::{Queues, SubId};
 use sdb_value::Json;
 use std::alloc::{AllocError, Global};
 use std::collections::BTreeMap;
@@ -33,21 +36,35 @@ pub struct Fetched {
     pub snapshot: Option<Json>,
 }
 
-/// The documents that something is stored of, by key. A key without one has version 0.
+/// A queue that was opened: its number, the version that it starts at, the present version and the
+/// document there.
+#[derive(Drop)]
+pub struct Subscribed {
+    pub id: SubId,
+    pub start: u64,
+    pub version: u64,
+    pub snapshot: Option<Json>,
+}
+
+/// The documents that something is stored of, by key, and the queues of each key. A key without a
+/// document has version 0; it may have queues.
 #[derive(Drop)]
 pub struct Shard {
     alloc: Global,
     by_key: BTreeMap<Key, Document>,
+    queues: BTreeMap<Key, Queues>,
 }
 
 impl Shard {
-    /// A shard in which nothing is stored. It keeps the allocator.
+    /// A shard in which nothing is stored and no queue was opened. It keeps the allocator.
     pub fn new(alloc: Global) -> Shard
-        ensures { logs_of result ≡ no_logs }
+        ensures logs { logs_of result ≡ no_logs }
+        ensures queues { queues_of result ≡ (λ k. no_queues) }
     {
         Shard {
             alloc,
             by_key: BTreeMap::new(alloc),
+            queues: BTreeMap::new(alloc),
         }
     }
 
@@ -90,6 +107,7 @@ impl Shard {
         ensures commits { Commits (logs_of self.old) (plain_key key.now) work.old (plain_outcome result)
             (logs_of self.new) }
         ensures keeps { Keeps (plain_outcome result) work.old work.new }
+        ensures queues { queues_of self.new ≡ queues_of self.old }
     {
         if self.version(key) != work.version() {
             return match self.look(key, work.submission()) {
@@ -124,8 +142,9 @@ impl Shard {
 
     /// Decides a submission in one step. `Refused(E10)` is want of memory: nothing has changed.
     pub fn commit_now(&mut self, key: &Key, submission: &Submission) -> Reply
-        ensures { Decides (logs_of self.old) (plain_key key.now) submission.now (plain_reply result)
+        ensures decides { Decides (logs_of self.old) (plain_key key.now) submission.now (plain_reply result)
             (logs_of self.new) }
+        ensures queues { queues_of self.new ≡ queues_of self.old }
     {
         let Ok(work) = self.work_now(key, submission) else {
             return Reply::Refused(Code::E10);
@@ -175,6 +194,7 @@ impl Shard {
             (decide (logs_of self.old (plain_key key.now)) work.submission).log) }
         ensures work { IfErr result (λ w. w ≡ work) }
         ensures err { OnErr result (logs_of self.new ≡ logs_of self.old) }
+        ensures queues { queues_of self.new ≡ queues_of self.old }
     {
         match self.by_key.get_mut(key) {
             Some(document) => document.decide(self.alloc, work),
@@ -192,6 +212,7 @@ impl Shard {
             (logs_of self.new ≡ with_log (logs_of self.old) (plain_key key.now) (decide [] work.submission).log) }
         ensures work { IfErr result (λ w. w ≡ work) }
         ensures err { OnErr result (logs_of self.new ≡ logs_of self.old) }
+        ensures queues { queues_of self.new ≡ queues_of self.old }
     {
         let Ok(copy) = work.try_clone(self.alloc) else {
             return Err(work);
@@ -212,6 +233,7 @@ impl Shard {
     fn keep(&mut self, key: &Key, document: Document) -> Result<(), AllocError>
         ensures ok { OnOk result (logs_of self.new ≡ with_log (logs_of self.old) (plain_key key.now) document) }
         ensures err { OnErr result (logs_of self.new ≡ logs_of self.old) }
+        ensures queues { queues_of self.new ≡ queues_of self.old }
     {
         drop(self.by_key.insert(key.try_clone()?, document)?);
         Ok(())
@@ -258,6 +280,7 @@ impl Shard {
     pub fn snapshot_at(&mut self, key: &Key, version: Option<u64>) -> Result<Fetched, Code>
         ensures snapshot { Reads (told_fetched result) (snapshot_at (logs_of self.old (plain_key key.now)) version) }
         ensures logs { logs_of self.new ≡ logs_of self.old }
+        ensures queues { queues_of self.new ≡ queues_of self.old }
     {
         let present = self.version(key);
         let version = version.unwrap_or(present);
@@ -274,6 +297,7 @@ impl Shard {
         ensures snapshot { IfOk result
             (λ d. document (take version (logs_of self.old (plain_key key.now))) ≡ option_map view d) }
         ensures logs { logs_of self.new ≡ logs_of self.old }
+        ensures queues { queues_of self.new ≡ queues_of self.old }
     {
         match self.by_key.get_mut(key) {
             Some(document) => document.snapshot_at(self.alloc, version),
@@ -283,10 +307,108 @@ impl Shard {
 
     /// Lets the snapshots go that are kept of the document. It takes no memory.
     pub fn forget(&mut self, key: &Key)
-        ensures { logs_of self.new ≡ logs_of self.old }
+        ensures logs { logs_of self.new ≡ logs_of self.old }
+        ensures queues { queues_of self.new ≡ queues_of self.old }
     {
         if let Some(document) = self.by_key.get_mut(key) {
             document.forget();
+        }
+    }
+
+    /// Opens a queue that takes all stored operations from the version on, or from the present one, and
+    /// shows the document there. E4 where the version is above the present one; E11 where the numbers of
+    /// this key are used up, after 18446744073709551615 of them; E10 is want of memory. Nothing has
+    /// changed then.
+    pub fn subscribe(&mut self, key: &Key, version: Option<u64>) -> Result<Subscribed, Code>
+        ensures subscribes { Subscribes (logs_of self.old (plain_key key.now)) version (queues_of self.old (plain_key key.now))
+            (told_subscribed result) (queues_of self.new (plain_key key.now)) }
+        ensures others { queues_of self.new ≡
+            with_queues (queues_of self.old) (plain_key key.now) (queues_of self.new (plain_key key.now)) }
+        ensures logs { logs_of self.new ≡ logs_of self.old }
+    {
+        let present = self.version(key);
+        let start = version.unwrap_or(present);
+        if present < start {
+            return Err(Code::E4);
+        }
+        let Fetched { version, snapshot } = self.fetch(key)?;
+        match self.open(key, start) {
+            Ok(id) => Ok(Subscribed {
+                id,
+                start,
+                version,
+                snapshot,
+            }),
+            Err(code) => Err(code),
+        }
+    }
+
+    // Opens a queue at a version.
+    fn open(&mut self, key: &Key, start: u64) -> Result<SubId, Code>
+        ensures ok { IfOk result (λ id. id ≡ (queues_of self.old (plain_key key.now)).next) }
+        ensures opened { OnOk result
+            (opened start (queues_of self.old (plain_key key.now)) ≡ Ok (queues_of self.new (plain_key key.now))) }
+        ensures err { IfErr result (λ code. RefusedBy (opened start (queues_of self.old (plain_key key.now))) code) }
+        ensures same { OnErr result (queues_of self.new ≡ queues_of self.old) }
+        ensures others { queues_of self.new ≡
+            with_queues (queues_of self.old) (plain_key key.now) (queues_of self.new (plain_key key.now)) }
+        ensures logs { logs_of self.new ≡ logs_of self.old }
+    {
+        match self.queues.get_mut(key) {
+            Some(queues) => queues.open(start),
+            None => self.open_first(key, start),
+        }
+    }
+
+    // Opens the first queue of a key.
+    fn open_first(&mut self, key: &Key, start: u64) -> Result<SubId, Code>
+        requires { no_queues ≡ queues_of self.old (plain_key key.now) }
+        ensures ok { IfOk result (λ id. id ≡ 0) }
+        ensures opened { OnOk result
+            (opened start no_queues ≡ Ok (queues_of self.new (plain_key key.now))) }
+        ensures err { IfErr result (λ code. RefusedBy (opened start no_queues) code) }
+        ensures same { OnErr result (queues_of self.new ≡ queues_of self.old) }
+        ensures others { queues_of self.new ≡
+            with_queues (queues_of self.old) (plain_key key.now) (queues_of self.new (plain_key key.now)) }
+        ensures logs { logs_of self.new ≡ logs_of self.old }
+    {
+        let mut queues = Queues::new(self.alloc);
+        let id = queues.open(start)?;
+        let key = key.try_clone()?;
+        match self.queues.insert(key, queues) {
+            Ok(_) => Ok(id),
+            Err(_) => Err(Code::E10),
+        }
+    }
+
+    /// The next entries of a queue, at most `max`, fewer where the log ends; `None` where no open queue
+    /// of the key has the number. Where nothing waits it takes no memory; after want of memory nothing is
+    /// taken.
+    pub fn take(&mut self, key: &Key, id: SubId, max: u64) -> Result<Option<Vec<Entry>>, AllocError>
+        ensures takes { Takes (logs_of self.old (plain_key key.now)) id max (queues_of self.old (plain_key key.now))
+            (told_taken result) (queues_of self.new (plain_key key.now)) }
+        ensures others { queues_of self.new ≡
+            with_queues (queues_of self.old) (plain_key key.now) (queues_of self.new (plain_key key.now)) }
+        ensures logs { logs_of self.new ≡ logs_of self.old }
+    {
+        let Some(queues) = self.queues.get_mut(key) else {
+            return Ok(None);
+        };
+        match self.by_key.get(key) {
+            Some(document) => queues.take(document.log(), id, max),
+            None => queues.take(&Log::new(self.alloc), id, max),
+        }
+    }
+
+    /// Closes a queue of the key. It takes no memory. A number that no open queue has does nothing.
+    pub fn unsubscribe(&mut self, key: &Key, id: SubId)
+        ensures queues { queues_of self.new ≡
+            with_queues (queues_of self.old) (plain_key key.now) (closed id (queues_of self.old (plain_key key.now))) }
+        ensures logs { logs_of self.new ≡ logs_of self.old }
+    {
+        match self.queues.get_mut(key) {
+            Some(queues) => queues.close(id),
+            None => {}
         }
     }
 }

@@ -2,8 +2,9 @@
 ghost use Rattle.std.specs.Prelude.{◌≡◌, IfOk};
 
 use sdb_component::{Act, Component, Op};
-use sdb_desk::{Attempt, Look, Outcome, Reply, Shard, Work};
+use sdb_desk::{Attempt, Look, Outcome, Reply, Shard, Subscribed, Work};
 use sdb_oplog::{Code, Content, Key, Submission};
+use sdb_subscribe::SubId;
 use sdb_value::{Json, Whole};
 use std::alloc::Global;
 use std::test::Fail;
@@ -340,5 +341,62 @@ fn no_document_before_the_first_version(rt: HostRuntime) -> Result<(), Fail> {
         .or(Err("no snapshot"))?;
     assert!(rt; found.snapshot.is_none());
     assert!(rt; matches!(board.shard.snapshot_at(&board.key, Some(13)), Err(Code::E4)));
+    Ok(())
+}
+
+// The versions of the entries that are taken.
+fn taken(board: &mut Board, id: SubId, max: u64) -> Result<Vec<u64>, Fail> {
+    let entries = board.shard.take(&board.key, id, max)?.ok_or("a queue")?;
+    let mut versions = Vec::new(board.alloc);
+    for entry in entries.as_slice() {
+        versions.push(entry.version())?;
+    }
+    Ok(versions)
+}
+
+// The document is made, and edited twice.
+fn edited_twice(alloc: Global) -> Result<Board, Fail> {
+    let mut board = Board::new(alloc)?;
+    board.put(board.edit("a", None, 1)?)?;
+    board.put(board.edit("b", None, 1)?)?;
+    Ok(board)
+}
+
+fn subscribed(board: &mut Board, version: Option<u64>) -> Result<Subscribed, Fail> {
+    Ok(
+        board
+            .shard
+            .subscribe(&board.key, version)
+            .or(Err("no queue"))?,
+    )
+}
+
+#[test]
+fn a_queue_takes_each_entry_once(rt: HostRuntime) -> Result<(), Fail> {
+    let mut board = edited_twice(rt.alloc())?;
+    let id = subscribed(&mut board, Some(0))?.id;
+    assert_eq!(rt; taken(&mut board, id, 2)?.as_slice(), [0, 1].as_slice());
+    board.put(board.edit("c", None, 1)?)?;
+    assert_eq!(rt; taken(&mut board, id, 10)?.as_slice(), [2, 3].as_slice());
+    assert!(rt; taken(&mut board, id, 10)?.is_empty());
+    Ok(())
+}
+
+#[test]
+fn a_queue_is_opened_at_a_version(rt: HostRuntime) -> Result<(), Fail> {
+    let mut board = edited_twice(rt.alloc())?;
+    let opened = subscribed(&mut board, None)?;
+    assert_eq!(rt; (opened.start, opened.version), (3, 3));
+    assert_eq!(rt; number(opened.snapshot.as_ref()), Some(2));
+    assert!(rt; matches!(board.shard.subscribe(&board.key, Some(4)), Err(Code::E4)));
+    Ok(())
+}
+
+#[test]
+fn a_queue_that_is_closed_is_unknown(rt: HostRuntime) -> Result<(), Fail> {
+    let mut board = edited_twice(rt.alloc())?;
+    let id = subscribed(&mut board, Some(1))?.id;
+    board.shard.unsubscribe(&board.key, id);
+    assert!(rt; board.shard.take(&board.key, id, 1)?.is_none());
     Ok(())
 }

@@ -1,4 +1,4 @@
-use Rattle.std.proofs.Common.{ap, ◌∙◌}
+use Rattle.std.proofs.Common.{[], ap, ◌∙◌}
 use Rattle.sdb_oplog.specs.Keys.{with_log}
 use Rattle.sdb_desk.specs.Held.{held}
 use Rattle.sdb_desk.proofs.Looks.{inserted}
@@ -7,4 +7,4 @@ use Rattle.sdb_desk.proofs.shard.Shard.keep.Goals as goal
 pub returns-clause-ok : goal.returns-clause-ok
 returns-clause-ok c =
     let es = c.args.self.now.by_key.entries in
-    inserted es _ c.in_ok-try_clone.field-0 c.args.document c.in_ok-insert.ensures.entries ∙ ap (λ k. with_log (held es) k c.args.document) c.in_ok-try_clone.ensures
+    inserted [] es _ c.in_ok-try_clone.field-0 c.args.document c.in_ok-insert.ensures.entries ∙ ap (λ k. with_log (held [] es) k c.args.document) c.in_ok-try_clone.ensures

@@ -1,3 +1,4 @@
+use Rattle.std.proofs.Common.{[]}
 use Rattle.sdb_desk.proofs.Looks.{put_back}
 use Rattle.sdb_desk.proofs.shard.Shard.snapshot_of.Goals as goal
 
@@ -5,4 +6,4 @@ pub returns-in-Some-clause-logs : goal.returns-in-Some-clause-logs
 returns-in-Some-clause-logs c =
     let es = c.args.self.now.by_key.entries in
     let new = c.snapshot_at.new.self in
-    put_back es _ c.args.key.now c.in-Some.document.now new c.in-Some.ensures.value (c.get_mut.follows.holds new).0 c.snapshot_at.ensures.same
+    put_back [] es _ c.args.key.now c.in-Some.document.now new c.in-Some.ensures.value (c.get_mut.follows.holds new).0 c.snapshot_at.ensures.same
