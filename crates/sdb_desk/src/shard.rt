@@ -320,8 +320,8 @@ impl Shard {
     /// this key are used up, after 18446744073709551615 of them; E10 is want of memory. Nothing has
     /// changed then.
     pub fn subscribe(&mut self, key: &Key, version: Option<u64>) -> Result<Subscribed, Code>
-        ensures subscribes { Subscribes (logs_of self.old (plain_key key.now)) version (queues_of self.old (plain_key key.now))
-            (told_subscribed result) (queues_of self.new (plain_key key.now)) }
+        ensures subscribes { Subscribes (logs_of self.old (plain_key key.now)) version
+            (queues_of self.old (plain_key key.now)) (told_subscribed result) (queues_of self.new (plain_key key.now)) }
         ensures others { queues_of self.new ≡
             with_queues (queues_of self.old) (plain_key key.now) (queues_of self.new (plain_key key.now)) }
         ensures logs { logs_of self.new ≡ logs_of self.old }
