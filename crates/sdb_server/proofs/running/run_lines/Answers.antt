@@ -9,9 +9,9 @@ use Rattle.sdb_server.proofs.running.run_lines.Goals as goal
 pub returns-clause-whole : goal.returns-clause-whole
 returns-clause-whole g c =
     on_ok c.run_lines.result (λ h. IfSome_then (g.R.Source.left c.args.reader.now) h
-    (λ input a. wrote_all {S = Session} (λ s. logs_of s.shard) _ c.run_lines.new.machine (map reading_of (lines_of input)) _ _ c.new.ensures a)) c.run_lines.ensures.whole
+    (λ input a. wrote_all {S = Session} (λ s. logs_of s.shard) _ c.run_lines.new.machine (map reading_of (lines_of input)) _ _ c.new.ensures.logs a)) c.run_lines.ensures.whole
 
 pub returns-clause-front : goal.returns-clause-front
 returns-clause-front g c =
     on_err c.run_lines.result (λ h. IfSome_then (g.R.Source.left c.args.reader.now) h
-    (λ input a. wrote_front {S = Session} (λ s. logs_of s.shard) _ (map reading_of (lines_of input)) _ _ c.new.ensures a)) c.run_lines.ensures.front
+    (λ input a. wrote_front {S = Session} (λ s. logs_of s.shard) _ (map reading_of (lines_of input)) _ _ c.new.ensures.logs a)) c.run_lines.ensures.front
