@@ -1,4 +1,4 @@
-use Rattle.std.proofs.Common.{◌≡◌, OnOk, sym, ap, subst}
+use Rattle.std.proofs.Common.{OnOk, sym, subst}
 use Rattle.sdb_oplog.specs.Keys.{plain_key}
 use Rattle.sdb_desk.specs.Keyed.{logs_of}
 use Rattle.sdb_lines.specs.Runs.{GrewBy}
