@@ -133,7 +133,12 @@ fn say_entries(
     ensures { OnOk result (out.new.items ≡ out.old.items ++ shown (map (op_message (plain_key key.now)) entries.now)) }
 {
     for entry in entries {
-        say(alloc, &Answer::OpMessage { key, entry }, out)?;
+        let answer = Answer::OpMessage {
+            key,
+            entry,
+            content: entry.content(),
+        };
+        say(alloc, &answer, out)?;
     }
     Ok(())
 }

@@ -14,10 +14,17 @@ use Rattle.sdb_wire.specs.Wire.{PlainEcho, PlainWord, text, count}
 pub data PlainAnswer : Type 0 where
   -- the session's source
   init : List ℕ → PlainAnswer
+  -- the session's source, to a client that said who it is
+  named : List ℕ → PlainAnswer
   -- the present version, and the document there
   fetched : PlainKey → ℕ → Option Value → PlainAnswer
   -- the end of a list of stored operations
   listed : PlainKey → PlainAnswer
+  -- the present version and the document there, to a subscriber
+  subscribed : PlainKey → ℕ → Option Value → PlainAnswer
+  -- the end of the list of stored operations, to a subscriber
+  caught_up : PlainKey → PlainAnswer
+  unsubscribed : PlainKey → PlainAnswer
   -- the number of the request, a version, and the document there
   snapshot : ℕ → ℕ → Option Value → PlainAnswer
   -- a stored operation
@@ -113,24 +120,43 @@ entry_members e (edit op) = member (codes "op") (op_data op) (op_tail e)
 abbrev pub entry_data : PlainEntry → Data
 entry_data e = object (entry_members e e.content)
 
--- ---- answers
+-- an entry that shows this content in place of its own
+abbrev pub with_content : PlainEntry → PlainContent → PlainEntry
+with_content e m = record { version = e.version; content = m; arrived = e.arrived }
 
-abbrev pub answer_data : PlainAnswer → Data
-answer_data (init src) = object (
-    member (codes "a") (string (codes "init"))
+-- ---- answers that differ by their word
+
+abbrev pub greeting_data : List ℕ → List ℕ → Data
+greeting_data a src = object (
+    member (codes "a") (string a)
     (member (codes "id") (string src)
     (member (codes "protocol") (number (unsigned 1))
     (member (codes "protocolMinor") (number (unsigned 1))
     (member (codes "type") type_data no_members)))))
-answer_data (fetched k v d) = object (
-    member (codes "a") (string (codes "f"))
+
+abbrev pub document_data : List ℕ → PlainKey → ℕ → Option Value → Data
+document_data a k v d = object (
+    member (codes "a") (string a)
     (member (codes "c") (string k.collection)
     (member (codes "d") (string k.id)
     (member (codes "data") (snapshot_data v d) no_members))))
-answer_data (listed k) = object (
-    member (codes "a") (string (codes "f"))
+
+abbrev pub key_data : List ℕ → PlainKey → Data
+key_data a k = object (
+    member (codes "a") (string a)
     (member (codes "c") (string k.collection)
     (member (codes "d") (string k.id) no_members)))
+
+-- ---- answers
+
+abbrev pub answer_data : PlainAnswer → Data
+answer_data (init src) = greeting_data (codes "init") src
+answer_data (named src) = greeting_data (codes "hs") src
+answer_data (fetched k v d) = document_data (codes "f") k v d
+answer_data (listed k) = key_data (codes "f") k
+answer_data (subscribed k v d) = document_data (codes "s") k v d
+answer_data (caught_up k) = key_data (codes "s") k
+answer_data (unsubscribed k) = key_data (codes "u") k
 answer_data (snapshot n v None) = object (
     member (codes "a") (string (codes "nf"))
     (member (codes "id") (number (unsigned n))

@@ -8,17 +8,17 @@ use Rattle.sdb_value.specs.View.{view}
 use Rattle.sdb_oplog.specs.Keys.{plain_key}
 use Rattle.sdb_oplog.specs.declared.codes.Code.{Code}
 use Rattle.sdb_oplog.specs.declared.codes.Code.TheVariants.{E10}
-use Rattle.sdb_wire.specs.Wire.{PlainRequest, fetch, submit, snapshot as asks_snapshot, PlainEcho, said, nothing_said, PlainWord, text, count, PlainBad, with_echo, message_of, PlainHeard}
-use Rattle.sdb_wire.specs.Answers.{PlainAnswer, init, fetched, listed, snapshot, op_message, acknowledged, failed}
+use Rattle.sdb_wire.specs.Wire.{PlainRequest, hello, fetch, subscribe, unsubscribe, submit, snapshot as asks_snapshot, PlainEcho, said, nothing_said, PlainWord, text, count, PlainBad, with_echo, message_of, PlainHeard}
+use Rattle.sdb_wire.specs.Answers.{PlainAnswer, init, named, fetched, listed, subscribed, caught_up, unsubscribed, snapshot, op_message, with_content, acknowledged, failed}
 use Rattle.sdb_wire.specs.declared.requests.Word.{Word}
 use Rattle.sdb_wire.specs.declared.requests.Word.TheVariants.{Text, Count}
 use Rattle.sdb_wire.specs.declared.requests.Echo.{Echo}
 use Rattle.sdb_wire.specs.declared.requests.Bad.{Bad}
 use Rattle.sdb_wire.specs.declared.requests.Request.{Request}
-use Rattle.sdb_wire.specs.declared.requests.Request.TheVariants.{Fetch, Submit, Snapshot}
+use Rattle.sdb_wire.specs.declared.requests.Request.TheVariants.{Hello, Fetch, Subscribe, Unsubscribe, Submit, Snapshot}
 use Rattle.sdb_wire.specs.declared.requests.Heard.{Heard}
 use Rattle.sdb_wire.specs.declared.requests.Answer.{Answer}
-use Rattle.sdb_wire.specs.declared.requests.Answer.TheVariants.{Init, Fetched, Listed, OpMessage, Acknowledged, Failed}
+use Rattle.sdb_wire.specs.declared.requests.Answer.TheVariants.{Init, Named, Fetched, Listed, Subscribed, CaughtUp, Unsubscribed, OpMessage, Acknowledged, Failed}
 use Rattle.sdb_wire.specs.declared.requests.Answer.TheVariants as answer
 
 abbrev pub plain_word : Word → PlainWord
@@ -36,7 +36,10 @@ plain_echo e = record {
 }
 
 abbrev pub plain_request : Request → PlainRequest
+plain_request (Hello s) = hello (option_map string_bytes s)
 plain_request (Fetch k v) = fetch (plain_key k) v
+plain_request (Subscribe k v) = subscribe (plain_key k) v
+plain_request (Unsubscribe k) = unsubscribe (plain_key k)
 plain_request (Submit k v n s m) = submit (plain_key k) v n (option_map string_bytes s) m
 plain_request (Snapshot k v n) = asks_snapshot (plain_key k) v n
 
@@ -53,10 +56,14 @@ plain_heard h = record { echo = echo_from h.message; request = asked h.request }
 
 abbrev pub plain_answer : Answer → PlainAnswer
 plain_answer (Init src) = init src.now
+plain_answer (Named src) = named src.now
 plain_answer (Fetched k v d) = fetched (plain_key k.now) v (option_map (λ j. view j.now) d)
 plain_answer (Listed k) = listed (plain_key k.now)
+plain_answer (Subscribed k v d) = subscribed (plain_key k.now) v (option_map (λ j. view j.now) d)
+plain_answer (CaughtUp k) = caught_up (plain_key k.now)
+plain_answer (Unsubscribed k) = unsubscribed (plain_key k.now)
 plain_answer (answer.Snapshot n v d) = snapshot n v (option_map (λ j. view j.now) d)
-plain_answer (OpMessage k e) = op_message (plain_key k.now) e.now
+plain_answer (OpMessage k e c) = op_message (plain_key k.now) (with_content e.now c.now)
 plain_answer (Acknowledged k src seq v) = acknowledged (plain_key k.now) src.now seq v
 plain_answer (Failed echo code) = failed (plain_echo echo.now) code
 

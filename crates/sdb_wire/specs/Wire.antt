@@ -105,8 +105,13 @@ content_of d = content_from (present (codes "op") d) (present (codes "create") d
 -- ---- messages
 
 pub data PlainRequest : Type 0 where
+  -- who the client says it is; none keeps the session's source
+  hello : Option (List ℕ) → PlainRequest
   -- the present document, or the stored operations from a version on
   fetch : PlainKey → Option ℕ → PlainRequest
+  -- the present document, or the stored operations from a version on, and from then on each that is stored
+  subscribe : PlainKey → Option ℕ → PlainRequest
+  unsubscribe : PlainKey → PlainRequest
   -- a version that is absent, a sequence number, a source that may be absent, a content
   submit : PlainKey → Option ℕ → ℕ → Option (List ℕ) → PlainContent → PlainRequest
   -- the document at a version, or the present one, and the number that the answer shows again
@@ -118,8 +123,18 @@ key_of d =
     (ok_or (name_at (codes "d") d) E1))
     (ok_or (name_at (codes "c") d) E1)
 
+abbrev pub hello_of : Data → Result PlainRequest Code
+hello_of d = result_then (λ s. Ok (hello s)) (may as_name (present (codes "id") d))
+
 abbrev pub fetch_of : Data → Result PlainRequest Code
 fetch_of d = result_then (λ k. result_then (λ v. Ok (fetch k v)) (may count_of (present (codes "v") d))) (key_of d)
+
+abbrev pub subscribe_of : Data → Result PlainRequest Code
+subscribe_of d =
+    result_then (λ k. result_then (λ v. Ok (subscribe k v)) (may count_of (present (codes "v") d))) (key_of d)
+
+abbrev pub unsubscribe_of : Data → Result PlainRequest Code
+unsubscribe_of d = result_then (λ k. Ok (unsubscribe k)) (key_of d)
 
 abbrev pub submit_of : Data → Result PlainRequest Code
 submit_of d =
@@ -140,9 +155,12 @@ snapshot_of d =
 abbrev pub message_of : Data → Result PlainRequest Code
 message_of d =
     option_map_or
-    (λ a. if bytes_eq a (codes "f") then fetch_of d
+    (λ a. if bytes_eq a (codes "hs") then hello_of d
+    else (if bytes_eq a (codes "f") then fetch_of d
+    else (if bytes_eq a (codes "s") then subscribe_of d
+    else (if bytes_eq a (codes "u") then unsubscribe_of d
     else (if bytes_eq a (codes "op") then submit_of d
-    else (if bytes_eq a (codes "nf") then snapshot_of d else Err E1)))
+    else (if bytes_eq a (codes "nf") then snapshot_of d else Err E1))))))
     (name_at (codes "a") d) (Err E1)
 
 -- ---- texts

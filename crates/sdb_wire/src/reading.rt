@@ -3,7 +3,7 @@ ghost use Rattle.std.specs.Prelude.{◌≡◌, ◌⊎◌, Ok, IfOk, IfErr, optio
 ghost use Rattle.serde_json.specs.View.{view as data_view};
 ghost use Rattle.sdb_oplog.specs.Keys.{plain_key};
 ghost use Rattle.sdb_oplog.specs.Refused.{RefusedBy};
-ghost use Rattle.sdb_wire.specs.Wire.{key_of, fetch_of, submit_of, snapshot_of, message_of, content_of, is_deletion, creation, created, edition, wire, hear, value_of, echo_of, said, nothing_said};
+ghost use Rattle.sdb_wire.specs.Wire.{key_of, hello_of, fetch_of, subscribe_of, unsubscribe_of, submit_of, snapshot_of, message_of, content_of, is_deletion, creation, created, edition, wire, hear, value_of, echo_of, said, nothing_said};
 ghost use Rattle.sdb_wire.specs.View.{plain_request, plain_echo, plain_heard, echo_from, IsFault, IsFaultOf};
 
 use crate::members::{count_at, may_count, may_name, name_at, need_name, present, said};
@@ -124,7 +124,10 @@ fn message_of(alloc: Global, value: &Value) -> Result<Request, Code>
     ensures err { IfErr result (λ code. RefusedBy (message_of (data_view value.now)) code) }
 {
     match name_at(value, "a") {
+        Some("hs") => hello_of(alloc, value),
         Some("f") => fetch_of(alloc, value),
+        Some("s") => subscribe_of(alloc, value),
+        Some("u") => unsubscribe_of(alloc, value),
         Some("op") => submit_of(alloc, value),
         Some("nf") => snapshot_of(alloc, value),
         _ => Err(Code::E1),
@@ -140,6 +143,14 @@ fn key_of(alloc: Global, value: &Value) -> Result<Key, Code>
     Ok(Key { collection, id })
 }
 
+fn hello_of(alloc: Global, value: &Value) -> Result<Request, Code>
+    ensures ok { IfOk result (λ r. hello_of (data_view value.now) ≡ Ok (plain_request r)) }
+    ensures err { IfErr result (λ code. RefusedBy (hello_of (data_view value.now)) code) }
+{
+    let id = may_name(alloc, value, "id")?;
+    Ok(Request::Hello { id })
+}
+
 fn fetch_of(alloc: Global, value: &Value) -> Result<Request, Code>
     ensures ok { IfOk result (λ r. fetch_of (data_view value.now) ≡ Ok (plain_request r)) }
     ensures err { IfErr result (λ code. RefusedBy (fetch_of (data_view value.now)) code) }
@@ -149,6 +160,25 @@ fn fetch_of(alloc: Global, value: &Value) -> Result<Request, Code>
         Ok(version) => Ok(Request::Fetch { key, version }),
         Err(code) => Err(code),
     }
+}
+
+fn subscribe_of(alloc: Global, value: &Value) -> Result<Request, Code>
+    ensures ok { IfOk result (λ r. subscribe_of (data_view value.now) ≡ Ok (plain_request r)) }
+    ensures err { IfErr result (λ code. RefusedBy (subscribe_of (data_view value.now)) code) }
+{
+    let key = key_of(alloc, value)?;
+    match may_count(value, "v") {
+        Ok(version) => Ok(Request::Subscribe { key, version }),
+        Err(code) => Err(code),
+    }
+}
+
+fn unsubscribe_of(alloc: Global, value: &Value) -> Result<Request, Code>
+    ensures ok { IfOk result (λ r. unsubscribe_of (data_view value.now) ≡ Ok (plain_request r)) }
+    ensures err { IfErr result (λ code. RefusedBy (unsubscribe_of (data_view value.now)) code) }
+{
+    let key = key_of(alloc, value)?;
+    Ok(Request::Unsubscribe { key })
 }
 
 fn submit_of(alloc: Global, value: &Value) -> Result<Request, Code>

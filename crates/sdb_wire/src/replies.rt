@@ -6,7 +6,7 @@ ghost use Rattle.serde_json.specs.Data.{Members};
 ghost use Rattle.sdb_value.specs.Printed.{data_tokens, object_rest};
 ghost use Rattle.sdb_value.specs.View.{view};
 ghost use Rattle.sdb_oplog.specs.Keys.{plain_key};
-ghost use Rattle.sdb_wire.specs.Answers.{answer_text, answer_data, init, fetched, listed, snapshot, op_message, acknowledged, failed, snapshot_data, create_data, content_members, error_data, some_member};
+ghost use Rattle.sdb_wire.specs.Answers.{answer_text, answer_data, greeting_data, document_data, key_data, snapshot, op_message, with_content, acknowledged, failed, snapshot_data, create_data, content_members, error_data, some_member};
 ghost use Rattle.sdb_wire.specs.View.{plain_answer, plain_echo, plain_word};
 
 use crate::codes::{code_name, code_text};
@@ -63,19 +63,31 @@ fn write_answer(answer: &Answer<'_>, out: &mut Writer) -> Result<(), AllocError>
     ensures before { out.new.before ≡ out.old.before }
 {
     match answer {
-        Answer::Init { src } => write_init(src, out),
+        Answer::Init { src } => write_greeting("init", src, out),
+        Answer::Named { src } => write_greeting("hs", src, out),
         Answer::Fetched {
             key,
             version,
             document,
-        } => write_fetched(key, *version, *document, out),
-        Answer::Listed { key } => write_listed(key, out),
+        } => write_document("f", key, *version, *document, out),
+        Answer::Listed { key } => write_key("f", key, out),
+        Answer::Subscribed {
+            key,
+            version,
+            document,
+        } => write_document("s", key, *version, *document, out),
+        Answer::CaughtUp { key } => write_key("s", key, out),
+        Answer::Unsubscribed { key } => write_key("u", key, out),
         Answer::Snapshot {
             id,
             version,
             document,
         } => write_snapshot_at(*id, *version, *document, out),
-        Answer::OpMessage { key, entry } => write_op_message(key, entry, out),
+        Answer::OpMessage {
+            key,
+            entry,
+            content,
+        } => write_op_message(key, entry, content, out),
         Answer::Acknowledged {
             key,
             src,
@@ -116,12 +128,13 @@ fn write_head(kind: &str, key: &Key, out: &mut Writer) -> Result<(), AllocError>
     write_text("d", key.id.as_str(), out)
 }
 
-fn write_init(src: &str, out: &mut Writer) -> Result<(), AllocError>
-    ensures tokens { OnOk result (out.new.tokens ≡ out.old.tokens ++ data_tokens (answer_data (init src.now))) }
+// The session's source.
+fn write_greeting(kind: &str, src: &str, out: &mut Writer) -> Result<(), AllocError>
+    ensures tokens { OnOk result (out.new.tokens ≡ out.old.tokens ++ data_tokens (greeting_data kind.now src.now)) }
     ensures before { out.new.before ≡ out.old.before }
 {
     out.begin_object()?;
-    write_text("a", "init", out)?;
+    write_text("a", kind, out)?;
     write_text("id", src, out)?;
     write_count("protocol", 1, out)?;
     write_count("protocolMinor", 1, out)?;
@@ -150,7 +163,9 @@ fn write_snapshot(version: u64, document: Option<&Json>, out: &mut Writer) -> Re
     out.end_object()
 }
 
-fn write_fetched(
+// The present version, and the document there.
+fn write_document(
+    kind: &str,
     key: &Key,
     version: u64,
     document: Option<&Json>,
@@ -158,21 +173,22 @@ fn write_fetched(
 ) -> Result<(), AllocError>
     ensures tokens { OnOk result (out.new.tokens
         ≡ out.old.tokens ++ data_tokens
-        (answer_data (fetched (plain_key key.now) version (option_map (λ d. view d.now) document.entry)))) }
+        (document_data kind.now (plain_key key.now) version (option_map (λ d. view d.now) document.entry))) }
     ensures before { out.new.before ≡ out.old.before }
 {
-    write_head("f", key, out)?;
+    write_head(kind, key, out)?;
     out.key("data")?;
     write_snapshot(version, document, out)?;
     out.end_object()
 }
 
-fn write_listed(key: &Key, out: &mut Writer) -> Result<(), AllocError>
+// An answer that says no more than which document it is about.
+fn write_key(kind: &str, key: &Key, out: &mut Writer) -> Result<(), AllocError>
     ensures tokens { OnOk result (out.new.tokens
-        ≡ out.old.tokens ++ data_tokens (answer_data (listed (plain_key key.now)))) }
+        ≡ out.old.tokens ++ data_tokens (key_data kind.now (plain_key key.now))) }
     ensures before { out.new.before ≡ out.old.before }
 {
-    write_head("f", key, out)?;
+    write_head(kind, key, out)?;
     out.end_object()
 }
 
@@ -228,14 +244,21 @@ fn write_nothing_at(id: u64, version: u64, out: &mut Writer) -> Result<(), Alloc
     out.end_object()
 }
 
-fn write_op_message(key: &Key, entry: &Entry, out: &mut Writer) -> Result<(), AllocError>
+// An entry that shows this content.
+fn write_op_message(
+    key: &Key,
+    entry: &Entry,
+    content: &Content,
+    out: &mut Writer,
+) -> Result<(), AllocError>
     ensures tokens { OnOk result (out.new.tokens
-        ≡ out.old.tokens ++ data_tokens (answer_data (op_message (plain_key key.now) entry.now))) }
+        ≡ out.old.tokens ++ data_tokens
+        (answer_data (op_message (plain_key key.now) (with_content entry.now content.now)))) }
     ensures before { out.new.before ≡ out.old.before }
 {
     out.begin_object()?;
     write_text("a", "op", out)?;
-    write_content(key, entry.content(), out)?;
+    write_content(key, content, out)?;
     write_count("seq", entry.arrived().seq(), out)?;
     write_text("src", entry.arrived().src(), out)?;
     write_count("v", entry.version(), out)?;

@@ -32,10 +32,23 @@ pub struct Echo {
 /// What a message asks.
 #[derive(Drop)]
 pub enum Request {
+    /// Who the client says it is; without an `id` the session keeps its source.
+    Hello {
+        id: Option<String>,
+    },
     /// The present document; with a version the stored operations from there on.
     Fetch {
         key: Key,
         version: Option<u64>,
+    },
+    /// As a fetch, and from then on each operation that is stored.
+    Subscribe {
+        key: Key,
+        version: Option<u64>,
+    },
+    /// The end of a subscription.
+    Unsubscribe {
+        key: Key,
     },
     /// A submission: the version that it was made at, its number, its source, its content. Without a
     /// source it is the session's.
@@ -76,6 +89,10 @@ pub enum Answer<'a> {
     Init {
         src: &'a str,
     },
+    /// The session's source, to a client that said who it is.
+    Named {
+        src: &'a str,
+    },
     /// The present version, and the document there.
     Fetched {
         key: &'a Key,
@@ -86,16 +103,32 @@ pub enum Answer<'a> {
     Listed {
         key: &'a Key,
     },
+    /// The present version and the document there, to a subscriber.
+    Subscribed {
+        key: &'a Key,
+        version: u64,
+        document: Option<&'a Json>,
+    },
+    /// The end of the list of stored operations, to a subscriber.
+    CaughtUp {
+        key: &'a Key,
+    },
+    /// A subscription is at its end.
+    Unsubscribed {
+        key: &'a Key,
+    },
     /// The document at a version: the number of the request, the version, the document.
     Snapshot {
         id: u64,
         version: u64,
         document: Option<&'a Json>,
     },
-    /// A stored operation.
+    /// A stored operation. The content that is shown is the entry's own, except where a projection
+    /// shows a part of it.
     OpMessage {
         key: &'a Key,
         entry: &'a Entry,
+        content: &'a Content,
     },
     /// A submission is stored: its source, its number, the version.
     Acknowledged {
