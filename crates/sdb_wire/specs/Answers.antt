@@ -1,8 +1,10 @@
 -- The text of an answer: `Text`. Members stand in the order of their bytes, and the text is compact.
 use Rattle.std.specs.Prelude.{ℕ, List, true, Option, Some, None, codes}
+use Rattle.json.specs.Token.{Token}
 use Rattle.serde_json.specs.Data.{Data, null, boolean, number, unsigned, string, object, Members, no_members, member}
 use Rattle.serde_json.specs.Written.{compact_text}
 use Rattle.sdb_value.specs.Value.{Value}
+use Rattle.sdb_value.specs.Printed.{data_tokens}
 use Rattle.sdb_value.specs.Profile.{to_data}
 use Rattle.sdb_component.specs.Prints.{op_data}
 use Rattle.sdb_oplog.specs.Keys.{PlainKey}
@@ -189,3 +191,6 @@ answer_data (failed s e) = object (
 
 abbrev pub answer_text : PlainAnswer → List ℕ
 answer_text a = compact_text (answer_data a)
+
+abbrev pub answer_tokens : PlainAnswer → List Token
+answer_tokens a = data_tokens (answer_data a)

@@ -6,7 +6,7 @@ ghost use Rattle.serde_json.specs.Data.{Members};
 ghost use Rattle.sdb_value.specs.Printed.{data_tokens, object_rest};
 ghost use Rattle.sdb_value.specs.View.{view};
 ghost use Rattle.sdb_oplog.specs.Keys.{plain_key};
-ghost use Rattle.sdb_wire.specs.Answers.{answer_text, answer_data, greeting_data, document_data, key_data, snapshot, op_message, with_content, acknowledged, failed, snapshot_data, create_data, content_members, error_data, some_member};
+ghost use Rattle.sdb_wire.specs.Answers.{answer_text, answer_tokens, greeting_data, document_data, key_data, snapshot, op_message, with_content, acknowledged, failed, snapshot_data, create_data, content_members, error_data, some_member};
 ghost use Rattle.sdb_wire.specs.View.{plain_answer, plain_echo, plain_word};
 
 use crate::codes::{code_name, code_text};
@@ -58,8 +58,7 @@ fn text_of(out: Writer) -> String
 }
 
 fn write_answer(answer: &Answer<'_>, out: &mut Writer) -> Result<(), AllocError>
-    ensures tokens { OnOk result (out.new.tokens
-        ≡ out.old.tokens ++ data_tokens (answer_data (plain_answer answer.now))) }
+    ensures tokens { OnOk result (out.new.tokens ≡ out.old.tokens ++ answer_tokens (plain_answer answer.now)) }
     ensures before { out.new.before ≡ out.old.before }
 {
     match answer {
@@ -200,8 +199,7 @@ fn write_snapshot_at(
     out: &mut Writer,
 ) -> Result<(), AllocError>
     ensures tokens { OnOk result (out.new.tokens
-        ≡ out.old.tokens ++ data_tokens
-        (answer_data (snapshot id version (option_map (λ d. view d.now) document.entry)))) }
+        ≡ out.old.tokens ++ answer_tokens (snapshot id version (option_map (λ d. view d.now) document.entry))) }
     ensures before { out.new.before ≡ out.old.before }
 {
     match document {
@@ -217,7 +215,7 @@ fn write_document_at(
     out: &mut Writer,
 ) -> Result<(), AllocError>
     ensures tokens { OnOk result (out.new.tokens
-        ≡ out.old.tokens ++ data_tokens (answer_data (snapshot id version (Some (view document.now))))) }
+        ≡ out.old.tokens ++ answer_tokens (snapshot id version (Some (view document.now)))) }
     ensures before { out.new.before ≡ out.old.before }
 {
     out.begin_object()?;
@@ -231,8 +229,7 @@ fn write_document_at(
 }
 
 fn write_nothing_at(id: u64, version: u64, out: &mut Writer) -> Result<(), AllocError>
-    ensures tokens { OnOk result (out.new.tokens
-        ≡ out.old.tokens ++ data_tokens (answer_data (snapshot id version None))) }
+    ensures tokens { OnOk result (out.new.tokens ≡ out.old.tokens ++ answer_tokens (snapshot id version None)) }
     ensures before { out.new.before ≡ out.old.before }
 {
     out.begin_object()?;
@@ -252,8 +249,8 @@ fn write_op_message(
     out: &mut Writer,
 ) -> Result<(), AllocError>
     ensures tokens { OnOk result (out.new.tokens
-        ≡ out.old.tokens ++ data_tokens
-        (answer_data (op_message (plain_key key.now) (with_content entry.now content.now)))) }
+        ≡ out.old.tokens ++ answer_tokens
+        (op_message (plain_key key.now) (with_content entry.now content.now))) }
     ensures before { out.new.before ≡ out.old.before }
 {
     out.begin_object()?;
@@ -310,8 +307,7 @@ fn write_acknowledged(
     out: &mut Writer,
 ) -> Result<(), AllocError>
     ensures tokens { OnOk result (out.new.tokens
-        ≡ out.old.tokens ++ data_tokens
-        (answer_data (acknowledged (plain_key key.now) src.now seq version))) }
+        ≡ out.old.tokens ++ answer_tokens (acknowledged (plain_key key.now) src.now seq version)) }
     ensures before { out.new.before ≡ out.old.before }
 {
     write_head("op", key, out)?;
@@ -323,7 +319,7 @@ fn write_acknowledged(
 
 fn write_failed(echo: &Echo, code: Code, out: &mut Writer) -> Result<(), AllocError>
     ensures tokens { OnOk result (out.new.tokens
-        ≡ out.old.tokens ++ data_tokens (answer_data (failed (plain_echo echo.now) code))) }
+        ≡ out.old.tokens ++ answer_tokens (failed (plain_echo echo.now) code)) }
     ensures before { out.new.before ≡ out.old.before }
 {
     out.begin_object()?;
