@@ -73,6 +73,15 @@ no_queues = record { next = 0; queues = [] }
 abbrev pub with_queues : Queued → PlainKey → PlainQueues → Queued
 with_queues f k w q = cond (same_key k q) w (f q)
 
+-- the machine: the log of each key, and its queues
+pub record Machine : Type 0 where
+  pub logs : Logs
+  pub queues : Queued
+
+-- both are as they were
+abbrev pub Same : Machine → Machine → Type 0
+Same m new = (new.logs ≡ m.logs) × (new.queues ≡ m.queues)
+
 -- the number of the queue, its start, and the version and document that are present
 pub record PlainSubscribed : Type 0 where
   pub id : ℕ

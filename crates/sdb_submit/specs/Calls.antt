@@ -3,9 +3,9 @@ use Rattle.std.specs.Prelude.{◌≡◌, ℕ, List, Option, Some, None, Result, 
 use Rattle.std.specs.declared.alloc.AllocError.{AllocError}
 use Rattle.sdb_oplog.specs.Plain.{PlainEntry, PlainSubmission}
 use Rattle.sdb_oplog.specs.Decide.{PlainReply}
-use Rattle.sdb_oplog.specs.Keys.{PlainKey, Logs}
+use Rattle.sdb_oplog.specs.Keys.{PlainKey}
 use Rattle.sdb_oplog.specs.declared.codes.Code.{Code}
-use Rattle.sdb_desk.specs.Machine.{PlainLook, PlainAttempt, PlainOutcome, PlainFetched, look_at, fetched, operations, snapshot_at, Commits, Decides, Reads}
+use Rattle.sdb_desk.specs.Machine.{PlainLook, PlainAttempt, PlainOutcome, PlainFetched, PlainSubscribed, Machine, Same, look_at, fetched, operations, snapshot_at, with_queues, closed, Commits, Decides, Reads, Subscribes, Takes}
 use Rattle.sdb_desk.specs.Shown.{plain_look}
 use Rattle.sdb_desk.specs.declared.attempts.Look.{Look}
 
@@ -20,8 +20,14 @@ pub data PlainCall : Type 0 where
   snapshot : Option ℕ → PlainCall
   -- the kept snapshots go
   forget : PlainCall
+  -- a queue from a version on, or from the present one
+  subscribe : Option ℕ → PlainCall
+  -- the next entries of the queue of this number, at most so many
+  take_next : ℕ → ℕ → PlainCall
+  -- the queue of this number is closed
+  unsubscribe : ℕ → PlainCall
 
--- what each call answers. A look answers none where memory is wanting
+-- what each call answers. A look and a take answer none where memory is wanting
 abbrev pub AnswerTo : PlainCall → Type 0
 AnswerTo (look s) = Option PlainLook
 AnswerTo (commit a) = PlainOutcome
@@ -30,6 +36,9 @@ AnswerTo fetch = Result PlainFetched Code
 AnswerTo (ops_from v) = Result (List PlainEntry) Code
 AnswerTo (snapshot v) = Result PlainFetched Code
 AnswerTo forget = Unit {0}
+AnswerTo (subscribe v) = Result PlainSubscribed Code
+AnswerTo (take_next n max) = Option (Option (List PlainEntry))
+AnswerTo (unsubscribe n) = Unit {0}
 
 abbrev pub told_look : Result Look AllocError → Option PlainLook
 told_look (Ok l) = Some (plain_look l)
@@ -40,12 +49,15 @@ abbrev pub Looks : List PlainEntry → PlainSubmission → Option PlainLook → 
 Looks log s None = Unit {0}
 Looks log s (Some l) = l ≡ look_at log s
 
--- one call of the machine. Only what is decided changes a log
-abbrev pub Acts : Logs → PlainKey → (c : PlainCall) → AnswerTo c → Logs → Type 0
-Acts logs k (look s) o new = Looks (logs k) s o × (new ≡ logs)
-Acts logs k (commit a) o new = Commits logs k a o new
-Acts logs k (commit_now s) r new = Decides logs k s r new
-Acts logs k fetch r new = Reads r (Ok (fetched (logs k))) × (new ≡ logs)
-Acts logs k (ops_from v) r new = Reads r (operations (logs k) v) × (new ≡ logs)
-Acts logs k (snapshot v) r new = Reads r (snapshot_at (logs k) v) × (new ≡ logs)
-Acts logs k forget u new = new ≡ logs
+-- one call of the machine. Only what is decided changes a log, and only a call of queues changes those of its key
+abbrev pub Acts : Machine → PlainKey → (c : PlainCall) → AnswerTo c → Machine → Type 0
+Acts m k (look s) o new = Looks (m.logs k) s o × Same m new
+Acts m k (commit a) o new = Commits m.logs k a o new.logs × (new.queues ≡ m.queues)
+Acts m k (commit_now s) r new = Decides m.logs k s r new.logs × (new.queues ≡ m.queues)
+Acts m k fetch r new = Reads r (Ok (fetched (m.logs k))) × Same m new
+Acts m k (ops_from v) r new = Reads r (operations (m.logs k) v) × Same m new
+Acts m k (snapshot v) r new = Reads r (snapshot_at (m.logs k) v) × Same m new
+Acts m k forget u new = Same m new
+Acts m k (subscribe v) r new = Subscribes (m.logs k) v (m.queues k) r (new.queues k) × (new.queues ≡ with_queues m.queues k (new.queues k)) × (new.logs ≡ m.logs)
+Acts m k (take_next n max) r new = Takes (m.logs k) n max (m.queues k) r (new.queues k) × (new.queues ≡ with_queues m.queues k (new.queues k)) × (new.logs ≡ m.logs)
+Acts m k (unsubscribe n) u new = (new.queues ≡ with_queues m.queues k (closed n (m.queues k))) × (new.logs ≡ m.logs)

@@ -3,7 +3,7 @@ use Rattle.std.specs.Prelude.{◌≡◌, ℕ, zero, suc, ◌⊎◌, Some, None}
 use Rattle.sdb_oplog.specs.Plain.{PlainSubmission}
 use Rattle.sdb_oplog.specs.Decide.{PlainReply, refused}
 use Rattle.sdb_oplog.specs.declared.codes.Code.TheVariants.{E10}
-use Rattle.sdb_desk.specs.Machine.{PlainLook, PlainAttempt, PlainOutcome, decided, moved}
+use Rattle.sdb_desk.specs.Machine.{PlainLook, decided, moved}
 use Rattle.sdb_submit.specs.Calls.{PlainCall, look, commit, commit_now, AnswerTo}
 
 -- how each call relates what is before it, its answer and what is after it

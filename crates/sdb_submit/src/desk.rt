@@ -1,17 +1,19 @@
-//! Desks: where documents are looked at, submissions committed and documents read.
+//! Desks: where documents are looked at, submissions committed, documents read and queues taken.
 ghost use Rattle.std.specs.Prelude.{◌≡◌, ℕ};
 ghost use Rattle.sdb_oplog.specs.Keys.{PlainKey, plain_key};
 ghost use Rattle.sdb_desk.specs.Machine.{Keeps};
-ghost use Rattle.sdb_desk.specs.Shown.{plain_outcome, told_fetched, told_entries};
+ghost use Rattle.sdb_desk.specs.Shown.{plain_outcome, told_fetched, told_entries, told_subscribed, told_taken};
 ghost use Rattle.sdb_desk.specs.Told.{plain_reply};
-ghost use Rattle.sdb_submit.specs.Calls.{PlainCall, look, commit, commit_now, fetch, ops_from, snapshot, forget, AnswerTo, told_look};
+ghost use Rattle.sdb_submit.specs.Calls.{PlainCall, look, commit, commit_now, fetch, ops_from, snapshot, forget, subscribe, take_next, unsubscribe, AnswerTo, told_look};
 
-use sdb_desk::{Fetched, Look, Outcome, Reply, Work};
+use sdb_desk::{Fetched, Look, Outcome, Reply, Subscribed, Work};
 use sdb_oplog::{Code, Entry, Key, Submission};
+use sdb_subscribe::SubId;
 use std::alloc::AllocError;
 
-/// Where documents are looked at, submissions committed and documents read. An implementation names
-/// how each of its calls relates the pass before it, what it answers and the pass after it.
+/// Where documents are looked at, submissions committed, documents read and queues taken. An
+/// implementation names how each of its calls relates the pass before it, what it answers and the pass
+/// after it.
 pub trait Desk {
     /// What a caller holds to call the desk.
     type Pass;
@@ -89,6 +91,41 @@ pub trait Desk {
         ensures takes { takes self.now pass.new }
         ensures number { number self.now pass.new ≡ number self.now pass.old }
         ensures acts { acts self.now (plain_key key.now) forget pass.old tt pass.new };
+
+    /// Opens a queue that takes all stored operations from the version on, or from the present one, and
+    /// shows the document there; E4 where the version is above the present one; E11 where the numbers of
+    /// the key are used up; or E10.
+    fn subscribe(
+        &self,
+        pass: &mut Self::Pass,
+        key: &Key,
+        version: Option<u64>,
+    ) -> Result<Subscribed, Code>
+        requires { takes self.now pass.old }
+        ensures takes { takes self.now pass.new }
+        ensures number { number self.now pass.new ≡ number self.now pass.old }
+        ensures acts { acts self.now (plain_key key.now) (subscribe version) pass.old (told_subscribed result) pass.new };
+
+    /// The next entries of a queue, at most `max`; `None` where no open queue of the key has the number.
+    /// It fails only for want of memory.
+    fn take(
+        &self,
+        pass: &mut Self::Pass,
+        key: &Key,
+        id: SubId,
+        max: u64,
+    ) -> Result<Option<Vec<Entry>>, AllocError>
+        requires { takes self.now pass.old }
+        ensures takes { takes self.now pass.new }
+        ensures number { number self.now pass.new ≡ number self.now pass.old }
+        ensures acts { acts self.now (plain_key key.now) (take_next id max) pass.old (told_taken result) pass.new };
+
+    /// Closes a queue of the key. It takes no memory. A number that no open queue has does nothing.
+    fn unsubscribe(&self, pass: &mut Self::Pass, key: &Key, id: SubId)
+        requires { takes self.now pass.old }
+        ensures takes { takes self.now pass.new }
+        ensures number { number self.now pass.new ≡ number self.now pass.old }
+        ensures acts { acts self.now (plain_key key.now) (unsubscribe id) pass.old tt pass.new };
 
     /// The number of a pass: each submission through it has it as its `by`.
     fn by(&self, pass: &Self::Pass) -> u64

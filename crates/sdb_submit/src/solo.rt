@@ -1,15 +1,16 @@
 //! A desk for one caller, who holds the documents.
 ghost use Rattle.std.specs.Prelude.{◌≡◌, ⊤};
 ghost use Rattle.sdb_oplog.specs.Keys.{plain_key};
-ghost use Rattle.sdb_desk.specs.Keyed.{logs_of};
+ghost use Rattle.sdb_desk.specs.Keyed.{logs_of, queues_of, machine_of};
 ghost use Rattle.sdb_desk.specs.Machine.{Decides};
 ghost use Rattle.sdb_desk.specs.Told.{plain_reply};
 ghost use Rattle.sdb_submit.specs.Calls.{Acts};
 
 use crate::desk::{Desk, Gate};
 use crate::submitting::submit;
-use sdb_desk::{Fetched, Look, Outcome, Reply, Shard, Work};
+use sdb_desk::{Fetched, Look, Outcome, Reply, Shard, Subscribed, Work};
 use sdb_oplog::{Code, Entry, Key, Submission};
+use sdb_subscribe::SubId;
 use std::alloc::{AllocError, Global};
 
 /// A desk whose pass is the shard itself. The number of the pass is 0, and no call waits.
@@ -23,7 +24,7 @@ impl Desk for Solo {
 
     ghost number = { λ d p. 0 };
 
-    ghost acts = { λ d k c p a q. Acts (logs_of p) k c a (logs_of q) };
+    ghost acts = { λ d k c p a q. Acts (machine_of p) k c a (machine_of q) };
 
     fn look(
         &self,
@@ -63,12 +64,36 @@ impl Desk for Solo {
         pass.forget(key)
     }
 
+    fn subscribe(
+        &self,
+        pass: &mut Shard,
+        key: &Key,
+        version: Option<u64>,
+    ) -> Result<Subscribed, Code> {
+        pass.subscribe(key, version)
+    }
+
+    fn take(
+        &self,
+        pass: &mut Shard,
+        key: &Key,
+        id: SubId,
+        max: u64,
+    ) -> Result<Option<Vec<Entry>>, AllocError> {
+        pass.take(key, id, max)
+    }
+
+    fn unsubscribe(&self, pass: &mut Shard, key: &Key, id: SubId) {
+        pass.unsubscribe(key, id)
+    }
+
     fn by(&self, _pass: &Shard) -> u64 {
         0
     }
 }
 
 /// Submits to a shard: the submission is decided in one step, or answered E10 and nothing has changed.
+/// The queues stay as they are.
 pub fn submit_solo<G: Gate>(
     alloc: Global,
     shard: &mut Shard,
@@ -77,7 +102,9 @@ pub fn submit_solo<G: Gate>(
     gate: &G,
 ) -> Reply
     requires { submission.now.by ≡ 0 }
-    ensures { Decides (logs_of shard.old) (plain_key key.now) submission.now (plain_reply result) (logs_of shard.new) }
+    ensures decides { Decides (logs_of shard.old) (plain_key key.now) submission.now (plain_reply result)
+        (logs_of shard.new) }
+    ensures queues { queues_of shard.new ≡ queues_of shard.old }
 {
     submit(alloc, &Solo, shard, key, submission, gate)
 }
