@@ -81,6 +81,49 @@ fn a_fetch_is_read(rt: HostRuntime) -> Result<(), Fail> {
     Ok(())
 }
 
+// Whether the text is a hello with this id, or refused with this code.
+fn greets(alloc: Global, text: &str, wanted: Result<Option<&str>, Code>) -> bool {
+    match read_message(alloc, text) {
+        Ok(Request::Hello { id: Some(id) }) => wanted == Ok(Some(id.as_str())),
+        Ok(Request::Hello { id: None }) => wanted == Ok(None),
+        Ok(_) => false,
+        Err(bad) => wanted == Err(bad.code),
+    }
+}
+
+#[test]
+fn a_hello_is_read(rt: HostRuntime) -> Result<(), Fail> {
+    let alloc = rt.alloc();
+    assert!(rt; greets(alloc, r#"{"a":"hs","id":"me","more":[]}"#, Ok(Some("me"))));
+    assert!(rt; greets(alloc, r#"{"a":"hs","id":null}"#, Ok(None)));
+    assert!(rt; greets(alloc, r#"{"a":"hs","id":7}"#, Err(Code::E1)));
+    Ok(())
+}
+
+// Whether the text is a subscribe to that document from this version on.
+fn subscribes(alloc: Global, text: &str, wanted: Option<u64>) -> bool {
+    match read_message(alloc, text) {
+        Ok(Request::Subscribe { key, version }) => is_key(&key) && version == wanted,
+        _ => false,
+    }
+}
+
+fn unsubscribes(alloc: Global, text: &str) -> bool {
+    match read_message(alloc, text) {
+        Ok(Request::Unsubscribe { key }) => is_key(&key),
+        _ => false,
+    }
+}
+
+#[test]
+fn subscriptions_are_read(rt: HostRuntime) -> Result<(), Fail> {
+    let alloc = rt.alloc();
+    assert!(rt; subscribes(alloc, r#"{"a":"s","c":"b","d":"1","v":3}"#, Some(3)));
+    assert!(rt; subscribes(alloc, r#"{"a":"s","c":"b","d":"1"}"#, None));
+    assert!(rt; unsubscribes(alloc, r#"{"a":"u","c":"b","d":"1"}"#));
+    Ok(())
+}
+
 // Texts, and what they bring, or the code that refuses them.
 const CONTENTS: [(&str, Result<&str, Code>); 9] = [
     (r#"{"del":true}"#, Ok("deleted")),
@@ -200,12 +243,12 @@ fn heard(alloc: Global, text: &str) -> Result<Result<u64, Code>, Fail> {
     Ok(number_of(&heard.request))
 }
 
-// A fetch has none.
+// The others have none.
 fn number_of(request: &Result<Request, Code>) -> Result<u64, Code> {
     match request {
         Ok(Request::Submit { seq, .. }) => Ok(*seq),
-        Ok(Request::Fetch { .. }) => Ok(0),
         Ok(Request::Snapshot { id, .. }) => Ok(*id),
+        Ok(_) => Ok(0),
         Err(code) => Err(*code),
     }
 }
@@ -277,6 +320,14 @@ fn an_opening_is_written(rt: HostRuntime) -> Result<(), Fail> {
     Ok(())
 }
 
+#[test]
+fn a_named_source_is_written(rt: HostRuntime) -> Result<(), Fail> {
+    let wanted =
+        r#"{"a":"hs","id":"me","protocol":1,"protocolMinor":1,"type":"http://sharejs.org/types/JSONv0"}"#;
+    assert!(rt; is_written(rt.alloc(), &Answer::Named { src: "me" }, wanted)?);
+    Ok(())
+}
+
 fn the_document<'a>(key: &'a Key, version: u64, document: Option<&'a Json>) -> Answer<'a> {
     Answer::Fetched {
         key,
@@ -311,13 +362,55 @@ fn the_end_of_a_list_is_written(rt: HostRuntime) -> Result<(), Fail> {
     Ok(())
 }
 
+// The answer to a subscriber at the version 2.
+fn at_two<'a>(key: &'a Key, document: Option<&'a Json>) -> Answer<'a> {
+    Answer::Subscribed {
+        key,
+        version: 2,
+        document,
+    }
+}
+
+#[test]
+fn a_document_is_written_to_a_subscriber(rt: HostRuntime) -> Result<(), Fail> {
+    let (key, document) = (key(rt.alloc())?, Json::Null);
+    let wanted = r#"{"a":"s","c":"b","d":"1","data":{"data":null,"v":2}}"#;
+    assert!(rt; is_written(rt.alloc(), &at_two(&key, Some(&document)), wanted)?);
+    Ok(())
+}
+
+#[test]
+fn a_subscriber_is_told(rt: HostRuntime) -> Result<(), Fail> {
+    let key = &key(rt.alloc())?;
+    let begun = r#"{"a":"s","c":"b","d":"1"}"#;
+    assert!(rt; is_written(rt.alloc(), &Answer::CaughtUp { key }, begun)?);
+    let ended = r#"{"a":"u","c":"b","d":"1"}"#;
+    assert!(rt; is_written(rt.alloc(), &Answer::Unsubscribed { key }, ended)?);
+    Ok(())
+}
+
 // Whether the message of an entry of the content is written as this text.
 fn is_sent(alloc: Global, content: Content, wanted: &str) -> Result<bool, Fail> {
+    let entry = entry(alloc, content)?;
     let message = Answer::OpMessage {
         key: &key(alloc)?,
-        entry: &entry(alloc, content)?,
+        entry: &entry,
+        content: entry.content(),
     };
     is_written(alloc, &message, wanted)
+}
+
+#[test]
+fn a_shown_content_is_written(rt: HostRuntime) -> Result<(), Fail> {
+    let created = Content::create(rt.alloc(), Json::Null)?;
+    let message = Answer::OpMessage {
+        key: &key(rt.alloc())?,
+        entry: &entry(rt.alloc(), created)?,
+        content: &Content::delete(),
+    };
+    let deleted = r#"{"a":"op","c":"b","d":"1","del":true,"seq":7,"src":"x","v":4}"#;
+    assert!(rt; is_written(rt.alloc(), &message, deleted)?);
+    Ok(())
 }
 
 #[test]
