@@ -6,7 +6,7 @@ use std::alloc::AllocError;
 
 /// Where a document is: a collection, and an id in it. Keys stand in the order of the bytes of the
 /// collection, then of the id.
-#[derive(PartialEq, Eq, PartialOrd, Ord, Debug, Drop)]
+#[derive(PartialEq, Eq, PartialOrd, Ord, Hash, Debug, Drop)]
 pub struct Key {
     pub collection: String,
     pub id: String,

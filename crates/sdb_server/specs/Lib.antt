@@ -1,3 +1,3 @@
-pub mod Dialogue
+pub mod Keyed
 pub mod Runs
-pub mod Told
+pub mod Source

@@ -1,8 +1,10 @@
 //! The command line, and what each of its answers ends with.
+use crate::projections::{Refusal, table_of};
 use crate::running::run_lines;
 use clap::error::ErrorKind;
 use clap::{Arg, ArgAction, Command, Error};
 use sdb_lines::{RunFault, WatchedReader, WatchedWriter};
+use sdb_projection::{Table, TableFault};
 use std::alloc::{AllocError, Global};
 use std::io;
 
@@ -20,15 +22,30 @@ fn command<'a>(alloc: Global) -> Result<Command<'a>, AllocError> {
         .long("lines")
         .help("Answers the lines of one session on standard input and output")
         .action(ArgAction::SetTrue);
+    let projection = Arg::new(alloc, "projection")
+        .long("projection")
+        .value_name("NAME=COLLECTION:FIELD,..")
+        .help("Shows these fields of a collection under another name")
+        .action(ArgAction::Append);
     Command::new(alloc, "sdb_server")
         .about("A ShareDB server for JSON documents")
-        .arg(lines)
+        .arg(lines)?
+        .arg(projection)
 }
 
-// Whether `--lines` is asked for.
-pub(crate) fn asks_lines(alloc: Global, words: &[String]) -> Result<bool, Error> {
+// What a command line asks for.
+#[derive(Drop)]
+pub(crate) struct Options {
+    pub lines: bool,
+    pub table: Result<Table, Refusal>,
+}
+
+pub(crate) fn options(alloc: Global, words: &[String]) -> Result<Options, Error> {
     let matches = command(alloc)?.try_get_matches_from(words)?;
-    Ok(matches.get_flag("lines"))
+    Ok(Options {
+        lines: matches.get_flag("lines"),
+        table: table_of(alloc, matches.get_strs("projection").unwrap_or(&[])),
+    })
 }
 
 // Does what the words ask for, and gives the status.
@@ -36,11 +53,26 @@ pub(crate) fn run<R>(rt: &R, words: &[String]) -> anyhow::Result<u8>
 where
     R: AllocGlobal + Input + Print + Eprint,
 {
-    match asks_lines(rt.alloc(), words) {
-        Ok(true) => Ok(answer_input(rt)),
-        Ok(false) => Ok(refuse(rt, "error: --lines is missing")?),
+    match options(rt.alloc(), words) {
+        Ok(Options { lines: false, .. }) => Ok(refuse(rt, "error: --lines is missing")?),
+        Ok(Options { table, .. }) => match table {
+            Ok(table) => Ok(answer_input(rt, &table)),
+            Err(refusal) => refuse_projections(rt, refusal),
+        },
         Err(error) => answer_no_run(rt, &error),
     }
+}
+
+// Says why the projections are refused. Want of memory is no refusal.
+pub(crate) fn refuse_projections<R>(rt: &R, refusal: Refusal) -> anyhow::Result<u8>
+where
+    R: AllocGlobal + Eprint,
+{
+    if refusal == Refusal::Table(TableFault::Memory) {
+        return Err(AllocError.into());
+    }
+    let text = format!(in rt.alloc(); "{refusal}")?;
+    Ok(refuse(rt, text.as_str())?)
 }
 
 // One line on standard error.
@@ -68,10 +100,10 @@ where
 }
 
 // Answers standard input.
-fn answer_input<R: AllocGlobal + Input + Print>(rt: &R) -> u8 {
+fn answer_input<R: AllocGlobal + Input + Print>(rt: &R, table: &Table) -> u8 {
     let mut reader = WatchedReader::new(rt.reader());
     let mut writer = WatchedWriter::new(io::writer(rt));
-    match run_lines(rt.alloc(), &mut reader, &mut writer) {
+    match run_lines(rt.alloc(), table, &mut reader, &mut writer) {
         Ok(_) => DONE,
         Err(fault) => end_with(rt, fault),
     }

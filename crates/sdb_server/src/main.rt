@@ -1,8 +1,8 @@
 //! The server: `sdb_server --lines` answers the lines of one session on standard input and output.
 #![tactic(auto)]
 
-mod answering;
 mod command;
+mod projections;
 mod running;
 #[cfg(test)]
 mod tests;

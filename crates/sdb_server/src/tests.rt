@@ -1,7 +1,11 @@
 //! Whole runs: worked rows, command lines, and streams that fail.
-use crate::command::{DONE, FAULT, REFUSED, answer_no_run, asks_lines, end_with, refuse};
+use crate::command::{
+    DONE, FAULT, REFUSED, answer_no_run, end_with, options, refuse, refuse_projections,
+};
+use crate::projections::{Refusal, table_of};
 use crate::running::run_lines;
 use sdb_lines::{RunFault, WatchedReader, WatchedWriter};
+use sdb_projection::{Projection, Table, TableFault};
 use std::alloc::{AllocError, Global};
 use std::cell::RefCell;
 use std::fmt::{Display, Write};
@@ -20,7 +24,7 @@ struct Row {
     answers: &'static str,
 }
 
-const ROWS: [Row; 15] = [
+const ROWS: [Row; 18] = [
     Row {
         name: "absent",
         lines: r#"{"a":"f","c":"b","d":"1"}
@@ -248,13 +252,82 @@ const ROWS: [Row; 15] = [
 {"a":"op","c":"b","d":"1","error":{"code":"ERR_MESSAGE_BADLY_FORMED","message":"message is badly formed"},"seq":1,"src":"x"}
 "#,
     },
+    Row {
+        name: "handshake",
+        lines: r#"{"a":"hs","id":"q","protocol":1}
+"#,
+        answers: r#"{"a":"hs","id":"q","protocol":1,"protocolMinor":1,"type":"http://sharejs.org/types/JSONv0"}
+"#,
+    },
+    Row {
+        name: "subscription",
+        lines: r#"{"a":"op","c":"b","d":"1","v":null,"src":"x","seq":1,"create":{"type":"http://sharejs.org/types/JSONv0","data":{"n":1}}}
+{"a":"s","c":"b","d":"1","v":null}
+{"a":"op","c":"b","d":"1","v":1,"src":"y","seq":1,"op":[{"p":["n"],"na":1}]}
+{"a":"op","c":"b","d":"1","v":2,"seq":1,"op":[]}
+"#,
+        answers: r#"{"a":"op","c":"b","d":"1","seq":1,"src":"x","v":0}
+{"a":"s","c":"b","d":"1","data":{"data":{"n":1},"v":1}}
+{"a":"op","c":"b","d":"1","seq":1,"src":"y","v":1}
+{"a":"op","c":"b","d":"1","op":[{"na":1,"p":["n"]}],"seq":1,"src":"y","v":1}
+{"a":"op","c":"b","d":"1","seq":1,"src":"s1","v":2}
+"#,
+    },
+    Row {
+        name: "subscribe-from",
+        lines: r#"{"a":"op","c":"b","d":"1","v":null,"src":"x","seq":1,"create":{"type":"http://sharejs.org/types/JSONv0","data":{"n":1}}}
+{"a":"s","c":"b","d":"1","v":0}
+"#,
+        answers: r#"{"a":"op","c":"b","d":"1","seq":1,"src":"x","v":0}
+{"a":"op","c":"b","create":{"data":{"n":1},"type":"http://sharejs.org/types/JSONv0"},"d":"1","seq":1,"src":"x","v":0}
+{"a":"s","c":"b","d":"1"}
+"#,
+    },
 ];
 
-// What is written for the input.
-fn written(alloc: Global, input: &'static [u8]) -> Result<Vec<u8>, Fail> {
+// Runs with the projection `t=b:title`.
+const PROJECTED: [Row; 2] = [
+    Row {
+        name: "projection",
+        lines: r#"{"a":"op","c":"b","d":"16","src":"x","seq":1,"create":{"type":"http://sharejs.org/types/JSONv0","data":{"n":1,"title":"q"}}}
+{"a":"s","c":"t","d":"16"}
+{"a":"op","c":"t","d":"16","v":1,"src":"x","seq":2,"op":[{"p":["n"],"na":1}]}
+{"a":"op","c":"b","d":"16","v":1,"src":"x","seq":3,"op":[{"p":["n"],"na":1}]}
+"#,
+        answers: r#"{"a":"op","c":"b","d":"16","seq":1,"src":"x","v":0}
+{"a":"s","c":"t","d":"16","data":{"data":{"title":"q"},"v":1}}
+{"a":"op","c":"t","d":"16","error":{"code":"ERR_OP_NOT_ALLOWED_IN_PROJECTION","message":"operation is not allowed in the projection"},"seq":2,"src":"x"}
+{"a":"op","c":"b","d":"16","seq":3,"src":"x","v":1}
+{"a":"op","c":"t","d":"16","op":[],"seq":3,"src":"x","v":1}
+"#,
+    },
+    Row {
+        name: "projection-own",
+        lines: r#"{"a":"op","c":"b","d":"16","src":"x","seq":1,"create":{"type":"http://sharejs.org/types/JSONv0","data":{"n":1,"title":"q"}}}
+{"a":"s","c":"t","d":"16"}
+{"a":"op","c":"t","d":"16","v":1,"src":"x","seq":2,"op":[{"p":["n"],"na":1}]}
+{"a":"op","c":"b","d":"16","v":1,"src":"x","seq":3,"op":[{"p":["n"],"na":1}]}
+{"a":"op","c":"b","d":"16","v":2,"seq":1,"op":[{"p":["title",0],"si":"a"}]}
+{"a":"op","c":"t","d":"16","v":3,"seq":2,"op":[]}
+"#,
+        answers: r#"{"a":"op","c":"b","d":"16","seq":1,"src":"x","v":0}
+{"a":"s","c":"t","d":"16","data":{"data":{"title":"q"},"v":1}}
+{"a":"op","c":"t","d":"16","error":{"code":"ERR_OP_NOT_ALLOWED_IN_PROJECTION","message":"operation is not allowed in the projection"},"seq":2,"src":"x"}
+{"a":"op","c":"b","d":"16","seq":3,"src":"x","v":1}
+{"a":"op","c":"t","d":"16","op":[],"seq":3,"src":"x","v":1}
+{"a":"op","c":"b","d":"16","seq":1,"src":"s1","v":2}
+{"a":"op","c":"t","d":"16","op":[{"p":["title",0],"si":"a"}],"seq":1,"src":"s1","v":2}
+{"a":"op","c":"t","d":"16","seq":2,"src":"s1","v":3}
+"#,
+    },
+];
+
+// What is written for the input, seen through the projections.
+fn written(alloc: Global, projections: &[&str], input: &[u8]) -> Result<Vec<u8>, Fail> {
+    let table = table_of(alloc, projections)?;
     let mut reader = WatchedReader::new(input);
     let mut writer = WatchedWriter::new(Vec::new(alloc));
-    match run_lines(alloc, &mut reader, &mut writer) {
+    match run_lines(alloc, &table, &mut reader, &mut writer) {
         Ok(_) => Ok(writer.stream),
         Err(_) => Err("a fault".into()),
     }
@@ -266,18 +339,64 @@ fn whole(alloc: Global, answers: &str) -> Result<String, AllocError> {
     Ok(text)
 }
 
+// Whether the lines of the row are answered by its answers.
+fn is_answered(alloc: Global, projections: &[&str], row: &Row) -> Result<bool, Fail> {
+    let wanted = whole(alloc, row.answers)?;
+    let written = written(alloc, projections, row.lines.as_bytes())?;
+    Ok(written.as_slice() == wanted.as_bytes())
+}
+
 #[test]
 fn worked_rows(rt: HostRuntime) -> Result<(), Fail> {
-    let alloc = rt.alloc();
     for row in &ROWS {
-        let wanted = whole(alloc, row.answers)?;
         let name = row.name;
-        assert_eq!(rt;
-            written(alloc, row.lines.as_bytes())?.as_slice(),
-            wanted.as_bytes(),
-            "{name}"
-        );
+        assert!(rt; is_answered(rt.alloc(), &[], row)?, "{name}");
     }
+    Ok(())
+}
+
+#[test]
+fn worked_rows_of_a_projection(rt: HostRuntime) -> Result<(), Fail> {
+    for row in &PROJECTED {
+        let name = row.name;
+        assert!(rt; is_answered(rt.alloc(), &["t=b:title"], row)?, "{name}");
+    }
+    Ok(())
+}
+
+// Subscribes to 64 documents, to one more from above its version and from its version, again to the
+// first, and lets go of the last.
+fn subscribing(alloc: Global) -> Result<String, AllocError> {
+    let mut lines = String::new(alloc);
+    for number in 0..64 {
+        let line = format!(in alloc; r#"{{"a":"s","c":"b","d":"k{number}"}}"#)?;
+        lines.push_str(line.as_str())?;
+        lines.push('\n')?;
+    }
+    lines.push_str(LIMIT_LINES)?;
+    Ok(lines)
+}
+
+const LIMIT_LINES: &str = r#"{"a":"s","c":"b","d":"more","v":1}
+{"a":"s","c":"b","d":"more"}
+{"a":"s","c":"b","d":"k0"}
+{"a":"u","c":"b","d":"k0"}
+{"a":"s","c":"b","d":"more"}
+"#;
+
+const LIMIT_ANSWERS: &str = r#"{"a":"s","c":"b","d":"k63","data":{"type":null,"v":0}}
+{"a":"s","c":"b","d":"more","error":{"code":"ERR_OP_VERSION_NEWER_THAN_CURRENT_SNAPSHOT","message":"version is newer than the current snapshot"}}
+{"a":"s","c":"b","d":"more","error":{"code":"ERR_LIMIT","message":"limit reached"}}
+{"a":"s","c":"b","d":"k0","data":{"type":null,"v":0}}
+{"a":"u","c":"b","d":"k0"}
+{"a":"s","c":"b","d":"more","data":{"type":null,"v":0}}
+"#;
+
+#[test]
+fn at_most_64_subscriptions(rt: HostRuntime) -> Result<(), Fail> {
+    let lines = subscribing(rt.alloc())?;
+    let written = written(rt.alloc(), &[], lines.as_bytes())?;
+    assert!(rt; written.as_slice().ends_with(LIMIT_ANSWERS.as_bytes()));
     Ok(())
 }
 
@@ -375,10 +494,54 @@ fn a_refusal_is_one_line_on_standard_error(rt: HostRuntime) -> Result<(), Fail> 
 #[test]
 fn command_lines(rt: HostRuntime) -> Result<(), Fail> {
     let alloc = rt.alloc();
-    let given = words(alloc, "sdb_server --lines")?;
-    assert!(rt; matches!(asks_lines(alloc, given.as_slice()), Ok(true)));
-    let bare = words(alloc, "sdb_server")?;
-    assert!(rt; matches!(asks_lines(alloc, bare.as_slice()), Ok(false)));
+    let given = words(
+        alloc,
+        "sdb_server --lines --projection t=b:title,,n --projection u=c:x",
+    )?;
+    let Ok(asked) = options(alloc, given.as_slice()) else {
+        return Err("refused".into());
+    };
+    assert!(rt; asked.lines);
+    let table = asked.table?;
+    let fields = table
+        .find("t")
+        .map_or(0, |projection: &Projection| -> usize {
+            projection.fields.len()
+        });
+    assert!(rt; fields == 2);
+    assert!(rt; table.find("u").is_some());
+    Ok(())
+}
+
+#[test]
+fn projections_that_are_refused(rt: HostRuntime) -> Result<(), Fail> {
+    let alloc = rt.alloc();
+    let long = String::from_utf8(vec![in alloc; b'n'; 201]?).or(Err("not UTF-8"))?;
+    let long = format!(in alloc; "{long}=b:x")?;
+    for (text, refusal) in [
+        ("t", Refusal::Form),
+        ("t=b", Refusal::Form),
+        ("t:b=x", Refusal::Form),
+        ("=b:x", Refusal::Name),
+        ("t=:x", Refusal::Name),
+        (long.as_str(), Refusal::Name),
+        ("t=b:,", Refusal::Table(TableFault::NoField)),
+    ] {
+        assert!(rt;
+            matches!(table_of(alloc, &[text]), Err(r) if r == refusal),
+            "{text}"
+        );
+    }
+    Ok(())
+}
+
+#[test]
+fn a_refused_projection_is_one_line_on_standard_error(rt: HostRuntime) -> Result<(), Fail> {
+    let terminal = Terminal::new(rt.alloc());
+    assert!(rt; refuse_projections(&terminal, Refusal::Form)? == REFUSED);
+    assert!(rt;
+        terminal.err.into_inner().as_str() == "error: a projection is NAME=COLLECTION:FIELD,..\n"
+    );
     Ok(())
 }
 
@@ -392,7 +555,7 @@ fn a_command_line_that_asks_for_no_run(rt: HostRuntime) -> Result<(), Fail> {
     ] {
         let given = words(alloc, line)?;
         let terminal = Terminal::new(alloc);
-        let ended = match asks_lines(alloc, given.as_slice()) {
+        let ended = match options(alloc, given.as_slice()) {
             Ok(_) => None,
             Err(error) => answer_no_run(&terminal, &error).ok(),
         };
@@ -433,7 +596,12 @@ fn a_writer_that_fails(rt: HostRuntime) {
     for calls in 0..20 {
         let mut reader = WatchedReader::new(r#"{"a":"f","c":"b","d":"1"}"#.as_bytes());
         let mut writer = WatchedWriter::new(Failing { calls });
-        let ended = run_lines(rt.alloc(), &mut reader, &mut writer);
+        let ended = run_lines(
+            rt.alloc(),
+            &Table::new(rt.alloc()),
+            &mut reader,
+            &mut writer,
+        );
         assert!(rt; matches!(ended, Err(RunFault::Write)), "after {calls}");
     }
 }

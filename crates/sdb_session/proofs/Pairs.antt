@@ -1,0 +1,59 @@
+-- The place of a pair among the subscriptions.
+use Rattle.std.proofs.Common.{◌≡◌, List, [], ◌∷◌, map, length, Bool, true, false, cond, not, ◌&&◌, nat_lt, Option, Some, None, option_map, Result, Ok, Err, OnOk, refl, sym, ap, ◌∙◌}
+use Rattle.std.specs.Result.{IsOk}
+use Rattle.std.specs.Map.{lookup, remove_entry}
+use Rattle.std.specs.Borrow.{Bor}
+use Rattle.std.specs.Option.{is_some, option_copied}
+use Rattle.indexmap.specs.IndexMap.{insert_entry}
+use Rattle.sdb_oplog.specs.Keys.{PlainKey, plain_key}
+use Rattle.sdb_oplog.specs.declared.keys.Key.{Key}
+use Rattle.sdb_session.specs.Sessions.{PlainSub, QueueId, same_pair, queue_of, put, without_pair}
+use Rattle.sdb_session.specs.Told.{plain_queue, plain_sub}
+use Rattle.sdb_session.specs.declared.joining.Subscription.{Subscription}
+
+abbrev Entries : Type 0
+Entries = List (Key × Subscription)
+
+abbrev pub pair_eq : Key → Key → Bool
+pair_eq a b = same_pair (plain_key a) (plain_key b)
+
+put_if : (b : Bool) (e : Key × Subscription) (es rest : Entries) (q : Subscription) (subs : List PlainSub) → map plain_sub rest ≡ subs
+    → map plain_sub (cond b ((e.0, q) ∷ es) (e ∷ rest)) ≡ cond b (record { key = plain_key e.0; queue = plain_queue q } ∷ map plain_sub es) (plain_sub e ∷ subs)
+put_if true e es rest q subs h = refl
+put_if false e es rest q subs h = ap (λ l. plain_sub e ∷ l) h
+
+pub put_entry : (es : Entries) (k : Key) (q : Subscription) → map plain_sub (insert_entry pair_eq es k q) ≡ put (plain_key k) (plain_queue q) (map plain_sub es)
+put_entry [] k q = refl
+put_entry (e ∷ es) k q = put_if (pair_eq k e.0) e es (insert_entry pair_eq es k q) q (put (plain_key k) (plain_queue q) (map plain_sub es)) (put_entry es k q)
+
+without_if : (b : Bool) (e : Key × Subscription) (es rest : Entries) (subs : List PlainSub) → map plain_sub rest ≡ subs → map plain_sub (cond b es (e ∷ rest)) ≡ cond b (map plain_sub es) (plain_sub e ∷ subs)
+without_if true e es rest subs h = refl
+without_if false e es rest subs h = ap (λ l. plain_sub e ∷ l) h
+
+pub without_entry : (es : Entries) (k : Key) → map plain_sub (remove_entry (pair_eq k) es) ≡ without_pair (plain_key k) (map plain_sub es)
+without_entry [] k = refl
+without_entry (e ∷ es) k = without_if (pair_eq k e.0) e es (remove_entry (pair_eq k) es) (without_pair (plain_key k) (map plain_sub es)) (without_entry es k)
+
+queue_if : (b : Bool) (q : Subscription) (o : Option Subscription) (p : Option QueueId) → option_map plain_queue o ≡ p → option_map plain_queue (cond b (Some q) o) ≡ cond b (Some (plain_queue q)) p
+queue_if true q o p h = refl
+queue_if false q o p h = h
+
+pub queue_entry : (es : Entries) (k : Key) → option_map plain_queue (lookup (pair_eq k) es) ≡ queue_of (plain_key k) (map plain_sub es)
+queue_entry [] k = refl
+queue_entry (e ∷ es) k = queue_if (pair_eq k e.0) e.1 (lookup (pair_eq k) es) (queue_of (plain_key k) (map plain_sub es)) (queue_entry es k)
+
+some_mapped : (o : Option Subscription) → is_some (option_map plain_queue o) ≡ is_some o
+some_mapped None = refl
+some_mapped (Some q) = refl
+
+-- whether a pair is there
+pub is_there : (es : Entries) (k : Key) → is_some (queue_of (plain_key k) (map plain_sub es)) ≡ is_some (lookup (pair_eq k) es)
+is_there es k = ap is_some (sym (queue_entry es k)) ∙ some_mapped (lookup (pair_eq k) es)
+
+pub from_ok : {A E P : Type 0} (r : Result A E) → IsOk r → OnOk r P → P
+from_ok (Ok x) h p = p
+from_ok (Err e) h p = cc
+
+pub copied : (o : Option (Bor Subscription)) → option_map (λ s. plain_queue s.now) o ≡ option_map plain_queue (option_copied o)
+copied None = refl
+copied (Some s) = refl

@@ -1,0 +1,27 @@
+use Rattle.std.proofs.Common.{◌≡◌, ◌++◌, [], ◌∷◌, map, refl, sym, ap, ◌∙◌, append_assoc}
+use Rattle.sdb_oplog.specs.declared.keys.Key.{Key}
+use Rattle.sdb_session.specs.Told.{plain_sub}
+use Rattle.sdb_session.specs.declared.joining.Subscription.{Subscription}
+use Rattle.sdb_session.proofs.Taking.{closed_more, closed_none}
+use Rattle.sdb_session.proofs.session.Session.end.Goals as goal
+
+pub loop-queue-init : goal.loop-queue-init
+loop-queue-init g c = record {
+  takes = c.requires.takes;
+  number = refl;
+  so_far = ([], (ap (map plain_sub) (c.into_iter-queue-iterator.ensures.into_iter_gives ∙ c.iter-queue-items.ensures.rest), closed_none (g.D.Desk.acts c.args.desk.now) c.args.pass.now));
+}
+
+pub loop-queue-preserved : goal.loop-queue-preserved
+loop-queue-preserved g c =
+    let far = c.loop-queue.invariant.so_far in
+    let e : Key × Subscription = (c.in-Some.field-0-0.now, c.in-Some.queue.now) in
+    let rest = c.next.new.self in
+    record {
+      takes = c.unsubscribe.ensures.takes;
+      number = c.unsubscribe.ensures.number ∙ c.loop-queue.invariant.number;
+      so_far = (far.0 ++ plain_sub e ∷ [], (
+        append_assoc far.0 (plain_sub e ∷ []) (map plain_sub rest) ∙ ap (λ es. far.0 ++ map plain_sub es) (sym c.in-Some.ensures.steps) ∙ far.1.0,
+        closed_more (g.D.Desk.acts c.args.desk.now) far.0 (plain_sub e) c.args.pass.now c.loop-queue.pass c.unsubscribe.new.pass far.1.1 c.unsubscribe.ensures.acts,
+      ));
+    }

@@ -1,0 +1,99 @@
+//! Queues that are opened and closed.
+ghost use Rattle.std.specs.Prelude.{◌≡◌, ⊤, Ok, Err, option_map, Option, List, Result};
+ghost use Rattle.sdb_oplog.specs.Keys.{plain_key};
+ghost use Rattle.sdb_session.specs.Told.{plain_queue, told_came, told_joined};
+ghost use Rattle.sdb_session.specs.Turns.{behind, came, Closes, Joins};
+ghost use Rattle.sdb_submit.specs.Calls.{take_next};
+
+use sdb_desk::Subscribed;
+use sdb_oplog::{Code, Entry, Key};
+use sdb_submit::Desk;
+use sdb_subscribe::SubId;
+use std::alloc::{AllocError, Global};
+
+// A queue: the key of its document, and its number there.
+#[derive(Drop)]
+pub(crate) struct Subscription {
+    pub base: Key,
+    pub id: SubId,
+}
+
+// A queue that was opened, and its first entries, up to the version that was present then.
+#[derive(Drop)]
+pub(crate) struct Joined {
+    pub opened: Subscribed,
+    pub first: Vec<Entry>,
+}
+
+// Closes the queue, if there is one.
+pub(crate) fn close<D: Desk>(desk: &D, pass: &mut D::Pass, queue: Option<&Subscription>)
+    requires takes { D.takes desk.now pass.old }
+    ensures takes { D.takes desk.now pass.new }
+    ensures number { D.number desk.now pass.new ≡ D.number desk.now pass.old }
+    ensures closes { Closes (D.acts desk.now) (option_map (λ s. plain_queue s.now) queue.entry) pass.old pass.new }
+{
+    if let Some(queue) = queue {
+        desk.unsubscribe(pass, &queue.base, queue.id);
+    }
+}
+
+// The next entries of a queue, at most `max`; none of one that isn't known.
+pub(crate) fn take<D: Desk>(
+    alloc: Global,
+    desk: &D,
+    pass: &mut D::Pass,
+    base: &Key,
+    id: SubId,
+    max: u64,
+) -> Result<Vec<Entry>, AllocError>
+    requires takes { D.takes desk.now pass.old }
+    ensures takes { D.takes desk.now pass.new }
+    ensures number { D.number desk.now pass.new ≡ D.number desk.now pass.old }
+    ensures acts { (a : Option (Option (List _))) × (D.acts desk.now (plain_key base.now) (take_next id max) pass.old a pass.new × (came a ≡ told_came result)) }
+{
+    match desk.take(pass, base, id, max) {
+        Ok(Some(entries)) => Ok(entries),
+        Ok(None) => Ok(Vec::new(alloc)),
+        Err(AllocError) => Err(AllocError),
+    }
+}
+
+// How many entries there are from the version that was asked for up to the present one.
+fn first_count(version: Option<u64>, present: u64) -> u64
+    ensures { result ≡ behind version present }
+{
+    match version {
+        Some(version) => present.saturating_sub(version),
+        None => 0,
+    }
+}
+
+// Opens a queue, takes its first entries up to the present version, and closes the old queue. Where the
+// take finds no memory, the new queue is closed again.
+pub(crate) fn join<D: Desk>(
+    alloc: Global,
+    desk: &D,
+    pass: &mut D::Pass,
+    base: &Key,
+    version: Option<u64>,
+    old: Option<&Subscription>,
+) -> Result<Joined, Code>
+    requires takes { D.takes desk.now pass.old }
+    ensures takes { D.takes desk.now pass.new }
+    ensures number { D.number desk.now pass.new ≡ D.number desk.now pass.old }
+    ensures joins { Joins (D.acts desk.now) (plain_key base.now) version
+        (option_map (λ s. plain_queue s.now) old.entry) pass.old (told_joined result) pass.new }
+{
+    let opened = desk.subscribe(pass, base, version)?;
+    let max = first_count(version, opened.version);
+    match take(alloc, desk, pass, base, opened.id, max) {
+        Ok(first) => {
+            close(desk, pass, old);
+            Ok(Joined { opened, first })
+        }
+        Err(_) => {
+            desk.unsubscribe(pass, base, opened.id);
+            Err(Code::E10)
+        }
+    }
+}

@@ -1,0 +1,154 @@
+//! Pumps: what waits in the queues of a session.
+ghost use Rattle.std.specs.Prelude.{◌≡◌, ⊤, ℕ, IfOk, OnOk, OnErr, length, map, string_bytes, true};
+ghost use Rattle.std.specs.Result.{is_err};
+ghost use Rattle.sdb_oplog.specs.Keys.{plain_key};
+ghost use Rattle.sdb_session.specs.Pumping.{is_own, others, Closed, Pumps, Stops};
+ghost use Rattle.sdb_session.specs.Seen.{through};
+ghost use Rattle.sdb_session.specs.Told.{plain_session, Wrote};
+ghost use Rattle.sdb_session.specs.Turns.{messages};
+ghost use Rattle.sdb_wire.specs.Answers.{answer_text};
+
+use crate::joining::take;
+use crate::page::Page;
+use crate::saying::say_entry;
+use crate::session::{Ended, Session};
+use sdb_oplog::{Entry, Key};
+use sdb_projection::Table;
+use sdb_submit::Desk;
+use std::alloc::AllocError;
+
+/// How many entries were taken, and the texts that are sent of them.
+#[derive(Drop)]
+pub struct Pumped {
+    pub taken: u128,
+    pub texts: Vec<String>,
+}
+
+impl Session {
+    /// The texts of what was stored meanwhile; see [`Session::pump_to`].
+    pub fn pump<D: Desk>(
+        &mut self,
+        desk: &D,
+        pass: &mut D::Pass,
+        table: &Table,
+        max: u64,
+    ) -> Result<Pumped, Ended>
+        requires takes { D.takes desk.now pass.old }
+        ensures takes { D.takes desk.now pass.new }
+        ensures number { D.number desk.now pass.new ≡ D.number desk.now pass.old }
+        ensures session { plain_session self.new ≡ plain_session self.old }
+        ensures ended { self.new.ended ≡ is_err result }
+        ensures again { self.old.ended ≡ true → is_err result ≡ true }
+        ensures pumps { IfOk result (λ r. Pumps (D.acts desk.now) max table.now (plain_session self.old) pass.old r.taken
+            (λ answers. map string_bytes r.texts.items ≡ map answer_text answers) pass.new) }
+        ensures stops { OnErr result (Stops (D.acts desk.now) max (plain_session self.old) pass.old pass.new) }
+    {
+        let mut texts = Vec::new(self.alloc);
+        match self.pump_to(desk, pass, table, max, &mut texts) {
+            Ok(taken) => Ok(Pumped { taken, texts }),
+            Err(ended) => Err(ended),
+        }
+    }
+
+    /// Takes at most `max` entries of each queue, in the order of subscribing, and writes those that
+    /// aren't the session's own: whose source is not its source, or that came through another collection
+    /// name. It says how many entries were taken.
+    ///
+    /// Where nothing waits it takes no memory. After want of memory the session is [`Ended`], and nothing
+    /// is said of `out`.
+    pub fn pump_to<D: Desk, O: Page>(
+        &mut self,
+        desk: &D,
+        pass: &mut D::Pass,
+        table: &Table,
+        max: u64,
+        out: &mut O,
+    ) -> Result<u128, Ended>
+        requires takes { D.takes desk.now pass.old }
+        ensures takes { D.takes desk.now pass.new }
+        ensures number { D.number desk.now pass.new ≡ D.number desk.now pass.old }
+        ensures session { plain_session self.new ≡ plain_session self.old }
+        ensures ended { self.new.ended ≡ is_err result }
+        ensures again { self.old.ended ≡ true → is_err result ≡ true }
+        ensures pumps { IfOk result (λ taken. Pumps (D.acts desk.now) max table.now (plain_session self.old) pass.old taken
+            (Wrote O.pieces (O.written out.old) (O.written out.new)) pass.new) }
+        // After an error the first queues were taken from.
+        ensures stops { OnErr result (Stops (D.acts desk.now) max (plain_session self.old) pass.old pass.new) }
+    {
+        if self.ended {
+            return Err(Ended);
+        }
+        match self.take_all(desk, pass, table, max, out) {
+            Ok(taken) => Ok(taken),
+            Err(_) => {
+                self.ended = true;
+                Err(Ended)
+            }
+        }
+    }
+
+    fn take_all<D: Desk, O: Page>(
+        &self,
+        desk: &D,
+        pass: &mut D::Pass,
+        table: &Table,
+        max: u64,
+        out: &mut O,
+    ) -> Result<u128, AllocError>
+        requires takes { D.takes desk.now pass.old }
+        ensures takes { D.takes desk.now pass.new }
+        ensures number { D.number desk.now pass.new ≡ D.number desk.now pass.old }
+        ensures pumps { IfOk result (λ taken. Pumps (D.acts desk.now) max table.now (plain_session self.now) pass.old taken
+            (Wrote O.pieces (O.written out.old) (O.written out.new)) pass.new) }
+        ensures stops { OnErr result (Stops (D.acts desk.now) max (plain_session self.now) pass.old pass.new) }
+    {
+        let mut taken: u128 = 0;
+        for (key, queue) in self.subscriptions.iter() {
+            let entries = take(self.alloc, desk, pass, &queue.base, queue.id, max)?;
+            taken += entries.len() as u128;
+            self.say_others(table, key, entries.as_slice(), out)?;
+        }
+        Ok(taken)
+    }
+
+    // Writes the entries that aren't the session's own.
+    fn say_others<O: Page>(
+        &self,
+        table: &Table,
+        key: &Key,
+        entries: &[Entry],
+        out: &mut O,
+    ) -> Result<(), AllocError>
+        ensures { OnOk result (Wrote O.pieces (O.written out.old) (O.written out.new)
+            (messages (through table.now (plain_key key.now)) (plain_key key.now)
+            (others (plain_session self.now).source (plain_key key.now) entries.now))) }
+    {
+        let projection = table.find(key.collection.as_str());
+        for entry in entries {
+            if !self.is_own(key, entry) {
+                say_entry(self.alloc, projection, key, entry, out)?;
+            }
+        }
+        Ok(())
+    }
+
+    // Whether the entry is of the session's source and came through this collection name.
+    fn is_own(&self, key: &Key, entry: &Entry) -> bool
+        ensures { result ≡ is_own (plain_session self.now).source (plain_key key.now) entry.now }
+    {
+        let arrived = entry.arrived();
+        arrived.src() == self.source.as_str() && arrived.via() == key.collection.as_str()
+    }
+
+    /// Ends the session: closes its queues. It takes no memory.
+    pub fn end<D: Desk>(self, desk: &D, pass: &mut D::Pass)
+        requires takes { D.takes desk.now pass.old }
+        ensures takes { D.takes desk.now pass.new }
+        ensures number { D.number desk.now pass.new ≡ D.number desk.now pass.old }
+        ensures closed { Closed (D.acts desk.now) (plain_session self).subs pass.old pass.new }
+    {
+        for (_, queue) in self.subscriptions.iter() {
+            desk.unsubscribe(pass, &queue.base, queue.id);
+        }
+    }
+}
