@@ -1,14 +1,16 @@
 //! `sdb_submit`: tries that are counted, and a desk at which others store too.
 ghost use Rattle.std.specs.Prelude.{◌≡◌, ℕ, ⊤, IfOk};
 ghost use Rattle.sdb_oplog.specs.Keys.{Logs};
-ghost use Rattle.sdb_desk.specs.Keyed.{logs_of};
+ghost use Rattle.sdb_desk.specs.Keyed.{machine_of};
+ghost use Rattle.sdb_desk.specs.Machine.{Queued};
 ghost use Rattle.sdb_submit.specs.Calls.{Acts};
 
 use crate::desk::{editing, number, stored, whole};
 use sdb_component::{Act, Component};
-use sdb_desk::{Attempt, Fetched, Look, Outcome, Reply, Shard, Work};
+use sdb_desk::{Attempt, Fetched, Look, Outcome, Reply, Shard, Subscribed, Work};
 use sdb_oplog::{Code, Content, Entry, Key, Submission};
 use sdb_submit::{Desk, Gate, NoGate, Solo, submit, submit_solo, work};
+use sdb_subscribe::SubId;
 use sdb_value::{Json, Step};
 use std::alloc::{AllocError, Global};
 use std::cell::Cell;
@@ -54,8 +56,9 @@ impl Desk for Meddling {
 
     ghost number = { λ d p. 0 };
 
-    // as the machine, at some logs
-    ghost acts = { λ d k c p a q. (h : Logs) × Acts h k c a (logs_of q.shard) };
+    // as the machine, at some logs and queues
+    ghost acts = { λ d k c p a q.
+        (l : Logs) × ((n : Queued) × Acts (record { logs = l; queues = n }) k c a (machine_of q.shard)) };
 
     fn look(
         &self,
@@ -96,6 +99,29 @@ impl Desk for Meddling {
 
     fn forget(&self, pass: &mut Shared, key: &Key) {
         pass.shard.forget(key)
+    }
+
+    fn subscribe(
+        &self,
+        pass: &mut Shared,
+        key: &Key,
+        version: Option<u64>,
+    ) -> Result<Subscribed, Code> {
+        pass.shard.subscribe(key, version)
+    }
+
+    fn take(
+        &self,
+        pass: &mut Shared,
+        key: &Key,
+        id: SubId,
+        max: u64,
+    ) -> Result<Option<Vec<Entry>>, AllocError> {
+        pass.shard.take(key, id, max)
+    }
+
+    fn unsubscribe(&self, pass: &mut Shared, key: &Key, id: SubId) {
+        pass.shard.unsubscribe(key, id)
     }
 
     fn by(&self, _pass: &Shared) -> u64 {
