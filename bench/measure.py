@@ -18,9 +18,9 @@ def timed(command, path):
         return time.perf_counter() - start
 
 
-def compare(title, script, lines):
+def compare(title, script, lines, *more):
     with tempfile.NamedTemporaryFile("w", suffix=".lines") as made:
-        subprocess.run([sys.executable, os.path.join(HERE, script), str(lines)], stdout=made, check=True)
+        subprocess.run([sys.executable, os.path.join(HERE, script), str(lines), *map(str, more)], stdout=made, check=True)
         made.flush()
         size = os.path.getsize(made.name)
         plain = server = float("inf")
@@ -74,10 +74,20 @@ def snapshots():
     print(f"  at a random one of the last 1,000: {near * 1e6:.1f} microseconds, at a random one of all: {far * 1e3:.1f} milliseconds")
 
 
+def subscriptions():
+    lines = 100_000
+    for subscribed in (0, 64):
+        compare(f"64 documents, {subscribed} of them subscribed to", "subscriptions.py", lines, subscribed, 0)
+    for subscribed in (0, 64):
+        idle = server_over(5, "subscriptions.py", 0, subscribed, lines)[0] - server_over(5, "subscriptions.py", 0, subscribed, 0)[0]
+        print(f"a line after which nothing waits in {subscribed} subscriptions: {idle / lines * 1e6:.2f} microseconds")
+
+
 def main():
     compare("1,000 documents", "lines.py", 100_000)
     compare("one text, 8 sources up to 8 versions behind", "trace.py", 100_000)
     compare("one number", "counts.py", 100_000)
+    subscriptions()
     long_logs()
     pairs()
     snapshots()

@@ -1,9 +1,12 @@
 -- Lines of the dialogue, from what a session's calls write.
-use Rattle.std.proofs.Common.{◌≡◌, ℕ, List, [], ◌∷◌, ◌++◌, Option, Some, None, Result, Ok, Err, OnOk, OnErr, refl, sym, ap, ◌∙◌, subst, append_assoc}
+use Rattle.std.proofs.Common.{◌≡◌, ℕ, List, [], ◌∷◌, ◌++◌, Option, Some, None, Result, Ok, Err, OnOk, OnErr, refl, sym, ap, ◌∙◌, subst, append_assoc, append-nil, IfSome}
 use Rattle.std.specs.Io.KnownBytes.{Appends}
 use Rattle.sdb_lines.specs.Told.{AppendsFront}
 use Rattle.sdb_lines.specs.Runs.{GrewBy, Run, Answers, AnswersFront}
+use Rattle.sdb_oplog.specs.Keys.{no_logs}
+use Rattle.sdb_desk.specs.Machine.{Machine, no_queues}
 use Rattle.sdb_projection.specs.Table.{PlainProjection}
+use Rattle.sdb_session.specs.Sessions.{PlainSession}
 use Rattle.sdb_wire.specs.Answers.{PlainAnswer, failed}
 use Rattle.sdb_session.specs.Dialogue.{Room, Said, Mark, enough, handled, pumped, told, Dialogue, opening, first_room}
 use Rattle.sdb_session.specs.Shown.{shown, line_of}
@@ -36,6 +39,19 @@ line_told t m mid last w line old between new e is f after =
     let g : new ≡ between ++ shown (pumped t h.room).answers = f ∙ ap (λ x. between ++ shown (pumped t x).answers) is in
     let all : new ≡ old ++ shown (told t m w line).answers = two_pieces old between new h.answers (pumped t h.room).answers e g in
     (shown (told t m w line).answers, all, (w, refl, after ∙ ap (λ x. (pumped t x).room) is))
+
+-- what the sessions calls write after a line, with what else is kept
+pub line_taken : {X : Type 0} (t : List PlainProjection) (m mid last : Room) (w : Mark) (line : Option (List ℕ)) (old between new : List ℕ)
+    → between ≡ old ++ shown (handled t m w line).answers → mid ≡ (handled t m w line).room
+    → new ≡ between ++ shown (pumped t mid).answers → last ≡ (pumped t mid).room → X
+    → GrewBy old new (λ answer. Dialogue t m line answer last × X)
+line_taken t m mid last w line old between new e is f after x =
+    let g = line_told t m mid last w line old between new e is f after in
+    (g.0, g.1, (g.2, x))
+
+-- a room without documents and subscriptions
+pub first_is : (m : Machine) (s : PlainSession) (source : List ℕ) → m.logs ≡ no_logs → m.queues ≡ (λ k. no_queues) → s.source ≡ source → s.subs ≡ [] → ◌≡◌ {A = Room} (record { machine = m; session = s }) (first_room source)
+first_is m s source l q e n = λ i. record { machine = record { logs = l i; queues = q i }; session = record { source = e i; subs = n i } }
 
 -- ---- runs
 
@@ -73,3 +89,22 @@ module _ {S T : Type 0} (table : S → T) (plain : T → List PlainProjection) (
         run = subst (λ x. R x (first_room own_source)) is (subst (R (plain (table s))) none (run_by s h.taken h.bytes h.last h.run));
         wrote = subst (λ (l : List ℕ). AppendsFront old new (l ++ h.bytes)) says h.wrote;
       }
+
+kept : (a : Option (List ℕ)) → Appends a a []
+kept None = tt
+kept (Some x) = sym (append-nil x)
+
+pub if_some_all : {X : Type 0} {Q : X → Type 0} (r : Option X) → ((x : X) → Q x) → IfSome r Q
+if_some_all None f = tt
+if_some_all (Some x) f = f x
+
+-- before the opening nothing is written
+pub wrote_nothing : (x : List PlainProjection) (lines : List (Option (List ℕ))) (old : Option (List ℕ)) → WroteFront x lines old old
+wrote_nothing x lines old = record {
+  taken = [];
+  bytes = [];
+  last = first_room own_source;
+  from_first = (lines, refl);
+  run = (refl, refl);
+  wrote = ([], kept old, (opening own_source ++ [], refl));
+}

@@ -40,7 +40,7 @@ pub(crate) struct Options {
     pub table: Result<Table, Refusal>,
 }
 
-pub(crate) fn options(alloc: Global, words: &[String]) -> Result<Options, Error> {
+pub(crate) fn asked_options(alloc: Global, words: &[String]) -> Result<Options, Error> {
     let matches = command(alloc)?.try_get_matches_from(words)?;
     Ok(Options {
         lines: matches.get_flag("lines"),
@@ -53,7 +53,7 @@ pub(crate) fn run<R>(rt: &R, words: &[String]) -> anyhow::Result<u8>
 where
     R: AllocGlobal + Input + Print + Eprint,
 {
-    match options(rt.alloc(), words) {
+    match asked_options(rt.alloc(), words) {
         Ok(Options { lines: false, .. }) => Ok(refuse(rt, "error: --lines is missing")?),
         Ok(Options { table, .. }) => match table {
             Ok(table) => Ok(answer_input(rt, &table)),

@@ -35,7 +35,9 @@ struct Lines<'a> {
 impl Replier for Lines<'_> {
     ghost opening = { λ s. opening (plain_session s.session).source };
 
-    ghost takes = { λ s line answer t. Dialogue s.table.now (room_of s) line answer (room_of t) × (t.table ≡ s.table) };
+    // as the dialogue answers it, and the projections stay
+    ghost takes = {
+        λ s line answer t. Dialogue s.table.now (room_of s) line answer (room_of t) × (t.table ≡ s.table) };
 
     ghost is_step = { is_request };
 

@@ -1,6 +1,6 @@
 //! Whole runs: worked rows, command lines, and streams that fail.
 use crate::command::{
-    DONE, FAULT, REFUSED, answer_no_run, end_with, options, refuse, refuse_projections,
+    DONE, FAULT, REFUSED, answer_no_run, asked_options, end_with, refuse, refuse_projections,
 };
 use crate::projections::{Refusal, table_of};
 use crate::running::run_lines;
@@ -498,7 +498,7 @@ fn command_lines(rt: HostRuntime) -> Result<(), Fail> {
         alloc,
         "sdb_server --lines --projection t=b:title,,n --projection u=c:x",
     )?;
-    let Ok(asked) = options(alloc, given.as_slice()) else {
+    let Ok(asked) = asked_options(alloc, given.as_slice()) else {
         return Err("refused".into());
     };
     assert!(rt; asked.lines);
@@ -555,7 +555,7 @@ fn a_command_line_that_asks_for_no_run(rt: HostRuntime) -> Result<(), Fail> {
     ] {
         let given = words(alloc, line)?;
         let terminal = Terminal::new(alloc);
-        let ended = match options(alloc, given.as_slice()) {
+        let ended = match asked_options(alloc, given.as_slice()) {
             Ok(_) => None,
             Err(error) => answer_no_run(&terminal, &error).ok(),
         };

@@ -1,11 +1,11 @@
 -- The place of a pair among the subscriptions.
-use Rattle.std.proofs.Common.{◌≡◌, List, [], ◌∷◌, map, length, Bool, true, false, cond, not, ◌&&◌, nat_lt, Option, Some, None, option_map, Result, Ok, Err, OnOk, refl, sym, ap, ◌∙◌}
+use Rattle.std.proofs.Common.{◌≡◌, List, [], ◌∷◌, map, Bool, true, false, cond, Option, Some, None, option_map, Result, Ok, Err, OnOk, refl, sym, ap, ◌∙◌}
 use Rattle.std.specs.Result.{IsOk}
 use Rattle.std.specs.Map.{lookup, remove_entry}
 use Rattle.std.specs.Borrow.{Bor}
 use Rattle.std.specs.Option.{is_some, option_copied}
 use Rattle.indexmap.specs.IndexMap.{insert_entry}
-use Rattle.sdb_oplog.specs.Keys.{PlainKey, plain_key}
+use Rattle.sdb_oplog.specs.Keys.{plain_key}
 use Rattle.sdb_oplog.specs.declared.keys.Key.{Key}
 use Rattle.sdb_session.specs.Sessions.{PlainSub, QueueId, same_pair, queue_of, put, without_pair}
 use Rattle.sdb_session.specs.Told.{plain_queue, plain_sub}

@@ -1,7 +1,7 @@
 -- A turn, from a call of the desk and what is written of its reply.
-use Rattle.std.proofs.Common.{◌≡◌, ℕ, List, [], ◌∷◌, ◌++◌, map, Bool, true, false, Option, Some, None, Result, Ok, Err, OnOk, unwrap_or, refl, sym, ap, ◌∙◌, subst, ◌⊎◌, inl, inr}
+use Rattle.std.proofs.Common.{◌≡◌, ℕ, List, [], ◌∷◌, ◌++◌, map, true, false, Option, Some, None, Result, Ok, Err, OnOk, refl, sym, ap, ◌∙◌, subst}
 use Rattle.sdb_oplog.specs.declared.codes.Code.{Code}
-use Rattle.sdb_oplog.specs.declared.codes.Code.TheVariants.{E9, E10}
+use Rattle.sdb_oplog.specs.declared.codes.Code.TheVariants.{E9}
 use Rattle.sdb_oplog.specs.Plain.{PlainContent, PlainEntry, PlainSubmission}
 use Rattle.sdb_oplog.specs.Keys.{PlainKey}
 use Rattle.sdb_oplog.specs.Decide.{PlainReply, refused}
@@ -13,7 +13,7 @@ use Rattle.sdb_session.specs.Shown.{pieces_of, text_of}
 use Rattle.sdb_wire.specs.Wire.{PlainEcho, hear, PlainRequest, fetch, submit, snapshot, subscribe}
 use Rattle.sdb_wire.specs.Answers.{PlainAnswer, answer_text, failed}
 use Rattle.sdb_session.specs.Seen.{base_of, base_in, through, permits}
-use Rattle.sdb_session.specs.Sessions.{PlainSession, QueueId, queue_of, is_full, with_sub}
+use Rattle.sdb_session.specs.Sessions.{PlainSession, queue_of, is_full, with_sub}
 use Rattle.sdb_session.specs.Told.{Says}
 use Rattle.sdb_session.specs.Turns.{PlainJoined, Sends, Refuses, Joins, Subscribes, submission_of, found_says, listed_says, reply_says, snapshot_says, opened_says, Handles, Hears, Answers}
 

@@ -1,11 +1,11 @@
 -- What one session says to its lines where it is alone with the machine: `Dialogue`. Each message is answered in one step.
-use Rattle.std.specs.Prelude.{◌≡◌, ℕ, List, [], ◌∷◌, ◌++◌, if◌then◌else◌, Bool, true, false, Option, Some, None, unwrap_or, Result, Ok, Err, ⊤}
+use Rattle.std.specs.Prelude.{◌≡◌, ℕ, List, [], ◌∷◌, ◌++◌, if◌then◌else◌, Bool, true, false, Option, Some, None, unwrap_or, Result, Ok, Err}
 use Rattle.sdb_oplog.specs.declared.codes.Code.{Code}
 use Rattle.sdb_oplog.specs.declared.codes.Code.TheVariants.{E1, E9, E10, E11}
-use Rattle.sdb_oplog.specs.Plain.{PlainEntry, PlainSubmission, PlainContent}
+use Rattle.sdb_oplog.specs.Plain.{PlainEntry, PlainSubmission}
 use Rattle.sdb_oplog.specs.Keys.{PlainKey, with_log, no_logs}
-use Rattle.sdb_oplog.specs.Decide.{PlainReply, refused, Decided, decide}
-use Rattle.sdb_subscribe.specs.Queue.{PlainQueues, taken_from, after_take}
+use Rattle.sdb_oplog.specs.Decide.{PlainReply, refused, decide}
+use Rattle.sdb_subscribe.specs.Queue.{taken_from, after_take}
 use Rattle.sdb_desk.specs.Machine.{Machine, PlainSubscribed, Subscribing, subscribing, start_of, fetched, operations, snapshot_at, Queued, no_queues, with_queues, closed}
 use Rattle.sdb_projection.specs.Table.{PlainProjection}
 use Rattle.sdb_wire.specs.Wire.{PlainEcho, nothing_said, hear, PlainRequest, hello, fetch, subscribe, unsubscribe, submit, snapshot}
@@ -71,9 +71,10 @@ decided_at false m b s = (refused E9, m)
 
 -- the queue is opened, its entries up to the present version are taken, and the old queue of the pair is closed
 abbrev pub joined_at : Machine → PlainKey → Option ℕ → Option QueueId → Result PlainSubscribed Code → (Result PlainJoined Code × Machine)
-joined_at m b v old (Ok o) =
-    (Ok (record { opened = o; first = next_of (opened_machine m b v) (record { base = b; id = o.id }) (behind v o.version) }),
-    closed_machine old (after_next (opened_machine m b v) (record { base = b; id = o.id }) (behind v o.version)))
+joined_at m b v old (Ok o) = (
+  Ok (record { opened = o; first = next_of (opened_machine m b v) (record { base = b; id = o.id }) (behind v o.version) }),
+  closed_machine old (after_next (opened_machine m b v) (record { base = b; id = o.id }) (behind v o.version)),
+)
 joined_at m b v old (Err code) = (Err code, m)
 
 -- a further pair of a session without room

@@ -1,27 +1,27 @@
 -- Laws of sessions: alone with the machine, what a session's calls say is its dialogue.
-use Rattle.std.proofs.Common.{◌≡◌, ℕ, ◌<◌, List, [], ◌∷◌, length, Bool, true, false, cond, nat_lt, ◌+◌, ◌++◌, map, nat_eq, Option, Some, None, unwrap_or, Result, Ok, Err, ◌⊎◌, inl, inr, refl, sym, ap, ◌∙◌, subst, append_assoc, arith}
+use Rattle.std.proofs.Common.{◌≡◌, ℕ, List, [], ◌∷◌, length, Bool, true, false, cond, nat_lt, ◌+◌, ◌++◌, map, nat_eq, Option, Some, None, unwrap_or, Result, Ok, Err, ◌⊎◌, inl, inr, refl, sym, ap, ◌∙◌, subst, append_assoc, arith}
 use Rattle.std.proofs.lemmas.Bool.Decides.{nat_tests}
 use Rattle.sdb_oplog.specs.declared.codes.Code.{Code}
-use Rattle.sdb_oplog.specs.declared.codes.Code.TheVariants.{E4, E9, E10, E11}
+use Rattle.sdb_oplog.specs.declared.codes.Code.TheVariants.{E4, E10, E11}
 use Rattle.sdb_oplog.specs.Plain.{PlainEntry, PlainSubmission, PlainContent}
-use Rattle.sdb_oplog.specs.Keys.{PlainKey, Logs, with_log, same_key}
-use Rattle.sdb_oplog.specs.Decide.{PlainReply, refused, decide}
-use Rattle.sdb_subscribe.specs.Queue.{PlainQueues, opened, taken_from, after_take}
+use Rattle.sdb_oplog.specs.Keys.{PlainKey, same_key}
+use Rattle.sdb_oplog.specs.Decide.{PlainReply, refused}
+use Rattle.sdb_subscribe.specs.Queue.{PlainQueues, opened}
 use Rattle.sdb_oplog.specs.Snap.{document}
 use Rattle.sdb_desk.specs.Laws.{queues_kept}
-use Rattle.sdb_desk.specs.Machine.{Machine, Queued, PlainFetched, PlainSubscribed, Reads, Decides, fetched, operations, snapshot_at, start_of, subscribing, subscribing_from, opening as opening_of, with_queues, closed}
+use Rattle.sdb_desk.specs.Machine.{Machine, Queued, PlainFetched, PlainSubscribed, Decides, start_of, subscribing, subscribing_from, opening as opening_of, with_queues}
 use Rattle.sdb_projection.specs.Table.{PlainProjection}
-use Rattle.sdb_submit.specs.Calls.{PlainCall, AnswerTo, Acts, take_next, unsubscribe as unsubscribe_call, subscribe as subscribe_call, snapshot as snapshot_call}
-use Rattle.sdb_submit.specs.Chain.{Calls, Submits}
+use Rattle.sdb_submit.specs.Calls.{Acts, take_next, unsubscribe as unsubscribe_call, subscribe as subscribe_call, snapshot as snapshot_call}
+use Rattle.sdb_submit.specs.Chain.{Calls}
 use Rattle.sdb_submit.specs.Laws.{submits_in_one_step}
 use Rattle.sdb_wire.specs.Wire.{PlainEcho, hear, PlainRequest, hello, fetch, subscribe, unsubscribe, submit, snapshot}
 use Rattle.sdb_wire.specs.Answers.{PlainAnswer, failed}
 use Rattle.sdb_session.specs.Seen.{base_in, through, permits}
 use Rattle.sdb_session.specs.Sessions.{QueueId, PlainSub, PlainSession, queue_of, is_full}
 use Rattle.sdb_session.specs.Shown.{pieces_of}
-use Rattle.sdb_session.specs.Turns.{ReadOf, ReplyTo, PlainJoined, Turn, turn, may_turn, takes_memory, submission_of, behind, came, full_code, found_says, listed_says, read_says, reply_says, snapshot_says, joined_turn, Fetches, Sends, Refuses, Closes, Joins, Subscribes, Replies, MayReply, Handles, Hears, Answers}
-use Rattle.sdb_session.specs.Pumping.{PlainTaking, TakesOne, Takes, Pumps, pump_says}
-use Rattle.sdb_session.specs.Dialogue.{Room, Said, Mark, enough, wanting, late, with_machine_queues, opening_at, opened_machine, next_of, after_next, closed_machine, read_at, decided_at, joined_at, refused_at, subscribed_at, replied, said_by, answered, late_machine, failing, marked, heard, handled, takings, after_takings, pumped}
+use Rattle.sdb_session.specs.Turns.{ReadOf, ReplyTo, PlainJoined, turn, may_turn, takes_memory, submission_of, behind, came, full_code, found_says, listed_says, read_says, reply_says, snapshot_says, joined_turn, Fetches, Sends, Refuses, Closes, Joins, Subscribes, MayReply, Hears, Answers}
+use Rattle.sdb_session.specs.Pumping.{PlainTaking, Takes, Pumps, pump_says}
+use Rattle.sdb_session.specs.Dialogue.{Room, Said, Mark, enough, wanting, late, opening_at, opened_machine, next_of, after_next, closed_machine, decided_at, joined_at, refused_at, subscribed_at, replied, answered, late_machine, failing, marked, heard, handled, takings, after_takings, pumped}
 
 -- ---- pieces
 
@@ -163,9 +163,13 @@ module _ {P : Type 0} (machine : P → Machine) where
     -- one that found enough: the reply is the machine's
     replies : (r : PlainRequest) (reply : ReplyTo r) → reply ≡ (replied t (room_at p s) r).0 → machine q ≡ (replied t (room_at p s) r).1 → new ≡ (turn e t s r reply).session → says (turn e t s r reply).answers → Marks t e r s p says new q
     replies r reply due after is said =
-        let m = room_at p s in
-        (enough, (subst (λ (x : ReplyTo r). says (turn e t s r x).answers) due said,
-        same_room (replied t m r).1 (machine q) (turn e t s r (replied t m r).0).session new after (is ∙ ap (λ (x : ReplyTo r). (turn e t s r x).session) due)))
+        let m = room_at p s in (
+          enough,
+          (
+            subst (λ (x : ReplyTo r). says (turn e t s r x).answers) due said,
+            same_room (replied t m r).1 (machine q) (turn e t s r (replied t m r).0).session new after (is ∙ ap (λ (x : ReplyTo r). (turn e t s r x).session) due),
+          ),
+        )
 
     same_at : (machine q).logs ≡ (machine p).logs → (machine q).queues ≡ (machine p).queues → machine q ≡ machine p
     same_at l k = same_machine (machine p) (machine q) l k

@@ -1,5 +1,5 @@
 -- What a pump does: one take of each queue, and what is said of the entries that were taken.
-use Rattle.std.specs.Prelude.{◌≡◌, ℕ, ◌+◌, ◌⊎◌, List, [], ◌∷◌, ◌++◌, length, map, filter, Bool, not, ◌&&◌, Option, Some, None, bytes_eq}
+use Rattle.std.specs.Prelude.{◌≡◌, ℕ, ◌+◌, ◌⊎◌, List, [], ◌∷◌, ◌++◌, length, map, filter, Bool, not, ◌&&◌, Option, Some, bytes_eq}
 use Rattle.sdb_oplog.specs.Plain.{PlainEntry}
 use Rattle.sdb_oplog.specs.Keys.{PlainKey}
 use Rattle.sdb_projection.specs.Table.{PlainProjection}

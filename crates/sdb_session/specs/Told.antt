@@ -19,7 +19,7 @@ use Rattle.sdb_wire.specs.Answers.{PlainAnswer}
 use Rattle.sdb_wire.specs.View.{echo_from}
 use Rattle.sdb_session.specs.Sessions.{QueueId, PlainSub, PlainSession}
 use Rattle.sdb_session.specs.Shown.{pieces_of}
-use Rattle.sdb_session.specs.Turns.{PlainJoined, came}
+use Rattle.sdb_session.specs.Turns.{PlainJoined}
 use Rattle.sdb_session.specs.declared.session.Session.{Session}
 use Rattle.sdb_session.specs.declared.joining.Subscription.{Subscription}
 use Rattle.sdb_session.specs.declared.joining.Joined.{Joined}

@@ -7,7 +7,7 @@ use Rattle.sdb_oplog.specs.Keys.{PlainKey}
 use Rattle.sdb_oplog.specs.Decide.{PlainReply, stored, repeated, refused}
 use Rattle.sdb_desk.specs.Machine.{PlainFetched, PlainSubscribed}
 use Rattle.sdb_projection.specs.Table.{PlainProjection}
-use Rattle.sdb_submit.specs.Calls.{PlainCall, fetch as fetch_call, ops_from, snapshot as snapshot_call, subscribe as subscribe_call, take_next, unsubscribe as unsubscribe_call, AnswerTo}
+use Rattle.sdb_submit.specs.Calls.{fetch as fetch_call, ops_from, snapshot as snapshot_call, subscribe as subscribe_call, take_next, unsubscribe as unsubscribe_call}
 use Rattle.sdb_submit.specs.Chain.{Calls, Submits}
 use Rattle.sdb_wire.specs.Wire.{PlainEcho, hear, PlainRequest, hello, fetch, subscribe, unsubscribe, submit, snapshot}
 use Rattle.sdb_wire.specs.Answers.{PlainAnswer, named, fetched, listed, subscribed, caught_up, unsubscribed, snapshot as snapshot_answer, op_message, acknowledged, failed}

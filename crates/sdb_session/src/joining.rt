@@ -1,9 +1,9 @@
 //! Queues that are opened and closed.
-ghost use Rattle.std.specs.Prelude.{◌≡◌, ⊤, Ok, Err, option_map, Option, List, Result};
+ghost use Rattle.std.specs.Prelude.{◌≡◌, option_map};
 ghost use Rattle.sdb_oplog.specs.Keys.{plain_key};
+ghost use Rattle.sdb_session.specs.Pumping.{TakesOne};
 ghost use Rattle.sdb_session.specs.Told.{plain_queue, told_came, told_joined};
-ghost use Rattle.sdb_session.specs.Turns.{behind, came, Closes, Joins};
-ghost use Rattle.sdb_submit.specs.Calls.{take_next};
+ghost use Rattle.sdb_session.specs.Turns.{behind, Closes, Joins};
 
 use sdb_desk::Subscribed;
 use sdb_oplog::{Code, Entry, Key};
@@ -49,7 +49,8 @@ pub(crate) fn take<D: Desk>(
     requires takes { D.takes desk.now pass.old }
     ensures takes { D.takes desk.now pass.new }
     ensures number { D.number desk.now pass.new ≡ D.number desk.now pass.old }
-    ensures acts { (a : Option (Option (List _))) × (D.acts desk.now (plain_key base.now) (take_next id max) pass.old a pass.new × (came a ≡ told_came result)) }
+    ensures takes_one { TakesOne (D.acts desk.now) max (record { base = plain_key base.now; id = id })
+        pass.old (told_came result) pass.new }
 {
     match desk.take(pass, base, id, max) {
         Ok(Some(entries)) => Ok(entries),

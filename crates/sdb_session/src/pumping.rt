@@ -39,7 +39,8 @@ impl Session {
         ensures session { plain_session self.new ≡ plain_session self.old }
         ensures ended { self.new.ended ≡ is_err result }
         ensures again { self.old.ended ≡ true → is_err result ≡ true }
-        ensures pumps { IfOk result (λ r. Pumps (D.acts desk.now) max table.now (plain_session self.old) pass.old r.taken
+        ensures pumps { IfOk result (λ r. Pumps (D.acts desk.now) max table.now
+            (plain_session self.old) pass.old r.taken
             (λ answers. map string_bytes r.texts.items ≡ map answer_text answers) pass.new) }
         ensures stops { OnErr result (Stops (D.acts desk.now) max (plain_session self.old) pass.old pass.new) }
     {
@@ -70,7 +71,8 @@ impl Session {
         ensures session { plain_session self.new ≡ plain_session self.old }
         ensures ended { self.new.ended ≡ is_err result }
         ensures again { self.old.ended ≡ true → is_err result ≡ true }
-        ensures pumps { IfOk result (λ taken. Pumps (D.acts desk.now) max table.now (plain_session self.old) pass.old taken
+        ensures pumps { IfOk result (λ taken. Pumps (D.acts desk.now) max table.now
+            (plain_session self.old) pass.old taken
             (Wrote O.pieces (O.written out.old) (O.written out.new)) pass.new) }
         // After an error the first queues were taken from.
         ensures stops { OnErr result (Stops (D.acts desk.now) max (plain_session self.old) pass.old pass.new) }
@@ -98,7 +100,8 @@ impl Session {
         requires takes { D.takes desk.now pass.old }
         ensures takes { D.takes desk.now pass.new }
         ensures number { D.number desk.now pass.new ≡ D.number desk.now pass.old }
-        ensures pumps { IfOk result (λ taken. Pumps (D.acts desk.now) max table.now (plain_session self.now) pass.old taken
+        ensures pumps { IfOk result (λ taken. Pumps (D.acts desk.now) max table.now
+            (plain_session self.now) pass.old taken
             (Wrote O.pieces (O.written out.old) (O.written out.new)) pass.new) }
         ensures stops { OnErr result (Stops (D.acts desk.now) max (plain_session self.now) pass.old pass.new) }
     {

@@ -55,7 +55,12 @@ impl Session {
     pub fn opening(&self) -> Result<String, AllocError>
         ensures { IfOk result (λ text. string_bytes text ≡ answer_text (init (plain_session self.now).source)) }
     {
-        reply_text(self.alloc, &Answer::Init { src: self.source.as_str() })
+        reply_text(
+            self.alloc,
+            &Answer::Init {
+                src: self.source.as_str(),
+            },
+        )
     }
 
     /// Writes the opening text.
@@ -63,7 +68,13 @@ impl Session {
         ensures { OnOk result (Wrote O.pieces (O.written out.old) (O.written out.new)
             (init (plain_session self.now).source ∷ [])) }
     {
-        say(self.alloc, &Answer::Init { src: self.source.as_str() }, out)
+        say(
+            self.alloc,
+            &Answer::Init {
+                src: self.source.as_str(),
+            },
+            out,
+        )
     }
 
     /// The texts that answer one message, in order; see [`Session::handle_to`].

@@ -65,7 +65,9 @@ impl Session {
     {
         match request {
             Request::Hello { id } => self.hello(id, out),
-            Request::Fetch { key, version } => self.fetch(desk, pass, table, message, &key, version, out),
+            Request::Fetch { key, version } => self.fetch(
+                desk, pass, table, message, &key, version, out,
+            ),
             Request::Submit {
                 key,
                 version,
@@ -133,7 +135,9 @@ impl Session {
         let base = base_or(&moved, key);
         match version {
             None => present(self.alloc, desk, pass, message, projection, key, base, out),
-            Some(from) => list(self.alloc, desk, pass, message, projection, key, base, from, out),
+            Some(from) => list(
+                self.alloc, desk, pass, message, projection, key, base, from, out,
+            ),
         }
     }
 
@@ -175,8 +179,8 @@ impl Session {
 
     // A message that names no source has the session's.
     fn submission(&self, key: &Key, sent: Sent, by: u64) -> Result<Submission, AllocError>
-        ensures { IfOk result (λ s. s ≡ submission_of (plain_session self.now) (plain_key key.now) sent.version sent.seq
-            (option_map string_bytes sent.src) sent.content by) }
+        ensures { IfOk result (λ s. s ≡ submission_of (plain_session self.now) (plain_key key.now)
+            sent.version sent.seq (option_map string_bytes sent.src) sent.content by) }
     {
         let Sent {
             version,
@@ -280,7 +284,15 @@ impl Session {
     {
         let Joined { opened, first } = joined;
         let id = opened.id;
-        let said = say_opened(self.alloc, projection, &key, version, opened, first.as_slice(), out);
+        let said = say_opened(
+            self.alloc,
+            projection,
+            &key,
+            version,
+            opened,
+            first.as_slice(),
+            out,
+        );
         self.put(key, Subscription { base, id });
         said
     }
@@ -466,12 +478,7 @@ fn list<D: Desk, O: Page>(
 
 // Why a session without room refuses a pair: the version is above the present one, or the limit is
 // reached.
-fn full_code<D: Desk>(
-    desk: &D,
-    pass: &mut D::Pass,
-    base: &Key,
-    version: Option<u64>,
-) -> Code
+fn full_code<D: Desk>(desk: &D, pass: &mut D::Pass, base: &Key, version: Option<u64>) -> Code
     requires takes { D.takes desk.now pass.old }
     ensures takes { D.takes desk.now pass.new }
     ensures number { D.number desk.now pass.new ≡ D.number desk.now pass.old }

@@ -1,17 +1,31 @@
-use Rattle.std.proofs.Common.{map}
+use Rattle.std.proofs.Common.{map, ap, refl, ◌∙◌}
 use Rattle.std.proofs.lemmas.Option.{IfSome_then}
+use Rattle.sdb_desk.specs.Keyed.{machine_of}
 use Rattle.sdb_lines.specs.Lines.{reading_of, lines_of}
-use Rattle.sdb_desk.specs.Keyed.{logs_of}
-use Rattle.sdb_server.specs.declared.running.Session.{Session}
-use Rattle.sdb_server.proofs.Turns.{on_ok, on_err, wrote_all, wrote_front}
+use Rattle.sdb_session.specs.Dialogue.{opening}
+use Rattle.sdb_session.specs.Told.{plain_session}
+use Rattle.sdb_server.specs.Keyed.{room_of}
+use Rattle.sdb_server.specs.Source.{own_source}
+use Rattle.sdb_server.specs.declared.running.Lines.{Lines}
+use Rattle.sdb_server.proofs.Turns.{on_ok, on_err, first_is, wrote_all, wrote_front, wrote_nothing, if_some_all}
 use Rattle.sdb_server.proofs.running.run_lines.Goals as goal
 
 pub returns-clause-whole : goal.returns-clause-whole
 returns-clause-whole g c =
+    let s = plain_session c.new-2.result in
+    let source = c.new-2.ensures.source ∙ c.in-Ok.ensures.ok in
     on_ok c.run_lines.result (λ h. IfSome_then (g.R.Source.left c.args.reader.now) h
-    (λ input a. wrote_all {S = Session} (λ s. logs_of s.shard) _ c.run_lines.new.machine (map reading_of (lines_of input)) _ _ c.new.ensures.logs a)) c.run_lines.ensures.whole
+    (λ input a. wrote_all {S = Lines} (λ s. s.table) (λ x. x.now) room_of _ c.run_lines.new.machine c.args.table.now (map reading_of (lines_of input)) _ _ _ refl
+    (first_is (machine_of c.new.result) s own_source c.new.ensures.logs c.new.ensures.queues source c.new-2.ensures.subs) (ap opening source) a)) c.run_lines.ensures.whole
 
 pub returns-clause-front : goal.returns-clause-front
 returns-clause-front g c =
+    let s = plain_session c.new-2.result in
+    let source = c.new-2.ensures.source ∙ c.in-Ok.ensures.ok in
     on_err c.run_lines.result (λ h. IfSome_then (g.R.Source.left c.args.reader.now) h
-    (λ input a. wrote_front {S = Session} (λ s. logs_of s.shard) _ (map reading_of (lines_of input)) _ _ c.new.ensures.logs a)) c.run_lines.ensures.front
+    (λ input a. wrote_front {S = Lines} (λ s. s.table) (λ x. x.now) room_of _ c.args.table.now (map reading_of (lines_of input)) _ _ _ refl
+    (first_is (machine_of c.new.result) s own_source c.new.ensures.logs c.new.ensures.queues source c.new-2.ensures.subs) (ap opening source) a)) c.run_lines.ensures.front
+
+pub returns-in_default-clause-front : goal.returns-in_default-clause-front
+returns-in_default-clause-front g c =
+    if_some_all (g.R.Source.left c.args.reader.now) (λ input. wrote_nothing c.args.table.now (map reading_of (lines_of input)) (g.W.Sink.contents c.args.writer.now))

@@ -1,4 +1,4 @@
-use Rattle.std.proofs.Common.{◌≡◌, take}
+use Rattle.std.proofs.Common.{take}
 use Rattle.sdb_oplog.specs.Keys.{plain_key}
 use Rattle.sdb_session.specs.Told.{plain_through, Wrote}
 use Rattle.sdb_session.specs.Turns.{messages}

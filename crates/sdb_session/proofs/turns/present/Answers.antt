@@ -1,10 +1,9 @@
-use Rattle.std.proofs.Common.{Ok, subst}
+use Rattle.std.proofs.Common.{Ok}
 use Rattle.sdb_desk.specs.Shown.{told_fetched}
 use Rattle.sdb_oplog.specs.Keys.{plain_key}
 use Rattle.sdb_session.specs.Told.{shown_of, plain_through, Wrote}
 use Rattle.sdb_session.specs.Turns.{found_says}
 use Rattle.sdb_session.proofs.Turning.{on_says}
-use Rattle.sdb_submit.specs.Calls.{fetch}
 use Rattle.sdb_session.proofs.turns.present.Goals as goal
 
 pub returns-in-Ok-clause-found : goal.returns-in-Ok-clause-found

@@ -1,5 +1,4 @@
 use Rattle.std.proofs.Common.{Some, refl, sym, subst}
-use Rattle.sdb_oplog.specs.Keys.{plain_key}
 use Rattle.sdb_session.specs.Told.{plain_session, shown_of, Says, Wrote}
 use Rattle.sdb_session.specs.Turns.{Handles}
 use Rattle.sdb_wire.specs.View.{plain_request}
@@ -41,4 +40,3 @@ returns-in-Unsubscribe-clause-handles g c =
     let says = Says c.unsubscribe.result (Wrote g.O.Page.pieces (g.O.Page.written c.args.out.now) (g.O.Page.written c.unsubscribe.new.out)) in
     let P : Request → Type 0 = λ r. Handles (g.D.Desk.acts c.args.desk.now) (shown_of c.args.message) c.args.table.now (g.D.Desk.number c.args.desk.now c.args.pass.now) (plain_session c.args.self.now) (plain_request r) c.args.pass.now says (plain_session c.unsubscribe.new.self) c.unsubscribe.new.pass in
     subst P (sym c.in-Unsubscribe.is) (Some tt, (c.unsubscribe.ensures.closes, c.unsubscribe.ensures.session, c.unsubscribe.ensures.says))
-

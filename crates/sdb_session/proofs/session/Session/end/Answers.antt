@@ -1,4 +1,4 @@
-use Rattle.std.proofs.Common.{◌≡◌, ◌++◌, [], ◌∷◌, map, refl, sym, ap, ◌∙◌, append_assoc}
+use Rattle.std.proofs.Common.{◌++◌, [], ◌∷◌, map, refl, sym, ap, ◌∙◌, append_assoc}
 use Rattle.sdb_oplog.specs.declared.keys.Key.{Key}
 use Rattle.sdb_session.specs.Told.{plain_sub}
 use Rattle.sdb_session.specs.declared.joining.Subscription.{Subscription}
@@ -20,8 +20,11 @@ loop-queue-preserved g c =
     record {
       takes = c.unsubscribe.ensures.takes;
       number = c.unsubscribe.ensures.number ∙ c.loop-queue.invariant.number;
-      so_far = (far.0 ++ plain_sub e ∷ [], (
-        append_assoc far.0 (plain_sub e ∷ []) (map plain_sub rest) ∙ ap (λ es. far.0 ++ map plain_sub es) (sym c.in-Some.ensures.steps) ∙ far.1.0,
-        closed_more (g.D.Desk.acts c.args.desk.now) far.0 (plain_sub e) c.args.pass.now c.loop-queue.pass c.unsubscribe.new.pass far.1.1 c.unsubscribe.ensures.acts,
-      ));
+      so_far = (
+        far.0 ++ plain_sub e ∷ [],
+        (
+          append_assoc far.0 (plain_sub e ∷ []) (map plain_sub rest) ∙ ap (λ es. far.0 ++ map plain_sub es) (sym c.in-Some.ensures.steps) ∙ far.1.0,
+          closed_more (g.D.Desk.acts c.args.desk.now) far.0 (plain_sub e) c.args.pass.now c.loop-queue.pass c.unsubscribe.new.pass far.1.1 c.unsubscribe.ensures.acts,
+        ),
+      );
     }

@@ -1,9 +1,6 @@
-use Rattle.std.proofs.Common.{◌≡◌, ◌&&◌, length, map, not, sym, ap, ◌∙◌}
+use Rattle.std.proofs.Common.{◌&&◌, length, map, not, sym, ap, ◌∙◌}
 use Rattle.std.proofs.lemmas.List.{length-map}
-use Rattle.std.specs.Option.{is_some}
 use Rattle.std.specs.Bool.{nat_le}
-use Rattle.sdb_oplog.specs.Keys.{plain_key}
-use Rattle.sdb_session.specs.Sessions.{queue_of}
 use Rattle.sdb_session.specs.Told.{plain_sub}
 use Rattle.sdb_session.proofs.Pairs.{is_there}
 use Rattle.sdb_session.proofs.session.Session.is_full.Goals as goal

@@ -1,4 +1,4 @@
-use Rattle.std.proofs.Common.{◌≡◌, take}
+use Rattle.std.proofs.Common.{take}
 use Rattle.sdb_oplog.specs.Keys.{plain_key}
 use Rattle.sdb_session.specs.Pumping.{others}
 use Rattle.sdb_session.specs.Seen.{through}

@@ -1,4 +1,4 @@
-use Rattle.std.proofs.Common.{◌≡◌, Some, ◌∷◌, [], option_map, string_bytes, ap, ◌∙◌, sym, refl, subst, OnOk}
+use Rattle.std.proofs.Common.{◌≡◌, ◌∷◌, [], option_map, string_bytes, ap, ◌∙◌, sym, refl, subst, OnOk}
 use Rattle.sdb_desk.specs.Told.{plain_reply}
 use Rattle.sdb_oplog.specs.Keys.{plain_key}
 use Rattle.sdb_oplog.specs.declared.codes.Code.TheVariants.{E9}

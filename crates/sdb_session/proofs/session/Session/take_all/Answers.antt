@@ -1,4 +1,4 @@
-use Rattle.std.proofs.Common.{◌≡◌, ◌<◌, ◌≤◌, ◌+◌, ◌*◌, ◌++◌, [], ◌∷◌, List, Some, None, length, map, refl, sym, ap, ◌∙◌, inl, inr, arith}
+use Rattle.std.proofs.Common.{◌++◌, [], ◌∷◌, None, length, map, refl, sym, ap, ◌∙◌, inl, inr, arith}
 use Rattle.std.proofs.lemmas.List.{append-nil}
 use Rattle.sdb_oplog.specs.Keys.{plain_key}
 use Rattle.sdb_session.specs.Pumping.{PlainTaking, others, taking_says, pump_says}
@@ -23,7 +23,7 @@ pub returns-in_err-entries-clause-stops : goal.returns-in_err-entries-clause-sto
 returns-in_err-entries-clause-stops g c =
     let far = c.loop-key.invariant.so_far in
     on_err_any c.from_residual.result
-    (far.0, (map plain_sub c.loop-key.key-iterator, (c.loop-key.pass, (far.1.0, far.1.1, inr (plain_queue c.in-Some.queue.now, (None, c.in_err-entries.ensures.acts))))))
+    (far.0, (map plain_sub c.loop-key.key-iterator, (c.loop-key.pass, (far.1.0, far.1.1, inr (plain_queue c.in-Some.queue.now, (None, c.in_err-entries.ensures.takes_one))))))
 
 pub returns-in_err-say_others-clause-stops : goal.returns-in_err-say_others-clause-stops
 returns-in_err-say_others-clause-stops g c =
@@ -31,12 +31,20 @@ returns-in_err-say_others-clause-stops g c =
     let e : Key × Subscription = (c.in-Some.key.now, c.in-Some.queue.now) in
     let x : PlainTaking = record { sub = plain_sub e; entries = c.in_ok-entries.entries.items } in
     let rest = c.next.new.self in
-    on_err_any c.from_residual-in_err-say_others.result
-    (far.0 ++ x ∷ [], (map plain_sub rest, (c.take.new.pass, (
-      taken_sub plain_sub far.0 x e c.loop-key.key-iterator rest (plain_session c.args.self.now).subs c.in-Some.ensures.steps refl far.1.0,
-      takes_more (g.D.Desk.acts c.args.desk.now) c.args.max far.0 x c.args.pass.now c.loop-key.pass c.take.new.pass far.1.1 c.in_ok-entries.ensures.acts,
-      inl refl,
-    ))))
+    on_err_any c.from_residual-in_err-say_others.result (
+      far.0 ++ x ∷ [],
+      (
+        map plain_sub rest,
+        (
+          c.take.new.pass,
+          (
+            taken_sub plain_sub far.0 x e c.loop-key.key-iterator rest (plain_session c.args.self.now).subs c.in-Some.ensures.steps refl far.1.0,
+            takes_more (g.D.Desk.acts c.args.desk.now) c.args.max far.0 x c.args.pass.now c.loop-key.pass c.take.new.pass far.1.1 c.in_ok-entries.ensures.takes_one,
+            inl refl,
+          ),
+        ),
+      ),
+    )
 
 pub loop-key-preserved : goal.loop-key-preserved
 loop-key-preserved g c =
@@ -51,12 +59,15 @@ loop-key-preserved g c =
       takes = c.take.ensures.takes;
       number = c.take.ensures.number ∙ c.loop-key.invariant.number;
       small = omega (arith, c.loop-key.invariant.small, ap length c.in-Some.ensures.steps, c.len.type_inv);
-      so_far = (far.0 ++ x ∷ [], (
-        taken_sub plain_sub far.0 x e c.loop-key.key-iterator rest (plain_session c.args.self.now).subs c.in-Some.ensures.steps refl far.1.0,
-        takes_more (g.D.Desk.acts c.args.desk.now) c.args.max far.0 x c.args.pass.now c.loop-key.pass c.take.new.pass far.1.1 c.in_ok-entries.ensures.acts,
-        omega (arith, counts_more far.0 x, far.1.2, c.len.ensures),
-        pieces_more g.O.Page.pieces (g.O.Page.written c.args.out.now) (g.O.Page.written c.loop-key.out) (g.O.Page.written c.say_others.new.out) (pump_says t source far.0) (taking_says t source x) far.1.3
-        (c.in_ok-say_others.ensures ∙ ap (λ es. g.O.Page.written c.loop-key.out ++ pieces_of g.O.Page.pieces (messages (through t k) k (others source k es))) c.as_slice.ensures.value)
-        ∙ ap (λ a. g.O.Page.written c.args.out.now ++ pieces_of g.O.Page.pieces a) (sym (says_more t source far.0 x)),
-      ));
+      so_far = (
+        far.0 ++ x ∷ [],
+        (
+          taken_sub plain_sub far.0 x e c.loop-key.key-iterator rest (plain_session c.args.self.now).subs c.in-Some.ensures.steps refl far.1.0,
+          takes_more (g.D.Desk.acts c.args.desk.now) c.args.max far.0 x c.args.pass.now c.loop-key.pass c.take.new.pass far.1.1 c.in_ok-entries.ensures.takes_one,
+          omega (arith, counts_more far.0 x, far.1.2, c.len.ensures),
+          pieces_more g.O.Page.pieces (g.O.Page.written c.args.out.now) (g.O.Page.written c.loop-key.out) (g.O.Page.written c.say_others.new.out) (pump_says t source far.0) (taking_says t source x) far.1.3
+              (c.in_ok-say_others.ensures ∙ ap (λ es. g.O.Page.written c.loop-key.out ++ pieces_of g.O.Page.pieces (messages (through t k) k (others source k es))) c.as_slice.ensures.value)
+              ∙ ap (λ a. g.O.Page.written c.args.out.now ++ pieces_of g.O.Page.pieces a) (sym (says_more t source far.0 x)),
+        ),
+      );
     }

@@ -1,4 +1,4 @@
-use Rattle.std.proofs.Common.{◌≡◌, ℕ, ◌+◌, ◌*◌, ◌≤◌, List, ◌++◌, length, map}
+use Rattle.std.proofs.Common.{◌≡◌, ◌+◌, ◌*◌, ◌≤◌, List, ◌++◌, length, map}
 use Rattle.sdb_session.specs.Pumping.{PlainTaking, Takes, pump_counts, pump_says}
 use Rattle.sdb_session.specs.Told.{plain_sub, plain_session, Wrote}
 use Rattle.sdb_session.proofs.session.Session.take_all.Given as goal

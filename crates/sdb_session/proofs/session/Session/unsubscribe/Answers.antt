@@ -1,5 +1,4 @@
-use Rattle.std.proofs.Common.{◌≡◌, Option, map, option_map, ap, sym, ◌∙◌, subst, string_bytes}
-use Rattle.sdb_oplog.specs.Keys.{plain_key}
+use Rattle.std.proofs.Common.{Option, map, option_map, ap, ◌∙◌, subst, string_bytes}
 use Rattle.sdb_session.specs.Sessions.{QueueId}
 use Rattle.sdb_session.specs.Told.{plain_sub, plain_queue}
 use Rattle.sdb_session.specs.Turns.{Closes}

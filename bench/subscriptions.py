@@ -1,0 +1,26 @@
+"""Writes increments of one number in each of 64 documents, in turn: subscriptions.py INCREMENTS SUBSCRIBED FETCHES. The first SUBSCRIBED
+documents are subscribed to before; FETCHES fetches of a document that isn't there follow, after each of which nothing waits."""
+import json
+import sys
+
+TYPE = "http://sharejs.org/types/JSONv0"
+DOCUMENTS = 64
+
+
+def say(message):
+    print(json.dumps(message, separators=(",", ":")))
+
+
+def main(increments, subscribed, fetches):
+    for number in range(DOCUMENTS):
+        say({"a": "op", "c": "boards", "d": str(number), "src": "x", "seq": 0, "create": {"type": TYPE, "data": {"n": 0}}})
+    for number in range(subscribed):
+        say({"a": "s", "c": "boards", "d": str(number)})
+    for number in range(increments):
+        say({"a": "op", "c": "boards", "d": str(number % DOCUMENTS), "src": "x", "seq": number + 1, "op": [{"p": ["n"], "na": 1}]})
+    for _ in range(fetches):
+        say({"a": "f", "c": "boards", "d": "none"})
+
+
+if __name__ == "__main__":
+    main(*map(int, sys.argv[1:]))
