@@ -11,6 +11,7 @@ import tempfile
 
 HERE = os.path.dirname(os.path.abspath(__file__))
 SERVER = os.path.join(HERE, "..", "crates", "sdb_server", "out", "sdb_server")
+PROJECTION = ["--projection", "titles=boards:title"]
 FAULT = b"fault: memory\n"
 WANTING = b"ERR_OUT_OF_MEMORY"
 
@@ -19,9 +20,24 @@ def lines_of(script, count):
     return subprocess.run([sys.executable, os.path.join(HERE, "..", "bench", script), str(count)], stdout=subprocess.PIPE, check=True).stdout
 
 
+# A session that says who it is, subscribes, sees what is stored, also through a projection, subscribes anew and lets go.
+SESSION = b"""{"a":"hs","id":"me"}
+{"a":"op","c":"boards","d":"1","src":"x","seq":1,"create":{"type":"json0","data":{"title":"a","votes":0}}}
+{"a":"s","c":"boards","d":"1","v":0}
+{"a":"s","c":"titles","d":"1"}
+{"a":"op","c":"boards","d":"1","v":1,"src":"x","seq":2,"op":[{"p":["votes"],"na":1}]}
+{"a":"op","c":"titles","d":"1","v":2,"src":"x","seq":3,"op":[{"p":["title",0],"si":"b"}]}
+{"a":"s","c":"boards","d":"1","v":2}
+{"a":"f","c":"titles","d":"1"}
+{"a":"nf","c":"titles","d":"1","id":1,"v":2}
+{"a":"u","c":"titles","d":"1"}
+{"a":"op","c":"boards","d":"1","v":3,"src":"x","seq":4,"op":[{"p":["votes"],"na":1}]}
+"""
+
+
 def run(library, given, nth, counted):
     env = dict(os.environ, LD_PRELOAD=library, FAIL_NTH=str(nth), FAIL_COUNT=counted)
-    ended = subprocess.run([SERVER, "--lines"], input=given, stdout=subprocess.PIPE, stderr=subprocess.PIPE, env=env, timeout=60)
+    ended = subprocess.run([SERVER, "--lines", *PROJECTION], input=given, stdout=subprocess.PIPE, stderr=subprocess.PIPE, env=env, timeout=60)
     return ended.returncode, ended.stdout
 
 
@@ -58,7 +74,7 @@ def main():
         subprocess.run(["cc", "-shared", "-fPIC", "-O1", "-o", library, os.path.join(HERE, "fail_nth.c"), "-ldl"], check=True)
         with open(os.path.join(HERE, "..", "crates", "sdb_server", "stdin"), "rb") as file:
             stored = file.read()
-        inputs = [("a create and a fetch", stored), ("40 lines on new documents", lines_of("lines.py", 40)), ("40 inserts into one text", lines_of("trace.py", 40))]
+        inputs = [("a create and a fetch", stored), ("40 lines on new documents", lines_of("lines.py", 40)), ("40 inserts into one text", lines_of("trace.py", 40)), ("a session", SESSION)]
         right = [sweep(name, given, library, counted) for name, given in inputs]
     return 0 if all(right) else 1
 
