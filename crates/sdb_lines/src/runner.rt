@@ -77,8 +77,7 @@ pub fn run_lines<M: Replier, R: Source, W: Sink>(
     ensures whole { OnOk result (IfSome (R.left reader.old) (λ input.
         Answers M.takes machine.old (map reading_of (lines_of input)) machine.new
         (M.opening machine.old) (W.contents writer.old) (W.contents writer.new))) }
-    ensures lines { IfOk result (λ counts. IfSome (R.left reader.old) (λ input.
-        counts.lines ≡ length (lines_of input))) }
+    ensures lines { IfOk result (λ counts. IfSome (R.left reader.old) (λ i. counts.lines ≡ length (lines_of i))) }
     ensures steps { IfOk result (λ counts. IfSome (R.left reader.old) (λ input.
         counts.steps ≡ steps_of M.is_step (map reading_of (lines_of input)))) }
     // After a fault a front of the opening and the answers to the first lines was written.
@@ -97,9 +96,8 @@ pub fn run_lines<M: Replier, R: Source, W: Sink>(
         return Err(RunFault::Memory);
     };
     let buffer = space.as_mut_slice();
-    match write_opening(alloc, machine, writer) {
-        Ok(()) => {}
-        Err(fault) => return Err(fault),
+    if let Err(fault) = write_opening(alloc, machine, writer) {
+        return Err(fault);
     }
     let mut pending = Pending::new(alloc);
     for _turn in 0..READ_LIMIT {

@@ -16,8 +16,8 @@ loop-turn-init g c = record {
   calls = omega arith;
   at_most = omega arith;
   reads = refl;
-  writes = but-no_error _ _ c.in-Ok-write_opening.ensures.writes;
-  went = went-start g.M.Replier.takes g.M.Replier.is_step _ _ _ _ _ _ _ c.in-Ok-write_opening.ensures.wrote c.new-pending.ensures.held c.new-pending.ensures.lines c.new-pending.ensures.steps;
+  writes = but-no_error _ _ c.in_default-write_opening.ensures.writes;
+  went = went-start g.M.Replier.takes g.M.Replier.is_step _ _ _ _ _ _ _ c.in_default-write_opening.ensures.wrote c.new-pending.ensures.held c.new-pending.ensures.lines c.new-pending.ensures.steps;
 }
 
 pub loop-turn-preserved : goal.loop-turn-preserved
