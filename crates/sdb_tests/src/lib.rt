@@ -17,6 +17,8 @@ mod oplog;
 #[cfg(test)]
 mod projection;
 #[cfg(test)]
+mod session;
+#[cfg(test)]
 mod snapcache;
 #[cfg(test)]
 mod submit;
