@@ -92,57 +92,109 @@ fn commit_now_again(
     Ok(commit_now(board, submission))
 }
 
+// What a commit answers, and what is there then.
+type Ending = ((u64, usize), (u64, Option<usize>));
+
+// Whether a commit of the work ends so.
+fn commits(board: &mut Board, work: &mut Work, ending: Ending) -> Result<bool, Fail> {
+    Ok(commit_again(board, work)? == Some(ending.0) && present(board)? == ending.1)
+}
+
+// Whether a commit of the submission in one step ends so.
+fn commits_now(board: &mut Board, submission: &Submission, ending: Ending) -> Result<bool, Fail> {
+    Ok(commit_now_again(board, submission)? == Some(ending.0) && present(board)? == ending.1)
+}
+
+// Makes the document, worked on what is there now.
+fn first_work(board: &Board) -> Result<Work, Fail> {
+    work_on(board, creating(board.alloc, "x")?)
+}
+
+// An edit made one version ago, worked on what is there now.
+fn late_work(board: &Board) -> Result<Work, Fail> {
+    work_on(board, adding(board.alloc, "x", Some(3))?)
+}
+
+// Stores one more edit.
+fn put_another(board: &mut Board) -> Result<(), Fail> {
+    board.put(adding(board.alloc, "y", None)?)
+}
+
+// The same late edit, after which another is stored.
+fn overtaken_work(board: &mut Board) -> Result<Work, Fail> {
+    let work = late_work(board)?;
+    put_another(board)?;
+    Ok(work)
+}
+
+fn first_is_committed(alloc: Global) -> Result<bool, Fail> {
+    let mut board = Board::empty(alloc)?;
+    let mut work = first_work(&board)?;
+    commits(&mut board, &mut work, ((0, 0), (1, Some(1))))
+}
+
 #[test]
 fn a_first_commit(rt: HostRuntime) -> Result<(), Fail> {
-    let mut board = Board::empty(rt.alloc())?;
-    let mut work = work_on(&board, creating(board.alloc, "x")?)?;
-    assert_eq!(rt; commit_again(&mut board, &mut work)?, Some((0, 0)));
-    assert_eq!(rt; present(&board)?, (1, Some(1)));
+    assert!(rt; first_is_committed(rt.alloc())?);
     Ok(())
+}
+
+fn late_is_committed(alloc: Global) -> Result<bool, Fail> {
+    let mut board = full(alloc)?;
+    let mut work = late_work(&board)?;
+    commits(&mut board, &mut work, ((4, 1), (5, Some(5))))
 }
 
 #[test]
 fn a_commit(rt: HostRuntime) -> Result<(), Fail> {
-    let mut board = full(rt.alloc())?;
-    let mut work = work_on(&board, adding(board.alloc, "x", Some(3))?)?;
-    assert_eq!(rt; commit_again(&mut board, &mut work)?, Some((4, 1)));
-    assert_eq!(rt; present(&board)?, (5, Some(5)));
+    assert!(rt; late_is_committed(rt.alloc())?);
     Ok(())
+}
+
+fn other_entries_are_committed(alloc: Global) -> Result<bool, Fail> {
+    let mut board = full(alloc)?;
+    let mut work = deleting(alloc, 3, 4)?;
+    commits(&mut board, &mut work, ((4, 1), (5, None)))
 }
 
 #[test]
 fn a_commit_of_other_entries(rt: HostRuntime) -> Result<(), Fail> {
-    let mut board = full(rt.alloc())?;
-    let mut work = deleting(board.alloc, 3, 4)?;
-    assert_eq!(rt; commit_again(&mut board, &mut work)?, Some((4, 1)));
-    assert_eq!(rt; present(&board)?, (5, None));
+    assert!(rt; other_entries_are_committed(rt.alloc())?);
     Ok(())
+}
+
+fn overtaken_is_committed(alloc: Global) -> Result<bool, Fail> {
+    let mut board = full(alloc)?;
+    let mut work = overtaken_work(&mut board)?;
+    commits(&mut board, &mut work, ((5, 2), (5, Some(5))))
 }
 
 #[test]
 fn a_commit_to_a_log_that_has_moved(rt: HostRuntime) -> Result<(), Fail> {
-    let mut board = full(rt.alloc())?;
-    let mut work = work_on(&board, adding(board.alloc, "x", Some(3))?)?;
-    board.put(adding(rt.alloc(), "y", None)?)?;
-    assert_eq!(rt; commit_again(&mut board, &mut work)?, Some((5, 2)));
-    assert_eq!(rt; present(&board)?, (5, Some(5)));
+    assert!(rt; overtaken_is_committed(rt.alloc())?);
     Ok(())
+}
+
+fn first_is_committed_now(alloc: Global) -> Result<bool, Fail> {
+    let mut board = Board::empty(alloc)?;
+    let submission = creating(alloc, "x")?;
+    commits_now(&mut board, &submission, ((0, 0), (1, Some(1))))
 }
 
 #[test]
 fn a_first_commit_in_one_step(rt: HostRuntime) -> Result<(), Fail> {
-    let mut board = Board::empty(rt.alloc())?;
-    let submission = creating(board.alloc, "x")?;
-    assert_eq!(rt; commit_now_again(&mut board, &submission)?, Some((0, 0)));
-    assert_eq!(rt; present(&board)?, (1, Some(1)));
+    assert!(rt; first_is_committed_now(rt.alloc())?);
     Ok(())
+}
+
+fn late_is_committed_now(alloc: Global) -> Result<bool, Fail> {
+    let mut board = full(alloc)?;
+    let submission = adding(alloc, "x", Some(3))?;
+    commits_now(&mut board, &submission, ((4, 1), (5, Some(5))))
 }
 
 #[test]
 fn a_commit_in_one_step(rt: HostRuntime) -> Result<(), Fail> {
-    let mut board = full(rt.alloc())?;
-    let submission = adding(board.alloc, "x", Some(3))?;
-    assert_eq!(rt; commit_now_again(&mut board, &submission)?, Some((4, 1)));
-    assert_eq!(rt; present(&board)?, (5, Some(5)));
+    assert!(rt; late_is_committed_now(rt.alloc())?);
     Ok(())
 }
