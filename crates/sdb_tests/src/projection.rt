@@ -49,21 +49,35 @@ fn puts(alloc: Global, key: &str) -> Result<Component, Fail> {
     ))
 }
 
-fn op_of(alloc: Global, first: Component, second: Component) -> Result<Op, Fail> {
+// Adds below the one key, and gives the other null.
+fn op_of(alloc: Global, added: &str, put: &str) -> Result<Op, Fail> {
     let mut components = Vec::new(alloc);
-    components.push(first)?;
-    components.push(second)?;
+    components.push(adds(alloc, added)?)?;
+    components.push(puts(alloc, put)?)?;
     Ok(Op::new(components))
+}
+
+fn shown_data(alloc: Global, data: &Json) -> Result<Json, Fail> {
+    Ok(project_data(alloc, &titles(alloc, "t", "b")?, data)?)
+}
+
+// Whether of an object of these keys those are shown.
+fn shows(alloc: Global, keys: &[&str], wanted: &[&str]) -> Result<bool, Fail> {
+    Ok(shown_data(alloc, &nulls(alloc, keys)?)? == nulls(alloc, wanted)?)
 }
 
 #[test]
 fn data_show_the_fields_alone(rt: HostRuntime) -> Result<(), Fail> {
     let alloc = rt.alloc();
-    let projection = titles(alloc, "t", "b")?;
-    let shown = project_data(alloc, &projection, &nulls(alloc, &["n", "title"])?)?;
-    assert!(rt; shown == nulls(alloc, &["title"])?);
-    assert!(rt; project_data(alloc, &projection, &Json::Bool(true))? == Json::Null);
+    assert!(rt; shows(alloc, &["n", "title"], &["title"])?);
+    assert!(rt; shown_data(alloc, &Json::Bool(true))? == Json::Null);
     Ok(())
+}
+
+// How many components the projection shows of an operation.
+fn shown_components(alloc: Global, op: &Op) -> Result<usize, Fail> {
+    let shown = project_op(alloc, &titles(alloc, "t", "b")?, op)?;
+    Ok(shown.components().len())
 }
 
 // How many components the projection shows of an edit.
@@ -75,67 +89,81 @@ fn shown_puts(alloc: Global, content: &Content) -> Result<Option<usize>, Fail> {
     }
 }
 
+fn shown_of_edit(alloc: Global) -> Result<Option<usize>, Fail> {
+    let edit = Content::edit(alloc, op_of(alloc, "n", "title")?)?;
+    shown_puts(alloc, &edit)
+}
+
 #[test]
 fn contents_show_what_leads_to_fields(rt: HostRuntime) -> Result<(), Fail> {
     let alloc = rt.alloc();
-    let op = op_of(alloc, adds(alloc, "n")?, puts(alloc, "title")?)?;
-    let shown = project_op(alloc, &titles(alloc, "t", "b")?, &op)?;
-    assert_eq!(rt; shown.components().len(), 1);
-    let edit = Content::edit(alloc, op)?;
-    assert_eq!(rt; shown_puts(alloc, &edit)?, Some(1));
-    assert_eq!(rt; shown_puts(alloc, &Content::delete())?, None);
+    assert!(rt; shown_components(alloc, &op_of(alloc, "n", "title")?)? == 1);
+    assert!(rt; shown_of_edit(alloc)? == Some(1));
+    assert!(rt; shown_puts(alloc, &Content::delete())?.is_none());
     Ok(())
+}
+
+fn allows(alloc: Global, content: &Content) -> Result<bool, Fail> {
+    Ok(allowed(&titles(alloc, "t", "b")?, content))
+}
+
+fn allows_create(alloc: Global, keys: &[&str]) -> Result<bool, Fail> {
+    allows(alloc, &Content::create(alloc, nulls(alloc, keys)?)?)
 }
 
 #[test]
 fn what_data_are_allowed(rt: HostRuntime) -> Result<(), Fail> {
-    let alloc = rt.alloc();
-    let projection = titles(alloc, "t", "b")?;
-    assert!(rt; allowed(&projection, &Content::delete()));
-    assert!(rt;
-        allowed(
-            &projection,
-            &Content::create(alloc, nulls(alloc, &["title"])?)?
-        )
-    );
-    assert!(rt;
-        !allowed(
-            &projection,
-            &Content::create(alloc, nulls(alloc, &["n", "title"])?)?
-        )
-    );
+    assert!(rt; allows(rt.alloc(), &Content::delete())?);
+    assert!(rt; allows_create(rt.alloc(), &["title"])?);
+    assert!(rt; !allows_create(rt.alloc(), &["n", "title"])?);
     Ok(())
+}
+
+fn allows_edit(alloc: Global, put: &str) -> Result<bool, Fail> {
+    allows(alloc, &Content::edit(alloc, op_of(alloc, "title", put)?)?)
 }
 
 #[test]
 fn what_edits_are_allowed(rt: HostRuntime) -> Result<(), Fail> {
-    let alloc = rt.alloc();
-    let projection = titles(alloc, "t", "b")?;
-    for (key, is) in [("title", true), ("n", false)] {
-        let op = op_of(alloc, adds(alloc, "title")?, puts(alloc, key)?)?;
-        assert_eq!(rt; allowed(&projection, &Content::edit(alloc, op)?), is);
-    }
+    assert!(rt; allows_edit(rt.alloc(), "title")?);
+    assert!(rt; !allows_edit(rt.alloc(), "n")?);
     Ok(())
+}
+
+// Whether the table refuses this projection so.
+fn refuses(
+    alloc: Global,
+    table: &mut Table,
+    name: &str,
+    base: &str,
+    fault: TableFault,
+) -> Result<bool, Fail> {
+    Ok(table.add(titles(alloc, name, base)?) == Err(fault))
+}
+
+// Whether a table that has t of b refuses each of these.
+fn refuses_each(alloc: Global, table: &mut Table) -> Result<bool, Fail> {
+    Ok(
+        refuses(alloc, table, "t", "c", TableFault::SecondName)?
+            && refuses(alloc, table, "x", "x", TableFault::OwnName)?
+            && refuses(alloc, table, "u", "t", TableFault::OfProjection)?
+            && refuses(alloc, table, "b", "c", TableFault::OfProjection)?
+            && table.add(no_fields(alloc, "y", "b")?) == Err(TableFault::NoField),
+    )
+}
+
+fn is_base(table: &Table, name: &str, base: &str) -> bool {
+    match table.find(name) {
+        Some(projection) => projection.base.as_str() == base,
+        None => false,
+    }
 }
 
 #[test]
 fn a_table_refuses(rt: HostRuntime) -> Result<(), Fail> {
-    let alloc = rt.alloc();
-    let mut table = Table::new(alloc);
-    assert_eq!(rt; table.add(titles(alloc, "t", "b")?), Ok(()));
-    let rows = [
-        ("t", "c", TableFault::SecondName),
-        ("x", "x", TableFault::OwnName),
-        ("u", "t", TableFault::OfProjection),
-        ("b", "c", TableFault::OfProjection),
-    ];
-    for (name, base, fault) in rows {
-        assert_eq!(rt; table.add(titles(alloc, name, base)?), Err(fault));
-    }
-    assert_eq!(rt;
-        table.add(no_fields(alloc, "y", "b")?),
-        Err(TableFault::NoField)
-    );
-    assert_eq!(rt; table.find("t").ok_or("t")?.base.as_str(), "b");
+    let mut table = Table::new(rt.alloc());
+    assert!(rt; table.add(titles(rt.alloc(), "t", "b")?).is_ok());
+    assert!(rt; refuses_each(rt.alloc(), &mut table)?);
+    assert!(rt; is_base(&table, "t", "b"));
     Ok(())
 }

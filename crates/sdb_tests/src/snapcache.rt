@@ -29,28 +29,37 @@ fn nine(alloc: Global) -> Result<Cache, Fail> {
 #[test]
 fn a_new_cache_has_nothing(rt: HostRuntime) -> Result<(), Fail> {
     let mut cache = Cache::new(rt.alloc());
-    assert_eq!(rt; cache.len(), 0);
-    assert_eq!(rt; found(&mut cache, 9, 9)?, None);
+    assert!(rt; cache.len() == 0);
+    assert!(rt; found(&mut cache, 9, 9)?.is_none());
     Ok(())
+}
+
+// Whether of nine the last eight are there.
+fn keeps_eight(cache: &mut Cache) -> Result<bool, Fail> {
+    Ok(
+        cache.len() == MOST
+            && found(cache, 1, 1)?.is_none()
+            && found(cache, 2, 2)? == Some((2, true))
+            && found(cache, 100, 9)? == Some((9, true)),
+    )
 }
 
 #[test]
 fn eight_are_kept(rt: HostRuntime) -> Result<(), Fail> {
-    let mut cache = nine(rt.alloc())?;
-    assert_eq!(rt; cache.len(), MOST);
-    assert_eq!(rt; found(&mut cache, 1, 1)?, None);
-    assert_eq!(rt; found(&mut cache, 2, 2)?, Some((2, true)));
-    assert_eq!(rt; found(&mut cache, 100, 9)?, Some((9, true)));
+    assert!(rt; keeps_eight(&mut nine(rt.alloc())?)?);
     Ok(())
+}
+
+// Whether the one that was found stays, and the next goes.
+fn keeps_what_is_used(cache: &mut Cache) -> Result<bool, Fail> {
+    let is_found = found(cache, 2, 2)? == Some((2, true));
+    cache.offer(10, number(10)?)?;
+    Ok(is_found && cache.len() == MOST && found(cache, 3, 2)? == Some((2, true)))
 }
 
 #[test]
 fn the_least_recently_used_goes(rt: HostRuntime) -> Result<(), Fail> {
-    let mut cache = nine(rt.alloc())?;
-    assert_eq!(rt; found(&mut cache, 2, 2)?, Some((2, true)));
-    cache.offer(10, number(10)?)?;
-    assert_eq!(rt; cache.len(), MOST);
-    assert_eq!(rt; found(&mut cache, 3, 2)?, Some((2, true)));
+    assert!(rt; keeps_what_is_used(&mut nine(rt.alloc())?)?);
     Ok(())
 }
 
@@ -58,7 +67,7 @@ fn the_least_recently_used_goes(rt: HostRuntime) -> Result<(), Fail> {
 fn a_cache_forgets(rt: HostRuntime) -> Result<(), Fail> {
     let mut cache = nine(rt.alloc())?;
     cache.forget();
-    assert_eq!(rt; cache.len(), 0);
-    assert_eq!(rt; found(&mut cache, 9, 9)?, None);
+    assert!(rt; cache.len() == 0);
+    assert!(rt; found(&mut cache, 9, 9)?.is_none());
     Ok(())
 }

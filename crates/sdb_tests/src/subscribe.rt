@@ -39,40 +39,52 @@ fn taken(
     }
 }
 
+fn opened(queues: &mut Queues, from: u64) -> Result<SubId, Fail> {
+    Ok(queues.open(from).or(Err("open"))?)
+}
+
+fn gives_each_once(queues: &mut Queues, log: &Log) -> Result<bool, Fail> {
+    let id = opened(queues, 0)?;
+    Ok(
+        taken(queues, log, id, 1)? == Some((1, Some(0)))
+            && taken(queues, log, id, 9)? == Some((1, Some(1)))
+            && taken(queues, log, id, 9)? == Some((0, None)),
+    )
+}
+
 #[test]
 fn a_queue_gives_each_entry_once(rt: HostRuntime) -> Result<(), Fail> {
     let log = two_entries(rt.alloc())?;
-    let mut queues = Queues::new(rt.alloc());
-    let id = queues.open(0).or(Err("open"))?;
-    assert_eq!(rt; taken(&mut queues, &log, id, 1)?, Some((1, Some(0))));
-    assert_eq!(rt; taken(&mut queues, &log, id, 9)?, Some((1, Some(1))));
-    assert_eq!(rt; taken(&mut queues, &log, id, 9)?, Some((0, None)));
+    assert!(rt; gives_each_once(&mut Queues::new(rt.alloc()), &log)?);
     Ok(())
+}
+
+fn stand_apart(queues: &mut Queues, log: &Log) -> Result<bool, Fail> {
+    let (first, second) = (opened(queues, 1)?, opened(queues, 5)?);
+    Ok(
+        first != second
+            && queues.given() == 2
+            && taken(queues, log, second, 9)? == Some((0, None))
+            && taken(queues, log, first, 9)? == Some((1, Some(1))),
+    )
 }
 
 #[test]
 fn queues_stand_apart(rt: HostRuntime) -> Result<(), Fail> {
     let log = two_entries(rt.alloc())?;
-    let mut queues = Queues::new(rt.alloc());
-    let (first, second) = (
-        queues.open(1).or(Err("open"))?,
-        queues.open(5).or(Err("open"))?,
-    );
-    assert!(rt; first != second);
-    assert_eq!(rt; queues.given(), 2);
-    assert_eq!(rt; taken(&mut queues, &log, second, 9)?, Some((0, None)));
-    assert_eq!(rt; taken(&mut queues, &log, first, 9)?, Some((1, Some(1))));
+    assert!(rt; stand_apart(&mut Queues::new(rt.alloc()), &log)?);
     Ok(())
+}
+
+fn forgets_a_closed_one(queues: &mut Queues, log: &Log) -> Result<bool, Fail> {
+    let id = opened(queues, 0)?;
+    queues.close(id);
+    Ok(queues.len() == 0 && taken(queues, log, id, 9)?.is_none() && opened(queues, 0)? != id)
 }
 
 #[test]
 fn a_closed_queue_is_unknown(rt: HostRuntime) -> Result<(), Fail> {
     let log = two_entries(rt.alloc())?;
-    let mut queues = Queues::new(rt.alloc());
-    let id = queues.open(0).or(Err("open"))?;
-    queues.close(id);
-    assert_eq!(rt; queues.len(), 0);
-    assert_eq!(rt; taken(&mut queues, &log, id, 9)?, None);
-    assert!(rt; queues.open(0).or(Err("open"))? != id);
+    assert!(rt; forgets_a_closed_one(&mut Queues::new(rt.alloc()), &log)?);
     Ok(())
 }
