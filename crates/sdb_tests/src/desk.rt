@@ -85,6 +85,11 @@ impl Board {
         from(self.alloc, src, version, adding(self.alloc, amount)?)
     }
 
+    // Stores an edit by the source, made at what is there now.
+    fn put_edit(&mut self, src: &str, amount: i64) -> Result<(), Fail> {
+        self.put(self.edit(src, None, amount)?)
+    }
+
     fn look(&self, src: &str, version: u64) -> Result<Look, Fail> {
         Ok(
             self.shard
@@ -172,28 +177,41 @@ fn moved(outcome: Outcome) -> Option<(u64, usize)> {
     }
 }
 
+// A look at the number 0.
+fn looked(alloc: Global, src: &str, version: u64) -> Result<Look, Fail> {
+    Board::new(alloc)?.look(src, version)
+}
+
 #[test]
 fn a_look_shows_what_is_missed(rt: HostRuntime) -> Result<(), Fail> {
-    let look = Board::new(rt.alloc())?.look("x", 0)?;
-    assert_eq!(rt; (look.version, look.missed.len()), (1, 1));
-    assert_eq!(rt; look.repeat, None);
+    let look = looked(rt.alloc(), "x", 0)?;
+    assert!(rt; look.version == 1 && look.missed.len() == 1);
+    assert!(rt; look.repeat.is_none());
     Ok(())
 }
 
 #[test]
 fn a_look_shows_a_repeat(rt: HostRuntime) -> Result<(), Fail> {
-    let look = Board::new(rt.alloc())?.look("w", 7)?;
-    assert_eq!(rt; (look.version, look.missed.len()), (1, 0));
-    assert_eq!(rt; look.repeat, Some(0));
+    let look = looked(rt.alloc(), "w", 7)?;
+    assert!(rt; look.version == 1 && look.missed.is_empty());
+    assert!(rt; look.repeat == Some(0));
     Ok(())
+}
+
+fn new_work(alloc: Global) -> Result<Work, Fail> {
+    Board::new(alloc)?.work("x", 1, 5)
+}
+
+fn is_given_back(work: Work) -> bool {
+    let attempt = work.into_attempt();
+    attempt.submission.src() == "x" && attempt.look.version == 1
 }
 
 #[test]
 fn an_attempt_is_worked_and_given_back(rt: HostRuntime) -> Result<(), Fail> {
-    let work = Board::new(rt.alloc())?.work("x", 1, 5)?;
-    assert_eq!(rt; (work.version(), work.missed().len()), (1, 0));
-    let attempt = work.into_attempt();
-    assert_eq!(rt; (attempt.submission.src(), attempt.look.version), ("x", 1));
+    let work = new_work(rt.alloc())?;
+    assert!(rt; work.version() == 1 && work.missed().is_empty());
+    assert!(rt; is_given_back(work));
     Ok(())
 }
 
@@ -208,75 +226,102 @@ pub(crate) fn deleting(alloc: Global, made_at: u64, version: u64) -> Result<Work
     Ok(Work::new(Attempt { submission, look }, Ok(Content::delete())))
 }
 
+// What a commit of such a delete decides.
+fn delete_decided(board: &mut Board, made_at: u64) -> Result<Option<(u64, usize)>, Fail> {
+    let work = deleting(board.alloc, made_at, 1)?;
+    Ok(decided(board.commit(work)))
+}
+
+fn own_work_is_committed(board: &mut Board) -> Result<bool, Fail> {
+    Ok(delete_decided(board, 1)? == Some((1, 0)) && board.present()? == (2, None))
+}
+
 #[test]
 fn a_work_of_ones_own_is_committed(rt: HostRuntime) -> Result<(), Fail> {
-    let mut board = Board::new(rt.alloc())?;
-    let outcome = board.commit(deleting(rt.alloc(), 1, 1)?);
-    assert_eq!(rt; decided(outcome), Some((1, 0)));
-    assert_eq!(rt; board.present()?, (2, None));
+    assert!(rt; own_work_is_committed(&mut Board::new(rt.alloc())?)?);
     Ok(())
+}
+
+fn other_work_is_made_afresh(board: &mut Board) -> Result<bool, Fail> {
+    Ok(delete_decided(board, 0)?.is_none() && board.present()? == (1, Some(0)))
 }
 
 #[test]
 fn a_work_of_other_entries_is_made_afresh(rt: HostRuntime) -> Result<(), Fail> {
-    let mut board = Board::new(rt.alloc())?;
-    let outcome = board.commit(deleting(rt.alloc(), 0, 1)?);
-    assert_eq!(rt; decided(outcome), None);
-    assert_eq!(rt; board.present()?, (1, Some(0)));
+    assert!(rt; other_work_is_made_afresh(&mut Board::new(rt.alloc())?)?);
     Ok(())
+}
+
+fn commit_decides(board: &mut Board) -> Result<bool, Fail> {
+    let work = board.work("x", 1, 5)?;
+    Ok(decided(board.commit(work)) == Some((1, 0)) && board.present()? == (2, Some(5)))
 }
 
 #[test]
 fn a_commit_decides(rt: HostRuntime) -> Result<(), Fail> {
-    let mut board = Board::new(rt.alloc())?;
-    let outcome = board.commit(board.work("x", 1, 5)?);
-    assert_eq!(rt; decided(outcome), Some((1, 0)));
-    assert_eq!(rt; board.present()?, (2, Some(5)));
+    assert!(rt; commit_decides(&mut Board::new(rt.alloc())?)?);
     Ok(())
+}
+
+// What a commit shows once another edit was stored.
+fn late_moved(board: &mut Board) -> Result<Option<(u64, usize)>, Fail> {
+    let late = board.work("x", 1, 10)?;
+    board.put_edit("y", 5)?;
+    Ok(moved(board.commit(late)))
 }
 
 #[test]
 fn a_commit_shows_a_log_that_has_moved(rt: HostRuntime) -> Result<(), Fail> {
-    let mut board = Board::new(rt.alloc())?;
-    let late = board.work("x", 1, 10)?;
-    board.put(board.edit("y", None, 5)?)?;
-    assert_eq!(rt; moved(board.commit(late)), Some((2, 1)));
+    assert!(rt; late_moved(&mut Board::new(rt.alloc())?)? == Some((2, 1)));
     Ok(())
+}
+
+fn one_step_decides(board: &mut Board) -> Result<bool, Fail> {
+    board.put_edit("x", 5)?;
+    let edit = board.edit("y", Some(1), 10)?;
+    Ok(stored(board.commit_now(edit)) == Some((2, 1)) && board.present()? == (3, Some(15)))
 }
 
 #[test]
 fn a_submission_is_decided_in_one_step(rt: HostRuntime) -> Result<(), Fail> {
-    let mut board = Board::new(rt.alloc())?;
-    board.put(board.edit("x", None, 5)?)?;
-    let reply = board.commit_now(board.edit("y", Some(1), 10)?);
-    assert_eq!(rt; stored(reply), Some((2, 1)));
-    assert_eq!(rt; board.present()?, (3, Some(15)));
+    assert!(rt; one_step_decides(&mut Board::new(rt.alloc())?)?);
     Ok(())
+}
+
+fn repeat_answered(board: &mut Board) -> Result<Option<u64>, Fail> {
+    let edit = board.edit("w", Some(9), 1)?;
+    Ok(repeated(board.commit_now(edit)))
 }
 
 #[test]
 fn a_repeat_is_answered(rt: HostRuntime) -> Result<(), Fail> {
-    let mut board = Board::new(rt.alloc())?;
-    let reply = board.commit_now(board.edit("w", Some(9), 1)?);
-    assert_eq!(rt; repeated(reply), Some(0));
+    assert!(rt; repeat_answered(&mut Board::new(rt.alloc())?)? == Some(0));
     Ok(())
+}
+
+fn first_edit_is_refused(board: &mut Board) -> Result<bool, Fail> {
+    let edit = board.edit("x", None, 1)?;
+    Ok(refused(board.commit_now(edit)) == Some(Code::E7) && board.present()? == (0, None))
 }
 
 #[test]
 fn a_refused_submission_makes_no_document(rt: HostRuntime) -> Result<(), Fail> {
     let mut board = Board::empty(rt.alloc())?;
-    let reply = board.commit_now(board.edit("x", None, 1)?);
-    assert_eq!(rt; refused(reply), Some(Code::E7));
+    assert!(rt; first_edit_is_refused(&mut board)?);
     assert!(rt; board.shard.log(&board.key).is_none());
-    assert_eq!(rt; board.present()?, (0, None));
     Ok(())
+}
+
+fn shows_its_log(board: &Board) -> bool {
+    match board.shard.log(&board.key) {
+        Some(log) => log.len() == 1 && log.stored_at("w", 1) == Some(0),
+        None => false,
+    }
 }
 
 #[test]
 fn a_log_is_shown(rt: HostRuntime) -> Result<(), Fail> {
-    let board = Board::new(rt.alloc())?;
-    let log = board.shard.log(&board.key).ok_or("a log")?;
-    assert_eq!(rt; (log.len(), log.stored_at("w", 1)), (1, Some(0)));
+    assert!(rt; shows_its_log(&Board::new(rt.alloc())?));
     Ok(())
 }
 
@@ -291,8 +336,8 @@ fn listed(alloc: Global, version: u64) -> Result<Result<usize, Code>, Fail> {
 
 #[test]
 fn operations_are_listed_from_a_version(rt: HostRuntime) -> Result<(), Fail> {
-    assert_eq!(rt; listed(rt.alloc(), 0)?, Ok(1));
-    assert_eq!(rt; listed(rt.alloc(), 2)?, Err(Code::E4));
+    assert!(rt; listed(rt.alloc(), 0)? == Ok(1));
+    assert!(rt; listed(rt.alloc(), 2)? == Err(Code::E4));
     Ok(())
 }
 
@@ -317,29 +362,37 @@ fn number_at(board: &mut Board, version: u64) -> Result<i64, Fail> {
 fn eleven(alloc: Global) -> Result<Board, Fail> {
     let mut board = Board::new(alloc)?;
     for src in ["a", "b", "c", "d", "e", "f", "g", "h", "i", "j", "k"] {
-        board.put(board.edit(src, None, 1)?)?;
+        board.put_edit(src, 1)?;
     }
     Ok(board)
+}
+
+fn has_counted(board: &mut Board) -> Result<bool, Fail> {
+    let wanted = [0, 1, 2, 3, 4, 5, 6, 7, 8, 9, 10, 11];
+    Ok(history(board, 12)?.as_slice() == wanted.as_slice())
 }
 
 #[test]
 fn a_document_at_each_version(rt: HostRuntime) -> Result<(), Fail> {
     let mut board = eleven(rt.alloc())?;
-    let wanted = [0, 1, 2, 3, 4, 5, 6, 7, 8, 9, 10, 11];
-    assert_eq!(rt; history(&mut board, 12)?.as_slice(), wanted.as_slice());
+    assert!(rt; has_counted(&mut board)?);
     board.shard.forget(&board.key);
-    assert_eq!(rt; history(&mut board, 12)?.as_slice(), wanted.as_slice());
+    assert!(rt; has_counted(&mut board)?);
     Ok(())
+}
+
+// Whether there is nothing at version 0.
+fn starts_with_nothing(board: &mut Board) -> bool {
+    match board.shard.snapshot_at(&board.key, Some(0)) {
+        Ok(found) => found.snapshot.is_none(),
+        Err(_) => false,
+    }
 }
 
 #[test]
 fn no_document_before_the_first_version(rt: HostRuntime) -> Result<(), Fail> {
     let mut board = eleven(rt.alloc())?;
-    let found = board
-        .shard
-        .snapshot_at(&board.key, Some(0))
-        .or(Err("no snapshot"))?;
-    assert!(rt; found.snapshot.is_none());
+    assert!(rt; starts_with_nothing(&mut board));
     assert!(rt; matches!(board.shard.snapshot_at(&board.key, Some(13)), Err(Code::E4)));
     Ok(())
 }
@@ -357,8 +410,8 @@ fn taken(board: &mut Board, id: SubId, max: u64) -> Result<Vec<u64>, Fail> {
 // The document is made, and edited twice.
 fn edited_twice(alloc: Global) -> Result<Board, Fail> {
     let mut board = Board::new(alloc)?;
-    board.put(board.edit("a", None, 1)?)?;
-    board.put(board.edit("b", None, 1)?)?;
+    board.put_edit("a", 1)?;
+    board.put_edit("b", 1)?;
     Ok(board)
 }
 
@@ -371,32 +424,50 @@ fn subscribed(board: &mut Board, version: Option<u64>) -> Result<Subscribed, Fai
     )
 }
 
+fn queue_from(board: &mut Board, version: u64) -> Result<SubId, Fail> {
+    Ok(subscribed(board, Some(version))?.id)
+}
+
+// Whether these are taken.
+fn takes(board: &mut Board, id: SubId, max: u64, wanted: &[u64]) -> Result<bool, Fail> {
+    Ok(taken(board, id, max)?.as_slice() == wanted)
+}
+
+fn takes_each_once(board: &mut Board) -> Result<bool, Fail> {
+    let id = queue_from(board, 0)?;
+    let is_first = takes(board, id, 2, &[0, 1])?;
+    board.put_edit("c", 1)?;
+    Ok(is_first && takes(board, id, 10, &[2, 3])? && takes(board, id, 10, &[])?)
+}
+
 #[test]
 fn a_queue_takes_each_entry_once(rt: HostRuntime) -> Result<(), Fail> {
-    let mut board = edited_twice(rt.alloc())?;
-    let id = subscribed(&mut board, Some(0))?.id;
-    assert_eq!(rt; taken(&mut board, id, 2)?.as_slice(), [0, 1].as_slice());
-    board.put(board.edit("c", None, 1)?)?;
-    assert_eq!(rt; taken(&mut board, id, 10)?.as_slice(), [2, 3].as_slice());
-    assert!(rt; taken(&mut board, id, 10)?.is_empty());
+    assert!(rt; takes_each_once(&mut edited_twice(rt.alloc())?)?);
     Ok(())
+}
+
+fn opens_now(board: &mut Board) -> Result<bool, Fail> {
+    let opened = subscribed(board, None)?;
+    let is_at_three = opened.start == 3 && opened.version == 3;
+    Ok(is_at_three && number(opened.snapshot.as_ref()) == Some(2))
 }
 
 #[test]
 fn a_queue_is_opened_at_a_version(rt: HostRuntime) -> Result<(), Fail> {
     let mut board = edited_twice(rt.alloc())?;
-    let opened = subscribed(&mut board, None)?;
-    assert_eq!(rt; (opened.start, opened.version), (3, 3));
-    assert_eq!(rt; number(opened.snapshot.as_ref()), Some(2));
+    assert!(rt; opens_now(&mut board)?);
     assert!(rt; matches!(board.shard.subscribe(&board.key, Some(4)), Err(Code::E4)));
     Ok(())
 }
 
+fn forgets_a_closed_queue(board: &mut Board) -> Result<bool, Fail> {
+    let id = queue_from(board, 1)?;
+    board.shard.unsubscribe(&board.key, id);
+    Ok(board.shard.take(&board.key, id, 1)?.is_none())
+}
+
 #[test]
 fn a_queue_that_is_closed_is_unknown(rt: HostRuntime) -> Result<(), Fail> {
-    let mut board = edited_twice(rt.alloc())?;
-    let id = subscribed(&mut board, Some(1))?.id;
-    board.shard.unsubscribe(&board.key, id);
-    assert!(rt; board.shard.take(&board.key, id, 1)?.is_none());
+    assert!(rt; forgets_a_closed_queue(&mut edited_twice(rt.alloc())?)?);
     Ok(())
 }
