@@ -70,13 +70,32 @@ fn refused(applied: Result<(), Refused>) -> Result<Option<u64>, Fail> {
     }
 }
 
+fn why_not(alloc: Global, value: &mut Json, steps: &Value) -> Result<Option<u64>, Fail> {
+    let op = read_op(alloc, steps)?;
+    refused(apply(alloc, value, &op))
+}
+
+fn is_value(alloc: Global, value: &Json, wanted: &Value) -> Result<bool, Fail> {
+    is_shown(alloc, value, wanted.to_string(alloc)?.as_str())
+}
+
+// Whether the operation is applied or refused so, and leaves this.
+fn becomes(
+    alloc: Global,
+    value: &mut Json,
+    steps: &Value,
+    at: Option<u64>,
+    after: &Value,
+) -> Result<bool, Fail> {
+    Ok(why_not(alloc, value, steps)? == at && is_value(alloc, value, after)?)
+}
+
 fn holds(alloc: Global, row: &Value) -> Result<bool, Fail> {
     let [before, steps, at, after] = row.as_array().ok_or("no row")?.as_slice() else {
         return Err("no row of four".into());
     };
     let mut value = from_value(alloc, before)?;
-    let why = refused(apply(alloc, &mut value, &read_op(alloc, steps)?))?;
-    Ok(why == at.as_u64() && is_shown(alloc, &value, after.to_string(alloc)?.as_str())?)
+    becomes(alloc, &mut value, steps, at.as_u64(), after)
 }
 
 #[test]
@@ -90,15 +109,20 @@ fn operations_are_applied_or_refused(rt: HostRuntime) -> Result<(), Fail> {
     Ok(())
 }
 
+fn is_done(alloc: Global, value: &mut Json, steps: &Value) -> Result<bool, Fail> {
+    let op = read_op(alloc, steps)?;
+    Ok(apply_whole(alloc, value, &op).is_ok())
+}
+
 // Whether all of the operation is applied, or nothing of it.
 fn holds_whole(alloc: Global, row: &Value) -> Result<bool, Fail> {
     let [before, steps, at, after] = row.as_array().ok_or("no row")?.as_slice() else {
         return Err("no row of four".into());
     };
     let mut value = from_value(alloc, before)?;
-    let done = apply_whole(alloc, &mut value, &read_op(alloc, steps)?).is_ok();
+    let done = is_done(alloc, &mut value, steps)?;
     let wanted = if done { after } else { before };
-    Ok(done == at.is_null() && is_shown(alloc, &value, wanted.to_string(alloc)?.as_str())?)
+    Ok(is_value(alloc, &value, wanted)? && done == at.is_null())
 }
 
 #[test]
@@ -118,13 +142,20 @@ fn applied_one(alloc: Global, value: &mut Json, text: &str) -> Result<bool, Fail
     }
 }
 
+// Whether an insert is applied, and one past the end refused.
+fn takes_one_insert(alloc: Global, value: &mut Json) -> Result<bool, Fail> {
+    Ok(
+        applied_one(alloc, value, r#"[{"p":["l",1],"li":2}]"#)?
+            && is_shown(alloc, value, r#"{"l":[1,2]}"#)?
+            && !applied_one(alloc, value, r#"[{"p":["l",3],"li":4}]"#)?
+            && is_shown(alloc, value, r#"{"l":[1,2]}"#)?,
+    )
+}
+
 #[test]
 fn one_component_is_applied(rt: HostRuntime) -> Result<(), Fail> {
     let mut value = json(rt.alloc(), r#"{"l":[1]}"#)?;
-    assert!(rt; applied_one(rt.alloc(), &mut value, r#"[{"p":["l",1],"li":2}]"#)?);
-    assert!(rt; is_shown(rt.alloc(), &value, r#"{"l":[1,2]}"#)?);
-    assert!(rt; !applied_one(rt.alloc(), &mut value, r#"[{"p":["l",3],"li":4}]"#)?);
-    assert!(rt; is_shown(rt.alloc(), &value, r#"{"l":[1,2]}"#)?);
+    assert!(rt; takes_one_insert(rt.alloc(), &mut value)?);
     Ok(())
 }
 
@@ -136,19 +167,17 @@ fn applied_at(alloc: Global, value: &mut Json, path: &[Step], text: &str) -> Res
     }
 }
 
+// Inserts into the second item.
+fn applied_in_second(alloc: Global, value: &mut Json) -> Result<bool, Fail> {
+    let mut path = Vec::new(alloc);
+    path.push(Step::Index(1))?;
+    applied_at(alloc, value, path.as_slice(), r#"[{"p":[2],"si":"c"}]"#)
+}
+
 #[test]
 fn an_act_is_applied_at_a_path(rt: HostRuntime) -> Result<(), Fail> {
     let mut value = json(rt.alloc(), r#"[[],"ab"]"#)?;
-    let mut path = Vec::new(rt.alloc());
-    path.push(Step::Index(1))?;
-    assert!(rt;
-        applied_at(
-            rt.alloc(),
-            &mut value,
-            path.as_slice(),
-            r#"[{"p":[2],"si":"c"}]"#
-        )?
-    );
+    assert!(rt; applied_in_second(rt.alloc(), &mut value)?);
     assert!(rt; is_shown(rt.alloc(), &value, r#"[[],"abc"]"#)?);
     Ok(())
 }

@@ -37,15 +37,16 @@ fn is_spelled(alloc: Global, op: &Op, wanted: &str) -> Result<bool, Fail> {
     Ok(shown.as_str() == wanted && written(alloc, op)?.as_slice() == wanted.as_bytes())
 }
 
+// Whether the value is read, and printed again as this text.
+fn is_read_as(alloc: Global, sent: &Value, wanted: &str) -> Result<bool, Fail> {
+    is_spelled(alloc, &read_op(alloc, sent)?, wanted)
+}
+
 fn holds(alloc: Global, row: &Value) -> Result<bool, Fail> {
     let [sent, wanted] = row.as_array().ok_or("no row")?.as_slice() else {
         return Err("no row of two".into());
     };
-    is_spelled(
-        alloc,
-        &read_op(alloc, sent)?,
-        wanted.to_string(alloc)?.as_str(),
-    )
+    is_read_as(alloc, sent, wanted.to_string(alloc)?.as_str())
 }
 
 #[test]
@@ -126,11 +127,13 @@ fn deep(alloc: Global, depth: u64) -> Result<Value, Fail> {
     Ok(Value::from_str(alloc, text.as_str())?)
 }
 
+fn is_read_as_sent(alloc: Global, sent: &Value) -> Result<bool, Fail> {
+    is_read_as(alloc, sent, sent.to_string(alloc)?.as_str())
+}
+
 #[test]
 fn steps_are_limited(rt: HostRuntime) -> Result<(), Fail> {
-    let most = long_path(rt.alloc(), 50)?;
-    let text = most.to_string(rt.alloc())?;
-    assert!(rt; is_spelled(rt.alloc(), &read_op(rt.alloc(), &most)?, text.as_str())?);
+    assert!(rt; is_read_as_sent(rt.alloc(), &long_path(rt.alloc(), 50)?)?);
     assert!(rt; is_form(rt.alloc(), &long_path(rt.alloc(), 51)?));
     Ok(())
 }
@@ -138,13 +141,7 @@ fn steps_are_limited(rt: HostRuntime) -> Result<(), Fail> {
 #[test]
 fn components_are_limited(rt: HostRuntime) -> Result<(), Fail> {
     let most = many(rt.alloc(), 256)?;
-    assert!(rt;
-        is_spelled(
-            rt.alloc(),
-            &read_op(rt.alloc(), &most)?,
-            r#"[{"na":1,"p":[]}]"#
-        )?
-    );
+    assert!(rt; is_read_as(rt.alloc(), &most, r#"[{"na":1,"p":[]}]"#)?);
     assert!(rt; is_form(rt.alloc(), &many(rt.alloc(), 257)?));
     Ok(())
 }
@@ -178,12 +175,20 @@ fn is_read_alone(alloc: Global, component: &Component) -> Result<bool, Fail> {
     is_spelled(alloc, &again, printed(alloc, &alone)?.as_str())
 }
 
+fn copy_of_nine(alloc: Global) -> Result<Op, Fail> {
+    Ok(op(alloc, NINE)?.try_clone(alloc)?)
+}
+
+fn is_nine(alloc: Global, copy: &Op) -> Result<bool, Fail> {
+    let sent = Value::from_str(alloc, NINE)?.to_string(alloc)?;
+    is_spelled(alloc, copy, sent.as_str())
+}
+
 #[test]
 fn a_copy_is_the_same(rt: HostRuntime) -> Result<(), Fail> {
-    let copy = op(rt.alloc(), NINE)?.try_clone(rt.alloc())?;
-    let sent = Value::from_str(rt.alloc(), NINE)?.to_string(rt.alloc())?;
-    assert!(rt; is_spelled(rt.alloc(), &copy, sent.as_str())?);
-    assert!(rt; (copy.components().len(), weight(&copy)) == (9, 11));
+    let copy = copy_of_nine(rt.alloc())?;
+    assert!(rt; is_nine(rt.alloc(), &copy)?);
+    assert!(rt; copy.components().len() == 9 && weight(&copy) == 11);
     Ok(())
 }
 

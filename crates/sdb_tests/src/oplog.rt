@@ -29,15 +29,23 @@ fn is_true(document: Option<&Json>) -> bool {
     matches!(document, Some(Json::Bool(true)))
 }
 
+fn keeps_its_entry(log: &Log) -> bool {
+    match log.get(0) {
+        Some(entry) => {
+            let arrived = entry.arrived();
+            entry.version() == 0 && arrived.by() == 7 && arrived.via() == "b"
+        }
+        None => false,
+    }
+}
+
 #[test]
 fn a_log_keeps_what_is_pushed(rt: HostRuntime) -> Result<(), Fail> {
     assert!(rt; Log::new(rt.alloc()).is_empty());
     let log = a_log(rt.alloc())?;
     assert!(rt; log.len() == 1 && !log.is_empty());
     assert!(rt; log.get(1).is_none());
-    let entry = log.get(0).ok_or("an entry")?;
-    assert!(rt; (entry.version(), entry.arrived().by()) == (0, 7));
-    assert!(rt; entry.arrived().via() == "b");
+    assert!(rt; keeps_its_entry(&log));
     Ok(())
 }
 
@@ -50,12 +58,14 @@ fn a_log_knows_its_submissions(rt: HostRuntime) -> Result<(), Fail> {
     Ok(())
 }
 
+// Whether the document is replayed, and the log stays.
+fn is_replayed(log: &Log) -> Result<bool, Fail> {
+    Ok(log.replay(0)?.is_none() && log.len() == 1 && is_true(log.replay(1)?.as_ref()))
+}
+
 #[test]
 fn a_log_is_replayed(rt: HostRuntime) -> Result<(), Fail> {
-    let log = a_log(rt.alloc())?;
-    assert!(rt; log.replay(0)?.is_none());
-    assert!(rt; log.len() == 1);
-    assert!(rt; is_true(log.replay(1)?.as_ref()));
+    assert!(rt; is_replayed(&a_log(rt.alloc())?)?);
     Ok(())
 }
 
@@ -71,9 +81,13 @@ fn one_of(alloc: Global, entry: Entry) -> Result<Vec<Entry>, Fail> {
     Ok(entries)
 }
 
+fn a_copy(alloc: Global) -> Result<Entry, Fail> {
+    Ok(an_entry(alloc)?.try_clone()?)
+}
+
 #[test]
 fn a_copy_of_an_entry_is_the_same(rt: HostRuntime) -> Result<(), Fail> {
-    let copy = an_entry(rt.alloc())?.try_clone()?;
+    let copy = a_copy(rt.alloc())?;
     assert!(rt; copy.is_from("x", 1));
     assert!(rt; matches!(copy.content().kind(), Kind::Delete));
     assert!(rt; matches!(copy.arrived().content().kind(), Kind::Create(_)));

@@ -201,12 +201,12 @@ fn component(alloc: Global, value: &Value) -> Result<Component, Fail> {
 // Whether this stands for the component after the other one, or E8.
 fn is_transformed(
     alloc: Global,
-    component: Component,
+    value: &Value,
     other: &Component,
     side: Side,
     wanted: &Value,
 ) -> Result<bool, Fail> {
-    match transform_one(alloc, component, other, side) {
+    match transform_one(alloc, component(alloc, value)?, other, side) {
         Ok(components) => {
             is_printed(
                 alloc,
@@ -230,13 +230,7 @@ fn holds(alloc: Global, row: &Value, name: &str, side: Side) -> Result<bool, Fai
     if !is_for(sides, name) {
         return Ok(true);
     }
-    is_transformed(
-        alloc,
-        component(alloc, value)?,
-        &component(alloc, other)?,
-        side,
-        wanted,
-    )
+    is_transformed(alloc, value, &component(alloc, other)?, side, wanted)
 }
 
 // Counts the rows, each of which has to hold.

@@ -96,19 +96,17 @@ fn depth(alloc: Global, text: &str) -> Result<u64, Fail> {
     Ok(json(alloc, text)?.depth())
 }
 
+// Whether the text is that deep, and shown again.
+fn is_deep(alloc: Global, text: &str, wanted: u64) -> Result<bool, Fail> {
+    let value = json(alloc, text)?;
+    Ok(value.depth() == wanted && is_shown(alloc, &value, text)?)
+}
+
 #[test]
 fn depth_is_counted(rt: HostRuntime) -> Result<(), Fail> {
     assert!(rt; depth(rt.alloc(), r#""a""#)? == 0);
     assert!(rt; depth(rt.alloc(), r#"{"a":[1],"b":{"c":[]}}"#)? == 3);
-    let deepest = deep(rt.alloc(), 50)?;
-    assert!(rt; depth(rt.alloc(), deepest.as_str())? == 50);
-    assert!(rt;
-        is_shown(
-            rt.alloc(),
-            &json(rt.alloc(), deepest.as_str())?,
-            deepest.as_str()
-        )?
-    );
+    assert!(rt; is_deep(rt.alloc(), deep(rt.alloc(), 50)?.as_str(), 50)?);
     Ok(())
 }
 
@@ -332,23 +330,33 @@ fn put_null(alloc: Global, value: &mut Json, steps: &str) -> Result<Option<u64>,
     Ok(change_at(value, &path, Replace { new: Json::Null }))
 }
 
+// Whether one place takes null, and places that aren't there change nothing.
+fn changes_one_place(alloc: Global, value: &mut Json) -> Result<bool, Fail> {
+    let after = r#"{"a":[1,{"b":null}],"c":2}"#;
+    Ok(
+        put_null(alloc, value, r#"["a",1,"b"]"#)? == Some(2)
+            && is_shown(alloc, value, after)?
+            && put_null(alloc, value, r#"["a",2]"#)?.is_none()
+            && put_null(alloc, value, r#"["b"]"#)?.is_none()
+            && is_shown(alloc, value, after)?,
+    )
+}
+
 #[test]
 fn one_place_is_changed(rt: HostRuntime) -> Result<(), Fail> {
     let mut value = json(rt.alloc(), r#"{"a":[1,{"b":[[]]}],"c":2}"#)?;
-    let after = r#"{"a":[1,{"b":null}],"c":2}"#;
-    assert!(rt; put_null(rt.alloc(), &mut value, r#"["a",1,"b"]"#)? == Some(2));
-    assert!(rt; is_shown(rt.alloc(), &value, after)?);
-    assert!(rt; put_null(rt.alloc(), &mut value, r#"["a",2]"#)?.is_none());
-    assert!(rt; put_null(rt.alloc(), &mut value, r#"["b"]"#)?.is_none());
-    assert!(rt; is_shown(rt.alloc(), &value, after)?);
+    assert!(rt; changes_one_place(rt.alloc(), &mut value)?);
     Ok(())
+}
+
+fn changes_the_whole(alloc: Global, value: &mut Json) -> Result<bool, Fail> {
+    Ok(put_null(alloc, value, "[]")? == Some(3) && is_shown(alloc, value, "null")?)
 }
 
 #[test]
 fn the_whole_value_is_changed(rt: HostRuntime) -> Result<(), Fail> {
     let mut value = json(rt.alloc(), r#"{"a":[1,{"b":null}],"c":2}"#)?;
-    assert!(rt; put_null(rt.alloc(), &mut value, "[]")? == Some(3));
-    assert!(rt; is_shown(rt.alloc(), &value, "null")?);
+    assert!(rt; changes_the_whole(rt.alloc(), &mut value)?);
     Ok(())
 }
 

@@ -35,25 +35,41 @@ fn brought(alloc: Global, content: &Content) -> Result<String, Fail> {
     }
 }
 
-#[test]
-fn a_submission_is_read(rt: HostRuntime) -> Result<(), Fail> {
-    let alloc = rt.alloc();
-    let Ok(
+fn is_source(src: Option<&String>, wanted: &str) -> bool {
+    match src {
+        Some(src) => src.as_str() == wanted,
+        None => false,
+    }
+}
+
+// Whether it is the submission of that edit.
+fn is_edit(alloc: Global, request: &Request) -> Result<bool, Fail> {
+    match request {
         Request::Submit {
             key,
             version,
             seq,
             src,
             content,
-        },
-    ) = read_message(alloc, EDIT)
-    else {
-        return Err("no submission".into());
-    };
-    assert!(rt; is_key(&key));
-    assert!(rt; (version, seq) == (Some(0), 4));
-    assert!(rt; src.ok_or("a source")?.as_str() == "x");
-    assert!(rt; brought(alloc, &content)?.as_str() == r#"[{"na":2,"p":[]}]"#);
+        } => {
+            let is_first = is_key(key) && *version == Some(0) && *seq == 4;
+            let text = brought(alloc, content)?;
+            Ok(is_first && is_source(src.as_ref(), "x") && text.as_str() == r#"[{"na":2,"p":[]}]"#)
+        }
+        _ => Ok(false),
+    }
+}
+
+fn reads_that_edit(alloc: Global) -> Result<bool, Fail> {
+    match read_message(alloc, EDIT) {
+        Ok(request) => is_edit(alloc, &request),
+        Err(_) => Ok(false),
+    }
+}
+
+#[test]
+fn a_submission_is_read(rt: HostRuntime) -> Result<(), Fail> {
+    assert!(rt; reads_that_edit(rt.alloc())?);
     Ok(())
 }
 
@@ -162,24 +178,28 @@ fn contents_are_read(rt: HostRuntime) -> Result<(), Fail> {
     Ok(())
 }
 
+const REFUSED: &str =
+    r#"{"a":"f","c":"b","error":{"code":"ERR_MESSAGE_BADLY_FORMED","message":"message is badly formed"},"id":7}"#;
+
+// Whether the error is written as this text.
+fn is_told(alloc: Global, echo: &Echo, code: Code, wanted: &str) -> Result<bool, Fail> {
+    is_written(alloc, &Answer::Failed { echo, code }, wanted)
+}
+
+// Whether the text is refused, with its id in what is told.
+fn is_refused(alloc: Global, text: &str) -> Result<bool, Fail> {
+    match read_message(alloc, text) {
+        Ok(_) => Ok(false),
+        Err(bad) => {
+            let is_seven = is_count(bad.echo.id.as_ref(), 7);
+            Ok(is_told(alloc, &bad.echo, bad.code, REFUSED)? && is_seven)
+        }
+    }
+}
+
 #[test]
 fn a_refused_message_is_shown(rt: HostRuntime) -> Result<(), Fail> {
-    let alloc = rt.alloc();
-    let Err(bad) = read_message(alloc, r#"{"a":"f","c":"b","id":7}"#) else {
-        return Err("a request".into());
-    };
-    assert!(rt; is_count(bad.echo.id.as_ref(), 7));
-    let shown = Answer::Failed {
-        echo: &bad.echo,
-        code: bad.code,
-    };
-    assert!(rt;
-        is_written(
-            alloc,
-            &shown,
-            r#"{"a":"f","c":"b","error":{"code":"ERR_MESSAGE_BADLY_FORMED","message":"message is badly formed"},"id":7}"#
-        )?
-    );
+    assert!(rt; is_refused(rt.alloc(), r#"{"a":"f","c":"b","id":7}"#)?);
     Ok(())
 }
 
@@ -256,7 +276,11 @@ fn number_of(request: &Result<Request, Code>) -> Result<u64, Code> {
 // What an error shows of what is heard.
 fn echoed(alloc: Global, text: &str) -> Result<Echo, Fail> {
     let heard = hear(alloc, text)?;
-    Ok(echo_of(alloc, heard.message.as_ref())?)
+    echo_in(alloc, heard.message.as_ref())
+}
+
+fn echo_in(alloc: Global, message: Option<&Value>) -> Result<Echo, Fail> {
+    Ok(echo_of(alloc, message)?)
 }
 
 #[test]
@@ -444,20 +468,19 @@ fn an_acknowledgement_is_written(rt: HostRuntime) -> Result<(), Fail> {
 
 #[test]
 fn an_error_is_written(rt: HostRuntime) -> Result<(), Fail> {
-    let failed = Answer::Failed {
-        echo: &no_echo(),
-        code: Code::E4,
-    };
     let wanted =
         r#"{"error":{"code":"ERR_OP_VERSION_NEWER_THAN_CURRENT_SNAPSHOT","message":"version is newer than the current snapshot"}}"#;
-    assert!(rt; is_written(rt.alloc(), &failed, wanted)?);
+    assert!(rt; is_told(rt.alloc(), &no_echo(), Code::E4, wanted)?);
     Ok(())
+}
+
+fn entry_text(alloc: Global, entry: &Entry) -> Result<String, Fail> {
+    Ok(entry_value(alloc, entry)?.to_string(alloc)?)
 }
 
 // Whether an entry of the content is shown as this value.
 fn is_shown(alloc: Global, content: Content, wanted: &str) -> Result<bool, Fail> {
-    let value = entry_value(alloc, &entry(alloc, content)?)?;
-    Ok(value.to_string(alloc)?.as_str() == wanted)
+    Ok(entry_text(alloc, &entry(alloc, content)?)?.as_str() == wanted)
 }
 
 #[test]
