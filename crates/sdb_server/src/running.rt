@@ -36,8 +36,7 @@ impl Replier for Lines<'_> {
     ghost opening = { λ s. opening (plain_session s.session).source };
 
     // as the dialogue answers it, and the projections stay
-    ghost takes = {
-        λ s line answer t. Dialogue s.table.now (room_of s) line answer (room_of t) × (t.table ≡ s.table) };
+    ghost takes = { λ s line answer t. Dialogue s.table.now (room_of s) line answer (room_of t) × (t.table ≡ s.table) };
 
     ghost is_step = { is_request };
 
