@@ -6,7 +6,6 @@ use Rattle.std.proofs.lemmas.Slice.Eq.{bytes_eq-Decides}
 use Rattle.std.specs.Cmp.Lexicographic.{slice_cmp}
 use Rattle.std.specs.Ordering.{ordering_then}
 use Rattle.sdb_oplog.specs.Keys.{PlainKey, same_key}
-use Rattle.sdb_subscribe.specs.Queue.{PlainQueues}
 use Rattle.sdb_desk.specs.Machine.{Queued, with_queues}
 
 then_eq : (o p : Ordering) → is_eq (ordering_then o p) ≡ (is_eq o && is_eq p)

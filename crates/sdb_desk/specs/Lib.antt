@@ -1,6 +1,7 @@
 pub mod Coding
 pub mod Documents
 pub mod Held
+pub mod HeldLaws
 pub mod Keyed
 pub mod Laws
 pub mod Machine

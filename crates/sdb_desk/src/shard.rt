@@ -1,10 +1,10 @@
 //! All documents, by key.
-ghost use Rattle.std.specs.Prelude.{◌≡◌, ◌≤◌, [], length, take, IfOk, IfErr, IsTrue, OnOk, OnErr, Ok, option_map, unwrap_or};
+ghost use Rattle.std.specs.Prelude.{◌≡◌, ◌≤◌, [], length, take, IfOk, IfErr, IsTrue, OnOk, OnErr, Ok, Some, option_map, unwrap_or};
 ghost use Rattle.sdb_oplog.specs.Decide.{decide, missed, IsMade};
 ghost use Rattle.sdb_oplog.specs.Keys.{no_logs, with_log, plain_key};
 ghost use Rattle.sdb_oplog.specs.Refused.{RefusedBy};
 ghost use Rattle.sdb_oplog.specs.Snap.{document};
-ghost use Rattle.sdb_subscribe.specs.Queue.{opened};
+ghost use Rattle.sdb_subscribe.specs.Queue.{opened, queue_at};
 ghost use Rattle.sdb_value.specs.View.{view};
 ghost use Rattle.sdb_desk.specs.Keyed.{logs_of, queues_of};
 ghost use Rattle.sdb_desk.specs.Machine.{look_at, fetched, operations, snapshot_at, no_queues, with_queues, closed, Decides, Commits, Keeps, Reads, Subscribes, Takes};
@@ -322,6 +322,9 @@ impl Shard {
     pub fn subscribe(&mut self, key: &Key, version: Option<u64>) -> Result<Subscribed, Code>
         ensures subscribes { Subscribes (logs_of self.old (plain_key key.now)) version
             (queues_of self.old (plain_key key.now)) (told_subscribed result) (queues_of self.new (plain_key key.now)) }
+        // The queue stands at its start, and nothing was taken.
+        ensures open { IfOk result (λ s. queue_at s.id (queues_of self.new (plain_key key.now)).queues ≡
+            Some (record { start = s.start; taken = 0 })) }
         ensures others { queues_of self.new ≡
             with_queues (queues_of self.old) (plain_key key.now) (queues_of self.new (plain_key key.now)) }
         ensures logs { logs_of self.new ≡ logs_of self.old }
@@ -348,6 +351,8 @@ impl Shard {
         ensures ok { IfOk result (λ id. id ≡ (queues_of self.old (plain_key key.now)).next) }
         ensures opened { OnOk result
             (opened start (queues_of self.old (plain_key key.now)) ≡ Ok (queues_of self.new (plain_key key.now))) }
+        ensures open { IfOk result (λ id. queue_at id (queues_of self.new (plain_key key.now)).queues ≡
+            Some (record { start = start; taken = 0 })) }
         ensures err { IfErr result (λ code. RefusedBy (opened start (queues_of self.old (plain_key key.now))) code) }
         ensures same { OnErr result (queues_of self.new ≡ queues_of self.old) }
         ensures others { queues_of self.new ≡
@@ -366,6 +371,8 @@ impl Shard {
         ensures ok { IfOk result (λ id. id ≡ 0) }
         ensures opened { OnOk result
             (opened start no_queues ≡ Ok (queues_of self.new (plain_key key.now))) }
+        ensures open { IfOk result (λ id. queue_at id (queues_of self.new (plain_key key.now)).queues ≡
+            Some (record { start = start; taken = 0 })) }
         ensures err { IfErr result (λ code. RefusedBy (opened start no_queues) code) }
         ensures same { OnErr result (queues_of self.new ≡ queues_of self.old) }
         ensures others { queues_of self.new ≡

@@ -1,9 +1,9 @@
 //! All queues of one document.
-ghost use Rattle.std.specs.Prelude.{◌≡◌, ◌<◌, [], length, Ok, Err, IfOk, IfErr, OnOk, OnErr, option_map, unwrap_or, nat_eq};
+ghost use Rattle.std.specs.Prelude.{◌≡◌, ◌<◌, [], length, Some, Ok, Err, IfOk, IfErr, OnOk, OnErr, option_map, unwrap_or, nat_eq};
 ghost use Rattle.std.specs.List.{IsDistinct};
 ghost use Rattle.sdb_oplog.specs.Refused.{RefusedBy};
 ghost use Rattle.sdb_oplog.specs.declared.codes.Code.TheVariants.{E11};
-ghost use Rattle.sdb_subscribe.specs.Queue.{opened, taken_from, after_take, without, numbers, AreGiven};
+ghost use Rattle.sdb_subscribe.specs.Queue.{opened, queue_at, taken_from, after_take, without, numbers, AreGiven};
 
 use crate::queue::Queue;
 use sdb_oplog::{Code, Entry, Log};
@@ -83,6 +83,7 @@ impl Queues {
     pub fn open(&mut self, from: u64) -> Result<SubId, Code>
         ensures id { IfOk result (λ id. id ≡ self.old.next) }
         ensures ok { OnOk result (opened from self.old ≡ Ok self.new) }
+        ensures open { IfOk result (λ id. queue_at id self.new.queues ≡ Some (record { start = from; taken = 0 })) }
         ensures full { self.old.next ≡ 18446744073709551615 → result ≡ Err E11 }
         ensures err { IfErr result (λ code. RefusedBy (opened from self.old) code) }
         ensures same { OnErr result (self.new ≡ self.old) }

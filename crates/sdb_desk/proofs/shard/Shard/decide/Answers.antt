@@ -2,7 +2,8 @@ use Rattle.std.proofs.Common.{[], ap, ◌∙◌}
 use Rattle.sdb_oplog.specs.Decide.{decide}
 use Rattle.sdb_oplog.specs.Keys.{with_log, plain_key}
 use Rattle.sdb_desk.specs.Held.{held}
-use Rattle.sdb_desk.proofs.Looks.{write_through, put_back, held_found, on_ok, on_err}
+use Rattle.sdb_desk.specs.HeldLaws.{write_through, put_back, held_found}
+use Rattle.sdb_desk.proofs.Looks.{on_ok, on_err}
 use Rattle.sdb_desk.proofs.shard.Shard.decide.Goals as goal
 
 pub returns-in-Some-clause-logs : goal.returns-in-Some-clause-logs

@@ -1,5 +1,5 @@
 use Rattle.std.proofs.Common.{[]}
-use Rattle.sdb_desk.proofs.Looks.{put_back}
+use Rattle.sdb_desk.specs.HeldLaws.{put_back}
 use Rattle.sdb_desk.proofs.shard.Shard.forget.Goals as goal
 
 pub returns-in-Some-clause-logs : goal.returns-in-Some-clause-logs

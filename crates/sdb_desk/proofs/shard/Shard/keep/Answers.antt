@@ -1,7 +1,7 @@
 use Rattle.std.proofs.Common.{[], ap, ◌∙◌}
 use Rattle.sdb_oplog.specs.Keys.{with_log}
 use Rattle.sdb_desk.specs.Held.{held}
-use Rattle.sdb_desk.proofs.Looks.{inserted}
+use Rattle.sdb_desk.specs.HeldLaws.{inserted}
 use Rattle.sdb_desk.proofs.shard.Shard.keep.Goals as goal
 
 pub returns-clause-ok : goal.returns-clause-ok

@@ -3,7 +3,7 @@ use Rattle.sdb_oplog.specs.Keys.{plain_key}
 use Rattle.sdb_desk.specs.Held.{held, with_at}
 use Rattle.sdb_desk.specs.Keyed.{queues_of}
 use Rattle.sdb_desk.specs.Machine.{no_queues}
-use Rattle.sdb_desk.proofs.Looks.{same_at, others_at, inserted}
+use Rattle.sdb_desk.specs.HeldLaws.{same_at, others_at, inserted}
 use Rattle.sdb_desk.proofs.shard.Shard.open_first.Goals as goal
 
 pub returns-in_err-id-clause-others : goal.returns-in_err-id-clause-others

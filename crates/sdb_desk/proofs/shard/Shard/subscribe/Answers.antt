@@ -3,7 +3,7 @@ use Rattle.sdb_oplog.specs.Keys.{plain_key}
 use Rattle.sdb_oplog.specs.Refused.{RefusedBy}
 use Rattle.sdb_subscribe.specs.Queue.{opened}
 use Rattle.sdb_desk.specs.Keyed.{logs_of, queues_of}
-use Rattle.sdb_desk.proofs.Looks.{same_at}
+use Rattle.sdb_desk.specs.HeldLaws.{same_at}
 use Rattle.sdb_desk.proofs.Queueing.{subscribe_refused}
 use Rattle.sdb_desk.proofs.shard.Shard.subscribe.Goals as goal
 

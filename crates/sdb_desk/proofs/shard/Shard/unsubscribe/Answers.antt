@@ -3,7 +3,7 @@ use Rattle.sdb_oplog.specs.Keys.{plain_key}
 use Rattle.sdb_desk.specs.Held.{held, with_at}
 use Rattle.sdb_desk.specs.Keyed.{queues_of}
 use Rattle.sdb_desk.specs.Machine.{no_queues, closed}
-use Rattle.sdb_desk.proofs.Looks.{kept_at, write_through, held_found, held_none}
+use Rattle.sdb_desk.specs.HeldLaws.{kept_at, write_through, held_found, held_none}
 use Rattle.sdb_desk.proofs.shard.Shard.unsubscribe.Goals as goal
 
 pub returns-in-Some-clause-queues : goal.returns-in-Some-clause-queues

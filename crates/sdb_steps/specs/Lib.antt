@@ -1,0 +1,5 @@
+pub mod OneStep
+pub mod Picks
+pub mod Runs
+pub mod Took
+pub mod View

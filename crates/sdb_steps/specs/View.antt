@@ -1,0 +1,49 @@
+-- What the code's steps and answers stand for.
+use Rattle.std.specs.Prelude.{ℕ, Option, Result, Ok, Err, option_map, string_bytes}
+use Rattle.sdb_value.specs.View.{view}
+use Rattle.sdb_oplog.specs.declared.codes.Code.{Code}
+use Rattle.sdb_oplog.specs.declared.codes.Code.TheVariants.{E11}
+use Rattle.sdb_oplog.specs.Keys.{plain_key}
+use Rattle.sdb_desk.specs.Machine.{PlainFetched}
+use Rattle.sdb_desk.specs.Shown.{told_fetched}
+use Rattle.sdb_desk.specs.Told.{plain_reply}
+use Rattle.sdb_desk.specs.declared.shard.Fetched.{Fetched}
+use Rattle.sdb_steps.specs.OneStep.{decided, fetched, snapped, subscribed, taken}
+use Rattle.sdb_steps.specs.Picks as plain
+use Rattle.sdb_steps.specs.declared.step.Step.{Step}
+use Rattle.sdb_steps.specs.declared.step.Step.TheVariants.{Begin, Work, Commit, Fetch, Snapshot, Subscribe, Take, Unsubscribe, Forget}
+use Rattle.sdb_steps.specs.declared.step.StepAnswer.{StepAnswer}
+use Rattle.sdb_steps.specs.declared.step.StepAnswer.TheVariants.{Began, Worked, Moved, Decided, Fetched as FetchedAnswer, Snapped, Subscribed, Taken, Unsubscribed, Forgotten, Idle, NoMemory}
+
+abbrev pub plain_step : Step → plain.PlainStep
+plain_step (Begin n k src seq v content) = record { session = n.number; act = plain.begin (plain_key k) (string_bytes src) seq v content }
+plain_step (Work n) = record { session = n.number; act = plain.work }
+plain_step (Commit n) = record { session = n.number; act = plain.commit }
+plain_step (Fetch n k) = record { session = n.number; act = plain.fetch (plain_key k) }
+plain_step (Snapshot n k v) = record { session = n.number; act = plain.snapshot (plain_key k) v }
+plain_step (Subscribe n k v) = record { session = n.number; act = plain.subscribe (plain_key k) v }
+plain_step (Take n k max) = record { session = n.number; act = plain.take (plain_key k) max }
+plain_step (Unsubscribe n k) = record { session = n.number; act = plain.unsubscribe (plain_key k) }
+plain_step (Forget n k) = record { session = n.number; act = plain.forget (plain_key k) }
+
+abbrev pub plain_fetched : Fetched → PlainFetched
+plain_fetched f = record { version = f.version; snapshot = option_map view f.snapshot }
+
+-- E11 is no reply of an event
+abbrev pub plain_start : Result ℕ Code → plain.Answer
+plain_start (Err E11) = plain.said plain.full
+plain_start r = plain.replied (subscribed r)
+
+abbrev pub plain_answer : StepAnswer → plain.Answer
+plain_answer Began = plain.said plain.began
+plain_answer Worked = plain.said plain.worked
+plain_answer Moved = plain.said plain.moved
+plain_answer (Decided r) = plain.replied (decided (plain_reply r))
+plain_answer (FetchedAnswer f) = plain.replied (fetched (plain_fetched f))
+plain_answer (Snapped r) = plain.replied (snapped (told_fetched r))
+plain_answer (Subscribed r) = plain_start r
+plain_answer (Taken es) = plain.replied (taken es.items)
+plain_answer Unsubscribed = plain.said plain.unsubscribed
+plain_answer Forgotten = plain.said plain.forgotten
+plain_answer Idle = plain.said plain.idle
+plain_answer NoMemory = plain.no_memory

@@ -1,0 +1,8 @@
+//! Steps of up to 64 sessions on one set of documents, each answered by one machine.
+#![tactic(auto)]
+
+mod number;
+mod step;
+
+pub use number::{SESSIONS, SessionNumber};
+pub use step::{Step, StepAnswer};

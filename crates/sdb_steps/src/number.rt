@@ -1,0 +1,26 @@
+//! The numbers of sessions.
+ghost use Rattle.std.specs.Prelude.{◌≡◌, ◌<◌, ◌≤◌, IfSome, IfNone};
+
+/// How many sessions there are: 64.
+pub const SESSIONS: u64 = 64;
+
+/// The number of a session, from 0 to 63.
+#[derive(Clone, Copy, PartialEq, Eq, Debug, Drop)]
+pub struct SessionNumber {
+    pub number: u64,
+    ghost small: { number < 64 },
+}
+
+impl SessionNumber {
+    /// The session of this number; `None` from 64 on.
+    pub fn new(number: u64) -> Option<SessionNumber>
+        ensures some { IfSome result (λ n. n.number ≡ number) }
+        ensures none { IfNone result (64 ≤ number) }
+    {
+        if number < SESSIONS {
+            Some(SessionNumber { number })
+        } else {
+            None
+        }
+    }
+}

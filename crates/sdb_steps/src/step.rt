@@ -1,0 +1,114 @@
+//! Steps and their answers.
+ghost use Rattle.std.specs.Prelude.{◌≡◌};
+ghost use Rattle.sdb_steps.specs.View.{plain_step};
+
+use crate::number::SessionNumber;
+use sdb_desk::{Fetched, Reply};
+use sdb_oplog::{Code, Content, Entry, Key};
+
+/// What one session does.
+#[derive(Drop)]
+pub enum Step {
+    /// Opens an attempt to store a submission: its source, its number, the version that it was made at
+    /// and its content. Idle where the session has an attempt.
+    Begin {
+        session: SessionNumber,
+        key: Key,
+        src: String,
+        seq: u64,
+        version: Option<u64>,
+        content: Content,
+    },
+    /// Carries the submission along what it missed. It needs no lock. Idle without an attempt, and on
+    /// one that is worked.
+    Work {
+        session: SessionNumber,
+    },
+    /// Decides the attempt, where the log is as long as it was looked at, and on the ninth try; an
+    /// attempt that is not worked is worked first. Idle without an attempt.
+    Commit {
+        session: SessionNumber,
+    },
+    /// Reads the present document.
+    Fetch {
+        session: SessionNumber,
+        key: Key,
+    },
+    /// Reads the document at a version, at the present one without.
+    Snapshot {
+        session: SessionNumber,
+        key: Key,
+        version: Option<u64>,
+    },
+    /// Opens a queue at a version, at the present one without, in place of the session's queue of this
+    /// document.
+    Subscribe {
+        session: SessionNumber,
+        key: Key,
+        version: Option<u64>,
+    },
+    /// Takes the next entries of the queue, at most `max`. Idle without a queue.
+    Take {
+        session: SessionNumber,
+        key: Key,
+        max: u64,
+    },
+    /// Closes the queue. Idle without one.
+    Unsubscribe {
+        session: SessionNumber,
+        key: Key,
+    },
+    /// Lets the snapshots go that are kept of a document.
+    Forget {
+        session: SessionNumber,
+        key: Key,
+    },
+}
+
+/// The answer to a step.
+#[derive(Drop)]
+pub enum StepAnswer {
+    /// The attempt is open.
+    Began,
+    /// The attempt is worked.
+    Worked,
+    /// The log is not as long as it was looked at; it was looked at again.
+    Moved,
+    /// A commit decided: the attempt is at its end.
+    Decided(Reply),
+    /// The present version and document.
+    Fetched(Fetched),
+    /// A version and the document there, or E4.
+    Snapped(Result<Fetched, Code>),
+    /// The version that the queue starts at, or E4, or E11.
+    Subscribed(Result<u64, Code>),
+    /// The entries that came.
+    Taken(Vec<Entry>),
+    /// The queue is closed.
+    Unsubscribed,
+    /// The kept snapshots are gone.
+    Forgotten,
+    /// There was nothing to do.
+    Idle,
+    /// A growth was refused (E10): nothing has changed.
+    NoMemory,
+}
+
+impl Step {
+    /// Whose step it is.
+    pub fn session(&self) -> SessionNumber
+        ensures { result.number ≡ (plain_step self.now).session }
+    {
+        match self {
+            Step::Begin { session, .. } => *session,
+            Step::Work { session } => *session,
+            Step::Commit { session } => *session,
+            Step::Fetch { session, .. } => *session,
+            Step::Snapshot { session, .. } => *session,
+            Step::Subscribe { session, .. } => *session,
+            Step::Take { session, .. } => *session,
+            Step::Unsubscribe { session, .. } => *session,
+            Step::Forget { session, .. } => *session,
+        }
+    }
+}
