@@ -1,5 +1,7 @@
 pub mod OneStep
 pub mod Picks
 pub mod Runs
+pub mod Seen
+pub mod Slots
 pub mod Took
 pub mod View

@@ -1,7 +1,30 @@
 -- Steps that are a run of the one-step machine: `Picks` and the machine's replies, with the state at the end.
-use Rattle.std.specs.Prelude.{◌≡◌, List}
-use Rattle.sdb_steps.specs.OneStep.{OneStep, Event, empty, replies, after}
-use Rattle.sdb_steps.specs.Picks.{Sessions, PlainStep, Answer, reply_in, replies_in, PicksOne, Picks}
+use Rattle.std.specs.Prelude.{◌≡◌, ℕ, List, true, false, Option, Some, None}
+use Rattle.sdb_steps.specs.OneStep.{OneStep, Event, submission, empty, reply, next, replies, after}
+use Rattle.sdb_steps.specs.Picks.{Session, Sessions, Attempt, Act, worked, moved, idle, worked_on, moved_on, decides, PlainStep, Answer, Deed, asks, says, replied, said, no_memory, deed, may_want, reply_in, replies_in, PicksOne, Picks}
+
+-- what comes of a deed
+abbrev pub Follows : OneStep → Deed → Answer → OneStep → Session → Type 0
+Follows m (asks e y) answer n x = (answer ≡ replied (reply m e)) × (n ≡ next m e) × (x ≡ y)
+Follows m (says a y) answer n x = (answer ≡ said a) × (n ≡ m) × (x ≡ y)
+
+-- an act of session i, by `Picks` and the machine
+abbrev pub IsTurn : ℕ → OneStep → Session → Act → Answer → OneStep → Session → Type 0
+IsTurn i m x act no_memory n y = (may_want (deed m i x act) ≡ true) × (n ≡ m) × (y ≡ x)
+IsTurn i m x act answer n y = Follows m (deed m i x act) answer n y
+
+-- the work on an attempt: once, unless memory was wanting
+abbrev pub Works : Attempt → Answer → Attempt → Type 0
+Works a no_memory b = (a.worked ≡ false) × (b ≡ a)
+Works a (said worked) b = (a.worked ≡ false) × (b ≡ worked_on a)
+Works a (said idle) b = (a.worked ≡ true) × (b ≡ a)
+Works a answer b = ⊥
+
+-- a commit of an attempt: it decides, or it finds the log moved, or memory was wanting and nothing has changed
+abbrev pub Tries : OneStep → Attempt → Answer → OneStep → Option Attempt → Type 0
+Tries m a no_memory n o = (n ≡ m) × (o ≡ Some a)
+Tries m a (replied r) n o = (decides m a ≡ true) × (r ≡ reply m (submission a.key a.submission)) × (n ≡ next m (submission a.key a.submission)) × (o ≡ None)
+Tries m a (said b) n o = (decides m a ≡ false) × (b ≡ moved) × (n ≡ m) × (o ≡ Some (moved_on m a))
 
 -- one step where the machine stands at m: it is some events by `Picks`, none or one, and the machine gives their replies
 -- and goes on so

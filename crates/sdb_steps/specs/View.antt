@@ -1,8 +1,8 @@
 -- What the code's steps and answers stand for.
-use Rattle.std.specs.Prelude.{ℕ, Option, Result, Ok, Err, option_map, string_bytes}
+use Rattle.std.specs.Prelude.{ℕ, Result, Err, option_map, string_bytes}
 use Rattle.sdb_value.specs.View.{view}
 use Rattle.sdb_oplog.specs.declared.codes.Code.{Code}
-use Rattle.sdb_oplog.specs.declared.codes.Code.TheVariants.{E11}
+use Rattle.sdb_oplog.specs.declared.codes.Code.TheVariants.{E10, E11}
 use Rattle.sdb_oplog.specs.Keys.{plain_key}
 use Rattle.sdb_desk.specs.Machine.{PlainFetched}
 use Rattle.sdb_desk.specs.Shown.{told_fetched}
@@ -33,6 +33,11 @@ plain_fetched f = record { version = f.version; snapshot = option_map view f.sna
 abbrev pub plain_start : Result ℕ Code → plain.Answer
 plain_start (Err E11) = plain.said plain.full
 plain_start r = plain.replied (subscribed r)
+
+-- what a subscribe is answered that the shard refuses
+abbrev pub told_start : Code → plain.Answer
+told_start E10 = plain.no_memory
+told_start code = plain_start (Err code)
 
 abbrev pub plain_answer : StepAnswer → plain.Answer
 plain_answer Began = plain.said plain.began

@@ -1,7 +1,11 @@
 //! Steps of up to 64 sessions on one set of documents, each answered by one machine.
 #![tactic(auto)]
 
+mod attempts;
+mod kept;
 mod number;
+mod session;
+mod slots;
 mod step;
 
 pub use number::{SESSIONS, SessionNumber};

@@ -1,0 +1,81 @@
+-- What a commit of the shard is to the attempt.
+use Rattle.std.proofs.Common.{◌≡◌, ℕ, ◌+◌, ◌<◌, length, Bool, true, false, ◌||◌, nat_eq, Option, Some, None, inl, inr, refl, sym, ap, ◌∙◌, arith}
+use Rattle.std.specs.Option.{is_some}
+use Rattle.std.proofs.lemmas.Bool.{eq-eqb}
+use Rattle.std.proofs.lemmas.Bool.Decides.{nat_tests}
+use Rattle.sdb_oplog.specs.declared.codes.Code.TheVariants.{E10}
+use Rattle.sdb_oplog.specs.Plain.{PlainSubmission}
+use Rattle.sdb_oplog.specs.Keys.{PlainKey, Logs, with_log}
+use Rattle.sdb_oplog.specs.Decide.{PlainReply, refused, decide}
+use Rattle.sdb_oplog.specs.Laws.{decides_never_wanting}
+use Rattle.sdb_desk.specs.Keyed.{logs_of, queues_of}
+use Rattle.sdb_desk.specs.Machine.{PlainLook, PlainAttempt, decided, moved, Commits, Decides}
+use Rattle.sdb_desk.specs.declared.shard.Shard.{Shard}
+use Rattle.sdb_steps.specs.OneStep as machine
+use Rattle.sdb_steps.specs.OneStep.{OneStep, next}
+use Rattle.sdb_steps.specs.Picks as plain
+use Rattle.sdb_steps.specs.Runs.{Tries}
+use Rattle.sdb_steps.specs.Seen.{core_of}
+
+-- ---- the machine of a shard
+
+pub same_core : (m n : Shard) → logs_of n ≡ logs_of m → queues_of n ≡ queues_of m → core_of n ≡ core_of m
+same_core m n l q = λ i. record { logs = l i; given = λ k. (q i k).next }
+
+stored_core : (m n : Shard) (k : PlainKey) (s : PlainSubmission) → logs_of n ≡ with_log (logs_of m) k (decide (logs_of m k) s).log → queues_of n ≡ queues_of m → core_of n ≡ next (core_of m) (machine.submission k s)
+stored_core m n k s l q = λ i. record { logs = l i; given = λ j. (q i j).next }
+
+-- ---- tries
+
+-- an attempt that a work is of
+abbrev pub attempt_of : PlainKey → PlainAttempt → ℕ → Bool → plain.Attempt
+attempt_of k w tries worked = record { key = k; submission = w.submission; looked = w.look.version; tries = tries; worked = worked }
+
+or_true : (b : Bool) → (b || true) ≡ true
+or_true true = refl
+or_true false = refl
+
+wants : (logs new : Logs) (k : PlainKey) (w : PlainAttempt) (r : PlainReply) → r ≡ refused E10 → Commits logs k w (decided r) new → new ≡ logs
+wants logs new k w r is (inl h) = h.1
+wants logs new k w r is (inr h) = absurd (decides_never_wanting (logs k) w.submission (sym h.1 ∙ is))
+
+pub tries_wanting : (m n : Shard) (k : PlainKey) (w : PlainAttempt) (r : PlainReply) (a o : plain.Attempt) → r ≡ refused E10 → Commits (logs_of m) k w (decided r) (logs_of n) → queues_of n ≡ queues_of m → o ≡ a → Tries (core_of m) a plain.no_memory (core_of n) (Some o)
+tries_wanting m n k w r a o is h q same = (same_core m n (wants (logs_of m) (logs_of n) k w r is h) q, ap Some same)
+
+pub tries_decided : (m n : Shard) (k : PlainKey) (w : PlainAttempt) (r : PlainReply) (tries : ℕ) (worked : Bool) → (r ≡ refused E10 → ⊥) → Commits (logs_of m) k w (decided r) (logs_of n) → queues_of n ≡ queues_of m
+    → Tries (core_of m) (attempt_of k w tries worked) (plain.replied (machine.decided r)) (core_of n) None
+tries_decided m n k w r tries worked enough (inl h) q = absurd (enough h.0)
+tries_decided m n k w r tries worked enough (inr h) q =
+    let looked : nat_eq (length (logs_of m k)) w.look.version ≡ true = eq-eqb (length (logs_of m k)) w.look.version h.0 in
+    (ap (λ b. b || nat_eq tries 8) looked, ap machine.decided h.1, stored_core m n k w.submission h.2 q, refl)
+
+pub tries_moved : (m n : Shard) (k : PlainKey) (w : PlainAttempt) (l : PlainLook) (tries : ℕ) (worked : Bool) (o : plain.Attempt) → tries < 8 → Commits (logs_of m) k w (moved l) (logs_of n) → queues_of n ≡ queues_of m
+    → o ≡ record { key = k; submission = w.submission; looked = l.version; tries = tries + 1; worked = false } → Tries (core_of m) (attempt_of k w tries worked) (plain.said plain.moved) (core_of n) (Some o)
+tries_moved m n k w l tries worked o few h q is =
+    let apart = h.0 in
+    let looked : nat_eq (length (logs_of m k)) w.look.version ≡ false = grind (arith, nat_tests) in
+    let more : nat_eq tries 8 ≡ false = grind (arith, nat_tests) in
+    let again : l.version ≡ length (logs_of m k) = ap (λ x. x.version) h.1 in (
+      ap (λ b. b || nat_eq tries 8) looked ∙ more,
+      refl,
+      same_core m n h.2 q,
+      ap Some (is ∙ ap (λ v. record { key = k; submission = w.submission; looked = v; tries = tries + 1; worked = false }) again),
+    )
+
+-- ---- the ninth
+
+pub now_wanting : (m n : Shard) (k : PlainKey) (s : PlainSubmission) (r : PlainReply) (a o : plain.Attempt) → r ≡ refused E10 → Decides (logs_of m) k s r (logs_of n) → queues_of n ≡ queues_of m → o ≡ a → Tries (core_of m) a plain.no_memory (core_of n) (Some o)
+now_wanting m n k s r a o is (inl h) q same = (same_core m n h.1 q, ap Some same)
+now_wanting m n k s r a o is (inr h) q same = absurd (decides_never_wanting (logs_of m k) s (sym h.0 ∙ is))
+
+pub now_decided : (m n : Shard) (a : plain.Attempt) (r : PlainReply) → a.tries ≡ 8 → (r ≡ refused E10 → ⊥) → Decides (logs_of m) a.key a.submission r (logs_of n) → queues_of n ≡ queues_of m → Tries (core_of m) a (plain.replied (machine.decided r)) (core_of n) None
+now_decided m n a r last enough (inl h) q = absurd (enough h.0)
+now_decided m n a r last enough (inr h) q =
+    let b = nat_eq (length (logs_of m a.key)) a.looked in
+    (ap (λ t. b || nat_eq t 8) last ∙ or_true b, ap machine.decided h.0, stored_core m n a.key a.submission h.1 q, refl)
+
+-- ---- options
+
+pub none_of : {A : Type 0} (o : Option A) → is_some o ≡ false → None ≡ o
+none_of None h = refl
+none_of (Some x) h = cc

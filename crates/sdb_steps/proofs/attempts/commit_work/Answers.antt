@@ -1,0 +1,31 @@
+use Rattle.std.proofs.Common.{◌+◌, false, refl, ap, ◌∙◌}
+use Rattle.sdb_oplog.specs.Keys.{plain_key}
+use Rattle.sdb_desk.specs.Machine.{PlainAttempt}
+use Rattle.sdb_desk.specs.Told.{plain_reply}
+use Rattle.sdb_desk.specs.Shown.{plain_look}
+use Rattle.sdb_steps.specs.Picks as plain
+use Rattle.sdb_steps.proofs.Commits.{attempt_of, tries_wanting, tries_decided, tries_moved}
+use Rattle.sdb_steps.proofs.attempts.commit_work.Goals as goal
+
+pub returns-then-is_wanting-clause-tries : goal.returns-then-is_wanting-clause-tries
+returns-then-is_wanting-clause-tries c =
+    let k = plain_key c.args.key in
+    let said = c.in-Decided.ensures in
+    let wanting = c.if-is_wanting.ensures.wanting refl in
+    tries_wanting c.args.shard.now c.commit.new.self k c.args.work (plain_reply c.in-Decided.reply) (attempt_of k c.args.work c.args.tries c.args.is_worked) _ wanting said.commits said.queues
+    (c.put_back-stage.ensures k c.args.tries ∙ ap (λ (w : PlainAttempt). attempt_of k w c.args.tries c.args.is_worked) (said.keeps wanting))
+
+pub returns-else-is_wanting-clause-tries : goal.returns-else-is_wanting-clause-tries
+returns-else-is_wanting-clause-tries c =
+    let k = plain_key c.args.key in
+    let said = c.in-Decided.ensures in
+    tries_decided c.args.shard.now c.commit.new.self k c.args.work (plain_reply c.in-Decided.reply) c.args.tries c.args.is_worked (c.if-is_wanting.ensures.enough refl) said.commits said.queues
+
+pub returns-in-Moved-clause-tries : goal.returns-in-Moved-clause-tries
+returns-in-Moved-clause-tries c =
+    let k = plain_key c.args.key in
+    let said = c.in-Moved.ensures in
+    let n = c.args.tries + 1 in
+    let v = c.in-Moved.look.version in
+    let again : PlainAttempt → plain.Attempt = λ w. record { key = k; submission = w.submission; looked = v; tries = n; worked = false } in
+    tries_moved c.args.shard.now c.commit.new.self k c.args.work (plain_look c.in-Moved.look) c.args.tries c.args.is_worked _ c.requires said.commits said.queues (c.looked_again-stage.ensures k n ∙ ap again said.keeps)

@@ -1,0 +1,13 @@
+use Rattle.std.proofs.Common.{ap, sym, ◌∙◌}
+use Rattle.sdb_oplog.specs.Keys.{plain_key}
+use Rattle.sdb_desk.specs.Keyed.{queues_of}
+use Rattle.sdb_desk.specs.Laws.{queues_kept}
+use Rattle.sdb_desk.specs.Machine.{with_queues}
+use Rattle.sdb_steps.specs.Slots.{closed_of}
+use Rattle.sdb_steps.proofs.session.close.Goals as goal
+
+pub returns-in-None-clause-queues : goal.returns-in-None-clause-queues
+returns-in-None-clause-queues c =
+    let f = queues_of c.args.shard.now in
+    let k = plain_key c.args.key.now in
+    sym (queues_kept f k) ∙ ap (λ o. with_queues f k (closed_of o (f k))) (sym c.in-None.is)

@@ -1,0 +1,181 @@
+//! Attempts: a submission that is looked at, worked and committed.
+ghost use Rattle.std.specs.Prelude.{◌≡◌, ◌<◌, ℕ, IfOk, IsTrue, IsFalse, option_map, false};
+ghost use Rattle.sdb_oplog.specs.Decide.{refused};
+ghost use Rattle.sdb_oplog.specs.declared.codes.Code.TheVariants.{E10};
+ghost use Rattle.sdb_desk.specs.Told.{plain_reply};
+ghost use Rattle.sdb_oplog.specs.Keys.{PlainKey, plain_key};
+ghost use Rattle.sdb_desk.specs.Keyed.{queues_of};
+ghost use Rattle.sdb_steps.specs.Picks.{opened};
+ghost use Rattle.sdb_steps.specs.Runs.{Tries, Works};
+ghost use Rattle.sdb_steps.specs.Seen.{core_of, submitted, plain_trying, trying_at};
+ghost use Rattle.sdb_steps.specs.View.{plain_answer};
+
+use crate::kept::{Stage, Trying};
+use crate::step::StepAnswer;
+use sdb_desk::{Attempt, Look, Outcome, Reply, Shard, Work};
+use sdb_oplog::{Code, Key, Submission};
+use sdb_submit::work;
+use std::alloc::{AllocError, Global};
+
+// The tries after which a commit decides, whatever has happened.
+const LAST_TRY: u64 = 8;
+
+// The answer to a commit, and the attempt where it goes on.
+pub(crate) type Committed = (StepAnswer, Option<Trying>);
+
+impl Trying {
+    // Opens an attempt by a look.
+    pub(crate) fn open(
+        shard: &Shard,
+        key: &Key,
+        submission: Submission,
+    ) -> Result<Trying, AllocError>
+        ensures { IfOk result (λ t. plain_trying t ≡ opened (core_of shard.now) (plain_key key.now) submission) }
+    {
+        let look = shard.look(key, &submission)?;
+        Ok(Trying {
+            key: key.try_clone()?,
+            stage: Stage::Looked(Attempt { submission, look }),
+            tries: 0,
+        })
+    }
+
+    // Commits: one try, or, after eight, at once.
+    pub(crate) fn commit(self, alloc: Global, shard: &mut Shard) -> Committed
+        ensures tries { Tries (core_of shard.old) (plain_trying self) (plain_answer result.0)
+            (core_of shard.new) (option_map plain_trying result.1) }
+        ensures queues { queues_of shard.new ≡ queues_of shard.old }
+    {
+        if self.tries == LAST_TRY {
+            return self.commit_now(shard);
+        }
+        let Trying { key, stage, tries } = self;
+        match stage {
+            Stage::Worked(work) => commit_work(shard, key, work, tries, true),
+            Stage::Looked(attempt) => match work(alloc, attempt) {
+                Ok(work) => commit_work(shard, key, work, tries, false),
+                Err(attempt) => {
+                    let stage = Stage::Looked(attempt);
+                    (StepAnswer::NoMemory, Some(Trying { key, stage, tries }))
+                }
+            },
+        }
+    }
+
+    // Decides the attempt, whatever the log has come to.
+    fn commit_now(self, shard: &mut Shard) -> Committed
+        requires { self.tries ≡ 8 }
+        ensures tries { Tries (core_of shard.old) (plain_trying self) (plain_answer result.0)
+            (core_of shard.new) (option_map plain_trying result.1) }
+        ensures queues { queues_of shard.new ≡ queues_of shard.old }
+    {
+        let reply = shard.commit_now(&self.key, submission_of(&self.stage));
+        if is_wanting(&reply) {
+            return (StepAnswer::NoMemory, Some(self));
+        }
+        (StepAnswer::Decided(reply), None)
+    }
+
+    // Works the attempt: whether it was worked just now. Where memory is wanting it is as it was.
+    pub(crate) fn work(self, alloc: Global) -> (StepAnswer, Trying)
+        ensures { Works (plain_trying self) (plain_answer result.0) (plain_trying result.1) }
+    {
+        let Trying { key, stage, tries } = self;
+        let (answer, stage) = work_stage(alloc, stage);
+        (answer, Trying { key, stage, tries })
+    }
+}
+
+fn submission_of(stage: &Stage) -> &Submission
+    ensures { result.now ≡ submitted stage.now }
+{
+    match stage {
+        Stage::Looked(attempt) => &attempt.submission,
+        Stage::Worked(work) => work.submission(),
+    }
+}
+
+fn work_stage(alloc: Global, stage: Stage) -> (StepAnswer, Stage)
+    ensures { (k : PlainKey) (n : ℕ) → Works (trying_at k stage n) (plain_answer result.0) (trying_at k result.1 n) }
+{
+    match stage {
+        Stage::Worked(work) => (StepAnswer::Idle, Stage::Worked(work)),
+        Stage::Looked(attempt) => match work(alloc, attempt) {
+            Ok(work) => (StepAnswer::Worked, Stage::Worked(work)),
+            Err(attempt) => (StepAnswer::NoMemory, Stage::Looked(attempt)),
+        },
+    }
+}
+
+// One try of a work. Where memory is wanting the attempt is as it was, worked or not.
+fn commit_work(shard: &mut Shard, key: Key, work: Work, tries: u64, is_worked: bool) -> Committed
+    requires { tries < 8 }
+    ensures tries { Tries (core_of shard.old)
+        (record {
+          key = plain_key key;
+          submission = work.submission;
+          looked = work.look.version;
+          tries = tries;
+          worked = is_worked;
+        })
+        (plain_answer result.0) (core_of shard.new) (option_map plain_trying result.1) }
+    ensures queues { queues_of shard.new ≡ queues_of shard.old }
+{
+    let mut work = work;
+    match shard.commit(&key, &mut work) {
+        Outcome::Decided(reply) => {
+            if is_wanting(&reply) {
+                let stage = put_back(work, is_worked);
+                return (StepAnswer::NoMemory, Some(Trying { key, stage, tries }));
+            }
+            (StepAnswer::Decided(reply), None)
+        }
+        Outcome::Moved(look) => {
+            let stage = looked_again(work, look);
+            let tries = tries + 1;
+            (StepAnswer::Moved, Some(Trying { key, stage, tries }))
+        }
+    }
+}
+
+// Whether memory was wanting.
+fn is_wanting(reply: &Reply) -> bool
+    ensures wanting { IsTrue result → plain_reply reply.now ≡ refused E10 }
+    ensures enough { IsFalse result → plain_reply reply.now ≡ refused E10 → ⊥ }
+{
+    match reply {
+        Reply::Refused(Code::E10) => true,
+        _ => false,
+    }
+}
+
+// A work, put back as it was before the commit: worked, or looked at alone.
+fn put_back(work: Work, is_worked: bool) -> Stage
+    ensures { (k : PlainKey) (n : ℕ) → trying_at k result n ≡ record {
+      key = k;
+      submission = work.submission;
+      looked = work.look.version;
+      tries = n;
+      worked = is_worked;
+    } }
+{
+    if is_worked {
+        Stage::Worked(work)
+    } else {
+        Stage::Looked(work.into_attempt())
+    }
+}
+
+// The submission of a work, by a fresh look.
+fn looked_again(work: Work, look: Look) -> Stage
+    ensures { (k : PlainKey) (n : ℕ) → trying_at k result n ≡ record {
+      key = k;
+      submission = work.submission;
+      looked = look.version;
+      tries = n;
+      worked = false;
+    } }
+{
+    let submission = work.into_attempt().submission;
+    Stage::Looked(Attempt { submission, look })
+}
