@@ -1,5 +1,5 @@
 -- Steps that are a run of the one-step machine: `Picks` and the machine's replies, with the state at the end.
-use Rattle.std.specs.Prelude.{◌≡◌, ℕ, List, true, false, Option, Some, None}
+use Rattle.std.specs.Prelude.{◌≡◌, ℕ, List, [], ◌∷◌, true, false, Option, Some, None}
 use Rattle.sdb_steps.specs.OneStep.{OneStep, Event, submission, empty, reply, next, replies, after}
 use Rattle.sdb_steps.specs.Picks.{Session, Sessions, Attempt, Act, worked, moved, idle, worked_on, moved_on, decides, PlainStep, Answer, Deed, asks, says, replied, said, no_memory, deed, may_want, reply_in, replies_in, PicksOne, Picks}
 
@@ -34,3 +34,10 @@ IsStep m w s answer n v = (events : List Event) × PicksOne m w s answer events 
 -- steps from the empty machine and 64 fresh sessions on
 abbrev pub IsRun : List PlainStep → List Answer → OneStep → Sessions → Type 0
 IsRun steps answers n v = (events : List Event) × Picks steps answers events v × (replies empty events ≡ replies_in answers) × (after empty events ≡ n)
+
+-- steps one after the other, from m and these sessions on
+abbrev pub IsSteps : OneStep → Sessions → List PlainStep → List Answer → OneStep → Sessions → Type 0
+IsSteps m w [] [] n v = (n ≡ m) × (v ≡ w)
+IsSteps m w [] (answer ∷ answers) n v = ⊥
+IsSteps m w (s ∷ steps) [] n v = ⊥
+IsSteps m w (s ∷ steps) (answer ∷ answers) n v = (o : OneStep) × (mid : Sessions) × IsStep m w s answer o mid × IsSteps o mid steps answers n v
