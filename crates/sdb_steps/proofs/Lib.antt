@@ -1,3 +1,6 @@
 pub mod Commits
+pub mod Follows
+pub mod Growing
 pub mod Runs
+pub mod Taken
 pub mod Turning

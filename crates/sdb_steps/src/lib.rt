@@ -3,10 +3,12 @@
 
 mod attempts;
 mod kept;
+mod laws;
 mod number;
 mod session;
 mod slots;
 mod step;
 
+pub use laws::queues_take_all;
 pub use number::{SESSIONS, SessionNumber};
 pub use step::{Step, StepAnswer};

@@ -1,0 +1,89 @@
+-- Logs only grow.
+use Rattle.std.proofs.Common.{◌≡◌, ◌++◌, List, [], ◌∷◌, Bool, true, false, cond, refl, sym, ap, ◌∙◌, subst, append_assoc}
+use Rattle.std.specs.Result.{is_ok}
+use Rattle.sdb_oplog.specs.Plain.{PlainEntry}
+use Rattle.sdb_oplog.specs.Keys.{PlainKey, Logs, same_key}
+use Rattle.sdb_oplog.specs.Decide.{decide, IsMade}
+use Rattle.sdb_oplog.specs.Laws.{decide_grows, made_decided}
+use Rattle.sdb_desk.specs.Laws.{equal_keys}
+use Rattle.sdb_steps.specs.OneStep as machine
+use Rattle.sdb_steps.specs.OneStep.{OneStep, Event, started, next, after, empty}
+use Rattle.sdb_steps.specs.Picks.{Session, Sessions, PlainStep, Answer, replied, said, no_memory, Deed, asks, says, deed}
+use Rattle.sdb_steps.specs.Runs.{IsStep, IsSteps}
+use Rattle.sdb_steps.proofs.Runs.{append_nil}
+use Rattle.sdb_steps.proofs.Follows.{Follows, Comes, comes}
+
+pub record Grows (old new : List PlainEntry) : Type 0 where
+  pub more : List PlainEntry
+  pub is : new ≡ old ++ more
+
+pub same_log : (log : List PlainEntry) → Grows log log
+same_log log = record { more = []; is = sym (append_nil log) }
+
+grows_then : (a b c : List PlainEntry) → Grows a b → Grows b c → Grows a c
+grows_then a b c g h = record { more = g.more ++ h.more; is = h.is ∙ ap (λ (l : List PlainEntry). l ++ h.more) g.is ∙ append_assoc a g.more h.more }
+
+-- ---- one event
+
+grows_at : (b : Bool) (k q : PlainKey) (m : OneStep) (l : List PlainEntry) → same_key k q ≡ b → Grows (m.logs k) l → Grows (m.logs q) (cond b l (m.logs q))
+grows_at true k q m l is h = subst (λ (x : PlainKey). Grows (m.logs x) l) (equal_keys k q is) h
+grows_at false k q m l is h = same_log (m.logs q)
+
+same_logs : (b : Bool) (m n : OneStep) → n.logs ≡ m.logs → (cond b n m).logs ≡ m.logs
+same_logs true m n e = e
+same_logs false m n e = refl
+
+-- a subscribe changes no log
+given_logs : (m : OneStep) (k : PlainKey) (b : Bool) → (cond b (record { logs = m.logs; given = machine.one_given m.given k }) m).logs ≡ m.logs
+given_logs m k b = same_logs b m _ refl
+
+pub grows_next : (m : OneStep) (e : Event) (k : PlainKey) → Grows (m.logs k) ((next m e).logs k)
+grows_next m (machine.submission q s) k = let g = decide_grows (m.logs q) s in grows_at (same_key q k) q k m (decide (m.logs q) s).log refl (record { more = g.0; is = g.1 })
+grows_next m (machine.fetch q) k = same_log (m.logs k)
+grows_next m (machine.snapshot q v) k = same_log (m.logs k)
+grows_next m (machine.subscribe q v) k =
+    let same : (next m (machine.subscribe q v)).logs ≡ m.logs = given_logs m q (is_ok (started m q v)) in
+    subst (λ (f : Logs). Grows (m.logs k) (f k)) (sym same) (same_log (m.logs k))
+grows_next m (machine.take_from q from n) k = same_log (m.logs k)
+
+-- ---- one step, and many
+
+grows_follows : (m n : OneStep) (d : Deed) (a : Answer) (x : Session) (k : PlainKey) → Follows m d a n x → Grows (m.logs k) (n.logs k)
+grows_follows m n (asks e y) a x k h = subst (λ (o : OneStep). Grows (m.logs k) (o.logs k)) (sym h.1) (grows_next m e k)
+grows_follows m n (says b y) a x k h = subst (λ (o : OneStep). Grows (m.logs k) (o.logs k)) (sym h.1) (same_log (m.logs k))
+
+grows_comes : (m n : OneStep) (w v : Sessions) (s : PlainStep) (a : Answer) (k : PlainKey) → Comes m w s a n v → Grows (m.logs k) (n.logs k)
+grows_comes m n w v s (replied r) k h = grows_follows m n (deed m s.session (w s.session) s.act) (replied r) h.0 k h.1
+grows_comes m n w v s (said b) k h = grows_follows m n (deed m s.session (w s.session) s.act) (said b) h.0 k h.1
+grows_comes m n w v s no_memory k h = subst (λ (o : OneStep). Grows (m.logs k) (o.logs k)) (sym h.0) (same_log (m.logs k))
+
+pub grows_step : (m n : OneStep) (w v : Sessions) (s : PlainStep) (a : Answer) (k : PlainKey) → IsStep m w s a n v → Grows (m.logs k) (n.logs k)
+grows_step m n w v s a k h = grows_comes m n w v s a k (comes m n w v s a h)
+
+pub grows_steps : (m n : OneStep) (w v : Sessions) (steps : List PlainStep) (answers : List Answer) (k : PlainKey) → IsSteps m w steps answers n v → Grows (m.logs k) (n.logs k)
+grows_steps m n w v [] [] k h = subst (λ (o : OneStep). Grows (m.logs k) (o.logs k)) (sym h.0) (same_log (m.logs k))
+grows_steps m n w v [] (a ∷ answers) k h = absurd h
+grows_steps m n w v (s ∷ steps) [] k h = absurd h
+grows_steps m n w v (s ∷ steps) (a ∷ answers) k (o, mid, one, rest) = grows_then (m.logs k) (o.logs k) (n.logs k) (grows_step m o w mid s a k one) (grows_steps o n mid v steps answers k rest)
+
+-- ---- logs that are made
+
+made_at : (b : Bool) (l old : List PlainEntry) → IsMade l → IsMade old → IsMade (cond b l old)
+made_at true l old h k = h
+made_at false l old h k = k
+
+made_next : (m : OneStep) (e : Event) → ((k : PlainKey) → IsMade (m.logs k)) → (k : PlainKey) → IsMade ((next m e).logs k)
+made_next m (machine.submission q s) h k = made_at (same_key q k) (decide (m.logs q) s).log (m.logs k) (made_decided (m.logs q) s (h q)) (h k)
+made_next m (machine.fetch q) h k = h k
+made_next m (machine.snapshot q v) h k = h k
+made_next m (machine.subscribe q v) h k =
+    let same : (next m (machine.subscribe q v)).logs ≡ m.logs = given_logs m q (is_ok (started m q v)) in
+    subst (λ (f : Logs). IsMade (f k)) (sym same) (h k)
+made_next m (machine.take_from q from n) h k = h k
+
+made_after : (m : OneStep) (events : List Event) → ((k : PlainKey) → IsMade (m.logs k)) → (k : PlainKey) → IsMade ((after m events).logs k)
+made_after m [] h k = h k
+made_after m (e ∷ events) h k = made_after (next m e) events (made_next m e h) k
+
+pub made_all : (events : List Event) (k : PlainKey) → IsMade ((after empty events).logs k)
+made_all events k = made_after empty events (λ q. tt) k
