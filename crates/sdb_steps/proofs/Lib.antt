@@ -1,6 +1,7 @@
 pub mod Commits
 pub mod Follows
 pub mod Growing
+pub mod Made
 pub mod Runs
 pub mod Taken
 pub mod Turning

@@ -1,7 +1,10 @@
-//! What holds of all runs. The functions do nothing.
-ghost use Rattle.std.specs.Prelude.{List};
-ghost use Rattle.sdb_oplog.specs.Keys.{Logs};
-ghost use Rattle.sdb_steps.specs.OneStep.{Event, Legal};
+//! What holds of all runs, and of all logs that events make. The functions do nothing.
+ghost use Rattle.std.specs.Prelude.{◌≡◌, ℕ, List, [], ◌∷◌, ◌++◌, length, take, true, is_some};
+ghost use Rattle.sdb_oplog.specs.Plain.{PlainEntry, PlainSubmission};
+ghost use Rattle.sdb_oplog.specs.Keys.{PlainKey, Logs};
+ghost use Rattle.sdb_oplog.specs.Snap.{snap, are_first};
+ghost use Rattle.sdb_oplog.specs.Decide.{decide, stored, repeated, IsMade};
+ghost use Rattle.sdb_steps.specs.OneStep.{Event, Legal, empty, after};
 ghost use Rattle.sdb_steps.specs.Picks.{PlainStep, Answer, Sessions, Picks, replies_in};
 ghost use Rattle.sdb_steps.specs.Took.{TookAll};
 
@@ -9,4 +12,35 @@ ghost use Rattle.sdb_steps.specs.Took.{TookAll};
 pub fn queues_take_all()
     ensures { (steps : List PlainStep) (answers : List Answer) (events : List Event) (w : Sessions) (logs : Logs) →
         Picks steps answers events w → Legal events (replies_in answers) logs → TookAll steps answers w logs }
+{}
+
+/// Each entry of a log that events make is the one that its submission stores on those before it.
+pub fn logs_are_made()
+    ensures { (events : List Event) (k : PlainKey) → IsMade ((after empty events).logs k) }
+{}
+
+/// A log that is made has a document at each version: the replay of its first entries.
+pub fn snapshots_are_replays()
+    ensures { (log : List PlainEntry) (v : ℕ) → IsMade log → is_some (snap (take v log)) ≡ true }
+{}
+
+/// No two entries of a log that is made have one source and number.
+pub fn stored_once()
+    ensures { (log : List PlainEntry) → IsMade log → are_first [] log ≡ true }
+{}
+
+/// A resent operation, whatever its content and version and whatever was stored since, is answered
+/// with its first version and changes nothing.
+pub fn resent()
+    ensures { (log missed more : List PlainEntry) (s again : PlainSubmission) (v : ℕ) →
+        (decide log s).reply ≡ stored v missed → again.src ≡ s.src → again.seq ≡ s.seq →
+        decide ((decide log s).log ++ more) again ≡ record { reply = repeated v; log = (decide log s).log ++ more } }
+{}
+
+/// A submission with the source and number of an entry of a log that is made is answered with the
+/// place of that entry and changes nothing.
+pub fn repeats_are_answered()
+    ensures { (before later : List PlainEntry) (e : PlainEntry) (again : PlainSubmission) →
+        IsMade (before ++ e ∷ later) → again.src ≡ e.arrived.src → again.seq ≡ e.arrived.seq →
+        decide (before ++ e ∷ later) again ≡ record { reply = repeated (length before); log = before ++ e ∷ later } }
 {}

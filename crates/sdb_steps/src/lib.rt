@@ -9,6 +9,9 @@ mod session;
 mod slots;
 mod step;
 
-pub use laws::queues_take_all;
+pub use laws::{
+    logs_are_made, queues_take_all, repeats_are_answered, resent, snapshots_are_replays,
+    stored_once,
+};
 pub use number::{SESSIONS, SessionNumber};
 pub use step::{Step, StepAnswer};

@@ -1,0 +1,145 @@
+-- What holds of a log that is made.
+use Rattle.std.proofs.Common.{◌≡◌, ℕ, zero, suc, ◌+◌, List, [], ◌∷◌, ◌++◌, length, take, Bool, true, false, cond, ◌&&◌, Option, Some, None, Result, Ok, Err, option_map, nat_eq, nat_lt, refl, sym, ap, ◌∙◌, append_assoc, length-append, arith}
+use Rattle.std.proofs.lemmas.Bool.{eq-eqb}
+use Rattle.std.proofs.lemmas.Slice.Eq.{bytes_eq-Decides}
+use Rattle.std.specs.Option.{is_some, is_none, option_map_or, unwrap_or}
+use Rattle.std.specs.Result.{result_ok}
+use Rattle.sdb_value.specs.Value.{Value}
+use Rattle.sdb_oplog.specs.Plain.{PlainEntry, PlainContent, PlainSubmission}
+use Rattle.sdb_oplog.specs.Refused.{result_then}
+use Rattle.sdb_oplog.specs.Over.{over_all}
+use Rattle.sdb_oplog.specs.Snap.{becomes, snap, document, stored_at, is_from, are_first}
+use Rattle.sdb_oplog.specs.Decide.{decide, Decided, stored, repeated, settled, store, since, missed, entry_of, MadeFrom, IsMade}
+use Rattle.sdb_oplog.specs.declared.codes.Code.{Code}
+use Rattle.sdb_oplog.specs.declared.codes.Code.TheVariants.{E4, E11}
+use Rattle.sdb_oplog.specs.Laws.{snap_one, decides_repeat}
+use Rattle.sdb_steps.proofs.Runs.{append_nil}
+
+-- ---- stored once
+
+longer : (log : List PlainEntry) (e : PlainEntry) → log ≡ log ++ e ∷ [] → ⊥
+longer log e h = omega (arith, ap length h, length-append log (e ∷ []))
+
+grows : (log : List PlainEntry) (e : PlainEntry) (o : Option ℕ) (d : Decided) → (option_map_or (λ i. record { reply = repeated i; log = log }) o d).log ≡ log ++ e ∷ [] → (o ≡ None) × (d.log ≡ log ++ e ∷ [])
+grows log e None d h = (refl, h)
+grows log e (Some i) d h = absurd (longer log e h)
+
+absent : (log : List PlainEntry) (e : PlainEntry) → (decide log e.arrived).log ≡ log ++ e ∷ [] → stored_at e.arrived.src e.arrived.seq log ≡ None
+absent log e h = (grows log e (stored_at e.arrived.src e.arrived.seq log) (store log e.arrived (settled log e.arrived)) h).0
+
+once : (before es : List PlainEntry) → MadeFrom before es → are_first before es ≡ true
+once before [] h = refl
+once before (e ∷ es) h = ap (λ (o : Option ℕ). is_none o && are_first (before ++ e ∷ []) es) (absent before e h.0) ∙ once (before ++ e ∷ []) es h.1
+
+pub once_all : (log : List PlainEntry) → IsMade log → are_first [] log ≡ true
+once_all log h = once [] log h
+
+-- ---- snapshots
+
+settles_now : (k : PlainContent) (r : Result (Option Value) Code) (f : PlainContent → Result (Option Value) Code) (m : PlainContent) → f k ≡ r → result_then (λ d. Ok k) r ≡ Ok m → is_some (result_ok (f m)) ≡ true
+settles_now k (Ok d) f m is e = let same : k ≡ m = cc in ap (λ x. is_some (result_ok (f x))) (sym same) ∙ ap (λ x. is_some (result_ok x)) is
+settles_now k (Err c) f m is e = cc
+
+settles_then : (r : Result PlainContent Code) (f : PlainContent → Result (Option Value) Code) (m : PlainContent) → result_then (λ k. result_then (λ d. Ok k) (f k)) r ≡ Ok m → is_some (result_ok (f m)) ≡ true
+settles_then (Err c) f m e = cc
+settles_then (Ok k) f m e = settles_now k (f k) f m refl e
+
+settles_if : (a b : Bool) (r : Result PlainContent Code) (m : PlainContent) → cond a (Err E11) (cond b (Err E4) r) ≡ Ok m → r ≡ Ok m
+settles_if true b r m e = cc
+settles_if false true r m e = cc
+settles_if false false r m e = e
+
+-- what is settled has an effect
+settles : (log : List PlainEntry) (s : PlainSubmission) (m : PlainContent) → settled log s ≡ Ok m → is_some (result_ok (becomes m (document log))) ≡ true
+settles log s m e =
+    settles_then (over_all s.content (missed log s)) (λ k. becomes k (document log)) m
+    (settles_if (nat_eq (length log) 9007199254740991) (nat_lt (length log) (since log s)) (result_then (λ k. result_then (λ d. Ok k) (becomes k (document log))) (over_all s.content (missed log s))) m e)
+
+is_document : (o : Option (Option Value)) → is_some o ≡ true → o ≡ Some (unwrap_or o None)
+is_document None h = cc
+is_document (Some d) h = refl
+
+-- a log lives on with what is stored
+lives_more : (log : List PlainEntry) (s : PlainSubmission) (m : PlainContent) (e : PlainEntry) → settled log s ≡ Ok m → is_some (snap log) ≡ true → e.content ≡ m → is_some (snap (log ++ e ∷ [])) ≡ true
+lives_more log s m e h lives is =
+    ap is_some (snap_one log e None (document log) (is_document (snap log) lives)) ∙ ap (λ x. is_some (result_ok (becomes x (document log)))) is ∙ settles log s m h
+
+last_same : (xs : List PlainEntry) (a b : PlainEntry) → xs ++ a ∷ [] ≡ xs ++ b ∷ [] → a ≡ b
+last_same [] a b h = cc
+last_same (x ∷ xs) a b h = let k : xs ++ a ∷ [] ≡ xs ++ b ∷ [] = cc in last_same xs a b k
+
+lives_stored : (log : List PlainEntry) (s : PlainSubmission) (e : PlainEntry) (r : Result PlainContent Code) → settled log s ≡ r → (store log s r).log ≡ log ++ e ∷ [] → is_some (snap log) ≡ true → is_some (snap (log ++ e ∷ [])) ≡ true
+lives_stored log s e (Err c) is h lives = absurd (longer log e h)
+lives_stored log s e (Ok m) is h lives = lives_more log s m e is lives (ap (λ (x : PlainEntry). x.content) (sym (last_same log (entry_of log s m) e h)))
+
+lives_on : (log : List PlainEntry) (e : PlainEntry) → (decide log e.arrived).log ≡ log ++ e ∷ [] → is_some (snap log) ≡ true → is_some (snap (log ++ e ∷ [])) ≡ true
+lives_on log e h lives = lives_stored log e.arrived e (settled log e.arrived) refl (grows log e (stored_at e.arrived.src e.arrived.seq log) (store log e.arrived (settled log e.arrived)) h).1 lives
+
+lives_from : (before es : List PlainEntry) (v : ℕ) → MadeFrom before es → is_some (snap before) ≡ true → is_some (snap (before ++ take v es)) ≡ true
+lives_from before [] zero h lives = ap (λ (l : List PlainEntry). is_some (snap l)) (append_nil before) ∙ lives
+lives_from before [] (suc v) h lives = ap (λ (l : List PlainEntry). is_some (snap l)) (append_nil before) ∙ lives
+lives_from before (e ∷ es) zero h lives = ap (λ (l : List PlainEntry). is_some (snap l)) (append_nil before) ∙ lives
+lives_from before (e ∷ es) (suc v) h lives =
+    ap (λ (l : List PlainEntry). is_some (snap l)) (sym (append_assoc before (e ∷ []) (take v es))) ∙ lives_from (before ++ e ∷ []) es v h.1 (lives_on before e h.0 lives)
+
+pub lives_all : (log : List PlainEntry) (v : ℕ) → IsMade log → is_some (snap (take v log)) ≡ true
+lives_all log v h = lives_from [] log v h refl
+
+-- ---- resent
+
+past : (b : Bool) (o p : Option ℕ) (i : ℕ) → cond b (Some 0) (option_map (λ k. k + 1) o) ≡ None → (o ≡ None → p ≡ Some i) → cond b (Some 0) (option_map (λ k. k + 1) p) ≡ Some (suc i)
+past true o p i e h = cc
+past false None p i e h = ap (option_map (λ k. k + 1)) (h refl) ∙ ap Some (omega arith)
+past false (Some k) p i e h = cc
+
+found_later : (s : List ℕ) (n : ℕ) (log more : List PlainEntry) (e : PlainEntry) → stored_at s n log ≡ None → is_from s n e ≡ true → stored_at s n (log ++ e ∷ more) ≡ Some (length log)
+found_later s n [] more e none is = ap (λ (b : Bool). cond b (Some 0) (option_map (λ i. i + 1) (stored_at s n more))) is
+found_later s n (x ∷ log) more e none is = past (is_from s n x) (stored_at s n log) (stored_at s n (log ++ e ∷ more)) (length log) none (λ k. found_later s n log more e k is)
+
+own : (e : PlainEntry) → is_from e.arrived.src e.arrived.seq e ≡ true
+own e = rw (eq-eqb e.arrived.seq e.arrived.seq refl, (bytes_eq-Decides e.arrived.src e.arrived.src).1 refl)
+
+-- an entry that is the first of its source and number answers each repeat
+repeat_of : (before later : List PlainEntry) (e : PlainEntry) (again : PlainSubmission) → stored_at e.arrived.src e.arrived.seq before ≡ None → again.src ≡ e.arrived.src → again.seq ≡ e.arrived.seq
+    → decide (before ++ e ∷ later) again ≡ record { reply = repeated (length before); log = before ++ e ∷ later }
+repeat_of before later e again none src seq =
+    let there : stored_at again.src again.seq (before ++ e ∷ later) ≡ Some (length before) =
+    ap (λ (x : List ℕ). stored_at x again.seq (before ++ e ∷ later)) src ∙ ap (λ (n : ℕ). stored_at e.arrived.src n (before ++ e ∷ later)) seq ∙ found_later e.arrived.src e.arrived.seq before later e none (own e) in
+    decides_repeat (before ++ e ∷ later) again (length before) there
+
+made_entry : (past before later : List PlainEntry) (e : PlainEntry) → MadeFrom past (before ++ e ∷ later) → (decide (past ++ before) e.arrived).log ≡ (past ++ before) ++ e ∷ []
+made_entry past [] later e h = ap (λ (l : List PlainEntry). (decide l e.arrived).log) (append_nil past) ∙ h.0 ∙ ap (λ (l : List PlainEntry). l ++ e ∷ []) (sym (append_nil past))
+made_entry past (x ∷ before) later e h =
+    ap (λ (l : List PlainEntry). (decide l e.arrived).log) (sym (append_assoc past (x ∷ []) before)) ∙ made_entry (past ++ x ∷ []) before later e h.1 ∙ ap (λ (l : List PlainEntry). l ++ e ∷ []) (append_assoc past (x ∷ []) before)
+
+pub repeats_all : (before later : List PlainEntry) (e : PlainEntry) (again : PlainSubmission) → IsMade (before ++ e ∷ later) → again.src ≡ e.arrived.src → again.seq ≡ e.arrived.seq
+    → decide (before ++ e ∷ later) again ≡ record { reply = repeated (length before); log = before ++ e ∷ later }
+repeats_all before later e again h src seq = repeat_of before later e again (absent before e (made_entry [] before later e h)) src seq
+
+-- what was stored, and where
+record Stores (log : List PlainEntry) (s : PlainSubmission) (v : ℕ) (d : Decided) : Type 0 where
+  pub none : stored_at s.src s.seq log ≡ None
+  pub place : v ≡ length log
+  pub entry : PlainEntry
+  pub more : d.log ≡ log ++ entry ∷ []
+  pub from : entry.arrived ≡ s
+
+stores_by : (log not_seen : List PlainEntry) (s : PlainSubmission) (v : ℕ) (o : Option ℕ) (r : Result PlainContent Code) → stored_at s.src s.seq log ≡ o
+    → (option_map_or (λ i. record { reply = repeated i; log = log }) o (store log s r)).reply ≡ stored v not_seen → Stores log s v (option_map_or (λ i. record { reply = repeated i; log = log }) o (store log s r))
+stores_by log not_seen s v (Some i) r is h = absurd (cc)
+stores_by log not_seen s v None (Err c) is h = absurd (cc)
+stores_by log not_seen s v None (Ok m) is h = let k : v ≡ length log = cc in record { none = is; place = k; entry = entry_of log s m; more = refl; from = refl }
+
+stores : (log not_seen : List PlainEntry) (s : PlainSubmission) (v : ℕ) → (decide log s).reply ≡ stored v not_seen → Stores log s v (decide log s)
+stores log not_seen s v h = stores_by log not_seen s v (stored_at s.src s.seq log) (settled log s) refl h
+
+pub resent_all : (log not_seen more : List PlainEntry) (s again : PlainSubmission) (v : ℕ) → (decide log s).reply ≡ stored v not_seen → again.src ≡ s.src → again.seq ≡ s.seq
+    → decide ((decide log s).log ++ more) again ≡ record { reply = repeated v; log = (decide log s).log ++ more }
+resent_all log not_seen more s again v h src seq =
+    let t = stores log not_seen s v h in
+    let e = t.entry in
+    let whole : (decide log s).log ++ more ≡ log ++ e ∷ more = ap (λ (l : List PlainEntry). l ++ more) t.more ∙ append_assoc log (e ∷ []) more in
+    let none : stored_at e.arrived.src e.arrived.seq log ≡ None = ap (λ (x : PlainSubmission). stored_at x.src x.seq log) t.from ∙ t.none in
+    let first : decide (log ++ e ∷ more) again ≡ record { reply = repeated (length log); log = log ++ e ∷ more } =
+    repeat_of log more e again none (src ∙ sym (ap (λ (x : PlainSubmission). x.src) t.from)) (seq ∙ sym (ap (λ (x : PlainSubmission). x.seq) t.from)) in
+    ap (λ (l : List PlainEntry). decide l again) whole ∙ first ∙ ap (λ (n : ℕ). record { reply = repeated n; log = log ++ e ∷ more }) (sym t.place) ∙ ap (λ (l : List PlainEntry). record { reply = repeated v; log = l }) (sym whole)

@@ -1,0 +1,5 @@
+use Rattle.sdb_steps.proofs.Made.{repeats_all}
+use Rattle.sdb_steps.proofs.laws.repeats_are_answered.Goals as goal
+
+pub returns : goal.returns
+returns c = repeats_all

@@ -1,0 +1,5 @@
+use Rattle.sdb_steps.proofs.Made.{lives_all}
+use Rattle.sdb_steps.proofs.laws.snapshots_are_replays.Goals as goal
+
+pub returns : goal.returns
+returns c = lives_all
