@@ -1,5 +1,6 @@
 pub mod OneStep
 pub mod Picks
+pub mod Replays
 pub mod Runs
 pub mod Seen
 pub mod Slots

@@ -6,12 +6,20 @@ ghost use Rattle.sdb_oplog.specs.Snap.{snap, are_first};
 ghost use Rattle.sdb_oplog.specs.Decide.{decide, stored, repeated, IsMade};
 ghost use Rattle.sdb_steps.specs.OneStep.{Event, Legal, empty, after};
 ghost use Rattle.sdb_steps.specs.Picks.{PlainStep, Answer, Sessions, Picks, replies_in};
+ghost use Rattle.sdb_steps.specs.Replays.{ReplaysAll};
 ghost use Rattle.sdb_steps.specs.Took.{TookAll};
 
 /// Each open queue took the stored entries from its start on, in order, none missing.
 pub fn queues_take_all()
     ensures { (steps : List PlainStep) (answers : List Answer) (events : List Event) (w : Sessions) (logs : Logs) →
         Picks steps answers events w → Legal events (replies_in answers) logs → TookAll steps answers w logs }
+{}
+
+/// What each read of a run was answered is the replay of so many first entries of the log that stands
+/// at the end, at the version that was named.
+pub fn reads_are_replays()
+    ensures { (steps : List PlainStep) (answers : List Answer) (events : List Event) (w : Sessions) (logs : Logs) →
+        Picks steps answers events w → Legal events (replies_in answers) logs → ReplaysAll steps answers logs }
 {}
 
 /// Each entry of a log that events make is the one that its submission stores on those before it.

@@ -10,8 +10,8 @@ mod slots;
 mod step;
 
 pub use laws::{
-    logs_are_made, queues_take_all, repeats_are_answered, resent, snapshots_are_replays,
-    stored_once,
+    logs_are_made, queues_take_all, reads_are_replays, repeats_are_answered, resent,
+    snapshots_are_replays, stored_once,
 };
 pub use number::{SESSIONS, SessionNumber};
 pub use step::{Step, StepAnswer};

@@ -1,0 +1,85 @@
+-- Reads are replays of the logs at the end.
+use Rattle.std.proofs.Common.{◌≡◌, ℕ, ◌+◌, ◌≤◌, List, [], ◌∷◌, length, take, Bool, true, false, cond, nat_lt, Option, Some, None, Ok, Err, IfSome, refl, sym, ap, ◌∙◌, subst, length-append, arith}
+use Rattle.std.proofs.lemmas.List.{take-append-le}
+use Rattle.std.proofs.lemmas.Bool.Decides.{nat_tests}
+use Rattle.std.specs.Option.{unwrap_or}
+use Rattle.sdb_oplog.specs.Plain.{PlainEntry}
+use Rattle.sdb_oplog.specs.Keys.{PlainKey, Logs}
+use Rattle.sdb_oplog.specs.Snap.{document}
+use Rattle.sdb_oplog.specs.declared.codes.Code.TheVariants.{E4}
+use Rattle.sdb_desk.specs.Machine as desk
+use Rattle.sdb_desk.specs.Machine.{PlainFetched}
+use Rattle.sdb_steps.specs.OneStep.{OneStep, Event, Legal, empty, snapped}
+use Rattle.sdb_steps.specs.Picks as plain
+use Rattle.sdb_steps.specs.Picks.{Session, Sessions, Act, PlainStep, Answer, replied, said, no_memory, deed, replies_in, Picks, all_fresh}
+use Rattle.sdb_steps.specs.Runs.{IsSteps}
+use Rattle.sdb_steps.specs.Replays.{IsReplayOf, IsReplay, ReplaysAll}
+use Rattle.sdb_steps.proofs.Follows.{Follows, Comes, comes, legal_steps}
+use Rattle.sdb_steps.proofs.Growing.{Grows, grows_steps}
+
+-- the first entries stay the first ones
+early : (old new : List PlainEntry) (v : ℕ) → Grows old new → v ≤ length old → (v ≤ length new) × (document (take v old) ≡ document (take v new))
+early old new v g h =
+    let long : length new ≡ length old + length g.more = ap length g.is ∙ length-append old g.more in
+    (omega (arith, long, h), ap document (sym (ap (take v) g.is ∙ take-append-le v old g.more h)))
+
+take_all : (xs : List PlainEntry) → take (length xs) xs ≡ xs
+take_all [] = refl
+take_all (x ∷ xs) = ap (λ l. x ∷ l) (take_all xs)
+
+fetched_is : (old end : Logs) (k : PlainKey) → Grows (old k) (end k) → IsReplayOf end k (desk.fetched (old k))
+fetched_is old end k g =
+    let e = early (old k) (end k) (length (old k)) g (omega arith) in
+    (e.0, ap document (sym (take_all (old k))) ∙ e.1)
+
+named : (v : Option ℕ) (n : ℕ) → IfSome v (λ m. unwrap_or v n ≡ m)
+named None n = tt
+named (Some m) n = refl
+
+snapped_is : (old end : Logs) (k : PlainKey) (v : Option ℕ) (b : Bool) → Grows (old k) (end k) → nat_lt (length (old k)) (unwrap_or v (length (old k))) ≡ b
+    → IsReplay end (plain.snapshot k v) (replied (snapped (cond b (Err E4) (Ok (record { version = unwrap_or v (length (old k)); snapshot = document (take (unwrap_or v (length (old k))) (old k)) })))))
+snapped_is old end k v true g is = tt
+snapped_is old end k v false g is =
+    let within : unwrap_or v (length (old k)) ≤ length (old k) = grind (arith, nat_tests) in
+    (early (old k) (end k) (unwrap_or v (length (old k))) g within, named v (length (old k)))
+
+-- ---- one step, and many
+
+read : (m n : OneStep) (i : ℕ) (x y : Session) (act : Act) (a : Answer) (end : Logs) → Follows m (deed m i x act) a n y → ((k : PlainKey) → Grows (m.logs k) (end k)) → IsReplay end act a
+read m n i x y (plain.begin k src seq v content) a end h g = tt
+read m n i x y plain.work a end h g = tt
+read m n i x y plain.commit a end h g = tt
+read m n i x y (plain.fetch k) a end h g = subst (λ (b : Answer). IsReplay end (plain.fetch k) b) (sym h.0) (fetched_is m.logs end k (g k))
+read m n i x y (plain.snapshot k v) a end h g =
+    subst (λ (b : Answer). IsReplay end (plain.snapshot k v) b) (sym h.0) (snapped_is m.logs end k v (nat_lt (length (m.logs k)) (unwrap_or v (length (m.logs k)))) (g k) refl)
+read m n i x y (plain.subscribe k v) a end h g = tt
+read m n i x y (plain.take k max) a end h g = tt
+read m n i x y (plain.unsubscribe k) a end h g = tt
+read m n i x y (plain.forget k) a end h g = tt
+
+read_none : (end : Logs) (act : Act) → IsReplay end act no_memory
+read_none end (plain.begin k src seq v content) = tt
+read_none end plain.work = tt
+read_none end plain.commit = tt
+read_none end (plain.fetch k) = tt
+read_none end (plain.snapshot k v) = tt
+read_none end (plain.subscribe k v) = tt
+read_none end (plain.take k max) = tt
+read_none end (plain.unsubscribe k) = tt
+read_none end (plain.forget k) = tt
+
+read_comes : (m n : OneStep) (w v : Sessions) (s : PlainStep) (a : Answer) (end : Logs) → Comes m w s a n v → ((k : PlainKey) → Grows (m.logs k) (end k)) → IsReplay end s.act a
+read_comes m n w v s (replied r) end h g = read m n s.session (w s.session) h.0 s.act (replied r) end h.1 g
+read_comes m n w v s (said b) end h g = read m n s.session (w s.session) h.0 s.act (said b) end h.1 g
+read_comes m n w v s no_memory end h g = read_none end s.act
+
+read_steps : (m n : OneStep) (w v : Sessions) (steps : List PlainStep) (answers : List Answer) → IsSteps m w steps answers n v → ReplaysAll steps answers n.logs
+read_steps m n w v [] answers h = tt
+read_steps m n w v (s ∷ steps) [] h = tt
+read_steps m n w v (s ∷ steps) (a ∷ answers) (o, mid, one, rest) =
+    (read_comes m o w mid s a n.logs (comes m o w mid s a one) (λ k. grows_steps m n w v (s ∷ steps) (a ∷ answers) k (o, mid, one, rest)), read_steps o n mid v steps answers rest)
+
+pub replays_all : (steps : List PlainStep) (answers : List Answer) (events : List Event) (w : Sessions) (logs : Logs) → Picks steps answers events w → Legal events (replies_in answers) logs → ReplaysAll steps answers logs
+replays_all steps answers events w logs picked legal =
+    let run = legal_steps steps answers events w logs picked legal in
+    subst (λ (l : Logs). ReplaysAll steps answers l) run.2 (read_steps empty run.0 all_fresh w steps answers run.1)
