@@ -57,7 +57,7 @@ grows_comes m n w v s (replied r) k h = grows_follows m n (deed m s.session (w s
 grows_comes m n w v s (said b) k h = grows_follows m n (deed m s.session (w s.session) s.act) (said b) h.0 k h.1
 grows_comes m n w v s no_memory k h = subst (λ (o : OneStep). Grows (m.logs k) (o.logs k)) (sym h.0) (same_log (m.logs k))
 
-pub grows_step : (m n : OneStep) (w v : Sessions) (s : PlainStep) (a : Answer) (k : PlainKey) → IsStep m w s a n v → Grows (m.logs k) (n.logs k)
+grows_step : (m n : OneStep) (w v : Sessions) (s : PlainStep) (a : Answer) (k : PlainKey) → IsStep m w s a n v → Grows (m.logs k) (n.logs k)
 grows_step m n w v s a k h = grows_comes m n w v s a k (comes m n w v s a h)
 
 pub grows_steps : (m n : OneStep) (w v : Sessions) (steps : List PlainStep) (answers : List Answer) (k : PlainKey) → IsSteps m w steps answers n v → Grows (m.logs k) (n.logs k)

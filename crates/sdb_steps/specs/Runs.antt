@@ -40,4 +40,5 @@ abbrev pub IsSteps : OneStep → Sessions → List PlainStep → List Answer →
 IsSteps m w [] [] n v = (n ≡ m) × (v ≡ w)
 IsSteps m w [] (answer ∷ answers) n v = ⊥
 IsSteps m w (s ∷ steps) [] n v = ⊥
-IsSteps m w (s ∷ steps) (answer ∷ answers) n v = (o : OneStep) × (mid : Sessions) × IsStep m w s answer o mid × IsSteps o mid steps answers n v
+IsSteps m w (s ∷ steps) (answer ∷ answers) n v =
+    (o : OneStep) × (mid : Sessions) × IsStep m w s answer o mid × IsSteps o mid steps answers n v
