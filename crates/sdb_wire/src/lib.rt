@@ -9,6 +9,7 @@ mod replies;
 mod requests;
 
 pub use entries::entry_value;
-pub use reading::{echo_of, hear, no_echo, read_content, read_message};
-pub use replies::{reply_text, write_reply};
+pub use members::{count_at, may_count, need_name};
+pub use reading::{echo_of, hear, key_of, no_echo, read_content, read_message, value_of};
+pub use replies::{reply_text, write_count, write_entry, write_reply, write_text};
 pub use requests::{Answer, Bad, Echo, Heard, MESSAGE_LIMIT, Request, Word};

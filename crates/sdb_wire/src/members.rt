@@ -33,7 +33,8 @@ pub(crate) fn present<'v>(value: &'v Value, key: &str) -> Option<&'v Value>
     if member.is_null() { None } else { Some(member) }
 }
 
-pub(crate) fn count_at(value: &Value, key: &str) -> Option<u64>
+/// A member that is a whole number from 0 to 9007199254740991.
+pub fn count_at(value: &Value, key: &str) -> Option<u64>
     ensures { result ≡ count_at key.now (data_view value.now) }
 {
     count_of(value.get(key)?)
@@ -45,8 +46,8 @@ pub(crate) fn name_at<'v>(value: &'v Value, key: &str) -> Option<&'v str>
     as_name(value.get(key)?)
 }
 
-// A member that must be a name.
-pub(crate) fn need_name(alloc: Global, value: &Value, key: &str) -> Result<String, Code>
+/// A member that must be a name: a text of 1 to 200 bytes. E1 where it is none.
+pub fn need_name(alloc: Global, value: &Value, key: &str) -> Result<String, Code>
     ensures ok { IfOk result (λ s. ok_or (name_at key.now (data_view value.now)) E1 ≡ Ok (string_bytes s)) }
     ensures err { IfErr result (λ code. RefusedBy (ok_or (name_at key.now (data_view value.now)) E1) code) }
 {
@@ -71,7 +72,8 @@ pub(crate) fn may_name(alloc: Global, value: &Value, key: &str) -> Result<Option
     }
 }
 
-pub(crate) fn may_count(value: &Value, key: &str) -> Result<Option<u64>, Code>
+/// A whole number from 0 to 9007199254740991 that may be absent or null. E1 where it is none of these.
+pub fn may_count(value: &Value, key: &str) -> Result<Option<u64>, Code>
     ensures { result ≡ may count_of (present key.now (data_view value.now)) }
 {
     match present(value, key) {

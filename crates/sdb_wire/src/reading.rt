@@ -59,8 +59,9 @@ pub fn hear(alloc: Global, text: &str) -> Result<Heard, AllocError>
     })
 }
 
-// The JSON value of a message, where its text has a reading and is not too long.
-fn value_of(alloc: Global, text: &str) -> Result<Option<Value>, AllocError>
+/// The JSON value of a message. `None` where its text has no reading, or more than [`MESSAGE_LIMIT`]
+/// bytes, and then it is not read.
+pub fn value_of(alloc: Global, text: &str) -> Result<Option<Value>, AllocError>
     ensures { IfOk result (λ v. option_map data_view v ≡ value_of text.now) }
 {
     if text.len() > MESSAGE_LIMIT {
@@ -134,7 +135,8 @@ fn message_of(alloc: Global, value: &Value) -> Result<Request, Code>
     }
 }
 
-fn key_of(alloc: Global, value: &Value) -> Result<Key, Code>
+/// The key that `c` and `d` name, each a name. E1 where one is none.
+pub fn key_of(alloc: Global, value: &Value) -> Result<Key, Code>
     ensures ok { IfOk result (λ p. key_of (data_view value.now) ≡ Ok (plain_key p)) }
     ensures err { IfErr result (λ code. RefusedBy (key_of (data_view value.now)) code) }
 {

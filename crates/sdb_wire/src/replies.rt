@@ -6,7 +6,7 @@ ghost use Rattle.serde_json.specs.Data.{Members};
 ghost use Rattle.sdb_value.specs.Printed.{data_tokens, object_rest};
 ghost use Rattle.sdb_value.specs.View.{view};
 ghost use Rattle.sdb_oplog.specs.Keys.{plain_key};
-ghost use Rattle.sdb_wire.specs.Answers.{answer_text, answer_tokens, greeting_data, document_data, key_data, snapshot, op_message, with_content, acknowledged, failed, snapshot_data, create_data, content_members, error_data, some_member};
+ghost use Rattle.sdb_wire.specs.Answers.{answer_text, answer_tokens, greeting_data, document_data, key_data, snapshot, op_message, with_content, acknowledged, failed, snapshot_data, create_data, content_members, entry_data, entry_members, op_tail, error_data, some_member};
 ghost use Rattle.sdb_wire.specs.View.{plain_answer, plain_echo, plain_word};
 
 use crate::codes::{code_name, code_text};
@@ -97,7 +97,8 @@ fn write_answer(answer: &Answer<'_>, out: &mut Writer) -> Result<(), AllocError>
     }
 }
 
-fn write_text(name: &str, text: &str, out: &mut Writer) -> Result<(), AllocError>
+/// Writes a member of an object: its name and this text.
+pub fn write_text(name: &str, text: &str, out: &mut Writer) -> Result<(), AllocError>
     ensures tokens { OnOk result (out.new.tokens ≡ out.old.tokens ++ key_token name.now ∷ string text.now ∷ []) }
     ensures before { out.new.before ≡ out.old.before }
 {
@@ -105,7 +106,8 @@ fn write_text(name: &str, text: &str, out: &mut Writer) -> Result<(), AllocError
     out.string(text)
 }
 
-fn write_count(name: &str, count: u64, out: &mut Writer) -> Result<(), AllocError>
+/// Writes a member of an object: its name and this number.
+pub fn write_count(name: &str, count: u64, out: &mut Writer) -> Result<(), AllocError>
     ensures tokens { OnOk result (out.new.tokens ≡ out.old.tokens ++ key_token name.now ∷ number (decimal count) ∷ []) }
     ensures before { out.new.before ≡ out.old.before }
 {
@@ -256,6 +258,46 @@ fn write_op_message(
     out.begin_object()?;
     write_text("a", "op", out)?;
     write_content(key, content, out)?;
+    write_tail(entry, out)
+}
+
+/// Writes a stored operation, as [`entry_value`](crate::entry_value) spells it, behind what is written.
+pub fn write_entry(entry: &Entry, out: &mut Writer) -> Result<(), AllocError>
+    ensures tokens { OnOk result (out.new.tokens ≡ out.old.tokens ++ data_tokens (entry_data entry.now)) }
+    ensures before { out.new.before ≡ out.old.before }
+{
+    out.begin_object()?;
+    write_own_content(entry, out)?;
+    write_tail(entry, out)
+}
+
+// The content by itself.
+fn write_own_content(entry: &Entry, out: &mut Writer) -> Result<(), AllocError>
+    ensures tokens { OnOk result (out.new.tokens ++ object_rest (op_tail entry.now)
+        ≡ out.old.tokens ++ object_rest (entry_members entry.now (entry.now).content)) }
+    ensures before { out.new.before ≡ out.old.before }
+{
+    match entry.content().kind() {
+        Kind::Create(value) => {
+            out.key("create")?;
+            write_create(value, out)
+        }
+        Kind::Delete => {
+            out.key("del")?;
+            out.boolean(true)
+        }
+        Kind::Edit(op) => {
+            out.key("op")?;
+            write_op(op, out)
+        }
+    }
+}
+
+// What follows the content, and the end.
+fn write_tail(entry: &Entry, out: &mut Writer) -> Result<(), AllocError>
+    ensures tokens { OnOk result (out.new.tokens ≡ out.old.tokens ++ object_rest (op_tail entry.now)) }
+    ensures before { out.new.before ≡ out.old.before }
+{
     write_count("seq", entry.arrived().seq(), out)?;
     write_text("src", entry.arrived().src(), out)?;
     write_count("v", entry.version(), out)?;
