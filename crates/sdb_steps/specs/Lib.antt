@@ -1,3 +1,4 @@
+pub mod Lines
 pub mod OneStep
 pub mod Picks
 pub mod Replays

@@ -5,8 +5,12 @@ mod attempts;
 mod kept;
 mod laws;
 mod number;
+<<<<<<< HEAD
 mod session;
 mod slots;
+=======
+mod reading;
+>>>>>>> baee634 (Steps: a line is read as a step)
 mod step;
 
 pub use laws::{
@@ -14,4 +18,5 @@ pub use laws::{
     snapshots_are_replays, stored_once,
 };
 pub use number::{SESSIONS, SessionNumber};
+pub use reading::read_step;
 pub use step::{Step, StepAnswer};

@@ -1,0 +1,191 @@
+-- The lines of the program of steps: which step a line is, and the line that answers it.
+--
+-- A step is a JSON object with `s`, the number of its session, and `do`, a text that says which step it is. Its other
+-- members are read as those of a message are. A line that is no step is answered by its code alone.
+use Rattle.std.specs.Prelude.{ℕ, List, [], ◌∷◌, if◌then◌else◌, nat_lt, bytes_eq, Option, Some, None, Result, Ok, Err, option_and_then, codes}
+use Rattle.std.specs.Option.{option_map_or, ok_or}
+use Rattle.serde_json.specs.Data.{Data, null, number, unsigned, string, array, object, Items, no_items, item, no_members, member}
+use Rattle.serde_json.specs.Find.{get, as_str}
+use Rattle.serde_json.specs.Written.{compact_text}
+use Rattle.sdb_value.specs.Profile.{count_of, to_data}
+use Rattle.sdb_value.specs.Value.{Value}
+use Rattle.sdb_oplog.specs.Decide.{PlainReply, stored, repeated, refused}
+use Rattle.sdb_oplog.specs.Plain.{PlainEntry}
+use Rattle.sdb_oplog.specs.Refused.{result_then}
+use Rattle.sdb_oplog.specs.declared.codes.Code.{Code}
+use Rattle.sdb_oplog.specs.declared.codes.Code.TheVariants.{E1, E2, E3, E4, E5, E6, E7, E8, E9, E10, E11}
+use Rattle.sdb_wire.specs.Wire.{count_at, name_at, present, may, key_of, content_of, value_of}
+use Rattle.sdb_wire.specs.Answers.{entry_data}
+use Rattle.sdb_steps.specs.OneStep.{Reply, decided, fetched, snapped, subscribed, taken}
+use Rattle.sdb_steps.specs.Picks as plain
+use Rattle.sdb_steps.specs.Picks.{Act, PlainStep, Notice, Answer}
+
+-- ---- reading
+
+-- the number of a session: a whole number from 0 to 63
+abbrev pub session_of : Data → Option ℕ
+session_of d = option_and_then (λ n. if nat_lt n 64 then Some n else None) (count_at (codes "s") d)
+
+-- what session n does
+abbrev pub step : ℕ → Act → PlainStep
+step n a = record { session = n; act = a }
+
+-- a submission: the key, the version, the number, the source and the content are read in this order
+abbrev pub begin_of : ℕ → Data → Result PlainStep Code
+begin_of n d =
+    result_then (λ k. result_then (λ v. result_then (λ seq. result_then (λ src. result_then (λ m. Ok (step n (plain.begin k src seq v m)))
+    (content_of d))
+    (ok_or (name_at (codes "src") d) E1))
+    (ok_or (count_at (codes "seq") d) E1))
+    (may count_of (present (codes "v") d)))
+    (key_of d)
+
+abbrev pub fetch_of : ℕ → Data → Result PlainStep Code
+fetch_of n d = result_then (λ k. Ok (step n (plain.fetch k))) (key_of d)
+
+abbrev pub snapshot_of : ℕ → Data → Result PlainStep Code
+snapshot_of n d = result_then (λ k. result_then (λ v. Ok (step n (plain.snapshot k v))) (may count_of (present (codes "v") d))) (key_of d)
+
+abbrev pub subscribe_of : ℕ → Data → Result PlainStep Code
+subscribe_of n d = result_then (λ k. result_then (λ v. Ok (step n (plain.subscribe k v))) (may count_of (present (codes "v") d))) (key_of d)
+
+-- `max` is needed
+abbrev pub take_of : ℕ → Data → Result PlainStep Code
+take_of n d = result_then (λ k. result_then (λ max. Ok (step n (plain.take k max))) (ok_or (count_at (codes "max") d) E1)) (key_of d)
+
+abbrev pub unsubscribe_of : ℕ → Data → Result PlainStep Code
+unsubscribe_of n d = result_then (λ k. Ok (step n (plain.unsubscribe k))) (key_of d)
+
+abbrev pub forget_of : ℕ → Data → Result PlainStep Code
+forget_of n d = result_then (λ k. Ok (step n (plain.forget k))) (key_of d)
+
+-- the step that the text `do` names
+abbrev pub act_of : ℕ → Data → Result PlainStep Code
+act_of n d =
+    option_map_or
+    (λ a. if bytes_eq a (codes "begin") then begin_of n d
+    else (if bytes_eq a (codes "work") then Ok (step n plain.work)
+    else (if bytes_eq a (codes "commit") then Ok (step n plain.commit)
+    else (if bytes_eq a (codes "fetch") then fetch_of n d
+    else (if bytes_eq a (codes "snapshot") then snapshot_of n d
+    else (if bytes_eq a (codes "subscribe") then subscribe_of n d
+    else (if bytes_eq a (codes "take") then take_of n d
+    else (if bytes_eq a (codes "unsubscribe") then unsubscribe_of n d
+    else (if bytes_eq a (codes "forget") then forget_of n d else Err E1)))))))))
+    (option_and_then as_str (get (codes "do") d)) (Err E1)
+
+-- the step, or the first code in order
+abbrev pub step_of : Data → Result PlainStep Code
+step_of d = option_map_or (λ n. act_of n d) (session_of d) (Err E1)
+
+-- the same of a line. One that is too long or has no reading is E1
+abbrev pub read_step : List ℕ → Result PlainStep Code
+read_step line = option_map_or step_of (value_of line) (Err E1)
+
+-- ---- answers. Members stand in the order of their bytes, and the text is compact
+
+-- a code by its short name
+abbrev pub short_name : Code → List ℕ
+short_name E1 = codes "E1"
+short_name E2 = codes "E2"
+short_name E3 = codes "E3"
+short_name E4 = codes "E4"
+short_name E5 = codes "E5"
+short_name E6 = codes "E6"
+short_name E7 = codes "E7"
+short_name E8 = codes "E8"
+short_name E9 = codes "E9"
+short_name E10 = codes "E10"
+short_name E11 = codes "E11"
+
+-- of a line that is no step, and of a step that is refused for want of memory
+abbrev pub refusal_data : Code → Data
+refusal_data code = object (member (codes "error") (string (short_name code)) no_members)
+
+-- what became of session n's step
+abbrev pub notice_data : List ℕ → ℕ → Data
+notice_data a n = object (member (codes "do") (string a) (member (codes "s") (number (unsigned n)) no_members))
+
+-- the step is refused
+abbrev pub refused_data : List ℕ → Code → ℕ → Data
+refused_data a code n = object (
+    member (codes "do") (string a)
+    (member (codes "error") (string (short_name code))
+    (member (codes "s") (number (unsigned n)) no_members)))
+
+-- stored operations, each without a key
+abbrev pub entry_items : List PlainEntry → Items
+entry_items [] = no_items
+entry_items (e ∷ es) = item (entry_data e) (entry_items es)
+
+abbrev pub entries_data : List PlainEntry → Data
+entries_data es = array (entry_items es)
+
+-- stored at version v, after these were missed
+abbrev pub stored_data : ℕ → ℕ → List PlainEntry → Data
+stored_data n v missed = object (
+    member (codes "do") (string (codes "commit"))
+    (member (codes "missed") (entries_data missed)
+    (member (codes "s") (number (unsigned n))
+    (member (codes "v") (number (unsigned v)) no_members))))
+
+-- a repeat misses nothing
+abbrev pub decided_data : ℕ → PlainReply → Data
+decided_data n (stored v missed) = stored_data n v missed
+decided_data n (repeated v) = stored_data n v []
+decided_data n (refused code) = refused_data (codes "commit") code n
+
+-- the document at version v, or that there is none
+abbrev pub document_data : List ℕ → ℕ → ℕ → Option Value → Data
+document_data a n v (Some j) = object (
+    member (codes "data") (to_data j)
+    (member (codes "do") (string a)
+    (member (codes "s") (number (unsigned n))
+    (member (codes "v") (number (unsigned v)) no_members))))
+document_data a n v None = object (
+    member (codes "do") (string a)
+    (member (codes "s") (number (unsigned n))
+    (member (codes "type") null
+    (member (codes "v") (number (unsigned v)) no_members))))
+
+abbrev pub started_data : ℕ → ℕ → Data
+started_data n v = object (
+    member (codes "do") (string (codes "subscribe"))
+    (member (codes "s") (number (unsigned n))
+    (member (codes "v") (number (unsigned v)) no_members)))
+
+abbrev pub taken_data : ℕ → List PlainEntry → Data
+taken_data n es = object (
+    member (codes "do") (string (codes "take"))
+    (member (codes "ops") (entries_data es)
+    (member (codes "s") (number (unsigned n)) no_members)))
+
+abbrev pub reply_data : ℕ → Reply → Data
+reply_data n (decided r) = decided_data n r
+reply_data n (fetched f) = document_data (codes "fetch") n f.version f.snapshot
+reply_data n (snapped (Ok f)) = document_data (codes "snapshot") n f.version f.snapshot
+reply_data n (snapped (Err code)) = refused_data (codes "snapshot") code n
+reply_data n (subscribed (Ok v)) = started_data n v
+reply_data n (subscribed (Err code)) = refused_data (codes "subscribe") code n
+reply_data n (taken es) = taken_data n es
+
+abbrev pub said_data : ℕ → Notice → Data
+said_data n plain.began = notice_data (codes "begin") n
+said_data n plain.worked = notice_data (codes "work") n
+said_data n plain.moved = notice_data (codes "moved") n
+said_data n plain.unsubscribed = notice_data (codes "unsubscribe") n
+said_data n plain.forgotten = notice_data (codes "forget") n
+said_data n plain.idle = notice_data (codes "idle") n
+said_data n plain.full = refused_data (codes "subscribe") E11 n
+
+-- the answer to a step of session n
+abbrev pub answer_data : ℕ → Answer → Data
+answer_data n (plain.replied r) = reply_data n r
+answer_data n (plain.said a) = said_data n a
+answer_data n plain.no_memory = refusal_data E10
+
+abbrev pub answer_text : ℕ → Answer → List ℕ
+answer_text n a = compact_text (answer_data n a)
+
+abbrev pub refusal_text : Code → List ℕ
+refusal_text code = compact_text (refusal_data code)
