@@ -1,5 +1,5 @@
 -- What the code's steps and answers stand for.
-use Rattle.std.specs.Prelude.{ℕ, Result, Err, option_map, string_bytes}
+use Rattle.std.specs.Prelude.{ℕ, Option, Result, Ok, Err, option_map, string_bytes}
 use Rattle.sdb_value.specs.View.{view}
 use Rattle.sdb_oplog.specs.declared.codes.Code.{Code}
 use Rattle.sdb_oplog.specs.declared.codes.Code.TheVariants.{E10, E11}
