@@ -7,3 +7,4 @@ pub mod Seen
 pub mod Slots
 pub mod Took
 pub mod View
+pub mod Worked
