@@ -1,7 +1,10 @@
 -- The lines of the program of steps: which step a line is, and the line that answers it.
 --
--- A step is a JSON object with `s`, the number of its session, and `do`, a text that says which step it is. Its other
--- members are read as those of a message are. A line that is no step is answered by its code alone.
+-- A step is a JSON object with `s`, the number of its session, and `do`, a text that says which step it is. What it needs
+-- beside these: `begin` the names `c`, `d` and `src`, the number `seq`, a content, and `v` if it names a version; `fetch`,
+-- `unsubscribe` and `forget` `c` and `d`; `snapshot` and `subscribe` these, and `v` if they name a version; `take` these and
+-- the number `max`; `work` and `commit` nothing. All are read as the members of a message are, and unknown ones are ignored.
+-- A line that is no step is answered by its code alone.
 use Rattle.std.specs.Prelude.{ℕ, List, [], ◌∷◌, if◌then◌else◌, nat_lt, bytes_eq, Option, Some, None, Result, Ok, Err, option_and_then, codes}
 use Rattle.std.specs.Option.{option_map_or, ok_or}
 use Rattle.serde_json.specs.Data.{Data, null, number, unsigned, string, array, object, Items, no_items, item, no_members, member}
@@ -40,22 +43,27 @@ begin_of n d =
     (may count_of (present (codes "v") d)))
     (key_of d)
 
+-- the present document of a key
 abbrev pub fetch_of : ℕ → Data → Result PlainStep Code
 fetch_of n d = result_then (λ k. Ok (step n (plain.fetch k))) (key_of d)
 
+-- the document at `v`, or the present one
 abbrev pub snapshot_of : ℕ → Data → Result PlainStep Code
 snapshot_of n d = result_then (λ k. result_then (λ v. Ok (step n (plain.snapshot k v))) (may count_of (present (codes "v") d))) (key_of d)
 
+-- a queue from `v` on, or from the present version
 abbrev pub subscribe_of : ℕ → Data → Result PlainStep Code
 subscribe_of n d = result_then (λ k. result_then (λ v. Ok (step n (plain.subscribe k v))) (may count_of (present (codes "v") d))) (key_of d)
 
--- `max` is needed
+-- the next entries of the queue, at most `max`, which is needed
 abbrev pub take_of : ℕ → Data → Result PlainStep Code
 take_of n d = result_then (λ k. result_then (λ max. Ok (step n (plain.take k max))) (ok_or (count_at (codes "max") d) E1)) (key_of d)
 
+-- the end of the queue
 abbrev pub unsubscribe_of : ℕ → Data → Result PlainStep Code
 unsubscribe_of n d = result_then (λ k. Ok (step n (plain.unsubscribe k))) (key_of d)
 
+-- the end of the snapshots that are kept of a key
 abbrev pub forget_of : ℕ → Data → Result PlainStep Code
 forget_of n d = result_then (λ k. Ok (step n (plain.forget k))) (key_of d)
 
@@ -107,8 +115,8 @@ abbrev pub notice_data : List ℕ → ℕ → Data
 notice_data a n = object (member (codes "do") (string a) (member (codes "s") (number (unsigned n)) no_members))
 
 -- the step is refused
-abbrev pub refused_data : List ℕ → Code → ℕ → Data
-refused_data a code n = object (
+abbrev pub refused_data : List ℕ → ℕ → Code → Data
+refused_data a n code = object (
     member (codes "do") (string a)
     (member (codes "error") (string (short_name code))
     (member (codes "s") (number (unsigned n)) no_members)))
@@ -118,6 +126,7 @@ abbrev pub entry_items : List PlainEntry → Items
 entry_items [] = no_items
 entry_items (e ∷ es) = item (entry_data e) (entry_items es)
 
+-- the same as an array
 abbrev pub entries_data : List PlainEntry → Data
 entries_data es = array (entry_items es)
 
@@ -133,7 +142,7 @@ stored_data n v missed = object (
 abbrev pub decided_data : ℕ → PlainReply → Data
 decided_data n (stored v missed) = stored_data n v missed
 decided_data n (repeated v) = stored_data n v []
-decided_data n (refused code) = refused_data (codes "commit") code n
+decided_data n (refused code) = refused_data (codes "commit") n code
 
 -- the document at version v, or that there is none
 abbrev pub document_data : List ℕ → ℕ → ℕ → Option Value → Data
@@ -148,27 +157,31 @@ document_data a n v None = object (
     (member (codes "type") null
     (member (codes "v") (number (unsigned v)) no_members))))
 
+-- the version that a queue starts at
 abbrev pub started_data : ℕ → ℕ → Data
 started_data n v = object (
     member (codes "do") (string (codes "subscribe"))
     (member (codes "s") (number (unsigned n))
     (member (codes "v") (number (unsigned v)) no_members)))
 
+-- the entries that a take was given
 abbrev pub taken_data : ℕ → List PlainEntry → Data
 taken_data n es = object (
     member (codes "do") (string (codes "take"))
     (member (codes "ops") (entries_data es)
     (member (codes "s") (number (unsigned n)) no_members)))
 
+-- the machine's reply to session n
 abbrev pub reply_data : ℕ → Reply → Data
 reply_data n (decided r) = decided_data n r
 reply_data n (fetched f) = document_data (codes "fetch") n f.version f.snapshot
 reply_data n (snapped (Ok f)) = document_data (codes "snapshot") n f.version f.snapshot
-reply_data n (snapped (Err code)) = refused_data (codes "snapshot") code n
+reply_data n (snapped (Err code)) = refused_data (codes "snapshot") n code
 reply_data n (subscribed (Ok v)) = started_data n v
-reply_data n (subscribed (Err code)) = refused_data (codes "subscribe") code n
+reply_data n (subscribed (Err code)) = refused_data (codes "subscribe") n code
 reply_data n (taken es) = taken_data n es
 
+-- to a step of session n that is no event
 abbrev pub said_data : ℕ → Notice → Data
 said_data n plain.began = notice_data (codes "begin") n
 said_data n plain.worked = notice_data (codes "work") n
@@ -176,7 +189,7 @@ said_data n plain.moved = notice_data (codes "moved") n
 said_data n plain.unsubscribed = notice_data (codes "unsubscribe") n
 said_data n plain.forgotten = notice_data (codes "forget") n
 said_data n plain.idle = notice_data (codes "idle") n
-said_data n plain.full = refused_data (codes "subscribe") E11 n
+said_data n plain.full = refused_data (codes "subscribe") n E11
 
 -- the answer to a step of session n
 abbrev pub answer_data : ℕ → Answer → Data
@@ -184,8 +197,10 @@ answer_data n (plain.replied r) = reply_data n r
 answer_data n (plain.said a) = said_data n a
 answer_data n plain.no_memory = refusal_data E10
 
+-- the line that answers a step of session n
 abbrev pub answer_text : ℕ → Answer → List ℕ
 answer_text n a = compact_text (answer_data n a)
 
+-- the line that answers one that is no step
 abbrev pub refusal_text : Code → List ℕ
 refusal_text code = compact_text (refusal_data code)

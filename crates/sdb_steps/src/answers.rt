@@ -84,7 +84,7 @@ fn write_decided(session: u64, reply: &Reply, out: &mut Writer) -> Result<(), Al
     match reply {
         Reply::Stored { v, missed } => write_stored(session, *v, missed.as_slice(), out),
         Reply::Repeat { v } => write_stored(session, *v, &[], out),
-        Reply::Refused(code) => write_refused("commit", *code, session, out),
+        Reply::Refused(code) => write_refused("commit", session, *code, out),
     }
 }
 
@@ -99,7 +99,7 @@ fn write_snapped(
 {
     match read {
         Ok(fetched) => write_document("snapshot", session, fetched, out),
-        Err(code) => write_refused("snapshot", *code, session, out),
+        Err(code) => write_refused("snapshot", session, *code, out),
     }
 }
 
@@ -114,11 +114,11 @@ fn write_subscribed(
 {
     match start {
         Ok(version) => write_start(session, *version, out),
-        Err(code) => write_refused("subscribe", *code, session, out),
+        Err(code) => write_refused("subscribe", session, *code, out),
     }
 }
 
-// What became of the step.
+// What became of the step, and no more.
 fn write_notice(kind: &str, session: u64, out: &mut Writer) -> Result<(), AllocError>
     ensures tokens { OnOk result (out.new.tokens ≡ out.old.tokens ++ data_tokens (notice_data kind.now session)) }
     ensures before { out.new.before ≡ out.old.before }
@@ -129,9 +129,9 @@ fn write_notice(kind: &str, session: u64, out: &mut Writer) -> Result<(), AllocE
     out.end_object()
 }
 
-fn write_refused(kind: &str, code: Code, session: u64, out: &mut Writer) -> Result<(), AllocError>
+fn write_refused(kind: &str, session: u64, code: Code, out: &mut Writer) -> Result<(), AllocError>
     ensures tokens { OnOk result (out.new.tokens
-        ≡ out.old.tokens ++ data_tokens (refused_data kind.now code session)) }
+        ≡ out.old.tokens ++ data_tokens (refused_data kind.now session code)) }
     ensures before { out.new.before ≡ out.old.before }
 {
     out.begin_object()?;
