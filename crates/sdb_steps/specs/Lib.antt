@@ -1,3 +1,4 @@
+pub mod Keyed
 pub mod Lines
 pub mod OneStep
 pub mod Picks
@@ -8,3 +9,4 @@ pub mod Slots
 pub mod Took
 pub mod View
 pub mod Worked
+pub mod Written

@@ -5,8 +5,9 @@
 -- `unsubscribe` and `forget` `c` and `d`; `snapshot` and `subscribe` these, and `v` if they name a version; `take` these and
 -- the number `max`; `work` and `commit` nothing. All are read as the members of a message are, and unknown ones are ignored.
 -- A line that is no step is answered by its code alone.
-use Rattle.std.specs.Prelude.{ℕ, List, [], ◌∷◌, if◌then◌else◌, nat_lt, bytes_eq, Option, Some, None, Result, Ok, Err, option_and_then, codes}
+use Rattle.std.specs.Prelude.{ℕ, List, [], ◌∷◌, ◌++◌, Bool, if◌then◌else◌, nat_lt, bytes_eq, Option, Some, None, Result, Ok, Err, option_and_then, codes}
 use Rattle.std.specs.Option.{option_map_or, ok_or}
+use Rattle.std.specs.Result.{is_ok}
 use Rattle.serde_json.specs.Data.{Data, null, number, unsigned, string, array, object, Items, no_items, item, no_members, member}
 use Rattle.serde_json.specs.Find.{get, as_str}
 use Rattle.serde_json.specs.Written.{compact_text}
@@ -204,3 +205,29 @@ answer_text n a = compact_text (answer_data n a)
 -- the line that answers one that is no step
 abbrev pub refusal_text : Code → List ℕ
 refusal_text code = compact_text (refusal_data code)
+
+-- ---- lines
+
+-- the step that a line is, or the code that refuses it. None is a line that is too long or not UTF-8
+abbrev pub reading_step : Option (List ℕ) → Result PlainStep Code
+reading_step None = Err E1
+reading_step (Some line) = read_step line
+
+abbrev pub is_step : List ℕ → Bool
+is_step line = is_ok (read_step line)
+
+abbrev pub line_of : List ℕ → List ℕ
+line_of text = text ++ 10 ∷ []
+
+-- those that are steps
+abbrev pub steps_in : List (Result PlainStep Code) → List PlainStep
+steps_in [] = []
+steps_in (Ok s ∷ readings) = s ∷ steps_in readings
+steps_in (Err code ∷ readings) = steps_in readings
+
+-- one line for each reading: the answers in order for the steps, and the codes for the others
+abbrev pub lines_text : List (Result PlainStep Code) → List Answer → List ℕ
+lines_text [] answers = []
+lines_text (Err code ∷ readings) answers = line_of (refusal_text code) ++ lines_text readings answers
+lines_text (Ok s ∷ readings) [] = []
+lines_text (Ok s ∷ readings) (a ∷ answers) = line_of (answer_text s.session a) ++ lines_text readings answers

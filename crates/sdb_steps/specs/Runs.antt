@@ -1,7 +1,9 @@
 -- Steps that are a run of the one-step machine: `Picks` and the machine's replies, with the state at the end.
 use Rattle.std.specs.Prelude.{◌≡◌, ℕ, List, [], ◌∷◌, true, false, Option, Some, None}
+use Rattle.sdb_oplog.specs.Plain.{PlainSubmission}
+use Rattle.sdb_oplog.specs.Keys.{PlainKey}
 use Rattle.sdb_steps.specs.OneStep.{OneStep, Event, submission, empty, reply, next, replies, after}
-use Rattle.sdb_steps.specs.Picks.{Session, Sessions, Attempt, Act, worked, moved, idle, worked_on, moved_on, decides, PlainStep, Answer, Deed, asks, says, replied, said, no_memory, deed, may_want, reply_in, replies_in, PicksOne, Picks}
+use Rattle.sdb_steps.specs.Picks.{Session, Sessions, Attempt, Act, began, worked, moved, idle, opened, worked_on, moved_on, decides, PlainStep, Answer, Deed, asks, says, replied, said, no_memory, deed, may_want, reply_in, replies_in, PicksOne, Picks}
 
 -- what comes of a deed
 abbrev pub Follows : OneStep → Deed → Answer → OneStep → Session → Type 0
@@ -12,6 +14,12 @@ Follows m (says a y) answer n x = (answer ≡ said a) × (n ≡ m) × (x ≡ y)
 abbrev pub IsTurn : ℕ → OneStep → Session → Act → Answer → OneStep → Session → Type 0
 IsTurn i m x act no_memory n y = (may_want (deed m i x act) ≡ true) × (n ≡ m) × (y ≡ x)
 IsTurn i m x act answer n y = Follows m (deed m i x act) answer n y
+
+-- an attempt is opened, unless memory was wanting
+abbrev pub Begins : OneStep → PlainKey → PlainSubmission → Answer → Option Attempt → Type 0
+Begins m k s no_memory o = o ≡ None
+Begins m k s (said began) o = o ≡ Some (opened m k s)
+Begins m k s answer o = ⊥
 
 -- the work on an attempt: once, unless memory was wanting
 abbrev pub Works : Attempt → Answer → Attempt → Type 0

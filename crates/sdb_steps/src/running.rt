@@ -1,0 +1,143 @@
+//! Runs of steps, from a list and from lines.
+ghost use Rattle.std.specs.Prelude.{◌≡◌, ℕ, ◌+◌, ◌-◌, ◌^◌, ◌≤◌, ◌⊎◌, ◌++◌, [], true, min, map, length, List, OnOk, OnErr, IfOk, IfSome, IsErrOf};
+ghost use Rattle.sdb_lines.specs.Counting.{steps_of};
+ghost use Rattle.sdb_lines.specs.Limits.{read_limit};
+ghost use Rattle.sdb_lines.specs.Lines.{reading_of, lines_of};
+ghost use Rattle.sdb_lines.specs.declared.runner.RunFault.{RunFault};
+ghost use Rattle.sdb_oplog.specs.Decide.{IsMade};
+ghost use Rattle.sdb_oplog.specs.Keys.{PlainKey};
+ghost use Rattle.sdb_oplog.specs.Snap.{are_first};
+ghost use Rattle.sdb_steps.specs.Keyed.{machine_of, sessions_of};
+ghost use Rattle.sdb_steps.specs.Lines.{reading_step, is_step, line_of, refusal_text};
+ghost use Rattle.sdb_steps.specs.OneStep.{Event, Legal};
+ghost use Rattle.sdb_steps.specs.Picks.{Picks, replies_in};
+ghost use Rattle.sdb_steps.specs.Replays.{ReplaysAll};
+ghost use Rattle.sdb_steps.specs.Took.{TookAll};
+ghost use Rattle.sdb_steps.specs.View.{plain_step, plain_answer};
+ghost use Rattle.sdb_steps.specs.Written.{TakesReading, Wrote, WroteFront};
+
+use crate::answers::{write_refusal, write_step_answer};
+use crate::laws::{logs_are_made, queues_take_all, reads_are_replays, stored_once};
+use crate::reading::read_step;
+use crate::step::{Step, StepAnswer};
+use crate::world::World;
+use sdb_lines::{Counts, Replier, RunFault, Sink, Source, run_lines};
+use sdb_oplog::Code;
+use std::alloc::{AllocError, Global};
+
+/// The answers to steps, one for each, and the world after them.
+#[derive(Drop)]
+pub struct Ran {
+    pub answers: Vec<StepAnswer>,
+    pub world: World,
+}
+
+/// Takes the steps one after the other, from a new world on. It fails only for want of memory for the
+/// world or for the list of answers; a step that finds no memory is answered so.
+pub fn run_steps(alloc: Global, steps: &[Step]) -> Result<Ran, AllocError>
+    // Replies and documents are those of a machine that takes each submission in one step at its deciding commit.
+    ensures headline { IfOk result (λ ran. (events : List Event)
+        × Picks (map plain_step steps.now) (map plain_answer ran.answers.items) events (sessions_of ran.world)
+        × Legal events (replies_in (map plain_answer ran.answers.items)) (machine_of ran.world).logs) }
+    // Each entry of each log is the one that its submission stores on those before it.
+    ensures made { IfOk result (λ ran. (k : PlainKey) → IsMade ((machine_of ran.world).logs k)) }
+    // No two entries of a log have one source and number.
+    ensures once { IfOk result (λ ran. (k : PlainKey) → are_first [] ((machine_of ran.world).logs k) ≡ true) }
+    // What each read was answered is the replay of so many first entries of the log at the end.
+    ensures replays { IfOk result (λ ran.
+        ReplaysAll (map plain_step steps.now) (map plain_answer ran.answers.items) (machine_of ran.world).logs) }
+    // Each open queue took the stored entries from its start on, in order, none missing.
+    ensures took { IfOk result (λ ran.
+        TookAll (map plain_step steps.now) (map plain_answer ran.answers.items) (sessions_of ran.world)
+        (machine_of ran.world).logs) }
+{
+    let mut world = World::new(alloc)?;
+    let mut answers = Vec::new(alloc);
+    for step in steps {
+        answers.push(world.take(step))?;
+    }
+    logs_are_made();
+    stored_once();
+    reads_are_replays();
+    queues_take_all();
+    Ok(Ran { answers, world })
+}
+
+impl Replier for World {
+    ghost opening = { λ w. [] };
+
+    ghost takes = { λ w line answer v.
+        TakesReading (reading_step line) (machine_of w) (sessions_of w) answer (machine_of v) (sessions_of v) };
+
+    ghost is_step = { is_step };
+
+    fn open(&self, _alloc: Global, _out: &mut Vec<u8>) -> Result<(), AllocError> {
+        Ok(())
+    }
+
+    fn reply(&mut self, alloc: Global, line: &str, out: &mut Vec<u8>) -> Result<bool, AllocError> {
+        match read_step(alloc, line) {
+            Ok(step) => {
+                let session = step.session();
+                let answer = self.step(step);
+                write_step_answer(alloc, session, &answer, out)?;
+                out.push(b'\n')?;
+                Ok(true)
+            }
+            Err(Code::E10) => Err(AllocError),
+            Err(code) => {
+                refuse(alloc, code, out)?;
+                Ok(false)
+            }
+        }
+    }
+
+    fn reply_unreadable(&mut self, alloc: Global, out: &mut Vec<u8>) -> Result<(), AllocError> {
+        refuse(alloc, Code::E1, out)
+    }
+}
+
+// Answers a line that is no step.
+fn refuse(alloc: Global, code: Code, out: &mut Vec<u8>) -> Result<(), AllocError>
+    ensures { OnOk result (out.new.items ≡ out.old.items ++ line_of (refusal_text code)) }
+{
+    write_refusal(alloc, code, out)?;
+    out.push(b'\n')?;
+    Ok(())
+}
+
+/// Answers the lines of a reader, each a step or refused by its code, from a new world on. An empty line,
+/// one that isn't UTF-8 and one of more than 1,048,576 bytes are E1; a last piece without a line feed is
+/// a line if it isn't empty. The answers to what was read are written and flushed before the next read.
+///
+/// A step that finds no memory is answered E10 and changes nothing, and the run goes on. Where a line
+/// can't be read or its answer not written for want of memory, the run ends with [`RunFault::Memory`].
+/// `lines` counts the lines, `steps` those that are steps.
+pub fn run<R: Source, W: Sink>(
+    alloc: Global,
+    reader: &mut R,
+    writer: &mut W,
+) -> Result<Counts, RunFault>
+    // One line for each line: the answers of the headline for the steps, and the codes for the others.
+    ensures whole { OnOk result (IfSome (R.left reader.old) (λ input.
+        Wrote (map reading_of (lines_of input)) (W.contents writer.old) (W.contents writer.new))) }
+    ensures lines { IfOk result (λ counts. IfSome (R.left reader.old) (λ input.
+        counts.lines ≡ length (lines_of input))) }
+    ensures steps { IfOk result (λ counts. IfSome (R.left reader.old) (λ input.
+        counts.steps ≡ steps_of is_step (map reading_of (lines_of input)))) }
+    // After a fault a front of that was written.
+    ensures front { OnErr result (IfSome (R.left reader.old) (λ input.
+        WroteFront (map reading_of (lines_of input)) (W.contents writer.old) (W.contents writer.new))) }
+    ensures calls { R.calls reader.new ≤ R.calls reader.old + read_limit }
+    // No read failed, and no write or flush, but for the one that is the fault.
+    ensures reads { (R.has_failed reader.new ≡ R.has_failed reader.old) ⊎ IsErrOf result RunFault.Read }
+    ensures writes { (W.has_failed writer.new ≡ W.has_failed writer.old) ⊎ IsErrOf result RunFault.Write }
+    ensures read { IsErrOf result RunFault.Read → (R.has_failed reader.new ≡ true)
+        ⊎ (min (R.calls reader.old + read_limit) (2 ^ 64 - 1) ≤ R.calls reader.new) }
+    ensures write { IsErrOf result RunFault.Write → W.has_failed writer.new ≡ true }
+{
+    let Ok(mut world) = World::new(alloc) else {
+        return Err(RunFault::Memory);
+    };
+    run_lines(alloc, &mut world, reader, writer)
+}
