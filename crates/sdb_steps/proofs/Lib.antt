@@ -6,3 +6,5 @@ pub mod Replays
 pub mod Runs
 pub mod Taken
 pub mod Turning
+pub mod Worlds
+pub mod Written

@@ -1,10 +1,10 @@
 -- What a step does to the session's queue of one key, and leaves of the others.
-use Rattle.std.proofs.Common.{◌≡◌, ℕ, ◌+◌, ◌<◌, ◌≤◌, List, [], ◌∷◌, ◌++◌, length, Bool, true, false, cond, nat_eq, nat_lt, Option, Some, None, Result, Ok, Err, ◌⊎◌, inl, inr, refl, sym, ap, ◌∙◌, subst, unwrap_or, option_map, arith}
+use Rattle.std.proofs.Common.{◌≡◌, ℕ, ◌+◌, ◌<◌, ◌≤◌, List, [], ◌∷◌, ◌++◌, length, Bool, true, false, cond, nat_eq, nat_lt, Option, Some, None, Result, Ok, Err, ◌⊎◌, inl, inr, refl, sym, ap, ◌∙◌, subst, unwrap_or, option_map, IfOk, OnErr, arith}
 use Rattle.std.specs.Option.{is_some, option_map_or}
 use Rattle.std.specs.Result.{is_ok}
 use Rattle.sdb_oplog.specs.declared.codes.Code.{Code}
 use Rattle.sdb_oplog.specs.declared.codes.Code.TheVariants.{E1, E2, E3, E4, E5, E6, E7, E8, E9, E10, E11}
-use Rattle.sdb_oplog.specs.Plain.{PlainEntry}
+use Rattle.sdb_oplog.specs.Plain.{PlainEntry, PlainSubmission, PlainContent}
 use Rattle.sdb_oplog.specs.Keys.{PlainKey, same_key}
 use Rattle.sdb_oplog.specs.Snap.{document}
 use Rattle.sdb_oplog.specs.Refused.{result_then}
@@ -13,15 +13,15 @@ use Rattle.sdb_subscribe.specs.Laws.{opened_other, after_take_at, after_take_oth
 use Rattle.sdb_desk.specs.Held.{with_at}
 use Rattle.sdb_desk.specs.HeldLaws.{kept_at}
 use Rattle.sdb_desk.specs.Laws.{equal_keys, queues_kept}
-use Rattle.sdb_desk.specs.Machine.{Queued, PlainSubscribed, start_of, opening, subscribing_from, Subscribes, Takes, closed, with_queues}
+use Rattle.sdb_desk.specs.Machine.{Queued, PlainFetched, PlainSubscribed, start_of, opening, subscribing_from, Subscribes, Takes, Reads, snapshot_at, closed, with_queues}
 use Rattle.sdb_steps.specs.OneStep as machine
 use Rattle.sdb_steps.specs.OneStep.{OneStep, next, reply, started, one_given}
 use Rattle.sdb_steps.specs.Picks as plain
 use Rattle.sdb_steps.specs.Picks.{Session, Answer, replied, said, no_memory, subscribes, takes, deed, may_want, with_queue}
-use Rattle.sdb_steps.specs.Runs.{Follows, IsTurn, Tries}
+use Rattle.sdb_steps.specs.Runs.{Follows, IsTurn, Tries, Begins}
 use Rattle.sdb_steps.specs.Seen.{queue_seen}
 use Rattle.sdb_steps.specs.Slots.{Slots, AreOpen, Leaves, closed_of}
-use Rattle.sdb_steps.specs.View.{plain_start, told_start}
+use Rattle.sdb_steps.specs.View.{plain_start, told_start, told_snapshot}
 
 -- ---- a change at one key
 
@@ -449,3 +449,53 @@ commit_turn i m n x a no_memory o has h = (
   h.0,
   ap (plain.with_attempt x) (h.1 ∙ sym has),
 )
+
+-- ---- a read that is refused
+
+snapped_or : (i : ℕ) (m n : OneStep) (x y : Session) (k : PlainKey) (v : Option ℕ) (code : Code) → (code ≡ E10 → ⊥) → Reads (Err code) (snapshot_at (m.logs k) v) → n ≡ m → y ≡ x → IsTurn i m x (plain.snapshot k v) (replied (machine.snapped (Err code))) n y
+snapped_or i m n x y k v code other (inl h) a b = absurd (other (let e : code ≡ E10 = cc in e))
+snapped_or i m n x y k v code other (inr h) a b = (ap (λ r. replied (machine.snapped r)) h, a, b)
+
+pub snapshot_refused : (i : ℕ) (m n : OneStep) (x y : Session) (k : PlainKey) (v : Option ℕ) (code : Code) → Reads (Err code) (snapshot_at (m.logs k) v) → n ≡ m → y ≡ x → IsTurn i m x (plain.snapshot k v) (told_snapshot code) n y
+snapshot_refused i m n x y k v E1 h a b = snapped_or i m n x y k v E1 (λ e. cc) h a b
+snapshot_refused i m n x y k v E2 h a b = snapped_or i m n x y k v E2 (λ e. cc) h a b
+snapshot_refused i m n x y k v E3 h a b = snapped_or i m n x y k v E3 (λ e. cc) h a b
+snapshot_refused i m n x y k v E4 h a b = snapped_or i m n x y k v E4 (λ e. cc) h a b
+snapshot_refused i m n x y k v E5 h a b = snapped_or i m n x y k v E5 (λ e. cc) h a b
+snapshot_refused i m n x y k v E6 h a b = snapped_or i m n x y k v E6 (λ e. cc) h a b
+snapshot_refused i m n x y k v E7 h a b = snapped_or i m n x y k v E7 (λ e. cc) h a b
+snapshot_refused i m n x y k v E8 h a b = snapped_or i m n x y k v E8 (λ e. cc) h a b
+snapshot_refused i m n x y k v E9 h a b = snapped_or i m n x y k v E9 (λ e. cc) h a b
+snapshot_refused i m n x y k v E10 h a b = (refl, a, b)
+snapshot_refused i m n x y k v E11 h a b = snapped_or i m n x y k v E11 (λ e. cc) h a b
+
+pub snapshot_read : (i : ℕ) (m n : OneStep) (x y : Session) (k : PlainKey) (v : Option ℕ) (f : PlainFetched) → Reads (Ok f) (snapshot_at (m.logs k) v) → n ≡ m → y ≡ x → IsTurn i m x (plain.snapshot k v) (replied (machine.snapped (Ok f))) n y
+snapshot_read i m n x y k v f (inl h) a b = cc
+snapshot_read i m n x y k v f (inr h) a b = (ap (λ r. replied (machine.snapped r)) h, a, b)
+
+-- ---- an attempt that is opened
+
+-- the deed of a begin without an attempt
+begin_deed : (i : ℕ) (m : OneStep) (x : Session) (k : PlainKey) (src : List ℕ) (seq : ℕ) (v : Option ℕ) (content : PlainContent) → x.attempt ≡ None
+    → deed m i x (plain.begin k src seq v content) ≡ plain.says plain.began (plain.with_attempt x (Some (plain.opened m k (plain.submission_of i k src seq v content))))
+begin_deed i m x k src seq v content none =
+    ap (λ (o : Option plain.Attempt). option_map_or (λ a. plain.says plain.idle x) o (plain.says plain.began (plain.with_attempt x (Some (plain.opened m k (plain.submission_of i k src seq v content)))))) none
+
+pub begin_turn : (i : ℕ) (m : OneStep) (x : Session) (k : PlainKey) (src : List ℕ) (seq : ℕ) (v : Option ℕ) (content : PlainContent) (answer : Answer) (o : Option plain.Attempt) → x.attempt ≡ None
+    → Begins m k (plain.submission_of i k src seq v content) answer o → IsTurn i m x (plain.begin k src seq v content) answer m (plain.with_attempt x o)
+begin_turn i m x k src seq v content no_memory o none h = (ap may_want (begin_deed i m x k src seq v content none), refl, ap (plain.with_attempt x) (h ∙ sym none))
+begin_turn i m x k src seq v content (said plain.began) o none h =
+    subst (λ d. Follows m d (said plain.began) m (plain.with_attempt x o)) (sym (begin_deed i m x k src seq v content none)) (refl, refl, ap (plain.with_attempt x) h)
+begin_turn i m x k src seq v content (said plain.worked) o none h = absurd h
+begin_turn i m x k src seq v content (said plain.moved) o none h = absurd h
+begin_turn i m x k src seq v content (said plain.unsubscribed) o none h = absurd h
+begin_turn i m x k src seq v content (said plain.forgotten) o none h = absurd h
+begin_turn i m x k src seq v content (said plain.idle) o none h = absurd h
+begin_turn i m x k src seq v content (said plain.full) o none h = absurd h
+begin_turn i m x k src seq v content (replied r) o none h = absurd h
+
+-- with a submission that was made, or for which there was no memory
+pub begins_with : {E : Type 0} (m : OneStep) (k : PlainKey) (s : PlainSubmission) (r : Result PlainSubmission E) (answer : Answer) (o : Option plain.Attempt) → IfOk r (λ u. u ≡ s) → IfOk r (λ u. Begins m k u answer o)
+    → OnErr r ((answer ≡ no_memory) × (o ≡ None)) → Begins m k s answer o
+begins_with m k s (Ok u) answer o is h wanting = subst (λ z. Begins m k z answer o) is h
+begins_with m k s (Err e) answer o is h wanting = subst (λ z. Begins m k s z o) (sym wanting.0) wanting.1

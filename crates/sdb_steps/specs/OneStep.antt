@@ -1,5 +1,5 @@
 -- The machine that takes each submission in one step: `Machine`, and what its events make of it: `Legal`.
-use Rattle.std.specs.Prelude.{◌≡◌, ℕ, ◌+◌, List, [], ◌∷◌, length, if◌then◌else◌, cond, nat_eq, Option, Result, Ok, Err}
+use Rattle.std.specs.Prelude.{◌≡◌, ℕ, ◌+◌, List, [], ◌∷◌, if◌then◌else◌, cond, nat_eq, Option, Result, Ok, Err}
 use Rattle.std.specs.Result.{is_ok}
 use Rattle.sdb_oplog.specs.declared.codes.Code.{Code}
 use Rattle.sdb_oplog.specs.declared.codes.Code.TheVariants.{E11}

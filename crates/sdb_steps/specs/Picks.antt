@@ -5,7 +5,7 @@ use Rattle.sdb_oplog.specs.declared.codes.Code.{Code}
 use Rattle.sdb_oplog.specs.declared.codes.Code.TheVariants.{E11}
 use Rattle.sdb_oplog.specs.Plain.{PlainSubmission, PlainContent}
 use Rattle.sdb_oplog.specs.Keys.{PlainKey, same_key}
-use Rattle.sdb_subscribe.specs.Queue.{PlainQueue, queue, moved as moved_by}
+use Rattle.sdb_subscribe.specs.Queue.{PlainQueue, moved as moved_by}
 use Rattle.sdb_steps.specs.OneStep as machine
 use Rattle.sdb_steps.specs.OneStep.{OneStep, Event, Reply, started, after}
 

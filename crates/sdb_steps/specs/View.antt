@@ -1,5 +1,5 @@
 -- What the code's steps and answers stand for.
-use Rattle.std.specs.Prelude.{ℕ, Option, Result, Ok, Err, option_map, string_bytes}
+use Rattle.std.specs.Prelude.{ℕ, Result, Err, option_map, string_bytes}
 use Rattle.sdb_value.specs.View.{view}
 use Rattle.sdb_oplog.specs.declared.codes.Code.{Code}
 use Rattle.sdb_oplog.specs.declared.codes.Code.TheVariants.{E10, E11}
@@ -38,6 +38,11 @@ plain_start r = plain.replied (subscribed r)
 abbrev pub told_start : Code → plain.Answer
 told_start E10 = plain.no_memory
 told_start code = plain_start (Err code)
+
+-- what a snapshot is answered that the shard refuses
+abbrev pub told_snapshot : Code → plain.Answer
+told_snapshot E10 = plain.no_memory
+told_snapshot code = plain.replied (snapped (Err code))
 
 abbrev pub plain_answer : StepAnswer → plain.Answer
 plain_answer Began = plain.said plain.began

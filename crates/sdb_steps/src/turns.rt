@@ -6,7 +6,7 @@ ghost use Rattle.sdb_steps.specs.Picks as plain;
 ghost use Rattle.sdb_steps.specs.Runs.{IsTurn, Begins};
 ghost use Rattle.sdb_steps.specs.Seen.{core_of, plain_session, plain_trying, slots_of};
 ghost use Rattle.sdb_steps.specs.Slots.{AreOpen, Leaves};
-ghost use Rattle.sdb_steps.specs.View.{plain_step, plain_answer};
+ghost use Rattle.sdb_steps.specs.View.{plain_step, plain_answer, told_snapshot};
 
 use crate::kept::{Session, Trying};
 use crate::number::SessionNumber;
@@ -87,7 +87,8 @@ fn begin(
     ensures slots { slots_of session.new ≡ slots_of session.old }
     ensures begun { IfOk submission (λ s. Begins (core_of shard.now) (plain_key key.now) s
         (plain_answer result) (option_map plain_trying session.new.attempt)) }
-    ensures wanting { OnErr submission ((plain_answer result ≡ plain.no_memory) × (session.new.attempt ≡ None)) }
+    ensures wanting { OnErr submission
+        ((plain_answer result ≡ plain.no_memory) × (option_map plain_trying session.new.attempt ≡ None)) }
 {
     let Ok(submission) = submission else {
         return StepAnswer::NoMemory;
@@ -119,7 +120,17 @@ fn snapshot(shard: &mut Shard, key: &Key, version: Option<u64>) -> StepAnswer
     ensures queues { queues_of shard.new ≡ queues_of shard.old }
 {
     match shard.snapshot_at(key, version) {
-        Err(Code::E10) => StepAnswer::NoMemory,
-        read => StepAnswer::Snapped(read),
+        Ok(fetched) => StepAnswer::Snapped(Ok(fetched)),
+        Err(code) => refused_snapshot(code),
+    }
+}
+
+// What a snapshot is answered that the shard refuses.
+fn refused_snapshot(code: Code) -> StepAnswer
+    ensures { plain_answer result ≡ told_snapshot code }
+{
+    match code {
+        Code::E10 => StepAnswer::NoMemory,
+        code => StepAnswer::Snapped(Err(code)),
     }
 }
