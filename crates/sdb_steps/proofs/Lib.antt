@@ -5,6 +5,7 @@ pub mod Made
 pub mod Replays
 pub mod Runs
 pub mod Taken
+pub mod Tries
 pub mod Turning
 pub mod Worlds
 pub mod Written

@@ -1,5 +1,5 @@
 //! What holds of all runs, and of all logs that events make. The functions do nothing.
-ghost use Rattle.std.specs.Prelude.{◌≡◌, ℕ, List, [], ◌∷◌, ◌++◌, length, take, true, is_some};
+ghost use Rattle.std.specs.Prelude.{◌≡◌, ◌<◌, ℕ, IfSome, List, [], ◌∷◌, ◌++◌, length, take, true, is_some};
 ghost use Rattle.sdb_oplog.specs.Plain.{PlainEntry, PlainSubmission};
 ghost use Rattle.sdb_oplog.specs.Keys.{PlainKey, Logs};
 ghost use Rattle.sdb_oplog.specs.Snap.{snap, are_first};
@@ -51,4 +51,10 @@ pub fn repeats_are_answered()
     ensures { (before later : List PlainEntry) (e : PlainEntry) (again : PlainSubmission) →
         IsMade (before ++ e ∷ later) → again.src ≡ e.arrived.src → again.seq ≡ e.arrived.seq →
         decide (before ++ e ∷ later) again ≡ record { reply = repeated (length before); log = before ++ e ∷ later } }
+{}
+
+/// An attempt was tried at most eight times so far: the ninth commit decides.
+pub fn tries_stay_below_nine()
+    ensures { (steps : List PlainStep) (answers : List Answer) (events : List Event) (w : Sessions) →
+        Picks steps answers events w → (n : ℕ) → IfSome (w n).attempt (λ a. a.tries < 9) }
 {}
