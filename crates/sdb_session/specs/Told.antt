@@ -1,5 +1,5 @@
 -- What the code's sessions and answers stand for.
-use Rattle.std.specs.Prelude.{◌≡◌, ◌++◌, ⊤, List, map, Option, Some, None, option_map, Result, Ok, Err, string_bytes, Vec}
+use Rattle.std.specs.Prelude.{◌≡◌, ◌++◌, ⊤, Bool, List, map, Option, Some, None, option_map, Result, Ok, Err, string_bytes, Vec}
 use Rattle.std.specs.Borrow.{Bor}
 use Rattle.std.specs.declared.alloc.AllocError.{AllocError}
 use Rattle.std.specs.declared.alloc.Global.{Global}
@@ -32,6 +32,10 @@ plain_sub e = record { key = plain_key e.0; queue = plain_queue e.1 }
 
 abbrev pub plain_session : Session → PlainSession
 plain_session s = record { source = string_bytes s.source; subs = map plain_sub s.subscriptions.entries }
+
+-- whether the session is at its end
+abbrev pub has_ended : Session → Bool
+has_ended s = s.ended
 
 -- what an error shows of a message
 abbrev pub shown_of : Option (Bor Value) → PlainEcho

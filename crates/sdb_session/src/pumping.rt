@@ -4,7 +4,7 @@ ghost use Rattle.std.specs.Result.{is_err};
 ghost use Rattle.sdb_oplog.specs.Keys.{plain_key};
 ghost use Rattle.sdb_session.specs.Pumping.{is_own, others, Closed, Pumps, Stops};
 ghost use Rattle.sdb_session.specs.Seen.{through};
-ghost use Rattle.sdb_session.specs.Told.{plain_session, Wrote};
+ghost use Rattle.sdb_session.specs.Told.{Wrote, has_ended, plain_session};
 ghost use Rattle.sdb_session.specs.Turns.{messages};
 ghost use Rattle.sdb_wire.specs.Answers.{answer_text};
 
@@ -37,8 +37,10 @@ impl Session {
         ensures takes { D.takes desk.now pass.new }
         ensures number { D.number desk.now pass.new ≡ D.number desk.now pass.old }
         ensures session { plain_session self.new ≡ plain_session self.old }
-        ensures ended { self.new.ended ≡ is_err result }
-        ensures again { self.old.ended ≡ true → is_err result ≡ true }
+        ensures ended { has_ended self.new ≡ is_err result }
+        ensures again { has_ended self.old ≡ true → is_err result ≡ true }
+        // An ended session asks nobody.
+        ensures asks { has_ended self.old ≡ true → pass.new ≡ pass.old }
         ensures pumps { IfOk result (λ r. Pumps (D.acts desk.now) max table.now
             (plain_session self.old) pass.old r.taken
             (λ answers. map string_bytes r.texts.items ≡ map answer_text answers) pass.new) }
@@ -69,8 +71,10 @@ impl Session {
         ensures takes { D.takes desk.now pass.new }
         ensures number { D.number desk.now pass.new ≡ D.number desk.now pass.old }
         ensures session { plain_session self.new ≡ plain_session self.old }
-        ensures ended { self.new.ended ≡ is_err result }
-        ensures again { self.old.ended ≡ true → is_err result ≡ true }
+        ensures ended { has_ended self.new ≡ is_err result }
+        ensures again { has_ended self.old ≡ true → is_err result ≡ true }
+        // An ended session asks nobody.
+        ensures asks { has_ended self.old ≡ true → pass.new ≡ pass.old }
         ensures pumps { IfOk result (λ taken. Pumps (D.acts desk.now) max table.now
             (plain_session self.old) pass.old taken
             (Wrote O.pieces (O.written out.old) (O.written out.new)) pass.new) }

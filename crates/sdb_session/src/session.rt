@@ -4,7 +4,7 @@ ghost use Rattle.std.specs.Result.{is_err, is_ok};
 ghost use Rattle.sdb_oplog.specs.declared.codes.Code.TheVariants.{E1};
 ghost use Rattle.sdb_session.specs.Seen.{through};
 ghost use Rattle.sdb_session.specs.Shown.{text_of};
-ghost use Rattle.sdb_session.specs.Told.{plain_session, Says, Wrote};
+ghost use Rattle.sdb_session.specs.Told.{Says, Wrote, has_ended, plain_session};
 ghost use Rattle.sdb_session.specs.Turns.{Answers, Stands};
 ghost use Rattle.sdb_wire.specs.Answers.{answer_text, init, failed};
 ghost use Rattle.sdb_wire.specs.Wire.{hear, nothing_said};
@@ -41,7 +41,7 @@ impl Session {
     pub fn new(alloc: Global, id: String) -> Session
         ensures source { (plain_session result).source ≡ string_bytes id }
         ensures subs { (plain_session result).subs ≡ [] }
-        ensures ended { result.ended ≡ false }
+        ensures ended { has_ended result ≡ false }
     {
         Session {
             alloc,
@@ -88,8 +88,11 @@ impl Session {
         requires takes { D.takes desk.now pass.old }
         ensures takes { D.takes desk.now pass.new }
         ensures number { D.number desk.now pass.new ≡ D.number desk.now pass.old }
-        ensures ended { self.new.ended ≡ is_err result }
-        ensures again { self.old.ended ≡ true → is_err result ≡ true }
+        ensures ended { has_ended self.new ≡ is_err result }
+        ensures again { has_ended self.old ≡ true → is_err result ≡ true }
+        // An ended session asks nobody.
+        ensures asks { has_ended self.old ≡ true →
+            (pass.new ≡ pass.old) × (plain_session self.new ≡ plain_session self.old) }
         ensures answers { IfOk result (λ texts. Answers (D.acts desk.now) text.now table.now
             (D.number desk.now pass.old) (plain_session self.old) pass.old
             (λ answers. map string_bytes texts.items ≡ map answer_text answers)
@@ -122,8 +125,11 @@ impl Session {
         ensures takes { D.takes desk.now pass.new }
         ensures number { D.number desk.now pass.new ≡ D.number desk.now pass.old }
         ensures request { IfOk result (λ b. b ≡ is_ok (hear text.now).request) }
-        ensures ended { self.new.ended ≡ is_err result }
-        ensures again { self.old.ended ≡ true → is_err result ≡ true }
+        ensures ended { has_ended self.new ≡ is_err result }
+        ensures again { has_ended self.old ≡ true → is_err result ≡ true }
+        // An ended session asks nobody.
+        ensures asks { has_ended self.old ≡ true →
+            (pass.new ≡ pass.old) × (plain_session self.new ≡ plain_session self.old) }
         ensures answers { OnOk result (Answers (D.acts desk.now) text.now table.now
             (D.number desk.now pass.old) (plain_session self.old) pass.old
             (Wrote O.pieces (O.written out.old) (O.written out.new))
@@ -157,7 +163,7 @@ impl Session {
         ensures takes { D.takes desk.now pass.new }
         ensures number { D.number desk.now pass.new ≡ D.number desk.now pass.old }
         ensures request { IfOk result (λ b. b ≡ is_ok (hear text.now).request) }
-        ensures ended { self.new.ended ≡ self.old.ended }
+        ensures ended { has_ended self.new ≡ has_ended self.old }
         ensures answers { OnOk result (Answers (D.acts desk.now) text.now table.now
             (D.number desk.now pass.old) (plain_session self.old) pass.old
             (Wrote O.pieces (O.written out.old) (O.written out.new))
@@ -184,8 +190,8 @@ impl Session {
     /// E1 and shows nothing of the message.
     pub fn refuse_to<O: Page>(&mut self, out: &mut O) -> Result<(), Ended>
         ensures session { plain_session self.new ≡ plain_session self.old }
-        ensures ended { self.new.ended ≡ is_err result }
-        ensures again { self.old.ended ≡ true → is_err result ≡ true }
+        ensures ended { has_ended self.new ≡ is_err result }
+        ensures again { has_ended self.old ≡ true → is_err result ≡ true }
         ensures says { OnOk result (Wrote O.pieces (O.written out.old) (O.written out.new)
             (failed nothing_said E1 ∷ [])) }
     {
