@@ -21,6 +21,8 @@ mod session;
 #[cfg(test)]
 mod snapcache;
 #[cfg(test)]
+mod steps;
+#[cfg(test)]
 mod submit;
 #[cfg(test)]
 mod subscribe;
