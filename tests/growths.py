@@ -1,7 +1,7 @@
-"""Lets each allocation of a run of the server fail in turn, and looks at what is written and at the status.
+"""Lets each allocation of a run of the programs fail in turn, and looks at what is written and at the status.
 
-Where the work on a request finds no memory, it is answered E10 and the others as if it had not been sent, and the status is
-0. Where a line can't be held or its answer not written, what is written is a front of the whole answer, then
+Where the work on a request or a step finds no memory, it is answered E10 and the others as if it had not been sent, and the
+status is 0. Where a line can't be held or its answer not written, what is written is a front of the whole answer, then
 `fault: memory`, and the status is 1. A refused allocation that the run can do without changes nothing. Before the opening
 text a refusal ends the program with an error."""
 import os
@@ -10,10 +10,11 @@ import sys
 import tempfile
 
 HERE = os.path.dirname(os.path.abspath(__file__))
-SERVER = os.path.join(HERE, "..", "crates", "sdb_server", "out", "sdb_server")
-PROJECTION = ["--projection", "titles=boards:title"]
+CRATES = os.path.join(HERE, "..", "crates")
+SERVER = [os.path.join(CRATES, "sdb_server", "out", "sdb_server"), "--lines", "--projection", "titles=boards:title"]
+STEPS = [os.path.join(CRATES, "sdb_steps_program", "out", "sdb_steps_program")]
 FAULT = b"fault: memory\n"
-WANTING = b"ERR_OUT_OF_MEMORY"
+WANTING = (b"ERR_OUT_OF_MEMORY", b'{"error":"E10"}')
 
 
 def lines_of(script, count):
@@ -34,36 +35,56 @@ SESSION = b"""{"a":"hs","id":"me"}
 {"a":"op","c":"boards","d":"1","v":3,"src":"x","seq":4,"op":[{"p":["votes"],"na":1}]}
 """
 
+# Two sessions race for a document, one subscribes twice, and each kind of step comes once.
+INTERLEAVED = b"""{"s":0,"do":"begin","c":"b","d":"1","src":"w","seq":1,"create":{"type":"json0","data":{"n":0}}}
+{"s":0,"do":"commit"}
+{"s":3,"do":"subscribe","c":"b","d":"1","v":0}
+{"s":1,"do":"begin","c":"b","d":"1","src":"x","seq":1,"v":1,"op":[{"p":["n"],"na":10}]}
+{"s":2,"do":"begin","c":"b","d":"1","src":"y","seq":1,"v":1,"op":[{"p":["n"],"na":5}]}
+{"s":1,"do":"work"}
+{"s":2,"do":"commit"}
+{"s":1,"do":"commit"}
+{"s":1,"do":"commit"}
+{"s":3,"do":"take","c":"b","d":"1","max":2}
+{"s":3,"do":"subscribe","c":"b","d":"1"}
+{"s":4,"do":"subscribe","c":"b","d":"1","v":9}
+{"s":0,"do":"snapshot","c":"b","d":"1","v":2}
+{"s":0,"do":"forget","c":"b","d":"1"}
+{"s":3,"do":"unsubscribe","c":"b","d":"1"}
+{"s":0,"do":"fetch","c":"b","d":"1"}
+{"s":0,"do":"fetch","c":"b"}
+"""
 
-def run(library, given, nth, counted):
+
+def run(program, library, given, nth, counted):
     env = dict(os.environ, LD_PRELOAD=library, FAIL_NTH=str(nth), FAIL_COUNT=counted)
-    ended = subprocess.run([SERVER, "--lines", *PROJECTION], input=given, stdout=subprocess.PIPE, stderr=subprocess.PIPE, env=env, timeout=60)
+    ended = subprocess.run(program, input=given, stdout=subprocess.PIPE, stderr=subprocess.PIPE, env=env, timeout=60)
     return ended.returncode, ended.stdout
 
 
 def is_right(status, written, whole, without_one):
     if status == 0:
         lines = written.splitlines(keepends=True)
-        others = b"".join(line for line in lines if WANTING not in line)
-        return written == whole or (written.count(WANTING) == 1 and others in without_one)
+        others = [line for line in lines if not any(wanting in line for wanting in WANTING)]
+        return written == whole or (len(others) == len(lines) - 1 and b"".join(others) in without_one)
     front = written[: -len(FAULT)] if written.endswith(FAULT) else written
     told = written.endswith(FAULT) or written == b""
     return status == 1 and told and whole.startswith(front) and front[-1:] in (b"", b"\n")
 
 
 # What is answered to the input without one of its lines, for each of them.
-def answers_without_one(given, library, counted):
+def answers_without_one(program, given, library, counted):
     lines = given.splitlines(keepends=True)
-    return {run(library, b"".join(lines[:at] + lines[at + 1 :]), 0, counted)[1] for at in range(len(lines))}
+    return {run(program, library, b"".join(lines[:at] + lines[at + 1 :]), 0, counted)[1] for at in range(len(lines))}
 
 
-def sweep(name, given, library, counted):
-    status, whole = run(library, given, 0, counted)
+def sweep(name, program, given, library, counted):
+    status, whole = run(program, library, given, 0, counted)
     assert status == 0, name
     with open(counted) as file:
         count = int(file.read())
-    without_one = answers_without_one(given, library, counted)
-    wrong = [nth for nth in range(1, count + 1) if not is_right(*run(library, given, nth, counted), whole, without_one)]
+    without_one = answers_without_one(program, given, library, counted)
+    wrong = [nth for nth in range(1, count + 1) if not is_right(*run(program, library, given, nth, counted), whole, without_one)]
     print(f"{name}: {count} allocations, each refused in turn, {len(wrong)} runs went wrong {wrong[:10] or ''}")
     return not wrong
 
@@ -72,10 +93,16 @@ def main():
     with tempfile.TemporaryDirectory() as made:
         library, counted = os.path.join(made, "fail_nth.so"), os.path.join(made, "count")
         subprocess.run(["cc", "-shared", "-fPIC", "-O1", "-o", library, os.path.join(HERE, "fail_nth.c"), "-ldl"], check=True)
-        with open(os.path.join(HERE, "..", "crates", "sdb_server", "stdin"), "rb") as file:
+        with open(os.path.join(CRATES, "sdb_server", "stdin"), "rb") as file:
             stored = file.read()
-        inputs = [("a create and a fetch", stored), ("40 lines on new documents", lines_of("lines.py", 40)), ("40 inserts into one text", lines_of("trace.py", 40)), ("a session", SESSION)]
-        right = [sweep(name, given, library, counted) for name, given in inputs]
+        inputs = [
+            ("a create and a fetch", SERVER, stored),
+            ("40 lines on new documents", SERVER, lines_of("lines.py", 40)),
+            ("40 inserts into one text", SERVER, lines_of("trace.py", 40)),
+            ("a session", SERVER, SESSION),
+            ("interleaved steps", STEPS, INTERLEAVED),
+        ]
+        right = [sweep(*given, library, counted) for given in inputs]
     return 0 if all(right) else 1
 
 
