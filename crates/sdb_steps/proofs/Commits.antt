@@ -14,7 +14,7 @@ use Rattle.sdb_desk.specs.declared.shard.Shard.{Shard}
 use Rattle.sdb_steps.specs.OneStep as machine
 use Rattle.sdb_steps.specs.OneStep.{OneStep, next}
 use Rattle.sdb_steps.specs.Picks as plain
-use Rattle.sdb_steps.specs.Runs.{Tries}
+use Rattle.sdb_steps.specs.Turns.{Tries}
 use Rattle.sdb_steps.specs.Seen.{core_of}
 
 -- ---- the machine of a shard

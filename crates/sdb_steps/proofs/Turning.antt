@@ -18,7 +18,7 @@ use Rattle.sdb_steps.specs.OneStep as machine
 use Rattle.sdb_steps.specs.OneStep.{OneStep, next, reply, started, one_given}
 use Rattle.sdb_steps.specs.Picks as plain
 use Rattle.sdb_steps.specs.Picks.{Session, Answer, replied, said, no_memory, subscribes, takes, deed, may_want, with_queue}
-use Rattle.sdb_steps.specs.Runs.{Follows, IsTurn, Tries, Begins}
+use Rattle.sdb_steps.specs.Turns.{Follows, IsTurn, Tries, Begins}
 use Rattle.sdb_steps.specs.Seen.{queue_seen}
 use Rattle.sdb_steps.specs.Slots.{Slots, AreOpen, Leaves, closed_of}
 use Rattle.sdb_steps.specs.View.{plain_start, told_start, told_snapshot}

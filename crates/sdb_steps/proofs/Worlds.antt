@@ -11,7 +11,8 @@ use Rattle.sdb_desk.specs.Machine.{Queued}
 use Rattle.sdb_steps.specs.OneStep.{OneStep, Event, reply, replies, after}
 use Rattle.sdb_steps.specs.Picks as plain
 use Rattle.sdb_steps.specs.Picks.{Sessions, Act, PlainStep, Answer, replied, said, no_memory, Deed, asks, says, deed, reply_in, IsDone, PicksOne, with_session, fresh}
-use Rattle.sdb_steps.specs.Runs.{Follows, IsTurn, IsStep}
+use Rattle.sdb_steps.specs.Runs.{IsStep}
+use Rattle.sdb_steps.specs.Turns.{Follows, IsTurn}
 use Rattle.sdb_steps.specs.Seen.{queue_seen, plain_trying, plain_session, plain_sessions, slots_of, slots_at}
 use Rattle.sdb_steps.specs.Slots.{Slots, AreOpen, AreApart, Leaves}
 use Rattle.sdb_steps.specs.declared.kept.Session.{Session}

@@ -7,6 +7,7 @@ pub mod Runs
 pub mod Seen
 pub mod Slots
 pub mod Took
+pub mod Turns
 pub mod View
 pub mod Worked
 pub mod Written

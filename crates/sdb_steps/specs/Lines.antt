@@ -225,7 +225,7 @@ steps_in [] = []
 steps_in (Ok s ∷ readings) = s ∷ steps_in readings
 steps_in (Err code ∷ readings) = steps_in readings
 
--- one line for each reading: the answers in order for the steps, and the codes for the others
+-- one line for each reading: the answers in order for the steps, up to the last, and the codes for the others
 abbrev pub lines_text : List (Result PlainStep Code) → List Answer → List ℕ
 lines_text [] answers = []
 lines_text (Err code ∷ readings) answers = line_of (refusal_text code) ++ lines_text readings answers

@@ -1,4 +1,4 @@
--- The machine that takes each submission in one step: `Machine`, and what its events make of it: `Legal`.
+-- The machine that takes each submission in one step, `OneStep`, and what its events make of it: `Legal`.
 use Rattle.std.specs.Prelude.{◌≡◌, ℕ, ◌+◌, List, [], ◌∷◌, if◌then◌else◌, cond, nat_eq, Option, Result, Ok, Err}
 use Rattle.std.specs.Result.{is_ok}
 use Rattle.sdb_oplog.specs.declared.codes.Code.{Code}
@@ -26,7 +26,7 @@ pub data Event : Type 0 where
   snapshot : PlainKey → Option ℕ → Event
   -- from a version on, or from the present one
   subscribe : PlainKey → Option ℕ → Event
-  -- of a queue: the entries from this one on, so many of them
+  -- of a queue: the entries from this one on, at most so many
   take_from : PlainKey → ℕ → ℕ → Event
 
 pub data Reply : Type 0 where

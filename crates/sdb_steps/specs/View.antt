@@ -29,7 +29,7 @@ plain_step (Forget n k) = record { session = n.number; act = plain.forget (plain
 abbrev pub plain_fetched : Fetched → PlainFetched
 plain_fetched f = record { version = f.version; snapshot = option_map view f.snapshot }
 
--- E11 is no reply of an event
+-- to a subscribe E11 is a notice, and no reply
 abbrev pub plain_start : Result ℕ Code → plain.Answer
 plain_start (Err E11) = plain.said plain.full
 plain_start r = plain.replied (subscribed r)

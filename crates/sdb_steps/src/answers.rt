@@ -19,7 +19,8 @@ use std::alloc::{AllocError, Global};
 use std::mem;
 
 /// Writes the answer to a step of a session behind what `out` holds, compact, with the members of each
-/// object in the order of their bytes. After want of memory `out` holds what it held.
+/// object in the order of their bytes. A repeat reads as a submission that is stored at that version and
+/// missed nothing. After want of memory `out` holds what it held.
 pub fn write_step_answer(
     alloc: Global,
     session: SessionNumber,

@@ -6,7 +6,7 @@ ghost use Rattle.sdb_desk.specs.Told.{plain_reply};
 ghost use Rattle.sdb_oplog.specs.Keys.{PlainKey, plain_key};
 ghost use Rattle.sdb_desk.specs.Keyed.{queues_of};
 ghost use Rattle.sdb_steps.specs.Picks.{opened};
-ghost use Rattle.sdb_steps.specs.Runs.{Tries, Works};
+ghost use Rattle.sdb_steps.specs.Turns.{Tries, Works};
 ghost use Rattle.sdb_steps.specs.Seen.{core_of, submitted, plain_trying, trying_at};
 ghost use Rattle.sdb_steps.specs.View.{plain_answer};
 

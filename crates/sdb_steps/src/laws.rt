@@ -4,10 +4,30 @@ ghost use Rattle.sdb_oplog.specs.Plain.{PlainEntry, PlainSubmission};
 ghost use Rattle.sdb_oplog.specs.Keys.{PlainKey, Logs};
 ghost use Rattle.sdb_oplog.specs.Snap.{snap, are_first};
 ghost use Rattle.sdb_oplog.specs.Decide.{decide, stored, repeated, IsMade};
-ghost use Rattle.sdb_steps.specs.OneStep.{Event, Legal, empty, after};
-ghost use Rattle.sdb_steps.specs.Picks.{PlainStep, Answer, Sessions, Picks, replies_in};
+ghost use Rattle.sdb_steps.specs.OneStep.{OneStep, Event, Legal, empty, after};
+ghost use Rattle.sdb_steps.specs.Picks.{PlainStep, Answer, Sessions, Picks, all_fresh, replies_in};
+ghost use Rattle.sdb_steps.specs.Runs.{IsRun, IsStep};
 ghost use Rattle.sdb_steps.specs.Replays.{ReplaysAll};
 ghost use Rattle.sdb_steps.specs.Took.{TookAll};
+
+/// No step is a run, from the empty machine and fresh sessions on.
+pub fn runs_begin()
+    ensures { IsRun [] [] empty all_fresh }
+{}
+
+/// A run goes on by each step of a world.
+pub fn runs_go_on()
+    ensures { (n o : OneStep) (u v : Sessions) (steps : List PlainStep) (answers : List Answer)
+        (s : PlainStep) (a : Answer) →
+        IsRun steps answers n u → IsStep n u s a o v → IsRun (steps ++ s ∷ []) (answers ++ a ∷ []) o v }
+{}
+
+/// The answers of a run and its logs are the machine's, by events that its steps pick.
+pub fn runs_are_legal()
+    ensures { (steps : List PlainStep) (answers : List Answer) (n : OneStep) (v : Sessions) →
+        IsRun steps answers n v →
+        (events : List Event) × Picks steps answers events v × Legal events (replies_in answers) n.logs }
+{}
 
 /// Each open queue took the stored entries from its start on, in order, none missing.
 pub fn queues_take_all()

@@ -18,7 +18,8 @@ mod world;
 pub use answers::{write_refusal, write_step_answer};
 pub use laws::{
     logs_are_made, queues_take_all, reads_are_replays, repeats_are_answered, resent,
-    snapshots_are_replays, stored_once, tries_stay_below_nine,
+    runs_are_legal, runs_begin, runs_go_on, snapshots_are_replays, stored_once,
+    tries_stay_below_nine,
 };
 pub use number::{SESSIONS, SessionNumber};
 pub use reading::read_step;

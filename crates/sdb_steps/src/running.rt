@@ -12,6 +12,7 @@ ghost use Rattle.sdb_steps.specs.Lines.{reading_step, is_step, line_of, refusal_
 ghost use Rattle.sdb_steps.specs.OneStep.{Event, Legal};
 ghost use Rattle.sdb_steps.specs.Picks.{Picks, replies_in};
 ghost use Rattle.sdb_steps.specs.Replays.{ReplaysAll};
+ghost use Rattle.sdb_steps.specs.Runs.{IsRun};
 ghost use Rattle.sdb_steps.specs.Took.{TookAll};
 ghost use Rattle.sdb_steps.specs.View.{plain_step, plain_answer};
 ghost use Rattle.sdb_steps.specs.Written.{TakesReading, Wrote, WroteFront};
@@ -39,6 +40,10 @@ pub fn run_steps(alloc: Global, steps: &[Step]) -> Result<Ran, AllocError>
     ensures headline { IfOk result (λ ran. (events : List Event)
         × Picks (map plain_step steps.now) (map plain_answer ran.answers.items) events (sessions_of ran.world)
         × Legal events (replies_in (map plain_answer ran.answers.items)) (machine_of ran.world).logs) }
+    // The same with the machine at the end, so that further steps of the world go on from there.
+    ensures goes_on { IfOk result (λ ran.
+        IsRun (map plain_step steps.now) (map plain_answer ran.answers.items)
+        (machine_of ran.world) (sessions_of ran.world)) }
     // Each entry of each log is the one that its submission stores on those before it.
     ensures made { IfOk result (λ ran. (k : PlainKey) → IsMade ((machine_of ran.world).logs k)) }
     // No two entries of a log have one source and number.
@@ -108,7 +113,9 @@ fn refuse(alloc: Global, code: Code, out: &mut Vec<u8>) -> Result<(), AllocError
 
 /// Answers the lines of a reader, each a step or refused by its code, from a new world on. An empty line,
 /// one that isn't UTF-8 and one of more than 1,048,576 bytes are E1; a last piece without a line feed is
-/// a line if it isn't empty. The answers to what was read are written and flushed before the next read.
+/// a line if it isn't empty. The answers to what was read are written and flushed before the next read,
+/// which is read in the code and tested, and no clause. At most 2^40 reads are made. What was written is
+/// told where the reader and the writer know their bytes, as a slice and a vector do.
 ///
 /// A step that finds no memory is answered E10 and changes nothing, and the run goes on. Where a line
 /// can't be read or its answer not written for want of memory, the run ends with [`RunFault::Memory`].

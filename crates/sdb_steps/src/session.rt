@@ -5,7 +5,7 @@ ghost use Rattle.sdb_desk.specs.Keyed.{logs_of, queues_of};
 ghost use Rattle.sdb_desk.specs.Machine.{Queued, with_queues};
 ghost use Rattle.sdb_steps.specs.OneStep.{OneStep};
 ghost use Rattle.sdb_steps.specs.Picks.{work, commit, subscribe, take, unsubscribe};
-ghost use Rattle.sdb_steps.specs.Runs.{IsTurn};
+ghost use Rattle.sdb_steps.specs.Turns.{IsTurn};
 ghost use Rattle.sdb_steps.specs.Seen.{core_of, plain_session, slots_of};
 ghost use Rattle.sdb_steps.specs.Slots.{AreOpen, Leaves, closed_of};
 ghost use Rattle.sdb_steps.specs.View.{plain_answer, told_start};

@@ -19,13 +19,14 @@ pub enum Step {
         version: Option<u64>,
         content: Content,
     },
-    /// Carries the submission along what it missed. It needs no lock. Idle without an attempt, and on
-    /// one that is worked.
+    /// Carries the submission along what it missed when it was looked at; no document is asked. Idle
+    /// without an attempt, and on one that is worked.
     Work {
         session: SessionNumber,
     },
-    /// Decides the attempt, where the log is as long as it was looked at, and on the ninth try; an
-    /// attempt that is not worked is worked first. Idle without an attempt.
+    /// Decides the attempt, where the log is as long as it was looked at, and on the ninth try; elsewhere
+    /// the log has moved, and is looked at again. An attempt that is not worked is worked first. Idle
+    /// without an attempt.
     Commit {
         session: SessionNumber,
     },

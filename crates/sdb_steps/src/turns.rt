@@ -3,7 +3,7 @@ ghost use Rattle.std.specs.Prelude.{◌≡◌, ℕ, None, IfOk, OnErr, option_ma
 ghost use Rattle.sdb_oplog.specs.Keys.{plain_key};
 ghost use Rattle.sdb_desk.specs.Keyed.{queues_of};
 ghost use Rattle.sdb_steps.specs.Picks as plain;
-ghost use Rattle.sdb_steps.specs.Runs.{IsTurn, Begins};
+ghost use Rattle.sdb_steps.specs.Turns.{IsTurn, Begins};
 ghost use Rattle.sdb_steps.specs.Seen.{core_of, plain_session, plain_trying, slots_of};
 ghost use Rattle.sdb_steps.specs.Slots.{AreOpen, Leaves};
 ghost use Rattle.sdb_steps.specs.View.{plain_step, plain_answer, told_snapshot};

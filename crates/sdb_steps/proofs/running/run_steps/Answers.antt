@@ -17,6 +17,14 @@ returns-clause-headline c =
     let whole : take c.loop-step.step-index c.args.steps.now ≡ c.args.steps.now = take_all c.loop-step.step-index c.args.steps.now c.loop-step-test.false in
     legal_run _ told n v (subst (λ xs. IsRun (map plain_step xs) told n v) whole c.loop-step.invariant)
 
+pub returns-clause-goes_on : goal.returns-clause-goes_on
+returns-clause-goes_on c =
+    let n = machine_of c.loop-step.world in
+    let v = sessions_of c.loop-step.world in
+    let told = map plain_answer c.loop-step.answers.items in
+    let whole : take c.loop-step.step-index c.args.steps.now ≡ c.args.steps.now = take_all c.loop-step.step-index c.args.steps.now c.loop-step-test.false in
+    subst (λ xs. IsRun (map plain_step xs) told n v) whole c.loop-step.invariant
+
 pub returns-clause-made : goal.returns-clause-made
 returns-clause-made c = λ k.
     let run = c.loop-step.invariant in

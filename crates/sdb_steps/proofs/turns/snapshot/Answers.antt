@@ -1,7 +1,7 @@
 use Rattle.std.proofs.Common.{refl, sym, subst}
 use Rattle.sdb_oplog.specs.Keys.{plain_key}
 use Rattle.sdb_steps.specs.Picks.{Answer, snapshot}
-use Rattle.sdb_steps.specs.Runs.{IsTurn}
+use Rattle.sdb_steps.specs.Turns.{IsTurn}
 use Rattle.sdb_steps.specs.Seen.{core_of}
 use Rattle.sdb_steps.specs.View.{plain_fetched}
 use Rattle.sdb_steps.proofs.Commits.{same_core}

@@ -2,7 +2,7 @@ use Rattle.std.proofs.Common.{◌≡◌, option_map, None, refl, sym, ap, subst,
 use Rattle.sdb_oplog.specs.Keys.{plain_key}
 use Rattle.sdb_desk.specs.Keyed.{queues_of}
 use Rattle.sdb_steps.specs.Picks as plain
-use Rattle.sdb_steps.specs.Runs.{IsTurn, Follows}
+use Rattle.sdb_steps.specs.Turns.{IsTurn, Follows}
 use Rattle.sdb_steps.specs.Seen.{core_of, plain_session, plain_trying, slots_of}
 use Rattle.sdb_steps.specs.View.{plain_step, plain_answer}
 use Rattle.sdb_steps.specs.declared.step.Step.{Step}

@@ -5,7 +5,7 @@ use Rattle.sdb_desk.specs.Held.{with_at}
 use Rattle.sdb_desk.specs.Keyed.{logs_of, queues_of}
 use Rattle.sdb_desk.specs.Machine.{PlainSubscribed, with_queues}
 use Rattle.sdb_steps.specs.Picks.{Session, Answer, subscribe}
-use Rattle.sdb_steps.specs.Runs.{IsTurn}
+use Rattle.sdb_steps.specs.Turns.{IsTurn}
 use Rattle.sdb_steps.specs.Seen.{core_of, plain_session, plain_trying, slots_of, slots_in, queue_seen}
 use Rattle.sdb_steps.specs.Slots.{Slots, closed_of}
 use Rattle.sdb_steps.proofs.Turning.{Joins, joined_turn, joined_leaves, subscribe_wanting, subscribe_refused, leaves_all, kept_queues, session_kept, refused_same}

@@ -2,7 +2,7 @@ use Rattle.std.proofs.Common.{◌≡◌, ◌<◌, length, ap, sym, ◌∙◌, su
 use Rattle.std.proofs.lemmas.List.{length-set}
 use Rattle.sdb_desk.specs.Keyed.{queues_of}
 use Rattle.sdb_steps.specs.Picks as plain
-use Rattle.sdb_steps.specs.Runs.{IsTurn}
+use Rattle.sdb_steps.specs.Turns.{IsTurn}
 use Rattle.sdb_steps.specs.Seen.{core_of, plain_session, plain_sessions, slots_of}
 use Rattle.sdb_steps.specs.Slots.{Slots, AreOpen, Leaves}
 use Rattle.sdb_steps.specs.View.{plain_step, plain_answer}
