@@ -2,6 +2,7 @@ pub mod Commits
 pub mod Follows
 pub mod Growing
 pub mod Made
+pub mod Placed
 pub mod Replays
 pub mod Runs
 pub mod Taken

@@ -2,6 +2,7 @@ pub mod Keyed
 pub mod Lines
 pub mod OneStep
 pub mod Picks
+pub mod Placed
 pub mod Replays
 pub mod Runs
 pub mod Seen

@@ -6,6 +6,7 @@ ghost use Rattle.sdb_oplog.specs.Snap.{snap, are_first};
 ghost use Rattle.sdb_oplog.specs.Decide.{decide, stored, repeated, IsMade};
 ghost use Rattle.sdb_steps.specs.OneStep.{OneStep, Event, Legal, empty, after};
 ghost use Rattle.sdb_steps.specs.Picks.{PlainStep, Answer, Sessions, Picks, all_fresh, replies_in};
+ghost use Rattle.sdb_steps.specs.Placed.{PlacedAll};
 ghost use Rattle.sdb_steps.specs.Runs.{IsRun, IsStep};
 ghost use Rattle.sdb_steps.specs.Replays.{ReplaysAll};
 ghost use Rattle.sdb_steps.specs.Took.{TookAll};
@@ -77,4 +78,12 @@ pub fn repeats_are_answered()
 pub fn tries_stay_below_nine()
     ensures { (steps : List PlainStep) (answers : List Answer) (events : List Event) (w : Sessions) →
         Picks steps answers events w → (n : ℕ) → IfSome (w n).attempt (λ a. a.tries < 9) }
+{}
+
+/// What a commit was answered, stored or a repeat, is the place at which the log at the end has the
+/// source and number of what its session had begun: the first such place. So two commits of one source
+/// and number on one document are answered with one version.
+pub fn submissions_are_placed()
+    ensures { (steps : List PlainStep) (answers : List Answer) (events : List Event) (w : Sessions) (logs : Logs) →
+        Picks steps answers events w → Legal events (replies_in answers) logs → PlacedAll steps answers logs }
 {}

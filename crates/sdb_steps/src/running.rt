@@ -11,6 +11,7 @@ ghost use Rattle.sdb_steps.specs.Keyed.{machine_of, sessions_of};
 ghost use Rattle.sdb_steps.specs.Lines.{reading_step, is_step, line_of, refusal_text};
 ghost use Rattle.sdb_steps.specs.OneStep.{Event, Legal};
 ghost use Rattle.sdb_steps.specs.Picks.{Picks, replies_in};
+ghost use Rattle.sdb_steps.specs.Placed.{PlacedAll};
 ghost use Rattle.sdb_steps.specs.Replays.{ReplaysAll};
 ghost use Rattle.sdb_steps.specs.Runs.{IsRun};
 ghost use Rattle.sdb_steps.specs.Took.{TookAll};
@@ -18,7 +19,9 @@ ghost use Rattle.sdb_steps.specs.View.{plain_step, plain_answer};
 ghost use Rattle.sdb_steps.specs.Written.{TakesReading, Wrote, WroteFront};
 
 use crate::answers::{write_refusal, write_step_answer};
-use crate::laws::{logs_are_made, queues_take_all, reads_are_replays, stored_once};
+use crate::laws::{
+    logs_are_made, queues_take_all, reads_are_replays, stored_once, submissions_are_placed,
+};
 use crate::reading::read_step;
 use crate::step::{Step, StepAnswer};
 use crate::world::World;
@@ -48,6 +51,9 @@ pub fn run_steps(alloc: Global, steps: &[Step]) -> Result<Ran, AllocError>
     ensures made { IfOk result (λ ran. (k : PlainKey) → IsMade ((machine_of ran.world).logs k)) }
     // No two entries of a log have one source and number.
     ensures once { IfOk result (λ ran. (k : PlainKey) → are_first [] ((machine_of ran.world).logs k) ≡ true) }
+    // What each commit was answered is the place that the log at the end has for its source and number.
+    ensures placed { IfOk result (λ ran.
+        PlacedAll (map plain_step steps.now) (map plain_answer ran.answers.items) (machine_of ran.world).logs) }
     // What each read was answered is the replay of so many first entries of the log at the end.
     ensures replays { IfOk result (λ ran.
         ReplaysAll (map plain_step steps.now) (map plain_answer ran.answers.items) (machine_of ran.world).logs) }
@@ -63,6 +69,7 @@ pub fn run_steps(alloc: Global, steps: &[Step]) -> Result<Ran, AllocError>
     }
     logs_are_made();
     stored_once();
+    submissions_are_placed();
     reads_are_replays();
     queues_take_all();
     Ok(Ran { answers, world })

@@ -1,0 +1,215 @@
+-- What commits were answered are places in the logs at the end.
+use Rattle.std.proofs.Common.{◌≡◌, ℕ, ◌+◌, List, [], ◌∷◌, ◌++◌, Bool, true, false, cond, Option, Some, None, Result, Ok, Err, option_map, nat_eq, refl, sym, ap, ◌∙◌, subst}
+use Rattle.std.proofs.lemmas.Bool.{eqb-true}
+use Rattle.std.specs.Option.{option_map_or}
+use Rattle.sdb_oplog.specs.Plain.{PlainEntry, PlainContent, PlainSubmission}
+use Rattle.sdb_oplog.specs.Keys.{PlainKey, Logs}
+use Rattle.sdb_oplog.specs.Snap.{stored_at, is_from}
+use Rattle.sdb_oplog.specs.Decide.{decide, settled, store, PlainReply, stored, repeated, refused}
+use Rattle.sdb_oplog.specs.Laws.{decides_repeat}
+use Rattle.sdb_oplog.specs.declared.codes.Code.{Code}
+use Rattle.sdb_oplog.specs.declared.codes.Code.TheVariants.{E1, E2, E3, E4, E5, E6, E7, E8, E9, E10, E11}
+use Rattle.sdb_subscribe.specs.Queue.{PlainQueue}
+use Rattle.sdb_desk.specs.Laws.{same_itself}
+use Rattle.sdb_steps.specs.OneStep as machine
+use Rattle.sdb_steps.specs.OneStep.{OneStep, Event, Legal, empty, decided, started, next}
+use Rattle.sdb_steps.specs.Picks as plain
+use Rattle.sdb_steps.specs.Picks.{Attempt, Session, Sessions, Act, PlainStep, Answer, replied, said, no_memory, Deed, asks, says, deed, replies_in, Picks, all_fresh, with_attempt, with_session}
+use Rattle.sdb_steps.specs.Runs.{IsSteps}
+use Rattle.sdb_steps.specs.Placed.{Begun, begun_after, IsPlaced, with_begun, PlacedFrom, PlacedAll}
+use Rattle.sdb_steps.proofs.Follows.{Follows, Comes, comes, legal_steps}
+use Rattle.sdb_steps.proofs.Growing.{Grows, grows_steps}
+use Rattle.sdb_steps.proofs.Made.{resent_all}
+
+-- ---- one decision
+
+-- a first place stays the first on a longer log
+first_stays : (b : Bool) (o p : Option ℕ) (v : ℕ) → ((i : ℕ) → o ≡ Some i → p ≡ Some i) → cond b (Some 0) (option_map (λ i. i + 1) o) ≡ Some v → cond b (Some 0) (option_map (λ i. i + 1) p) ≡ Some v
+first_stays true o p v f h = h
+first_stays false None p v f h = cc
+first_stays false (Some i) p v f h = ap (option_map (λ i. i + 1)) (f i refl) ∙ h
+
+place_stays : (src : List ℕ) (seq : ℕ) (log more : List PlainEntry) (v : ℕ) → stored_at src seq log ≡ Some v → stored_at src seq (log ++ more) ≡ Some v
+place_stays src seq [] more v h = cc
+place_stays src seq (e ∷ log) more v h = first_stays (is_from src seq e) (stored_at src seq log) (stored_at src seq (log ++ more)) v (λ i k. place_stays src seq log more i k) h
+
+never_repeats : (log : List PlainEntry) (s : PlainSubmission) (r : Result PlainContent Code) (v : ℕ) → (store log s r).reply ≡ repeated v → ⊥
+never_repeats log s (Ok m) v h = cc
+never_repeats log s (Err c) v h = cc
+
+repeat_by : (log : List PlainEntry) (s : PlainSubmission) (v : ℕ) (o : Option ℕ) → (option_map_or (λ i. record { reply = repeated i; log = log }) o (store log s (settled log s))).reply ≡ repeated v → o ≡ Some v
+repeat_by log s v None h = absurd (never_repeats log s (settled log s) v h)
+repeat_by log s v (Some i) h = let same : i ≡ v = cc in ap Some same
+
+-- a repeat stands where it says
+repeat_at : (log : List PlainEntry) (s : PlainSubmission) (v : ℕ) → (decide log s).reply ≡ repeated v → stored_at s.src s.seq log ≡ Some v
+repeat_at log s v h = repeat_by log s v (stored_at s.src s.seq log) h
+
+abbrev begun_of : Attempt → Begun
+begun_of a = record { key = a.key; src = a.submission.src; seq = a.submission.seq }
+
+-- what was decided on a log, seen in a longer one
+placed_reply : (k : PlainKey) (log more : List PlainEntry) (s : PlainSubmission) (end : Logs) (r : PlainReply) → (decide log s).reply ≡ r → end k ≡ (decide log s).log ++ more
+    → IsPlaced end (Some (record { key = k; src = s.src; seq = s.seq })) plain.commit (replied (decided r))
+placed_reply k log more s end (stored v missed) h is =
+    let again = resent_all log missed more s s v h refl refl in
+    ap (stored_at s.src s.seq) is ∙ repeat_at ((decide log s).log ++ more) s v (ap (λ d. d.reply) again)
+placed_reply k log more s end (repeated v) h is =
+    let there = repeat_at log s v h in
+    let same : (decide log s).log ≡ log = ap (λ d. d.log) (decides_repeat log s v there) in
+    ap (stored_at s.src s.seq) (is ∙ ap (λ (l : List PlainEntry). l ++ more) same) ∙ place_stays s.src s.seq log more v there
+placed_reply k log more s end (refused c) h is = tt
+
+placed_next : (m : OneStep) (a : Attempt) (end : Logs) → Grows ((next m (machine.submission a.key a.submission)).logs a.key) (end a.key)
+    → IsPlaced end (Some (begun_of a)) plain.commit (replied (machine.reply m (machine.submission a.key a.submission)))
+placed_next m a end g =
+    let d = decide (m.logs a.key) a.submission in
+    let here : (next m (machine.submission a.key a.submission)).logs a.key ≡ d.log = ap (λ (b : Bool). cond b d.log (m.logs a.key)) (same_itself a.key) in
+    placed_reply a.key (m.logs a.key) g.more a.submission end d.reply refl (g.is ∙ ap (λ (l : List PlainEntry). l ++ g.more) here)
+
+-- ---- one step of a session
+
+-- what the session has begun is what its attempt is of
+abbrev Tracks : Option Begun → Session → Type 0
+Tracks b x = b ≡ option_map begun_of x.attempt
+
+abbrev Grow : OneStep → Logs → Type 0
+Grow m end = (k : PlainKey) → Grows (m.logs k) (end k)
+
+record Kept (b : Option Begun) (act : Act) (a : Answer) (y : Session) (end : Logs) : Type 0 where
+  pub tracks : Tracks (begun_after act a b) y
+  pub placed : IsPlaced end b act a
+
+-- of what comes of a deed
+abbrev Keeps : OneStep → Option Begun → Act → Deed → Logs → Type 0
+Keeps m b act (asks e y) end = Grow (next m e) end → Kept b act (replied (machine.reply m e)) y end
+Keeps m b act (says n y) end = Kept b act (said n) y end
+
+kept_follows : (m n : OneStep) (b : Option Begun) (act : Act) (d : Deed) (a : Answer) (y : Session) (end : Logs) → Keeps m b act d end → Follows m d a n y → Grow n end → Kept b act a y end
+kept_follows m n b act (asks e z) a y end k h g =
+    let now = k (subst (λ (o : OneStep). Grow o end) h.1 g) in
+    subst (λ (c : Answer). Kept b act c y end) (sym h.0) (subst (λ (x : Session). Kept b act (replied (machine.reply m e)) x end) (sym h.2) now)
+kept_follows m n b act (says c z) a y end k h g =
+    subst (λ (c : Answer). Kept b act c y end) (sym h.0) (subst (λ (x : Session). Kept b act (said c) x end) (sym h.2) k)
+
+keeps_begin : (m : OneStep) (b : Option Begun) (i : ℕ) (x : Session) (k : PlainKey) (src : List ℕ) (seq : ℕ) (v : Option ℕ) (content : PlainContent) (o : Option Attempt) (end : Logs) → Tracks b x
+    → Keeps m b (plain.begin k src seq v content) (option_map_or (λ a. says plain.idle x) o (says plain.began (with_attempt x (Some (plain.opened m k (plain.submission_of i k src seq v content)))))) end
+keeps_begin m b i x k src seq v content None end t = record { tracks = refl; placed = tt }
+keeps_begin m b i x k src seq v content (Some a) end t = record { tracks = t; placed = tt }
+
+keeps_worked : (m : OneStep) (b : Option Begun) (x : Session) (a : Attempt) (c : Bool) (end : Logs) → x.attempt ≡ Some a → Tracks b x
+    → Keeps m b plain.work (cond c (says plain.idle x) (says plain.worked (with_attempt x (Some (plain.worked_on a))))) end
+keeps_worked m b x a true end is t = record { tracks = t; placed = tt }
+keeps_worked m b x a false end is t = record { tracks = t ∙ ap (option_map begun_of) is; placed = tt }
+
+keeps_work : (m : OneStep) (b : Option Begun) (x : Session) (o : Option Attempt) (end : Logs) → x.attempt ≡ o → Tracks b x
+    → Keeps m b plain.work (option_map_or (λ a. cond a.worked (says plain.idle x) (says plain.worked (with_attempt x (Some (plain.worked_on a))))) o (says plain.idle x)) end
+keeps_work m b x None end is t = record { tracks = t; placed = tt }
+keeps_work m b x (Some a) end is t = keeps_worked m b x a a.worked end is t
+
+keeps_tried : (m : OneStep) (b : Option Begun) (x : Session) (a : Attempt) (c : Bool) (end : Logs) → b ≡ Some (begun_of a)
+    → Keeps m b plain.commit (cond c (asks (machine.submission a.key a.submission) (with_attempt x None)) (says plain.moved (with_attempt x (Some (plain.moved_on m a))))) end
+keeps_tried m b x a true end is =
+    λ g. record { tracks = refl; placed = subst (λ (c : Option Begun). IsPlaced end c plain.commit (replied (machine.reply m (machine.submission a.key a.submission)))) (sym is) (placed_next m a end (g a.key)) }
+keeps_tried m b x a false end is = record { tracks = is; placed = tt }
+
+keeps_commit : (m : OneStep) (b : Option Begun) (x : Session) (o : Option Attempt) (end : Logs) → x.attempt ≡ o → Tracks b x
+    → Keeps m b plain.commit (option_map_or (plain.commits m x) o (says plain.idle x)) end
+keeps_commit m b x None end is t = record { tracks = t; placed = tt }
+keeps_commit m b x (Some a) end is t = keeps_tried m b x a (plain.decides m a) end (t ∙ ap (option_map begun_of) is)
+
+keeps_subscribe : (m : OneStep) (b : Option Begun) (x : Session) (k : PlainKey) (v : Option ℕ) (r : Result ℕ Code) (end : Logs) → Tracks b x → Keeps m b (plain.subscribe k v) (plain.subscribes x k v r) end
+keeps_subscribe m b x k v (Ok start) end t = λ g. record { tracks = t; placed = tt }
+keeps_subscribe m b x k v (Err E1) end t = λ g. record { tracks = t; placed = tt }
+keeps_subscribe m b x k v (Err E2) end t = λ g. record { tracks = t; placed = tt }
+keeps_subscribe m b x k v (Err E3) end t = λ g. record { tracks = t; placed = tt }
+keeps_subscribe m b x k v (Err E4) end t = λ g. record { tracks = t; placed = tt }
+keeps_subscribe m b x k v (Err E5) end t = λ g. record { tracks = t; placed = tt }
+keeps_subscribe m b x k v (Err E6) end t = λ g. record { tracks = t; placed = tt }
+keeps_subscribe m b x k v (Err E7) end t = λ g. record { tracks = t; placed = tt }
+keeps_subscribe m b x k v (Err E8) end t = λ g. record { tracks = t; placed = tt }
+keeps_subscribe m b x k v (Err E9) end t = λ g. record { tracks = t; placed = tt }
+keeps_subscribe m b x k v (Err E10) end t = λ g. record { tracks = t; placed = tt }
+keeps_subscribe m b x k v (Err E11) end t = record { tracks = t; placed = tt }
+
+keeps_take : (m : OneStep) (b : Option Begun) (x : Session) (k : PlainKey) (max : ℕ) (o : Option PlainQueue) (end : Logs) → Tracks b x → Keeps m b (plain.take k max) (option_map_or (plain.takes m x k max) o (says plain.idle x)) end
+keeps_take m b x k max None end t = record { tracks = t; placed = tt }
+keeps_take m b x k max (Some q) end t = λ g. record { tracks = t; placed = tt }
+
+keeps_close : (m : OneStep) (b : Option Begun) (x : Session) (k : PlainKey) (o : Option PlainQueue) (end : Logs) → Tracks b x
+    → Keeps m b (plain.unsubscribe k) (option_map_or (λ q. says plain.unsubscribed (plain.with_queue x k None)) o (says plain.idle x)) end
+keeps_close m b x k None end t = record { tracks = t; placed = tt }
+keeps_close m b x k (Some q) end t = record { tracks = t; placed = tt }
+
+keeps_deed : (m : OneStep) (b : Option Begun) (i : ℕ) (x : Session) (act : Act) (end : Logs) → Tracks b x → Keeps m b act (deed m i x act) end
+keeps_deed m b i x (plain.begin k src seq v content) end t = keeps_begin m b i x k src seq v content x.attempt end t
+keeps_deed m b i x plain.work end t = keeps_work m b x x.attempt end refl t
+keeps_deed m b i x plain.commit end t = keeps_commit m b x x.attempt end refl t
+keeps_deed m b i x (plain.fetch k) end t = λ g. record { tracks = t; placed = tt }
+keeps_deed m b i x (plain.snapshot k v) end t = λ g. record { tracks = t; placed = tt }
+keeps_deed m b i x (plain.subscribe k v) end t = keeps_subscribe m b x k v (started m k v) end t
+keeps_deed m b i x (plain.take k max) end t = keeps_take m b x k max (x.queues k) end t
+keeps_deed m b i x (plain.unsubscribe k) end t = keeps_close m b x k (x.queues k) end t
+keeps_deed m b i x (plain.forget k) end t = record { tracks = t; placed = tt }
+
+-- where memory is wanting nothing is begun or placed
+kept_none : (b : Option Begun) (x : Session) (act : Act) (end : Logs) → Tracks b x → Kept b act no_memory x end
+kept_none b x (plain.begin k src seq v content) end t = record { tracks = t; placed = tt }
+kept_none b x plain.work end t = record { tracks = t; placed = tt }
+kept_none b x plain.commit end t = record { tracks = t; placed = tt }
+kept_none b x (plain.fetch k) end t = record { tracks = t; placed = tt }
+kept_none b x (plain.snapshot k v) end t = record { tracks = t; placed = tt }
+kept_none b x (plain.subscribe k v) end t = record { tracks = t; placed = tt }
+kept_none b x (plain.take k max) end t = record { tracks = t; placed = tt }
+kept_none b x (plain.unsubscribe k) end t = record { tracks = t; placed = tt }
+kept_none b x (plain.forget k) end t = record { tracks = t; placed = tt }
+
+-- ---- one step of all sessions, and runs
+
+abbrev TrackAll : (ℕ → Option Begun) → Sessions → Type 0
+TrackAll f w = (n : ℕ) → Tracks (f n) (w n)
+
+-- the sessions after a step that leaves its own session as y
+record Goes (f : ℕ → Option Begun) (s : PlainStep) (a : Answer) (v : Sessions) (end : Logs) : Type 0 where
+  pub tracks : TrackAll (with_begun f s.session (begun_after s.act a (f s.session))) v
+  pub placed : IsPlaced end (f s.session) s.act a
+
+track_at : (c : Bool) (b d : Option Begun) (y x : Session) → Tracks b y → Tracks d x → Tracks (cond c b d) (cond c y x)
+track_at true b d y x t u = t
+track_at false b d y x t u = u
+
+goes_kept : (f : ℕ → Option Begun) (s : PlainStep) (a : Answer) (w v : Sessions) (y : Session) (end : Logs) → TrackAll f w → v ≡ with_session w s.session y → Kept (f s.session) s.act a y end → Goes f s a v end
+goes_kept f s a w v y end t put k =
+    let all : TrackAll (with_begun f s.session (begun_after s.act a (f s.session))) (with_session w s.session y) =
+    λ n. track_at (nat_eq s.session n) (begun_after s.act a (f s.session)) (f n) y (w n) k.tracks (t n) in
+    record { tracks = subst (λ (u : Sessions). TrackAll (with_begun f s.session (begun_after s.act a (f s.session))) u) (sym put) all; placed = k.placed }
+
+goes_with : (m n : OneStep) (f : ℕ → Option Begun) (s : PlainStep) (a : Answer) (w v : Sessions) (y : Session) (end : Logs) → TrackAll f w → Follows m (deed m s.session (w s.session) s.act) a n y → v ≡ with_session w s.session y → Grow n end → Goes f s a v end
+goes_with m n f s a w v y end t h put g =
+    goes_kept f s a w v y end t put (kept_follows m n (f s.session) s.act (deed m s.session (w s.session) s.act) a y end (keeps_deed m (f s.session) s.session (w s.session) s.act end (t s.session)) h g)
+
+-- a session put back where it was
+track_same : (c : Bool) (i n : ℕ) (b : Option Begun) (f : ℕ → Option Begun) (w : Sessions) → nat_eq i n ≡ c → Tracks b (w i) → TrackAll f w → Tracks (cond c b (f n)) (w n)
+track_same true i n b f w is t all = subst (λ (j : ℕ). Tracks b (w j)) (eqb-true i n is) t
+track_same false i n b f w is t all = all n
+
+goes : (m n : OneStep) (f : ℕ → Option Begun) (s : PlainStep) (a : Answer) (w v : Sessions) (end : Logs) → TrackAll f w → Comes m w s a n v → Grow n end → Goes f s a v end
+goes m n f s (replied r) w v end t h g = goes_with m n f s (replied r) w v h.0 end t h.1 h.2 g
+goes m n f s (said c) w v end t h g = goes_with m n f s (said c) w v h.0 end t h.1 h.2 g
+goes m n f s no_memory w v end t h g =
+    let k = kept_none (f s.session) (w s.session) s.act end (t s.session) in
+    let b = begun_after s.act no_memory (f s.session) in
+    let all : TrackAll (with_begun f s.session b) w = λ j. track_same (nat_eq s.session j) s.session j b f w refl k.tracks t in
+    record { tracks = subst (λ (u : Sessions). TrackAll (with_begun f s.session b) u) (sym h.1) all; placed = k.placed }
+
+placed_steps : (m n : OneStep) (f : ℕ → Option Begun) (w v : Sessions) (steps : List PlainStep) (answers : List Answer) → TrackAll f w → IsSteps m w steps answers n v → PlacedFrom f steps answers n.logs
+placed_steps m n f w v [] answers t h = tt
+placed_steps m n f w v (s ∷ steps) [] t h = tt
+placed_steps m n f w v (s ∷ steps) (a ∷ answers) t (o, mid, one, rest) =
+    let g = goes m o f s a w mid n.logs t (comes m o w mid s a one) (λ k. grows_steps o n mid v steps answers k rest) in
+    (g.placed, placed_steps o n (with_begun f s.session (begun_after s.act a (f s.session))) mid v steps answers g.tracks rest)
+
+pub placed_all : (steps : List PlainStep) (answers : List Answer) (events : List Event) (w : Sessions) (logs : Logs) → Picks steps answers events w → Legal events (replies_in answers) logs → PlacedAll steps answers logs
+placed_all steps answers events w logs picked legal =
+    let run = legal_steps steps answers events w logs picked legal in
+    subst (λ (l : Logs). PlacedAll steps answers l) run.2 (placed_steps empty run.0 (λ n. None) all_fresh w steps answers (λ n. refl) run.1)
