@@ -13,7 +13,7 @@ use Rattle.sdb_steps.specs.OneStep.{OneStep}
 use Rattle.sdb_steps.specs.Picks as plain
 use Rattle.sdb_steps.specs.Slots.{Slots}
 use Rattle.sdb_steps.specs.declared.kept.Stage.{Stage}
-use Rattle.sdb_steps.specs.declared.kept.Stage.TheVariants.{Looked, Worked}
+use Rattle.sdb_steps.specs.declared.kept.Stage.TheVariants.{Looked, Moved, Worked}
 use Rattle.sdb_steps.specs.declared.kept.Trying.{Trying}
 use Rattle.sdb_steps.specs.declared.kept.Session.{Session}
 
@@ -23,14 +23,17 @@ core_of s = record { logs = logs_of s; given = λ k. (queues_of s k).next }
 
 abbrev pub submitted : Stage → PlainSubmission
 submitted (Looked a) = a.submission
+submitted (Moved w l) = w.submission
 submitted (Worked w) = w.submission
 
 abbrev pub looked_at : Stage → ℕ
 looked_at (Looked a) = a.look.version
+looked_at (Moved w l) = l.version
 looked_at (Worked w) = w.look.version
 
 abbrev pub is_worked : Stage → Bool
 is_worked (Looked a) = false
+is_worked (Moved w l) = false
 is_worked (Worked w) = true
 
 abbrev pub trying_at : PlainKey → Stage → ℕ → plain.Attempt

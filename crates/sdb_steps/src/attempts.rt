@@ -1,5 +1,5 @@
 //! Attempts: a submission that is looked at, worked and committed.
-ghost use Rattle.std.specs.Prelude.{◌≡◌, ◌<◌, ℕ, IfOk, IsTrue, IsFalse, option_map, false};
+ghost use Rattle.std.specs.Prelude.{◌≡◌, ◌<◌, ℕ, IfOk, IfErr, IsTrue, IsFalse, option_map, false};
 ghost use Rattle.sdb_oplog.specs.Decide.{refused};
 ghost use Rattle.sdb_oplog.specs.declared.codes.Code.TheVariants.{E10};
 ghost use Rattle.sdb_desk.specs.Told.{plain_reply};
@@ -7,14 +7,14 @@ ghost use Rattle.sdb_oplog.specs.Keys.{PlainKey, plain_key};
 ghost use Rattle.sdb_desk.specs.Keyed.{queues_of};
 ghost use Rattle.sdb_steps.specs.Picks.{opened};
 ghost use Rattle.sdb_steps.specs.Turns.{Tries, Works};
-ghost use Rattle.sdb_steps.specs.Seen.{core_of, submitted, plain_trying, trying_at};
+ghost use Rattle.sdb_steps.specs.Seen.{core_of, submitted, looked_at, is_worked, plain_trying, trying_at};
 ghost use Rattle.sdb_steps.specs.View.{plain_answer};
 
 use crate::kept::{Stage, Trying};
 use crate::step::StepAnswer;
 use sdb_desk::{Attempt, Look, Outcome, Reply, Shard, Work};
 use sdb_oplog::{Code, Key, Submission};
-use sdb_submit::work;
+use sdb_submit::{work, work_on};
 use std::alloc::{AllocError, Global};
 
 // The tries after which a commit decides, whatever has happened.
@@ -50,15 +50,10 @@ impl Trying {
             return self.commit_now(shard);
         }
         let Trying { key, stage, tries } = self;
-        match stage {
-            Stage::Worked(work) => commit_work(shard, key, work, tries, true),
-            Stage::Looked(attempt) => match work(alloc, attempt) {
-                Ok(work) => commit_work(shard, key, work, tries, false),
-                Err(attempt) => {
-                    let stage = Stage::Looked(attempt);
-                    (StepAnswer::NoMemory, Some(Trying { key, stage, tries }))
-                }
-            },
+        let is_worked = is_worked(&stage);
+        match worked(alloc, stage) {
+            Ok(work) => commit_work(shard, key, work, tries, is_worked),
+            Err(stage) => (StepAnswer::NoMemory, Some(Trying { key, stage, tries })),
         }
     }
 
@@ -91,19 +86,47 @@ fn submission_of(stage: &Stage) -> &Submission
 {
     match stage {
         Stage::Looked(attempt) => &attempt.submission,
+        Stage::Moved { last, .. } => last.submission(),
         Stage::Worked(work) => work.submission(),
+    }
+}
+
+fn is_worked(stage: &Stage) -> bool
+    ensures { result ≡ is_worked stage.now }
+{
+    match stage {
+        Stage::Worked(_) => true,
+        _ => false,
+    }
+}
+
+// The work that a stage comes to. Where memory is wanting it is as it was, but for what was worked by an
+// older look.
+fn worked(alloc: Global, stage: Stage) -> Result<Work, Stage>
+    ensures submission { IfOk result (λ w. w.submission ≡ submitted stage) }
+    ensures version { IfOk result (λ w. w.look.version ≡ looked_at stage) }
+    ensures err { IfErr result (λ s. (k : PlainKey) (n : ℕ) → trying_at k s n ≡ trying_at k stage n) }
+{
+    let made = match stage {
+        Stage::Looked(attempt) => work(alloc, attempt),
+        Stage::Moved { last, look } => work_on(alloc, last, look),
+        Stage::Worked(work) => Ok(work),
+    };
+    match made {
+        Ok(work) => Ok(work),
+        Err(attempt) => Err(Stage::Looked(attempt)),
     }
 }
 
 fn work_stage(alloc: Global, stage: Stage) -> (StepAnswer, Stage)
     ensures { (k : PlainKey) (n : ℕ) → Works (trying_at k stage n) (plain_answer result.0) (trying_at k result.1 n) }
 {
-    match stage {
-        Stage::Worked(work) => (StepAnswer::Idle, Stage::Worked(work)),
-        Stage::Looked(attempt) => match work(alloc, attempt) {
-            Ok(work) => (StepAnswer::Worked, Stage::Worked(work)),
-            Err(attempt) => (StepAnswer::NoMemory, Stage::Looked(attempt)),
-        },
+    if is_worked(&stage) {
+        return (StepAnswer::Idle, stage);
+    }
+    match worked(alloc, stage) {
+        Ok(work) => (StepAnswer::Worked, Stage::Worked(work)),
+        Err(stage) => (StepAnswer::NoMemory, stage),
     }
 }
 
@@ -176,6 +199,5 @@ fn looked_again(work: Work, look: Look) -> Stage
       worked = false;
     } }
 {
-    let submission = work.into_attempt().submission;
-    Stage::Looked(Attempt { submission, look })
+    Stage::Moved { last: work, look }
 }

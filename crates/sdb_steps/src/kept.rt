@@ -1,15 +1,17 @@
 //! What a session keeps.
 ghost use Rattle.std.specs.Prelude.{◌<◌};
 
-use sdb_desk::{Attempt, Work};
+use sdb_desk::{Attempt, Look, Work};
 use sdb_oplog::Key;
 use sdb_subscribe::SubId;
 use std::collections::BTreeMap;
 
-// What an attempt has come to: it was looked at, or it is worked too.
+// What an attempt has come to: it was looked at; it was looked at again, after it was worked by an older
+// look; or it is worked.
 #[derive(Drop)]
 pub(crate) enum Stage {
     Looked(Attempt),
+    Moved { last: Work, look: Look },
     Worked(Work),
 }
 

@@ -9,4 +9,4 @@ mod working;
 pub use desk::{Desk, Gate, NoGate};
 pub use solo::{Solo, submit_solo};
 pub use submitting::submit;
-pub use working::work;
+pub use working::{work, work_on};

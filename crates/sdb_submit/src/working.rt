@@ -29,7 +29,7 @@ pub(crate) fn next_work(
     ensures { IfSome result (λ w. w ≡ record { submission = submission.now; look = plain_look look }) }
 {
     let made = match last {
-        Some(last) => go_on(alloc, last, look),
+        Some(last) => work_on(alloc, last, look),
         None => match submission.try_clone() {
             Ok(submission) => work(alloc, Attempt { submission, look }),
             Err(_) => return None,
@@ -38,11 +38,14 @@ pub(crate) fn next_work(
     made.ok()
 }
 
-// The work goes on by a fresh look. Only the entries behind those that were missed already are
-// transformed; where these aren't the first of the fresh look, or the submission has no version, it
-// starts afresh.
-fn go_on(alloc: Global, last: Work, look: Look) -> Result<Work, Attempt>
-    ensures { IfOk result (λ w. w ≡ record { submission = last.submission; look = plain_look look }) }
+/// Works a submission on by a fresh look. Only the entries behind those that were missed already are
+/// transformed; where these aren't the first of the fresh look, or the submission has no version, it
+/// starts afresh. For want of memory alone the attempt comes back, by the fresh look; what was worked
+/// before is gone then.
+pub fn work_on(alloc: Global, last: Work, look: Look) -> Result<Work, Attempt>
+    ensures ok { IfOk result (λ w. w ≡ record { submission = last.submission; look = plain_look look }) }
+    ensures err { IfErr result
+        (λ a. plain_attempt a ≡ record { submission = last.submission; look = plain_look look }) }
 {
     let (attempt, worked) = last.into_parts();
     let is_front = is_front(attempt.look.missed.as_slice(), look.missed.as_slice());
