@@ -1,4 +1,5 @@
 pub mod Commits
+pub mod Continued
 pub mod Follows
 pub mod Growing
 pub mod Made

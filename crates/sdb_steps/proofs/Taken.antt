@@ -38,7 +38,7 @@ on_grown old new q es g h =
       same = h.same ∙ sym (ap (λ (l : List PlainEntry). take q.taken (drop q.start l)) g.is ∙ ap (take q.taken) (drop-append-le q.start old g.more begin) ∙ take-append-le q.taken (drop q.start old) g.more rest);
     }
 
-take_taken : (max : ℕ) (xs : List PlainEntry) → take (length (take max xs)) xs ≡ take max xs
+pub take_taken : (max : ℕ) (xs : List PlainEntry) → take (length (take max xs)) xs ≡ take max xs
 take_taken max xs = ap (take (length (take max xs))) (sym (take-append-drop max xs)) ∙ take-append_seam (take max xs) (drop max xs)
 
 take_both : (t n : ℕ) (xs : List PlainEntry) → t ≤ length xs → take (t + n) xs ≡ take t xs ++ take n (drop t xs)
@@ -116,7 +116,7 @@ set_taken true log es new p q o f g h = let e : p ≡ q = cc in subst (λ (r : P
 set_taken false log es new p q o f g h = g q h
 
 -- a start is no later than the present version
-starts : (n v start : ℕ) (b c : Bool) → nat_lt n v ≡ b → result_then (λ s. cond c (Err E11) (Ok s)) (cond b (Err E4) (Ok v)) ≡ Ok start → start ≤ n
+pub starts : (n v start : ℕ) (b c : Bool) → nat_lt n v ≡ b → result_then (λ s. cond c (Err E11) (Ok s)) (cond b (Err E4) (Ok v)) ≡ Ok start → start ≤ n
 starts n v start true c is h = absurd (cc)
 starts n v start false true is h = absurd (cc)
 starts n v start false false is h = let e : v ≡ start = cc in let k : v ≤ n = grind (arith, nat_tests) in omega arith

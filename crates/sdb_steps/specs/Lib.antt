@@ -1,3 +1,4 @@
+pub mod Continued
 pub mod Keyed
 pub mod Lines
 pub mod OneStep

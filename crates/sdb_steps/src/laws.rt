@@ -7,6 +7,7 @@ ghost use Rattle.sdb_oplog.specs.Decide.{decide, stored, repeated, IsMade};
 ghost use Rattle.sdb_steps.specs.OneStep.{OneStep, Event, Legal, empty, after};
 ghost use Rattle.sdb_steps.specs.Picks.{PlainStep, Answer, Sessions, Picks, all_fresh, replies_in};
 ghost use Rattle.sdb_steps.specs.Placed.{PlacedAll};
+ghost use Rattle.sdb_steps.specs.Continued.{ContinuedAll};
 ghost use Rattle.sdb_steps.specs.Runs.{IsRun, IsStep};
 ghost use Rattle.sdb_steps.specs.Replays.{ReplaysAll};
 ghost use Rattle.sdb_steps.specs.Took.{TookAll};
@@ -86,4 +87,12 @@ pub fn tries_stay_below_nine()
 pub fn submissions_are_placed()
     ensures { (steps : List PlainStep) (answers : List Answer) (events : List Event) (w : Sessions) (logs : Logs) →
         Picks steps answers events w → Legal events (replies_in answers) logs → PlacedAll steps answers logs }
+{}
+
+/// Each take of a run was answered the stored entries behind those that the takes of its queue were
+/// answered before, from the start of the queue on, in order, none missing, and no more than it asked
+/// for. A queue starts within the log, at the version that was named, if one was.
+pub fn takes_continue()
+    ensures { (steps : List PlainStep) (answers : List Answer) (events : List Event) (w : Sessions) (logs : Logs) →
+        Picks steps answers events w → Legal events (replies_in answers) logs → ContinuedAll steps answers logs }
 {}

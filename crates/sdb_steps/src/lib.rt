@@ -19,7 +19,7 @@ pub use answers::{write_refusal, write_step_answer};
 pub use laws::{
     logs_are_made, queues_take_all, reads_are_replays, repeats_are_answered, resent,
     runs_are_legal, runs_begin, runs_go_on, snapshots_are_replays, stored_once,
-    submissions_are_placed, tries_stay_below_nine,
+    submissions_are_placed, takes_continue, tries_stay_below_nine,
 };
 pub use number::{SESSIONS, SessionNumber};
 pub use reading::read_step;

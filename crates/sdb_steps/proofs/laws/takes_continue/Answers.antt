@@ -1,0 +1,5 @@
+use Rattle.sdb_steps.proofs.Continued.{continued_all}
+use Rattle.sdb_steps.proofs.laws.takes_continue.Goals as goal
+
+pub returns : goal.returns
+returns c = continued_all
