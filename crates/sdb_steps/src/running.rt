@@ -7,6 +7,7 @@ ghost use Rattle.sdb_lines.specs.declared.runner.RunFault.{RunFault};
 ghost use Rattle.sdb_oplog.specs.Decide.{IsMade};
 ghost use Rattle.sdb_oplog.specs.Keys.{PlainKey};
 ghost use Rattle.sdb_oplog.specs.Snap.{are_first};
+ghost use Rattle.sdb_steps.specs.Continued.{ContinuedAll};
 ghost use Rattle.sdb_steps.specs.Keyed.{machine_of, sessions_of};
 ghost use Rattle.sdb_steps.specs.Lines.{reading_step, is_step, line_of, refusal_text};
 ghost use Rattle.sdb_steps.specs.OneStep.{Event, Legal};
@@ -21,6 +22,7 @@ ghost use Rattle.sdb_steps.specs.Written.{TakesReading, Wrote, WroteFront};
 use crate::answers::{write_refusal, write_step_answer};
 use crate::laws::{
     logs_are_made, queues_take_all, reads_are_replays, stored_once, submissions_are_placed,
+    takes_continue,
 };
 use crate::reading::read_step;
 use crate::step::{Step, StepAnswer};
@@ -57,6 +59,9 @@ pub fn run_steps(alloc: Global, steps: &[Step]) -> Result<Ran, AllocError>
     // What each read was answered is the replay of so many first entries of the log at the end.
     ensures replays { IfOk result (λ ran.
         ReplaysAll (map plain_step steps.now) (map plain_answer ran.answers.items) (machine_of ran.world).logs) }
+    // Each take was answered the entries behind those of the takes before it, from the queue's start on.
+    ensures continued { IfOk result (λ ran.
+        ContinuedAll (map plain_step steps.now) (map plain_answer ran.answers.items) (machine_of ran.world).logs) }
     // Each open queue took the stored entries from its start on, in order, none missing.
     ensures took { IfOk result (λ ran.
         TookAll (map plain_step steps.now) (map plain_answer ran.answers.items) (sessions_of ran.world)
@@ -71,6 +76,7 @@ pub fn run_steps(alloc: Global, steps: &[Step]) -> Result<Ran, AllocError>
     stored_once();
     submissions_are_placed();
     reads_are_replays();
+    takes_continue();
     queues_take_all();
     Ok(Ran { answers, world })
 }

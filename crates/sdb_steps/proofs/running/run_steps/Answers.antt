@@ -35,6 +35,15 @@ returns-clause-once c = λ k.
     let run = c.loop-step.invariant in
     c.stored_once.ensures ((machine_of c.loop-step.world).logs k) (subst (λ (f : Logs). IsMade (f k)) (ap (λ m. m.logs) run.3) (c.logs_are_made.ensures run.0 k))
 
+pub returns-clause-continued : goal.returns-clause-continued
+returns-clause-continued c =
+    let n = machine_of c.loop-step.world in
+    let v = sessions_of c.loop-step.world in
+    let told = map plain_answer c.loop-step.answers.items in
+    let whole : take c.loop-step.step-index c.args.steps.now ≡ c.args.steps.now = take_all c.loop-step.step-index c.args.steps.now c.loop-step-test.false in
+    let h = legal_run _ told n v (subst (λ xs. IsRun (map plain_step xs) told n v) whole c.loop-step.invariant) in
+    c.takes_continue.ensures (map plain_step c.args.steps.now) told h.0 v n.logs h.1 h.2
+
 pub returns-clause-placed : goal.returns-clause-placed
 returns-clause-placed c =
     let n = machine_of c.loop-step.world in
