@@ -1,8 +1,9 @@
-//! What the calls of the lower crates cost, and a pass that only reads and prints JSON. The script
-//! `bench/run` builds it and names the results.
+//! What the calls of the lower crates cost, a pass that only reads and prints JSON, and a WebSocket
+//! server that only echoes. The scripts `bench/run` and `bench/sockets` build it and name the results.
 #![tactic(auto)]
 
 mod applying;
+mod echoing;
 mod json;
 mod random;
 mod timing;
@@ -18,12 +19,13 @@ fn main(rt: HostRuntime) -> anyhow::Result<ExitCode> {
         Some(word) => word.as_str(),
         None => "",
     };
-    match asked {
-        "json" => json::pass(&rt)?,
-        "apply" => applying::measure(&rt)?,
-        "transform" => transforming::measure(&rt)?,
+    match (asked, words.get(2)) {
+        ("json", None) => json::pass(&rt)?,
+        ("apply", None) => applying::measure(&rt)?,
+        ("transform", None) => transforming::measure(&rt)?,
+        ("echo", Some(address)) => echoing::serve(rt, address.as_str())?,
         _ => {
-            eprintln!(rt; "sdb_bench: json, apply or transform")?;
+            eprintln!(rt; "sdb_bench: json, apply, transform or echo ADDR")?;
             return Ok(ExitCode::from(2));
         }
     }

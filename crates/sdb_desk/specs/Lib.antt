@@ -6,4 +6,5 @@ pub mod Keyed
 pub mod Laws
 pub mod Machine
 pub mod Shown
+pub mod Stored
 pub mod Told

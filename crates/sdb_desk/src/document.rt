@@ -82,6 +82,7 @@ impl Document {
 
     pub(crate) fn log(&self) -> &Log
         ensures log { result.now ≡ self.now }
+        ensures filled { self.now ≢ [] }
         ensures made { IsMade self.now }
     {
         &self.log

@@ -1,5 +1,5 @@
 //! All documents, by key.
-ghost use Rattle.std.specs.Prelude.{◌≡◌, ◌≤◌, [], length, take, IfOk, IfErr, IsTrue, OnOk, OnErr, Ok, Some, option_map, unwrap_or};
+ghost use Rattle.std.specs.Prelude.{◌≡◌, ◌≢◌, ◌≤◌, [], length, map, take, IfOk, IfErr, IfSome, IsTrue, OnOk, OnErr, Ok, Some, option_map, unwrap_or};
 ghost use Rattle.sdb_oplog.specs.Decide.{decide, missed, IsMade};
 ghost use Rattle.sdb_oplog.specs.Keys.{no_logs, with_log, plain_key};
 ghost use Rattle.sdb_oplog.specs.Refused.{RefusedBy};
@@ -7,6 +7,7 @@ ghost use Rattle.sdb_oplog.specs.Snap.{document};
 ghost use Rattle.sdb_subscribe.specs.Queue.{opened, queue_at};
 ghost use Rattle.sdb_value.specs.View.{view};
 ghost use Rattle.sdb_desk.specs.Keyed.{logs_of, queues_of};
+ghost use Rattle.sdb_desk.specs.Stored.{AreStored};
 ghost use Rattle.sdb_desk.specs.Machine.{look_at, fetched, operations, snapshot_at, no_queues, with_queues, closed, Decides, Commits, Keeps, Reads, Subscribes, Takes};
 ghost use Rattle.sdb_desk.specs.Shown.{plain_look, plain_outcome, told_fetched, told_entries, told_subscribed, told_taken};
 ghost use Rattle.sdb_desk.specs.Told.{plain_reply};
@@ -79,12 +80,27 @@ impl Shard {
     /// that were decided, one after the other.
     pub fn log(&self, key: &Key) -> Option<&Log>
         ensures log { unwrap_or (option_map (λ l. l.now) result) [] ≡ logs_of self.now (plain_key key.now) }
+        ensures filled { IfSome result (λ l. l.now ≢ []) }
         ensures made { IsMade (logs_of self.now (plain_key key.now)) }
     {
         match self.find(key) {
             Some(document) => Some(document.log()),
             None => None,
         }
+    }
+
+    /// The keys of all documents that something is stored of, by the bytes of the collection, then of the
+    /// id. It fails only for want of memory.
+    pub fn documents(&self) -> Result<Vec<Key>, AllocError>
+        ensures { IfOk result (λ keys. AreStored (logs_of self.now) (map plain_key keys.items)) }
+    {
+        let mut keys = Vec::with_capacity(self.alloc, self.by_key.len())?;
+        for (key, document) in self.by_key.iter() {
+            if !document.log().is_empty() {
+                keys.push(key.try_clone()?)?;
+            }
+        }
+        Ok(keys)
     }
 
     /// What a look at the document shows for a submission. It fails only for want of memory.

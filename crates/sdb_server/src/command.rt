@@ -1,12 +1,19 @@
 //! The command line, and what each of its answers ends with.
+use crate::listening::{House, listen};
 use crate::projections::{Refusal, table_of};
 use crate::running::run_lines;
+use clap::builder::ValueParser;
 use clap::error::ErrorKind;
-use clap::{Arg, ArgAction, Command, Error};
+use clap::{Arg, ArgAction, ArgGroup, ArgMatches, Command, Error};
+use sdb_backend::Backend;
 use sdb_lines::{RunFault, WatchedReader, WatchedWriter};
 use sdb_projection::{Table, TableFault};
 use std::alloc::{AllocError, Global};
 use std::io;
+use std::net::{Net, SocketAddr, TcpListener, TcpStream};
+use std::sync::{Arc, Wait};
+use std::thread::Threads;
+use std::time::Clock;
 
 // The status of a run that reached the end of its input, and of help.
 pub(crate) const DONE: u8 = 0;
@@ -17,50 +24,143 @@ pub(crate) const FAULT: u8 = 1;
 // The status of a refused command line.
 pub(crate) const REFUSED: u8 = 2;
 
+// The most connections that can be asked for.
+const MOST_CONNECTIONS: u64 = 1_000_000;
+
 fn command<'a>(alloc: Global) -> Result<Command<'a>, AllocError> {
     let lines = Arg::new(alloc, "lines")
         .long("lines")
         .help("Answers the lines of one session on standard input and output")
         .action(ArgAction::SetTrue);
+    let listen = Arg::new(alloc, "listen")
+        .long("listen")
+        .value_name("ADDR")
+        .help("Serves WebSocket clients at this address, as 127.0.0.1:8080")
+        .action(ArgAction::Set);
+    let connections = Arg::new(alloc, "connections")
+        .long("connections")
+        .value_name("N")
+        .help("With --listen, ends when N connections have ended")
+        .value_parser(ValueParser::unsigned(1, MOST_CONNECTIONS))
+        .requires_arg("listen")?
+        .conflicts_with("lines")?
+        .action(ArgAction::Set);
     let projection = Arg::new(alloc, "projection")
         .long("projection")
         .value_name("NAME=COLLECTION:FIELD,..")
         .help("Shows these fields of a collection under another name")
         .action(ArgAction::Append);
+    let job = ArgGroup::new(alloc, "job")
+        .arg("lines")?
+        .arg("listen")?
+        .required(true);
     Command::new(alloc, "sdb_server")
         .about("A ShareDB server for JSON documents")
         .arg(lines)?
-        .arg(projection)
+        .arg(listen)?
+        .arg(connections)?
+        .arg(projection)?
+        .group(job)
 }
 
 // What a command line asks for.
+#[derive(Clone, Copy, PartialEq, Eq, Drop)]
+pub(crate) enum Job {
+    // The lines of one session.
+    Lines,
+    // Clients at an address: so many, or without end.
+    Listen {
+        address: SocketAddr,
+        connections: Option<u64>,
+    },
+}
+
+// The job, unless the address is none, and the projections.
 #[derive(Drop)]
 pub(crate) struct Options {
-    pub lines: bool,
+    pub job: Option<Job>,
     pub table: Result<Table, Refusal>,
 }
 
 pub(crate) fn asked_options(alloc: Global, words: &[String]) -> Result<Options, Error> {
     let matches = command(alloc)?.try_get_matches_from(words)?;
     Ok(Options {
-        lines: matches.get_flag("lines"),
+        job: asked_job(&matches),
         table: table_of(alloc, matches.get_strs("projection").unwrap_or(&[])),
     })
 }
 
+fn asked_job(matches: &ArgMatches<'_>) -> Option<Job> {
+    let Some(address) = matches.get_str("listen") else {
+        return Some(Job::Lines);
+    };
+    Some(Job::Listen {
+        address: address.parse().ok()?,
+        connections: matches.get_one::<u64>("connections"),
+    })
+}
+
 // Does what the words ask for, and gives the status.
-pub(crate) fn run<R>(rt: &R, words: &[String]) -> anyhow::Result<u8>
+pub(crate) fn run<R>(rt: R, words: &[String]) -> anyhow::Result<u8>
 where
     R: AllocGlobal + Input + Print + Eprint,
+    R: Net<Listener = TcpListener, Stream = TcpStream> + Threads + Wait + Clock,
+    R: Copy + Drop + Send + Sync + 'static,
 {
-    match asked_options(rt.alloc(), words) {
-        Ok(Options { lines: false, .. }) => Ok(refuse(rt, "error: --lines is missing")?),
-        Ok(Options { table, .. }) => match table {
-            Ok(table) => Ok(answer_input(rt, &table)),
-            Err(refusal) => refuse_projections(rt, refusal),
-        },
-        Err(error) => answer_no_run(rt, &error),
+    let asked = match asked_options(rt.alloc(), words) {
+        Ok(asked) => asked,
+        Err(error) => return answer_no_run(&rt, &error),
+    };
+    let Some(job) = asked.job else {
+        let why = "error: --listen takes an address, as 127.0.0.1:8080";
+        return Ok(refuse(&rt, why)?);
+    };
+    match asked.table {
+        Ok(table) => do_job(rt, job, table),
+        Err(refusal) => refuse_projections(&rt, refusal),
     }
+}
+
+fn do_job<R>(rt: R, job: Job, table: Table) -> anyhow::Result<u8>
+where
+    R: AllocGlobal + Input + Print + Eprint,
+    R: Net<Listener = TcpListener, Stream = TcpStream> + Threads + Wait + Clock,
+    R: Copy + Drop + Send + Sync + 'static,
+{
+    match job {
+        Job::Lines => Ok(answer_input(&rt, &table)),
+        Job::Listen {
+            address,
+            connections,
+        } => serve_clients(rt, address, connections, table),
+    }
+}
+
+// Serves clients at the address.
+fn serve_clients<R>(
+    rt: R,
+    address: SocketAddr,
+    connections: Option<u64>,
+    table: Table,
+) -> anyhow::Result<u8>
+where
+    R: AllocGlobal + Print + Eprint,
+    R: Net<Listener = TcpListener, Stream = TcpStream> + Threads + Wait + Clock,
+    R: Copy + Drop + Send + Sync + 'static,
+{
+    let listener = match TcpListener::bind(&rt, address) {
+        Ok(listener) => listener,
+        Err(error) => {
+            eprintln!(rt; "error: can't listen on {address}: {error}")?;
+            return Ok(FAULT);
+        }
+    };
+    let alloc = rt.alloc();
+    let (backend, mut host) = Backend::new(alloc, rt);
+    let house = Arc::new(alloc, House::new(alloc, backend, table)?)?;
+    println!(rt; "listening {}", listener.local_addr()?)?;
+    listen(rt, alloc, &listener, &house, &mut host, connections)?;
+    Ok(DONE)
 }
 
 // Says why the projections are refused. Want of memory is no refusal.

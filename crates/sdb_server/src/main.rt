@@ -1,9 +1,14 @@
-//! The server: `sdb_server --lines` answers the lines of one session on standard input and output.
+//! The server: `sdb_server --listen ADDR` serves WebSocket clients, `sdb_server --lines` answers the lines of
+//! one session on standard input and output.
 #![tactic(auto)]
 
 mod command;
+mod listening;
 mod projections;
 mod running;
+mod serving;
+#[cfg(test)]
+mod socket_tests;
 #[cfg(test)]
 mod tests;
 
@@ -12,6 +17,6 @@ use std::process::ExitCode;
 
 fn main(rt: HostRuntime) -> anyhow::Result<ExitCode> {
     let words: Vec<String> = env::args(&rt)?.collect(rt.alloc())?;
-    let status = command::run(&rt, words.as_slice())?;
+    let status = command::run(rt, words.as_slice())?;
     Ok(ExitCode::from(status))
 }

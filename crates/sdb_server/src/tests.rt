@@ -1,6 +1,6 @@
 //! Whole runs: worked rows, command lines, and streams that fail.
 use crate::command::{
-    DONE, FAULT, REFUSED, answer_no_run, asked_options, end_with, refuse, refuse_projections,
+    DONE, FAULT, Job, REFUSED, answer_no_run, asked_options, end_with, refuse, refuse_projections,
 };
 use crate::projections::{Refusal, table_of};
 use crate::running::run_lines;
@@ -501,7 +501,7 @@ fn command_lines(rt: HostRuntime) -> Result<(), Fail> {
     let Ok(asked) = asked_options(alloc, given.as_slice()) else {
         return Err("refused".into());
     };
-    assert!(rt; asked.lines);
+    assert!(rt; asked.job == Some(Job::Lines));
     let table = asked.table?;
     let fields = table
         .find("t")
@@ -510,6 +510,29 @@ fn command_lines(rt: HostRuntime) -> Result<(), Fail> {
         });
     assert!(rt; fields == 2);
     assert!(rt; table.find("u").is_some());
+    Ok(())
+}
+
+#[test]
+fn addresses(rt: HostRuntime) -> Result<(), Fail> {
+    let alloc = rt.alloc();
+    for (address, port) in [("127.0.0.1:8080", Some(8080)), ("nowhere", None)] {
+        let line = format!(in alloc; "sdb_server --listen {address} --connections 2")?;
+        let given = words(alloc, line.as_str())?;
+        let Ok(asked) = asked_options(alloc, given.as_slice()) else {
+            return Err("refused".into());
+        };
+        let listened = match asked.job {
+            Some(
+                Job::Listen {
+                    address,
+                    connections: Some(2),
+                },
+            ) => Some(address.port()),
+            _ => None,
+        };
+        assert_eq!(rt; listened, port, "{address}");
+    }
     Ok(())
 }
 
@@ -550,6 +573,14 @@ fn a_command_line_that_asks_for_no_run(rt: HostRuntime) -> Result<(), Fail> {
     let alloc = rt.alloc();
     for (line, status, on_error) in [
         ("sdb_server --lines --port", REFUSED, true),
+        ("sdb_server", REFUSED, true),
+        ("sdb_server --lines --listen 127.0.0.1:0", REFUSED, true),
+        ("sdb_server --lines --connections 1", REFUSED, true),
+        (
+            "sdb_server --listen 127.0.0.1:0 --connections 0",
+            REFUSED,
+            true,
+        ),
         ("sdb_server more", REFUSED, true),
         ("sdb_server --help", DONE, false),
     ] {

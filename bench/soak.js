@@ -1,0 +1,296 @@
+/*
+ * A soak: many clients edit some documents for a long time, and some of them lose their connections.
+ *
+ *     node bench/soak.js SERVER [OPERATIONS [CLIENTS [DOCUMENTS [SEED]]]]
+ *
+ * SERVER is the program, which is started, or the address of one that runs (ws://..). OPERATIONS (1,000,000) is how many
+ * are to be stored, by CLIENTS (64) that each edit one of DOCUMENTS (8) with examples/client.js. Each makes its next
+ * edit when the last one is acknowledged. About one operation in a thousand is sent on a socket that is torn down at
+ * once; its client comes back with the same source and sends again what wasn't acknowledged.
+ *
+ * In the end each client's document must be that of a fresh fetch, at the same version, and each document the replay of
+ * its log; in the log each acknowledged operation must stand at the version that its acknowledgement named, and no
+ * source and number may stand twice. Prints operations per second and a verdict; status 1 on any difference.
+ *
+ * Needs node-ws.
+ */
+'use strict';
+
+const { spawn } = require('child_process');
+const { readFileSync } = require('fs');
+const { isDeepStrictEqual } = require('util');
+module.paths.push('/usr/share/nodejs'); // where Debian's node-ws stands
+const WebSocket = require('ws');
+const { Client, apply } = require('../examples/client.js');
+
+const [server, operations = '1000000', clients = '64', documents = '8', seed = '1'] = process.argv.slice(2);
+const COLLECTION = 'soak';
+const START = { text: '', list: [], numbers: { a: 0, b: 0 }, members: {} };
+const TEXT = 120; // what a text may grow to
+const LIST = 24; // what a list may grow to
+const KILL = 1000; // one operation in so many loses its socket
+const PATIENCE = 60000; // milliseconds without a stored operation
+const PIECES = ['a', 'bc', 'def ', 'é', '漢', '😀'];
+
+// Edits -----------------------------------------------------------------------------------------------------
+
+// A small generator, so that a seed makes the same choices again.
+function generator(state) {
+  return (below) => {
+    state = (Math.imul(state, 1664525) + 1013904223) >>> 0;
+    return Math.floor((state / 4294967296) * below);
+  };
+}
+
+const random = generator(Number(seed));
+
+function pick(list) {
+  return list[random(list.length)];
+}
+
+function textEdit(path, text) {
+  const points = [...text];
+  const from = pick([0, random(points.length + 1), points.length]);
+  const at = [...path, points.slice(0, from).join('').length];
+  if (random(TEXT) < points.length && from < points.length) {
+    return { p: at, sd: points.slice(from, from + 1 + random(5)).join('') };
+  }
+  return { p: at, si: pick(PIECES) };
+}
+
+function listEdit(list) {
+  if (random(LIST) >= list.length) return { p: ['list', random(list.length + 1)], li: pick([0, 7, 'x', '']) };
+  const at = random(list.length);
+  if (typeof list[at] === 'number' && random(2)) return { p: ['list', at], na: 1 };
+  if (typeof list[at] === 'string' && random(2)) return textEdit(['list', at], list[at]);
+  return { p: ['list', at], ld: list[at], ...(random(4) === 0 ? { li: random(100) } : {}) };
+}
+
+function memberEdit(members) {
+  const key = pick(['k', 'l', 'm']);
+  const old = Object.hasOwn(members, key) ? { od: members[key] } : {};
+  if ('od' in old && random(2)) return { p: ['members', key], ...old };
+  return { p: ['members', key], ...old, oi: random(1000) };
+}
+
+function randomComponent(data) {
+  const kind = random(10);
+  if (kind < 5) return textEdit(['text'], data.text);
+  if (kind < 8) return listEdit(data.list);
+  return kind === 8 ? { p: ['numbers', pick(['a', 'b'])], na: random(21) - 10 } : memberEdit(data.members);
+}
+
+// One component, or now and then several, each made on what the one before leaves.
+function randomOperation(data) {
+  const operation = [];
+  for (let more = random(8) === 0 ? 3 : 1; more > 0; more -= 1) {
+    const component = randomComponent(data);
+    data = apply(data, [component]);
+    operation.push(component);
+  }
+  return operation;
+}
+
+// The run ---------------------------------------------------------------------------------------------------
+
+const state = { wanted: Number(operations), stored: 0, killed: 0, refused: 0, faults: [] };
+
+/** One client that edits one document, and remembers what was acknowledged. */
+class Participant {
+  constructor(address, number, acknowledged) {
+    this.number = number;
+    this.acknowledged = acknowledged; // of the document: [client, number of the operation] by version
+    this.client = new Client(address, { source: `soak-${number}`, WebSocket: this.tearable(), retryDelay: 20 });
+    this.document = this.client.document(COLLECTION, String(number % Number(documents)));
+    this.document.on('stored', ({ version, seq }) => this.stored(version, seq));
+    this.document.on('refused', ({ error }) => this.refused(error));
+    this.document.on('healed', ({ version }) => state.faults.push(`client ${number} was healed at version ${version}`));
+  }
+
+  // Keeps the socket, so that it can be torn down.
+  tearable() {
+    const participant = this;
+    return class extends WebSocket {
+      constructor(address) {
+        super(address);
+        participant.socket = this;
+      }
+    };
+  }
+
+  async play() {
+    await this.document.subscribe();
+    await this.document.createIfAbsent(START);
+    while (state.stored < state.wanted) {
+      this.edit();
+      if (random(20) === 0) this.edit();
+      if (random(KILL) === 0) this.kill();
+      await this.document.settled();
+    }
+  }
+
+  edit() {
+    this.document.submit(randomOperation(this.document.data));
+  }
+
+  kill() {
+    state.killed += 1;
+    this.socket.terminate();
+  }
+
+  stored(version, seq) {
+    if (this.acknowledged[version]) state.faults.push(`${this.document.id}: version ${version} was acknowledged twice`);
+    this.acknowledged[version] = [this.number, seq];
+    state.stored += 1;
+  }
+
+  refused(error) {
+    state.refused += 1;
+    if (error.code !== 'ERR_OT_OP_NOT_APPLIED') state.faults.push(`client ${this.number}: ${error.code}`);
+  }
+}
+
+function pause(milliseconds) {
+  return new Promise((resolve) => setTimeout(resolve, milliseconds));
+}
+
+// Waits for a condition, as long as operations are stored.
+async function until(what, holds) {
+  let [seen, since] = [state.stored, Date.now()];
+  while (!holds()) {
+    if (state.stored !== seen) [seen, since] = [state.stored, Date.now()];
+    if (Date.now() - since > PATIENCE) throw new Error(`${what}: nothing more comes`);
+    await pause(5);
+  }
+}
+
+async function play(participants) {
+  let playing = participants.length;
+  for (const one of participants) one.play().catch((error) => state.faults.push(error.stack)).finally(() => (playing -= 1));
+  await until('edits', () => playing === 0);
+  const followed = participants.map(({ document }) => document);
+  const last = (id) => Math.max(...followed.filter((one) => one.id === id).map(({ version }) => version));
+  await until('followers', () => followed.every(({ id, version }) => version === last(id)));
+}
+
+// The end ---------------------------------------------------------------------------------------------------
+
+// Asks over a new connection, and gives the messages up to the end of the answer.
+function ask(address, request) {
+  return new Promise((resolve, reject) => {
+    const messages = [];
+    const socket = new WebSocket(address);
+    socket.onerror = reject;
+    socket.onclose = () => reject(new Error('the connection was closed before the answer'));
+    socket.onopen = () => socket.send(JSON.stringify(request));
+    socket.onmessage = ({ data }) => {
+      const message = JSON.parse(data);
+      if (message.a === 'init') return;
+      messages.push(message);
+      if (message.a !== request.a) return;
+      socket.close();
+      resolve(messages);
+    };
+  });
+}
+
+// What the log of a document has wrong, against what was acknowledged.
+function faultsOfLog(log, acknowledged) {
+  const faults = [];
+  const seen = new Set();
+  log.forEach(({ v, src, seq }, place) => {
+    if (v !== place) faults.push(`entry ${place} has version ${v}`);
+    if (seen.has(`${src} ${seq}`)) faults.push(`${src} ${seq} is stored twice`);
+    seen.add(`${src} ${seq}`);
+  });
+  acknowledged.forEach(([client, seq], version) => {
+    const entry = log[version];
+    if (entry && entry.src === `soak-${client}` && entry.seq === seq) return;
+    faults.push(`soak-${client} ${seq} was acknowledged at ${version}, where ${JSON.stringify(entry)} stands`);
+  });
+  return faults;
+}
+
+function replay(log) {
+  return log.reduce((data, entry) => (entry.create ? entry.create.data : apply(data, entry.op)), undefined);
+}
+
+function faultsOfFollower({ number, document }, { v, data }) {
+  const faults = [];
+  if (document.version !== v) faults.push(`client ${number} has version ${document.version}, the server ${v}`);
+  if (!isDeepStrictEqual(document.data, data)) faults.push(`client ${number} has another document`);
+  return faults;
+}
+
+async function faultsOfDocument(address, id, participants) {
+  const [{ data: present }] = await ask(address, { a: 'f', c: COLLECTION, d: id });
+  const log = (await ask(address, { a: 'f', c: COLLECTION, d: id, v: 0 })).slice(0, -1);
+  const faults = faultsOfLog(log, participants[0].acknowledged);
+  if (log.length !== present.v) faults.push(`${log.length} entries at version ${present.v}`);
+  if (!isDeepStrictEqual(replay(log), present.data)) faults.push('the log makes another document than the server has');
+  faults.push(...participants.flatMap((one) => faultsOfFollower(one, present)));
+  return faults.map((fault) => `document ${id}: ${fault}`);
+}
+
+// The server ------------------------------------------------------------------------------------------------
+
+function start() {
+  if (server.startsWith('ws://')) return Promise.resolve({ address: server });
+  const child = spawn(server, ['--listen', '127.0.0.1:0'], { stdio: ['ignore', 'pipe', 'inherit'] });
+  return new Promise((resolve, reject) => {
+    child.on('error', reject);
+    child.on('exit', (status) => reject(new Error(`the server has ended with status ${status}`)));
+    child.stdout.on('data', (line) => resolve({ child, address: `ws://${String(line).trim().split(' ')[1]}` }));
+  });
+}
+
+// Processor seconds and peak memory of the server, where it was started here (Linux).
+function cost(child) {
+  if (!child) return '';
+  const fields = readFileSync(`/proc/${child.pid}/stat`, 'utf8').split(') ')[1].split(' ');
+  const seconds = (Number(fields[11]) + Number(fields[12])) / 100;
+  const peak = readFileSync(`/proc/${child.pid}/status`, 'utf8').match(/VmHWM:\s+(\d+)/)[1] / 1024;
+  return `; the server took ${seconds.toFixed(0)} processor seconds and ${peak.toFixed(0)} MB`;
+}
+
+// ------------------------------------------------------------------------------------------------------------
+
+// Plays the clients and looks at what is left; gives the seconds that the operations took.
+async function soak(address) {
+  const acknowledged = Array.from({ length: Number(documents) }, () => []);
+  const participants = Array.from(
+    { length: Number(clients) },
+    (_, number) => new Participant(address, number, acknowledged[number % Number(documents)]),
+  );
+  const began = Date.now();
+  const elapsed = () => (Date.now() - began) / 1000;
+  const progress = setInterval(() => console.error(`${state.stored} after ${elapsed().toFixed(0)} s`), 10000);
+  await play(participants).catch((error) => state.faults.push(error.message));
+  const seconds = elapsed();
+  clearInterval(progress);
+  for (const { client } of participants) client.disconnect();
+  await pause(500); // the server has room for new connections when it has seen these end
+  for (const id of acknowledged.keys()) {
+    const editors = participants.filter(({ document }) => document.id === String(id));
+    state.faults.push(...(await faultsOfDocument(address, String(id), editors)));
+  }
+  return seconds;
+}
+
+async function main() {
+  const { child, address } = await start();
+  try {
+    const seconds = await soak(address);
+    const rate = Math.round(state.stored / seconds);
+    console.log(`${clients} clients, ${documents} documents, ${state.killed} torn connections, ${state.refused} refusals`);
+    console.log(`${state.stored} operations in ${seconds.toFixed(0)} s, ${rate} per second${cost(child)}`);
+  } catch (error) {
+    state.faults.push(error.stack);
+  }
+  for (const fault of state.faults.slice(0, 20)) console.log(fault);
+  console.log(state.faults.length === 0 ? 'soak: all agree' : `soak: ${state.faults.length} faults`);
+  if (child) child.removeAllListeners('exit').kill();
+  process.exit(state.faults.length === 0 ? 0 : 1);
+}
+
+main();

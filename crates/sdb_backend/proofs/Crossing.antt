@@ -1,0 +1,103 @@
+-- The documents may go to another thread.
+use denote.Param.Send.{IsSend, IsSync, sendable, view_send, view_sync}
+use denote.Param.SendFields.{declared_send, declared_sync}
+use Rattle.lru.proofs.Crosses as lru
+use Rattle.std.proofs.Crossing.{Vec-send, Vec-sync, crosses, frees}
+use Rattle.std.proofs.MapsCrossing as maps
+use Rattle.std.specs.contracts.alloc.Global as Global
+use Rattle.std.specs.contracts.impls.GlobalAllocator.TheImpl as allocator
+use Rattle.std.specs.contracts.impls.StringOrd.TheImpl as ord
+use Rattle.std.specs.contracts.impls.StringPartialEq.TheImpl as eq
+use Rattle.std.specs.contracts.impls.StringPartialOrd.TheImpl as partial
+use Rattle.sdb_value.specs.contracts.value.Json as Json
+use Rattle.sdb_value.proofs.value.Json.TheLaws.TheKnot as knot
+use Rattle.sdb_value.specs.contracts.places.Step as Step
+use Rattle.sdb_component.specs.contracts.component.Act as Act
+use Rattle.sdb_component.specs.contracts.component.Component as Component
+use Rattle.sdb_component.specs.contracts.component.Component.TheInside as component
+use Rattle.sdb_component.specs.contracts.operation.Op as Op
+use Rattle.sdb_oplog.specs.contracts.contents.Kind as Kind
+use Rattle.sdb_oplog.specs.contracts.contents.Content as Content
+use Rattle.sdb_oplog.specs.contracts.contents.Content.TheInside as content
+use Rattle.sdb_oplog.specs.contracts.entries.Entry as Entry
+use Rattle.sdb_oplog.specs.contracts.logs.Log as Log
+use Rattle.sdb_snapcache.specs.contracts.cache.Cache as Cache
+use Rattle.sdb_snapcache.specs.contracts.cache.Cache.TheInside as cache
+use Rattle.sdb_desk.specs.contracts.document.Document as Document
+use Rattle.sdb_desk.specs.contracts.document.Document.TheInside as document
+use Rattle.sdb_desk.specs.contracts.shard.Shard as Shard
+
+pub Json-send : IsSend (Json.the_field).row
+Json-send =
+    knot.send-Json (search sendable) (search sendable) (search (Vec-send, sendable) depth 20) (λ h s. Vec-send h s)
+    (λ h s. maps.BTreeMap-send _ h (ord.ghosts Global.the_row allocator.ghosts ord.no_dict ord.no_dict) (eq.ghosts Global.the_row allocator.ghosts eq.no_dict eq.no_dict)
+    (partial.ghosts Global.the_row allocator.ghosts partial.no_dict partial.no_dict) maps.String-send s)
+
+pub Json-sync : IsSync (Json.the_field).row
+Json-sync =
+    knot.sync-Json (search sendable) (search sendable) (search (Vec-sync, sendable) depth 20) (λ h s. Vec-sync h s)
+    (λ h s. maps.BTreeMap-sync _ h (ord.ghosts Global.the_row allocator.ghosts ord.no_dict ord.no_dict) (eq.ghosts Global.the_row allocator.ghosts eq.no_dict eq.no_dict)
+    (partial.ghosts Global.the_row allocator.ghosts partial.no_dict partial.no_dict) maps.String-sync s)
+
+pub Act-send : IsSend Act.the_row
+Act-send = search (sendable, crosses, maps.crosses, Json-send, Json-sync) depth 20
+
+pub Act-sync : IsSync Act.the_row
+Act-sync = search (sendable, crosses, maps.crosses, Json-send, Json-sync) depth 20
+
+pub Step-send : IsSend Step.the_row
+Step-send = search (sendable, crosses, maps.crosses) depth 20
+
+pub Step-sync : IsSync Step.the_row
+Step-sync = search (sendable, crosses, maps.crosses) depth 20
+
+component-send : IsSend component.the_row
+component-send = declared_send component.the_type (search (sendable, crosses, Step-send) depth 20, (search (sendable, Act-send) depth 20, tt))
+
+component-sync : IsSync component.the_row
+component-sync = declared_sync component.the_type (search (sendable, crosses, Step-sync) depth 20, (search (sendable, Act-sync) depth 20, tt))
+
+pub Component-send : IsSend Component.the_row
+Component-send = view_send _ _ _ _ _ component-send
+
+pub Component-sync : IsSync Component.the_row
+Component-sync = view_sync _ _ _ _ _ component-sync
+
+pub Op-send : IsSend Op.the_row
+Op-send = search (sendable, crosses, maps.crosses, Component-send) depth 20
+
+pub Op-sync : IsSync Op.the_row
+Op-sync = search (sendable, crosses, maps.crosses, Component-sync) depth 20
+
+pub Kind-send : IsSend Kind.the_row
+Kind-send = search (sendable, crosses, maps.crosses, Json-send, Json-sync, Op-send, Op-sync) depth 20
+
+content-send : IsSend content.the_row
+content-send = declared_send content.the_type (search (sendable, Kind-send) depth 20, tt)
+
+pub Content-send : IsSend Content.the_row
+Content-send = view_send _ _ _ _ _ content-send
+
+pub Entry-send : IsSend Entry.the_row
+Entry-send = search (sendable, crosses, maps.crosses, Content-send) depth 20
+
+pub Log-send : IsSend Log.the_row
+Log-send = search (sendable, crosses, maps.crosses, Entry-send) depth 20
+
+row-send : IsSend Json.the_row
+row-send = search (sendable, Json-send) depth 20
+
+cache-send : IsSend cache.the_row
+cache-send = declared_send cache.the_type (search (sendable, crosses) depth 20, (search (sendable, crosses, maps.crosses, lru.List-send, lru.Deed-send, lru.KeyRef-send, lru.KeyRef-sync, frees, Json-send, row-send) depth 30, tt))
+
+pub Cache-send : IsSend Cache.the_row
+Cache-send = view_send _ _ _ _ _ cache-send
+
+document-send : IsSend document.the_row
+document-send = declared_send document.the_type (search (sendable, Log-send) depth 20, (search (sendable, crosses, Json-send) depth 20, (search (sendable, Cache-send) depth 20, tt)))
+
+pub Document-send : IsSend Document.the_row
+Document-send = view_send _ _ _ _ _ document-send
+
+pub Shard-send : IsSend Shard.the_row
+Shard-send = search (sendable, crosses, maps.crosses, Document-send) depth 20

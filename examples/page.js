@@ -1,0 +1,285 @@
+/*
+ * The page with two clients (index.html): a text and a board of cards, both in one document. Each view is a client of
+ * its own. What a reader does in a view becomes an operation on the document that the view shows; what others do
+ * arrives as operations, and the view is drawn again from the document.
+ *
+ *     { "text": TEXT, "columns": [{ "name": TEXT, "cards": [{ "id", "title", "done", "votes" }] }] }
+ */
+'use strict';
+
+const COLLECTION = 'examples';
+
+const START = {
+  text: 'Two views, one document.\n\nType here, on both sides at once. Each view is a client with its own connection.\n',
+  columns: [
+    { name: 'To do', cards: [card('Add a third client', 2), card('Write the minutes', 0)] },
+    { name: 'Doing', cards: [card('Try emoji 🎉', 5)] },
+    { name: 'Done', cards: [{ ...card('Start the server', 1), done: true }] },
+  ],
+};
+
+const VIEWS = [
+  { name: 'Ada', accent: '#4c6ef5' },
+  { name: 'Ben', accent: '#e8590c' },
+];
+
+function shortRandom() {
+  return Math.random().toString(36).slice(2, 6).padEnd(4, '0');
+}
+
+function card(title, votes) {
+  return { id: shortRandom() + shortRandom(), title, done: false, votes };
+}
+
+function fromTemplate(name) {
+  return document.getElementById(name).content.firstElementChild.cloneNode(true);
+}
+
+function valueAt(data, path) {
+  return path.reduce((value, step) => value[step], data);
+}
+
+/** A text field that shows and edits one text of the shared document; `path` tells where that stands now. */
+class TextField {
+  constructor(element, shared, path) {
+    this.element = element;
+    this.shared = shared;
+    this.path = path;
+    element.addEventListener('input', () => this.send());
+  }
+
+  send() {
+    const { element, shared } = this;
+    const path = this.path();
+    shared.submit(Navirotsohy.textChange(path, valueAt(shared.data, path), element.value, element.selectionStart));
+  }
+
+  /** Shows the text; the caret stays with the letters that it stood between. */
+  show(text, operation, pathBefore) {
+    const { element } = this;
+    if (element.value === text) return;
+    const { selectionStart, selectionEnd, selectionDirection, scrollTop } = element;
+    const moved = (offset) => (operation ? Navirotsohy.transformOffset(offset, operation, pathBefore) : offset);
+    element.value = text;
+    element.setSelectionRange(moved(selectionStart), moved(selectionEnd), selectionDirection);
+    element.scrollTop = scrollTop;
+  }
+}
+
+/** One card on the screen. It knows where its card stands in the document as it is shown. */
+class CardElement {
+  constructor(board) {
+    this.board = board;
+    this.place = null;
+    this.element = fromTemplate('card');
+    this.done = this.element.querySelector('.done');
+    this.vote = this.element.querySelector('.vote');
+    this.title = new TextField(this.element.querySelector('.title'), board.shared, () => [...this.path(), 'title']);
+    this.listen();
+  }
+
+  listen() {
+    const { board, element } = this;
+    this.done.addEventListener('change', () => board.tick(this.path(), this.done.checked));
+    this.vote.addEventListener('click', () => board.shared.submit([{ p: [...this.path(), 'votes'], na: 1 }]));
+    element.querySelector('.back').addEventListener('click', () => board.moveToColumn(this.place, -1));
+    element.querySelector('.on').addEventListener('click', () => board.moveToColumn(this.place, 1));
+    element.querySelector('.remove').addEventListener('click', () => board.remove(this.path()));
+    element.addEventListener('dragstart', () => (board.dragged = this));
+    element.addEventListener('dragend', () => (board.dragged = null));
+  }
+
+  path(place = this.place) {
+    return ['columns', place.column, 'cards', place.index];
+  }
+
+  show(data, place, operation) {
+    const pathBefore = [...this.path(this.place || place), 'title'];
+    this.place = place;
+    this.title.show(data.title, operation, pathBefore);
+    this.done.checked = data.done;
+    this.vote.textContent = `▲ ${data.votes}`;
+    this.element.classList.toggle('ticked', data.done);
+  }
+}
+
+/** The columns of cards. */
+class Board {
+  constructor(element, shared) {
+    this.element = element;
+    this.shared = shared;
+    this.lists = [];
+    this.headings = [];
+    this.cards = new Map(); // by key
+    this.dragged = null;
+  }
+
+  // What a reader does ---------------------------------------------------------------------------------------
+
+  add(column) {
+    const index = this.shared.data.columns[column].cards.length;
+    this.shared.submit([{ p: ['columns', column, 'cards', index], li: card('', 0) }]);
+    this.lists[column].children[index].querySelector('.title').focus();
+  }
+
+  remove(path) {
+    this.shared.submit([{ p: path, ld: valueAt(this.shared.data, path) }]);
+  }
+
+  tick(path, done) {
+    this.shared.submit([{ p: [...path, 'done'], od: valueAt(this.shared.data, path).done, oi: done }]);
+  }
+
+  moveToColumn(place, by) {
+    const column = this.shared.data.columns[place.column + by];
+    if (column) this.move(place, { column: place.column + by, index: column.cards.length });
+  }
+
+  // The place to go to is one of the document in which the card still stands at its old place.
+  move(from, to) {
+    const moved = valueAt(this.shared.data, ['columns', from.column, 'cards', from.index]);
+    const index = from.column === to.column && from.index < to.index ? to.index - 1 : to.index;
+    this.shared.submit([
+      { p: ['columns', from.column, 'cards', from.index], ld: moved },
+      { p: ['columns', to.column, 'cards', index], li: moved },
+    ]);
+  }
+
+  drop(event, column) {
+    event.preventDefault();
+    if (!this.dragged) return;
+    const cards = [...this.lists[column].children].map((one) => one.getBoundingClientRect());
+    const below = cards.findIndex(({ top, height }) => event.clientY < top + height / 2);
+    this.move(this.dragged.place, { column, index: below < 0 ? cards.length : below });
+  }
+
+  // What is shown ------------------------------------------------------------------------------------------
+
+  show(columns, operation) {
+    while (this.lists.length < columns.length) this.addColumn();
+    const focused = document.activeElement;
+    const wanted = this.wantedCards(columns);
+    for (const [key, one] of this.cards) if (!wanted.has(key)) this.forget(key, one);
+    for (const [key, { data, place }] of wanted) this.showCard(key, data, place, operation);
+    columns.forEach(({ name }, column) => (this.headings[column].textContent = name));
+    if (focused !== document.activeElement) focused.focus({ preventScroll: true });
+  }
+
+  // The cards by id. Where two clients moved one card at once it stands twice, and has a key for each place.
+  wantedCards(columns) {
+    const wanted = new Map();
+    columns.forEach(({ cards }, column) =>
+      cards.forEach((data, index) => {
+        let key = data.id;
+        while (wanted.has(key)) key += '+';
+        wanted.set(key, { data, place: { column, index } });
+      }),
+    );
+    return wanted;
+  }
+
+  showCard(key, data, place, operation) {
+    if (!this.cards.has(key)) this.cards.set(key, new CardElement(this));
+    const one = this.cards.get(key);
+    const list = this.lists[place.column];
+    one.show(data, place, operation);
+    if (list.children[place.index] !== one.element) list.insertBefore(one.element, list.children[place.index] || null);
+  }
+
+  forget(key, one) {
+    this.cards.delete(key);
+    one.element.remove();
+  }
+
+  addColumn() {
+    const column = this.lists.length;
+    const element = fromTemplate('column');
+    this.lists.push(element.querySelector('ol'));
+    this.headings.push(element.querySelector('h3'));
+    element.querySelector('.add').addEventListener('click', () => this.add(column));
+    element.addEventListener('dragover', (event) => event.preventDefault());
+    element.addEventListener('drop', (event) => this.drop(event, column));
+    this.element.append(element);
+  }
+}
+
+/** One of the two views: a client, its connection, and what it shows of the shared document. */
+class View {
+  constructor({ name, accent }, address, id) {
+    this.element = fromTemplate('view');
+    this.element.style.setProperty('--accent', accent);
+    this.find('h2').textContent = name;
+    this.client = new Navirotsohy.Client(address, { source: `${name.toLowerCase()}-${shortRandom()}` });
+    this.shared = this.client.document(COLLECTION, id);
+    this.text = new TextField(this.find('textarea'), this.shared, () => ['text']);
+    this.board = new Board(this.find('.board'), this.shared);
+    this.listen();
+    this.showState(this.client.state);
+    this.shared.subscribe().catch((error) => this.showNotice(error.message));
+  }
+
+  find(selector) {
+    return this.element.querySelector(selector);
+  }
+
+  listen() {
+    this.find('.connection').addEventListener('click', () => this.toggle());
+    this.client.on('state', (state) => this.showState(state));
+    this.client.on('error', (error) => this.showNotice(error.message));
+    this.shared.on('change', (change) => this.showDocument(change));
+    this.shared.on('loaded', () => this.shared.createIfAbsent(START));
+    this.shared.on('version', ({ version, source }) => this.showVersion(version + 1, source));
+    this.shared.on('stored', () => this.showNotice(''));
+    this.shared.on('refused', ({ error }) => this.showNotice(`not stored: ${error.message}`));
+  }
+
+  toggle() {
+    if (this.client.state === 'disconnected') this.client.connect();
+    else this.client.disconnect();
+  }
+
+  showState(state) {
+    this.element.dataset.state = state;
+    this.find('.state').textContent = state;
+    this.find('.connection').textContent = state === 'disconnected' ? 'Reconnect' : 'Disconnect';
+    this.showPending();
+  }
+
+  showPending() {
+    const waits = this.client.state !== 'connected' && this.shared.pending > 0;
+    this.find('.pending').textContent = waits ? 'changes wait to be sent' : '';
+  }
+
+  showVersion(version, source) {
+    this.find('.version').textContent = version;
+    this.find('.writer').textContent = source;
+  }
+
+  showNotice(text) {
+    this.find('.notice').textContent = text;
+  }
+
+  showDocument({ operation, local }) {
+    const { data, version } = this.shared;
+    this.find('fieldset').disabled = data === undefined;
+    if (data === undefined) return;
+    if (operation === null) this.find('.version').textContent = version;
+    this.text.show(data.text, local ? null : operation, ['text']);
+    this.board.show(data.columns, local ? null : operation);
+    this.showPending();
+  }
+}
+
+function main() {
+  const parameters = new URLSearchParams(location.search);
+  const server = parameters.get('server') || '127.0.0.1:8080';
+  const address = server.includes('://') ? server : `ws://${server}`;
+  document.querySelector('.top input').value = server;
+  return VIEWS.map((view) => {
+    const made = new View(view, address, parameters.get('document') || 'demo');
+    document.querySelector('main').append(made.element);
+    return made;
+  });
+}
+
+const views = main(); // by this name they can be looked at from the console

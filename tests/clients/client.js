@@ -1,0 +1,249 @@
+/*
+ * One client in Node: edits a document many times together with others, follows it, and compares it in the end.
+ *
+ *     node tests/clients/client.js ADDRESS DOCUMENT [EDITS] [CLIENTS] [SEED]
+ *
+ * It is examples/client.js with random edits: some one by one, some in a row without waiting, some while it is
+ * disconnected, some just before its connection is torn down. When they are stored it puts a key `finished-..` into
+ * the document; when CLIENTS of these keys are there, nobody edits any more. Then it fetches the document over a new
+ * connection, and as it was at every fifth version that it has seen. Status 1, and a line that says what differs, where
+ * these aren't what it holds and held.
+ *
+ * Needs node-ws.
+ */
+'use strict';
+
+const { createHash } = require('crypto');
+module.paths.push('/usr/share/nodejs'); // where Debian's node-ws stands
+const WebSocket = require('ws');
+const { Client, textChange } = require('../../examples/client.js');
+
+const COLLECTION = 'examples';
+const NAME = 'node';
+const PATIENCE = 120000; // milliseconds without progress
+const MOST_FAULTS = 5; // that are printed
+const EVERY = 5; // one version in so many is looked at again in the end
+const CARDS = 8; // what a column may grow to
+const TEXT = 300; // what a text may grow to
+const START = { text: '', columns: ['To do', 'Doing', 'Done'].map((name) => ({ name, cards: [] })) };
+const PIECES = ['a', 'bc', '😀', 'word ', '\n', 'é', '漢字', '🎉🎉'];
+
+// Random choices --------------------------------------------------------------------------------------------
+
+// A small generator, so that a seed makes the same choices again.
+function generator(state) {
+  return (below) => {
+    state = (Math.imul(state, 1664525) + 1013904223) >>> 0;
+    return Math.floor((state / 4294967296) * below);
+  };
+}
+
+let random = generator(1);
+
+function pick(list) {
+  return list[random(list.length)];
+}
+
+// Edits -------------------------------------------------------------------------------------------------------
+
+// Often at the front or the end, where others write at the same time.
+function textEdit(path, text, most) {
+  const points = [...text];
+  const from = pick([0, random(points.length + 1), points.length]);
+  const removed = random(most) < points.length ? 1 + random(6) : 0;
+  const put = removed > 0 ? '' : pick(path.length === 1 ? PIECES : PIECES.slice(0, 3));
+  const after = [...points.slice(0, from), put, ...points.slice(from + removed)].join('');
+  return textChange(path, text, after);
+}
+
+function newCard() {
+  return { id: Math.random().toString(36).slice(2), title: 'card', done: false, votes: 0 };
+}
+
+function listEdit(data) {
+  const column = random(data.columns.length);
+  const { cards } = data.columns[column];
+  const path = ['columns', column, 'cards'];
+  if (cards.length === 0 || (cards.length < CARDS && random(2))) {
+    return [{ p: [...path, random(cards.length + 1)], li: newCard() }];
+  }
+  const index = random(cards.length);
+  const removed = { p: [...path, index], ld: cards[index] };
+  return [random(3) === 0 ? { ...removed, li: newCard() } : removed];
+}
+
+// A card is taken out here and put in there, in one operation.
+function moveEdit(data, path, card) {
+  const column = random(data.columns.length);
+  const there = data.columns[column].cards.length - (column === path[1] ? 1 : 0);
+  return [
+    { p: path, ld: card },
+    { p: ['columns', column, 'cards', random(there + 1)], li: card },
+  ];
+}
+
+function keyEdit(path, place) {
+  const key = `key-${random(4)}`;
+  const at = [...path, key];
+  const old = Object.hasOwn(place, key) ? { od: place[key] } : {};
+  if ('od' in old && random(5) < 2) return [{ p: at, ...old }];
+  return [{ p: at, ...old, oi: pick([random(100), 'text', null, [1, 2], { deep: true }]) }];
+}
+
+function cardEdit(data, path, card) {
+  switch (random(5)) {
+    case 0:
+      return [{ p: [...path, 'votes'], na: random(9) - 3 }];
+    case 1:
+      return [{ p: [...path, 'done'], od: card.done, oi: !card.done }];
+    case 2:
+      return textEdit([...path, 'title'], card.title, 20);
+    case 3:
+      return keyEdit(path, card);
+    default:
+      return moveEdit(data, path, card);
+  }
+}
+
+function randomEdit(data) {
+  const places = data.columns.flatMap(({ cards }, column) =>
+    cards.map((card, index) => ({ path: ['columns', column, 'cards', index], card })),
+  );
+  const kind = random(8);
+  if (kind < 3) return textEdit(['text'], data.text, TEXT);
+  if (kind === 3) return keyEdit([], data);
+  if (kind === 4 || places.length === 0) return listEdit(data);
+  const { path, card } = pick(places);
+  return cardEdit(data, path, card);
+}
+
+// The run -----------------------------------------------------------------------------------------------------
+
+function pause(milliseconds) {
+  return new Promise((resolve) => setTimeout(resolve, milliseconds));
+}
+
+// Waits for a condition that is looked at after each change.
+function until(document, holds) {
+  return new Promise((resolve, reject) => {
+    const timer = setTimeout(() => reject(new Error('nothing more comes')), PATIENCE);
+    const look = () => {
+      if (!holds()) return;
+      clearTimeout(timer);
+      resolve();
+    };
+    document.on('change', look);
+    document.on('version', look);
+    look();
+  });
+}
+
+// Keeps the socket of a client, so that it can be torn down.
+function tearable() {
+  const kept = { socket: null };
+  kept.WebSocket = class extends WebSocket {
+    constructor(address) {
+      super(address);
+      kept.socket = this;
+    }
+  };
+  return kept;
+}
+
+async function edit(document, client, kept, edits) {
+  for (let made = 0; made < edits; made += 1) {
+    document.submit(randomEdit(document.data));
+    const fate = random(40);
+    if (fate === 0) kept.socket.terminate();
+    else if (fate === 1) client.disconnect();
+    if (fate === 1) setTimeout(() => client.connect(), random(60));
+    if (random(3) > 0) await (fate === 1 ? pause(random(30)) : document.settled());
+  }
+  await document.settled();
+  document.submit([{ p: [`finished-${NAME}`], oi: true }]);
+  await document.settled();
+}
+
+function finished(data) {
+  return Object.keys(data).filter((key) => key.startsWith('finished-')).length;
+}
+
+// The end -----------------------------------------------------------------------------------------------------
+
+// The document over a new connection, and behind it the document as it was at some versions, by version.
+function fetchDocument(address, id, versions) {
+  return new Promise((resolve, reject) => {
+    const socket = new WebSocket(address);
+    const before = new Map();
+    const ask = (message) => socket.send(JSON.stringify({ c: COLLECTION, d: id, ...message }));
+    socket.onerror = reject;
+    socket.onopen = () => {
+      for (const version of versions) ask({ a: 'nf', id: version, v: version });
+      ask({ a: 'f' });
+    };
+    socket.onmessage = ({ data }) => {
+      const message = JSON.parse(data);
+      if (message.a === 'nf') before.set(message.v, message.data);
+      if (message.a !== 'f') return;
+      socket.close();
+      resolve({ ...message.data, before });
+    };
+  });
+}
+
+function canonical(value) {
+  if (Array.isArray(value)) return `[${value.map(canonical).join()}]`;
+  if (value === null || typeof value !== 'object') return JSON.stringify(value);
+  const members = Object.keys(value).sort().map((key) => `${JSON.stringify(key)}:${canonical(value[key])}`);
+  return `{${members.join()}}`;
+}
+
+// The first place at which two values differ, or null.
+function difference(ours, theirs, path = 'document') {
+  const spelled = `${path}: ${JSON.stringify(ours)} and ${JSON.stringify(theirs)}`;
+  const [isObject, alike] = [ours !== null && typeof ours === 'object', Array.isArray(ours) === Array.isArray(theirs)];
+  if (!isObject || theirs === null || typeof theirs !== 'object' || !alike) return ours === theirs ? null : spelled;
+  if (canonical(Object.keys(ours).sort()) !== canonical(Object.keys(theirs).sort())) return spelled;
+  for (const key of Object.keys(ours)) {
+    const found = difference(ours[key], theirs[key], `${path}.${key}`);
+    if (found) return found;
+  }
+  return null;
+}
+
+const faults = [];
+
+async function main(address, id, edits = '300', clients = '1', seed = '1') {
+  random = generator(Number(seed));
+  const held = new Map(); // the document as it was, spelled, by version
+  let refused = 0;
+  const kept = tearable();
+  const client = new Client(address, { WebSocket: kept.WebSocket, retryDelay: 20 });
+  const document = client.document(COLLECTION, id);
+  document.on('refused', () => (refused += 1));
+  document.on('healed', ({ version }) => faults.push(`healed at version ${version}`));
+  document.on('version', () => {
+    if (document.version % EVERY === 0) held.set(document.version, JSON.stringify(document.confirmed));
+  });
+  await document.subscribe();
+  await document.createIfAbsent(START);
+  await edit(document, client, kept, Number(edits));
+  await until(document, () => finished(document.data) >= Number(clients));
+  client.disconnect();
+  const fresh = await fetchDocument(address, id, held.keys());
+  for (const [version, text] of held) {
+    const found = difference(JSON.parse(text), fresh.before.get(version));
+    if (found) faults.push(`held another document at version ${version}: ${found}`);
+  }
+  const differs = difference([document.version, document.data, document.confirmed], [fresh.v, fresh.data, fresh.data]);
+  const digest = createHash('sha256').update(canonical(document.data)).digest('hex').slice(0, 16);
+  console.log(`${NAME}: ${edits} edits, ${refused} refused, version ${document.version}, digest ${digest}`);
+  if (differs) faults.push(`holds another document: ${differs}`);
+}
+
+main(...process.argv.slice(2))
+  .catch((error) => faults.push(error.stack))
+  .then(() => {
+    for (const fault of faults.slice(0, MOST_FAULTS)) console.log(`${NAME}: ${fault}`);
+    process.exit(faults.length > 0 ? 1 : 0);
+  });
