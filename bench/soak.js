@@ -22,6 +22,7 @@ const { isDeepStrictEqual } = require('util');
 module.paths.push('/usr/share/nodejs'); // where Debian's node-ws stands
 const WebSocket = require('ws');
 const { Client, apply } = require('../examples/client.js');
+const { choices } = require('../tests/clients/random.js');
 
 const [server, operations = '1000000', clients = '64', documents = '8', seed = '1'] = process.argv.slice(2);
 const COLLECTION = 'soak';
@@ -34,19 +35,7 @@ const PIECES = ['a', 'bc', 'def ', 'é', '漢', '😀'];
 
 // Edits -----------------------------------------------------------------------------------------------------
 
-// A small generator, so that a seed makes the same choices again.
-function generator(state) {
-  return (below) => {
-    state = (Math.imul(state, 1664525) + 1013904223) >>> 0;
-    return Math.floor((state / 4294967296) * below);
-  };
-}
-
-const random = generator(Number(seed));
-
-function pick(list) {
-  return list[random(list.length)];
-}
+const { random, pick } = choices(seed);
 
 function textEdit(path, text) {
   const points = [...text];

@@ -12,24 +12,13 @@
 const { spawnSync } = require('child_process');
 const { isDeepStrictEqual } = require('util');
 const { apply, cross } = require('../../examples/client.js');
+const { choices } = require('./random.js');
 
 const [server, cases = '2000', seed = '1'] = process.argv.slice(2);
 const MOST_SHOWN = 5; // differences that are printed
 const BASE = 1; // the version that all operations of a case are made at: that of the created document
 
-// A small generator, so that a seed gives the same cases again.
-function generator(state) {
-  return (below) => {
-    state = (Math.imul(state, 1664525) + 1013904223) >>> 0;
-    return Math.floor((state / 4294967296) * below);
-  };
-}
-
-const random = generator(Number(seed));
-
-function pick(list) {
-  return list[random(list.length)];
-}
+const { random, pick } = choices(seed);
 
 function several(most, make) {
   return Array.from({ length: random(most + 1) }, make);

@@ -17,6 +17,7 @@ const { createHash } = require('crypto');
 module.paths.push('/usr/share/nodejs'); // where Debian's node-ws stands
 const WebSocket = require('ws');
 const { Client, textChange } = require('../../examples/client.js');
+const { choices } = require('./random.js');
 
 const COLLECTION = 'examples';
 const NAME = 'node';
@@ -30,19 +31,7 @@ const PIECES = ['a', 'bc', '😀', 'word ', '\n', 'é', '漢字', '🎉🎉'];
 
 // Random choices --------------------------------------------------------------------------------------------
 
-// A small generator, so that a seed makes the same choices again.
-function generator(state) {
-  return (below) => {
-    state = (Math.imul(state, 1664525) + 1013904223) >>> 0;
-    return Math.floor((state / 4294967296) * below);
-  };
-}
-
-let random = generator(1);
-
-function pick(list) {
-  return list[random(list.length)];
-}
+let { random, pick } = choices(1);
 
 // Edits -------------------------------------------------------------------------------------------------------
 
@@ -214,7 +203,7 @@ function difference(ours, theirs, path = 'document') {
 const faults = [];
 
 async function main(address, id, edits = '300', clients = '1', seed = '1') {
-  random = generator(Number(seed));
+  ({ random, pick } = choices(seed));
   const held = new Map(); // the document as it was, spelled, by version
   let refused = 0;
   const kept = tearable();

@@ -274,6 +274,14 @@ def digest(data):
     return hashlib.sha256(spelled(data).encode()).hexdigest()[:16]
 
 
+# Prints how a client ended, and the first of its faults. The status.
+def told(name, ended, faults):
+    print(f"{name}: {ended}")
+    for fault in faults[:MOST_FAULTS]:
+        print(f"{name}: {fault}")
+    return 1 if faults else 0
+
+
 async def main(address, document, edits="300", clients="1", seed="1"):
     random.seed(seed)
     async with websockets.connect(address, max_size=None, max_queue=None) as socket:
@@ -285,10 +293,8 @@ async def main(address, document, edits="300", clients="1", seed="1"):
     faults = list(differences_before(client.held, before))
     if differs := difference([client.version, client.data], [version, data]):
         faults.append(f"holds another document: {differs}")
-    print(f"{NAME}: {edits} edits, {client.refused} refused, version {client.version}, digest {digest(client.data)}")
-    for fault in faults[:MOST_FAULTS]:
-        print(f"{NAME}: {fault}")
-    return 1 if faults else 0
+    ended = f"{edits} edits, {client.refused} refused, version {client.version}, digest {digest(client.data)}"
+    return told(NAME, ended, faults)
 
 
 if __name__ == "__main__":

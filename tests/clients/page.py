@@ -25,7 +25,7 @@ import urllib.request
 
 import websockets
 
-from client import MOST_FAULTS, difference, differences_before, digest, fetch
+from client import difference, differences_before, digest, fetch, told
 
 HERE = pathlib.Path(__file__).resolve().parent
 PAGE = HERE.parent.parent / "examples" / "index.html"
@@ -125,10 +125,7 @@ async def main(address, document, edits="300", clients="1"):
         faults += [f"the {name} view {fault}" for fault in faults_of(view, version, data, before)]
     if caret != CARET:
         faults.append(f"the caret stands in {caret}, and not in {CARET}")
-    print(f"{NAME}: {edits} edits, version {views[0]['version']}, digest {digest(views[0]['data'])}")
-    for fault in faults[:MOST_FAULTS]:
-        print(f"{NAME}: {fault}")
-    return 1 if faults else 0
+    return told(NAME, f"{edits} edits, version {views[0]['version']}, digest {digest(views[0]['data'])}", faults)
 
 
 if __name__ == "__main__":
