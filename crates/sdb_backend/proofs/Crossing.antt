@@ -1,6 +1,8 @@
--- The documents may go to another thread.
+-- The documents, and what holds them behind a lock, may go to another thread.
+use denote.RattleType.{RattleType}
 use denote.Param.Send.{IsSend, IsSync, sendable, view_send, view_sync}
-use denote.Param.SendFields.{declared_send, declared_sync}
+use denote.Struct.Field.{row_field}
+use denote.Param.SendFields.{as_row_send, as_row_sync, declared_send, declared_sync}
 use Rattle.lru.proofs.Crosses as lru
 use Rattle.std.proofs.Crossing.{Vec-send, Vec-sync, crosses, frees}
 use Rattle.std.proofs.MapsCrossing as maps
@@ -26,6 +28,7 @@ use Rattle.sdb_snapcache.specs.contracts.cache.Cache.TheInside as cache
 use Rattle.sdb_desk.specs.contracts.document.Document as Document
 use Rattle.sdb_desk.specs.contracts.document.Document.TheInside as document
 use Rattle.sdb_desk.specs.contracts.shard.Shard as Shard
+use Rattle.sdb_backend.specs.contracts.backend.Backend as Backend
 
 pub Json-send : IsSend (Json.the_field).row
 Json-send =
@@ -40,10 +43,10 @@ Json-sync =
     (partial.ghosts Global.the_row allocator.ghosts partial.no_dict partial.no_dict) maps.String-sync s)
 
 pub Act-send : IsSend Act.the_row
-Act-send = search (sendable, crosses, maps.crosses, Json-send, Json-sync) depth 20
+Act-send = search (sendable, crosses, maps.crosses, Json-send) depth 20
 
 pub Act-sync : IsSync Act.the_row
-Act-sync = search (sendable, crosses, maps.crosses, Json-send, Json-sync) depth 20
+Act-sync = search (sendable, crosses, maps.crosses, Json-sync) depth 20
 
 pub Step-send : IsSend Step.the_row
 Step-send = search (sendable, crosses, maps.crosses) depth 20
@@ -88,7 +91,7 @@ row-send : IsSend Json.the_row
 row-send = search (sendable, Json-send) depth 20
 
 cache-send : IsSend cache.the_row
-cache-send = declared_send cache.the_type (search (sendable, crosses) depth 20, (search (sendable, crosses, maps.crosses, lru.List-send, lru.Deed-send, lru.KeyRef-send, lru.KeyRef-sync, frees, Json-send, row-send) depth 30, tt))
+cache-send = declared_send cache.the_type (search (sendable, crosses) depth 20, (search (sendable, crosses, maps.crosses, lru.List-send, lru.Deed-send, lru.KeyRef-send, frees, row-send) depth 30, tt))
 
 pub Cache-send : IsSend Cache.the_row
 Cache-send = view_send _ _ _ _ _ cache-send
@@ -101,3 +104,10 @@ Document-send = view_send _ _ _ _ _ document-send
 
 pub Shard-send : IsSend Shard.the_row
 Shard-send = search (sendable, crosses, maps.crosses, Document-send) depth 20
+
+module _ (R : RattleType) where
+  pub Backend-send : IsSend R → IsSend (Backend.the_row R)
+  Backend-send s = declared_send (Backend.the_type R) (as_row_send (row_field R) s, (search (crosses, Shard-send) depth 5, tt))
+
+  pub Backend-sync : IsSync R → IsSync (Backend.the_row R)
+  Backend-sync y = declared_sync (Backend.the_type R) (as_row_sync (row_field R) y, (search (crosses, Shard-send) depth 5, tt))
