@@ -74,9 +74,9 @@ fn number(document: Option<&Json>) -> Option<i64> {
 }
 
 // The version that it is stored at, and how many entries it had missed.
-fn stored(reply: Reply) -> Option<(u64, usize)> {
+fn stored(reply: &Reply) -> Option<(u64, usize)> {
     match reply {
-        Reply::Stored { v, missed } => Some((v, missed.len())),
+        Reply::Stored { v, missed } => Some((*v, missed.len())),
         _ => None,
     }
 }
@@ -167,7 +167,7 @@ fn nobody_waits_for_a_submission_that_is_held(rt: HostRuntime) -> Result<(), Fai
     let mut slow = backend.enter(&mut host).or(Err("no pass"))?;
     let mut quick = backend.enter(&mut host).or(Err("no pass"))?;
     let created = create(alloc, &backend, &mut slow, &key).ok_or("no memory")?;
-    assert_eq!(rt; stored(created), Some((0, 0)));
+    assert_eq!(rt; stored(&created), Some((0, 0)));
     let ten = adding(alloc, 10).ok_or("no memory")?;
     let first = through(alloc, &slow, 2, Some(1), ten).ok_or("no memory")?;
     let five = adding(alloc, 5).ok_or("no memory")?;
@@ -178,9 +178,9 @@ fn nobody_waits_for_a_submission_that_is_held(rt: HostRuntime) -> Result<(), Fai
         || submit_held(alloc, &backend, &mut slow, &key, &first, &answered, &last),
         || submit_quick(alloc, &backend, &mut quick, &key, &second, &answered, &last),
     );
-    assert_eq!(rt; stored(early), Some((1, 0)));
+    assert_eq!(rt; stored(&early), Some((1, 0)));
     assert_eq!(rt; last.load(Ordering::SeqCst), 2);
-    assert_eq!(rt; stored(late), Some((2, 1)));
+    assert_eq!(rt; stored(&late), Some((2, 1)));
     let fetched = backend.fetch(&mut slow, &key).or(Err("not fetched"))?;
     assert_eq!(rt; number(fetched.snapshot.as_ref()), Some(15));
     Ok(())
@@ -290,7 +290,7 @@ fn what_threads_store_is_read_back(rt: HostRuntime) -> Result<(), Fail> {
     let mut first = backend.enter(&mut host).or(Err("no pass"))?;
     let mut second = backend.enter(&mut host).or(Err("no pass"))?;
     let created = create(alloc, &backend, &mut first, &key).ok_or("no memory")?;
-    assert_eq!(rt; stored(created), Some((0, 0)));
+    assert_eq!(rt; stored(&created), Some((0, 0)));
     let (ones, twos) = thread::join(
         &rt,
         || edit_all(alloc, &backend, &mut first, &key),

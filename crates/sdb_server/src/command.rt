@@ -28,39 +28,54 @@ pub(crate) const REFUSED: u8 = 2;
 const MOST_CONNECTIONS: u64 = 1_000_000;
 
 fn command<'a>(alloc: Global) -> Result<Command<'a>, AllocError> {
-    let lines = Arg::new(alloc, "lines")
+    let connections = connections_option(alloc)?;
+    let job = job_group(alloc)?;
+    Command::new(alloc, "sdb_server")
+        .about("A ShareDB server for JSON documents")
+        .arg(lines_option(alloc))?
+        .arg(listen_option(alloc))?
+        .arg(connections)?
+        .arg(projection_option(alloc))?
+        .group(job)
+}
+
+fn lines_option<'a>(alloc: Global) -> Arg<'a> {
+    Arg::new(alloc, "lines")
         .long("lines")
         .help("Answers the lines of one session on standard input and output")
-        .action(ArgAction::SetTrue);
-    let listen = Arg::new(alloc, "listen")
+        .action(ArgAction::SetTrue)
+}
+
+fn listen_option<'a>(alloc: Global) -> Arg<'a> {
+    Arg::new(alloc, "listen")
         .long("listen")
         .value_name("ADDR")
         .help("Serves WebSocket clients at this address, as 127.0.0.1:8080")
-        .action(ArgAction::Set);
+        .action(ArgAction::Set)
+}
+
+fn connections_option<'a>(alloc: Global) -> Result<Arg<'a>, AllocError> {
     let connections = Arg::new(alloc, "connections")
         .long("connections")
         .value_name("N")
         .help("With --listen, ends when N connections have ended")
         .value_parser(ValueParser::unsigned(1, MOST_CONNECTIONS))
-        .requires_arg("listen")?
-        .conflicts_with("lines")?
         .action(ArgAction::Set);
-    let projection = Arg::new(alloc, "projection")
+    connections.requires_arg("listen")?.conflicts_with("lines")
+}
+
+fn projection_option<'a>(alloc: Global) -> Arg<'a> {
+    Arg::new(alloc, "projection")
         .long("projection")
         .value_name("NAME=COLLECTION:FIELD,..")
         .help("Shows these fields of a collection under another name")
-        .action(ArgAction::Append);
-    let job = ArgGroup::new(alloc, "job")
-        .arg("lines")?
-        .arg("listen")?
-        .required(true);
-    Command::new(alloc, "sdb_server")
-        .about("A ShareDB server for JSON documents")
-        .arg(lines)?
-        .arg(listen)?
-        .arg(connections)?
-        .arg(projection)?
-        .group(job)
+        .action(ArgAction::Append)
+}
+
+// One of the two jobs has to be asked for.
+fn job_group<'a>(alloc: Global) -> Result<ArgGroup<'a>, AllocError> {
+    let job = ArgGroup::new(alloc, "job").required(true);
+    job.arg("lines")?.arg("listen")
 }
 
 // What a command line asks for.

@@ -74,7 +74,7 @@ impl Board {
 
     // Stores the submission.
     pub(crate) fn put(&mut self, submission: Submission) -> Result<(), Fail> {
-        match stored(self.commit_now(submission)) {
+        match stored(&self.commit_now(submission)) {
             Some(_) => Ok(()),
             None => Err("not stored".into()),
         }
@@ -141,28 +141,28 @@ pub(crate) fn worked(alloc: Global, attempt: Attempt) -> Result<Work, Fail> {
 }
 
 // The version that it is stored at, and how many entries it had missed.
-pub(crate) fn stored(reply: Reply) -> Option<(u64, usize)> {
+pub(crate) fn stored(reply: &Reply) -> Option<(u64, usize)> {
     match reply {
-        Reply::Stored { v, missed } => Some((v, missed.len())),
+        Reply::Stored { v, missed } => Some((*v, missed.len())),
         _ => None,
     }
 }
 
-fn repeated(reply: Reply) -> Option<u64> {
+fn repeated(reply: &Reply) -> Option<u64> {
     match reply {
-        Reply::Repeat { v } => Some(v),
+        Reply::Repeat { v } => Some(*v),
         _ => None,
     }
 }
 
-fn refused(reply: Reply) -> Option<Code> {
+fn refused(reply: &Reply) -> Option<Code> {
     match reply {
-        Reply::Refused(code) => Some(code),
+        Reply::Refused(code) => Some(*code),
         _ => None,
     }
 }
 
-fn decided(outcome: Outcome) -> Option<(u64, usize)> {
+fn decided(outcome: &Outcome) -> Option<(u64, usize)> {
     match outcome {
         Outcome::Decided(reply) => stored(reply),
         Outcome::Moved(_) => None,
@@ -170,7 +170,7 @@ fn decided(outcome: Outcome) -> Option<(u64, usize)> {
 }
 
 // The version that is shown afresh, and how many entries are missed.
-fn moved(outcome: Outcome) -> Option<(u64, usize)> {
+fn moved(outcome: &Outcome) -> Option<(u64, usize)> {
     match outcome {
         Outcome::Decided(_) => None,
         Outcome::Moved(look) => Some((look.version, look.missed.len())),
@@ -229,7 +229,7 @@ pub(crate) fn deleting(alloc: Global, made_at: u64, version: u64) -> Result<Work
 // What a commit of such a delete decides.
 fn delete_decided(board: &mut Board, made_at: u64) -> Result<Option<(u64, usize)>, Fail> {
     let work = deleting(board.alloc, made_at, 1)?;
-    Ok(decided(board.commit(work)))
+    Ok(decided(&board.commit(work)))
 }
 
 fn own_work_is_committed(board: &mut Board) -> Result<bool, Fail> {
@@ -254,7 +254,7 @@ fn a_work_of_other_entries_is_made_afresh(rt: HostRuntime) -> Result<(), Fail> {
 
 fn commit_decides(board: &mut Board) -> Result<bool, Fail> {
     let work = board.work("x", 1, 5)?;
-    Ok(decided(board.commit(work)) == Some((1, 0)) && board.present()? == (2, Some(5)))
+    Ok(decided(&board.commit(work)) == Some((1, 0)) && board.present()? == (2, Some(5)))
 }
 
 #[test]
@@ -267,7 +267,7 @@ fn a_commit_decides(rt: HostRuntime) -> Result<(), Fail> {
 fn late_moved(board: &mut Board) -> Result<Option<(u64, usize)>, Fail> {
     let late = board.work("x", 1, 10)?;
     board.put_edit("y", 5)?;
-    Ok(moved(board.commit(late)))
+    Ok(moved(&board.commit(late)))
 }
 
 #[test]
@@ -279,7 +279,7 @@ fn a_commit_shows_a_log_that_has_moved(rt: HostRuntime) -> Result<(), Fail> {
 fn one_step_decides(board: &mut Board) -> Result<bool, Fail> {
     board.put_edit("x", 5)?;
     let edit = board.edit("y", Some(1), 10)?;
-    Ok(stored(board.commit_now(edit)) == Some((2, 1)) && board.present()? == (3, Some(15)))
+    Ok(stored(&board.commit_now(edit)) == Some((2, 1)) && board.present()? == (3, Some(15)))
 }
 
 #[test]
@@ -290,7 +290,7 @@ fn a_submission_is_decided_in_one_step(rt: HostRuntime) -> Result<(), Fail> {
 
 fn repeat_answered(board: &mut Board) -> Result<Option<u64>, Fail> {
     let edit = board.edit("w", Some(9), 1)?;
-    Ok(repeated(board.commit_now(edit)))
+    Ok(repeated(&board.commit_now(edit)))
 }
 
 #[test]
@@ -301,7 +301,7 @@ fn a_repeat_is_answered(rt: HostRuntime) -> Result<(), Fail> {
 
 fn first_edit_is_refused(board: &mut Board) -> Result<bool, Fail> {
     let edit = board.edit("x", None, 1)?;
-    Ok(refused(board.commit_now(edit)) == Some(Code::E7) && board.present()? == (0, None))
+    Ok(refused(&board.commit_now(edit)) == Some(Code::E7) && board.present()? == (0, None))
 }
 
 #[test]

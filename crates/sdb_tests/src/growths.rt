@@ -50,7 +50,7 @@ fn count(document: Option<&Json>) -> Option<usize> {
 }
 
 // The version that is stored at or shown, and how many entries were missed. None for want of memory.
-fn told(outcome: Outcome) -> Option<(u64, usize)> {
+fn told(outcome: &Outcome) -> Option<(u64, usize)> {
     match outcome {
         Outcome::Decided(reply) => stored(reply),
         Outcome::Moved(look) => Some((look.version, look.missed.len())),
@@ -58,11 +58,11 @@ fn told(outcome: Outcome) -> Option<(u64, usize)> {
 }
 
 fn commit(board: &mut Board, work: &mut Work) -> Option<(u64, usize)> {
-    told(board.shard.commit(&board.key, work))
+    told(&board.shard.commit(&board.key, work))
 }
 
 fn commit_now(board: &mut Board, submission: &Submission) -> Option<(u64, usize)> {
-    stored(board.shard.commit_now(&board.key, submission))
+    stored(&board.shard.commit_now(&board.key, submission))
 }
 
 // Commits, and once more where there was no memory: what was answered, if all was as before then.

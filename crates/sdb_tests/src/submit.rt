@@ -213,7 +213,7 @@ fn submitted_solo(alloc: Global, gate: &Tries) -> Result<Option<(u64, usize)>, F
     let key = a_key(alloc)?;
     let mut shard = started(alloc, &key)?;
     let submission = hundred(alloc)?;
-    Ok(stored(submit(alloc, &Solo, &mut shard, &key, &submission, gate)))
+    Ok(stored(&submit(alloc, &Solo, &mut shard, &key, &submission, gate)))
 }
 
 #[test]
@@ -227,7 +227,7 @@ fn one_caller_commits_once(rt: HostRuntime) -> Result<(), Fail> {
 // Whether the shard stores the document.
 fn is_submitted_to(alloc: Global, shard: &mut Shard, key: &Key) -> Result<bool, Fail> {
     let reply = submit_solo(alloc, shard, key, &create(alloc)?, &NoGate);
-    Ok(stored(reply) == Some((0, 0)) && present(shard, key)? == (1, Some(0)))
+    Ok(stored(&reply) == Some((0, 0)) && present(shard, key)? == (1, Some(0)))
 }
 
 #[test]
@@ -253,7 +253,7 @@ fn submitted(
     let mut pass = with_others(alloc, &key)?;
     let submission = hundred(alloc)?;
     let reply = submit(alloc, &Meddling, &mut pass, &key, &submission, gate);
-    Ok((stored(reply), present(&pass.shard, &key)?))
+    Ok((stored(&reply), present(&pass.shard, &key)?))
 }
 
 #[test]
