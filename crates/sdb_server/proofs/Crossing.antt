@@ -1,6 +1,5 @@
 -- What the threads of connections share.
 use denote.RattleType.{RattleType}
-use denote.Struct.Field.{row_field}
 use denote.Param.Send.{IsSend, IsSync, sendable}
 use denote.Param.SendFields.{declared_send, declared_sync}
 use Rattle.std.proofs.Crossing.{crosses}
