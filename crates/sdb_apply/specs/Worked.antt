@@ -54,7 +54,8 @@ row_sd_other = refl
 
 -- ---- lists
 
-pub row_li : does (here (li 2 (int 3))) (list one_two) ≡ Some (list (item (int 1) (item (int 2) (item (int 3) no_items))))
+pub row_li : does (here (li 2 (int 3))) (list one_two)
+    ≡ Some (list (item (int 1) (item (int 2) (item (int 3) no_items))))
 row_li = refl
 
 pub row_li_past : does (here (li 3 (int 3))) (list one_two) ≡ None
@@ -97,7 +98,8 @@ row_or_of_list = refl
 
 -- ---- places, and operations of several components
 
-pub row_deep : does (record { path = key (codes "k") ∷ index 1 ∷ []; act = na (pos 1) }) (keyed (list one_two)) ≡ Some (keyed (list (item (int 1) (item (int 3) no_items))))
+pub row_deep : does (record { path = key (codes "k") ∷ index 1 ∷ []; act = na (pos 1) }) (keyed (list one_two))
+    ≡ Some (keyed (list (item (int 1) (item (int 3) no_items))))
 row_deep = refl
 
 pub row_no_place : does (record { path = key (codes "j") ∷ []; act = na (pos 1) }) (keyed (int 1)) ≡ None
@@ -107,7 +109,9 @@ pub row_nothing : applies [] (int 5) ≡ Some (int 5)
 row_nothing = refl
 
 -- the second is an insert into what the first made
-pub row_in_turn : applies (here (oi (codes "k") (list no_items)) ∷ record { path = key (codes "k") ∷ []; act = li 0 (int 1) } ∷ []) (object no_members) ≡ Some (keyed (list (item (int 1) no_items)))
+pub row_in_turn : applies
+    (here (oi (codes "k") (list no_items)) ∷ record { path = key (codes "k") ∷ []; act = li 0 (int 1) } ∷ [])
+    (object no_members) ≡ Some (keyed (list (item (int 1) no_items)))
 row_in_turn = refl
 
 pub row_stopped : applies (here (na (pos 1)) ∷ here (si 0 (codes "x")) ∷ here (na (pos 1)) ∷ []) (int 5) ≡ None

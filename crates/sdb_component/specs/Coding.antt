@@ -63,14 +63,21 @@ key_code = coded× text_code value_code
 
 abbrev sum_code : Coded Sum
 sum_code =
-    coded⊎ coded_ℤ (coded⊎ offset_code (coded⊎ offset_code (coded⊎ index_code (coded⊎ index_code (coded⊎ (coded× index_code value_code) (coded⊎ key_code (coded⊎ key_code (coded× key_code value_code))))))))
+    coded⊎ coded_ℤ
+    (coded⊎ offset_code
+    (coded⊎ offset_code
+    (coded⊎ index_code
+    (coded⊎ index_code
+    (coded⊎ (coded× index_code value_code)
+    (coded⊎ key_code (coded⊎ key_code (coded× key_code value_code))))))))
 
 abbrev pub act_code : Coded PlainAct
 act_code = code_by Sum sum_code to_sum from_sum back
 
 abbrev pub component_code : Coded PlainComponent
 component_code =
-    code_by (List PlainStep × PlainAct) (coded× path_code act_code) (λ c. (c.path, c.act)) (λ p. record { path = p.0; act = p.1 }) (λ _. refl)
+    code_by (List PlainStep × PlainAct) (coded× path_code act_code) (λ c. (c.path, c.act))
+    (λ p. record { path = p.0; act = p.1 }) (λ _. refl)
 
 abbrev pub op_code : Coded (List PlainComponent)
 op_code = coded_list component_code

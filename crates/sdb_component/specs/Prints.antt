@@ -43,10 +43,12 @@ act_members (si i s) p = raw.member (codes "p") p (one_member (codes "si") (raw.
 act_members (sd i s) p = raw.member (codes "p") p (one_member (codes "sd") (raw.string s))
 act_members (li i v) p = raw.member (codes "li") (to_data v) (one_member (codes "p") p)
 act_members (ld i x) p = raw.member (codes "ld") (to_data x) (one_member (codes "p") p)
-act_members (lr i x y) p = raw.member (codes "ld") (to_data x) (raw.member (codes "li") (to_data y) (one_member (codes "p") p))
+act_members (lr i x y) p =
+    raw.member (codes "ld") (to_data x) (raw.member (codes "li") (to_data y) (one_member (codes "p") p))
 act_members (oi k v) p = raw.member (codes "oi") (to_data v) (one_member (codes "p") p)
 act_members (od k x) p = raw.member (codes "od") (to_data x) (one_member (codes "p") p)
-act_members (or k x y) p = raw.member (codes "od") (to_data x) (raw.member (codes "oi") (to_data y) (one_member (codes "p") p))
+act_members (or k x y) p =
+    raw.member (codes "od") (to_data x) (raw.member (codes "oi") (to_data y) (one_member (codes "p") p))
 
 abbrev pub component_data : PlainComponent → Data
 component_data c = raw.object (act_members c.act (path_data (whole_path c.path c.act)))

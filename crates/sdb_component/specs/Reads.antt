@@ -56,7 +56,8 @@ is_left_out d = has (codes "lm") d || (has (codes "t") d || has (codes "o") d)
 abbrev pub shape_of : Data → Option Shape
 shape_of d =
     if is_left_out d then None
-    else shape_from (has (codes "na") d) (has (codes "si") d) (has (codes "sd") d) (has (codes "li") d) (has (codes "ld") d) (has (codes "oi") d) (has (codes "od") d)
+    else shape_from (has (codes "na") d) (has (codes "si") d) (has (codes "sd") d) (has (codes "li") d)
+    (has (codes "ld") d) (has (codes "oi") d) (has (codes "od") d)
 
 -- ---- a component
 
@@ -114,13 +115,16 @@ shaped Or p d = at_key (λ q k. both (λ x y. one q (or k x y)) (value_at (codes
 
 -- none, or the one component that is left of it
 abbrev pub component_of : Data → Option (List PlainComponent)
-component_of d = option_and_then (λ s. option_and_then (λ p. shaped s p d) (option_and_then path_of (get (codes "p") d))) (shape_of d)
+component_of d =
+    option_and_then (λ s. option_and_then (λ p. shaped s p d) (option_and_then path_of (get (codes "p") d)))
+    (shape_of d)
 
 -- ---- an operation
 
 abbrev pub components_of : raw.Items → Option (List PlainComponent)
 components_of raw.no_items = Some []
-components_of (raw.item d ds) = option_and_then (λ cs. option_map (λ rest. cs ++ rest) (components_of ds)) (component_of d)
+components_of (raw.item d ds) =
+    option_and_then (λ cs. option_map (λ rest. cs ++ rest) (components_of ds)) (component_of d)
 
 -- an operation is an array of at most 256 components, those that are dropped counted
 abbrev pub op_of : Data → Option (List PlainComponent)

@@ -10,7 +10,8 @@ use Rattle.sdb_component.specs.Reads.{op_of}
 abbrev op_in : List ℕ → Option (List PlainComponent)
 op_in t = option_and_then op_of (read t)
 
-pub row_replaced : op_in (codes "[{\"p\":[1],\"ld\":9,\"li\":\"q\"}]") ≡ Some (record { path = []; act = lr 1 (whole (pos 9)) (text (codes "q")) } ∷ [])
+pub row_replaced : op_in (codes "[{\"p\":[1],\"ld\":9,\"li\":\"q\"}]")
+    ≡ Some (record { path = []; act = lr 1 (whole (pos 9)) (text (codes "q")) } ∷ [])
 unfolding serde_json_on_literals
 row_replaced = refl
 
@@ -42,6 +43,7 @@ pub row_mixed : op_in (codes "[{\"p\":[\"k\"],\"oi\":1,\"li\":2}]") ≡ None
 unfolding serde_json_on_literals
 row_mixed = refl
 
-pub row_printed : Some (op_data (record { path = key (codes "a") ∷ []; act = oi (codes "k") (whole (pos 1)) } ∷ [])) ≡ read (codes "[{\"oi\":1,\"p\":[\"a\",\"k\"]}]")
+pub row_printed : Some (op_data (record { path = key (codes "a") ∷ []; act = oi (codes "k") (whole (pos 1)) } ∷ []))
+    ≡ read (codes "[{\"oi\":1,\"p\":[\"a\",\"k\"]}]")
 unfolding serde_json_on_literals
 row_printed = refl

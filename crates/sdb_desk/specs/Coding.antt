@@ -14,5 +14,6 @@ fields_code = coded× submission_code (coded× (coded× coded_ℕ (coded_option 
 
 abbrev pub attempt_code : Coded PlainAttempt
 attempt_code =
-    code_by Fields fields_code (λ a. (a.submission, ((a.look.version, a.look.repeat), a.look.missed))) (λ p. record { submission = p.0; look = record { version = p.1.0.0; repeat = p.1.0.1; missed = p.1.1 } })
+    code_by Fields fields_code (λ a. (a.submission, ((a.look.version, a.look.repeat), a.look.missed)))
+    (λ p. record { submission = p.0; look = record { version = p.1.0.0; repeat = p.1.0.1; missed = p.1.1 } })
     (λ _. refl)

@@ -23,7 +23,8 @@ equal_texts xs ys e = (bytes_eq-Decides xs ys).0 (sym (is_eq-slice_cmp xs ys) �
 -- keys that compare equal are equal
 pub equal_keys : (a b : PlainKey) → same_key a b ≡ true → a ≡ b
 equal_keys a b e =
-    let h = both (is_eq (slice_cmp nat_cmp a.collection b.collection)) (is_eq (slice_cmp nat_cmp a.id b.id)) (sym (then_eq (slice_cmp nat_cmp a.collection b.collection) (slice_cmp nat_cmp a.id b.id)) ∙ e) in
+    let h = both (is_eq (slice_cmp nat_cmp a.collection b.collection)) (is_eq (slice_cmp nat_cmp a.id b.id))
+    (sym (then_eq (slice_cmp nat_cmp a.collection b.collection) (slice_cmp nat_cmp a.id b.id)) ∙ e) in
     let c : a.collection ≡ b.collection = equal_texts a.collection b.collection h.0 in
     let i : a.id ≡ b.id = equal_texts a.id b.id h.1 in
     λ j. record { collection = c j; id = i j }

@@ -33,13 +33,16 @@ look_at log s = record { version = length log; repeat = stored_at s.src s.seq lo
 
 -- the submission was decided, or memory was wanting and nothing has changed
 abbrev pub Decides : Logs → PlainKey → PlainSubmission → PlainReply → Logs → Type 0
-Decides logs k s r new = ((r ≡ refused E10) × (new ≡ logs)) ⊎ ((r ≡ (decide (logs k) s).reply) × (new ≡ with_log logs k (decide (logs k) s).log))
+Decides logs k s r new =
+    ((r ≡ refused E10) × (new ≡ logs))
+    ⊎ ((r ≡ (decide (logs k) s).reply) × (new ≡ with_log logs k (decide (logs k) s).log))
 
 -- a commit decides where the log is as long as it was looked at. Elsewhere it shows the log afresh and changes nothing
 abbrev pub Commits : Logs → PlainKey → PlainAttempt → PlainOutcome → Logs → Type 0
 Commits logs k a (decided r) new =
     ((r ≡ refused E10) × (new ≡ logs))
-    ⊎ ((length (logs k) ≡ a.look.version) × (r ≡ (decide (logs k) a.submission).reply) × (new ≡ with_log logs k (decide (logs k) a.submission).log))
+    ⊎ ((length (logs k) ≡ a.look.version) × (r ≡ (decide (logs k) a.submission).reply)
+    × (new ≡ with_log logs k (decide (logs k) a.submission).log))
 Commits logs k a (moved l) new = (length (logs k) ≢ a.look.version) × (l ≡ look_at (logs k) a.submission) × (new ≡ logs)
 
 -- a commit that doesn't decide leaves the work as it was
@@ -100,7 +103,11 @@ start_of log v = if nat_lt (length log) (unwrap_or v (length log)) then Err E4 e
 
 abbrev pub opening : List PlainEntry → ℕ → PlainQueues → Result PlainQueues Code → Subscribing
 opening log v q (Err code) = record { answer = Err code; queues = q }
-opening log v q (Ok new) = record { answer = Ok (record { id = q.next; start = v; version = length log; snapshot = document log }); queues = new }
+opening log v q (Ok new) =
+    record {
+      answer = Ok (record { id = q.next; start = v; version = length log; snapshot = document log });
+      queues = new;
+    }
 
 abbrev pub subscribing_from : List PlainEntry → PlainQueues → Result ℕ Code → Subscribing
 subscribing_from log q (Err code) = record { answer = Err code; queues = q }
@@ -111,12 +118,14 @@ subscribing log v q = subscribing_from log q (start_of log v)
 
 -- a subscribe opens a queue, or memory was wanting and nothing has changed
 abbrev pub Subscribes : List PlainEntry → Option ℕ → PlainQueues → Result PlainSubscribed Code → PlainQueues → Type 0
-Subscribes log v q r new = ((r ≡ Err E10) × (new ≡ q)) ⊎ ((r ≡ (subscribing log v q).answer) × (new ≡ (subscribing log v q).queues))
+Subscribes log v q r new =
+    ((r ≡ Err E10) × (new ≡ q)) ⊎ ((r ≡ (subscribing log v q).answer) × (new ≡ (subscribing log v q).queues))
 
 -- a take gives what comes next of that queue and moves it, or memory was wanting (none) and nothing has changed
 abbrev pub Takes : List PlainEntry → ℕ → ℕ → PlainQueues → Option (Option (List PlainEntry)) → PlainQueues → Type 0
 Takes log n max q None new = new ≡ q
-Takes log n max q (Some r) new = (r ≡ taken_from log n max q.queues) × (new ≡ record { next = q.next; queues = after_take log n max q.queues })
+Takes log n max q (Some r) new =
+    (r ≡ taken_from log n max q.queues) × (new ≡ record { next = q.next; queues = after_take log n max q.queues })
 
 -- a queue is closed
 abbrev pub closed : ℕ → PlainQueues → PlainQueues

@@ -34,7 +34,8 @@ told_fetched (Ok f) = Ok (record { version = f.version; snapshot = option_map vi
 told_fetched (Err code) = Err code
 
 abbrev pub told_subscribed : Result Subscribed Code → Result PlainSubscribed Code
-told_subscribed (Ok s) = Ok (record { id = s.id; start = s.start; version = s.version; snapshot = option_map view s.snapshot })
+told_subscribed (Ok s) =
+    Ok (record { id = s.id; start = s.start; version = s.version; snapshot = option_map view s.snapshot })
 told_subscribed (Err code) = Err code
 
 abbrev pub told_taken : Result (Option (Vec PlainEntry Global)) AllocError → Option (Option (List PlainEntry))

@@ -35,16 +35,19 @@ abbrev Fields : Type 0
 Fields = (List ℕ × ℕ) × ((Option ℕ × PlainContent) × (List ℕ × ℕ))
 
 abbrev fields_code : Coded Fields
-fields_code = coded× (coded× text_code coded_ℕ) (coded× (coded× (coded_option coded_ℕ) content_code) (coded× text_code coded_ℕ))
+fields_code =
+    coded× (coded× text_code coded_ℕ) (coded× (coded× (coded_option coded_ℕ) content_code) (coded× text_code coded_ℕ))
 
 abbrev pub submission_code : Coded PlainSubmission
 submission_code =
-    code_by Fields fields_code (λ s. ((s.src, s.seq), ((s.version, s.content), (s.via, s.by)))) (λ p. record { src = p.0.0; seq = p.0.1; version = p.1.0.0; content = p.1.0.1; via = p.1.1.0; by = p.1.1.1 })
+    code_by Fields fields_code (λ s. ((s.src, s.seq), ((s.version, s.content), (s.via, s.by))))
+    (λ p. record { src = p.0.0; seq = p.0.1; version = p.1.0.0; content = p.1.0.1; via = p.1.1.0; by = p.1.1.1 })
     (λ _. refl)
 
 abbrev pub entry_code : Coded PlainEntry
 entry_code =
-    code_by (ℕ × (PlainContent × PlainSubmission)) (coded× coded_ℕ (coded× content_code submission_code)) (λ e. (e.version, (e.content, e.arrived))) (λ p. record { version = p.0; content = p.1.0; arrived = p.1.1 })
+    code_by (ℕ × (PlainContent × PlainSubmission)) (coded× coded_ℕ (coded× content_code submission_code))
+    (λ e. (e.version, (e.content, e.arrived))) (λ p. record { version = p.0; content = p.1.0; arrived = p.1.1 })
     (λ _. refl)
 
 abbrev pub log_code : Coded (List PlainEntry)
@@ -52,5 +55,6 @@ log_code = coded_list entry_code
 
 abbrev pub prepared_code : Coded PlainPrepared
 prepared_code =
-    code_by (List PlainEntry × PlainSubmission) (coded× log_code submission_code) (λ p. (p.log, p.submission)) (λ p. record { log = p.0; submission = p.1 })
+    code_by (List PlainEntry × PlainSubmission) (coded× log_code submission_code) (λ p. (p.log, p.submission))
+    (λ p. record { log = p.0; submission = p.1 })
     (λ _. refl)

@@ -44,7 +44,9 @@ store log s (Ok m) = record { reply = stored (length log) (missed log s); log = 
 
 -- case 1, a repeat, wherever in the log it was stored; or the others
 abbrev pub decide : List PlainEntry → PlainSubmission → Decided
-decide log s = option_map_or (λ i. record { reply = repeated i; log = log }) (stored_at s.src s.seq log) (store log s (settled log s))
+decide log s =
+    option_map_or (λ i. record { reply = repeated i; log = log }) (stored_at s.src s.seq log)
+    (store log s (settled log s))
 
 -- a log is made where each entry is the one that `decide` stores for its submission on those before it
 abbrev pub MadeFrom : List PlainEntry → List PlainEntry → Type 0

@@ -37,15 +37,18 @@ then_some : {A : Type 0} (o : Option A) → option_and_then (λ n. Some n) o ≡
 then_some None = refl
 then_some (Some x) = refl
 
-snap_step : (o : Option (Option Value)) (es : List PlainEntry) (e : PlainEntry) (m : Option Value) → option_and_then (λ n. snap_from n es) o ≡ Some m
+snap_step : (o : Option (Option Value)) (es : List PlainEntry) (e : PlainEntry) (m : Option Value)
+    → option_and_then (λ n. snap_from n es) o ≡ Some m
     → ((n : Option Value) → snap_from n es ≡ Some m → snap_from n (es ++ e ∷ []) ≡ result_ok (becomes e.content m))
     → option_and_then (λ n. snap_from n (es ++ e ∷ [])) o ≡ result_ok (becomes e.content m)
 snap_step None es e m h below = cc
 snap_step (Some n) es e m h below = below n h
 
 -- the document after one more entry
-pub snap_one : (es : List PlainEntry) (e : PlainEntry) (d m : Option Value) → snap_from d es ≡ Some m → snap_from d (es ++ e ∷ []) ≡ result_ok (becomes e.content m)
-snap_one [] e d m h = let s : d ≡ m = cc in then_some (result_ok (becomes e.content d)) ∙ ap (λ n. result_ok (becomes e.content n)) s
+pub snap_one : (es : List PlainEntry) (e : PlainEntry) (d m : Option Value) → snap_from d es ≡ Some m
+    → snap_from d (es ++ e ∷ []) ≡ result_ok (becomes e.content m)
+snap_one [] e d m h =
+    let s : d ≡ m = cc in then_some (result_ok (becomes e.content d)) ∙ ap (λ n. result_ok (becomes e.content n)) s
 snap_one (x ∷ es) e d m h = snap_step (result_ok (becomes x.content d)) es e m h (λ n k. snap_one es e n m k)
 
 is_document : (o : Option (Option Value)) → is_some o ≡ true → o ≡ Some (unwrap_or o None)
@@ -57,58 +60,87 @@ pub document_is : (log : List PlainEntry) (d : Option Value) → snap log ≡ So
 document_is log d h = ap (λ o. unwrap_or o None) h
 
 -- the document after what is stored
-pub stored_makes : (log : List PlainEntry) (e : PlainEntry) (d n : Option Value) → snap log ≡ Some d → becomes e.content d ≡ Ok n → snap (log ++ e ∷ []) ≡ Some n
+pub stored_makes : (log : List PlainEntry) (e : PlainEntry) (d n : Option Value) → snap log ≡ Some d
+    → becomes e.content d ≡ Ok n → snap (log ++ e ∷ []) ≡ Some n
 stored_makes log e d n lives makes = snap_one log e None d lives ∙ ap result_ok makes
 
 -- ---- one submission, by its cases
 
-by_first : (log : List PlainEntry) (s : PlainSubmission) (o : Option ℕ) → stored_at s.src s.seq log ≡ o → decide log s ≡ option_map_or (λ i. record { reply = repeated i; log = log }) o (store log s (settled log s))
-by_first log s o e = ap (λ p. option_map_or (λ i. record { reply = repeated i; log = log }) p (store log s (settled log s))) e
+by_first : (log : List PlainEntry) (s : PlainSubmission) (o : Option ℕ) → stored_at s.src s.seq log ≡ o
+    → decide log s ≡ option_map_or (λ i. record { reply = repeated i; log = log }) o (store log s (settled log s))
+by_first log s o e =
+    ap (λ p. option_map_or (λ i. record { reply = repeated i; log = log }) p (store log s (settled log s))) e
 
-pub decides_repeat : (log : List PlainEntry) (s : PlainSubmission) (i : ℕ) → stored_at s.src s.seq log ≡ Some i → decide log s ≡ record { reply = repeated i; log = log }
+pub decides_repeat : (log : List PlainEntry) (s : PlainSubmission) (i : ℕ) → stored_at s.src s.seq log ≡ Some i
+    → decide log s ≡ record { reply = repeated i; log = log }
 decides_repeat log s i e = by_first log s (Some i) e
 
-pub decides_settled : (log : List PlainEntry) (s : PlainSubmission) (r : Result PlainContent Code) → stored_at s.src s.seq log ≡ None → settled log s ≡ r → decide log s ≡ store log s r
+pub decides_settled : (log : List PlainEntry) (s : PlainSubmission) (r : Result PlainContent Code)
+    → stored_at s.src s.seq log ≡ None → settled log s ≡ r → decide log s ≡ store log s r
 decides_settled log s r first e = by_first log s None first ∙ ap (store log s) e
 
 settled_full : (log : List PlainEntry) (s : PlainSubmission) → length log ≡ 9007199254740991 → settled log s ≡ Err E11
 settled_full log s h =
     let full : nat_eq (length log) 9007199254740991 ≡ true = grind (arith, nat_tests) in
-    ap (λ b. cond b (Err E11) (cond (nat_lt (length log) (since log s)) (Err E4) (result_then (λ m. result_then (λ d. Ok m) (becomes m (document log))) (over_all s.content (missed log s))))) full
+    ap (λ b. cond b (Err E11)
+    (cond (nat_lt (length log) (since log s)) (Err E4)
+    (result_then (λ m. result_then (λ d. Ok m) (becomes m (document log)))
+    (over_all s.content (missed log s))))) full
 
-pub decides_full : (log : List PlainEntry) (s : PlainSubmission) → stored_at s.src s.seq log ≡ None → length log ≡ 9007199254740991 → decide log s ≡ record { reply = refused E11; log = log }
+pub decides_full : (log : List PlainEntry) (s : PlainSubmission) → stored_at s.src s.seq log ≡ None
+    → length log ≡ 9007199254740991 → decide log s ≡ record { reply = refused E11; log = log }
 decides_full log s first h = decides_settled log s (Err E11) first (settled_full log s h)
 
 has_room : (log : List PlainEntry) (s : PlainSubmission) → length log < 9007199254740991
-    → settled log s ≡ cond (nat_lt (length log) (since log s)) (Err E4) (result_then (λ m. result_then (λ d. Ok m) (becomes m (document log))) (over_all s.content (missed log s)))
+    → settled log s
+    ≡ cond (nat_lt (length log) (since log s)) (Err E4)
+    (result_then (λ m. result_then (λ d. Ok m) (becomes m (document log))) (over_all s.content (missed log s)))
 has_room log s h =
     let room : nat_eq (length log) 9007199254740991 ≡ false = grind (arith, nat_tests) in
-    ap (λ b. cond b (Err E11) (cond (nat_lt (length log) (since log s)) (Err E4) (result_then (λ m. result_then (λ d. Ok m) (becomes m (document log))) (over_all s.content (missed log s))))) room
+    ap (λ b. cond b (Err E11)
+    (cond (nat_lt (length log) (since log s)) (Err E4)
+    (result_then (λ m. result_then (λ d. Ok m) (becomes m (document log)))
+    (over_all s.content (missed log s))))) room
 
-pub decides_newer : (log : List PlainEntry) (s : PlainSubmission) → stored_at s.src s.seq log ≡ None → length log < 9007199254740991 → length log < since log s → decide log s ≡ record { reply = refused E4; log = log }
+pub decides_newer : (log : List PlainEntry) (s : PlainSubmission) → stored_at s.src s.seq log ≡ None
+    → length log < 9007199254740991 → length log < since log s → decide log s ≡ record { reply = refused E4; log = log }
 decides_newer log s first room h =
     let newer : nat_lt (length log) (since log s) ≡ true = grind (arith, nat_tests) in
-    decides_settled log s (Err E4) first (has_room log s room ∙ ap (λ b. cond b (Err E4) (result_then (λ m. result_then (λ d. Ok m) (becomes m (document log))) (over_all s.content (missed log s)))) newer)
+    decides_settled log s (Err E4) first
+    (has_room log s room
+    ∙ ap (λ b. cond b (Err E4)
+    (result_then (λ m. result_then (λ d. Ok m) (becomes m (document log)))
+    (over_all s.content (missed log s)))) newer)
 
-is_seen : (log : List PlainEntry) (s : PlainSubmission) (r : Result PlainContent Code) → length log < 9007199254740991 → since log s ≤ length log → over_all s.content (missed log s) ≡ r
+is_seen : (log : List PlainEntry) (s : PlainSubmission) (r : Result PlainContent Code) → length log < 9007199254740991
+    → since log s ≤ length log → over_all s.content (missed log s) ≡ r
     → settled log s ≡ result_then (λ m. result_then (λ d. Ok m) (becomes m (document log))) r
 is_seen log s r room h e =
     let seen : nat_lt (length log) (since log s) ≡ false = grind (arith, nat_tests) in
     has_room log s room
-    ∙ ap (λ b. cond b (Err E4) (result_then (λ m. result_then (λ d. Ok m) (becomes m (document log))) (over_all s.content (missed log s)))) seen
+    ∙ ap (λ b. cond b (Err E4)
+    (result_then (λ m. result_then (λ d. Ok m) (becomes m (document log)))
+    (over_all s.content (missed log s)))) seen
     ∙ ap (result_then (λ m. result_then (λ d. Ok m) (becomes m (document log)))) e
 
-pub decides_over : (log : List PlainEntry) (s : PlainSubmission) (c : Code) → stored_at s.src s.seq log ≡ None → length log < 9007199254740991 → since log s ≤ length log → over_all s.content (missed log s) ≡ Err c
+pub decides_over : (log : List PlainEntry) (s : PlainSubmission) (c : Code) → stored_at s.src s.seq log ≡ None
+    → length log < 9007199254740991 → since log s ≤ length log → over_all s.content (missed log s) ≡ Err c
     → decide log s ≡ record { reply = refused c; log = log }
 decides_over log s c first room seen e = decides_settled log s (Err c) first (is_seen log s (Err c) room seen e)
 
-pub decides_refused : (log : List PlainEntry) (s : PlainSubmission) (m : PlainContent) (c : Code) → stored_at s.src s.seq log ≡ None → length log < 9007199254740991 → since log s ≤ length log
-    → over_all s.content (missed log s) ≡ Ok m → becomes m (document log) ≡ Err c → decide log s ≡ record { reply = refused c; log = log }
-decides_refused log s m c first room seen e isnt = decides_settled log s (Err c) first (is_seen log s (Ok m) room seen e ∙ ap (result_then (λ d. Ok m)) isnt)
+pub decides_refused : (log : List PlainEntry) (s : PlainSubmission) (m : PlainContent) (c : Code)
+    → stored_at s.src s.seq log ≡ None → length log < 9007199254740991 → since log s ≤ length log
+    → over_all s.content (missed log s) ≡ Ok m → becomes m (document log) ≡ Err c
+    → decide log s ≡ record { reply = refused c; log = log }
+decides_refused log s m c first room seen e isnt =
+    decides_settled log s (Err c) first (is_seen log s (Ok m) room seen e ∙ ap (result_then (λ d. Ok m)) isnt)
 
-pub decides_stored : (log : List PlainEntry) (s : PlainSubmission) (m : PlainContent) (d : Option Value) → stored_at s.src s.seq log ≡ None → length log < 9007199254740991 → since log s ≤ length log
-    → over_all s.content (missed log s) ≡ Ok m → becomes m (document log) ≡ Ok d → decide log s ≡ record { reply = stored (length log) (missed log s); log = log ++ entry_of log s m ∷ [] }
-decides_stored log s m d first room seen e is = decides_settled log s (Ok m) first (is_seen log s (Ok m) room seen e ∙ ap (result_then (λ d. Ok m)) is)
+pub decides_stored : (log : List PlainEntry) (s : PlainSubmission) (m : PlainContent) (d : Option Value)
+    → stored_at s.src s.seq log ≡ None → length log < 9007199254740991 → since log s ≤ length log
+    → over_all s.content (missed log s) ≡ Ok m → becomes m (document log) ≡ Ok d
+    → decide log s ≡ record { reply = stored (length log) (missed log s); log = log ++ entry_of log s m ∷ [] }
+decides_stored log s m d first room seen e is =
+    decides_settled log s (Ok m) first (is_seen log s (Ok m) room seen e ∙ ap (result_then (λ d. Ok m)) is)
 
 -- ---- logs that are made
 
@@ -116,44 +148,59 @@ append_none : (es : List PlainEntry) → es ++ [] ≡ es
 append_none [] = refl
 append_none (e ∷ es) = ap (λ l. e ∷ l) (append_none es)
 
-made_more : (before es : List PlainEntry) (e : PlainEntry) → MadeFrom before es → (decide (before ++ es) e.arrived).log ≡ (before ++ es) ++ e ∷ [] → MadeFrom before (es ++ e ∷ [])
-made_more before [] e h k = let P : List PlainEntry → Type 0 = λ l. (decide l e.arrived).log ≡ l ++ e ∷ [] in (subst P (append_none before) k, tt)
-made_more before (x ∷ es) e h k = let P : List PlainEntry → Type 0 = λ l. (decide l e.arrived).log ≡ l ++ e ∷ [] in (h.0, made_more (before ++ x ∷ []) es e h.1 (subst P (sym (append_assoc before (x ∷ []) es)) k))
+made_more : (before es : List PlainEntry) (e : PlainEntry) → MadeFrom before es
+    → (decide (before ++ es) e.arrived).log ≡ (before ++ es) ++ e ∷ [] → MadeFrom before (es ++ e ∷ [])
+made_more before [] e h k =
+    let P : List PlainEntry → Type 0 = λ l. (decide l e.arrived).log ≡ l ++ e ∷ [] in
+    (subst P (append_none before) k, tt)
+made_more before (x ∷ es) e h k =
+    let P : List PlainEntry → Type 0 = λ l. (decide l e.arrived).log ≡ l ++ e ∷ [] in
+    (h.0, made_more (before ++ x ∷ []) es e h.1 (subst P (sym (append_assoc before (x ∷ []) es)) k))
 
-made_store : (log : List PlainEntry) (s : PlainSubmission) (r : Result PlainContent Code) → IsMade log → decide log s ≡ store log s r → IsMade (store log s r).log
+made_store : (log : List PlainEntry) (s : PlainSubmission) (r : Result PlainContent Code) → IsMade log
+    → decide log s ≡ store log s r → IsMade (store log s r).log
 made_store log s (Err c) h e = h
 made_store log s (Ok m) h e = made_more [] log (entry_of log s m) h (ap (λ d. d.log) e)
 
-made_by : (log : List PlainEntry) (s : PlainSubmission) (o : Option ℕ) → IsMade log → stored_at s.src s.seq log ≡ o → IsMade (option_map_or (λ i. record { reply = repeated i; log = log }) o (store log s (settled log s))).log
+made_by : (log : List PlainEntry) (s : PlainSubmission) (o : Option ℕ) → IsMade log → stored_at s.src s.seq log ≡ o
+    → IsMade (option_map_or (λ i. record { reply = repeated i; log = log }) o (store log s (settled log s))).log
 made_by log s (Some i) h e = h
-made_by log s None h e = made_store log s (settled log s) h (ap (λ o. option_map_or (λ i. record { reply = repeated i; log = log }) o (store log s (settled log s))) e)
+made_by log s None h e =
+    made_store log s (settled log s) h
+    (ap (λ o. option_map_or (λ i. record { reply = repeated i; log = log }) o (store log s (settled log s))) e)
 
 -- a decision keeps a log made
 pub made_decided : (log : List PlainEntry) (s : PlainSubmission) → IsMade log → IsMade (decide log s).log
 made_decided log s h = made_by log s (stored_at s.src s.seq log) h refl
 
 -- what is stored stays in front of what is stored later
-grown : (log : List PlainEntry) (s : PlainSubmission) (r : Result PlainContent Code) → (rest : List PlainEntry) × ((store log s r).log ≡ log ++ rest)
+grown : (log : List PlainEntry) (s : PlainSubmission) (r : Result PlainContent Code)
+    → (rest : List PlainEntry) × ((store log s r).log ≡ log ++ rest)
 grown log s (Err c) = ([], sym (append_none log))
 grown log s (Ok m) = (entry_of log s m ∷ [], refl)
 
-grown_by : (log : List PlainEntry) (s : PlainSubmission) (o : Option ℕ) → stored_at s.src s.seq log ≡ o → (rest : List PlainEntry) × ((decide log s).log ≡ log ++ rest)
+grown_by : (log : List PlainEntry) (s : PlainSubmission) (o : Option ℕ) → stored_at s.src s.seq log ≡ o
+    → (rest : List PlainEntry) × ((decide log s).log ≡ log ++ rest)
 grown_by log s (Some i) e = ([], ap (λ d. d.log) (decides_repeat log s i e) ∙ sym (append_none log))
-grown_by log s None e = let g = grown log s (settled log s) in (g.0, ap (λ d. d.log) (decides_settled log s (settled log s) e refl) ∙ g.1)
+grown_by log s None e =
+    let g = grown log s (settled log s) in (g.0, ap (λ d. d.log) (decides_settled log s (settled log s) e refl) ∙ g.1)
 
 -- a decision adds to a log, or leaves it
-pub decide_grows : (log : List PlainEntry) (s : PlainSubmission) → (rest : List PlainEntry) × ((decide log s).log ≡ log ++ rest)
+pub decide_grows : (log : List PlainEntry) (s : PlainSubmission)
+    → (rest : List PlainEntry) × ((decide log s).log ≡ log ++ rest)
 decide_grows log s = grown_by log s (stored_at s.src s.seq log) refl
 
 -- ---- along stored entries
 
-over_then : (xs ys : List PlainEntry) (r : Result PlainContent Code) → ((k : PlainContent) → over_all k (xs ++ ys) ≡ result_then (λ m. over_all m ys) (over_all k xs))
+over_then : (xs ys : List PlainEntry) (r : Result PlainContent Code)
+    → ((k : PlainContent) → over_all k (xs ++ ys) ≡ result_then (λ m. over_all m ys) (over_all k xs))
     → result_then (λ k. over_all k (xs ++ ys)) r ≡ result_then (λ m. over_all m ys) (result_then (λ k. over_all k xs) r)
 over_then xs ys (Ok k) h = h k
 over_then xs ys (Err e) h = refl
 
 -- along two lists is along the one and then along the other
-pub over_more : (xs ys : List PlainEntry) (m : PlainContent) → over_all m (xs ++ ys) ≡ result_then (λ k. over_all k ys) (over_all m xs)
+pub over_more : (xs ys : List PlainEntry) (m : PlainContent)
+    → over_all m (xs ++ ys) ≡ result_then (λ k. over_all k ys) (over_all m xs)
 over_more [] ys m = refl
 over_more (x ∷ xs) ys m = over_then xs ys (over m x.content) (λ k. over_more xs ys k)
 
@@ -162,10 +209,12 @@ over_more (x ∷ xs) ys m = over_then xs ys (over m x.content) (λ k. over_more 
 abbrev Never : {A : Type 0} → Result A Code → Type 0
 Never r = r ≡ Err E10 → ⊥
 
-same_code : {A B : Type 0} (e : Code) → ◌≡◌ {A = Result A Code} (Err e) (Err E10) → ◌≡◌ {A = Result B Code} (Err e) (Err E10)
+same_code : {A B : Type 0} (e : Code) → ◌≡◌ {A = Result A Code} (Err e) (Err E10)
+    → ◌≡◌ {A = Result B Code} (Err e) (Err E10)
 same_code e h = let s : e ≡ E10 = cc in ap Err s
 
-never_then : {A B : Type 0} (r : Result A Code) (f : A → Result B Code) → Never r → ((x : A) → Never (f x)) → Never (result_then f r)
+never_then : {A B : Type 0} (r : Result A Code) (f : A → Result B Code) → Never r → ((x : A) → Never (f x))
+    → Never (result_then f r)
 never_then (Ok x) f a b h = b x h
 never_then (Err e) f a b h = a (same_code e h)
 
@@ -186,14 +235,16 @@ never_over (edit op) (edit other) h = never_edit (carried Left op other) edit h
 
 never_over_all : (es : List PlainEntry) (m : PlainContent) → Never (over_all m es)
 never_over_all [] m h = cc
-never_over_all (e ∷ es) m h = never_then (over m e.content) (λ k. over_all k es) (never_over m e.content) (λ k. never_over_all es k) h
+never_over_all (e ∷ es) m h =
+    never_then (over m e.content) (λ k. over_all k es) (never_over m e.content) (λ k. never_over_all es k) h
 
 never_becomes : (m : PlainContent) (d : Option Value) → Never (becomes m d)
 never_becomes (create v) None h = cc
 never_becomes (create v) (Some d) h = cc
 never_becomes delete d h = cc
 never_becomes (edit op) None h = cc
-never_becomes (edit op) (Some d) h = never_then (edited op d) (λ e. Ok (Some e)) (never_edit (applies op d) (λ e. e)) (λ e k. cc) h
+never_becomes (edit op) (Some d) h =
+    never_then (edited op d) (λ e. Ok (Some e)) (never_edit (applies op d) (λ e. e)) (λ e k. cc) h
 
 never_cond : {A : Type 0} (a b : Bool) (r : Result A Code) → Never r → Never (cond a (Err E11) (cond b (Err E4) r))
 never_cond true b r n h = cc
@@ -202,17 +253,24 @@ never_cond false false r n h = n h
 
 never_settled : (log : List PlainEntry) (s : PlainSubmission) → Never (settled log s)
 never_settled log s =
-    never_cond (nat_eq (length log) 9007199254740991) (nat_lt (length log) (since log s)) (result_then (λ m. result_then (λ d. Ok m) (becomes m (document log))) (over_all s.content (missed log s)))
-    (never_then (over_all s.content (missed log s)) (λ m. result_then (λ d. Ok m) (becomes m (document log))) (never_over_all (missed log s) s.content)
+    never_cond (nat_eq (length log) 9007199254740991) (nat_lt (length log) (since log s))
+    (result_then (λ m. result_then (λ d. Ok m) (becomes m (document log))) (over_all s.content (missed log s)))
+    (never_then (over_all s.content (missed log s)) (λ m. result_then (λ d. Ok m) (becomes m (document log)))
+    (never_over_all (missed log s) s.content)
     (λ m. never_then (becomes m (document log)) (λ d. Ok m) (never_becomes m (document log)) (λ d k. cc)))
 
-never_stored : (log : List PlainEntry) (s : PlainSubmission) (r : Result PlainContent Code) → Never r → (store log s r).reply ≡ refused E10 → ⊥
+never_stored : (log : List PlainEntry) (s : PlainSubmission) (r : Result PlainContent Code) → Never r
+    → (store log s r).reply ≡ refused E10 → ⊥
 never_stored log s (Ok m) n h = cc
 never_stored log s (Err e) n h = n (let c : e ≡ E10 = cc in ap Err c)
 
-never_first : (log : List PlainEntry) (s : PlainSubmission) (o : Option ℕ) → stored_at s.src s.seq log ≡ o → (decide log s).reply ≡ refused E10 → ⊥
-never_first log s (Some i) e h = let c : repeated i ≡ refused E10 = sym (ap (λ d. d.reply) (decides_repeat log s i e)) ∙ h in cc
-never_first log s None e h = never_stored log s (settled log s) (never_settled log s) (sym (ap (λ d. d.reply) (decides_settled log s (settled log s) e refl)) ∙ h)
+never_first : (log : List PlainEntry) (s : PlainSubmission) (o : Option ℕ) → stored_at s.src s.seq log ≡ o
+    → (decide log s).reply ≡ refused E10 → ⊥
+never_first log s (Some i) e h =
+    let c : repeated i ≡ refused E10 = sym (ap (λ d. d.reply) (decides_repeat log s i e)) ∙ h in cc
+never_first log s None e h =
+    never_stored log s (settled log s) (never_settled log s)
+    (sym (ap (λ d. d.reply) (decides_settled log s (settled log s) e refl)) ∙ h)
 
 -- a decision is never want of memory
 pub decides_never_wanting : (log : List PlainEntry) (s : PlainSubmission) → (decide log s).reply ≡ refused E10 → ⊥

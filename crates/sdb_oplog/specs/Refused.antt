@@ -1,4 +1,5 @@
--- Results that may be refused by a code. No definition here ever refuses by E10: it is what a call answers for want of memory.
+-- Results that may be refused by a code. No definition here ever refuses by E10: it is what a call answers for want of
+-- memory.
 use Rattle.std.specs.Prelude.{◌≡◌, Result, Ok, Err, ⊤}
 use Rattle.sdb_oplog.specs.declared.codes.Code.{Code}
 use Rattle.sdb_oplog.specs.declared.codes.Code.TheVariants.{E10}

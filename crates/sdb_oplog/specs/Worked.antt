@@ -76,6 +76,7 @@ made = (decide [] (from (codes "x") 1 None (create (list (item (text (codes "x")
 abbrev met : List PlainEntry
 met = (decide made (insert_in (codes "y") 1 (codes "A"))).log
 
-pub row_left : document (decide met (insert_in (codes "z") 1 (codes "B"))).log ≡ Some (list (item (text (codes "B")) (item (text (codes "A")) (item (text (codes "x")) no_items))))
+pub row_left : document (decide met (insert_in (codes "z") 1 (codes "B"))).log
+    ≡ Some (list (item (text (codes "B")) (item (text (codes "A")) (item (text (codes "x")) no_items))))
 unfolding cross cross_in
 row_left = refl

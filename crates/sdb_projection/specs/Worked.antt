@@ -38,7 +38,8 @@ renames = record { path = []; act = oi (codes "title") (text (codes "c")) }
 pub row_op : proj_op title (counts ∷ types ∷ renames ∷ []) ≡ types ∷ renames ∷ []
 row_op = refl
 
-pub row_applied : applies (counts ∷ types ∷ []) (of_two (whole (pos 1)) (text (codes "a"))) ≡ Some (of_two (whole (pos 2)) (text (codes "ab")))
+pub row_applied : applies (counts ∷ types ∷ []) (of_two (whole (pos 1)) (text (codes "a")))
+    ≡ Some (of_two (whole (pos 2)) (text (codes "ab")))
 row_applied = refl
 
 pub row_shown : applies (types ∷ []) (of_title (text (codes "a"))) ≡ Some (of_title (text (codes "ab")))

@@ -7,8 +7,10 @@ use Rattle.sdb_server.specs.Source.{own_source}
 
 -- known bytes grew by the opening text and the answers to all these lines, by `Dialogue`
 abbrev pub Wrote : List PlainProjection → List (Option (List ℕ)) → Option (List ℕ) → Option (List ℕ) → Type 0
-Wrote table lines old new = (last : Room) × Answers (Dialogue table) (first_room own_source) lines last (opening own_source) old new
+Wrote table lines old new =
+    (last : Room) × Answers (Dialogue table) (first_room own_source) lines last (opening own_source) old new
 
 -- known bytes grew by a front of that
 abbrev pub WroteFront : List PlainProjection → List (Option (List ℕ)) → Option (List ℕ) → Option (List ℕ) → Type 0
-WroteFront table lines old new = AnswersFront (Dialogue table) (first_room own_source) lines (opening own_source) old new
+WroteFront table lines old new =
+    AnswersFront (Dialogue table) (first_room own_source) lines (opening own_source) old new

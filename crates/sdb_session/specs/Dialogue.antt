@@ -1,4 +1,5 @@
--- What one session says to its lines where it is alone with the machine: `Dialogue`. Each message is answered in one step.
+-- What one session says to its lines where it is alone with the machine: `Dialogue`. Each message is answered in one
+-- step.
 use Rattle.std.specs.Prelude.{◌≡◌, ℕ, List, [], ◌∷◌, ◌++◌, if◌then◌else◌, Bool, true, false, Option, Some, None, unwrap_or, Result, Ok, Err}
 use Rattle.sdb_oplog.specs.declared.codes.Code.{Code}
 use Rattle.sdb_oplog.specs.declared.codes.Code.TheVariants.{E1, E9, E10, E11}
@@ -52,7 +53,12 @@ next_of m q max = unwrap_or (taken_from (m.logs q.base) q.id max (m.queues q.bas
 
 abbrev pub after_next : Machine → QueueId → ℕ → Machine
 after_next m q max =
-    with_machine_queues m (with_queues m.queues q.base (record { next = (m.queues q.base).next; queues = after_take (m.logs q.base) q.id max (m.queues q.base).queues }))
+    with_machine_queues m
+    (with_queues m.queues q.base
+    (record {
+      next = (m.queues q.base).next;
+      queues = after_take (m.logs q.base) q.id max (m.queues q.base).queues;
+    }))
 
 -- the queue is closed, if there is one
 abbrev pub closed_machine : Option QueueId → Machine → Machine
@@ -66,13 +72,18 @@ read_at log None = Ok (fetched log)
 read_at log (Some v) = operations log v
 
 abbrev pub decided_at : Bool → Machine → PlainKey → PlainSubmission → (PlainReply × Machine)
-decided_at true m b s = ((decide (m.logs b) s).reply, record { logs = with_log m.logs b (decide (m.logs b) s).log; queues = m.queues })
+decided_at true m b s =
+    ((decide (m.logs b) s).reply, record { logs = with_log m.logs b (decide (m.logs b) s).log; queues = m.queues })
 decided_at false m b s = (refused E9, m)
 
 -- the queue is opened, its entries up to the present version are taken, and the old queue of the pair is closed
-abbrev pub joined_at : Machine → PlainKey → Option ℕ → Option QueueId → Result PlainSubscribed Code → (Result PlainJoined Code × Machine)
+abbrev pub joined_at : Machine → PlainKey → Option ℕ → Option QueueId → Result PlainSubscribed Code
+    → (Result PlainJoined Code × Machine)
 joined_at m b v old (Ok o) = (
-  Ok (record { opened = o; first = next_of (opened_machine m b v) (record { base = b; id = o.id }) (behind v o.version) }),
+  Ok (record {
+    opened = o;
+    first = next_of (opened_machine m b v) (record { base = b; id = o.id }) (behind v o.version);
+  }),
   closed_machine old (after_next (opened_machine m b v) (record { base = b; id = o.id }) (behind v o.version)),
 )
 joined_at m b v old (Err code) = (Err code, m)
@@ -90,9 +101,11 @@ subscribed_at false m b v old = joined_at m b v old (opening_at m b v).answer
 abbrev pub replied : List PlainProjection → Room → (r : PlainRequest) → (ReplyTo r × Machine)
 replied t m (hello n) = (tt, m.machine)
 replied t m (fetch k v) = (read_at (m.machine.logs (base_in t k)) v, m.machine)
-replied t m (submit k v n src c) = decided_at (permits (through t k) c) m.machine (base_in t k) (submission_of m.session k v n src c 0)
+replied t m (submit k v n src c) =
+    decided_at (permits (through t k) c) m.machine (base_in t k) (submission_of m.session k v n src c 0)
 replied t m (snapshot k v n) = (snapshot_at (m.machine.logs (base_in t k)) v, m.machine)
-replied t m (subscribe k v) = subscribed_at (is_full k m.session.subs) m.machine (base_in t k) v (queue_of k m.session.subs)
+replied t m (subscribe k v) =
+    subscribed_at (is_full k m.session.subs) m.machine (base_in t k) v (queue_of k m.session.subs)
 replied t m (unsubscribe k) = (tt, closed_machine (queue_of k m.session.subs) m.machine)
 
 abbrev pub said_by : Turn → Machine → Said
@@ -104,7 +117,9 @@ answered t e m r = said_by (turn e t m.session r (replied t m r).0) (replied t m
 
 -- the machine after a message that found no memory when its queue was open
 abbrev pub late_machine : List PlainProjection → Machine → PlainRequest → Machine
-late_machine t m (subscribe k v) = closed_machine (Some (record { base = base_in t k; id = (m.queues (base_in t k)).next })) (opened_machine m (base_in t k) v)
+late_machine t m (subscribe k v) =
+    closed_machine (Some (record { base = base_in t k; id = (m.queues (base_in t k)).next }))
+    (opened_machine m (base_in t k) v)
 late_machine t m r = m
 
 -- a message that found none is answered E10
@@ -133,7 +148,8 @@ most_taken = 64
 
 abbrev pub takings : List PlainSub → Machine → List PlainTaking
 takings [] m = []
-takings (s ∷ subs) m = record { sub = s; entries = next_of m s.queue most_taken } ∷ takings subs (after_next m s.queue most_taken)
+takings (s ∷ subs) m =
+    record { sub = s; entries = next_of m s.queue most_taken } ∷ takings subs (after_next m s.queue most_taken)
 
 abbrev pub after_takings : List PlainSub → Machine → Machine
 after_takings [] m = m
@@ -154,15 +170,19 @@ told t m w line = record {
   room = (pumped t (handled t m w line).room).room;
 }
 
--- `Dialogue`: a line is answered by these bytes, in this room, and leaves that one. None is a line that isn't UTF-8 or is
--- too long
+-- `Dialogue`: a line is answered by these bytes, in this room, and leaves that one. None is a line that isn't UTF-8 or
+-- is too long
 abbrev pub Dialogue : List PlainProjection → Room → Option (List ℕ) → List ℕ → Room → Type 0
 Dialogue t m line bytes new = (w : Mark) × (bytes ≡ shown (told t m w line).answers) × (new ≡ (told t m w line).room)
 
 -- ---- the beginning
 
 abbrev pub first_room : List ℕ → Room
-first_room source = record { machine = record { logs = no_logs; queues = λ k. no_queues }; session = record { source = source; subs = [] } }
+first_room source =
+    record {
+      machine = record { logs = no_logs; queues = λ k. no_queues };
+      session = record { source = source; subs = [] };
+    }
 
 abbrev pub opening : List ℕ → List ℕ
 opening source = shown (init source ∷ [])

@@ -25,16 +25,19 @@ use Rattle.sdb_session.specs.Dialogue.{Room, Said, Mark, enough, wanting, late, 
 
 -- ---- pieces
 
-pub pieces_append : {A : Type 0} (f : PlainAnswer → List A) (a b : List PlainAnswer) → pieces_of f (a ++ b) ≡ pieces_of f a ++ pieces_of f b
+pub pieces_append : {A : Type 0} (f : PlainAnswer → List A) (a b : List PlainAnswer)
+    → pieces_of f (a ++ b) ≡ pieces_of f a ++ pieces_of f b
 pieces_append f [] b = refl
-pieces_append f (x ∷ a) b = ap (λ l. f x ++ l) (pieces_append f a b) ∙ sym (append_assoc (f x) (pieces_of f a) (pieces_of f b))
+pieces_append f (x ∷ a) b =
+    ap (λ l. f x ++ l) (pieces_append f a b) ∙ sym (append_assoc (f x) (pieces_of f a) (pieces_of f b))
 
 -- ---- machines
 
 same_machine : (m n : Machine) → n.logs ≡ m.logs → n.queues ≡ m.queues → n ≡ m
 same_machine m n l q = λ i. record { logs = l i; queues = q i }
 
-same_room : (m n : Machine) (s t : PlainSession) → n ≡ m → t ≡ s → ◌≡◌ {A = Room} (record { machine = n; session = t }) (record { machine = m; session = s })
+same_room : (m n : Machine) (s t : PlainSession) → n ≡ m → t ≡ s
+    → ◌≡◌ {A = Room} (record { machine = n; session = t }) (record { machine = m; session = s })
 same_room m n s t a b = λ i. record { machine = a i; session = b i }
 
 cond_same : {A : Type 0} (b : Bool) (x : A) → cond b x x ≡ x
@@ -45,7 +48,8 @@ cond_over : {A : Type 0} (b : Bool) (x y z : A) → cond b x (cond b y z) ≡ co
 cond_over true x y z = refl
 cond_over false x y z = refl
 
-written_twice : (f : Queued) (k : PlainKey) (v w : PlainQueues) → with_queues (with_queues f k v) k w ≡ with_queues f k w
+written_twice : (f : Queued) (k : PlainKey) (v w : PlainQueues)
+    → with_queues (with_queues f k v) k w ≡ with_queues f k w
 written_twice f k v w = λ i q. cond_over (same_key k q) w v (f q) i
 
 -- what was written at a key is what stands there, by what stands there then
@@ -55,37 +59,51 @@ written f g k v others here = others ∙ ap (with_queues f k) here
 -- ---- queues of the machine
 
 -- a subscribe that gives a queue gives it the next number
-next_if : (b : Bool) (log : List PlainEntry) (v : ℕ) (q w : PlainQueues) (o : PlainSubscribed) → (opening_of log v q (cond b (Err E11) (Ok w))).answer ≡ Ok o → o.id ≡ q.next
+next_if : (b : Bool) (log : List PlainEntry) (v : ℕ) (q w : PlainQueues) (o : PlainSubscribed)
+    → (opening_of log v q (cond b (Err E11) (Ok w))).answer ≡ Ok o → o.id ≡ q.next
 next_if true log v q w o h = cc
-next_if false log v q w o h = let e : record { id = q.next; start = v; version = length log; snapshot = document log } ≡ o = cc in ap (λ x. x.id) (sym e)
+next_if false log v q w o h =
+    let e : record { id = q.next; start = v; version = length log; snapshot = document log } ≡ o = cc in
+    ap (λ x. x.id) (sym e)
 
-started_if : (b : Bool) (log : List PlainEntry) (v : ℕ) (q : PlainQueues) (o : PlainSubscribed) → (subscribing_from log q (cond b (Err E4) (Ok v))).answer ≡ Ok o → (opening_of log v q (opened v q)).answer ≡ Ok o
+started_if : (b : Bool) (log : List PlainEntry) (v : ℕ) (q : PlainQueues) (o : PlainSubscribed)
+    → (subscribing_from log q (cond b (Err E4) (Ok v))).answer ≡ Ok o → (opening_of log v q (opened v q)).answer ≡ Ok o
 started_if true log v q o h = cc
 started_if false log v q o h = h
 
-next_number : (log : List PlainEntry) (v : Option ℕ) (q : PlainQueues) (o : PlainSubscribed) → (subscribing log v q).answer ≡ Ok o → o.id ≡ q.next
+next_number : (log : List PlainEntry) (v : Option ℕ) (q : PlainQueues) (o : PlainSubscribed)
+    → (subscribing log v q).answer ≡ Ok o → o.id ≡ q.next
 next_number log v q o h =
     let n = unwrap_or v (length log) in
-    let w : PlainQueues = record { next = q.next + 1; queues = q.queues ++ (q.next, record { start = n; taken = 0 }) ∷ [] } in
+    let w : PlainQueues =
+    record { next = q.next + 1; queues = q.queues ++ (q.next, record { start = n; taken = 0 }) ∷ [] } in
     next_if (nat_eq q.next 18446744073709551615) log n q w o (started_if (nat_lt (length log) n) log n q o h)
 
 -- one that is refused leaves the queues
-open_keeps : (r : Result PlainQueues Code) (log : List PlainEntry) (v : ℕ) (q : PlainQueues) (code : Code) → (opening_of log v q r).answer ≡ Err code → (opening_of log v q r).queues ≡ q
+open_keeps : (r : Result PlainQueues Code) (log : List PlainEntry) (v : ℕ) (q : PlainQueues) (code : Code)
+    → (opening_of log v q r).answer ≡ Err code → (opening_of log v q r).queues ≡ q
 open_keeps (Ok w) log v q code h = cc
 open_keeps (Err c) log v q code h = refl
 
-start_keeps : (r : Result ℕ Code) (log : List PlainEntry) (q : PlainQueues) (code : Code) → (subscribing_from log q r).answer ≡ Err code → (subscribing_from log q r).queues ≡ q
+start_keeps : (r : Result ℕ Code) (log : List PlainEntry) (q : PlainQueues) (code : Code)
+    → (subscribing_from log q r).answer ≡ Err code → (subscribing_from log q r).queues ≡ q
 start_keeps (Ok v) log q code h = open_keeps (opened v q) log v q code h
 start_keeps (Err c) log q code h = refl
 
 abbrev Opens : Machine → PlainKey → Option ℕ → Result PlainSubscribed Code → Machine → Type 0
 Opens m b v r n = Acts m b (subscribe_call v) r n
 
-opens_ok : (m n : Machine) (b : PlainKey) (v : Option ℕ) (o : PlainSubscribed) → Opens m b v (Ok o) n → ((opening_at m b v).answer ≡ Ok o) × (n ≡ opened_machine m b v)
+opens_ok : (m n : Machine) (b : PlainKey) (v : Option ℕ) (o : PlainSubscribed) → Opens m b v (Ok o) n
+    → ((opening_at m b v).answer ≡ Ok o) × (n ≡ opened_machine m b v)
 opens_ok m n b v o (inl h, others, logs) = let x = h.0 in cc
-opens_ok m n b v o (inr h, others, logs) = (sym h.0, same_machine (opened_machine m b v) n logs (written m.queues n.queues b (opening_at m b v).queues others h.1))
+opens_ok m n b v o (inr h, others, logs) = (
+  sym h.0,
+  same_machine (opened_machine m b v) n logs
+      (written m.queues n.queues b (opening_at m b v).queues others h.1),
+)
 
-opens_err : (m n : Machine) (b : PlainKey) (v : Option ℕ) (code : Code) → Opens m b v (Err code) n → (((code ≡ E10) ⊎ ((opening_at m b v).answer ≡ Err code)) × (n ≡ m))
+opens_err : (m n : Machine) (b : PlainKey) (v : Option ℕ) (code : Code) → Opens m b v (Err code) n
+    → (((code ≡ E10) ⊎ ((opening_at m b v).answer ≡ Err code)) × (n ≡ m))
 opens_err m n b v code (inl h, others, logs) =
     let e : code ≡ E10 = (let x = h.0 in cc) in
     (inl e, same_machine m n logs (written m.queues n.queues b (m.queues b) others h.1 ∙ queues_kept m.queues b))
@@ -99,7 +117,8 @@ came_is None = refl
 came_is (Some es) = refl
 
 -- a take gives what comes next
-takes_some : (m n : Machine) (q : QueueId) (max : ℕ) (a : Option (Option (List PlainEntry))) (es : List PlainEntry) → Acts m q.base (take_next q.id max) a n → came a ≡ Some es → (es ≡ next_of m q max) × (n ≡ after_next m q max)
+takes_some : (m n : Machine) (q : QueueId) (max : ℕ) (a : Option (Option (List PlainEntry))) (es : List PlainEntry)
+    → Acts m q.base (take_next q.id max) a n → came a ≡ Some es → (es ≡ next_of m q max) × (n ≡ after_next m q max)
 takes_some m n q max None es h is = cc
 takes_some m n q max (Some r) es (h, others, logs) is =
     let due : next_of m q max ≡ unwrap_or r [] = ap (λ x. unwrap_or x []) (sym h.0) in
@@ -109,7 +128,8 @@ takes_some m n q max (Some r) es (h, others, logs) is =
 
 -- and nothing where memory is wanting
 takes_none : (m n : Machine) (b : PlainKey) (id max : ℕ) → Acts m b (take_next id max) None n → n ≡ m
-takes_none m n b id max (h, others, logs) = same_machine m n logs (written m.queues n.queues b (m.queues b) others h ∙ queues_kept m.queues b)
+takes_none m n b id max (h, others, logs) =
+    same_machine m n logs (written m.queues n.queues b (m.queues b) others h ∙ queues_kept m.queues b)
 
 closes_one : (m n : Machine) (q : QueueId) → Acts m q.base (unsubscribe_call q.id) tt n → n ≡ closed_machine (Some q) m
 closes_one m n q (h, logs) = same_machine (closed_machine (Some q) m) n logs h
@@ -139,35 +159,48 @@ module _ {P : Type 0} (machine : P → Machine) where
   abbrev pub IsSaid : Said → (List PlainAnswer → Type 0) → PlainSession → P → Type 0
   IsSaid x says new q = says x.answers × (room_at q new ≡ x.room)
 
-  abbrev Marks : List PlainProjection → PlainEcho → PlainRequest → PlainSession → P → (List PlainAnswer → Type 0) → PlainSession → P → Type 0
+  abbrev Marks : List PlainProjection → PlainEcho → PlainRequest → PlainSession → P → (List PlainAnswer → Type 0)
+      → PlainSession → P → Type 0
   Marks t e r s p says new q = (w : Mark) × IsSaid (marked t e (room_at p s) w r) says new q
 
-  module _ (t : List PlainProjection) (e : PlainEcho) (s : PlainSession) (p : P) (says : List PlainAnswer → Type 0) (new : PlainSession) (q : P) where
+  module _ (t : List PlainProjection) (e : PlainEcho) (s : PlainSession) (p : P) (says : List PlainAnswer → Type 0)
+      (new : PlainSession) (q : P) where
     -- a message that found no memory
-    wants : (r : PlainRequest) → takes_memory r ≡ true → machine q ≡ machine p → new ≡ s → says (failed e E10 ∷ []) → Marks t e r s p says new q
+    wants : (r : PlainRequest) → takes_memory r ≡ true → machine q ≡ machine p → new ≡ s → says (failed e E10 ∷ [])
+        → Marks t e r s p says new q
     wants r h same is said =
         let m = room_at p s in
         let x = failing e m m.machine in
         let y = answered t e m r in
-        let due : marked t e m wanting r ≡ x = ap (λ b. cond b x y) h in
-        (wanting, subst (λ (z : Said). IsSaid z says new q) (sym due) (said, same_room (machine p) (machine q) s new same is))
+        let due : marked t e m wanting r ≡ x = ap (λ b. cond b x y) h in (
+          wanting,
+          subst (λ (z : Said). IsSaid z says new q) (sym due)
+              (said, same_room (machine p) (machine q) s new same is),
+        )
 
-    lates : (r : PlainRequest) → takes_memory r ≡ true → machine q ≡ late_machine t (machine p) r → new ≡ s → says (failed e E10 ∷ []) → Marks t e r s p says new q
+    lates : (r : PlainRequest) → takes_memory r ≡ true → machine q ≡ late_machine t (machine p) r → new ≡ s
+        → says (failed e E10 ∷ []) → Marks t e r s p says new q
     lates r h same is said =
         let m = room_at p s in
         let x = failing e m (late_machine t m.machine r) in
         let y = answered t e m r in
-        let due : marked t e m late r ≡ x = ap (λ b. cond b x y) h in
-        (late, subst (λ (z : Said). IsSaid z says new q) (sym due) (said, same_room (late_machine t (machine p) r) (machine q) s new same is))
+        let due : marked t e m late r ≡ x = ap (λ b. cond b x y) h in (
+          late,
+          subst (λ (z : Said). IsSaid z says new q) (sym due)
+              (said, same_room (late_machine t (machine p) r) (machine q) s new same is),
+        )
 
     -- one that found enough: the reply is the machine's
-    replies : (r : PlainRequest) (reply : ReplyTo r) → reply ≡ (replied t (room_at p s) r).0 → machine q ≡ (replied t (room_at p s) r).1 → new ≡ (turn e t s r reply).session → says (turn e t s r reply).answers → Marks t e r s p says new q
+    replies : (r : PlainRequest) (reply : ReplyTo r) → reply ≡ (replied t (room_at p s) r).0
+        → machine q ≡ (replied t (room_at p s) r).1 → new ≡ (turn e t s r reply).session
+        → says (turn e t s r reply).answers → Marks t e r s p says new q
     replies r reply due after is said =
         let m = room_at p s in (
           enough,
           (
             subst (λ (x : ReplyTo r). says (turn e t s r x).answers) due said,
-            same_room (replied t m r).1 (machine q) (turn e t s r (replied t m r).0).session new after (is ∙ ap (λ (x : ReplyTo r). (turn e t s r x).session) due),
+            same_room (replied t m r).1 (machine q) (turn e t s r (replied t m r).0).session new after
+                (is ∙ ap (λ (x : ReplyTo r). (turn e t s r x).session) due),
           ),
         )
 
@@ -177,86 +210,132 @@ module _ {P : Type 0} (machine : P → Machine) where
     pass_same : q ≡ p → machine q ≡ machine p
     pass_same h = ap machine h
 
-    fetch_said : (k : PlainKey) (v : Option ℕ) (r : ReadOf v) → Fetches (MachineActs (base_in t k)) v p r q → new ≡ s → says (read_says e (through t k) k v r) → Marks t e (fetch k v) s p says new q
-    fetch_said k None r (inl h, (l, z)) is said = wants (fetch k None) refl (same_at l z) is (subst (λ (x : Result PlainFetched Code). says (found_says e (through t k) k x)) h said)
+    fetch_said : (k : PlainKey) (v : Option ℕ) (r : ReadOf v) → Fetches (MachineActs (base_in t k)) v p r q → new ≡ s
+        → says (read_says e (through t k) k v r) → Marks t e (fetch k v) s p says new q
+    fetch_said k None r (inl h, (l, z)) is said =
+        wants (fetch k None) refl (same_at l z) is
+        (subst (λ (x : Result PlainFetched Code). says (found_says e (through t k) k x)) h said)
     fetch_said k None r (inr h, (l, z)) is said = replies (fetch k None) r h (same_at l z) is said
-    fetch_said k (Some v) r (inl h, (l, z)) is said = wants (fetch k (Some v)) refl (same_at l z) is (subst (λ (x : Result (List PlainEntry) Code). says (listed_says e (through t k) k x)) h said)
+    fetch_said k (Some v) r (inl h, (l, z)) is said =
+        wants (fetch k (Some v)) refl (same_at l z) is
+        (subst (λ (x : Result (List PlainEntry) Code). says (listed_says e (through t k) k x)) h said)
     fetch_said k (Some v) r (inr h, (l, z)) is said = replies (fetch k (Some v)) r h (same_at l z) is said
 
-    snapshot_said : (k : PlainKey) (v : Option ℕ) (n : ℕ) (r : Result PlainFetched Code) → Acts (machine p) (base_in t k) (snapshot_call v) r (machine q) → new ≡ s → says (snapshot_says e (through t k) n r)
+    snapshot_said : (k : PlainKey) (v : Option ℕ) (n : ℕ) (r : Result PlainFetched Code)
+        → Acts (machine p) (base_in t k) (snapshot_call v) r (machine q) → new ≡ s
+        → says (snapshot_says e (through t k) n r)
         → Marks t e (snapshot k v n) s p says new q
-    snapshot_said k v n r (inl h, (l, z)) is said = wants (snapshot k v n) refl (same_at l z) is (subst (λ (x : Result PlainFetched Code). says (snapshot_says e (through t k) n x)) h said)
+    snapshot_said k v n r (inl h, (l, z)) is said =
+        wants (snapshot k v n) refl (same_at l z) is
+        (subst (λ (x : Result PlainFetched Code). says (snapshot_says e (through t k) n x)) h said)
     snapshot_said k v n r (inr h, (l, z)) is said = replies (snapshot k v n) r h (same_at l z) is said
 
     -- ---- submissions
 
     abbrev Decided : Bool → PlainKey → PlainSubmission → PlainReply → Type 0
-    Decided b k u r = ((r ≡ refused E10) × (machine q ≡ machine p)) ⊎ ((r ≡ (decided_at b (machine p) k u).0) × (machine q ≡ (decided_at b (machine p) k u).1))
+    Decided b k u r =
+        ((r ≡ refused E10) × (machine q ≡ machine p))
+        ⊎ ((r ≡ (decided_at b (machine p) k u).0) × (machine q ≡ (decided_at b (machine p) k u).1))
 
-    in_one_step : (k : PlainKey) (u : PlainSubmission) (r : PlainReply) → Decides (machine p).logs k u r (machine q).logs × ((machine q).queues ≡ (machine p).queues) → Decided true k u r
+    in_one_step : (k : PlainKey) (u : PlainSubmission) (r : PlainReply)
+        → Decides (machine p).logs k u r (machine q).logs × ((machine q).queues ≡ (machine p).queues)
+        → Decided true k u r
     in_one_step k u r (inl h, z) = inl (h.0, same_machine (machine p) (machine q) h.1 z)
     in_one_step k u r (inr h, z) = inr (h.0, same_machine (decided_at true (machine p) k u).1 (machine q) h.1 z)
 
-    decides : (b : Bool) (k : PlainKey) (u : PlainSubmission) (r : PlainReply) → Sends (MachineActs k) b u p r q → Decided b k u r
+    decides : (b : Bool) (k : PlainKey) (u : PlainSubmission) (r : PlainReply) → Sends (MachineActs k) b u p r q
+        → Decided b k u r
     decides true k u r h = in_one_step k u r (submits_in_one_step machine k u p q r h)
     decides false k u r h = inr (h.0, pass_same h.1)
 
     abbrev sent : PlainKey → Option ℕ → ℕ → Option (List ℕ) → PlainContent → PlainSubmission
     sent k v n src c = submission_of s k v n src c 0
 
-    submit_by : (k : PlainKey) (v : Option ℕ) (n : ℕ) (src : Option (List ℕ)) (c : PlainContent) (r : PlainReply) → Decided (permits (through t k) c) (base_in t k) (sent k v n src c) r → new ≡ s
-        → says (reply_says e (through t k) k (unwrap_or src s.source) n r) → Marks t e (submit k v n src c) s p says new q
-    submit_by k v n src c r (inl h) is said = wants (submit k v n src c) refl h.1 is (subst (λ x. says (reply_says e (through t k) k (unwrap_or src s.source) n x)) h.0 said)
+    submit_by : (k : PlainKey) (v : Option ℕ) (n : ℕ) (src : Option (List ℕ)) (c : PlainContent) (r : PlainReply)
+        → Decided (permits (through t k) c) (base_in t k) (sent k v n src c) r → new ≡ s
+        → says (reply_says e (through t k) k (unwrap_or src s.source) n r)
+        → Marks t e (submit k v n src c) s p says new q
+    submit_by k v n src c r (inl h) is said =
+        wants (submit k v n src c) refl h.1 is
+        (subst (λ x. says (reply_says e (through t k) k (unwrap_or src s.source) n x)) h.0 said)
     submit_by k v n src c r (inr h) is said = replies (submit k v n src c) r h.0 h.1 is said
 
-    submit_said : (k : PlainKey) (v : Option ℕ) (n : ℕ) (src : Option (List ℕ)) (c : PlainContent) (r : PlainReply) → Sends (MachineActs (base_in t k)) (permits (through t k) c) (sent k v n src c) p r q → new ≡ s
-        → says (reply_says e (through t k) k (unwrap_or src s.source) n r) → Marks t e (submit k v n src c) s p says new q
-    submit_said k v n src c r h is said = submit_by k v n src c r (decides (permits (through t k) c) (base_in t k) (sent k v n src c) r h) is said
+    submit_said : (k : PlainKey) (v : Option ℕ) (n : ℕ) (src : Option (List ℕ)) (c : PlainContent) (r : PlainReply)
+        → Sends (MachineActs (base_in t k)) (permits (through t k) c) (sent k v n src c) p r q → new ≡ s
+        → says (reply_says e (through t k) k (unwrap_or src s.source) n r)
+        → Marks t e (submit k v n src c) s p says new q
+    submit_said k v n src c r h is said =
+        submit_by k v n src c r (decides (permits (through t k) c) (base_in t k) (sent k v n src c) r h) is said
 
     -- ---- queues that are closed
 
-    unsubscribe_said : (k : PlainKey) (r : Unit {0}) → machine q ≡ closed_machine (queue_of k s.subs) (machine p) → new ≡ (turn e t s (unsubscribe k) r).session → says (turn e t s (unsubscribe k) r).answers → Marks t e (unsubscribe k) s p says new q
+    unsubscribe_said : (k : PlainKey) (r : Unit {0}) → machine q ≡ closed_machine (queue_of k s.subs) (machine p)
+        → new ≡ (turn e t s (unsubscribe k) r).session → says (turn e t s (unsubscribe k) r).answers
+        → Marks t e (unsubscribe k) s p says new q
     unsubscribe_said k r after is said = replies (unsubscribe k) r refl after is said
 
     -- ---- queues that are opened
 
     abbrev Due : Bool → PlainKey → Option ℕ → Result PlainJoined Code → Type 0
-    Due b k v r = (r ≡ (subscribed_at b (machine p) (base_in t k) v (queue_of k s.subs)).0) × (machine q ≡ (subscribed_at b (machine p) (base_in t k) v (queue_of k s.subs)).1)
+    Due b k v r =
+        (r ≡ (subscribed_at b (machine p) (base_in t k) v (queue_of k s.subs)).0)
+        × (machine q ≡ (subscribed_at b (machine p) (base_in t k) v (queue_of k s.subs)).1)
 
     -- the reply is due, or memory was wanting, before or after the queue was open
     abbrev Joined : Bool → PlainKey → Option ℕ → Result PlainJoined Code → Type 0
-    Joined b k v r = Due b k v r ⊎ (((r ≡ Err E10) × (machine q ≡ machine p)) ⊎ ((r ≡ Err E10) × (machine q ≡ late_machine t (machine p) (subscribe k v))))
+    Joined b k v r =
+        Due b k v r
+        ⊎ (((r ≡ Err E10) × (machine q ≡ machine p))
+        ⊎ ((r ≡ Err E10) × (machine q ≡ late_machine t (machine p) (subscribe k v))))
 
-    joined_says : (b : Bool) (k : PlainKey) (v : Option ℕ) (r : Result PlainJoined Code) → is_full k s.subs ≡ b → Joined b k v r → new ≡ (joined_turn e t s k v r).session → says (joined_turn e t s k v r).answers → Marks t e (subscribe k v) s p says new q
+    joined_says : (b : Bool) (k : PlainKey) (v : Option ℕ) (r : Result PlainJoined Code) → is_full k s.subs ≡ b
+        → Joined b k v r → new ≡ (joined_turn e t s k v r).session → says (joined_turn e t s k v r).answers
+        → Marks t e (subscribe k v) s p says new q
     joined_says b k v r full (inl h) is said =
         let D : Bool → Type 0 = λ x. Due x k v r in
         let d = subst D (sym full) h in
         replies (subscribe k v) r d.0 d.1 is said
     joined_says b k v r full (inr (inl h)) is said =
-        wants (subscribe k v) refl h.1 (is ∙ ap (λ (x : Result PlainJoined Code). (joined_turn e t s k v x).session) h.0) (subst (λ (x : Result PlainJoined Code). says (joined_turn e t s k v x).answers) h.0 said)
+        wants (subscribe k v) refl h.1
+        (is ∙ ap (λ (x : Result PlainJoined Code). (joined_turn e t s k v x).session) h.0)
+        (subst (λ (x : Result PlainJoined Code). says (joined_turn e t s k v x).answers) h.0 said)
     joined_says b k v r full (inr (inr h)) is said =
-        lates (subscribe k v) refl h.1 (is ∙ ap (λ (x : Result PlainJoined Code). (joined_turn e t s k v x).session) h.0) (subst (λ (x : Result PlainJoined Code). says (joined_turn e t s k v x).answers) h.0 said)
+        lates (subscribe k v) refl h.1
+        (is ∙ ap (λ (x : Result PlainJoined Code). (joined_turn e t s k v x).session) h.0)
+        (subst (λ (x : Result PlainJoined Code). says (joined_turn e t s k v x).answers) h.0 said)
 
     closes : (old : Option QueueId) (m : P) → Closes MachineActs old m q → machine q ≡ closed_machine old (machine m)
     closes None m h = ap machine h
     closes (Some x) m h = closes_one (machine m) (machine q) x h
 
-    refuses : (k : PlainKey) (v : Option ℕ) (r : Result PlainJoined Code) → Refuses (MachineActs (base_in t k)) v p r q → Joined true k v r
+    refuses : (k : PlainKey) (v : Option ℕ) (r : Result PlainJoined Code) → Refuses (MachineActs (base_in t k)) v p r q
+        → Joined true k v r
     refuses k None r h = inl (h.0 ∙ ap Err (sym (present_code ((machine p).logs (base_in t k)))), pass_same h.1)
     refuses k (Some v) r (f, ((inl h, (l, z)), is)) = inr (inl (is ∙ ap (λ x. Err (full_code v x)) h, same_at l z))
     refuses k (Some v) r (f, ((inr h, (l, z)), is)) =
         let log = (machine p).logs (base_in t k) in
         inl (is ∙ ap (λ x. Err (full_code v x)) h ∙ ap Err (sym (code_if (nat_lt (length log) v) v)), same_at l z)
 
-    joined_by : (b : PlainKey) (v : Option ℕ) (old : Option QueueId) (x y : Result PlainSubscribed Code) (r : Result PlainJoined Code) → x ≡ y → r ≡ (joined_at (machine p) b v old y).0 → machine q ≡ (joined_at (machine p) b v old y).1
+    joined_by : (b : PlainKey) (v : Option ℕ) (old : Option QueueId) (x y : Result PlainSubscribed Code)
+        (r : Result PlainJoined Code) → x ≡ y → r ≡ (joined_at (machine p) b v old y).0
+        → machine q ≡ (joined_at (machine p) b v old y).1
         → (r ≡ (joined_at (machine p) b v old x).0) × (machine q ≡ (joined_at (machine p) b v old x).1)
-    joined_by b v old x y r e h k = (h ∙ ap (λ z. (joined_at (machine p) b v old z).0) (sym e), k ∙ ap (λ z. (joined_at (machine p) b v old z).1) (sym e))
+    joined_by b v old x y r e h k = (
+      h ∙ ap (λ z. (joined_at (machine p) b v old z).0) (sym e),
+      k
+          ∙ ap (λ z. (joined_at (machine p) b v old z).1) (sym e),
+    )
 
-    refused_by : (k : PlainKey) (v : Option ℕ) (code : Code) → (((code ≡ E10) ⊎ ((opening_at (machine p) (base_in t k) v).answer ≡ Err code)) × (machine q ≡ machine p)) → Joined false k v (Err code)
+    refused_by : (k : PlainKey) (v : Option ℕ) (code : Code)
+        → (((code ≡ E10) ⊎ ((opening_at (machine p) (base_in t k) v).answer ≡ Err code)) × (machine q ≡ machine p))
+        → Joined false k v (Err code)
     refused_by k v code (inl h, same) = inr (inl (ap Err h, same))
-    refused_by k v code (inr h, same) = inl (joined_by (base_in t k) v (queue_of k s.subs) (opening_at (machine p) (base_in t k) v).answer (Err code) (Err code) h refl same)
+    refused_by k v code (inr h, same) =
+        inl (joined_by (base_in t k) v (queue_of k s.subs) (opening_at (machine p) (base_in t k) v).answer (Err code)
+        (Err code) h refl same)
 
-    joins : (k : PlainKey) (v : Option ℕ) (r : Result PlainJoined Code) → Joins MachineActs (base_in t k) v (queue_of k s.subs) p r q → Joined false k v r
+    joins : (k : PlainKey) (v : Option ℕ) (r : Result PlainJoined Code)
+        → Joins MachineActs (base_in t k) v (queue_of k s.subs) p r q → Joined false k v r
     joins k v (Ok j) (m, (n, (a, (opens, takes, is, ends)))) =
         let b = base_in t k in
         let old = queue_of k s.subs in
@@ -264,9 +343,12 @@ module _ {P : Type 0} (machine : P → Machine) where
         let x : QueueId = record { base = b; id = j.opened.id } in
         let max = behind v j.opened.version in
         let y = takes_some (machine m) (machine n) x max a j.first takes is in
-        let first : j.first ≡ next_of (opened_machine (machine p) b v) x max = y.0 ∙ ap (λ (z : Machine). next_of z x max) o.1 in
-        let after : machine q ≡ closed_machine old (after_next (opened_machine (machine p) b v) x max) = closes old n ends ∙ ap (closed_machine old) (y.1 ∙ ap (λ (z : Machine). after_next z x max) o.1) in
-        let reply : Ok j ≡ (joined_at (machine p) b v old (Ok j.opened)).0 = ap (λ es. Ok (record { opened = j.opened; first = es })) first in
+        let first : j.first ≡ next_of (opened_machine (machine p) b v) x max =
+        y.0 ∙ ap (λ (z : Machine). next_of z x max) o.1 in
+        let after : machine q ≡ closed_machine old (after_next (opened_machine (machine p) b v) x max) =
+        closes old n ends ∙ ap (closed_machine old) (y.1 ∙ ap (λ (z : Machine). after_next z x max) o.1) in
+        let reply : Ok j ≡ (joined_at (machine p) b v old (Ok j.opened)).0 =
+        ap (λ es. Ok (record { opened = j.opened; first = es })) first in
         inl (joined_by b v old (opening_at (machine p) b v).answer (Ok j.opened) (Ok j) o.0 reply after)
     joins k v (Err code) (inl h) = refused_by k v code (opens_err (machine p) (machine q) (base_in t k) v code h)
     joins k v (Err code) (inr (o, (m, (n, (opens, takes, ends, is))))) =
@@ -274,50 +356,71 @@ module _ {P : Type 0} (machine : P → Machine) where
         let x = opens_ok (machine p) (machine m) b v o opens in
         let y = takes_none (machine m) (machine n) b o.id (behind v o.version) takes in
         let id = next_number ((machine p).logs b) v ((machine p).queues b) o x.0 in
-        let after : machine q ≡ closed_machine (Some (record { base = b; id = o.id })) (opened_machine (machine p) b v) = closes_one (machine n) (machine q) (record { base = b; id = o.id }) ends ∙ ap (closed_machine (Some (record { base = b; id = o.id }))) (y ∙ x.1) in
-        inr (inr (ap Err is, after ∙ ap (λ (i : ℕ). closed_machine (Some (record { base = b; id = i })) (opened_machine (machine p) b v)) id))
+        let after : machine q
+        ≡ closed_machine (Some (record { base = b; id = o.id })) (opened_machine (machine p) b v) =
+        closes_one (machine n) (machine q) (record { base = b; id = o.id }) ends
+        ∙ ap (closed_machine (Some (record { base = b; id = o.id }))) (y ∙ x.1) in
+        inr (inr (
+          ap Err is,
+          after
+              ∙ ap (λ (i : ℕ). closed_machine (Some (record { base = b; id = i }))
+              (opened_machine (machine p) b v)) id,
+        ))
 
-    subscribes : (b : Bool) (k : PlainKey) (v : Option ℕ) (r : Result PlainJoined Code) → Subscribes MachineActs b (base_in t k) v (queue_of k s.subs) p r q → Joined b k v r
+    subscribes : (b : Bool) (k : PlainKey) (v : Option ℕ) (r : Result PlainJoined Code)
+        → Subscribes MachineActs b (base_in t k) v (queue_of k s.subs) p r q → Joined b k v r
     subscribes true k v r h = refuses k v r h
     subscribes false k v r h = joins k v r h
 
     -- ---- all messages
 
-    request_said : (r : PlainRequest) (reply : Option (ReplyTo r)) → MayReply MachineActs t 0 s r p reply q → new ≡ (may_turn e t s r reply).session → says (may_turn e t s r reply).answers → Marks t e r s p says new q
+    request_said : (r : PlainRequest) (reply : Option (ReplyTo r)) → MayReply MachineActs t 0 s r p reply q
+        → new ≡ (may_turn e t s r reply).session → says (may_turn e t s r reply).answers → Marks t e r s p says new q
     request_said r None h is said = wants r h.0 (pass_same h.1) is said
     request_said (hello n) (Some r) h is said = replies (hello n) r refl (pass_same h) is said
     request_said (fetch k v) (Some r) h is said = fetch_said k v r h is said
     request_said (submit k v n src c) (Some r) h is said = submit_said k v n src c r h is said
     request_said (snapshot k v n) (Some r) h is said = snapshot_said k v n r h is said
-    request_said (subscribe k v) (Some r) h is said = joined_says (is_full k s.subs) k v r refl (subscribes (is_full k s.subs) k v r h) is said
+    request_said (subscribe k v) (Some r) h is said =
+        joined_says (is_full k s.subs) k v r refl (subscribes (is_full k s.subs) k v r h) is said
     request_said (unsubscribe k) (Some r) h is said = unsubscribe_said k r (closes (queue_of k s.subs) p h) is said
 
-    heard_said : (r : Result PlainRequest Code) → Hears MachineActs e r t 0 s p says new q → (w : Mark) × IsSaid (heard t e (room_at p s) w r) says new q
+    heard_said : (r : Result PlainRequest Code) → Hears MachineActs e r t 0 s p says new q
+        → (w : Mark) × IsSaid (heard t e (room_at p s) w r) says new q
     heard_said (Ok r) (reply, (h, is, said)) = request_said r reply h is said
     heard_said (Err code) h = (enough, (h.2, same_room (machine p) (machine q) s new (pass_same h.0) h.1))
 
   -- what answers one text is the dialogue's answer
-  pub answers_said : (text : List ℕ) (t : List PlainProjection) (s : PlainSession) (p : P) (says : List PlainAnswer → Type 0) (new : PlainSession) (q : P) → Answers MachineActs text t 0 s p says new q
+  pub answers_said : (text : List ℕ) (t : List PlainProjection) (s : PlainSession) (p : P)
+      (says : List PlainAnswer → Type 0) (new : PlainSession) (q : P) → Answers MachineActs text t 0 s p says new q
       → (w : Mark) × IsSaid (handled t (room_at p s) w (Some text)) says new q
   answers_said text t s p says new q h = heard_said t (hear text).echo s p says new q (hear text).request h
 
   -- ---- pumps
 
-  takings_are : (xs : List PlainTaking) (p q : P) → Takes MachineActs 64 xs p q → (xs ≡ takings (map (λ x. x.sub) xs) (machine p)) × (machine q ≡ after_takings (map (λ x. x.sub) xs) (machine p))
+  takings_are : (xs : List PlainTaking) (p q : P) → Takes MachineActs 64 xs p q
+      → (xs ≡ takings (map (λ x. x.sub) xs) (machine p)) × (machine q ≡ after_takings (map (λ x. x.sub) xs) (machine p))
   unfolding Takes
   takings_are [] p q h = (refl, ap machine h)
   takings_are (x ∷ xs) p q (m, ((a, (acts, is)), rest)) =
       let subs : List PlainSub = map (λ x. x.sub) xs in
       let y = takes_some (machine p) (machine m) x.sub.queue 64 a x.entries acts is in
       let below = takings_are xs m q rest in
-      let z : PlainTaking = record { sub = x.sub; entries = next_of (machine p) x.sub.queue 64 } in
-      (ap (λ es. record { sub = x.sub; entries = es } ∷ xs) y.0 ∙ ap (λ l. z ∷ l) (below.0 ∙ ap (takings subs) y.1), below.1 ∙ ap (after_takings subs) y.1)
+      let z : PlainTaking = record { sub = x.sub; entries = next_of (machine p) x.sub.queue 64 } in (
+        ap (λ es. record { sub = x.sub; entries = es } ∷ xs) y.0
+            ∙ ap (λ l. z ∷ l) (below.0 ∙ ap (takings subs) y.1),
+        below.1 ∙ ap (after_takings subs) y.1,
+      )
 
   -- what a pump says is what waits
-  pub pumps_said : (t : List PlainProjection) (s : PlainSession) (p : P) (count : ℕ) (says : List PlainAnswer → Type 0) (q : P) → Pumps MachineActs 64 t s p count says q
+  pub pumps_said : (t : List PlainProjection) (s : PlainSession) (p : P) (count : ℕ) (says : List PlainAnswer → Type 0)
+      (q : P) → Pumps MachineActs 64 t s p count says q
       → IsSaid (pumped t (room_at p s)) says s q
   pumps_said t s p count says q (xs, (subs, takes, is, said)) =
       let all = takings_are xs p q takes in
       let xs_are : xs ≡ takings s.subs (machine p) = all.0 ∙ ap (λ l. takings l (machine p)) subs in
-      let after : machine q ≡ after_takings s.subs (machine p) = all.1 ∙ ap (λ l. after_takings l (machine p)) subs in
-      (subst (λ l. says (pump_says t s.source l)) xs_are said, same_room (after_takings s.subs (machine p)) (machine q) s s after refl)
+      let after : machine q ≡ after_takings s.subs (machine p) = all.1 ∙ ap (λ l. after_takings l (machine p)) subs in (
+        subst (λ l. says (pump_says t s.source l)) xs_are said,
+        same_room (after_takings s.subs (machine p))
+            (machine q) s s after refl,
+      )

@@ -45,12 +45,14 @@ module _ {P : Type 0} (acts : PlainKey → Calls P) (max : ℕ) where
   -- each queue is taken from, in the order of subscribing, and what is said is that of the entries taken
   abbrev pub Pumps : List PlainProjection → PlainSession → P → ℕ → (List PlainAnswer → Type 0) → P → Type 0
   Pumps t s p count says q =
-      (xs : List PlainTaking) × ((map (λ x. x.sub) xs ≡ s.subs) × Takes xs p q × (count ≡ pump_counts xs) × says (pump_says t s.source xs))
+      (xs : List PlainTaking)
+      × ((map (λ x. x.sub) xs ≡ s.subs) × Takes xs p q × (count ≡ pump_counts xs) × says (pump_says t s.source xs))
 
   -- some of the queues were taken from, in order, and perhaps one more take was made
   abbrev pub Stops : PlainSession → P → P → Type 0
   Stops s p q =
-      (xs : List PlainTaking) × ((more : List PlainSub) × ((m : P) × ((map (λ x. x.sub) xs ++ more ≡ s.subs) × Takes xs p m
+      (xs : List PlainTaking)
+      × ((more : List PlainSub) × ((m : P) × ((map (λ x. x.sub) xs ++ more ≡ s.subs) × Takes xs p m
       × ((q ≡ m) ⊎ ((x : QueueId) × ((o : Option (List PlainEntry)) × TakesOne x m o q))))))
 
 module _ {P : Type 0} (acts : PlainKey → Calls P) where

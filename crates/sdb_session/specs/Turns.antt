@@ -42,7 +42,8 @@ takes_memory r = true
 
 -- a message that names no source has the session's
 abbrev pub submission_of : PlainSession → PlainKey → Option ℕ → ℕ → Option (List ℕ) → PlainContent → ℕ → PlainSubmission
-submission_of s k v n src m by = record { src = unwrap_or src s.source; seq = n; version = v; content = m; via = k.collection; by = by }
+submission_of s k v n src m by =
+    record { src = unwrap_or src s.source; seq = n; version = v; content = m; via = k.collection; by = by }
 
 -- how many entries there are from the version that was asked for up to the present one
 abbrev pub behind : Option ℕ → ℕ → ℕ
@@ -101,13 +102,15 @@ module _ {P : Type 0} (acts : PlainKey → Calls P) where
   abbrev pub Replies : List PlainProjection → ℕ → PlainSession → (r : PlainRequest) → P → ReplyTo r → P → Type 0
   Replies t by s (hello n) p r q = q ≡ p
   Replies t by s (fetch k v) p r q = Fetches (acts (base_in t k)) v p r q
-  Replies t by s (submit k v n src m) p r q = Sends (acts (base_in t k)) (permits (through t k) m) (submission_of s k v n src m by) p r q
+  Replies t by s (submit k v n src m) p r q =
+      Sends (acts (base_in t k)) (permits (through t k) m) (submission_of s k v n src m by) p r q
   Replies t by s (snapshot k v n) p r q = acts (base_in t k) (snapshot_call v) p r q
   Replies t by s (subscribe k v) p r q = Subscribes (is_full k s.subs) (base_in t k) v (queue_of k s.subs) p r q
   Replies t by s (unsubscribe k) p r q = Closes (queue_of k s.subs) p q
 
   -- the same, or none where the message takes memory and it was wanting before the first call
-  abbrev pub MayReply : List PlainProjection → ℕ → PlainSession → (r : PlainRequest) → P → Option (ReplyTo r) → P → Type 0
+  abbrev pub MayReply : List PlainProjection → ℕ → PlainSession → (r : PlainRequest) → P → Option (ReplyTo r) → P
+      → Type 0
   MayReply t by s r p None q = (takes_memory r ≡ true) × (q ≡ p)
   MayReply t by s r p (Some reply) q = Replies t by s r p reply q
 
@@ -125,7 +128,8 @@ abbrev pub found_says : PlainEcho → Option PlainProjection → PlainKey → Re
 found_says e o k (Ok f) = fetched k f.version (option_map (seen_value o) f.snapshot) ∷ []
 found_says e o k (Err code) = failed e code ∷ []
 
-abbrev pub listed_says : PlainEcho → Option PlainProjection → PlainKey → Result (List PlainEntry) Code → List PlainAnswer
+abbrev pub listed_says : PlainEcho → Option PlainProjection → PlainKey → Result (List PlainEntry) Code
+    → List PlainAnswer
 listed_says e o k (Ok es) = messages o k es ++ listed k ∷ []
 listed_says e o k (Err code) = failed e code ∷ []
 
@@ -147,14 +151,20 @@ abbrev pub opened_says : Option PlainProjection → PlainKey → Option ℕ → 
 opened_says o k None j = subscribed k j.opened.version (option_map (seen_value o) j.opened.snapshot) ∷ []
 opened_says o k (Some v) j = messages o k j.first ++ caught_up k ∷ []
 
-abbrev pub joined_turn : PlainEcho → List PlainProjection → PlainSession → PlainKey → Option ℕ → Result PlainJoined Code → Turn
-joined_turn e t s k v (Ok j) = record { answers = opened_says (through t k) k v j; session = with_sub s k (record { base = base_in t k; id = j.opened.id }) }
+abbrev pub joined_turn : PlainEcho → List PlainProjection → PlainSession → PlainKey → Option ℕ → Result PlainJoined Code
+    → Turn
+joined_turn e t s k v (Ok j) =
+    record {
+      answers = opened_says (through t k) k v j;
+      session = with_sub s k (record { base = base_in t k; id = j.opened.id });
+    }
 joined_turn e t s k v (Err code) = record { answers = failed e code ∷ []; session = s }
 
 abbrev pub turn : PlainEcho → List PlainProjection → PlainSession → (r : PlainRequest) → ReplyTo r → Turn
 turn e t s (hello n) r = record { answers = named (with_source s n).source ∷ []; session = with_source s n }
 turn e t s (fetch k v) r = record { answers = read_says e (through t k) k v r; session = s }
-turn e t s (submit k v n src m) r = record { answers = reply_says e (through t k) k (unwrap_or src s.source) n r; session = s }
+turn e t s (submit k v n src m) r =
+    record { answers = reply_says e (through t k) k (unwrap_or src s.source) n r; session = s }
 turn e t s (snapshot k v n) r = record { answers = snapshot_says e (through t k) n r; session = s }
 turn e t s (subscribe k v) r = joined_turn e t s k v r
 turn e t s (unsubscribe k) r = record { answers = unsubscribed k ∷ []; session = without_sub s k }
@@ -166,17 +176,22 @@ may_turn e t s r (Some reply) = turn e t s r reply
 
 -- one message: the desk gives some reply, and the answers and the session are what the session makes of it
 module _ {P : Type 0} (acts : PlainKey → Calls P) where
-  abbrev pub Handles : PlainEcho → List PlainProjection → ℕ → PlainSession → PlainRequest → P → (List PlainAnswer → Type 0) → PlainSession → P → Type 0
+  abbrev pub Handles : PlainEcho → List PlainProjection → ℕ → PlainSession → PlainRequest → P
+      → (List PlainAnswer → Type 0) → PlainSession → P → Type 0
   Handles e t by s r p says new q =
-      (reply : Option (ReplyTo r)) × (MayReply acts t by s r p reply q × (new ≡ (may_turn e t s r reply).session) × says (may_turn e t s r reply).answers)
+      (reply : Option (ReplyTo r))
+      × (MayReply acts t by s r p reply q × (new ≡ (may_turn e t s r reply).session)
+      × says (may_turn e t s r reply).answers)
 
   -- a text that asks nothing is refused, and nothing has changed
-  abbrev pub Hears : PlainEcho → Result PlainRequest Code → List PlainProjection → ℕ → PlainSession → P → (List PlainAnswer → Type 0) → PlainSession → P → Type 0
+  abbrev pub Hears : PlainEcho → Result PlainRequest Code → List PlainProjection → ℕ → PlainSession → P
+      → (List PlainAnswer → Type 0) → PlainSession → P → Type 0
   Hears e (Ok r) t by s p says new q = Handles e t by s r p says new q
   Hears e (Err code) t by s p says new q = (q ≡ p) × (new ≡ s) × says (failed e code ∷ [])
 
   -- one text
-  abbrev pub Answers : List ℕ → List PlainProjection → ℕ → PlainSession → P → (List PlainAnswer → Type 0) → PlainSession → P → Type 0
+  abbrev pub Answers : List ℕ → List PlainProjection → ℕ → PlainSession → P → (List PlainAnswer → Type 0) → PlainSession
+      → P → Type 0
   Answers text t by s p says new q = Hears (hear text).echo (hear text).request t by s p says new q
 
 -- nothing was done, or all that this says

@@ -9,7 +9,9 @@ use Rattle.sdb_value.specs.declared.value.Json.{Json}
 use Rattle.sdb_snapcache.specs.Kept.{Snapshot}
 
 abbrev pub snapshot_code : Coded Snapshot
-snapshot_code = code_by (ℕ × Value) (coded× coded_ℕ value_code) (λ s. (s.version, s.value)) (λ p. record { version = p.0; value = p.1 }) (λ _. refl)
+snapshot_code =
+    code_by (ℕ × Value) (coded× coded_ℕ value_code) (λ s. (s.version, s.value))
+    (λ p. record { version = p.0; value = p.1 }) (λ _. refl)
 
 abbrev pub kept_code : Coded (List Snapshot)
 kept_code = coded_list snapshot_code

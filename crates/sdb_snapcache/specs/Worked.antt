@@ -7,7 +7,12 @@ use Rattle.sdb_oplog.specs.Snap.{document}
 use Rattle.sdb_snapcache.specs.Kept.{Snapshot, nearest, used_for, offered}
 
 abbrev entry : ℕ → PlainContent → PlainEntry
-entry n m = record { version = n; content = m; arrived = record { src = codes "x"; seq = n; version = None; content = m; via = codes "b"; by = 0 } }
+entry n m =
+    record {
+      version = n;
+      content = m;
+      arrived = record { src = codes "x"; seq = n; version = None; content = m; via = codes "b"; by = 0 };
+    }
 
 abbrev plus_one : ℕ → PlainEntry
 plus_one n = entry n (edit (record { path = []; act = na (pos 1) } ∷ []))

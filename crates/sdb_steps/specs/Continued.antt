@@ -13,7 +13,8 @@ read_on es q = record { start = q.start; taken = q.taken + length es }
 
 -- what a session reads of k after one more step: where it started, and how many entries it was answered since
 abbrev pub read_after : PlainKey → Act → Answer → Option PlainQueue → Option PlainQueue
-read_after k (plain.subscribe j v) (replied (subscribed (Ok start))) o = cond (same_key j k) (Some (record { start = start; taken = 0 })) o
+read_after k (plain.subscribe j v) (replied (subscribed (Ok start))) o =
+    cond (same_key j k) (Some (record { start = start; taken = 0 })) o
 read_after k (plain.take j max) (replied (taken es)) o = cond (same_key j k) (option_map (read_on es) o) o
 read_after k (plain.unsubscribe j) (said plain.unsubscribed) o = cond (same_key j k) None o
 read_after k act answer o = o
@@ -26,7 +27,8 @@ IsNext log None max es = ⊥
 -- a take goes on, and a start is within the log, at the version that was named, if one was. What the session reads is f
 abbrev pub IsContinued : Logs → (PlainKey → Option PlainQueue) → Act → Answer → Type 0
 IsContinued logs f (plain.take k max) (replied (taken es)) = IsNext (logs k) (f k) max es
-IsContinued logs f (plain.subscribe k v) (replied (subscribed (Ok start))) = (start ≤ length (logs k)) × IfSome v (λ n. start ≡ n)
+IsContinued logs f (plain.subscribe k v) (replied (subscribed (Ok start))) =
+    (start ≤ length (logs k)) × IfSome v (λ n. start ≡ n)
 IsContinued logs f act answer = ⊤
 
 -- what each session reads of each key, after one more step: only its own session's changes
@@ -37,7 +39,8 @@ all_read f s a n k = cond (nat_eq s.session n) (read_after k s.act a (f n k)) (f
 abbrev pub ContinuedFrom : (ℕ → PlainKey → Option PlainQueue) → List PlainStep → List Answer → Logs → Type 0
 ContinuedFrom f [] answers logs = ⊤
 ContinuedFrom f (s ∷ steps) [] logs = ⊤
-ContinuedFrom f (s ∷ steps) (a ∷ answers) logs = IsContinued logs (f s.session) s.act a × ContinuedFrom (all_read f s a) steps answers logs
+ContinuedFrom f (s ∷ steps) (a ∷ answers) logs =
+    IsContinued logs (f s.session) s.act a × ContinuedFrom (all_read f s a) steps answers logs
 
 -- at first no session reads anything
 abbrev pub ContinuedAll : List PlainStep → List Answer → Logs → Type 0

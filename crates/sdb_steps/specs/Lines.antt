@@ -1,10 +1,10 @@
 -- The lines of the program of steps: which step a line is, and the line that answers it.
 --
--- A step is a JSON object with `s`, the number of its session, and `do`, a text that says which step it is. What it needs
--- beside these: `begin` the names `c`, `d` and `src`, the number `seq`, a content, and `v` if it names a version; `fetch`,
--- `unsubscribe` and `forget` `c` and `d`; `snapshot` and `subscribe` these, and `v` if they name a version; `take` these and
--- the number `max`; `work` and `commit` nothing. All are read as the members of a message are, and unknown ones are ignored.
--- A line that is no step is answered by its code alone.
+-- A step is a JSON object with `s`, the number of its session, and `do`, a text that says which step it is. What it
+-- needs beside these: `begin` the names `c`, `d` and `src`, the number `seq`, a content, and `v` if it names a version;
+-- `fetch`, `unsubscribe` and `forget` `c` and `d`; `snapshot` and `subscribe` these, and `v` if they name a version;
+-- `take` these and the number `max`; `work` and `commit` nothing. All are read as the members of a message are, and
+-- unknown ones are ignored. A line that is no step is answered by its code alone.
 use Rattle.std.specs.Prelude.{ℕ, List, [], ◌∷◌, ◌++◌, Bool, if◌then◌else◌, nat_lt, bytes_eq, Option, Some, None, Result, Ok, Err, option_and_then, codes}
 use Rattle.std.specs.Option.{option_map_or, ok_or}
 use Rattle.std.specs.Result.{is_ok}
@@ -37,7 +37,9 @@ step n a = record { session = n; act = a }
 -- a submission: the key, the version, the number, the source and the content are read in this order
 abbrev pub begin_of : ℕ → Data → Result PlainStep Code
 begin_of n d =
-    result_then (λ k. result_then (λ v. result_then (λ seq. result_then (λ src. result_then (λ m. Ok (step n (plain.begin k src seq v m)))
+    result_then
+    (λ k. result_then
+    (λ v. result_then (λ seq. result_then (λ src. result_then (λ m. Ok (step n (plain.begin k src seq v m)))
     (content_of d))
     (ok_or (name_at (codes "src") d) E1))
     (ok_or (count_at (codes "seq") d) E1))
@@ -50,15 +52,21 @@ fetch_of n d = result_then (λ k. Ok (step n (plain.fetch k))) (key_of d)
 
 -- the document at `v`, or the present one
 abbrev pub snapshot_of : ℕ → Data → Result PlainStep Code
-snapshot_of n d = result_then (λ k. result_then (λ v. Ok (step n (plain.snapshot k v))) (may count_of (present (codes "v") d))) (key_of d)
+snapshot_of n d =
+    result_then (λ k. result_then (λ v. Ok (step n (plain.snapshot k v))) (may count_of (present (codes "v") d)))
+    (key_of d)
 
 -- a queue from `v` on, or from the present version
 abbrev pub subscribe_of : ℕ → Data → Result PlainStep Code
-subscribe_of n d = result_then (λ k. result_then (λ v. Ok (step n (plain.subscribe k v))) (may count_of (present (codes "v") d))) (key_of d)
+subscribe_of n d =
+    result_then (λ k. result_then (λ v. Ok (step n (plain.subscribe k v))) (may count_of (present (codes "v") d)))
+    (key_of d)
 
 -- the next entries of the queue, at most `max`, which is needed
 abbrev pub take_of : ℕ → Data → Result PlainStep Code
-take_of n d = result_then (λ k. result_then (λ max. Ok (step n (plain.take k max))) (ok_or (count_at (codes "max") d) E1)) (key_of d)
+take_of n d =
+    result_then (λ k. result_then (λ max. Ok (step n (plain.take k max))) (ok_or (count_at (codes "max") d) E1))
+    (key_of d)
 
 -- the end of the queue
 abbrev pub unsubscribe_of : ℕ → Data → Result PlainStep Code

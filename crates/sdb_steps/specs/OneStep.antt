@@ -40,7 +40,8 @@ pub data Reply : Type 0 where
 
 -- where a queue starts: E4 above the length, then E11 where the numbers of this key are used up
 abbrev pub started : OneStep → PlainKey → Option ℕ → Result ℕ Code
-started m k v = result_then (λ start. if nat_eq (m.given k) 18446744073709551615 then Err E11 else Ok start) (start_of (m.logs k) v)
+started m k v =
+    result_then (λ start. if nat_eq (m.given k) 18446744073709551615 then Err E11 else Ok start) (start_of (m.logs k) v)
 
 abbrev pub reply : OneStep → Event → Reply
 reply m (submission k s) = decided (decide (m.logs k) s).reply

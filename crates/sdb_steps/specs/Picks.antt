@@ -101,7 +101,8 @@ pub data Deed : Type 0 where
 
 -- session n submits through the collection's own name
 abbrev pub submission_of : ℕ → PlainKey → List ℕ → ℕ → Option ℕ → PlainContent → PlainSubmission
-submission_of n k src seq v content = record { src = src; seq = seq; version = v; content = content; via = k.collection; by = n }
+submission_of n k src seq v content =
+    record { src = src; seq = seq; version = v; content = content; via = k.collection; by = n }
 
 -- the length is that of the key's log now
 abbrev pub opened : OneStep → PlainKey → PlainSubmission → Attempt
@@ -112,7 +113,14 @@ worked_on a = record { key = a.key; submission = a.submission; looked = a.looked
 
 -- looked at again, after one try more
 abbrev pub moved_on : OneStep → Attempt → Attempt
-moved_on m a = record { key = a.key; submission = a.submission; looked = length (m.logs a.key); tries = a.tries + 1; worked = false }
+moved_on m a =
+    record {
+      key = a.key;
+      submission = a.submission;
+      looked = length (m.logs a.key);
+      tries = a.tries + 1;
+      worked = false;
+    }
 
 -- a commit must decide where the log is as long as looked at, and on the ninth try whatever happened
 abbrev pub decides : OneStep → Attempt → Bool
@@ -120,7 +128,9 @@ decides m a = nat_eq (length (m.logs a.key)) a.looked || nat_eq a.tries 8
 
 -- and then the attempt is at its end
 abbrev pub commits : OneStep → Session → Attempt → Deed
-commits m x a = if decides m a then asks (machine.submission a.key a.submission) (with_attempt x None) else says moved (with_attempt x (Some (moved_on m a)))
+commits m x a =
+    if decides m a then asks (machine.submission a.key a.submission) (with_attempt x None)
+    else says moved (with_attempt x (Some (moved_on m a)))
 
 -- a start replaces the session's queue of that key
 abbrev pub subscribes : Session → PlainKey → Option ℕ → Result ℕ Code → Deed
@@ -130,13 +140,17 @@ subscribes x k v (Err code) = asks (machine.subscribe k v) x
 
 -- on from what was taken
 abbrev pub takes : OneStep → Session → PlainKey → ℕ → PlainQueue → Deed
-takes m x k max q = asks (machine.take_from k (q.start + q.taken) max) (with_queue x k (Some (moved_by (m.logs k) max q)))
+takes m x k max q =
+    asks (machine.take_from k (q.start + q.taken) max) (with_queue x k (Some (moved_by (m.logs k) max q)))
 
 -- what session n does by this act
 abbrev pub deed : OneStep → ℕ → Session → Act → Deed
 deed m n x (begin k src seq v content) =
-    option_map_or (λ a. says idle x) x.attempt (says began (with_attempt x (Some (opened m k (submission_of n k src seq v content)))))
-deed m n x work = option_map_or (λ a. if a.worked then says idle x else says worked (with_attempt x (Some (worked_on a)))) x.attempt (says idle x)
+    option_map_or (λ a. says idle x) x.attempt
+    (says began (with_attempt x (Some (opened m k (submission_of n k src seq v content)))))
+deed m n x work =
+    option_map_or (λ a. if a.worked then says idle x else says worked (with_attempt x (Some (worked_on a)))) x.attempt
+    (says idle x)
 deed m n x commit = option_map_or (commits m x) x.attempt (says idle x)
 deed m n x (fetch k) = asks (machine.fetch k) x
 deed m n x (snapshot k v) = asks (machine.snapshot k v) x
@@ -164,7 +178,8 @@ IsDone (says a y) answer events x = (answer ≡ said a) × (events ≡ []) × (x
 -- one step. Where memory is wanting it is no event and leaves all as it was
 abbrev pub PicksOne : OneStep → Sessions → PlainStep → Answer → List Event → Sessions → Type 0
 PicksOne m w s no_memory events v = (may_want (deed m s.session (w s.session) s.act) ≡ true) × (events ≡ []) × (v ≡ w)
-PicksOne m w s answer events v = (x : Session) × IsDone (deed m s.session (w s.session) s.act) answer events x × (v ≡ with_session w s.session x)
+PicksOne m w s answer events v =
+    (x : Session) × IsDone (deed m s.session (w s.session) s.act) answer events x × (v ≡ with_session w s.session x)
 
 -- steps after these past events: each where the machine stands after the events before it
 abbrev pub PicksAfter : List Event → Sessions → List PlainStep → List Answer → List Event → Sessions → Type 0
@@ -172,7 +187,8 @@ PicksAfter past w [] [] events v = (events ≡ past) × (v ≡ w)
 PicksAfter past w [] (answer ∷ answers) events v = ⊥
 PicksAfter past w (s ∷ steps) [] events v = ⊥
 PicksAfter past w (s ∷ steps) (answer ∷ answers) events v =
-    (more : List Event) × (mid : Sessions) × PicksOne (after machine.empty past) w s answer more mid × PicksAfter (past ++ more) mid steps answers events v
+    (more : List Event) × (mid : Sessions) × PicksOne (after machine.empty past) w s answer more mid
+    × PicksAfter (past ++ more) mid steps answers events v
 
 -- these steps, so answered, are these events, and leave the sessions so
 abbrev pub Picks : List PlainStep → List Answer → List Event → Sessions → Type 0

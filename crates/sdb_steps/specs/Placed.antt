@@ -39,7 +39,8 @@ abbrev pub PlacedFrom : (ℕ → Option Begun) → List PlainStep → List Answe
 PlacedFrom f [] answers logs = ⊤
 PlacedFrom f (s ∷ steps) [] logs = ⊤
 PlacedFrom f (s ∷ steps) (a ∷ answers) logs =
-    IsPlaced logs (f s.session) s.act a × PlacedFrom (with_begun f s.session (begun_after s.act a (f s.session))) steps answers logs
+    IsPlaced logs (f s.session) s.act a
+    × PlacedFrom (with_begun f s.session (begun_after s.act a (f s.session))) steps answers logs
 
 -- at first no session has begun anything
 abbrev pub PlacedAll : List PlainStep → List Answer → Logs → Type 0

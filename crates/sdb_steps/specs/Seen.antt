@@ -37,7 +37,8 @@ is_worked (Moved w l) = false
 is_worked (Worked w) = true
 
 abbrev pub trying_at : PlainKey → Stage → ℕ → plain.Attempt
-trying_at k s tries = record { key = k; submission = submitted s; looked = looked_at s; tries = tries; worked = is_worked s }
+trying_at k s tries =
+    record { key = k; submission = submitted s; looked = looked_at s; tries = tries; worked = is_worked s }
 
 abbrev pub plain_trying : Trying → plain.Attempt
 plain_trying t = trying_at (plain_key t.key) t.stage t.tries
@@ -53,7 +54,8 @@ abbrev pub queue_seen : PlainQueues → Option ℕ → Option PlainQueue
 queue_seen q o = option_and_then (λ n. queue_at n q.queues) o
 
 abbrev pub plain_session : Queued → Session → plain.Session
-plain_session q x = record { attempt = option_map plain_trying x.attempt; queues = λ k. queue_seen (q k) (slots_of x k) }
+plain_session q x =
+    record { attempt = option_map plain_trying x.attempt; queues = λ k. queue_seen (q k) (slots_of x k) }
 
 abbrev pub plain_sessions : Queued → List Session → plain.Sessions
 plain_sessions q xs n = unwrap_or (option_map (plain_session q) (slice_get xs n)) plain.fresh

@@ -21,7 +21,8 @@ AreApart all = (i j : ℕ) (k : PlainKey) (n : ℕ) → all i k ≡ Some n → a
 -- and what is new in a slot was not given before
 pub record Leaves (q : Queued) (s : Slots) (r : Queued) (t : Slots) : Type 0 where
   pub grows : (k : PlainKey) → (q k).next ≤ (r k).next
-  pub others : (k : PlainKey) (n : ℕ) → n < (q k).next → (s k ≡ Some n → ⊥) → queue_at n (r k).queues ≡ queue_at n (q k).queues
+  pub others : (k : PlainKey) (n : ℕ) → n < (q k).next → (s k ≡ Some n → ⊥)
+      → queue_at n (r k).queues ≡ queue_at n (q k).queues
   pub own : (k : PlainKey) (n : ℕ) → t k ≡ Some n → (s k ≡ Some n) ⊎ ((q k).next ≤ n)
   pub now : AreOpen r t
 

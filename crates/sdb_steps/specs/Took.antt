@@ -24,4 +24,5 @@ took n k = took_on n k []
 
 -- each queue that is open took the stored entries from its start on, in order, none missing
 abbrev pub TookAll : List PlainStep → List Answer → Sessions → Logs → Type 0
-TookAll steps answers w logs = (n : ℕ) (k : PlainKey) → IfSome ((w n).queues k) (λ q. took n k steps answers ≡ queue (logs k) q.start q.taken)
+TookAll steps answers w logs =
+    (n : ℕ) (k : PlainKey) → IfSome ((w n).queues k) (λ q. took n k steps answers ≡ queue (logs k) q.start q.taken)

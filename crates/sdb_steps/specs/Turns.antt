@@ -32,5 +32,7 @@ Works a answer b = ⊥
 -- a commit of an attempt: it decides, or it finds the log moved, or memory was wanting and nothing has changed
 abbrev pub Tries : OneStep → Attempt → Answer → OneStep → Option Attempt → Type 0
 Tries m a no_memory n o = (n ≡ m) × (o ≡ Some a)
-Tries m a (replied r) n o = (decides m a ≡ true) × (r ≡ reply m (submission a.key a.submission)) × (n ≡ next m (submission a.key a.submission)) × (o ≡ None)
+Tries m a (replied r) n o =
+    (decides m a ≡ true) × (r ≡ reply m (submission a.key a.submission)) × (n ≡ next m (submission a.key a.submission))
+    × (o ≡ None)
 Tries m a (said b) n o = (decides m a ≡ false) × (b ≡ moved) × (n ≡ m) × (o ≡ Some (moved_on m a))

@@ -16,7 +16,8 @@ use Rattle.sdb_steps.specs.declared.step.StepAnswer.{StepAnswer}
 use Rattle.sdb_steps.specs.declared.step.StepAnswer.TheVariants.{Began, Worked, Moved, Decided, Fetched as FetchedAnswer, Snapped, Subscribed, Taken, Unsubscribed, Forgotten, Idle, NoMemory}
 
 abbrev pub plain_step : Step → plain.PlainStep
-plain_step (Begin n k src seq v content) = record { session = n.number; act = plain.begin (plain_key k) (string_bytes src) seq v content }
+plain_step (Begin n k src seq v content) =
+    record { session = n.number; act = plain.begin (plain_key k) (string_bytes src) seq v content }
 plain_step (Work n) = record { session = n.number; act = plain.work }
 plain_step (Commit n) = record { session = n.number; act = plain.commit }
 plain_step (Fetch n k) = record { session = n.number; act = plain.fetch (plain_key k) }

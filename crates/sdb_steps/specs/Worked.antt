@@ -18,15 +18,23 @@ here = record { collection = codes "c"; id = codes "d" }
 
 -- stored at version v, from source a
 abbrev at : ℕ → PlainContent → PlainEntry
-at v m = record { version = v; content = m; arrived = record { src = codes "a"; seq = 1; version = None; content = m; via = codes "c"; by = 0 } }
+at v m =
+    record {
+      version = v;
+      content = m;
+      arrived = record { src = codes "a"; seq = 1; version = None; content = m; via = codes "c"; by = 0 };
+    }
 
 -- ---- lines that are steps
 
-pub row_begin : read_step (codes "{\"s\":0,\"do\":\"begin\",\"c\":\"c\",\"d\":\"d\",\"src\":\"a\",\"seq\":1,\"del\":true}") ≡ Ok (step 0 (plain.begin here (codes "a") 1 None delete))
+pub row_begin : read_step
+    (codes "{\"s\":0,\"do\":\"begin\",\"c\":\"c\",\"d\":\"d\",\"src\":\"a\",\"seq\":1,\"del\":true}")
+    ≡ Ok (step 0 (plain.begin here (codes "a") 1 None delete))
 unfolding serde_json_on_literals
 row_begin = refl
 
-pub row_begin_at : read_step (codes "{\"s\":0,\"do\":\"begin\",\"c\":\"c\",\"d\":\"d\",\"src\":\"a\",\"seq\":1,\"v\":2,\"op\":[{\"p\":[],\"na\":1}]}") ≡ Ok (step 0 (plain.begin here (codes "a") 1 (Some 2) (edit (record { path = []; act = na (pos 1) } ∷ []))))
+pub row_begin_at : read_step
+    (codes "{\"s\":0,\"do\":\"begin\",\"c\":\"c\",\"d\":\"d\",\"src\":\"a\",\"seq\":1,\"v\":2,\"op\":[{\"p\":[],\"na\":1}]}") ≡ Ok (step 0 (plain.begin here (codes "a") 1 (Some 2) (edit (record { path = []; act = na (pos 1) } ∷ []))))
 unfolding serde_json_on_literals
 row_begin_at = refl
 
@@ -42,23 +50,28 @@ pub row_fetch : read_step (codes "{\"s\":1,\"do\":\"fetch\",\"c\":\"c\",\"d\":\"
 unfolding serde_json_on_literals
 row_fetch = refl
 
-pub row_snapshot : read_step (codes "{\"s\":1,\"do\":\"snapshot\",\"c\":\"c\",\"d\":\"d\",\"v\":7}") ≡ Ok (step 1 (plain.snapshot here (Some 7)))
+pub row_snapshot : read_step (codes "{\"s\":1,\"do\":\"snapshot\",\"c\":\"c\",\"d\":\"d\",\"v\":7}")
+    ≡ Ok (step 1 (plain.snapshot here (Some 7)))
 unfolding serde_json_on_literals
 row_snapshot = refl
 
-pub row_subscribe : read_step (codes "{\"s\":1,\"do\":\"subscribe\",\"c\":\"c\",\"d\":\"d\",\"v\":null}") ≡ Ok (step 1 (plain.subscribe here None))
+pub row_subscribe : read_step (codes "{\"s\":1,\"do\":\"subscribe\",\"c\":\"c\",\"d\":\"d\",\"v\":null}")
+    ≡ Ok (step 1 (plain.subscribe here None))
 unfolding serde_json_on_literals
 row_subscribe = refl
 
-pub row_take : read_step (codes "{\"s\":1,\"do\":\"take\",\"c\":\"c\",\"d\":\"d\",\"max\":3}") ≡ Ok (step 1 (plain.take here 3))
+pub row_take : read_step (codes "{\"s\":1,\"do\":\"take\",\"c\":\"c\",\"d\":\"d\",\"max\":3}")
+    ≡ Ok (step 1 (plain.take here 3))
 unfolding serde_json_on_literals
 row_take = refl
 
-pub row_unsubscribe : read_step (codes "{\"s\":1,\"do\":\"unsubscribe\",\"c\":\"c\",\"d\":\"d\"}") ≡ Ok (step 1 (plain.unsubscribe here))
+pub row_unsubscribe : read_step (codes "{\"s\":1,\"do\":\"unsubscribe\",\"c\":\"c\",\"d\":\"d\"}")
+    ≡ Ok (step 1 (plain.unsubscribe here))
 unfolding serde_json_on_literals
 row_unsubscribe = refl
 
-pub row_forget : read_step (codes "{\"s\":1,\"do\":\"forget\",\"c\":\"c\",\"d\":\"d\"}") ≡ Ok (step 1 (plain.forget here))
+pub row_forget : read_step (codes "{\"s\":1,\"do\":\"forget\",\"c\":\"c\",\"d\":\"d\"}")
+    ≡ Ok (step 1 (plain.forget here))
 unfolding serde_json_on_literals
 row_forget = refl
 
@@ -84,11 +97,13 @@ pub row_no_src : read_step (codes "{\"s\":0,\"do\":\"begin\",\"c\":\"c\",\"d\":\
 unfolding serde_json_on_literals
 row_no_src = refl
 
-pub row_no_type : read_step (codes "{\"s\":0,\"do\":\"begin\",\"c\":\"c\",\"d\":\"d\",\"src\":\"a\",\"seq\":1,\"create\":{\"type\":\"text\"}}") ≡ Err E2
+pub row_no_type : read_step
+    (codes "{\"s\":0,\"do\":\"begin\",\"c\":\"c\",\"d\":\"d\",\"src\":\"a\",\"seq\":1,\"create\":{\"type\":\"text\"}}") ≡ Err E2
 unfolding serde_json_on_literals
 row_no_type = refl
 
-pub row_no_op : read_step (codes "{\"s\":0,\"do\":\"begin\",\"c\":\"c\",\"d\":\"d\",\"src\":\"a\",\"seq\":1,\"op\":1}") ≡ Err E3
+pub row_no_op : read_step (codes "{\"s\":0,\"do\":\"begin\",\"c\":\"c\",\"d\":\"d\",\"src\":\"a\",\"seq\":1,\"op\":1}")
+    ≡ Err E3
 unfolding serde_json_on_literals
 row_no_op = refl
 
@@ -126,11 +141,13 @@ pub row_full : answer_text 3 (said plain.full) ≡ codes "{\"do\":\"subscribe\",
 unfolding serde_json_on_literals digits
 row_full = refl
 
-pub row_stored : answer_text 3 (replied (decided (stored 5 (at 4 delete ∷ [])))) ≡ codes "{\"do\":\"commit\",\"missed\":[{\"del\":true,\"seq\":1,\"src\":\"a\",\"v\":4}],\"s\":3,\"v\":5}"
+pub row_stored : answer_text 3 (replied (decided (stored 5 (at 4 delete ∷ []))))
+    ≡ codes "{\"do\":\"commit\",\"missed\":[{\"del\":true,\"seq\":1,\"src\":\"a\",\"v\":4}],\"s\":3,\"v\":5}"
 unfolding serde_json_on_literals digits
 row_stored = refl
 
-pub row_repeated : answer_text 3 (replied (decided (repeated 5))) ≡ codes "{\"do\":\"commit\",\"missed\":[],\"s\":3,\"v\":5}"
+pub row_repeated : answer_text 3 (replied (decided (repeated 5)))
+    ≡ codes "{\"do\":\"commit\",\"missed\":[],\"s\":3,\"v\":5}"
 unfolding serde_json_on_literals digits
 row_repeated = refl
 
@@ -138,11 +155,13 @@ pub row_refused : answer_text 3 (replied (decided (refused E8))) ≡ codes "{\"d
 unfolding serde_json_on_literals digits
 row_refused = refl
 
-pub row_fetched : answer_text 3 (replied (fetched (record { version = 5; snapshot = Some (whole (pos 1)) }))) ≡ codes "{\"data\":1,\"do\":\"fetch\",\"s\":3,\"v\":5}"
+pub row_fetched : answer_text 3 (replied (fetched (record { version = 5; snapshot = Some (whole (pos 1)) })))
+    ≡ codes "{\"data\":1,\"do\":\"fetch\",\"s\":3,\"v\":5}"
 unfolding serde_json_on_literals digits
 row_fetched = refl
 
-pub row_nothing : answer_text 3 (replied (snapped (Ok (record { version = 0; snapshot = None })))) ≡ codes "{\"do\":\"snapshot\",\"s\":3,\"type\":null,\"v\":0}"
+pub row_nothing : answer_text 3 (replied (snapped (Ok (record { version = 0; snapshot = None }))))
+    ≡ codes "{\"do\":\"snapshot\",\"s\":3,\"type\":null,\"v\":0}"
 unfolding serde_json_on_literals digits
 row_nothing = refl
 
@@ -154,11 +173,13 @@ pub row_started : answer_text 3 (replied (subscribed (Ok 5))) ≡ codes "{\"do\"
 unfolding serde_json_on_literals digits
 row_started = refl
 
-pub row_not_started : answer_text 3 (replied (subscribed (Err E4))) ≡ codes "{\"do\":\"subscribe\",\"error\":\"E4\",\"s\":3}"
+pub row_not_started : answer_text 3 (replied (subscribed (Err E4)))
+    ≡ codes "{\"do\":\"subscribe\",\"error\":\"E4\",\"s\":3}"
 unfolding serde_json_on_literals digits
 row_not_started = refl
 
-pub row_taken : answer_text 3 (replied (taken two)) ≡ codes "{\"do\":\"take\",\"ops\":[{\"del\":true,\"seq\":1,\"src\":\"a\",\"v\":0},{\"create\":{\"data\":1,\"type\":\"http://sharejs.org/types/JSONv0\"},\"seq\":1,\"src\":\"a\",\"v\":1}],\"s\":3}"
+pub row_taken : answer_text 3 (replied (taken two))
+    ≡ codes "{\"do\":\"take\",\"ops\":[{\"del\":true,\"seq\":1,\"src\":\"a\",\"v\":0},{\"create\":{\"data\":1,\"type\":\"http://sharejs.org/types/JSONv0\"},\"seq\":1,\"src\":\"a\",\"v\":1}],\"s\":3}"
 unfolding serde_json_on_literals digits
 row_taken = refl
 

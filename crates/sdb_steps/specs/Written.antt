@@ -30,4 +30,6 @@ Wrote lines old new = (text : List ℕ) × Run (map reading_step lines) text × 
 
 -- known bytes grew by a front of the lines for some of these, from the first on
 abbrev pub WroteFront : List (Option (List ℕ)) → Option (List ℕ) → Option (List ℕ) → Type 0
-WroteFront lines old new = (taken : List (Option (List ℕ))) × (text : List ℕ) × IsFront taken lines × Run (map reading_step taken) text × AppendsFront old new text
+WroteFront lines old new =
+    (taken : List (Option (List ℕ))) × (text : List ℕ) × IsFront taken lines × Run (map reading_step taken) text
+    × AppendsFront old new text

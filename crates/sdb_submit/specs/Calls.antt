@@ -58,6 +58,10 @@ Acts m k fetch r new = Reads r (Ok (fetched (m.logs k))) × Same m new
 Acts m k (ops_from v) r new = Reads r (operations (m.logs k) v) × Same m new
 Acts m k (snapshot v) r new = Reads r (snapshot_at (m.logs k) v) × Same m new
 Acts m k forget u new = Same m new
-Acts m k (subscribe v) r new = Subscribes (m.logs k) v (m.queues k) r (new.queues k) × (new.queues ≡ with_queues m.queues k (new.queues k)) × (new.logs ≡ m.logs)
-Acts m k (take_next n max) r new = Takes (m.logs k) n max (m.queues k) r (new.queues k) × (new.queues ≡ with_queues m.queues k (new.queues k)) × (new.logs ≡ m.logs)
+Acts m k (subscribe v) r new =
+    Subscribes (m.logs k) v (m.queues k) r (new.queues k) × (new.queues ≡ with_queues m.queues k (new.queues k))
+    × (new.logs ≡ m.logs)
+Acts m k (take_next n max) r new =
+    Takes (m.logs k) n max (m.queues k) r (new.queues k) × (new.queues ≡ with_queues m.queues k (new.queues k))
+    × (new.logs ≡ m.logs)
 Acts m k (unsubscribe n) u new = (new.queues ≡ with_queues m.queues k (closed n (m.queues k))) × (new.logs ≡ m.logs)

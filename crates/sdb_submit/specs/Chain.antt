@@ -10,15 +10,16 @@ use Rattle.sdb_submit.specs.Calls.{PlainCall, look, commit, commit_now, AnswerTo
 abbrev pub Calls : Type 0 → Type 1
 Calls P = (c : PlainCall) → P → AnswerTo c → P → Type 0
 
--- n tries are left, by this look. Each works and commits: the reply is that of the first that decides.
--- A try that finds the log moved goes on by the look that it is answered. With none left the reply is that of `commit_now`.
--- A try that finds no memory to work answers E10
+-- n tries are left, by this look. Each works and commits: the reply is that of the first that decides. A try that finds
+-- the log moved goes on by the look that it is answered. With none left the reply is that of `commit_now`. A try that
+-- finds no memory to work answers E10
 unfoldable pub Tries : {P : Type 0} → Calls P → PlainSubmission → ℕ → PlainLook → P → PlainReply → P → Type 0
 Tries acts s zero l p r q = acts (commit_now s) p r q
 Tries acts s (suc n) l p r q =
     ((r ≡ refused E10) × (q ≡ p))
     ⊎ (acts (commit (record { submission = s; look = l })) p (decided r) q
-    ⊎ ((m : PlainLook) × ((o : _) × (acts (commit (record { submission = s; look = l })) p (moved m) o × Tries acts s n m o r q))))
+    ⊎ ((m : PlainLook)
+    × ((o : _) × (acts (commit (record { submission = s; look = l })) p (moved m) o × Tries acts s n m o r q))))
 
 -- a look, and eight tries by it
 abbrev pub Submits : {P : Type 0} → Calls P → PlainSubmission → P → PlainReply → P → Type 0

@@ -16,18 +16,23 @@ module _ {P : Type 0} (acts : Calls P) (s : PlainSubmission) (D : P → PlainRep
     pub wanted : (p : P) → D p (refused E10) p
     pub unseen : (p q : P) → acts (look s) p None q → D p (refused E10) q
     pub seen : (p o q : P) (l : PlainLook) (r : PlainReply) → acts (look s) p (Some l) o → D o r q → D p r q
-    pub moves : (p o q : P) (l m : PlainLook) (r : PlainReply) → acts (commit (record { submission = s; look = l })) p (moved m) o → D o r q → D p r q
-    pub at_once : (p q : P) (l : PlainLook) (r : PlainReply) → acts (commit (record { submission = s; look = l })) p (decided r) q → D p r q
+    pub moves : (p o q : P) (l m : PlainLook) (r : PlainReply)
+        → acts (commit (record { submission = s; look = l })) p (moved m) o → D o r q → D p r q
+    pub at_once : (p q : P) (l : PlainLook) (r : PlainReply)
+        → acts (commit (record { submission = s; look = l })) p (decided r) q → D p r q
     pub at_last : (p q : P) (r : PlainReply) → acts (commit_now s) p r q → D p r q
 
   abbrev One : ℕ → PlainLook → P → PlainReply → P → Type 0
   One n l p r q =
       ((r ≡ refused E10) × (q ≡ p))
       ⊎ (acts (commit (record { submission = s; look = l })) p (decided r) q
-      ⊎ ((m : PlainLook) × ((o : P) × (acts (commit (record { submission = s; look = l })) p (moved m) o × Tries acts s n m o r q))))
+      ⊎ ((m : PlainLook)
+      × ((o : P) × (acts (commit (record { submission = s; look = l })) p (moved m) o × Tries acts s n m o r q))))
 
-  one_kept : (k : IsKept) (n : ℕ) (l : PlainLook) (p : P) (r : PlainReply) (q : P) → ((m : PlainLook) (o : P) → Tries acts s n m o r q → D o r q) → One n l p r q → D p r q
-  one_kept k n l p r q below (inl h) = subst (λ x. D p x q) (sym h.0) (subst (λ y. D p (refused E10) y) (sym h.1) (k.wanted p))
+  one_kept : (k : IsKept) (n : ℕ) (l : PlainLook) (p : P) (r : PlainReply) (q : P)
+      → ((m : PlainLook) (o : P) → Tries acts s n m o r q → D o r q) → One n l p r q → D p r q
+  one_kept k n l p r q below (inl h) =
+      subst (λ x. D p x q) (sym h.0) (subst (λ y. D p (refused E10) y) (sym h.1) (k.wanted p))
   one_kept k n l p r q below (inr (inl h)) = k.at_once p q l r h
   one_kept k n l p r q below (inr (inr h)) = k.moves p h.1.0 q l h.0 r h.1.1.0 (below h.0 h.1.0 h.1.1.1)
 
@@ -51,10 +56,13 @@ module _ {P : Type 0} (machine : P → Machine) (k : PlainKey) (s : PlainSubmiss
   abbrev InOneStep : P → PlainReply → P → Type 0
   InOneStep p r q = Decides (machine p).logs k s r (machine q).logs × ((machine q).queues ≡ (machine p).queues)
 
-  later : (p o q : P) (r : PlainReply) → (machine o).logs ≡ (machine p).logs → (machine o).queues ≡ (machine p).queues → InOneStep o r q → InOneStep p r q
+  later : (p o q : P) (r : PlainReply) → (machine o).logs ≡ (machine p).logs → (machine o).queues ≡ (machine p).queues
+      → InOneStep o r q → InOneStep p r q
   later p o q r logs queues h = (subst (λ l. Decides l k s r (machine q).logs) logs h.0, h.1 ∙ queues)
 
-  at_commit : (p q : P) (l : PlainLook) (r : PlainReply) → Commits (machine p).logs k (record { submission = s; look = l }) (decided r) (machine q).logs → Decides (machine p).logs k s r (machine q).logs
+  at_commit : (p q : P) (l : PlainLook) (r : PlainReply)
+      → Commits (machine p).logs k (record { submission = s; look = l }) (decided r) (machine q).logs
+      → Decides (machine p).logs k s r (machine q).logs
   at_commit p q l r (inl h) = inl h
   at_commit p q l r (inr h) = inr (h.1, h.2)
 
@@ -69,6 +77,8 @@ module _ {P : Type 0} (machine : P → Machine) (k : PlainKey) (s : PlainSubmiss
   }
 
 -- a submission whose calls all act on the machine is decided in one step, and leaves the queues
-pub submits_in_one_step : {P : Type 0} (machine : P → Machine) (k : PlainKey) (s : PlainSubmission) (p q : P) (r : PlainReply) → Submits (λ c p a q. Acts (machine p) k c a (machine q)) s p r q
+pub submits_in_one_step : {P : Type 0} (machine : P → Machine) (k : PlainKey) (s : PlainSubmission) (p q : P)
+    (r : PlainReply) → Submits (λ c p a q. Acts (machine p) k c a (machine q)) s p r q
     → Decides (machine p).logs k s r (machine q).logs × ((machine q).queues ≡ (machine p).queues)
-submits_in_one_step machine k s p q r h = submits_kept (OfMachine machine k s) s (InOneStep machine k s) (one_step_kept machine k s) p r q h
+submits_in_one_step machine k s p q r h =
+    submits_kept (OfMachine machine k s) s (InOneStep machine k s) (one_step_kept machine k s) p r q h

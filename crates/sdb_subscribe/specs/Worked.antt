@@ -6,7 +6,12 @@ use Rattle.sdb_oplog.specs.declared.codes.Code.TheVariants.{E11}
 use Rattle.sdb_subscribe.specs.Queue.{PlainQueue, PlainQueues, opened, taken_from, after_take, without}
 
 abbrev entry : ℕ → PlainEntry
-entry n = record { version = n; content = delete; arrived = record { src = codes "x"; seq = n; version = None; content = delete; via = codes "b"; by = 0 } }
+entry n =
+    record {
+      version = n;
+      content = delete;
+      arrived = record { src = codes "x"; seq = n; version = None; content = delete; via = codes "b"; by = 0 };
+    }
 
 -- the log with this many entries
 abbrev log : ℕ → List PlainEntry

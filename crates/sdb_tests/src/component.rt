@@ -222,14 +222,19 @@ const SIZES: &str = r#"[
   [[{"od":"a","oi":[0],"p":["abc"]}], 7]
 ]"#;
 
-// Whether the size of the component is told so up to each limit.
+// Whether the size of the component is told so up to the limit.
+fn is_sized_to(component: &Component, limit: u64, wanted: u64) -> bool {
+    component.size(limit) == limit.min(wanted)
+}
+
+// Whether it is told so up to each limit.
 fn is_sized(component: &Component, wanted: u64) -> bool {
     for limit in 0..=10 {
-        if component.size(limit) != limit.min(wanted) {
+        if !is_sized_to(component, limit, wanted) {
             return false;
         }
     }
-    component.size(18446744073709551615) == wanted
+    is_sized_to(component, 18446744073709551615, wanted)
 }
 
 fn has_size(alloc: Global, row: &Value) -> Result<bool, Fail> {

@@ -103,12 +103,14 @@ impl Board {
         Ok(Attempt { submission, look })
     }
 
-    // An edit by the source, made at the version and worked on what is there now.
+    // An edit by the source, made at the version, with a look at what is there now.
+    fn attempt_edit(&self, src: &str, version: u64, amount: i64) -> Result<Attempt, Fail> {
+        self.attempt(self.edit(src, Some(version), amount)?)
+    }
+
+    // The same, worked.
     fn work(&self, src: &str, version: u64, amount: i64) -> Result<Work, Fail> {
-        worked(
-            self.alloc,
-            self.attempt(self.edit(src, Some(version), amount)?)?,
-        )
+        worked(self.alloc, self.attempt_edit(src, version, amount)?)
     }
 
     fn commit_now(&mut self, submission: Submission) -> Reply {
@@ -446,10 +448,13 @@ fn a_queue_takes_each_entry_once(rt: HostRuntime) -> Result<(), Fail> {
     Ok(())
 }
 
+fn is_opened(opened: &Subscribed, version: u64, wanted: i64) -> bool {
+    let is_there = opened.start == version && opened.version == version;
+    is_there && number(opened.snapshot.as_ref()) == Some(wanted)
+}
+
 fn opens_now(board: &mut Board) -> Result<bool, Fail> {
-    let opened = subscribed(board, None)?;
-    let is_at_three = opened.start == 3 && opened.version == 3;
-    Ok(is_at_three && number(opened.snapshot.as_ref()) == Some(2))
+    Ok(is_opened(&subscribed(board, None)?, 3, 2))
 }
 
 #[test]

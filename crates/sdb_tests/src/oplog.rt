@@ -160,23 +160,28 @@ fn a_content_deletes_a_document(rt: HostRuntime) -> Result<(), Fail> {
     Ok(())
 }
 
+const CODE_TEXTS: [(Code, &str); 11] = [
+    (Code::E1, "message is badly formed"),
+    (Code::E2, "document type is not recognized"),
+    (Code::E3, "operation is badly formed"),
+    (Code::E4, "version is newer than the current snapshot"),
+    (Code::E5, "document was deleted"),
+    (Code::E6, "document was already created"),
+    (Code::E7, "document does not exist"),
+    (Code::E8, "operation can not be applied"),
+    (Code::E9, "operation is not allowed in the projection"),
+    (Code::E10, "out of memory"),
+    (Code::E11, "limit reached"),
+];
+
+fn is_told(alloc: Global, code: Code, wanted: &str) -> Result<bool, Fail> {
+    Ok(code.to_string(alloc)?.as_str() == wanted)
+}
+
 #[test]
 fn codes_are_told(rt: HostRuntime) -> Result<(), Fail> {
-    let texts = [
-        (Code::E1, "message is badly formed"),
-        (Code::E2, "document type is not recognized"),
-        (Code::E3, "operation is badly formed"),
-        (Code::E4, "version is newer than the current snapshot"),
-        (Code::E5, "document was deleted"),
-        (Code::E6, "document was already created"),
-        (Code::E7, "document does not exist"),
-        (Code::E8, "operation can not be applied"),
-        (Code::E9, "operation is not allowed in the projection"),
-        (Code::E10, "out of memory"),
-        (Code::E11, "limit reached"),
-    ];
-    for (code, text) in texts {
-        assert!(rt; code.to_string(rt.alloc())?.as_str() == text, "{text}");
+    for (code, text) in CODE_TEXTS {
+        assert!(rt; is_told(rt.alloc(), code, text)?, "{text}");
     }
     Ok(())
 }

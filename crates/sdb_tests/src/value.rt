@@ -179,15 +179,20 @@ const SIZES: &str = r#"[
   [{"":"😀","b":{"c":[]}}, 10]
 ]"#;
 
-// Whether the size of the value is told so up to each limit.
+// Whether the size of the value is told so up to the limit.
+fn is_sized_to(value: &Json, limit: u64, wanted: u64) -> bool {
+    value.size(limit) == limit.min(wanted)
+}
+
+// Whether it is told so up to each limit.
 fn is_sized(value: &Json, wanted: u64) -> bool {
     laws::well_formed(value);
     for limit in 0..=11 {
-        if value.size(limit) != limit.min(wanted) {
+        if !is_sized_to(value, limit, wanted) {
             return false;
         }
     }
-    value.size(18446744073709551615) == wanted
+    is_sized_to(value, 18446744073709551615, wanted)
 }
 
 fn has_size(alloc: Global, row: &Value) -> Result<bool, Fail> {

@@ -38,4 +38,6 @@ abbrev pub FewPairs : Type 0
 FewPairs = (L R : Components) (x : Crossing PlainComponent) → crossing L R ≡ Some x → x.pairs ≤ weight L * weight R
 
 abbrev pub NoSideGains : Type 0
-NoSideGains = (L R : Components) (x : Crossing PlainComponent) → crossing L R ≡ Some x → (weight x.left ≤ weight L) × (weight x.right ≤ weight R)
+NoSideGains =
+    (L R : Components) (x : Crossing PlainComponent) → crossing L R ≡ Some x
+    → (weight x.left ≤ weight L) × (weight x.right ≤ weight R)

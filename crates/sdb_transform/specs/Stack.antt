@@ -25,14 +25,18 @@ stack ps = reverse (map token ps)
 
 -- where the loop stands on the way to a goal, with this work on top
 abbrev pub ToldWith : List (Token PlainComponent) → Crossings → Progress → Type 0
-ToldWith next goal p = Told (transform Left) (transform Right) weigh goal (top p.waiting.items) (next ++ stack p.work.items) p.done.items p.pairs
+ToldWith next goal p =
+    Told (transform Left) (transform Right) weigh goal (top p.waiting.items)
+    (next ++ stack p.work.items) p.done.items p.pairs
 
 abbrev pub turns_with : List (Token PlainComponent) → Progress → ℕ
 turns_with next p = turns weigh (total weigh (top p.waiting.items)) (next ++ stack p.work.items)
 
 -- the crossing exists, and these are its parts; the pairs as far as a number of 128 bits reaches
 abbrev pub Shows : Crossed → Crossings → Type 0
-Shows c o = (x : Crossing PlainComponent) × (o ≡ Some x) × (c.left ≡ x.left) × (c.right ≡ x.right) × (c.pairs ≡ min x.pairs (2 ^ 128 - 1))
+Shows c o =
+    (x : Crossing PlainComponent) × (o ≡ Some x) × (c.left ≡ x.left) × (c.right ≡ x.right)
+    × (c.pairs ≡ min x.pairs (2 ^ 128 - 1))
 
 -- a pair met: what comes of both is put on the work
 pub record Meets (l r : PlainComponent) (ts ts' : List (Token PlainComponent)) : Type 0 where

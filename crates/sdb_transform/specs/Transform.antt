@@ -110,7 +110,8 @@ abbrev pub lr_over_li : ℕ → Value → Value → ℕ → Acts
 lr_over_li j w z i = if nat_le i j then raised j 1 (λ k. as_it_is (lr k w z)) else as_it_is (lr j w z)
 
 abbrev pub lr_over_ld : ℕ → Value → Value → ℕ → Acts
-lr_over_ld j w z i = if nat_lt i j then as_it_is (lr (j - 1) w z) else (if nat_eq i j then as_it_is (li i z) else as_it_is (lr j w z))
+lr_over_ld j w z i =
+    if nat_lt i j then as_it_is (lr (j - 1) w z) else (if nat_eq i j then as_it_is (li i z) else as_it_is (lr j w z))
 
 -- o put y there
 abbrev pub lr_over_lr : Side → ℕ → Value → Value → ℕ → Value → Acts
@@ -190,8 +191,11 @@ abbrev pub Moved : Type 0
 Moved = Option (Option PlainStep)
 
 abbrev pub index_over : PlainAct → ℕ → Moved
-index_over (li i v) j = if nat_le i j then (if nat_le (j + 1) 9007199254740991 then Some (Some (index (j + 1))) else None) else Some (Some (index j))
-index_over (ld i x) j = if nat_lt i j then Some (Some (index (j - 1))) else (if nat_eq i j then Some None else Some (Some (index j)))
+index_over (li i v) j =
+    if nat_le i j then (if nat_le (j + 1) 9007199254740991 then Some (Some (index (j + 1))) else None)
+    else Some (Some (index j))
+index_over (ld i x) j =
+    if nat_lt i j then Some (Some (index (j - 1))) else (if nat_eq i j then Some None else Some (Some (index j)))
 index_over (lr i x y) j = if nat_eq i j then Some None else Some (Some (index j))
 index_over _ j = Some (Some (index j))
 

@@ -15,7 +15,8 @@ moves (r ∷ rs) = Moves r ∷ moves rs
 abbrev pub through : {C : Type 0} → Table C → Table C → (C → ℕ) → List C → List (Token C) → Option (Crossing C)
 through tl tr weigh L [] = Some (record { left = L; right = []; pairs = 0 })
 through tl tr weigh L (Waits ls ∷ ts) = through tl tr weigh (ls ++ L) ts
-through tl tr weigh L (Moves r ∷ ts) = and_then (cross tl tr weigh L (r ∷ [])) (λ x. and_then (through tl tr weigh x.left ts) (λ y. Some (beside x y)))
+through tl tr weigh L (Moves r ∷ ts) =
+    and_then (cross tl tr weigh L (r ∷ [])) (λ x. and_then (through tl tr weigh x.left ts) (λ y. Some (beside x y)))
 
 -- with what is done already
 abbrev pub after : {C : Type 0} → List C → ℕ → Crossing C → Crossing C
@@ -28,7 +29,8 @@ turns weigh n (Waits ls ∷ ts) = suc (turns weigh (total weigh ls + n) ts)
 turns weigh n (Moves r ∷ ts) = weigh r * (1 + 2 * n) + turns weigh n ts
 
 -- the goal is what is done, and then what comes of the rest
-pub record Told {C : Type 0} (tl tr : Table C) (weigh : C → ℕ) (goal : Option (Crossing C)) (L : List C) (ts : List (Token C)) (done : List C) (pairs : ℕ) : Type 0 where
+pub record Told {C : Type 0} (tl tr : Table C) (weigh : C → ℕ) (goal : Option (Crossing C)) (L : List C)
+    (ts : List (Token C)) (done : List C) (pairs : ℕ) : Type 0 where
   pub count : ℕ
   pub shown : pairs ≡ min count (2 ^ 128 - 1)
   pub rest : goal ≡ and_then (through tl tr weigh L ts) (λ y. Some (after done count y))

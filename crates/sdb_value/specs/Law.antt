@@ -40,13 +40,16 @@ set_same_item i no_items c e = refl
 set_same_item zero (item d ds) c e = let h : c ≡ d = cc in ap (λ v. item v ds) h
 set_same_item (suc i) (item d ds) c e = ap (item d) (set_same_item i ds c e)
 
-same_either : (b : Bool) (l : List ℕ) (c d : Value) (ms ns : Members) (found : Option Value) → Some c ≡ cond b (Some d) found → (Some c ≡ found → ns ≡ ms) → cond b (member l c ms) (member l d ns) ≡ member l d ms
+same_either : (b : Bool) (l : List ℕ) (c d : Value) (ms ns : Members) (found : Option Value)
+    → Some c ≡ cond b (Some d) found → (Some c ≡ found → ns ≡ ms)
+    → cond b (member l c ms) (member l d ns) ≡ member l d ms
 same_either true l c d ms ns found e h = let g : c ≡ d = cc in ap (λ v. member l v ms) g
 same_either false l c d ms ns found e h = ap (member l d) (h e)
 
 pub set_same_member : (k : List ℕ) (ms : Members) (c : Value) → Some c ≡ member_at k ms → set_member k ms c ≡ ms
 set_same_member k no_members c e = refl
-set_same_member k (member l d ms) c e = same_either (same_text k l) l c d ms _ (member_at k ms) e (set_same_member k ms c)
+set_same_member k (member l d ms) c e =
+    same_either (same_text k l) l c d ms _ (member_at k ms) e (set_same_member k ms c)
 
 -- the same one step down
 one_same : (w : PlainStep) (d c : Value) → one w d ≡ Some c → with_one w d c ≡ d
@@ -63,7 +66,8 @@ one_same (key k) (whole n) c e = cc
 one_same (key k) (text s) c e = cc
 one_same (key k) (list ds) c e = cc
 
-with_same_at : (o : Option Value) (w : PlainStep) (p : List PlainStep) (d u : Value) → one w d ≡ o → option_and_then (λ c. at c p) o ≡ Some u
+with_same_at : (o : Option Value) (w : PlainStep) (p : List PlainStep) (d u : Value) → one w d ≡ o
+    → option_and_then (λ c. at c p) o ≡ Some u
     → ((c : Value) → at c p ≡ Some u → with c p u ≡ c) → option_map_or (λ c. with_one w d (with c p u)) o d ≡ d
 with_same_at None w p d u e h below = cc
 with_same_at (Some c) w p d u e h below = ap (with_one w d) (below c h) ∙ one_same w d c e

@@ -1,4 +1,5 @@
--- Which data, as `serde_json` reads them, are values of the profile: every number is whole, from -9007199254740991 to 9007199254740991.
+-- Which data, as `serde_json` reads them, are values of the profile: every number is whole, from -9007199254740991 to
+-- 9007199254740991.
 use Rattle.std.specs.Prelude.{◌≡◌, ℕ, ◌<◌, nat_lt, ℤ, pos, negsuc, int_lt, if◌then◌else◌, Option, Some, None, option_map, option_and_then, ⊤}
 use Rattle.serde_json.specs.Data as raw
 use Rattle.serde_json.specs.Find.{as_integer, as_number, as_u64, of_integer}
@@ -7,14 +8,16 @@ use Rattle.sdb_value.specs.declared.convert.ValueFault.{ValueFault}
 use Rattle.sdb_value.specs.declared.convert.ValueFault.TheVariants.{Number, Depth, Memory}
 
 abbrev pub in_range : ℤ → Option ℤ
-in_range z = if int_lt z (negsuc 9007199254740990) then None else (if int_lt (pos 9007199254740991) z then None else Some z)
+in_range z =
+    if int_lt z (negsuc 9007199254740990) then None else (if int_lt (pos 9007199254740991) z then None else Some z)
 
 abbrev pub whole_of : raw.Num → Option ℤ
 whole_of n = option_and_then in_range (as_integer n)
 
 -- a whole number from 0 to 9007199254740991
 abbrev pub count_of : raw.Data → Option ℕ
-count_of d = option_and_then (λ n. if nat_lt 9007199254740991 n then None else Some n) (option_and_then as_u64 (as_number d))
+count_of d =
+    option_and_then (λ n. if nat_lt 9007199254740991 n then None else Some n) (option_and_then as_u64 (as_number d))
 
 abbrev mutual
   pub of_data : raw.Data → Option Value

@@ -53,7 +53,8 @@ set_member k (member l d ms) u = cond (same_text k l) (member l u ms) (member l 
 -- the members, with u at k: an equal key takes u, and a new one goes to its place in the order of bytes
 abbrev pub put : List ℕ → Value → Members → Members
 put k u no_members = member k u no_members
-put k u (member l d ms) = match_ordering (slice_cmp nat_cmp k l) (member k u (member l d ms)) (member l u ms) (member l d (put k u ms))
+put k u (member l d ms) =
+    match_ordering (slice_cmp nat_cmp k l) (member k u (member l d ms)) (member l u ms) (member l d (put k u ms))
 
 -- the members without k
 abbrev pub without : List ℕ → Members → Members
@@ -91,7 +92,8 @@ remove_item i ds = if nat_lt i (count ds) then Some (join (take_items i ds) (dro
 
 -- the item at i becomes u
 abbrev pub replace_item : ℕ → Value → Items → Option Items
-replace_item i u ds = if nat_lt i (count ds) then Some (join (take_items i ds) (item u (drop_items (suc i) ds))) else None
+replace_item i u ds =
+    if nat_lt i (count ds) then Some (join (take_items i ds) (item u (drop_items (suc i) ds))) else None
 
 -- how deep lists and objects nest
 abbrev mutual

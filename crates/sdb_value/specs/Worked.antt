@@ -15,7 +15,9 @@ pair_with u = list (item (int 1) (item u no_items))
 
 -- {"a": [1, {"b": u}], "c": null}
 abbrev nested : Value → Value
-nested u = object (member (codes "a") (pair_with (object (member (codes "b") u no_members))) (member (codes "c") null no_members))
+nested u =
+    object (member (codes "a") (pair_with (object (member (codes "b") u no_members)))
+    (member (codes "c") null no_members))
 
 -- a.1.b
 abbrev place : List PlainStep
@@ -73,7 +75,8 @@ row_replace_past = refl
 abbrev ac : Members
 ac = member (codes "a") (int 1) (member (codes "c") (int 3) no_members)
 
-pub row_put_between : put (codes "b") (int 2) ac ≡ member (codes "a") (int 1) (member (codes "b") (int 2) (member (codes "c") (int 3) no_members))
+pub row_put_between : put (codes "b") (int 2) ac
+    ≡ member (codes "a") (int 1) (member (codes "b") (int 2) (member (codes "c") (int 3) no_members))
 row_put_between = refl
 
 pub row_put_again : put (codes "a") null ac ≡ member (codes "a") null (member (codes "c") (int 3) no_members)
