@@ -81,15 +81,49 @@ fn stored(reply: &Reply) -> Option<(u64, usize)> {
     }
 }
 
-// Stores the document, as the first submission of the pass.
-fn create<R: Wait + Drop>(
+// A backend, a document's key, and two who have come.
+#[derive(Drop)]
+struct Room<R: Wait> {
+    backend: Backend<R>,
+    host: Host,
+    key: Key,
+    first: Pass,
+    second: Pass,
+}
+
+fn opened<R: Wait + Drop>(alloc: Global, rt: R) -> Option<Room<R>> {
+    let key = key(alloc)?;
+    let (backend, mut host) = Backend::new(alloc, rt);
+    let (first, second) = two_passes(&backend, &mut host)?;
+    Some(Room {
+        backend,
+        host,
+        key,
+        first,
+        second,
+    })
+}
+
+fn two_passes<R: Wait + Drop>(backend: &Backend<R>, host: &mut Host) -> Option<(Pass, Pass)> {
+    let first = backend.enter(host).ok()?;
+    Some((first, backend.enter(host).ok()?))
+}
+
+// Stores the document, as the first submission of the pass: where it is stored.
+fn created<R: Wait + Drop>(
     alloc: Global,
     backend: &Backend<R>,
     pass: &mut Pass,
     key: &Key,
-) -> Option<Reply> {
+) -> Option<(u64, usize)> {
     let submission = through(alloc, pass, 1, None, creating(alloc)?)?;
-    Some(submit(alloc, backend, pass, key, &submission, &NoGate))
+    stored(&submit(alloc, backend, pass, key, &submission, &NoGate))
+}
+
+// The number of the document that is fetched.
+fn fetched<R: Wait + Drop>(backend: &Backend<R>, pass: &mut Pass, key: &Key) -> Option<i64> {
+    let fetched = backend.fetch(pass, key).ok()?;
+    number(fetched.snapshot.as_ref())
 }
 
 // Holds the first try until another submission was answered, for so many turns at most, and notes the
@@ -119,6 +153,13 @@ fn wait_for(number: &AtomicU64, wanted: u64) {
     }
 }
 
+// An edit of version 1.
+fn late(alloc: Global, pass: &Pass, seq: u64, amount: i64) -> Option<Submission>
+    ensures { IfSome result (λ s. s.by ≡ pass.now) }
+{
+    through(alloc, pass, seq, Some(1), adding(alloc, amount)?)
+}
+
 // Submits while the other is held, and tells that it was answered.
 fn submit_quick<R: Wait + Drop>(
     alloc: Global,
@@ -128,13 +169,13 @@ fn submit_quick<R: Wait + Drop>(
     submission: &Submission,
     answered: &AtomicU64,
     last: &AtomicU64,
-) -> Reply
+) -> Option<(u64, usize)>
     requires { submission.now.by ≡ pass.old }
 {
     wait_for(last, 1);
     let reply = submit(alloc, backend, pass, key, submission, &NoGate);
     answered.store(1, Ordering::SeqCst);
-    reply
+    stored(&reply)
 }
 
 // Submits, held before the first try until the other was answered.
@@ -146,43 +187,36 @@ fn submit_held<R: Wait + Drop>(
     submission: &Submission,
     answered: &AtomicU64,
     last: &AtomicU64,
-) -> Reply
+) -> Option<(u64, usize)>
     requires { submission.now.by ≡ pass.old }
 {
-    submit(
-        alloc,
-        backend,
-        pass,
-        key,
-        submission,
-        &Held { answered, last },
-    )
+    let gate = Held { answered, last };
+    stored(&submit(alloc, backend, pass, key, submission, &gate))
 }
 
 #[test]
 fn nobody_waits_for_a_submission_that_is_held(rt: HostRuntime) -> Result<(), Fail> {
     let alloc = rt.alloc();
-    let (backend, mut host) = Backend::new(alloc, rt);
-    let key = key(alloc).ok_or("no key")?;
-    let mut slow = backend.enter(&mut host).or(Err("no pass"))?;
-    let mut quick = backend.enter(&mut host).or(Err("no pass"))?;
-    let created = create(alloc, &backend, &mut slow, &key).ok_or("no memory")?;
-    assert_eq!(rt; stored(&created), Some((0, 0)));
-    let ten = adding(alloc, 10).ok_or("no memory")?;
-    let first = through(alloc, &slow, 2, Some(1), ten).ok_or("no memory")?;
-    let five = adding(alloc, 5).ok_or("no memory")?;
-    let second = through(alloc, &quick, 1, Some(1), five).ok_or("no memory")?;
+    let Room {
+        backend,
+        key,
+        first: mut slow,
+        second: mut quick,
+        ..
+    } = opened(alloc, rt).ok_or("no passes")?;
+    assert!(rt; created(alloc, &backend, &mut slow, &key) == Some((0, 0)));
+    let first = late(alloc, &slow, 2, 10).ok_or("no memory")?;
+    let second = late(alloc, &quick, 1, 5).ok_or("no memory")?;
     let (answered, last) = (AtomicU64::new(0), AtomicU64::new(0));
     let (late, early) = thread::join(
         &rt,
         || submit_held(alloc, &backend, &mut slow, &key, &first, &answered, &last),
         || submit_quick(alloc, &backend, &mut quick, &key, &second, &answered, &last),
     );
-    assert_eq!(rt; stored(&early), Some((1, 0)));
-    assert_eq!(rt; last.load(Ordering::SeqCst), 2);
-    assert_eq!(rt; stored(&late), Some((2, 1)));
-    let fetched = backend.fetch(&mut slow, &key).or(Err("not fetched"))?;
-    assert_eq!(rt; number(fetched.snapshot.as_ref()), Some(15));
+    assert!(rt; early == Some((1, 0)));
+    assert!(rt; last.load(Ordering::SeqCst) == 2);
+    assert!(rt; late == Some((2, 1)));
+    assert!(rt; fetched(&backend, &mut slow, &key) == Some(15));
     Ok(())
 }
 
@@ -218,7 +252,7 @@ fn edit<R: Wait + Drop>(
     key: &Key,
     seq: u64,
 ) -> Option<Reply> {
-    let submission = through(alloc, pass, seq, Some(1), adding(alloc, 1)?)?;
+    let submission = late(alloc, pass, seq, 1)?;
     let reply = submit(alloc, backend, pass, key, &submission, &NoGate);
     let Reply::Stored { v, .. } = &reply else {
         return None;
@@ -282,29 +316,42 @@ fn are_told(log: &Log, source: &str, replies: &[Reply]) -> bool {
     replies.len() as u64 == EDITS
 }
 
+// Whether the document has the edits of both, each as its replies tell.
+fn has_all(audit: &Audit, key: &Key, ones: &[Reply], twos: &[Reply]) -> bool {
+    let Some(log) = audit.log(key) else {
+        return false;
+    };
+    audit.documents().len() == 1
+        && log.len() == 1 + 2 * EDITS
+        && replayed(log) == Some(20)
+        && are_told(log, "x1", ones)
+        && are_told(log, "x2", twos)
+}
+
+// The number that the log makes.
+fn replayed(log: &Log) -> Option<i64> {
+    number(log.replay(log.len()).ok()?.as_ref())
+}
+
 #[test]
 fn what_threads_store_is_read_back(rt: HostRuntime) -> Result<(), Fail> {
     let alloc = rt.alloc();
-    let (backend, mut host) = Backend::new(alloc, rt);
-    let key = key(alloc).ok_or("no key")?;
-    let mut first = backend.enter(&mut host).or(Err("no pass"))?;
-    let mut second = backend.enter(&mut host).or(Err("no pass"))?;
-    let created = create(alloc, &backend, &mut first, &key).ok_or("no memory")?;
-    assert_eq!(rt; stored(&created), Some((0, 0)));
+    let Room {
+        backend,
+        host,
+        key,
+        mut first,
+        mut second,
+    } = opened(alloc, rt).ok_or("no passes")?;
+    assert!(rt; created(alloc, &backend, &mut first, &key) == Some((0, 0)));
     let (ones, twos) = thread::join(
         &rt,
         || edit_all(alloc, &backend, &mut first, &key),
         || edit_all(alloc, &backend, &mut second, &key),
     );
-    let ones = ones.ok_or("not read back")?;
-    let twos = twos.ok_or("not read back")?;
     let audit = closed(alloc, backend, host, first, second).ok_or("not closed")?;
-    let log = audit.log(&key).ok_or("no log")?;
-    assert_eq!(rt; audit.documents().len(), 1);
-    assert_eq!(rt; log.len(), 1 + 2 * EDITS);
-    assert_eq!(rt; number(log.replay(log.len())?.as_ref()), Some(20));
-    assert!(rt; are_told(log, "x1", ones.as_slice()));
-    assert!(rt; are_told(log, "x2", twos.as_slice()));
+    let (ones, twos) = (ones.ok_or("not read back")?, twos.ok_or("not read back")?);
+    assert!(rt; has_all(&audit, &key, ones.as_slice(), twos.as_slice()));
     Ok(())
 }
 

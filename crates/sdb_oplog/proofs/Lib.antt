@@ -1,3 +1,4 @@
+pub mod Alike
 pub mod Growing
 pub mod Indexed
 pub mod Logging

@@ -1,5 +1,5 @@
 //! Whether entries are the same.
-ghost use Rattle.std.specs.Prelude.{◌≡◌, IsTrue};
+ghost use Rattle.std.specs.Prelude.{◌≡◌, IsTrue, IsFalse};
 ghost use Rattle.sdb_value.specs.View.{view, items_view, members_view, plain_step, plain_path};
 ghost use Rattle.sdb_component.specs.View.{plain_act};
 
@@ -11,7 +11,8 @@ use std::collections::BTreeMap;
 
 /// Whether the entries are the same, one by one.
 pub fn same_entries(a: &[Entry], b: &[Entry]) -> bool
-    ensures { IsTrue result → a.now ≡ b.now }
+    ensures same { IsTrue result → a.now ≡ b.now }
+    ensures other { IsFalse result → a.now ≡ b.now → ⊥ }
 {
     if a.len() != b.len() {
         return false;
@@ -25,7 +26,8 @@ pub fn same_entries(a: &[Entry], b: &[Entry]) -> bool
 }
 
 fn same_entry(a: &Entry, b: &Entry) -> bool
-    ensures { IsTrue result → a.now ≡ b.now }
+    ensures same { IsTrue result → a.now ≡ b.now }
+    ensures other { IsFalse result → a.now ≡ b.now → ⊥ }
 {
     a.version() == b.version()
         && same_content(a.content(), b.content())
@@ -33,7 +35,8 @@ fn same_entry(a: &Entry, b: &Entry) -> bool
 }
 
 fn same_submission(a: &Submission, b: &Submission) -> bool
-    ensures { IsTrue result → a.now ≡ b.now }
+    ensures same { IsTrue result → a.now ≡ b.now }
+    ensures other { IsFalse result → a.now ≡ b.now → ⊥ }
 {
     a.src() == b.src()
         && a.seq() == b.seq()
@@ -44,7 +47,8 @@ fn same_submission(a: &Submission, b: &Submission) -> bool
 }
 
 fn same_content(a: &Content, b: &Content) -> bool
-    ensures { IsTrue result → a.now ≡ b.now }
+    ensures same { IsTrue result → a.now ≡ b.now }
+    ensures other { IsFalse result → a.now ≡ b.now → ⊥ }
 {
     match a.kind() {
         Kind::Create(value) => match b.kind() {
@@ -63,7 +67,8 @@ fn same_content(a: &Content, b: &Content) -> bool
 }
 
 fn same_components(a: &[Component], b: &[Component]) -> bool
-    ensures { IsTrue result → a.now ≡ b.now }
+    ensures same { IsTrue result → a.now ≡ b.now }
+    ensures other { IsFalse result → a.now ≡ b.now → ⊥ }
 {
     if a.len() != b.len() {
         return false;
@@ -77,13 +82,15 @@ fn same_components(a: &[Component], b: &[Component]) -> bool
 }
 
 fn same_component(a: &Component, b: &Component) -> bool
-    ensures { IsTrue result → a.now ≡ b.now }
+    ensures same { IsTrue result → a.now ≡ b.now }
+    ensures other { IsFalse result → a.now ≡ b.now → ⊥ }
 {
     same_path(a.path(), b.path()) && same_act(a.act(), b.act())
 }
 
 fn same_path(a: &[Step], b: &[Step]) -> bool
-    ensures { IsTrue result → plain_path a.now ≡ plain_path b.now }
+    ensures same { IsTrue result → plain_path a.now ≡ plain_path b.now }
+    ensures other { IsFalse result → plain_path a.now ≡ plain_path b.now → ⊥ }
 {
     if a.len() != b.len() {
         return false;
@@ -97,7 +104,8 @@ fn same_path(a: &[Step], b: &[Step]) -> bool
 }
 
 fn same_step(a: &Step, b: &Step) -> bool
-    ensures { IsTrue result → plain_step a.now ≡ plain_step b.now }
+    ensures same { IsTrue result → plain_step a.now ≡ plain_step b.now }
+    ensures other { IsFalse result → plain_step a.now ≡ plain_step b.now → ⊥ }
 {
     match a {
         Step::Key(key) => match b {
@@ -112,7 +120,8 @@ fn same_step(a: &Step, b: &Step) -> bool
 }
 
 fn same_act(a: &Act, b: &Act) -> bool
-    ensures { IsTrue result → plain_act a.now ≡ plain_act b.now }
+    ensures same { IsTrue result → plain_act a.now ≡ plain_act b.now }
+    ensures other { IsFalse result → plain_act a.now ≡ plain_act b.now → ⊥ }
 {
     match a {
         Act::Na(x) => match b {
@@ -156,7 +165,8 @@ fn same_act(a: &Act, b: &Act) -> bool
 
 #[cycle(same)]
 fn same_json(a: &Json, b: &Json) -> bool
-    ensures { IsTrue result → view a.now ≡ view b.now }
+    ensures same { IsTrue result → view a.now ≡ view b.now }
+    ensures other { IsFalse result → view a.now ≡ view b.now → ⊥ }
 {
     match a {
         Json::Null => match b {
@@ -188,7 +198,8 @@ fn same_json(a: &Json, b: &Json) -> bool
 
 #[cycle(same)]
 fn same_items(a: &Vec<Json>, b: &Vec<Json>) -> bool
-    ensures { IsTrue result → items_view a.now.items ≡ items_view b.now.items }
+    ensures same { IsTrue result → items_view a.now.items ≡ items_view b.now.items }
+    ensures other { IsFalse result → items_view a.now.items ≡ items_view b.now.items → ⊥ }
 {
     if a.len() != b.len() {
         return false;
@@ -203,7 +214,8 @@ fn same_items(a: &Vec<Json>, b: &Vec<Json>) -> bool
 
 #[cycle(same)]
 fn same_members(a: &BTreeMap<String, Json>, b: &BTreeMap<String, Json>) -> bool
-    ensures { IsTrue result → members_view a.now.entries ≡ members_view b.now.entries }
+    ensures same { IsTrue result → members_view a.now.entries ≡ members_view b.now.entries }
+    ensures other { IsFalse result → members_view a.now.entries ≡ members_view b.now.entries → ⊥ }
 {
     let mut others = b.iter();
     for (key, member) in a.iter() {

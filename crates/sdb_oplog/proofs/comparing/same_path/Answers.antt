@@ -1,0 +1,15 @@
+use Rattle.std.proofs.Common.{◌<◌, ap, sym, ◌∙◌, length, arith}
+use Rattle.sdb_value.specs.View.{plain_step}
+use Rattle.sdb_oplog.proofs.Alike.{alike_at}
+use Rattle.sdb_oplog.proofs.comparing.same_path.Goals as goal
+
+-- src/comparing.rt:100:13
+pub returns-then-not-same_step-clause-other : goal.returns-then-not-same_step-clause-other
+returns-then-not-same_step-clause-other c f h =
+    let a = c.args.a.now in
+    let b = c.args.b.now in
+    let x = c.index-a-at.result in
+    let y = c.index-b-at.result in
+    let within : c.loop-at.at < length b = omega (arith, c.loop-at-test.true, c.loop-at.invariant.long) in
+    let same = alike_at plain_step a b c.loop-at.at x y c.loop-at-test.true within h in
+    c.if-not-same_step.ensures.other f (ap plain_step c.index-a-at.is ∙ same ∙ sym (ap plain_step c.index-b-at.is))
