@@ -3,7 +3,7 @@ use Rattle.sdb_value.specs.View.{view}
 use Rattle.sdb_oplog.proofs.Alike.{items_alike, as_long, alike_at}
 use Rattle.sdb_oplog.proofs.comparing.+same.Goals as goal
 
--- src/comparing.rt:205:9
+-- lists of other lengths are other lists
 pub same_items-returns-then-len-clause-other : goal.same_items-returns-then-len-clause-other
 same_items-returns-then-len-clause-other t c _ h =
     let xs = c.args.a.now.items in
@@ -11,7 +11,7 @@ same_items-returns-then-len-clause-other t c _ h =
     let long = as_long view xs ys (items_alike (map view xs) (map view ys) h) in
     c.if-len.true (omega (arith, c.len.ensures, c.len-2.ensures, long))
 
--- src/comparing.rt:209:13
+-- and so are lists of which one item is another
 pub same_items-returns-then-not-same_json-clause-other : goal.same_items-returns-then-not-same_json-clause-other
 same_items-returns-then-not-same_json-clause-other t c f h =
     let xs = c.args.a.now.items in

@@ -3,7 +3,7 @@ use Rattle.sdb_value.specs.View.{plain_step}
 use Rattle.sdb_oplog.proofs.Alike.{alike_at}
 use Rattle.sdb_oplog.proofs.comparing.same_path.Goals as goal
 
--- src/comparing.rt:100:13
+-- paths of which one step is another are other paths
 pub returns-then-not-same_step-clause-other : goal.returns-then-not-same_step-clause-other
 returns-then-not-same_step-clause-other c f h =
     let a = c.args.a.now in
