@@ -27,26 +27,6 @@ pub trait Source {
         ensures calls { calls self.new ≡ min (calls self.old + 1) (2 ^ 64 - 1) };
 }
 
-/// A writer that tells whether a write or a flush has failed.
-pub trait Sink {
-    // The bytes that were written, for a writer that can tell.
-    ghost contents: { Self → Option (List ℕ) };
-
-    // Whether a write or a flush has ever answered an error, or a write took 0 bytes of some.
-    ghost has_failed: { Self → Bool };
-
-    /// Writes a front of `buf`, and answers its length in bytes. 0 bytes of some is a failure.
-    fn put(&mut self, buf: &[u8]) -> io::Result<usize>
-        ensures bound { WritesAtMost result buf.now }
-        ensures bytes { WriteAppends (contents self.old) (contents self.new) result buf.now }
-        ensures failed { has_failed self.new ≡ (stalls result (length buf.now) || has_failed self.old) };
-
-    /// Flushes what was written.
-    fn push_out(&mut self) -> io::Result<()>
-        ensures bytes { Keeps (contents self.old) (contents self.new) }
-        ensures failed { has_failed self.new ≡ (is_err result || has_failed self.old) };
-}
-
 /// A reader of `std`, watched. A failure is never forgotten, and stops no later call.
 #[derive(Drop)]
 pub struct WatchedReader<S> {
@@ -88,6 +68,26 @@ impl<S: Read> Source for WatchedReader<S> {
         }
         answer
     }
+}
+
+/// A writer that tells whether a write or a flush has failed.
+pub trait Sink {
+    // The bytes that were written, for a writer that can tell.
+    ghost contents: { Self → Option (List ℕ) };
+
+    // Whether a write or a flush has ever answered an error, or a write took 0 bytes of some.
+    ghost has_failed: { Self → Bool };
+
+    /// Writes a front of `buf`, and answers its length in bytes. 0 bytes of some is a failure.
+    fn put(&mut self, buf: &[u8]) -> io::Result<usize>
+        ensures bound { WritesAtMost result buf.now }
+        ensures bytes { WriteAppends (contents self.old) (contents self.new) result buf.now }
+        ensures failed { has_failed self.new ≡ (stalls result (length buf.now) || has_failed self.old) };
+
+    /// Flushes what was written.
+    fn push_out(&mut self) -> io::Result<()>
+        ensures bytes { Keeps (contents self.old) (contents self.new) }
+        ensures failed { has_failed self.new ≡ (is_err result || has_failed self.old) };
 }
 
 /// A writer of `std`, watched. A failure is never forgotten, and stops no later call.
