@@ -1,3 +1,4 @@
+pub mod Changes
 pub mod Lists
 pub mod Outcomes
 pub mod Under

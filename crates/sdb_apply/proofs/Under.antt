@@ -3,13 +3,12 @@ use Rattle.std.proofs.Common.{◌≡◌, ℕ, zero, suc, ◌≤◌, List, [], �
 use Rattle.std.specs.Prelude.{⊤, true}
 use Rattle.std.specs.Option.{option_and_then}
 use Rattle.std.proofs.lemmas.List.{take-append-drop, take_more, map-append, take_rest, take-map, length-map}
-use Rattle.std.proofs.Math.Seq.{take-length}
 use Rattle.sdb_value.specs.View.{plain_step, plain_path}
 use Rattle.sdb_value.specs.declared.places.Step.{Step}
 use Rattle.sdb_component.specs.Plain.{PlainAct}
 use Rattle.sdb_apply.proofs.Lists.{one_more, none_more}
 use Rattle.sdb_value.specs.Value.{Value, PlainStep, at, with}
-use Rattle.sdb_value.specs.Change.{ChangedAt, NothingAt}
+use Rattle.sdb_value.specs.Change.{ChangedAt}
 use Rattle.sdb_value.specs.Places.{at_behind, with_behind, at_written, with_again}
 use Rattle.sdb_value.specs.Law.{with_same}
 use Rattle.sdb_component.specs.Plain.{PlainComponent}
@@ -34,7 +33,7 @@ map_behind None e f g h same = refl
 map_behind (Some x) e f g h same = map_twice (e x) f g h same
 
 -- a component under a place does to the value there what it does to the whole
-does_path : (p q x : List PlainStep) (c : PlainComponent) (d u : Value) → at d p ≡ Some u → x ≡ p ++ q
+pub does_path : (p q x : List PlainStep) (c : PlainComponent) (d u : Value) → at d p ≡ Some u → x ≡ p ++ q
     → option_and_then (λ v. option_map (with d x) (effect c.act v)) (at d x) ≡ option_map (with d p) (option_and_then (λ v. option_map (with u q) (effect c.act v)) (at u q))
 does_path p q x c d u found is =
     ap (λ y. option_and_then (λ v. option_map (with d y) (effect c.act v)) (at d y)) is
@@ -44,7 +43,7 @@ does_path p q x c d u found is =
 pub does_under : (p : List PlainStep) (c : PlainComponent) (d u : Value) → at d p ≡ Some u → IsUnder p c → does c d ≡ option_map (with d p) (does (under (length p) c) u)
 does_under p c d u found h = does_path p (drop (length p) c.path) c.path c d u found (goes_on p c h)
 
-under_then : (o : Option Value) (p : List PlainStep) (cs ds : List PlainComponent) (d u : Value) → at d p ≡ Some u
+pub under_then : (o : Option Value) (p : List PlainStep) (cs ds : List PlainComponent) (d u : Value) → at d p ≡ Some u
     → ((v : Value) → applies cs (with d p v) ≡ option_map (with (with d p v) p) (applies ds v))
     → option_and_then (applies cs) (option_map (with d p) o) ≡ option_map (with d p) (option_and_then (applies ds) o)
 under_then None p cs ds d u found below = refl

@@ -3,6 +3,7 @@
 
 mod acts;
 mod applying;
+pub mod laws;
 mod whole;
 
 pub use applying::{ApplyFault, Refused, apply, apply_at, apply_one};

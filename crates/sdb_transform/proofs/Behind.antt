@@ -1,31 +1,17 @@
 -- Paths that lead on below another.
-use Rattle.std.proofs.Common.{◌≡◌, ℕ, suc, ◌+◌, ◌<◌, List, [], ◌∷◌, ◌++◌, length, get_or, set, Option, Some, None, option_map, Bool, true, false, eqb, refl, sym, ap, ◌∙◌, arith, length-append}
+use Rattle.std.proofs.Common.{◌≡◌, ℕ, suc, ◌+◌, ◌<◌, List, [], ◌∷◌, ◌++◌, length, get_or, set, Option, Some, None, option_map, Bool, true, false, refl, sym, ap, ◌∙◌, arith, length-append}
 use Rattle.std.proofs.lemmas.List.{length-map}
 use Rattle.std.specs.Prelude.{if◌then◌else◌}
-use Rattle.std.proofs.lemmas.Bool.Decides.{nat_tests}
-use Rattle.std.proofs.lemmas.Map.Text.{is_eq-slice_cmp}
-use Rattle.std.proofs.lemmas.Slice.Eq.{bytes_eq-Decides}
-use Rattle.sdb_value.specs.Value.{PlainStep, key, index, same_text}
+use Rattle.sdb_value.specs.Value.{PlainStep, same_step}
 use Rattle.sdb_value.specs.View.{plain_step, plain_path}
+use Rattle.sdb_value.proofs.Apart.{equal_steps}
 use Rattle.sdb_value.specs.declared.places.Step.{Step}
 use Rattle.sdb_component.specs.Plain.{PlainComponent}
 use Rattle.sdb_transform.specs.declared.side.Side.{Side}
-use Rattle.sdb_transform.specs.Transform.{same_step, behind, step_over, moved, transform, at_path}
+use Rattle.sdb_transform.specs.Transform.{behind, step_over, moved, transform, at_path}
 use Rattle.sdb_transform.specs.Acts.{IsFaultOf}
 use Rattle.sdb_transform.specs.declared.side.Fault.{Fault}
 use Rattle.sdb_transform.specs.declared.side.Fault.TheVariants.{NotTransformed, Memory}
-
-equal_texts : (k l : List ℕ) → same_text k l ≡ true → k ≡ l
-equal_texts k l e = (bytes_eq-Decides k l).0 (sym (is_eq-slice_cmp k l) ∙ e)
-
-equal_numbers : (i j : ℕ) → eqb i j ≡ true → i ≡ j
-equal_numbers i j e = grind (arith, nat_tests)
-
-pub equal_steps : (s t : PlainStep) → same_step s t ≡ true → s ≡ t
-equal_steps (key k) (key l) e = ap key (equal_texts k l e)
-equal_steps (index i) (index j) e = ap index (equal_numbers i j e)
-equal_steps (key k) (index j) e = cc
-equal_steps (index i) (key l) e = cc
 
 behind_or : (b : Bool) (s t : PlainStep) (front path rest : List PlainStep) → same_step s t ≡ b → (if b then behind front path else None) ≡ Some rest
     → (behind front path ≡ Some rest → path ≡ front ++ rest) → t ∷ path ≡ s ∷ (front ++ rest)

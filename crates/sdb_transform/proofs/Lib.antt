@@ -1,6 +1,15 @@
 pub mod Behind
 pub mod Cuts
 pub mod Grid
+pub mod MeetActs
+pub mod MeetBounds
+pub mod MeetLists
+pub mod MeetNumbers
+pub mod MeetObjects
+pub mod MeetRemovals
+pub mod MeetTexts
+pub mod MeetUnder
+pub mod Meeting
 pub mod Pairs
 pub mod Run
 pub mod Stack

@@ -1,16 +1,15 @@
 -- Operations of one component each.
-use Rattle.std.proofs.Common.{◌≡◌, ◌≤◌, ◌*◌, List, [], ◌∷◌, ◌++◌, Option, Some, None, ap, ◌∙◌, IfErr, Result, Ok, Err}
+use Rattle.std.proofs.Common.{◌≡◌, List, [], ◌∷◌, Some, None, ap, ◌∙◌}
 use Rattle.std.proofs.lemmas.List.{append-nil}
 use Rattle.sdb_component.specs.Plain.{PlainComponent}
-use Rattle.sdb_component.specs.Weighs.{weight}
 use Rattle.sdb_transform.specs.Acts.{IsFaultOf}
 use Rattle.sdb_transform.specs.declared.side.Fault.{Fault}
 use Rattle.sdb_transform.specs.declared.side.Fault.TheVariants.{Memory, NotTransformed}
 use Rattle.sdb_transform.specs.declared.side.Side.TheVariants.{Left, Right}
-use Rattle.sdb_transform.specs.Grid.{Crossing, Crossings, and_then, crossing, joined}
+use Rattle.sdb_transform.specs.Grid.{Crossings, and_then, crossing, joined}
 use Rattle.sdb_transform.specs.Transform.{transform}
 use Rattle.sdb_transform.proofs.Grid.{cross_left_empty, cross_right_empty, cross_pair, and_then_none}
-use Rattle.sdb_transform.proofs.Weights.{weighs, few_pairs}
+use Rattle.sdb_transform.proofs.Weights.{weighs}
 
 module _ (l r : PlainComponent) where
   -- what comes of both where nothing else is there

@@ -1,6 +1,9 @@
 pub mod Acts
 pub mod Grid
 pub mod Law
+pub mod Meet
+pub mod MeetLaw
+pub mod MeetWorked
 pub mod Stack
 pub mod Transform
 pub mod Work

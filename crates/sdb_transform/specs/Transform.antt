@@ -2,7 +2,7 @@
 -- the choices on ties are this project's own. None is E8. Offsets and lengths of texts count UTF-16 units.
 use Rattle.std.specs.Prelude.{ℕ, ◌+◌, ◌-◌, min, Bool, false, if◌then◌else◌, nat_lt, nat_le, nat_eq, List, [], ◌∷◌, ◌++◌, take, drop, map, Option, Some, None, option_map, option_and_then}
 use Rattle.std.specs.Option.{option_map_or}
-use Rattle.sdb_value.specs.Value.{Value, PlainStep, key, index, same_text}
+use Rattle.sdb_value.specs.Value.{Value, PlainStep, key, index, same_text, same_step}
 use Rattle.sdb_value.specs.Text.{units, cut_at}
 use Rattle.sdb_component.specs.Plain.{PlainAct, na, si, sd, li, ld, lr, oi, od, or, PlainComponent}
 use Rattle.sdb_apply.specs.Does.{does}
@@ -10,11 +10,6 @@ use Rattle.sdb_transform.specs.declared.side.Side.{Side}
 use Rattle.sdb_transform.specs.declared.side.Side.TheVariants.{Left, Right}
 
 -- ---- paths
-
-abbrev pub same_step : PlainStep → PlainStep → Bool
-same_step (key k) (key l) = same_text k l
-same_step (index i) (index j) = nat_eq i j
-same_step _ _ = false
 
 -- what of the path lies behind the front, if it begins with it
 abbrev pub behind : List PlainStep → List PlainStep → Option (List PlainStep)

@@ -2,8 +2,8 @@
 ghost use Rattle.std.specs.Prelude.{◌≡◌, IfOk, IfErr, option_map};
 ghost use Rattle.sdb_value.specs.View.{view, plain_step, plain_path};
 ghost use Rattle.sdb_component.specs.View.{plain_act};
-ghost use Rattle.sdb_transform.specs.Transform.{under_removed, updated, with_removed, at_path, same_step, is_removed};
-ghost use Rattle.sdb_value.specs.Value.{index, key};
+ghost use Rattle.sdb_transform.specs.Transform.{under_removed, updated, with_removed, at_path, is_removed};
+ghost use Rattle.sdb_value.specs.Value.{index, key, same_step};
 ghost use Rattle.sdb_transform.specs.declared.side.Fault.TheVariants.{Memory};
 
 use crate::objects::same_key;

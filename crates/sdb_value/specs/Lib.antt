@@ -1,3 +1,4 @@
+pub mod Apart
 pub mod Change
 pub mod Coding
 pub mod Edits

@@ -1,6 +1,6 @@
 -- Laws of places: a path that goes on behind another, and a place that is written twice.
 use Rattle.std.specs.Prelude.{◌≡◌, ℕ, zero, suc, List, [], ◌∷◌, ◌++◌, Option, Some, None, Bool, true, false, cond, refl}
-use Rattle.std.proofs.Common.{sym, ap, ◌∙◌}
+use Rattle.std.proofs.Common.{ap, ◌∙◌}
 use Rattle.std.specs.Option.{option_and_then, option_map_or}
 use Rattle.sdb_value.specs.Value.{Value, null, truth, whole, text, list, object, Items, no_items, item, Members, no_members, member, PlainStep, key, index, item_at, member_at, set_item, set_member, same_text, one, with_one, at, with}
 
@@ -11,7 +11,7 @@ item_set i no_items c u e = cc
 item_set zero (item d ds) c u e = refl
 item_set (suc i) (item d ds) c u e = item_set i ds c u e
 
-item_again : (i : ℕ) (ds : Items) (u v : Value) → set_item i (set_item i ds u) v ≡ set_item i ds v
+pub item_again : (i : ℕ) (ds : Items) (u v : Value) → set_item i (set_item i ds u) v ≡ set_item i ds v
 item_again i no_items u v = refl
 item_again zero (item d ds) u v = refl
 item_again (suc i) (item d ds) u v = ap (item d) (item_again i ds u v)
@@ -40,7 +40,8 @@ member_again : (k : List ℕ) (ms : Members) (u v : Value) → set_member k (set
 member_again k no_members u v = refl
 member_again k (member l d ms) u v = member_again_at (same_text k l) k l d u v ms refl (member_again k ms u v)
 
-one_set : (w : PlainStep) (d c u : Value) → one w d ≡ Some c → one w (with_one w d u) ≡ Some u
+-- what was written one step down stands there
+pub one_set : (w : PlainStep) (d c u : Value) → one w d ≡ Some c → one w (with_one w d u) ≡ Some u
 one_set (index i) (list ds) c u e = item_set i ds c u e
 one_set (key k) (object ms) c u e = member_set k ms c u e
 one_set (index i) null c u e = cc
@@ -54,7 +55,8 @@ one_set (key k) (whole n) c u e = cc
 one_set (key k) (text s) c u e = cc
 one_set (key k) (list ds) c u e = cc
 
-one_again : (w : PlainStep) (d u v : Value) → with_one w (with_one w d u) v ≡ with_one w d v
+-- what is written one step down last stands there alone
+pub one_again : (w : PlainStep) (d u v : Value) → with_one w (with_one w d u) v ≡ with_one w d v
 one_again (index i) (list ds) u v = ap list (item_again i ds u v)
 one_again (key k) (object ms) u v = ap object (member_again k ms u v)
 one_again (index i) null u v = refl

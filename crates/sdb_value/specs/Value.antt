@@ -1,6 +1,6 @@
 -- What a value is (RFC 8259, section 3, with whole numbers alone), its parts, and its places.
 -- A text is its bytes in UTF-8 (RFC 8259, section 8.1); `Text` says how it is measured.
-use Rattle.std.specs.Prelude.{ℕ, zero, suc, max, ℤ, Bool, List, [], ◌∷◌, cond, if◌then◌else◌, nat_lt, nat_le, Option, Some, None, option_and_then}
+use Rattle.std.specs.Prelude.{ℕ, zero, suc, max, ℤ, Bool, false, List, [], ◌∷◌, cond, if◌then◌else◌, nat_lt, nat_le, nat_eq, Option, Some, None, option_and_then}
 use Rattle.std.specs.Option.{option_map_or}
 use Rattle.std.specs.Ordering.{nat_cmp, is_eq, match_ordering}
 use Rattle.std.specs.Cmp.Lexicographic.{slice_cmp}
@@ -29,6 +29,11 @@ pub data PlainStep : Type 0 where
 
 abbrev pub same_text : List ℕ → List ℕ → Bool
 same_text k l = is_eq (slice_cmp nat_cmp k l)
+
+abbrev pub same_step : PlainStep → PlainStep → Bool
+same_step (key k) (key l) = same_text k l
+same_step (index i) (index j) = nat_eq i j
+same_step _ _ = false
 
 -- the item at i, the member at k
 abbrev pub item_at : ℕ → Items → Option Value

@@ -1,5 +1,7 @@
-//! What holds of every value, proved of all that a `Json` can be. The functions do nothing.
+//! What holds of every value, proved of all that a `Json` can be, and of the places in values. The
+//! functions do nothing.
 ghost use Rattle.std.specs.Str.{IsUtf8};
+ghost use Rattle.sdb_value.specs.Apart.{PlacesApart, StepsApart, TextsSame, StepsSame};
 ghost use Rattle.sdb_value.specs.View.{view, items_view, members_view};
 ghost use Rattle.sdb_value.specs.WellFormed.{IsInRange, IsWellFormed, AreWellFormed, MembersWellFormed};
 
@@ -45,6 +47,23 @@ fn members_well_formed(members: &BTreeMap<String, Json>)
         all_well_formed(member);
     }
 }
+
+/// Changes of two places, neither of whose paths begins with the other: what stands at the one is as
+/// it was after the other was written, and both orders make one value.
+pub fn places_apart()
+    ensures { PlacesApart }
+{}
+
+/// The same of two steps from one value.
+pub fn steps_apart()
+    ensures { StepsApart }
+{}
+
+/// Texts and steps are the same where they compare the same, and only there.
+pub fn same_steps()
+    ensures texts { TextsSame }
+    ensures steps { StepsSame }
+{}
 
 fn in_range(_number: Whole)
     ensures { IsInRange _number }

@@ -1,9 +1,8 @@
-use Rattle.std.proofs.Common.{◌≡◌, ◌+◌, take, drop, Err, None, ap, ◌∙◌, subst}
+use Rattle.std.proofs.Common.{◌≡◌, ◌+◌, drop, Err, ap, ◌∙◌, subst}
 use Rattle.sdb_value.specs.View.{view, plain_path}
 use Rattle.sdb_component.specs.View.{plain_act}
-use Rattle.sdb_apply.specs.Does.{applies, does}
+use Rattle.sdb_apply.specs.Does.{does}
 use Rattle.sdb_apply.specs.Outcome.{Outcome, takes_memory}
-use Rattle.sdb_apply.specs.Shared.{below}
 use Rattle.sdb_apply.specs.declared.applying.ApplyFault.{ApplyFault}
 use Rattle.sdb_apply.specs.declared.applying.ApplyFault.TheVariants.{NotApplied}
 use Rattle.sdb_apply.proofs.Under.{below_more, below_none}

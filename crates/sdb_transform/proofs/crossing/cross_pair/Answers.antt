@@ -1,4 +1,4 @@
-use Rattle.std.proofs.Common.{◌≡◌, ◌∷◌, [], refl, sym}
+use Rattle.std.proofs.Common.{refl}
 use Rattle.sdb_transform.proofs.Pairs.{one_pair}
 use Rattle.sdb_transform.proofs.Weights.{few_pairs}
 use Rattle.sdb_transform.proofs.crossing.cross_pair.Goals as goal

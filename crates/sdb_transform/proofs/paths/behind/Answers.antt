@@ -5,12 +5,12 @@ use Rattle.std.proofs.lemmas.Map.Text.{is_eq-slice_cmp}
 use Rattle.std.specs.Cmp.Lexicographic.{slice_cmp, pointwise}
 use Rattle.std.specs.Ordering.{ordering_reverse}
 use Rattle.std.specs.Prelude.{if◌then◌else◌}
-use Rattle.sdb_value.specs.Value.{PlainStep, same_text}
+use Rattle.sdb_value.specs.Value.{PlainStep, same_text, same_step}
 use Rattle.sdb_value.specs.View.{plain_step, plain_path}
 use Rattle.sdb_value.specs.declared.places.Step.{Step}
 use Rattle.sdb_value.specs.declared.places.Step.TheVariants.{Key, Index}
 use Rattle.sdb_value.specs.contracts.places.StepPartialEq.TheImpl.{eq-value}
-use Rattle.sdb_transform.specs.Transform.{same_step, behind}
+use Rattle.sdb_transform.specs.Transform.{behind}
 use Rattle.sdb_transform.proofs.paths.behind.Goals as goal
 
 reversed : (o : Ordering) → is_eq (ordering_reverse o) ≡ is_eq o
