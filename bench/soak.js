@@ -114,7 +114,7 @@ class Participant {
       this.edit();
       if (random(20) === 0) this.edit();
       if (random(KILL) === 0) this.kill();
-      await this.document.settled();
+      await this.document.whenNothingPending();
     }
   }
 

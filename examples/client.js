@@ -2,14 +2,15 @@
  * A client of the document server in one file, without dependencies. Lift it out and use it.
  *
  *     <script src="client.js"></script>                        in a page: the global name Navirotsohy
- *     const Navirotsohy = require('./client.js');              in Node: give the Client a WebSocket class
+ *     const Navirotsohy = require('./client.js');              in Node, which may need a WebSocket class: see Client
+ *     import { Client } from './client.mjs';                   as a module, in both; the types stand in client.d.ts
  *
  *     const client = new Navirotsohy.Client('ws://127.0.0.1:8080');
  *     const board = client.document('board', 'demo');
  *     board.on('change', () => show(board.data));
  *     await board.subscribe();
  *     await board.createIfAbsent({ votes: 0 });
- *     board.submit([{ p: ['votes'], na: 1 }]);
+ *     await board.submit([{ p: ['votes'], na: 1 }]);
  *
  * How it works. A Document keeps the document as the server has it at the version that was seen (the confirmed
  * document), one own operation that was sent and not seen stored (in flight), and the own operations that were not
@@ -18,7 +19,8 @@
  * server uses, with the own side left, so that what was in flight becomes exactly what the server stores.
  *
  * An operation is sent with a source and a number. Where a connection is lost the same message is sent again over the
- * next one, and the server stores it once.
+ * next one, and the server stores it once. Before that the client looks whether the server still has the last operation
+ * that it saw: a server that was started afresh has lost all documents, and that is told (`restarted`).
  *
  * Documents are never changed in place: apply returns a new value that shares what is unchanged with the old one.
  */
@@ -45,7 +47,13 @@
 
   const TYPE = 'http://sharejs.org/types/JSONv0';
   const LARGEST = Number.MAX_SAFE_INTEGER;
+  // The server's limits: bytes of a message and of a name, steps of a path, components of an operation, and how deep a
+  // value may be.
   const LONGEST_MESSAGE = 1048576;
+  const LONGEST_NAME = 200;
+  const LONGEST_PATH = 50;
+  const MOST_COMPONENTS = 256;
+  const DEEPEST = 50;
   const LEFT = 'left';
   const RIGHT = 'right';
 
@@ -56,6 +64,11 @@
     ERR_DOC_ALREADY_CREATED: 'document was already created',
     ERR_DOC_DOES_NOT_EXIST: 'document does not exist',
     ERR_OT_OP_NOT_APPLIED: 'operation can not be applied',
+    // The client's own:
+    ERR_CLOSED: 'document is let go, or no longer followed',
+    ERR_PROTOCOL: 'the other end is no server of documents',
+    ERR_SERVER_RESTARTED: 'the server was started afresh and has lost the document',
+    ERR_UNREACHABLE: 'the server can not be reached',
   };
 
   /** What the server, or the client in its place, refused; `code` is the server's name for the reason. */
@@ -87,6 +100,7 @@
 
   // ---------------------------------------------------------------------------------------------- components
 
+  const FOREIGN = ['lm', 'o', 't']; // of json0, and not of this server
   const MEMBERS = ['ld', 'li', 'na', 'od', 'oi', 'sd', 'si'];
   const SHAPES = { na: 'na', si: 'si', sd: 'sd', li: 'li', ld: 'ld', ldli: 'lr', oi: 'oi', od: 'od', odoi: 'or' };
   const KEYED = new Set(['oi', 'od', 'or']);
@@ -108,24 +122,57 @@
   }
 
   function isStep(step) {
-    return typeof step === 'string' || (Number.isSafeInteger(step) && step >= 0);
+    return isText(step) || (Number.isSafeInteger(step) && step >= 0);
   }
 
   function readComponent(component) {
+    if (!isObject(component)) refuse('ERR_OT_OP_BADLY_FORMED');
+    if (FOREIGN.some((member) => has(component, member))) refuse('ERR_OT_OP_BADLY_FORMED');
     const shape = shapeOf(component);
-    if (!Array.isArray(component.p) || !component.p.every(isStep)) refuse('ERR_OT_OP_BADLY_FORMED');
+    if (!Array.isArray(component.p) || component.p.length > LONGEST_PATH) refuse('ERR_OT_OP_BADLY_FORMED');
+    if (!component.p.every(isStep)) refuse('ERR_OT_OP_BADLY_FORMED');
     const last = component.p[containerDepth(component, shape)];
     if (shape !== 'na' && typeof last !== (KEYED.has(shape) ? 'string' : 'number')) refuse('ERR_OT_OP_BADLY_FORMED');
-    const read = { p: component.p };
-    for (const member of MEMBERS) if (has(component, member)) read[member] = component[member];
+    const read = { p: component.p.slice() };
+    for (const member of MEMBERS) if (has(component, member)) read[member] = readMember(member, component[member]);
     return read;
+  }
+
+  function readMember(member, value) {
+    if (member === 'na') return Number.isSafeInteger(value) ? value + 0 : refuse('ERR_OT_OP_BADLY_FORMED');
+    if (member === 'si' || member === 'sd') return isText(value) ? value : refuse('ERR_OT_OP_BADLY_FORMED');
+    return readData(value);
+  }
+
+  // A text that the server has a reading for: none has half a pair.
+  function isText(value) {
+    return typeof value === 'string' && !/[\ud800-\udfff]/u.test(value);
+  }
+
+  // A collection, an id or a source.
+  function isName(value) {
+    return isText(value) && value !== '' && new TextEncoder().encode(value).length <= LONGEST_NAME;
+  }
+
+  function isPlain(value) {
+    const prototype = Object.getPrototypeOf(value);
+    return prototype === null || Object.getPrototypeOf(prototype) === null;
+  }
+
+  // A copy of a value that a document can hold: null, booleans, whole numbers, texts, lists and objects of these.
+  function readData(value, room = DEEPEST) {
+    if (value === null || typeof value === 'boolean' || isText(value)) return value;
+    if (Number.isSafeInteger(value)) return value + 0;
+    if (typeof value !== 'object' || room === 0) refuse('ERR_OT_OP_BADLY_FORMED');
+    if (Array.isArray(value)) return Array.from(value, (item) => readData(item, room - 1));
+    if (!isPlain(value) || !Object.keys(value).every(isText)) refuse('ERR_OT_OP_BADLY_FORMED');
+    return Object.fromEntries(Object.keys(value).map((key) => [key, readData(value[key], room - 1)]));
   }
 
   // The operation as the server reads it: a copy, without other members and without empty texts.
   function readOperation(operation) {
-    if (!Array.isArray(operation)) refuse('ERR_OT_OP_BADLY_FORMED');
-    const copy = JSON.parse(JSON.stringify(operation));
-    return copy.map(readComponent).filter((component) => component.si !== '' && component.sd !== '');
+    if (!Array.isArray(operation) || operation.length > MOST_COMPONENTS) refuse('ERR_OT_OP_BADLY_FORMED');
+    return operation.map(readComponent).filter((component) => component.si !== '' && component.sd !== '');
   }
 
   function withStep(component, depth, step) {
@@ -599,7 +646,13 @@
 
   // ------------------------------------------------------------------------------------------------- emitter
 
-  /** Keeps listeners by the name of an event. */
+  // An error of a listener belongs to whoever wrote it: it is reported, and nothing else is disturbed.
+  function report(error) {
+    if (typeof globalThis.reportError === 'function') globalThis.reportError(error);
+    else console.error(error);
+  }
+
+  /** Keeps listeners by the name of an event. A listener that throws is reported, and the others are called. */
   class Emitter {
     #listeners = new Map();
 
@@ -609,44 +662,98 @@
      * @returns {function(): void} takes the listener away again
      */
     on(event, listener) {
-      const listeners = this.#listeners.get(event) || new Set();
-      this.#listeners.set(event, listeners.add(listener));
-      return () => listeners.delete(listener);
+      const listeners = this.#listeners.get(event) || [];
+      this.#listeners.set(event, [...listeners, { listener, call: listener }]);
+      return () => this.off(event, listener);
+    }
+
+    /** As `on`, for the next time alone. */
+    once(event, listener) {
+      const call = (detail) => {
+        this.off(event, listener);
+        listener(detail);
+      };
+      this.#listeners.set(event, [...(this.#listeners.get(event) || []), { listener, call }]);
+      return () => this.off(event, listener);
+    }
+
+    /** Takes a listener away, or without one all listeners of the event. */
+    off(event, listener) {
+      const kept = (this.#listeners.get(event) || []).filter((one) => listener && one.listener !== listener);
+      this.#listeners.set(event, kept);
     }
 
     /** Calls the listeners of an event. */
     emit(event, detail) {
-      for (const listener of this.#listeners.get(event) || []) listener(detail);
+      for (const { call } of this.#listeners.get(event) || []) {
+        try {
+          call(detail);
+        } catch (error) {
+          report(error);
+        }
+      }
     }
+  }
+
+  // A promise that may be ignored: what it tells is told by an event too.
+  function ignorable(promise) {
+    promise.catch(() => {});
+    return promise;
+  }
+
+  function rejectAll(waiters, error) {
+    for (const { reject } of waiters.splice(0)) reject(error);
+  }
+
+  function resolveAll(waiters, value) {
+    for (const { resolve } of waiters.splice(0)) resolve(value);
   }
 
   // ------------------------------------------------------------------------------------------------ document
 
   /**
-   * One document that is followed and edited. Ask a Client for it.
+   * One document that is fetched or followed, and edited. Ask a Client for it.
    *
-   * Events: `change` ({operation, source, local}: what is shown has changed, by an operation or, where that is null,
-   * as a whole), `loaded` (the document came as a whole: at first, and after the server was started anew), `version`
-   * ({version, source, seq}: a stored operation was seen, of whomever), `stored` ({version, source, seq}: an own one
-   * was), `refused` ({error, contents}: own operations were dropped), `error` (the document can't be followed), `healed`
-   * (the document that was held here wasn't the server's, and was replaced: the tables of the two disagree).
+   * Events. `load` ({version}: the document came as a whole: at first, and after the server was started afresh);
+   * `before op` and `op` ({operation, source, local}: around each operation that changes what is shown); `create` and
+   * `remove` ({source, local, data}); `change` ({operation, source, local}: what is shown has changed, by an operation
+   * or, where that is null, as a whole); `version` ({version, source, seq}: a stored operation was seen, of whomever);
+   * `stored` ({version, source, seq}: an own one was); `refused` ({error, contents}: own operations were dropped);
+   * `restarted` ({version, data, contents}: the server was started afresh and doesn't have what was shown here: `data`
+   * is the document as it was stored, `contents` what was pending and is dropped); `healed` ({version}: the document
+   * that was held here wasn't the server's, and was replaced: the tables of the two disagree); `error` (a Refusal: the
+   * document can't be followed).
+   *
+   * `source` is, for an own operation, what was handed to `submit`, `create` or `remove`, or else this client's source;
+   * for the others it is their writer's source.
    */
   class Document extends Emitter {
     #transport;
     #confirmed = undefined;
-    #inFlight = null; // { content, seq, text }; the content is null where the server is going to refuse it
-    #queue = [];
+    #last = null; // the source and number of the stored operation before `version`, where it was seen
+    #inFlight = null; // { content, seq, text, sent, waiters }; no content where the server is going to refuse it
+    #queue = []; // { content, waiters }
     #arrived = new Map(); // what came before its turn, by version
     #fetched = null; // a document that was fetched, at a version that isn't seen yet
     #wanted = false; // the document is to be followed
-    #subscription = 'none'; // over this connection: 'none', 'asked' or 'open'
-    #subscribing = []; // those who wait for the document to be loaded
+    #link = 'none'; // the subscription over this connection: 'none', 'asked' or 'open'
+    #asked = 0; // how many subscribes aren't answered yet
+    #ready = false; // what is held here was found to be the server's, over this connection
+    #beginning = false; // that is being found out
+    #check = null; // the version of the stored operation by which it is found out, and that operation
+    #reads = []; // fetches, in the order in which they are answered: { from, own, listed, resolve, reject }
+    #delayed = []; // fetches that are asked for again later
+    #subscribing = []; // those who wait for the document to be followed
+    #unsubscribing = []; // those who wait for the word that it isn't any more
+    #verifying = []; // those who wait until it is ready
     #waiting = []; // those who wait for a condition
+    #changing = false; // listeners of `before op` are called
+    #destroyed = false;
 
     constructor(transport, collection, id) {
       super();
       this.#transport = transport;
-      /** @type {string} */
+      /** A collection, or the name of a projection. @type {string} */
       this.collection = collection;
       /** @type {string} */
       this.id = id;
@@ -671,15 +778,107 @@
       return this.#confirmed;
     }
 
+    /** Whether the document is to be followed. @type {boolean} */
+    get wanted() {
+      return this.#wanted;
+    }
+
+    // Reading ----------------------------------------------------------------------------------------------
+
+    /**
+     * Brings the document up to date, without following it.
+     * @returns {Promise<Document>} is fulfilled when `data` is the document at the version that the server had
+     */
+    fetch() {
+      if (this.#destroyed) return Promise.reject(new Refusal('ERR_CLOSED'));
+      return ignorable(this.#bringUp());
+    }
+
+    async #bringUp() {
+      if (this.version === null) {
+        await this.#read(null);
+        return this;
+      }
+      await this.#verified();
+      await this.#read(this.version);
+      return this;
+    }
+
     /**
      * Follows the document, over this connection and the next ones.
      * @returns {Promise<Document>} is fulfilled when the document has been loaded
      */
     subscribe() {
-      if (this.version !== null) return Promise.resolve(this);
+      if (this.#destroyed) return Promise.reject(new Refusal('ERR_CLOSED'));
+      if (this.#wanted && this.version !== null && this.#link !== 'none') return Promise.resolve(this);
+      const wanted = this.#wanted;
       this.#wanted = true;
-      if (this.#transport.connected && this.#subscription === 'none') this.#follow();
-      return new Promise((resolve, reject) => this.#subscribing.push({ resolve, reject }));
+      const following = new Promise((resolve, reject) => this.#subscribing.push({ resolve, reject }));
+      if (!wanted && this.#transport.connected) this.#begin();
+      return ignorable(following);
+    }
+
+    /**
+     * Follows the document no longer. What is pending is sent all the same.
+     * @returns {Promise<void>} is fulfilled when the server has answered, at once where there is no connection
+     */
+    unsubscribe() {
+      if (!this.#wanted) return Promise.resolve();
+      this.#wanted = false;
+      rejectAll(this.#subscribing, new Refusal('ERR_CLOSED'));
+      if (!this.#transport.connected) return Promise.resolve();
+      this.#link = 'none';
+      const answered = new Promise((resolve, reject) => this.#unsubscribing.push({ resolve, reject }));
+      this.#transport.send(this.#address('u'));
+      return answered;
+    }
+
+    /**
+     * Waits until nothing is pending, follows the document no longer, and lets it go: the client gives another object
+     * for it from then on.
+     * @returns {Promise<void>}
+     */
+    async destroy() {
+      await this.whenNothingPending();
+      await this.unsubscribe();
+      // The answers that are still to come must not meet the next object of this document.
+      await this.#until(() => this.#isQuiet() || !this.#transport.connected);
+      if (this.#destroyed) return;
+      this.#destroyed = true;
+      this.failed(new Refusal('ERR_CLOSED'));
+      this.#transport.forget(this);
+    }
+
+    /**
+     * The document as it was at a version.
+     * @param {number|null} [version] the present one where none is named
+     * @returns {Promise<{version: number, data: Data|undefined}>}
+     */
+    snapshot(version = null) {
+      return this.#transport.snapshot(this.collection, this.id, version);
+    }
+
+    /**
+     * The stored operations from a version on.
+     * @param {number} [from]
+     * @returns {Promise<Array<{version: number, source: string, seq: number} & Content>>}
+     */
+    async operations(from = 0) {
+      this.#checkAlive();
+      return this.#read(from);
+    }
+
+    // Writing ----------------------------------------------------------------------------------------------
+
+    /**
+     * Creates the document.
+     * @param {Data} data
+     * @param {{source?: any}} [options] what listeners are handed as the source
+     * @returns {Promise<{version: number}>} the version at which it is stored; refused with ERR_DOC_ALREADY_CREATED
+     * where the document exists
+     */
+    create(data, options) {
+      return this.#taken(() => ({ create: { type: TYPE, data: readData(data) } }), options);
     }
 
     /**
@@ -688,56 +887,113 @@
      * @returns {Promise<void>} is fulfilled when the document exists
      */
     createIfAbsent(data) {
-      this.#checkLoaded();
-      if (this.data === undefined) this.#take({ create: { type: TYPE, data: JSON.parse(JSON.stringify(data)) } });
-      return this.#until(() => this.#confirmed !== undefined);
+      try {
+        this.#checkLoaded();
+        return ignorable(this.#createIfAbsent(readData(data)));
+      } catch (error) {
+        return Promise.reject(error);
+      }
     }
 
-    /** Deletes the document. */
-    remove() {
-      this.#checkLoaded();
-      this.#take({ del: true });
+    async #createIfAbsent(data) {
+      if (this.data === undefined) {
+        try {
+          await this.create(data);
+        } catch (error) {
+          if (error.code !== 'ERR_DOC_ALREADY_CREATED') throw error;
+        }
+      }
+      await this.#until(() => this.#confirmed !== undefined || this.pending === 0);
+      if (this.#confirmed === undefined) refuse('ERR_DOC_DOES_NOT_EXIST');
+    }
+
+    /**
+     * Deletes the document.
+     * @param {{source?: any}} [options]
+     * @returns {Promise<{version: number}>}
+     */
+    remove(options) {
+      return this.#taken(() => ({ del: true }), options);
     }
 
     /**
      * Edits the document. It shows at once and is sent as soon as what was sent before is stored.
      * @param {Operation} operation on `data`
-     * @throws {Refusal} where it can't be applied; nothing is changed then
+     * @param {{source?: any}} [options]
+     * @returns {Promise<{version: number|null}>} the version at which it is stored, null where there was nothing to
+     * store. Where it can't be applied here it is refused at once, and nothing is changed.
      */
-    submit(operation) {
-      this.#checkLoaded();
-      const content = { op: readOperation(operation) };
-      if (content.op.length > 0) this.#take(content);
+    submit(operation, options) {
+      return this.#taken(() => ({ op: readOperation(operation) }), options);
     }
 
-    /** @returns {Promise<void>} is fulfilled when nothing is pending */
-    settled() {
-      return this.#until(() => this.pending === 0);
+    /**
+     * @param {function(): void} [listener]
+     * @returns {Promise<void>} is fulfilled when nothing is pending
+     */
+    whenNothingPending(listener) {
+      const settled = this.#until(() => this.pending === 0);
+      if (listener) settled.then(listener).catch(report);
+      return settled;
     }
 
-    /** The connection is open. @package */
-    connected() {
-      if (this.#wanted) this.#follow();
-      if (this.#inFlight) this.#transport.sendText(this.#inFlight.text);
+    // For the client ---------------------------------------------------------------------------------------
+
+    /** The connection is open, to the same server as the last one or to one that was started afresh. @package */
+    connected(isFresh) {
+      this.#reads.push(...this.#delayed.splice(0));
+      for (const read of this.#reads) this.#sendRead(read);
+      if (isFresh && this.version !== null) this.#restart();
+      else if (this.#wanted || this.pending > 0 || this.#verifying.length > 0) this.#begin();
     }
 
     /** The connection is lost. @package */
     disconnected() {
-      this.#subscription = 'none';
+      this.#link = 'none';
+      this.#asked = 0;
+      this.#ready = false;
+      this.#beginning = false;
+      this.#check = null;
+      this.#reads = this.#reads.filter(({ own }) => !own);
+      this.#delayed = this.#delayed.filter(({ own }) => !own);
+      if (this.#inFlight) this.#inFlight.sent = false;
+      resolveAll(this.#unsubscribing);
+      this.#wake();
+    }
+
+    /** There won't be a connection any more. @package */
+    failed(error) {
+      rejectAll(this.#subscribing, error);
+      rejectAll(this.#verifying, error);
+      rejectAll(this.#reads, error);
+      rejectAll(this.#delayed, error);
     }
 
     /** A message that names this document has come. @package */
     receive(message) {
       if (message.error) this.#receiveError(message);
       else if (message.a === 's') this.#receiveSubscribed(message);
-      else if (message.a === 'f') this.#receiveFetched(message.data);
+      else if (message.a === 'u') this.#receiveUnsubscribed();
+      else if (message.a === 'f') this.#receiveRead(message);
       else if (message.a === 'op') this.#receiveOperation(message);
     }
 
     // Own operations ---------------------------------------------------------------------------------------
 
+    #checkAlive() {
+      if (this.#destroyed) refuse('ERR_CLOSED');
+    }
+
     #checkLoaded() {
-      if (this.version === null) throw new Error('subscribe first: the document is not loaded yet');
+      this.#checkAlive();
+      if (this.version === null) throw new Error('fetch or subscribe first: the document is not loaded yet');
+      if (this.#changing) throw new Error('a listener of `before op` can not change the document');
+    }
+
+    // Whether no answer is still to come.
+    #isQuiet() {
+      const awaited = this.#reads.length + this.#delayed.length + this.#unsubscribing.length + this.#asked;
+      return awaited === 0;
     }
 
     #until(holds) {
@@ -751,32 +1007,81 @@
       for (const { resolve } of ready) resolve();
     }
 
-    #take(content) {
-      this.data = applyContent(this.data, content);
-      this.#enqueue(content);
-      this.emit('change', { operation: content.op || null, source: this.source, local: true });
-      this.#sendNext();
+    // What can't be done here is refused before anything is shown.
+    #taken(read, { source = this.source } = {}) {
+      try {
+        this.#checkLoaded();
+        const content = read();
+        if (content.op && content.op.length === 0) return Promise.resolve({ version: null });
+        if (!isSendable(this.#textOf(content, LARGEST, LARGEST))) refuse('ERR_MESSAGE_BADLY_FORMED');
+        return ignorable(this.#take(content, source));
+      } catch (error) {
+        return Promise.reject(error);
+      }
     }
 
-    #enqueue(content) {
+    #take(content, source) {
+      const data = applyContent(this.data, content);
+      const stored = new Promise((resolve, reject) => this.#enqueue(content, { resolve, reject }));
+      this.#show(data, content, source, true);
+      this.#sendNext();
+      return stored;
+    }
+
+    #enqueue(content, waiter) {
       const last = this.#queue[this.#queue.length - 1];
-      if (!last || !last.op || !content.op || !isComposable(last.op, content.op)) {
-        this.#queue.push(content);
+      if (!last || !last.content.op || !content.op || !isComposable(last.content.op, content.op)) {
+        this.#queue.push({ content, waiters: [waiter] });
         return;
       }
-      this.#queue.pop();
-      const composed = compose(last.op, content.op);
-      if (composed.length > 0) this.#queue.push({ op: composed });
+      last.content = { op: compose(last.content.op, content.op) };
+      last.waiters.push(waiter);
+      if (last.content.op.length === 0) resolveAll(this.#queue.pop().waiters, { version: null });
+    }
+
+    // Puts other data in place, and tells by which content.
+    #show(data, content, source, local) {
+      const operation = content.op || null;
+      const before = this.data;
+      if (operation && operation.length > 0) this.#tellBefore({ operation, source, local });
+      this.data = data;
+      if (operation && operation.length > 0) this.emit('op', { operation, source, local });
+      if (content.create) this.emit('create', { source, local, data });
+      if (content.del && before !== undefined) this.emit('remove', { source, local, data: before });
+      this.emit('change', { operation, source, local });
+    }
+
+    #tellBefore(detail) {
+      this.#changing = true;
+      this.emit('before op', detail);
+      this.#changing = false;
+    }
+
+    #textOf(content, version, seq) {
+      return JSON.stringify({ ...this.#address('op'), v: version, src: this.source, seq, ...content });
     }
 
     // At most one operation is in flight: the next one is sent at the version that has it.
     #sendNext() {
-      const open = this.#subscription !== 'none' && this.version !== null;
-      if (!open || this.#inFlight || this.#queue.length === 0) return;
-      const content = this.#queue.shift();
+      if (!this.#transport.connected || this.version === null) return;
+      if (!this.#ready) {
+        if (this.pending > 0) this.#begin();
+        return;
+      }
+      if (this.#inFlight) this.#sendAgain();
+      else if (this.#queue.length > 0) this.#sendFirst(this.#queue.shift());
+    }
+
+    #sendAgain() {
+      if (this.#inFlight.sent) return;
+      this.#inFlight.sent = true;
+      this.#transport.sendText(this.#inFlight.text);
+    }
+
+    #sendFirst({ content, waiters }) {
       const seq = this.#transport.nextNumber();
-      const text = JSON.stringify({ ...this.#address('op'), v: this.version, src: this.source, seq, ...content });
-      this.#inFlight = { content, seq, text };
+      const text = this.#textOf(content, this.version, seq);
+      this.#inFlight = { content, seq, text, sent: true, waiters };
       if (isSendable(text)) this.#transport.sendText(text);
       else this.#refused(new Refusal('ERR_MESSAGE_BADLY_FORMED'));
     }
@@ -789,67 +1094,171 @@
       return this.#inFlight !== null && message.seq === this.#inFlight.seq && message.src === this.source;
     }
 
-    // What is arriving ---------------------------------------------------------------------------------------
+    // Whether the server has what is held here ----------------------------------------------------------------
 
-    // Asks for what was stored from the seen version on, and for all that is stored from now on.
-    #follow() {
-      this.#subscription = 'asked';
-      this.#transport.send({ ...this.#address('s'), v: this.version });
+    #verified() {
+      if (this.#ready) return Promise.resolve();
+      const verified = new Promise((resolve, reject) => this.#verifying.push({ resolve, reject }));
+      if (this.#transport.connected) this.#begin();
+      return verified;
     }
 
-    #receiveSubscribed(message) {
-      this.#subscription = 'open';
-      if (message.data) this.#load(message.data);
-      for (const { resolve } of this.#subscribing.splice(0)) resolve(this);
+    // Over a new connection: the document is loaded, or what was stored meanwhile is asked for, from the last operation
+    // that was seen on. If that isn't the server's, it was started afresh. Where no operation was seen the documents
+    // themselves are compared.
+    #begin() {
+      if (this.#beginning || (this.#ready && (!this.#wanted || this.#link !== 'none'))) return;
+      this.#beginning = true;
+      if (this.#ready || this.version === null || this.version === 0 || this.#last !== null) this.#catchUp();
+      else this.#compare();
+    }
+
+    #compare() {
+      const [version, data] = [this.version, this.#confirmed];
+      const look = (snapshot) => {
+        if (this.version !== version || this.#ready) return;
+        if (isSame(data, snapshot.data)) this.#catchUp();
+        else this.#restart();
+      };
+      const wrong = ({ code }) => {
+        if (code === 'ERR_OP_VERSION_NEWER_THAN_CURRENT_SNAPSHOT' && this.version === version) this.#restart();
+      };
+      this.#transport.compared(this.collection, this.id, version).then(look, wrong);
+    }
+
+    #catchUp() {
+      const from = this.#last !== null && !this.#ready ? this.version - 1 : this.version;
+      this.#check = from === this.version ? null : { version: from, entry: null };
+      if (this.#wanted) this.#follow(from);
+      else this.#read(from, true).catch(() => {});
+    }
+
+    // Asks for what was stored from a version on, and for all that is stored from now on.
+    #follow(from) {
+      this.#link = 'asked';
+      this.#asked += 1;
+      this.#transport.send({ ...this.#address('s'), v: from });
+    }
+
+    #isChecked() {
+      if (this.#check === null) return true;
+      const { entry } = this.#check;
+      return entry !== null && entry.source === this.#last.source && entry.seq === this.#last.seq;
+    }
+
+    #becomeReady() {
+      if (!this.#isChecked()) {
+        this.#restart();
+        return;
+      }
+      this.#check = null;
+      this.#beginning = false;
+      this.#ready = true;
+      resolveAll(this.#verifying);
       this.#advance();
+      if (this.#ready && this.#wanted && this.#link === 'none') this.#begin();
+    }
+
+    // The server was started afresh, and knows nothing of what was shown here. The documents of the two have nothing to
+    // do with one another, so what is pending is dropped, and this is said.
+    #restart() {
+      const told = { version: this.version, data: this.#confirmed, contents: this.#pendingContents() };
+      const error = new Refusal('ERR_SERVER_RESTARTED');
+      this.#drop(error);
+      if (this.#inFlight) rejectAll(this.#inFlight.waiters, error);
+      this.emit('restarted', told);
+      this.#loadAnew();
+    }
+
+    // Starts again, without what is pending: what this client has seen isn't what the server has.
+    #reload(error) {
+      this.#drop(error);
+      if (this.#inFlight) rejectAll(this.#inFlight.waiters, error);
+      this.#loadAnew();
+    }
+
+    #loadAnew() {
+      this.#inFlight = null;
+      this.#last = null;
+      this.#check = null;
+      this.#ready = false;
+      this.#link = 'none';
+      this.version = null;
+      this.#beginning = true;
+      this.#wake();
+      if (this.#wanted) this.#follow(null);
+      else this.#read(null, true).catch(() => {});
+    }
+
+    // What is arriving ---------------------------------------------------------------------------------------
+
+    #receiveSubscribed(message) {
+      this.#asked -= 1;
+      const isBehind = this.version !== null && message.data && message.data.v > this.version;
+      if (message.data && this.version === null) this.#load(message.data);
+      if (this.#asked > 0) return;
+      if (this.#wanted) this.#link = 'open';
+      this.#becomeReady();
+      if (isBehind) this.#askAgain();
+      if (this.#link === 'open') resolveAll(this.#subscribing, this);
+    }
+
+    #receiveUnsubscribed() {
+      const [first] = this.#unsubscribing.splice(0, 1);
+      if (first) first.resolve();
+      this.#wake();
     }
 
     // Starts from the document that the server has.
     #load(snapshot) {
       this.#arrived.clear();
       this.#fetched = null;
+      this.#last = null;
       this.version = snapshot.v;
       this.#confirmed = dataOf(snapshot);
       this.data = this.#confirmed;
       this.#changedWhole();
-      this.emit('loaded', { version: this.version });
-    }
-
-    // Starts again, without what is pending: what this client has seen isn't what the server has.
-    #reload(error) {
-      this.#drop(error);
-      this.#inFlight = null;
-      this.version = null;
-      this.#follow();
+      this.emit('load', { version: this.version });
     }
 
     // A message with a content is a stored operation, one without is the word that the own one is stored.
     #receiveOperation(message) {
       const content = contentOf(message);
       const own = this.#isInFlight(message);
+      const entry = { version: message.v, source: message.src, seq: message.seq, content };
+      if (content) for (const { listed } of this.#reads) listed.push(entry);
+      if (content && this.#check !== null && this.#check.version === message.v) this.#check.entry = entry;
       if (this.version === null || message.v < this.version || (!content && !own)) return;
-      if (own && !content && this.#inFlight.content === null) this.#storedAfterAll();
-      else this.#arrived.set(message.v, { version: message.v, source: message.src, seq: message.seq, content });
+      if (own && !content && this.#inFlight.content === null) this.#storedAfterAll(message.v);
+      else this.#arrived.set(message.v, entry);
       this.#advance();
     }
 
     // The client held that it would be refused, and lets the server tell what was stored.
-    #storedAfterAll() {
+    #storedAfterAll(version) {
+      resolveAll(this.#inFlight.waiters, { version });
       this.#inFlight = null;
-      this.#follow();
+      this.#askAgain();
     }
 
     #advance() {
-      while (this.#arrived.has(this.version)) this.#see(this.#arrived.get(this.version));
-      this.#useFetched();
-      this.#askForMissing();
-      this.#sendNext();
-      if (this.#waiting.length > 0) this.#wake();
+      if (this.#ready) {
+        while (this.#arrived.has(this.version)) this.#see(this.#arrived.get(this.version));
+        this.#useFetched();
+        this.#askForMissing();
+        this.#sendNext();
+      }
+      this.#wake();
     }
 
     // Where an operation between is missing and none is in flight, the server wasn't going to send it.
     #askForMissing() {
-      if (this.#arrived.size > 0 && this.#inFlight === null && this.#subscription === 'open') this.#follow();
+      if (this.#arrived.size > 0 && this.#inFlight === null && this.#asked === 0 && !this.#beginning) this.#askAgain();
+    }
+
+    #askAgain() {
+      if (this.#wanted) this.#follow(this.version);
+      else if (!this.#reads.some(({ own, from }) => own && from !== null)) this.#read(this.version, true).catch(() => {});
     }
 
     #see(entry) {
@@ -858,10 +1267,13 @@
       const own = this.#isInFlight({ seq, src: source });
       const shown = own && this.#inFlight.content !== null;
       if (!this.#confirm(entry)) return;
+      this.#last = { source, seq };
+      const waiters = own ? this.#inFlight.waiters : [];
       if (own) this.#inFlight = null;
       if (!shown) this.#showOther(entry);
       this.emit('version', { version, source, seq });
       if (own) this.emit('stored', { version, source, seq });
+      resolveAll(waiters, { version });
     }
 
     // Where the stored content can't be applied, the document that is held isn't the server's.
@@ -879,22 +1291,21 @@
     }
 
     #showOther({ content, source }) {
-      const carry = () => {
-        const shown = this.#carryPendingOver(content);
-        this.#showPending();
-        return shown.op || null;
-      };
-      const drop = (refusal) => {
-        this.#drop(refusal);
-        return null;
-      };
-      const operation = orRefusal(carry, drop);
-      this.emit('change', { operation, source, local: false });
+      orRefusal(
+        () => {
+          const shown = this.#carryPendingOver(content);
+          this.#show(this.#withPending(), shown, source, false);
+        },
+        (refusal) => {
+          this.#drop(refusal);
+          this.#show(this.data, content.op ? { op: [] } : content, source, false);
+        },
+      );
     }
 
     #pendingContents() {
       const sent = this.#inFlight && this.#inFlight.content ? [this.#inFlight.content] : [];
-      return [...sent, ...this.#queue];
+      return [...sent, ...this.#queue.map(({ content }) => content)];
     }
 
     // Transforms what is pending over a stored content, and returns that one as it stands after what is pending.
@@ -907,65 +1318,41 @@
         rest = crossed.stored;
       }
       if (this.#inFlight && this.#inFlight.content) this.#inFlight.content = carried.shift();
-      this.#queue = carried;
+      carried.forEach((content, place) => (this.#queue[place].content = content));
       return rest;
     }
 
-    // Refusals ---------------------------------------------------------------------------------------------
+    // Fetches ----------------------------------------------------------------------------------------------
 
-    #receiveError(message) {
-      const error = new Refusal(message.error.code, message.error.message);
-      if (error.code === 'ERR_OUT_OF_MEMORY') this.#retryLater(message);
-      else if (message.a === 's') this.#subscriptionRefused(error);
-      else if (message.a === 'op' && this.#isInFlight(message)) this.#refused(error);
+    // Asks for the document, or for the stored operations from a version on.
+    #read(from, own = false) {
+      return new Promise((resolve, reject) => {
+        const read = { from, own, listed: [], resolve, reject };
+        this.#reads.push(read);
+        if (this.#transport.connected) this.#sendRead(read);
+      });
     }
 
-    // Want of memory changes nothing: the same message may be sent again.
-    #retryLater(message) {
-      if (message.a === 's') this.#transport.later(() => this.#follow());
-      else if (message.a === 'f') this.#transport.later(() => this.#fetch());
-      else if (this.#isInFlight(message)) this.#transport.later(() => this.#resend(message.seq));
+    #sendRead(read) {
+      read.listed = [];
+      this.#transport.send(read.from === null ? this.#address('f') : { ...this.#address('f'), v: read.from });
     }
 
-    #resend(seq) {
-      if (this.#inFlight && this.#inFlight.seq === seq) this.#transport.sendText(this.#inFlight.text);
-    }
-
-    // A version above the server's has only who followed a server that has been started anew since.
-    #subscriptionRefused(error) {
-      this.#subscription = 'none';
-      if (error.code === 'ERR_OP_VERSION_NEWER_THAN_CURRENT_SNAPSHOT') {
-        this.#reload(error);
-        return;
-      }
-      this.#wanted = false;
-      for (const { reject } of this.#subscribing.splice(0)) reject(error);
-      this.emit('error', error);
-    }
-
-    // The operation isn't stored: it goes, and what was made upon it. The document is fetched anew.
-    #refused(error) {
-      if (this.#inFlight.content !== null) this.#drop(error);
-      this.#inFlight = null;
-      this.#fetch();
-      this.#advance();
-    }
-
-    // What is in flight is awaited further, as its answer is still to come.
-    #drop(error) {
-      const contents = this.#pendingContents();
-      this.#queue = [];
-      if (this.#inFlight) this.#inFlight.content = null;
-      this.data = this.#confirmed;
-      this.#changedWhole();
-      if (contents.length > 0 && !isLostCreate(contents, error)) this.emit('refused', { error, contents });
-    }
-
-    #fetch() {
-      this.#transport.send(this.#address('f'));
+    #receiveRead(message) {
+      const read = this.#reads.shift();
+      if (!read) return;
+      if (message.data) this.#receiveFetched(message.data);
+      else if (read.own) this.#becomeReady();
+      read.resolve(message.data ? undefined : listedFrom(read.listed, read.from));
+      this.#wake();
     }
 
     #receiveFetched(snapshot) {
+      if (this.version === null) {
+        this.#load(snapshot);
+        if (!this.#wanted) this.#becomeReady();
+        return;
+      }
       this.#fetched = snapshot;
       this.#advance();
     }
@@ -980,17 +1367,104 @@
     #replaceConfirmed(data) {
       if (isSame(this.#confirmed, data)) return;
       this.#confirmed = data;
-      orRefusal(() => this.#showPending(), (refusal) => this.#drop(refusal));
+      orRefusal(() => (this.data = this.#withPending()), (refusal) => this.#drop(refusal));
       this.#changedWhole();
       this.emit('healed', { version: this.version });
     }
 
-    #showPending() {
-      this.data = this.#pendingContents().reduce(applyContent, this.#confirmed);
+    #withPending() {
+      return this.#pendingContents().reduce(applyContent, this.#confirmed);
     }
 
     #changedWhole() {
       this.emit('change', { operation: null, source: null, local: false });
+    }
+
+    // Refusals ---------------------------------------------------------------------------------------------
+
+    #receiveError(message) {
+      const error = new Refusal(message.error.code, message.error.message);
+      if (error.code === 'ERR_OUT_OF_MEMORY') this.#retryLater(message);
+      else if (message.a === 's') this.#subscriptionRefused(error);
+      else if (message.a === 'f') this.#readRefused(error);
+      else if (message.a === 'op' && this.#isInFlight(message)) this.#refused(error);
+    }
+
+    // Want of memory changes nothing: the same message may be sent again.
+    #retryLater(message) {
+      if (message.a === 's') this.#followLater();
+      else if (message.a === 'f') this.#readLater();
+      else if (this.#isInFlight(message)) this.#transport.later(() => this.#resend(message.seq));
+    }
+
+    #followLater() {
+      this.#asked -= 1;
+      const from = this.#check === null ? this.version : this.#check.version;
+      this.#transport.later(() => this.#wanted && this.#follow(from));
+    }
+
+    #readLater() {
+      const read = this.#reads.shift();
+      if (!read) return;
+      this.#delayed.push(read);
+      this.#transport.later(() => {
+        if (!this.#delayed.includes(read)) return;
+        this.#delayed = this.#delayed.filter((one) => one !== read);
+        this.#reads.push(read);
+        this.#sendRead(read);
+      });
+    }
+
+    #resend(seq) {
+      if (this.#inFlight && this.#inFlight.seq === seq) this.#transport.sendText(this.#inFlight.text);
+    }
+
+    // A version above the server's has only who followed a server that has been started afresh since.
+    #subscriptionRefused(error) {
+      this.#asked -= 1;
+      this.#link = 'none';
+      if (error.code === 'ERR_OP_VERSION_NEWER_THAN_CURRENT_SNAPSHOT') {
+        if (this.version !== null) this.#restart();
+        return;
+      }
+      this.#beginning = false;
+      this.#wanted = false;
+      rejectAll(this.#subscribing, error);
+      this.emit('error', error);
+      this.#sendNext();
+      this.#wake();
+    }
+
+    #readRefused(error) {
+      const read = this.#reads.shift();
+      if (!read) return;
+      read.reject(error);
+      const isNewer = error.code === 'ERR_OP_VERSION_NEWER_THAN_CURRENT_SNAPSHOT';
+      if (read.own && isNewer && this.version !== null) this.#restart();
+      else if (read.own) this.emit('error', error);
+      this.#wake();
+    }
+
+    // The operation isn't stored: it goes, and what was made upon it. The document is fetched anew.
+    #refused(error) {
+      const { waiters } = this.#inFlight;
+      if (this.#inFlight.content !== null) this.#drop(error);
+      this.#inFlight = null;
+      rejectAll(waiters, error);
+      this.#read(null, true).catch(() => {});
+      this.#advance();
+    }
+
+    // What is in flight is awaited further, as its answer is still to come.
+    #drop(error) {
+      const contents = this.#pendingContents();
+      const dropped = this.#queue;
+      this.#queue = [];
+      if (this.#inFlight) this.#inFlight.content = null;
+      this.data = this.#confirmed;
+      this.#changedWhole();
+      for (const { waiters } of dropped) rejectAll(waiters, error);
+      if (contents.length > 0 && !isLostCreate(contents, error)) this.emit('refused', { error, contents });
     }
   }
 
@@ -1004,15 +1478,22 @@
     return message.del ? { del: true } : null;
   }
 
+  // What a list of stored operations came to: the last run of versions that starts where it was asked for. What came
+  // before it belongs to other answers.
+  function listedFrom(entries, from) {
+    const start = entries.map(({ version }) => version).lastIndexOf(from);
+    if (start < 0) return [];
+    return entries.slice(start).map(({ version, source, seq, content }) => ({ version, source, seq, ...content }));
+  }
+
   // Another client created the document first, which is what was wanted.
   function isLostCreate(contents, error) {
     return error.code === 'ERR_DOC_ALREADY_CREATED' && contents.every((content) => content.create);
   }
 
-  // The server has no reading for a longer message, nor for half a pair, which JSON writes as an escape.
+  // The server has no reading for a longer message.
   function isSendable(text) {
-    const short = text.length * 3 <= LONGEST_MESSAGE || new TextEncoder().encode(text).length <= LONGEST_MESSAGE;
-    return short && !/(?<!\\)(\\\\)*\\ud[89a-f]/.test(text);
+    return text.length * 3 <= LONGEST_MESSAGE || new TextEncoder().encode(text).length <= LONGEST_MESSAGE;
   }
 
   // -------------------------------------------------------------------------------------------------- client
@@ -1025,48 +1506,84 @@
     return Array.from({ length: 4 }, () => Math.random().toString(36).slice(2, 7).padEnd(5, '0')).join('');
   }
 
+  // The number of the session that the server opens with: they rise for as long as the server runs.
+  function sessionNumber(message) {
+    const match = /^s(\d+)$/.exec(message.id);
+    return match ? Number(match[1]) : 0;
+  }
+
+  function refusalOf(message) {
+    return new Refusal(message.error.code, message.error.message);
+  }
+
   /**
    * A connection to the server, which is made at once and again where it is lost, and the documents over it.
    *
-   * Events: `state` ('connecting', 'connected' or 'disconnected'), `error` (a Refusal that names no document).
+   * Events: `state` ('connecting', 'connected', 'disconnected' or 'failed'), `error` (a Refusal that names no document:
+   * behind it stands whether the client goes on, in `state`).
    */
   class Client extends Emitter {
     #WebSocket;
     #retryDelay;
+    #longestDelay;
+    #mostTries;
+    #tries = 0; // connections that failed or were lost since the last handshake
+    #timer = null;
     #socket = null;
     #wanted = false;
-    #number = 0;
+    #number = 0; // of the last own operation
+    #requested = 0; // of the last snapshot that was asked for
+    #session = 0; // the number that the server gave the last session
+    #isFresh = false; // it gave a number that it had given before: it was started afresh
     #documents = new Map();
+    #requests = new Map(); // snapshots that are asked for, by number: { text, own, resolve, reject }
 
     /**
      * @param {string} address as `ws://127.0.0.1:8080`
      * @param {Object} [options]
-     * @param {string} [options.source] names this client in all its operations; no two clients may share one
+     * @param {string} [options.source] names this client in all its operations. No two clients may share one, and none
+     * may be used again after a reload: the server takes a number that it knows for a repeat. Left out it is random.
      * @param {Function} [options.WebSocket] where there is no global one
-     * @param {number} [options.retryDelay] milliseconds before what failed is tried again
+     * @param {number} [options.retryDelay] milliseconds before what failed is tried again for the first time; each time
+     * they are doubled, and shortened by up to a half at random
+     * @param {number} [options.longestDelay] what they grow to
+     * @param {number} [options.mostTries] after so many in a row that fail the client ends, with the state 'failed'
      */
-    constructor(address, { source = randomSource(), WebSocket = globalThis.WebSocket, retryDelay = 1000 } = {}) {
+    constructor(address, options = {}) {
       super();
+      const { source = randomSource(), WebSocket = globalThis.WebSocket } = options;
+      const { retryDelay = 1000, longestDelay = 30000, mostTries = Infinity } = options;
+      if (typeof WebSocket !== 'function') {
+        throw new Error("there is no WebSocket here: hand one over, as new Client(address, { WebSocket: require('ws') })");
+      }
+      if (typeof source !== 'string' || !isName(source)) throw new Error('a source is a text of 1 to 200 bytes');
       this.#WebSocket = WebSocket;
       this.#retryDelay = retryDelay;
+      this.#longestDelay = Math.max(longestDelay, retryDelay);
+      this.#mostTries = mostTries;
       /** @type {string} */
       this.address = address;
       /** @type {string} */
       this.source = source;
-      /** @type {'connecting'|'connected'|'disconnected'} */
+      /** @type {'connecting'|'connected'|'disconnected'|'failed'} */
       this.state = 'disconnected';
+      /** Why the client has failed. @type {Refusal|null} */
+      this.error = null;
       this.connect();
     }
 
     /** Connects, and connects again whenever the connection is lost. */
     connect() {
       this.#wanted = true;
+      this.#tries = 0;
+      this.error = null;
       if (this.#socket === null) this.#open();
     }
 
     /** Ends the connection. What is submitted from now on is sent after the next `connect`. */
     disconnect() {
       this.#wanted = false;
+      clearTimeout(this.#timer);
       const socket = this.#socket;
       if (socket === null) return;
       this.#lost(socket);
@@ -1074,15 +1591,32 @@
     }
 
     /**
-     * The document of this collection and id, always the same object.
-     * @param {string} collection
+     * The document of this collection and id, always the same object until it is destroyed.
+     * @param {string} collection or the name of a projection, which shows and takes some fields alone
      * @param {string} id
      * @returns {Document}
      */
     document(collection, id) {
+      if (!isName(collection) || !isName(id)) throw new Error('a collection and an id are texts of 1 to 200 bytes');
       const key = keyOf(collection, id);
       if (!this.#documents.has(key)) this.#documents.set(key, new Document(this.#transport(), collection, id));
       return this.#documents.get(key);
+    }
+
+    /**
+     * A document as it was at a version.
+     * @param {string} collection
+     * @param {string} id
+     * @param {number|null} [version] the present one where none is named
+     * @returns {Promise<{version: number, data: Data|undefined}>}
+     */
+    snapshot(collection, id, version = null) {
+      return this.#snapshot(collection, id, version, false);
+    }
+
+    /** @returns {Promise<void>} is fulfilled when nothing is pending in any document */
+    async whenNothingPending() {
+      await Promise.all([...this.#documents.values()].map((document) => document.whenNothingPending()));
     }
 
     // What a document may ask of its client.
@@ -1099,7 +1633,32 @@
         send: (message) => client.#sendText(JSON.stringify(message)),
         sendText: (text) => client.#sendText(text),
         later: (action) => client.#later(action),
+        snapshot: (collection, id, version) => client.#snapshot(collection, id, version, false),
+        compared: (collection, id, version) => client.#snapshot(collection, id, version, true),
+        forget: (document) => client.#documents.delete(keyOf(document.collection, document.id)),
       };
+    }
+
+    // One that is the client's own is of use over this connection alone.
+    #snapshot(collection, id, version, own) {
+      return new Promise((resolve, reject) => {
+        const number = (this.#requested += 1);
+        const text = JSON.stringify({ a: 'nf', c: collection, d: id, id: number, v: version });
+        this.#requests.set(number, { text, own, resolve, reject });
+        this.#sendText(text);
+      });
+    }
+
+    #receiveSnapshot(message) {
+      const request = this.#requests.get(message.id);
+      if (!request) return;
+      if (message.error && message.error.code === 'ERR_OUT_OF_MEMORY') {
+        this.#later(() => this.#sendText(request.text));
+        return;
+      }
+      this.#requests.delete(message.id);
+      if (message.error) request.reject(refusalOf(message));
+      else request.resolve({ version: message.v, data: dataOf(message) });
     }
 
     #sendText(text) {
@@ -1116,7 +1675,7 @@
       const socket = new this.#WebSocket(this.address);
       this.#socket = socket;
       this.#setState('connecting');
-      socket.onmessage = (event) => socket === this.#socket && this.#receive(JSON.parse(event.data));
+      socket.onmessage = (event) => socket === this.#socket && this.#read(event.data);
       socket.onerror = () => {};
       socket.onclose = () => this.#lost(socket);
     }
@@ -1124,9 +1683,37 @@
     #lost(socket) {
       if (socket !== this.#socket) return;
       this.#socket = null;
+      this.#tries += 1;
+      for (const [number, { own, reject }] of this.#requests) {
+        if (own && this.#requests.delete(number)) reject(new Refusal('ERR_CLOSED'));
+      }
+      this.state = 'disconnected';
       for (const document of this.#documents.values()) document.disconnected();
       this.#setState('disconnected');
-      if (this.#wanted) setTimeout(() => this.#wanted && this.#socket === null && this.#open(), this.#retryDelay);
+      if (!this.#wanted) return;
+      if (this.#tries > this.#mostTries) this.#fail(new Refusal('ERR_UNREACHABLE'));
+      else this.#timer = setTimeout(() => this.#wanted && this.#socket === null && this.#open(), this.#delay());
+    }
+
+    #delay() {
+      const grown = Math.min(this.#longestDelay, this.#retryDelay * 2 ** Math.min(this.#tries - 1, 30));
+      return grown * (1 - Math.random() / 2);
+    }
+
+    // The server can't be spoken to: nothing is tried again before the next `connect`.
+    #fail(error) {
+      this.#wanted = false;
+      this.error = error;
+      const socket = this.#socket;
+      if (socket !== null) {
+        this.#lost(socket);
+        socket.close();
+      }
+      this.#setState('failed');
+      for (const { reject } of this.#requests.values()) reject(error);
+      this.#requests.clear();
+      for (const document of this.#documents.values()) document.failed(error);
+      this.emit('error', error);
     }
 
     #setState(state) {
@@ -1134,22 +1721,43 @@
       this.emit('state', state);
     }
 
+    #read(text) {
+      let message = null;
+      try {
+        message = JSON.parse(text);
+      } catch {
+        // a server of these documents never says such a thing
+      }
+      if (isObject(message)) this.#receive(message);
+      else this.#fail(new Refusal('ERR_PROTOCOL'));
+    }
+
     #receive(message) {
       const document = this.#documents.get(keyOf(message.c, message.d));
-      if (message.a === 'init') this.#socket.send(JSON.stringify({ a: 'hs', id: this.source, protocol: 1 }));
+      if (message.a === 'init') this.#receiveInit(message);
       else if (message.a === 'hs') this.#receiveHandshake(message);
+      else if (this.state === 'connecting') this.#fail(message.error ? refusalOf(message) : new Refusal('ERR_PROTOCOL'));
+      else if (message.a === 'nf') this.#receiveSnapshot(message);
       else if (document) document.receive(message);
-      else if (message.error) this.emit('error', new Refusal(message.error.code, message.error.message));
+      else if (message.error) this.emit('error', refusalOf(message));
+    }
+
+    #receiveInit(message) {
+      const session = sessionNumber(message);
+      this.#isFresh = session > 0 && session <= this.#session;
+      this.#session = session;
+      this.#socket.send(JSON.stringify({ a: 'hs', id: this.source, protocol: 1 }));
     }
 
     #receiveHandshake(message) {
       if (message.error) {
-        this.emit('error', new Refusal(message.error.code, message.error.message));
-        this.#socket.close();
+        this.#fail(refusalOf(message));
         return;
       }
+      this.#tries = 0;
       this.#setState('connected');
-      for (const document of this.#documents.values()) document.connected();
+      for (const { text } of this.#requests.values()) this.#sendText(text);
+      for (const document of [...this.#documents.values()]) document.connected(this.#isFresh);
     }
   }
 

@@ -8,6 +8,7 @@
 'use strict';
 
 const COLLECTION = 'examples';
+const NOTICE_STAYS = 10000; // milliseconds for the word that the server was started afresh
 
 const START = {
   text: 'Two views, one document.\n\nType here, on both sides at once. Each view is a client with its own connection.\n',
@@ -84,13 +85,28 @@ class CardElement {
     this.vote.addEventListener('click', () => board.shared.submit([{ p: [...this.path(), 'votes'], na: 1 }]));
     element.querySelector('.back').addEventListener('click', () => board.moveToColumn(this.place, -1));
     element.querySelector('.on').addEventListener('click', () => board.moveToColumn(this.place, 1));
-    element.querySelector('.remove').addEventListener('click', () => board.remove(this.path()));
+    element.querySelector('.remove').addEventListener('click', () => board.remove(this.place));
+    element.addEventListener('keydown', (event) => this.press(event));
     element.addEventListener('dragstart', () => (board.dragged = this));
     element.addEventListener('dragend', () => (board.dragged = null));
   }
 
   path(place = this.place) {
     return ['columns', place.column, 'cards', place.index];
+  }
+
+  // What can be done by dragging can be done by keys.
+  press(event) {
+    const moves = { ArrowLeft: [-1, 0], ArrowRight: [1, 0], ArrowUp: [0, -1], ArrowDown: [0, 1] };
+    if (event.altKey && moves[event.key]) this.board.moveBy(this.place, ...moves[event.key]);
+    else if (event.altKey && event.key === 'Delete') this.board.remove(this.place);
+    else if (event.key === 'Enter' && event.target === this.title.element) this.board.insertBelow(this.place);
+    else return;
+    event.preventDefault();
+  }
+
+  focus() {
+    this.element.querySelector('.title').focus();
   }
 
   show(data, place, operation) {
@@ -117,17 +133,37 @@ class Board {
   // What a reader does ---------------------------------------------------------------------------------------
 
   add(column) {
-    const index = this.shared.data.columns[column].cards.length;
+    this.insert(column, this.shared.data.columns[column].cards.length);
+  }
+
+  insertBelow({ column, index }) {
+    this.insert(column, index + 1);
+  }
+
+  insert(column, index) {
     this.shared.submit([{ p: ['columns', column, 'cards', index], li: card('', 0) }]);
     this.lists[column].children[index].querySelector('.title').focus();
   }
 
-  remove(path) {
+  // Whoever uses the keyboard goes on at the card that takes the place, or at the column's button.
+  remove({ column, index }) {
+    const path = ['columns', column, 'cards', index];
+    const inside = this.lists[column].children[index].contains(document.activeElement);
     this.shared.submit([{ p: path, ld: valueAt(this.shared.data, path) }]);
+    const cards = this.lists[column].children;
+    const next = cards[Math.min(index, cards.length - 1)];
+    if (inside) (next ? next.querySelector('.title') : this.lists[column].parentElement.querySelector('.add')).focus();
   }
 
   tick(path, done) {
     this.shared.submit([{ p: [...path, 'done'], od: valueAt(this.shared.data, path).done, oi: done }]);
+  }
+
+  moveBy(place, columns, rows) {
+    const { length } = this.shared.data.columns[place.column].cards;
+    const index = place.index + rows;
+    if (columns !== 0) this.moveToColumn(place, columns);
+    else if (index >= 0 && index < length) this.move(place, { column: place.column, index: rows > 0 ? index + 1 : index });
   }
 
   moveToColumn(place, by) {
@@ -211,6 +247,7 @@ class View {
     this.find('h2').textContent = name;
     this.client = new Navirotsohy.Client(address, { source: `${name.toLowerCase()}-${shortRandom()}` });
     this.shared = this.client.document(COLLECTION, id);
+    this.noticeStays = 0; // until when
     this.text = new TextField(this.find('textarea'), this.shared, () => ['text']);
     this.board = new Board(this.find('.board'), this.shared);
     this.listen();
@@ -227,21 +264,36 @@ class View {
     this.client.on('state', (state) => this.showState(state));
     this.client.on('error', (error) => this.showNotice(error.message));
     this.shared.on('change', (change) => this.showDocument(change));
-    this.shared.on('loaded', () => this.shared.createIfAbsent(START));
+    this.shared.on('load', () => this.create());
+    this.shared.on('restarted', (told) => this.remember(told));
     this.shared.on('version', ({ version, source }) => this.showVersion(version + 1, source));
-    this.shared.on('stored', () => this.showNotice(''));
+    this.shared.on('stored', () => Date.now() > this.noticeStays && this.showNotice(''));
     this.shared.on('refused', ({ error }) => this.showNotice(`not stored: ${error.message}`));
   }
 
+  // Where no document is there: the one that a server had which is gone, or a first one.
+  create() {
+    const data = this.kept === undefined ? START : this.kept;
+    this.kept = undefined;
+    this.shared.createIfAbsent(data).catch((error) => this.showNotice(`not created: ${error.message}`));
+  }
+
+  remember({ data }) {
+    this.kept = data;
+    this.showNotice('the server was started afresh; what was not stored is lost');
+    this.noticeStays = Date.now() + NOTICE_STAYS;
+  }
+
   toggle() {
-    if (this.client.state === 'disconnected') this.client.connect();
-    else this.client.disconnect();
+    if (this.client.state === 'connecting' || this.client.state === 'connected') this.client.disconnect();
+    else this.client.connect();
   }
 
   showState(state) {
     this.element.dataset.state = state;
     this.find('.state').textContent = state;
-    this.find('.connection').textContent = state === 'disconnected' ? 'Reconnect' : 'Disconnect';
+    const isOpen = state === 'connecting' || state === 'connected';
+    this.find('.connection').textContent = isOpen ? 'Disconnect' : 'Reconnect';
     this.showPending();
   }
 

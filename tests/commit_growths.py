@@ -1,4 +1,4 @@
-"""Lets each allocation of the tests of commits fail in turn: those of the module growths of sdb_tests, as `rt test` builds them.
+"""Lets each allocation of the tests of commits fail in turn: those of the module growths of sdb_upper_tests, as `rt test` builds them.
 
 A test commits, and commits again where it found no memory: it passes where the first answer was E10, all was as before, and
 the second answer is the one that is due. A run is right where its test passes, or where the memory was wanting in what stands
@@ -9,7 +9,7 @@ import sys
 import tempfile
 
 HERE = os.path.dirname(os.path.abspath(__file__))
-TESTS = os.path.join(HERE, "..", "crates", "sdb_tests", "out", "sdb_tests_tests")
+TESTS = os.path.join(HERE, "..", "crates", "sdb_upper_tests", "out", "sdb_upper_tests_tests")
 AROUND = ("AllocError", "AllocFailed", '"no fetch"', '"no work"', '"not stored"')
 
 

@@ -20,6 +20,7 @@ class ScriptedSocket {
   constructor() {
     this.sent = [];
     ScriptedSocket.opened.push(this);
+    this.number = ScriptedSocket.opened.length;
   }
 
   send(text) {
@@ -34,9 +35,9 @@ class ScriptedSocket {
     for (const message of messages) this.onmessage({ data: JSON.stringify(message) });
   }
 
-  // The opening, up to the answer to the handshake.
-  open() {
-    this.answer({ a: 'init', id: 's1' }, { a: 'hs', id: 'me' });
+  // The opening, up to the answer to the handshake. A server counts its sessions.
+  open(number = this.number) {
+    this.answer({ a: 'init', id: `s${number}` }, { a: 'hs', id: 'me' });
   }
 
   // What was sent since the last time, but for the handshake.
@@ -74,7 +75,7 @@ function loaded(data = 'abc') {
   const client = new Client('ws://test', { source: 'me', WebSocket: ScriptedSocket, retryDelay: SOON });
   const document = client.document(ADDRESS.c, ADDRESS.d);
   const events = [];
-  for (const name of ['stored', 'refused', 'error', 'loaded', 'healed']) {
+  for (const name of ['stored', 'refused', 'error', 'load', 'healed', 'restarted']) {
     document.on(name, (detail) => events.push([name, detail]));
   }
   document.subscribe();
@@ -91,13 +92,21 @@ function holds(document, version, data) {
 }
 
 // Cuts a connection and opens the next one.
-async function reconnected(socket) {
+async function reconnected(socket, number) {
   socket.close();
   await later();
   const next = lastSocket();
   assert.notStrictEqual(next, socket);
-  next.open();
+  next.open(number);
   return next;
+}
+
+// Lets the client find what it compares: the document at its version.
+async function compared(socket, data = 'abc') {
+  const [{ a, id, v }] = socket.taken();
+  assert.strictEqual(a, 'nf');
+  socket.answer({ a, id, v, ...(data === undefined ? { type: null } : { type: 'json0', data }) });
+  await later(0);
 }
 
 const cases = {
@@ -141,8 +150,11 @@ const cases = {
     document.submit(insert(3, 'd'));
     const [sent] = socket.taken();
     const next = await reconnected(socket);
-    assert.deepStrictEqual(next.taken(), [{ a: 's', ...ADDRESS, v: 3 }, sent]);
-    next.answer(stored(3, insert(0, 'x')), { a: 's', ...ADDRESS }, acknowledged(4, 1));
+    await compared(next);
+    assert.deepStrictEqual(next.taken(), [{ a: 's', ...ADDRESS, v: 3 }]);
+    next.answer(stored(3, insert(0, 'x')), { a: 's', ...ADDRESS });
+    assert.deepStrictEqual(next.taken(), [sent]);
+    next.answer(acknowledged(4, 1));
     holds(document, 5, 'xabcd');
     assert.deepStrictEqual(events, [['stored', { version: 4, source: 'me', seq: 1 }]]);
   },
@@ -151,8 +163,11 @@ const cases = {
     const { document, socket, events } = loaded();
     document.submit(insert(3, 'd'));
     const next = await reconnected(socket);
-    next.answer(stored(3, insert(3, 'd'), 'me', 1), { a: 's', ...ADDRESS }, acknowledged(3, 1));
+    await compared(next);
+    next.taken();
+    next.answer(stored(3, insert(3, 'd'), 'me', 1), { a: 's', ...ADDRESS });
     holds(document, 4, 'abcd');
+    assert.deepStrictEqual(next.taken(), []);
     assert.strictEqual(events.length, 1);
   },
 
@@ -163,6 +178,7 @@ const cases = {
     client.connect();
     const next = lastSocket();
     next.open();
+    await compared(next);
     const [follows, edit] = next.taken();
     assert.deepStrictEqual([follows, edit], [{ a: 's', ...ADDRESS, v: 3 }, undefined]);
     next.answer({ a: 's', ...ADDRESS });
@@ -199,7 +215,7 @@ const cases = {
     assert.deepStrictEqual(socket.taken(), [{ a: 's', ...ADDRESS, v: null }]);
     socket.answer({ a: 's', ...ADDRESS, data: { data: '', v: 4 } });
     holds(document, 4, '');
-    assert.deepStrictEqual(events.map(([name]) => name), ['healed', 'loaded']);
+    assert.deepStrictEqual(events.map(([name]) => name), ['healed', 'load']);
   },
 
   'want of memory: the same message is sent again'() {
@@ -230,17 +246,51 @@ const cases = {
     await assert.rejects(loading, { code: 'ERR_LIMIT' });
   },
 
-  async 'the server was started anew: the document is loaded as it is there'() {
+  async 'the server was started afresh, with a shorter log: this is said, and the document is loaded as it is there'() {
     const { document, socket, events } = loaded();
-    document.submit(insert(3, 'd'));
+    socket.answer(stored(3, insert(0, 'x')));
+    const edit = document.submit(insert(4, 'd'));
     const next = await reconnected(socket);
-    next.taken();
+    assert.deepStrictEqual(next.taken(), [{ a: 's', ...ADDRESS, v: 3 }]);
     next.answer(refused('s', 'ERR_OP_VERSION_NEWER_THAN_CURRENT_SNAPSHOT'));
-    next.answer(refused('op', 'ERR_OP_VERSION_NEWER_THAN_CURRENT_SNAPSHOT', { src: 'me', seq: 1 }));
     assert.deepStrictEqual(next.taken(), [{ a: 's', ...ADDRESS, v: null }]);
     next.answer({ a: 's', ...ADDRESS, data: { type: null, v: 0 } });
     holds(document, 0, undefined);
-    assert.deepStrictEqual(events.map(([name]) => name), ['refused', 'loaded']);
+    await assert.rejects(edit, { code: 'ERR_SERVER_RESTARTED' });
+    assert.deepStrictEqual(events.map(([name]) => name), ['refused', 'restarted', 'load']);
+    assert.deepStrictEqual(events[1][1], { version: 4, data: 'xabc', contents: [{ op: insert(4, 'd') }] });
+  },
+
+  async 'the server was started afresh, and has a longer log by now'() {
+    const { document, socket, events } = loaded();
+    socket.answer(stored(3, insert(0, 'x')));
+    document.submit(insert(4, 'd'));
+    const next = await reconnected(socket);
+    next.taken();
+    next.answer(stored(3, insert(0, 'q'), 'stranger', 7), stored(4, insert(0, 'r')), { a: 's', ...ADDRESS });
+    assert.deepStrictEqual(next.taken(), [{ a: 's', ...ADDRESS, v: null }]);
+    next.answer({ a: 's', ...ADDRESS, data: { data: 'rq', v: 5 } });
+    holds(document, 5, 'rq');
+    assert.deepStrictEqual(events.map(([name]) => name), ['refused', 'restarted', 'load']);
+  },
+
+  async 'the server was started afresh, no operation was seen before: the documents are compared'() {
+    const { document, socket, events } = loaded();
+    const next = await reconnected(socket);
+    await compared(next, 'another');
+    assert.deepStrictEqual(next.taken(), [{ a: 's', ...ADDRESS, v: null }]);
+    next.answer({ a: 's', ...ADDRESS, data: { data: 'another one', v: 9 } });
+    holds(document, 9, 'another one');
+    assert.deepStrictEqual(events.map(([name]) => name), ['restarted', 'load']);
+  },
+
+  async 'the server was started afresh: it counts its sessions from 1 again'() {
+    const { document, socket, events } = loaded();
+    const next = await reconnected(socket, 1);
+    assert.deepStrictEqual(next.taken(), [{ a: 's', ...ADDRESS, v: null }]);
+    next.answer({ a: 's', ...ADDRESS, data: { type: null, v: 0 } });
+    holds(document, 0, undefined);
+    assert.deepStrictEqual(events.map(([name]) => name), ['restarted', 'load']);
   },
 
   'another client creates the document first'() {
@@ -275,23 +325,358 @@ const cases = {
     holds(document, 6, 'zyxabc');
   },
 
-  'half a pair, and what is too long, isn\'t sent'() {
-    const { document, socket, events } = loaded();
-    document.submit(insert(3, '\ud83d'));
-    document.submit(insert(3, 'a'.repeat(1048576)));
-    assert.deepStrictEqual(socket.taken().map(({ a }) => a), ['f', 'f']);
-    assert.deepStrictEqual(events.map(([, { error }]) => error.code), Array(2).fill('ERR_MESSAGE_BADLY_FORMED'));
-    document.submit(insert(3, '\\ud83d😀'));
-    assert.strictEqual(socket.taken()[0].op[0].si, '\\ud83d😀');
+  async 'what the server would refuse by its form is refused here, before it is shown'() {
+    const { document, socket } = loaded({ t: 'abc', n: 1 });
+    let deep = 0;
+    for (let depth = 0; depth < 51; depth += 1) deep = [deep];
+    const bad = [
+      [{ p: ['n'], na: 1.5 }],
+      [{ p: ['n'], na: 2 ** 53 }],
+      [{ p: ['k'], oi: 0.5 }],
+      [{ p: ['k'], oi: [NaN] }],
+      [{ p: ['k'], oi: { a: undefined } }],
+      [{ p: ['k'], oi: new Date(0) }],
+      [{ p: ['k'], oi: deep }],
+      [{ p: ['t', 0], si: '\ud83d' }],
+      [{ p: ['\ude00'], oi: 1 }],
+      [{ p: Array(51).fill('a'), oi: 1 }],
+      [{ p: ['t', 0], si: 'x', lm: 1 }],
+      Array(257).fill({ p: ['n'], na: 1 }),
+      { p: ['n'], na: 1 },
+      [null],
+    ];
+    for (const operation of bad) await assert.rejects(document.submit(operation), { code: 'ERR_OT_OP_BADLY_FORMED' });
+    const long = [{ p: ['t', 0], si: 'a'.repeat(1048576) }];
+    await assert.rejects(document.submit(long), { code: 'ERR_MESSAGE_BADLY_FORMED' });
+    holds(document, 3, { t: 'abc', n: 1 });
+    assert.deepStrictEqual(socket.taken(), []);
+    document.submit([{ p: ['t', 3], si: '\\ud83d😀' }, { p: ['n'], na: -0 }]);
+    assert.deepStrictEqual(socket.taken()[0].op, [{ p: ['t', 3], si: '\\ud83d😀' }, { p: ['n'], na: 0 }]);
   },
 
-  'what can\'t be applied is thrown back and changes nothing'() {
+  async 'what can\'t be applied is refused at once and changes nothing'() {
     const { document, socket } = loaded();
     for (const bad of [insert(4, 'x'), [{ p: [-1], si: 'x' }], [{ p: [0], lm: 1 }], [{ p: ['k'], oi: 1 }]]) {
-      assert.throws(() => document.submit(bad), { name: 'Refusal' });
+      await assert.rejects(document.submit(bad), { name: 'Refusal' });
     }
+    await assert.rejects(document.create('x'), { code: 'ERR_DOC_ALREADY_CREATED' });
     holds(document, 3, 'abc');
     assert.strictEqual(socket.taken().length, 0);
+  },
+
+  async 'an edit answers a promise: the version at which it is stored'() {
+    const { document, socket } = loaded();
+    const edits = [insert(3, 'd'), insert(4, 'e'), insert(5, 'f')].map((operation) => document.submit(operation));
+    socket.answer(stored(3, insert(0, 'x')), acknowledged(4, 1), acknowledged(5, 2));
+    assert.deepStrictEqual(await Promise.all(edits), [{ version: 4 }, { version: 5 }, { version: 5 }]);
+    const again = document.submit(insert(0, 'y'));
+    const upon = document.submit(insert(0, 'z'));
+    socket.answer(refused('op', 'ERR_LIMIT', { src: 'me', seq: 3 }));
+    await assert.rejects(again, { code: 'ERR_LIMIT' });
+    await assert.rejects(upon, { code: 'ERR_LIMIT' });
+    assert.deepStrictEqual(await document.submit([]), { version: null });
+  },
+
+  async 'an edit and what undoes it, while another is in flight, need not be stored'() {
+    const { document, socket } = loaded();
+    document.submit(insert(3, 'd'));
+    const both = [document.submit(insert(0, 'x')), document.submit([{ p: [0], sd: 'x' }])];
+    assert.deepStrictEqual(await Promise.all(both), [{ version: null }, { version: null }]);
+    socket.answer(acknowledged(3, 1));
+    holds(document, 4, 'abcd');
+    assert.strictEqual(socket.taken().length, 1);
+  },
+
+  async 'create and remove answer a promise'() {
+    const { document, socket } = loaded();
+    const gone = document.remove();
+    assert.strictEqual(document.data, undefined);
+    socket.answer(acknowledged(3, 1));
+    const made = document.create({ n: 1 });
+    socket.answer(acknowledged(4, 2));
+    assert.deepStrictEqual([await gone, await made], [{ version: 3 }, { version: 4 }]);
+    holds(document, 5, { n: 1 });
+    document.remove();
+    const lost = document.create([]);
+    socket.answer(acknowledged(5, 3), refused('op', 'ERR_DOC_ALREADY_CREATED', { src: 'me', seq: 4 }));
+    await assert.rejects(lost, { code: 'ERR_DOC_ALREADY_CREATED' });
+  },
+
+  async 'a create that is refused: createIfAbsent says so'() {
+    const client = new Client('ws://test', { source: 'me', WebSocket: ScriptedSocket });
+    const document = client.document(ADDRESS.c, ADDRESS.d);
+    document.subscribe();
+    const socket = lastSocket();
+    socket.open();
+    socket.answer({ a: 's', ...ADDRESS, data: { type: null, v: 0 } });
+    const made = document.createIfAbsent('mine');
+    socket.answer(refused('op', 'ERR_LIMIT', { src: 'me', seq: 1 }));
+    await assert.rejects(made, { code: 'ERR_LIMIT' });
+  },
+
+  'listeners are told of operations, with their source'() {
+    const { document, socket } = loaded();
+    const told = [];
+    for (const name of ['before op', 'op', 'create', 'remove']) {
+      document.on(name, ({ source, local }) => told.push([name, source, local, document.data]));
+    }
+    const editor = {};
+    document.submit(insert(3, 'd'), { source: editor });
+    socket.answer(acknowledged(3, 1), stored(4, insert(0, 'x')));
+    document.remove();
+    const create = { type: 'json0', data: 1 };
+    socket.answer(acknowledged(5, 2), { a: 'op', ...ADDRESS, create, src: 'other', seq: 9, v: 6 });
+    assert.deepStrictEqual(told, [
+      ['before op', editor, true, 'abc'],
+      ['op', editor, true, 'abcd'],
+      ['before op', 'other', false, 'abcd'],
+      ['op', 'other', false, 'xabcd'],
+      ['remove', 'me', true, undefined],
+      ['create', 'other', false, 1],
+    ]);
+  },
+
+  'on, once and off'() {
+    const { document, socket } = loaded();
+    const told = [];
+    const always = () => told.push('always');
+    const stop = document.on('version', always);
+    document.once('version', () => told.push('once'));
+    const never = () => told.push('never');
+    document.once('version', never);
+    document.off('version', never);
+    socket.answer(stored(3, insert(0, 'x')), stored(4, insert(0, 'y')));
+    stop();
+    socket.answer(stored(5, insert(0, 'z')));
+    assert.deepStrictEqual(told, ['always', 'once', 'always']);
+  },
+
+  async 'a listener that throws harms nothing, and is reported'() {
+    const { document, socket } = loaded();
+    const reported = [];
+    const before = console.error;
+    console.error = (error) => reported.push(error.message);
+    for (const name of ['before op', 'op', 'change', 'version', 'stored']) {
+      document.on(name, () => {
+        throw new Error(name);
+      });
+    }
+    const edit = document.submit(insert(3, 'd'));
+    assert.strictEqual(socket.taken().length, 1);
+    socket.answer(acknowledged(3, 1));
+    console.error = before;
+    assert.deepStrictEqual(await edit, { version: 3 });
+    assert.deepStrictEqual(reported, ['before op', 'op', 'change', 'version', 'stored']);
+    holds(document, 4, 'abcd');
+  },
+
+  async 'a listener of `before op` can\'t edit, one of `op` can'() {
+    const { document, socket } = loaded();
+    const tries = [];
+    document.once('before op', () => tries.push(document.submit(insert(0, 'b'))));
+    document.once('op', () => tries.push(document.submit(insert(0, 'o'))));
+    document.submit(insert(3, 'd'));
+    await assert.rejects(tries[0], /before op/);
+    socket.answer(acknowledged(3, 1));
+    assert.deepStrictEqual(await tries[1], { version: 3 });
+    holds(document, 4, 'oabcd');
+  },
+
+  async 'a document is fetched without being followed, and edited'() {
+    const client = new Client('ws://test', { source: 'me', WebSocket: ScriptedSocket, retryDelay: SOON });
+    const document = client.document(ADDRESS.c, ADDRESS.d);
+    const fetching = document.fetch();
+    const socket = lastSocket();
+    socket.open();
+    assert.deepStrictEqual(socket.taken(), [{ a: 'f', ...ADDRESS }]);
+    socket.answer({ a: 'f', ...ADDRESS, data: { data: 'abc', v: 3 } });
+    assert.strictEqual((await fetching).data, 'abc');
+    const edit = document.submit(insert(3, 'd'));
+    assert.strictEqual(socket.taken().length, 1);
+    socket.answer(stored(3, insert(0, 'x')), acknowledged(4, 1));
+    assert.deepStrictEqual(await edit, { version: 4 });
+    const again = document.fetch();
+    await later(0);
+    assert.deepStrictEqual(socket.taken(), [{ a: 'f', ...ADDRESS, v: 5 }]);
+    socket.answer(stored(5, insert(0, 'y')), { a: 'f', ...ADDRESS });
+    await again;
+    holds(document, 6, 'yxabcd');
+    document.submit(insert(0, 'z'));
+    const [sent] = socket.taken();
+    const next = await reconnected(socket);
+    assert.deepStrictEqual(next.taken(), [{ a: 'f', ...ADDRESS, v: 5 }]);
+    next.answer(stored(5, insert(0, 'y')), { a: 'f', ...ADDRESS });
+    assert.deepStrictEqual(next.taken(), [sent]);
+    next.answer(acknowledged(6, 2));
+    holds(document, 7, 'zyxabcd');
+  },
+
+  async 'fetched and then followed: what was stored between is asked for'() {
+    const client = new Client('ws://test', { source: 'me', WebSocket: ScriptedSocket });
+    const document = client.document(ADDRESS.c, ADDRESS.d);
+    const socket = lastSocket();
+    socket.open();
+    document.fetch();
+    const following = document.subscribe();
+    assert.deepStrictEqual(socket.taken(), [{ a: 'f', ...ADDRESS }, { a: 's', ...ADDRESS, v: null }]);
+    socket.answer({ a: 'f', ...ADDRESS, data: { data: 'abc', v: 3 } }, { a: 's', ...ADDRESS, data: { data: 'xabc', v: 4 } });
+    assert.deepStrictEqual(socket.taken(), [{ a: 's', ...ADDRESS, v: 3 }]);
+    socket.answer(stored(3, insert(0, 'x')), { a: 's', ...ADDRESS });
+    await following;
+    holds(document, 4, 'xabc');
+  },
+
+  async 'a document is followed no longer, and let go'() {
+    const { client, document, socket } = loaded();
+    document.submit(insert(3, 'd'));
+    socket.taken();
+    const letting = document.destroy();
+    await later(0);
+    assert.deepStrictEqual(socket.taken(), []);
+    socket.answer(acknowledged(3, 1));
+    await later(0);
+    assert.deepStrictEqual(socket.taken(), [{ a: 'u', ...ADDRESS }]);
+    socket.answer({ a: 'u', ...ADDRESS });
+    await letting;
+    assert.notStrictEqual(client.document(ADDRESS.c, ADDRESS.d), document);
+    await assert.rejects(document.submit(insert(0, 'x')), { code: 'ERR_CLOSED' });
+    await assert.rejects(document.subscribe(), { code: 'ERR_CLOSED' });
+  },
+
+  async 'a document is let go when no answer to it is still to come'() {
+    const { client, document, socket } = loaded();
+    document.unsubscribe();
+    document.fetch();
+    await later(0);
+    const letting = document.destroy();
+    await later(0);
+    assert.strictEqual(client.document(ADDRESS.c, ADDRESS.d), document);
+    socket.answer({ a: 'u', ...ADDRESS });
+    await later(0);
+    assert.strictEqual(client.document(ADDRESS.c, ADDRESS.d), document);
+    socket.answer({ a: 'f', ...ADDRESS });
+    await letting;
+    assert.notStrictEqual(client.document(ADDRESS.c, ADDRESS.d), document);
+  },
+
+  async 'followed no longer, and followed again'() {
+    const { document, socket } = loaded();
+    const leaving = document.unsubscribe();
+    assert.deepStrictEqual(socket.taken(), [{ a: 'u', ...ADDRESS }]);
+    socket.answer({ a: 'u', ...ADDRESS });
+    await leaving;
+    const following = document.subscribe();
+    assert.deepStrictEqual(socket.taken(), [{ a: 's', ...ADDRESS, v: 3 }]);
+    socket.answer(stored(3, insert(0, 'x')), { a: 's', ...ADDRESS });
+    await following;
+    holds(document, 4, 'xabc');
+  },
+
+  async 'a snapshot at a version, also over the next connection'() {
+    const { client, document, socket } = loaded();
+    const [one, none, newer] = [document.snapshot(2), client.snapshot('b', '2'), document.snapshot(9)];
+    const asked = socket.taken();
+    assert.deepStrictEqual(asked.map(({ a, c, d, v }) => [a, c, d, v]), [
+      ['nf', 'b', '1', 2],
+      ['nf', 'b', '2', null],
+      ['nf', 'b', '1', 9],
+    ]);
+    socket.answer({ a: 'nf', data: 'ab', id: asked[0].id, type: 'json0', v: 2 });
+    socket.answer(refused('nf', 'ERR_OP_VERSION_NEWER_THAN_CURRENT_SNAPSHOT', { id: asked[2].id }));
+    assert.deepStrictEqual(await one, { version: 2, data: 'ab' });
+    await assert.rejects(newer, { code: 'ERR_OP_VERSION_NEWER_THAN_CURRENT_SNAPSHOT' });
+    const next = await reconnected(socket);
+    assert.deepStrictEqual(next.taken()[0], asked[1]);
+    next.answer({ a: 'nf', id: asked[1].id, type: null, v: 0 });
+    assert.deepStrictEqual(await none, { version: 0, data: undefined });
+  },
+
+  async 'the stored operations from a version on'() {
+    const { document, socket } = loaded();
+    const listing = document.operations(1);
+    assert.deepStrictEqual(socket.taken(), [{ a: 'f', ...ADDRESS, v: 1 }]);
+    socket.answer(stored(3, insert(0, 'x')));
+    socket.answer(...[1, 2, 3].map((v) => stored(v, insert(0, 'x'))), { a: 'f', ...ADDRESS });
+    assert.deepStrictEqual((await listing).map(({ version, source, op }) => [version, source, op.length]), [
+      [1, 'other', 1],
+      [2, 'other', 1],
+      [3, 'other', 1],
+    ]);
+    holds(document, 4, 'xabc');
+    const none = document.operations(4);
+    socket.answer({ a: 'f', ...ADDRESS });
+    assert.deepStrictEqual(await none, []);
+  },
+
+  async 'want of memory: fetches and subscriptions are asked for again'() {
+    const { document, socket } = loaded();
+    const listing = document.operations(3);
+    socket.taken();
+    socket.answer(refused('f', 'ERR_OUT_OF_MEMORY'));
+    await later();
+    assert.deepStrictEqual(socket.taken(), [{ a: 'f', ...ADDRESS, v: 3 }]);
+    socket.answer({ a: 'f', ...ADDRESS });
+    assert.deepStrictEqual(await listing, []);
+  },
+
+  async 'whenNothingPending'() {
+    const { client, document, socket } = loaded();
+    let told = false;
+    await document.whenNothingPending();
+    document.submit(insert(3, 'd'));
+    document.whenNothingPending(() => (told = true));
+    const all = client.whenNothingPending();
+    await later(0);
+    assert.strictEqual(told, false);
+    socket.answer(acknowledged(3, 1));
+    await all;
+    await later(0);
+    assert.strictEqual(told, true);
+  },
+
+  async 'each try waits longer than the one before, and after so many the client ends'() {
+    const count = ScriptedSocket.opened.length;
+    const client = new Client('ws://test', { WebSocket: ScriptedSocket, retryDelay: 8, longestDelay: 32, mostTries: 4 });
+    const loading = client.document('b', '1').subscribe();
+    const states = [];
+    const times = [];
+    client.on('state', (state) => states.push(state));
+    for (let tried = 0; client.state !== 'failed' && tried < 400; tried += 1) {
+      if (ScriptedSocket.opened.length - count > times.length) {
+        times.push(Date.now());
+        lastSocket().close();
+      }
+      await later(1);
+    }
+    assert.strictEqual(times.length, 5);
+    assert.ok(times[4] - times[3] >= 14 && times[1] - times[0] < times[4] - times[3], times.join());
+    assert.strictEqual(client.error.code, 'ERR_UNREACHABLE');
+    assert.deepStrictEqual(states.slice(-2), ['disconnected', 'failed']);
+    await assert.rejects(loading, { code: 'ERR_UNREACHABLE' });
+  },
+
+  async 'who can\'t be spoken to is left alone'() {
+    const error = { code: 'ERR_MESSAGE_BADLY_FORMED', message: '' };
+    const answers = [
+      [(socket) => socket.onmessage({ data: 'hello' }), 'ERR_PROTOCOL'],
+      [(socket) => socket.onmessage({ data: '[1]' }), 'ERR_PROTOCOL'],
+      [(socket) => socket.answer({ a: 'news' }), 'ERR_PROTOCOL'],
+      [(socket) => socket.answer({ a: 'init', id: 's1' }, { a: 'hs', error }), error.code],
+    ];
+    for (const [answer, code] of answers) {
+      const client = new Client('ws://test', { WebSocket: ScriptedSocket, retryDelay: 1 });
+      const errors = [];
+      client.on('error', (error) => errors.push(error.code));
+      const count = ScriptedSocket.opened.length;
+      answer(lastSocket());
+      await later();
+      assert.deepStrictEqual([client.state, errors, ScriptedSocket.opened.length], ['failed', [code], count]);
+    }
+  },
+
+  'without a WebSocket the message says what to do'() {
+    assert.throws(() => new Client('ws://test', { WebSocket: null }), /hand one over/);
+    assert.throws(() => new Client('ws://test', { WebSocket: ScriptedSocket, source: '' }), /1 to 200 bytes/);
   },
 
   'a caret stays with its letters'() {

@@ -146,11 +146,11 @@ async function edit(document, client, kept, edits) {
     if (fate === 0) kept.socket.terminate();
     else if (fate === 1) client.disconnect();
     if (fate === 1) setTimeout(() => client.connect(), random(60));
-    if (random(3) > 0) await (fate === 1 ? pause(random(30)) : document.settled());
+    if (random(3) > 0) await (fate === 1 ? pause(random(30)) : document.whenNothingPending());
   }
-  await document.settled();
+  await document.whenNothingPending();
   document.submit([{ p: [`finished-${NAME}`], oi: true }]);
-  await document.settled();
+  await document.whenNothingPending();
 }
 
 function finished(data) {

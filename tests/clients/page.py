@@ -5,13 +5,16 @@
 The page is driven by its fields and buttons (page_edits.js), in both views. When the edits are stored it puts a key
 `finished-page` into the document; when CLIENTS of these keys are there, nobody edits any more. Then what both views
 hold and show is compared with the document as it is fetched over a new connection, and what they held at every fifth
-version with the document as it was there. Before that, on a document of its own, a caret is looked at while the other
-view writes. Status 1, and a line that says what differs, on a difference.
+version with the document as it was there. Before that, on documents of their own, a caret is looked at while the other
+view writes, the page is used by keys alone, and on a screen of 320 pixels nothing lies outside; and the client is
+imported as a module. Status 1, and a line that says what differs, on a difference.
 
 Needs python3-websockets and chromium.
 """
 import asyncio
 import contextlib
+import functools
+import http.server
 import itertools
 import json
 import pathlib
@@ -20,6 +23,7 @@ import signal
 import subprocess
 import sys
 import tempfile
+import threading
 import urllib.parse
 import urllib.request
 
@@ -92,6 +96,94 @@ class Tab:
         await self.evaluate((HERE / "page_edits.js").read_text())
 
 
+    async def press(self, key, code=0, alt=False):
+        parameters = {"key": key, "code": key, "windowsVirtualKeyCode": code, "modifiers": 1 if alt else 0}
+        text = {"text": "\r"} if key == "Enter" else {}
+        await self.call("Input.dispatchKeyEvent", type="keyDown", **parameters, **text)
+        await self.call("Input.dispatchKeyEvent", type="keyUp", **parameters)
+
+    # Presses Tab until what has the focus fits.
+    async def tab_to(self, selector, most=60):
+        for _ in range(most):
+            await self.press("Tab", 9)
+            if await self.evaluate(f"document.activeElement.matches({json.dumps(selector)})"):
+                return
+        raise RuntimeError(f"Tab never comes to {selector}")
+
+
+# By keys -------------------------------------------------------------------------------------------------------------
+
+CARD = "views[0].shared.data.columns.map(({ cards }) => cards.findIndex(({ title }) => title === 'by keys'))"
+
+
+# A card is added, written, moved to the next column, up there, voted for and removed; a view is disconnected and connected.
+async def faults_by_keys(tab, address, document):
+    await tab.open(address, document)
+    await tab.evaluate("pageEdits.opened()")
+    await tab.tab_to(".column .add")
+    await tab.press("Enter", 13)
+    await tab.call("Input.insertText", text="by keys")
+    steps = [(await tab.evaluate(CARD), [2, -1, -1])]
+    await tab.press("ArrowRight", 39, alt=True)
+    steps.append((await tab.evaluate(CARD), [-1, 1, -1]))
+    await tab.press("ArrowUp", 38, alt=True)
+    steps.append((await tab.evaluate(CARD), [-1, 0, -1]))
+    await tab.tab_to(".vote")
+    await tab.press("Enter", 13)
+    steps.append((await tab.evaluate("views[0].shared.data.columns[1].cards[0].votes"), 1))
+    await tab.press("Delete", 46, alt=True)
+    steps.append((await tab.evaluate(CARD), [-1, -1, -1]))
+    steps.append((await tab.evaluate("document.activeElement.matches('.card .title')"), True))
+    await tab.tab_to(".connection")
+    await tab.press("Enter", 13)
+    steps.append((await tab.evaluate("views[1].client.state"), "disconnected"))
+    await tab.press("Enter", 13)
+    await tab.evaluate("pageEdits.opened()")
+    numbered = enumerate(steps, 1)
+    return [f"by keys, step {at}: {found}, and not {wanted}" for at, (found, wanted) in numbered if found != wanted]
+
+
+# On a narrow screen --------------------------------------------------------------------------------------------------
+
+OUTSIDE = """[...document.querySelectorAll('body *')].filter((one) => {
+    const { left, right, width } = one.getBoundingClientRect();
+    return width > 0 && (left < 0 || right > innerWidth);
+}).map((one) => one.className || one.tagName)"""
+
+
+async def faults_on_narrow(tab, width=320):
+    await tab.call("Emulation.setDeviceMetricsOverride", width=width, height=640, deviceScaleFactor=1, mobile=False)
+    outside = await tab.evaluate(OUTSIDE)
+    wide = await tab.evaluate("document.documentElement.scrollWidth")
+    await tab.call("Emulation.clearDeviceMetricsOverride")
+    return [f"on a screen of {width} pixels {outside} lie outside, the page has {wide}"] if outside or wide > width else []
+
+
+# As a module ---------------------------------------------------------------------------------------------------------
+
+class Quiet(http.server.SimpleHTTPRequestHandler):
+    extensions_map = {".mjs": "text/javascript", ".js": "text/javascript", ".html": "text/html", "": "text/plain"}
+
+    def log_message(self, *_):
+        pass
+
+
+MODULE = "import('/client.mjs').then(({ Client, default: api }) => api.Client === Client && api === Navirotsohy)"
+
+
+# A browser imports modules over HTTP alone.
+async def faults_of_module(tab):
+    files = http.server.ThreadingHTTPServer(("127.0.0.1", 0), functools.partial(Quiet, directory=PAGE.parent))
+    threading.Thread(target=files.serve_forever, daemon=True).start()
+    try:
+        await tab.call("Page.navigate", url=f"http://127.0.0.1:{files.server_port}/style.css")
+        while not await tab.evaluate("document.readyState === 'complete' && location.pathname === '/style.css'"):
+            await asyncio.sleep(0.05)
+        return [] if await tab.evaluate(MODULE) else ["the module gives another client"]
+    finally:
+        files.shutdown()
+
+
 # What a view shows of a document: its text, and its columns without the ids and other members of cards.
 def as_shown(data):
     members = ("title", "done", "votes")
@@ -114,13 +206,15 @@ async def main(address, document, edits="300", clients="1"):
         tab = Tab(socket)
         await tab.open(address, f"{document}-caret")
         caret = await tab.evaluate("pageEdits.caret()")
+        faults = await faults_on_narrow(tab)
+        faults += await faults_by_keys(tab, address, f"{document}-keys")
+        faults += await faults_of_module(tab)
         await tab.open(address, document)
         await tab.evaluate(f"pageEdits.run({int(edits)})")
         await tab.evaluate(f"pageEdits.follow({int(clients)})")
         views = await tab.evaluate("pageEdits.results()")
     versions = sorted({int(at) for view in views for at in view["held"]})
     version, data, before = await fetch(address, document, versions)
-    faults = []
     for name, view in zip(("left", "right"), views):
         faults += [f"the {name} view {fault}" for fault in faults_of(view, version, data, before)]
     if caret != CARET:

@@ -89,9 +89,9 @@ window.pageEdits = (() => {
   }
 
   async function finish() {
-    await Promise.all(views.map((view) => view.shared.settled()));
+    await Promise.all(views.map((view) => view.shared.whenNothingPending()));
     views[0].shared.submit([{ p: ['finished-page'], oi: true }]);
-    await views[0].shared.settled();
+    await views[0].shared.whenNothingPending();
   }
 
   // Waits until all clients have finished, in both views.
@@ -128,7 +128,7 @@ window.pageEdits = (() => {
     while (!ready()) await pause(10);
     const [left, right] = views.map((view) => view.find('textarea'));
     const settled = async () => {
-      await Promise.all(views.map((view) => view.shared.settled()));
+      await Promise.all(views.map((view) => view.shared.whenNothingPending()));
       while (views[0].shared.version !== views[1].shared.version) await pause(10);
     };
     const write = async (field, text, start, end) => {
@@ -144,5 +144,9 @@ window.pageEdits = (() => {
     return [left.value, left.value.slice(left.selectionStart, left.selectionEnd)];
   }
 
-  return { run, follow, results, caret };
+  async function opened() {
+    while (!ready()) await pause(10);
+  }
+
+  return { run, follow, results, caret, opened };
 })();

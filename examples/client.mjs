@@ -1,0 +1,14 @@
+/*
+ * client.js as an ES module, for browsers, Node and bundlers:
+ *
+ *     import { Client } from './client.mjs';
+ *
+ * It reads client.js beside it, which hands itself over as a CommonJS module or, in a page, by its global name.
+ */
+import * as loaded from './client.js';
+
+const api = loaded.default || globalThis.Navirotsohy;
+
+export default api;
+export const { Client, Document, Refusal } = api;
+export const { apply, compose, cross, textChange, transformComponent, transformOffset } = api;

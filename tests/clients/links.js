@@ -1,0 +1,136 @@
+/*
+ * Clients that follow a document, leave it, fetch it, look at its versions, and lose their connections, all at random,
+ * while they edit it: in the end each holds what the server has, and each edit's promise has told the truth.
+ *
+ *     node tests/clients/links.js ADDRESS [ROUNDS] [SEED]
+ *
+ * Needs node-ws.
+ */
+'use strict';
+
+const assert = require('assert');
+module.paths.push('/usr/share/nodejs'); // where Debian's node-ws stands
+const WebSocket = require('ws');
+const { Client, apply } = require('../../examples/client.js');
+const { choices } = require('./random.js');
+
+const [address, rounds = '300', seed = '1'] = process.argv.slice(2);
+const { random, pick } = choices(seed);
+const PATIENCE = 60000; // milliseconds for all of it
+const CLIENTS = 3;
+const ID = `links-${seed}-${process.pid}`;
+const faults = [];
+
+function pause(milliseconds) {
+  return new Promise((resolve) => setTimeout(resolve, milliseconds));
+}
+
+class Participant {
+  constructor(number) {
+    const participant = this;
+    this.number = number;
+    this.made = 0; // edits
+    this.versions = []; // at which they are stored, as their promises told
+    const Tearable = class extends WebSocket {
+      constructor(where) {
+        super(where);
+        participant.socket = this;
+      }
+    };
+    this.client = new Client(address, { source: `${ID}-${number}`, WebSocket: Tearable, retryDelay: 10, longestDelay: 40 });
+    this.take();
+  }
+
+  take() {
+    this.document = this.client.document('links', ID);
+    for (const event of ['restarted', 'healed', 'refused', 'error']) {
+      this.document.on(event, (detail) => faults.push(`client ${this.number}: ${event} ${JSON.stringify(detail)}`));
+    }
+  }
+
+  edit() {
+    const { document } = this;
+    const text = document.data[this.number];
+    const from = random(text.length + 1);
+    const removed = random(12) < text.length ? text.slice(from, from + 1 + random(3)) : '';
+    const change = removed ? { sd: removed } : { si: pick(['a', 'bc']) };
+    this.made += 1;
+    document.submit([{ p: [this.number, from], ...change }, { p: [CLIENTS], na: 1 }]).then(
+      ({ version }) => this.versions.push(version),
+      (error) => faults.push(`client ${this.number}: ${error.stack}`),
+    );
+  }
+
+  async round() {
+    const { document } = this;
+    switch (random(12)) {
+      case 0:
+        return void document.unsubscribe();
+      case 1:
+      case 2:
+        return void document.subscribe();
+      case 3:
+        return void (random(4) === 0 && this.socket.terminate());
+      case 4:
+        return void document.fetch();
+      case 5:
+        if (random(3) > 0) return undefined;
+        await document.destroy();
+        this.take();
+        return void (await (random(2) ? this.document.fetch() : this.document.subscribe()));
+      case 6:
+        return this.look();
+      default:
+        return this.edit();
+    }
+  }
+
+  // A document at a version is what the operations before it make.
+  async look() {
+    const version = random(this.document.version) + 1;
+    const [{ data }, entries] = await Promise.all([this.document.snapshot(version), this.document.operations(0)]);
+    const made = entries.slice(1, version).reduce((value, { op }) => apply(value, op), entries[0].create.data);
+    assert.deepStrictEqual(made, data);
+  }
+
+  async play() {
+    await this.document.fetch();
+    for (let round = 0; round < Number(rounds); round += 1) {
+      await this.round();
+      if (random(3) === 0) await pause(random(6));
+    }
+    await this.document.whenNothingPending();
+  }
+}
+
+async function main() {
+  const first = new Client(address, { WebSocket });
+  const fresh = first.document('links', ID);
+  await fresh.fetch();
+  await fresh.create([...Array(CLIENTS).fill(''), 0]);
+  const participants = Array.from({ length: CLIENTS }, (_, number) => new Participant(number));
+  await Promise.all(participants.map((one) => one.play()));
+  await fresh.fetch();
+  const made = participants.reduce((sum, one) => sum + one.made, 0);
+  assert.strictEqual(fresh.data[CLIENTS], made);
+  const entries = await fresh.operations(0);
+  for (const one of participants) {
+    await one.document.fetch();
+    assert.deepStrictEqual([one.document.version, one.document.data], [fresh.version, fresh.data]);
+    assert.strictEqual(one.versions.length, one.made);
+    const own = new Set(entries.filter(({ source }) => source === one.client.source).map(({ version }) => version));
+    assert.ok(one.versions.every((version) => own.has(version)));
+    assert.strictEqual(new Set(one.versions).size, own.size);
+  }
+  assert.deepStrictEqual(faults, []);
+  console.log(`links: ${made} edits stored in ${fresh.version - 1} operations, all agree`);
+}
+
+function end(error) {
+  if (error) console.log(`links: ${error.stack}`);
+  for (const fault of faults.slice(0, 5)) console.log(`links: ${fault}`);
+  process.exit(error ? 1 : 0);
+}
+
+setTimeout(() => end(new Error('nothing more comes')), PATIENCE).unref();
+main().then(() => end(null), end);
