@@ -1,15 +1,17 @@
 -- What a document keeps: snapshots of its log.
-use Rattle.std.proofs.Common.{◌≡◌, ◌≢◌, ℕ, ◌≤◌, List, [], ◌∷◌, ◌++◌, take, Option, Some, None, Result, OnOk, OnErr, Ok, Err, sym, ap, ◌∙◌, subst, arith, refl}
+use Rattle.std.proofs.Common.{◌≡◌, ◌≢◌, ℕ, zero, suc, ◌<◌, ◌≤◌, length, true, inr, List, [], ◌∷◌, ◌++◌, take, Option, Some, None, Result, OnOk, OnErr, Ok, Err, sym, ap, ◌∙◌, subst, arith, refl}
 use Rattle.std.specs.Prelude.{⊤}
+use Rattle.std.specs.Option.{is_some}
 use Rattle.sdb_value.specs.Value.{Value}
 use Rattle.sdb_value.specs.declared.value.Json.{Json}
 use Rattle.sdb_oplog.specs.Plain.{PlainEntry, PlainSubmission}
 use Rattle.sdb_oplog.specs.Decide.{decide}
-use Rattle.sdb_oplog.specs.Snap.{snap}
+use Rattle.sdb_oplog.specs.Snap.{snap, document}
 use Rattle.sdb_oplog.specs.Laws.{decide_grows}
 use Rattle.sdb_snapcache.specs.Kept.{Snapshot, nearest, used_for, offered}
 use Rattle.sdb_snapcache.specs.Snaps.{IsSnapOf, AreSnapsOf}
 use Rattle.sdb_snapcache.specs.Laws.{nearest_snap, nearest_up_to, used_for_snaps, offered_snaps, longer_snaps}
+use Rattle.sdb_desk.specs.Read.{Offers, Leaves}
 use Rattle.sdb_desk.specs.Documents.{IsMadeDocument, IsDocument, Begins}
 
 -- another list of snapshots
@@ -59,3 +61,25 @@ decided_document log new s old present kept (Err e) ok err made d = record {
   filled = subst (λ l. l ≢ []) (sym err) d.filled;
   snaps = subst (λ l. AreSnapsOf l kept) (sym err) d.snaps;
 }
+
+nothing_at_zero : (log : List PlainEntry) (d : Value) → snap (take 0 log) ≡ Some (Some d) → 0 < 0
+nothing_at_zero [] d e = cc
+nothing_at_zero (x ∷ log) d e = cc
+
+offers_none : (o : Option Value) (v : ℕ) (kept new : List Snapshot) → new ≡ kept → Offers v o kept new
+offers_none None v kept new e = e
+offers_none (Some d) v kept new e = inr e
+
+-- nothing is there at version 0
+pub above_zero : (log : List PlainEntry) (v : ℕ) (kept : List Snapshot) (o : Option Snapshot) → AreSnapsOf log kept → nearest v kept ≡ o → is_some o ≡ true → 0 < v
+above_zero log v kept None snaps e some = cc
+above_zero log (suc v) kept (Some s) snaps e some = omega arith
+above_zero log zero kept (Some s) snaps e some =
+    let n = nearest_up_to 0 kept s e in
+    let z : s.version ≡ 0 = omega (arith, n) in
+    let at : snap (take 0 log) ≡ Some (Some s.value) = ap (λ k. snap (take k log)) (sym z) ∙ (nearest_snap log 0 kept s snaps e).is in
+    nothing_at_zero log s.value at
+
+-- what is kept after a snapshot was used for a version: the nearest, and no replay
+pub used_only : (log : List PlainEntry) (v : ℕ) (kept new : List Snapshot) → v < length log → new ≡ used_for v kept → Leaves log v kept new
+used_only log v kept new below is = inr (below, offers_none (document (take v log)) v (used_for v kept) new is)

@@ -1,38 +1,43 @@
 -- A subscribe that opens no queue.
-use Rattle.std.proofs.Common.{◌≡◌, ◌≤◌, ℕ, List, length, false, cond, nat_lt, Option, unwrap_or, Result, Ok, Err, ◌⊎◌, inl, inr, refl, sym, ap, ◌∙◌, arith}
-use Rattle.std.proofs.lemmas.Bool.Decides.{nat_tests}
+use Rattle.std.proofs.Common.{◌≡◌, ◌+◌, ℕ, List, [], ◌∷◌, ◌++◌, length, Bool, true, false, nat_eq, cond, nat_lt, Option, unwrap_or, Ok, Err, ◌⊎◌, inl, inr, refl, sym, ap, ◌∙◌, subst}
+use Rattle.std.specs.Result.{is_ok}
 use Rattle.sdb_oplog.specs.Plain.{PlainEntry}
-use Rattle.sdb_oplog.specs.Refused.{RefusedBy}
 use Rattle.sdb_oplog.specs.declared.codes.Code.{Code}
-use Rattle.sdb_oplog.specs.declared.codes.Code.TheVariants.{E1, E2, E3, E4, E5, E6, E7, E8, E9, E10, E11}
+use Rattle.sdb_oplog.specs.declared.codes.Code.TheVariants.{E4, E10, E11}
+use Rattle.sdb_oplog.specs.Refused.{RefusedBy}
+use Rattle.sdb_oplog.specs.Laws.{due_or_wanting}
 use Rattle.sdb_subscribe.specs.Queue.{PlainQueues, opened}
-use Rattle.sdb_desk.specs.Machine.{opening, subscribing, subscribing_from, Subscribes}
+use Rattle.sdb_desk.specs.Machine.{start_of, opening, subscribing, subscribing_from, Subscribes}
 
--- memory was wanting, or the code is the one that is due
-wanting_or : {A : Type 0} (r : Result A Code) (c : Code) → RefusedBy r c → (c ≡ E10) ⊎ (r ≡ Err c)
-wanting_or r E1 h = inr h
-wanting_or r E2 h = inr h
-wanting_or r E3 h = inr h
-wanting_or r E4 h = inr h
-wanting_or r E5 h = inr h
-wanting_or r E6 h = inr h
-wanting_or r E7 h = inr h
-wanting_or r E8 h = inr h
-wanting_or r E9 h = inr h
-wanting_or r E10 h = inl refl
-wanting_or r E11 h = inr h
-
-subscribes_or : (log : List PlainEntry) (v : Option ℕ) (q new : PlainQueues) (code : Code) → nat_lt (length log) (unwrap_or v (length log)) ≡ false → new ≡ q → (code ≡ E10) ⊎ (opened (unwrap_or v (length log)) q ≡ Err code)
+-- the answer is due, or memory was wanting for a queue that could be opened
+subscribes_or : (log : List PlainEntry) (v : Option ℕ) (q new : PlainQueues) (code : Code) → nat_lt (length log) (unwrap_or v (length log)) ≡ false → nat_eq q.next 18446744073709551615 ≡ false → new ≡ q → (code ≡ E10) ⊎ (opened (unwrap_or v (length log)) q ≡ Err code)
     → Subscribes log v q (Err code) new
-subscribes_or log v q new code seen same (inl e) = inl (ap Err e, same)
-subscribes_or log v q new code seen same (inr e) =
+subscribes_or log v q new code seen free same (inl e) =
+    let s = unwrap_or v (length log) in
+    let due : is_ok (subscribing log v q).answer ≡ true =
+    ap (λ b. is_ok (subscribing_from log q (cond b (Err E4) (Ok s))).answer) seen ∙ ap (λ b. is_ok (opening log s q (cond b (Err E11) (Ok (record { next = q.next + 1; queues = q.queues ++ (q.next, record { start = s; taken = 0 }) ∷ [] })))).answer) free in
+    inl (ap Err e, same, due)
+subscribes_or log v q new code seen free same (inr e) =
     let s = unwrap_or v (length log) in
     let due : subscribing log v q ≡ record { answer = Err code; queues = q } = ap (λ b. subscribing_from log q (cond b (Err E4) (Ok s))) seen ∙ ap (opening log s q) e in
     inr (sym (ap (λ x. x.answer) due), same ∙ sym (ap (λ x. x.queues) due))
 
-pub subscribe_refused : (log : List PlainEntry) (v : Option ℕ) (q new : PlainQueues) (code : Code) → unwrap_or v (length log) ≤ length log → RefusedBy (opened (unwrap_or v (length log)) q) code → new ≡ q
-    → Subscribes log v q (Err code) new
-subscribe_refused log v q new code le h same =
-    let s = unwrap_or v (length log) in
-    let seen : nat_lt (length log) s ≡ false = grind (arith, nat_tests) in
-    subscribes_or log v q new code seen same (wanting_or (opened s q) code h)
+start_seen : (log : List PlainEntry) (v : Option ℕ) (b : Bool) (s : ℕ) → nat_lt (length log) (unwrap_or v (length log)) ≡ b → start_of log v ≡ Ok s → b ≡ false
+start_seen log v true s e is = let c : start_of log v ≡ Err E4 = ap (λ x. cond x (Err E4) (Ok (unwrap_or v (length log)))) e in let never : Err E4 ≡ Ok s = sym c ∙ is in cc
+start_seen log v false s e is = refl
+
+start_is : (log : List PlainEntry) (v : Option ℕ) (b : Bool) (s : ℕ) → nat_lt (length log) (unwrap_or v (length log)) ≡ b → start_of log v ≡ Ok s → s ≡ unwrap_or v (length log)
+start_is log v true s e is = let c : start_of log v ≡ Err E4 = ap (λ x. cond x (Err E4) (Ok (unwrap_or v (length log)))) e in let never : Err E4 ≡ Ok s = sym c ∙ is in cc
+start_is log v false s e is =
+    let c : start_of log v ≡ Ok (unwrap_or v (length log)) = ap (λ x. cond x (Err E4) (Ok (unwrap_or v (length log)))) e in
+    let same : Ok s ≡ Ok (unwrap_or v (length log)) = sym is ∙ c in
+    cc
+
+-- a queue that may be opened: the numbers aren't used up, and its start is reached
+pub subscribe_refused : (log : List PlainEntry) (v : Option ℕ) (s : ℕ) (q new : PlainQueues) (code : Code) → start_of log v ≡ Ok s → nat_eq q.next 18446744073709551615 ≡ false
+    → RefusedBy (opened s q) code → new ≡ q → Subscribes log v q (Err code) new
+subscribe_refused log v s q new code is free h same =
+    let test = nat_lt (length log) (unwrap_or v (length log)) in
+    let at : s ≡ unwrap_or v (length log) = start_is log v test s refl is in
+    subscribes_or log v q new code (start_seen log v test s refl is) free same
+    (due_or_wanting (opened (unwrap_or v (length log)) q) code (subst (λ m. RefusedBy (opened m q) code) at h))

@@ -1,8 +1,11 @@
--- A code of attempts, by which a proof tells them apart.
+-- Codes of attempts and of documents, by which a proof tells them apart.
 use Rattle.std.specs.Prelude.{ℕ, List, Option, refl}
 use Rattle.std.specs.Coded.{Coded, code_by, coded×, coded_ℕ, coded_option}
 use Rattle.sdb_oplog.specs.Plain.{PlainEntry, PlainSubmission}
 use Rattle.sdb_oplog.specs.Coding.{submission_code, log_code}
+use Rattle.sdb_snapcache.specs.Kept.{Snapshot}
+use Rattle.sdb_snapcache.specs.View.{kept_code}
+use Rattle.sdb_desk.specs.Documents.{PlainDocument}
 use Rattle.sdb_desk.specs.Machine.{PlainAttempt}
 
 -- the submission, and the look: version, repeat, missed
@@ -17,3 +20,8 @@ attempt_code =
     code_by Fields fields_code (λ a. (a.submission, ((a.look.version, a.look.repeat), a.look.missed)))
     (λ p. record { submission = p.0; look = record { version = p.1.0.0; repeat = p.1.0.1; missed = p.1.1 } })
     (λ _. refl)
+
+abbrev pub document_code : Coded PlainDocument
+document_code =
+    code_by (List PlainEntry × List Snapshot) (coded× log_code kept_code) (λ d. (d.log, d.kept))
+    (λ p. record { log = p.0; kept = p.1 }) (λ _. refl)

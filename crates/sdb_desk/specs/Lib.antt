@@ -5,6 +5,7 @@ pub mod HeldLaws
 pub mod Keyed
 pub mod Laws
 pub mod Machine
+pub mod Read
 pub mod Shown
 pub mod Stored
 pub mod Told

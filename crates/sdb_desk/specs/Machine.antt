@@ -1,13 +1,21 @@
 -- The machine that takes each submission in one step: what a look shows, what a commit does, and what is read.
-use Rattle.std.specs.Prelude.{◌≡◌, ◌≢◌, ℕ, List, [], cond, length, take, drop, if◌then◌else◌, nat_lt, Option, Some, None, unwrap_or, Result, Ok, Err, ◌⊎◌}
+use Rattle.std.specs.Prelude.{◌≡◌, ◌≢◌, ℕ, List, [], ◌∷◌, Bool, true, false, cond, length, take, drop, if◌then◌else◌, nat_eq, nat_lt, Option, Some, None, unwrap_or, Result, Ok, Err, ◌⊎◌}
+use Rattle.std.specs.Option.{is_some, option_map_or}
+use Rattle.std.specs.Result.{is_ok, is_err, result_ok}
 use Rattle.sdb_value.specs.Value.{Value}
 use Rattle.sdb_oplog.specs.Plain.{PlainEntry, PlainSubmission}
-use Rattle.sdb_oplog.specs.Decide.{PlainReply, refused, decide, missed}
+use Rattle.sdb_oplog.specs.Refused.{result_then}
+use Rattle.sdb_oplog.specs.Over.{over_all}
+use Rattle.sdb_oplog.specs.Decide.{PlainReply, stored, repeated, refused, decide, missed, deciding_takes_memory}
 use Rattle.sdb_oplog.specs.Keys.{PlainKey, Logs, with_log, same_key}
 use Rattle.sdb_subscribe.specs.Queue.{PlainQueues, opened, taken_from, after_take, without}
 use Rattle.sdb_oplog.specs.Snap.{document, stored_at}
 use Rattle.sdb_oplog.specs.declared.codes.Code.{Code}
-use Rattle.sdb_oplog.specs.declared.codes.Code.TheVariants.{E4, E10}
+use Rattle.sdb_oplog.specs.declared.codes.Code.TheVariants.{E4, E10, E11}
+
+abbrev pub is_filled : List PlainEntry → Bool
+is_filled [] = false
+is_filled (e ∷ es) = true
 
 pub record PlainLook : Type 0 where
   pub version : ℕ
@@ -27,28 +35,50 @@ pub record PlainFetched : Type 0 where
   pub version : ℕ
   pub snapshot : Option Value
 
--- what a look at a log shows: nothing is missed where the version is above the length
+-- what a look at a log shows: nothing is missed by what is stored already, nor where the version is above the length
 abbrev pub look_at : List PlainEntry → PlainSubmission → PlainLook
-look_at log s = record { version = length log; repeat = stored_at s.src s.seq log; missed = missed log s }
+look_at log s =
+    record {
+      version = length log;
+      repeat = stored_at s.src s.seq log;
+      missed = if is_some (stored_at s.src s.seq log) then [] else missed log s;
+    }
 
--- the submission was decided, or memory was wanting and nothing has changed
+-- a look copies the entries that it shows as missed
+abbrev pub looking_takes_memory : List PlainEntry → PlainSubmission → Bool
+looking_takes_memory log s = is_filled (look_at log s).missed
+
+-- the submission was decided, or memory was wanting for it and nothing has changed
 abbrev pub Decides : Logs → PlainKey → PlainSubmission → PlainReply → Logs → Type 0
 Decides logs k s r new =
-    ((r ≡ refused E10) × (new ≡ logs))
+    ((r ≡ refused E10) × (new ≡ logs) × (deciding_takes_memory (logs k) s ≡ true))
     ⊎ ((r ≡ (decide (logs k) s).reply) × (new ≡ with_log logs k (decide (logs k) s).log))
+
+-- the work found already that the submission is refused
+abbrev pub IsFoundRefused : List PlainEntry → PlainAttempt → Type 0
+IsFoundRefused log a =
+    (a.look.missed ≡ missed log a.submission) × (is_err (over_all a.submission.content a.look.missed) ≡ true)
+
+-- a commit takes memory to show a log that has moved, and to decide, but not for what was found already
+abbrev pub CommittingTakesMemory : List PlainEntry → PlainAttempt → Type 0
+CommittingTakesMemory log a =
+    ((length log ≢ a.look.version) × (looking_takes_memory log a.submission ≡ true))
+    ⊎ ((length log ≡ a.look.version) × (deciding_takes_memory log a.submission ≡ true) × (IsFoundRefused log a → ⊥))
 
 -- a commit decides where the log is as long as it was looked at. Elsewhere it shows the log afresh and changes nothing
 abbrev pub Commits : Logs → PlainKey → PlainAttempt → PlainOutcome → Logs → Type 0
 Commits logs k a (decided r) new =
-    ((r ≡ refused E10) × (new ≡ logs))
+    ((r ≡ refused E10) × (new ≡ logs) × CommittingTakesMemory (logs k) a)
     ⊎ ((length (logs k) ≡ a.look.version) × (r ≡ (decide (logs k) a.submission).reply)
     × (new ≡ with_log logs k (decide (logs k) a.submission).log))
 Commits logs k a (moved l) new = (length (logs k) ≢ a.look.version) × (l ≡ look_at (logs k) a.submission) × (new ≡ logs)
 
--- a commit that doesn't decide leaves the work as it was
+-- a commit leaves the work as it was. Where it is stored, its missed entries are answered, and its submission is left
 abbrev pub Keeps : PlainOutcome → PlainAttempt → PlainAttempt → Type 0
 Keeps (moved l) old new = new ≡ old
-Keeps (decided r) old new = r ≡ refused E10 → new ≡ old
+Keeps (decided (stored v missed)) old new = new.submission ≡ old.submission
+Keeps (decided (repeated v)) old new = new ≡ old
+Keeps (decided (refused code)) old new = new ≡ old
 
 -- the present version and document
 abbrev pub fetched : List PlainEntry → PlainFetched
@@ -101,6 +131,11 @@ pub record Subscribing : Type 0 where
 abbrev pub start_of : List PlainEntry → Option ℕ → Result ℕ Code
 start_of log v = if nat_lt (length log) (unwrap_or v (length log)) then Err E4 else Ok (unwrap_or v (length log))
 
+-- and if the numbers of the key aren't used up
+abbrev pub start_free : List PlainEntry → Option ℕ → PlainQueues → Result ℕ Code
+start_free log v q =
+    result_then (λ start. if nat_eq q.next 18446744073709551615 then Err E11 else Ok start) (start_of log v)
+
 abbrev pub opening : List PlainEntry → ℕ → PlainQueues → Result PlainQueues Code → Subscribing
 opening log v q (Err code) = record { answer = Err code; queues = q }
 opening log v q (Ok new) =
@@ -116,14 +151,15 @@ subscribing_from log q (Ok v) = opening log v q (opened v q)
 abbrev pub subscribing : List PlainEntry → Option ℕ → PlainQueues → Subscribing
 subscribing log v q = subscribing_from log q (start_of log v)
 
--- a subscribe opens a queue, or memory was wanting and nothing has changed
+-- a subscribe opens a queue, or memory was wanting to open it and nothing has changed
 abbrev pub Subscribes : List PlainEntry → Option ℕ → PlainQueues → Result PlainSubscribed Code → PlainQueues → Type 0
 Subscribes log v q r new =
-    ((r ≡ Err E10) × (new ≡ q)) ⊎ ((r ≡ (subscribing log v q).answer) × (new ≡ (subscribing log v q).queues))
+    ((r ≡ Err E10) × (new ≡ q) × (is_ok (subscribing log v q).answer ≡ true))
+    ⊎ ((r ≡ (subscribing log v q).answer) × (new ≡ (subscribing log v q).queues))
 
--- a take gives what comes next of that queue and moves it, or memory was wanting (none) and nothing has changed
+-- a take gives what comes next of that queue and moves it, or memory was wanting for it (none) and nothing has changed
 abbrev pub Takes : List PlainEntry → ℕ → ℕ → PlainQueues → Option (Option (List PlainEntry)) → PlainQueues → Type 0
-Takes log n max q None new = new ≡ q
+Takes log n max q None new = (new ≡ q) × (is_filled (unwrap_or (taken_from log n max q.queues) []) ≡ true)
 Takes log n max q (Some r) new =
     (r ≡ taken_from log n max q.queues) × (new ≡ record { next = q.next; queues = after_take log n max q.queues })
 
@@ -133,6 +169,14 @@ closed n q = record { next = q.next; queues = without n q.queues }
 
 -- ---- reads
 
--- a read answers this, or memory was wanting
-abbrev pub Reads : {A : Type 0} → Result A Code → Result A Code → Type 0
-Reads r due = (r ≡ Err E10) ⊎ (r ≡ due)
+-- a read answers this, or memory was wanting where it takes some
+abbrev pub Reads : {A : Type 0} → (A → Bool) → Result A Code → Result A Code → Type 0
+Reads takes_memory r due = ((r ≡ Err E10) × (option_map_or takes_memory (result_ok due) false ≡ true)) ⊎ (r ≡ due)
+
+-- a document is copied
+abbrev pub has_document : PlainFetched → Bool
+has_document f = is_some f.snapshot
+
+-- a document at a version is copied, and replayed up to there
+abbrev pub has_version : PlainFetched → Bool
+has_version f = nat_lt 0 f.version

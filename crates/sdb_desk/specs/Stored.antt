@@ -1,13 +1,9 @@
 -- The keys under which something is stored.
-use Rattle.std.specs.Prelude.{◌≡◌, List, [], ◌∷◌, Bool, true, false}
+use Rattle.std.specs.Prelude.{◌≡◌, List}
 use Rattle.std.specs.Set.{is_member}
 use Rattle.std.specs.List.Sorted.{IsStrictlySortedBy}
 use Rattle.sdb_oplog.specs.Keys.{PlainKey, Logs, key_cmp, same_key}
-use Rattle.sdb_oplog.specs.Plain.{PlainEntry}
-
-abbrev pub is_filled : List PlainEntry → Bool
-is_filled [] = false
-is_filled (e ∷ es) = true
+use Rattle.sdb_desk.specs.Machine.{is_filled}
 
 -- the keys whose log isn't empty, each once, by the bytes of the collection, then of the id
 pub record AreStored (logs : Logs) (keys : List PlainKey) : Type 0 where

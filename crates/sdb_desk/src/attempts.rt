@@ -1,11 +1,12 @@
 //! Looks, attempts, and the work on them.
-ghost use Rattle.std.specs.Prelude.{◌≡◌, [], IfOk, IfErr, Ok};
-ghost use Rattle.sdb_oplog.specs.Over.{over_all};
+ghost use Rattle.std.specs.Prelude.{◌≡◌, [], true, IfOk, IfErr, Ok, Err, OnErr, option_map, unwrap_or};
+ghost use Rattle.sdb_oplog.specs.Over.{over_all, carrying_takes_memory};
 ghost use Rattle.sdb_desk.specs.Shown.{plain_attempt, content_or};
 
-use sdb_oplog::{Code, Content, Entry, Submission, copy_entries, over_all};
-use std::alloc::{AllocError, Global};
+use sdb_oplog::{Code, Content, Entry, Submission, over_all};
+use std::alloc::Global;
 use std::marker::Model;
+use std::mem;
 
 /// What a look at a document shows of it for a submission.
 #[derive(Drop)]
@@ -14,7 +15,8 @@ pub struct Look {
     pub version: u64,
     /// The version at which the submission was stored long since.
     pub repeat: Option<u64>,
-    /// The entries that the submission has not seen: none where its version is above the present one.
+    /// The entries that the submission has not seen: none where it is stored long since, or where its
+    /// version is above the present one.
     pub missed: Vec<Entry>,
 }
 
@@ -65,10 +67,13 @@ impl Work {
         Work { attempt, worked }
     }
 
-    /// Works the attempt. It is handed back for want of memory alone.
+    /// Works the attempt. It is handed back for want of memory alone, where an edit was to be carried
+    /// over an edit.
     pub fn of(alloc: Global, attempt: Attempt) -> Result<Work, Attempt>
         ensures ok { IfOk result (λ w. w ≡ plain_attempt attempt) }
         ensures err { IfErr result (λ a. plain_attempt a ≡ plain_attempt attempt) }
+        ensures memory { OnErr result
+            (carrying_takes_memory attempt.submission.content attempt.look.missed.items ≡ true) }
     {
         let missed = attempt.look.missed.as_slice();
         match over_all(alloc, attempt.submission.content(), missed) {
@@ -76,13 +81,11 @@ impl Work {
                 attempt,
                 worked: Ok(content),
             }),
-            Err(code) => match code {
-                Code::E10 => Err(attempt),
-                _ => Ok(Work {
-                    attempt,
-                    worked: Err(code),
-                }),
-            },
+            Err(Code::E10) => Err(attempt),
+            Err(code) => Ok(Work {
+                attempt,
+                worked: Err(code),
+            }),
         }
     }
 
@@ -105,6 +108,20 @@ impl Work {
         ensures { result.now ≡ self.now.look.missed }
     {
         self.attempt.look.missed.as_slice()
+    }
+
+    /// What the content became, or the code that it was refused by; no content where it stays as it
+    /// arrived.
+    pub fn content(&self) -> Result<Option<&Content>, Code>
+        ensures ok { IfOk result (λ c. over_all self.now.submission.content self.now.look.missed ≡
+            Ok (unwrap_or (option_map (λ k. k.now) c) self.now.submission.content)) }
+        ensures err { IfErr result
+            (λ code. over_all self.now.submission.content self.now.look.missed ≡ Err code) }
+    {
+        match &self.worked {
+            Ok(content) => Ok(content.as_ref()),
+            Err(code) => Err(*code),
+        }
     }
 
     /// The attempt, given back.
@@ -132,53 +149,12 @@ impl Work {
         Work { attempt, worked }
     }
 
-    /// A copy, its submission, entries and content copied too. Fails only for want of memory.
-    pub fn try_clone(&self, alloc: Global) -> Result<Work, AllocError>
-        ensures { IfOk result (λ w. w ≡ self.now) }
+    // Takes the missed entries out. The submission stays, on a look that shows none missed.
+    pub(crate) fn take_missed(&mut self, alloc: Global) -> Vec<Entry>
+        ensures missed { result.items ≡ self.old.look.missed }
+        ensures submission { self.new.submission ≡ self.old.submission }
     {
-        let attempt = Attempt {
-            submission: self.attempt.submission.try_clone()?,
-            look: Look {
-                version: self.attempt.look.version,
-                repeat: self.attempt.look.repeat,
-                missed: copy_entries(alloc, self.attempt.look.missed.as_slice())?,
-            },
-        };
-        let worked = copy_worked(alloc, &self.worked)?;
-        Ok(Work { attempt, worked })
-    }
-
-    // The work on nothing, which stands where a work was taken out.
-    pub(crate) fn blank(alloc: Global) -> Work {
-        let submission = Submission::new(
-            String::new(alloc),
-            0,
-            None,
-            Content::delete(),
-            String::new(alloc),
-            0,
-        );
-        let look = Look {
-            version: 0,
-            repeat: None,
-            missed: Vec::new(alloc),
-        };
-        Work {
-            attempt: Attempt { submission, look },
-            worked: Ok(None),
-        }
-    }
-}
-
-fn copy_worked(
-    alloc: Global,
-    worked: &Result<Option<Content>, Code>,
-) -> Result<Result<Option<Content>, Code>, AllocError>
-    ensures { IfOk result (λ w. w ≡ worked.now) }
-{
-    match worked {
-        Ok(Some(content)) => Ok(Ok(Some(content.try_clone()?))),
-        Ok(None) => Ok(Ok(None)),
-        Err(code) => Ok(Err(*code)),
+        self.worked = Ok(None);
+        mem::replace(&mut self.attempt.look.missed, Vec::new(alloc))
     }
 }

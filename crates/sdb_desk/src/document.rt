@@ -1,18 +1,20 @@
 //! One document: its log, and what it makes.
-ghost use Rattle.std.specs.Prelude.{◌≡◌, ◌≢◌, ◌≤◌, [], ◌∷◌, length, take, OnOk, OnErr, IfOk, IfErr, Some, Ok, Err, option_map, unwrap_or};
+ghost use Rattle.std.specs.Prelude.{◌≡◌, ◌≢◌, ◌<◌, ◌≤◌, [], ◌∷◌, true, length, take, OnOk, OnErr, IfOk, IfErr, IfSome, OnSome, IfNone, is_some, Some, Ok, Err, option_map, unwrap_or};
 ghost use Rattle.sdb_value.specs.View.{view};
-ghost use Rattle.sdb_oplog.specs.Decide.{decide, missed, IsMade};
-ghost use Rattle.sdb_oplog.specs.Snap.{document, snap, stored_at};
-ghost use Rattle.sdb_oplog.specs.Over.{over_all};
-ghost use Rattle.sdb_desk.specs.Machine.{look_at};
-ghost use Rattle.sdb_desk.specs.Shown.{plain_look, plain_attempt, content_or};
+ghost use Rattle.sdb_oplog.specs.Decide.{decide, stored, missed, IsMade, storing_takes_memory};
+ghost use Rattle.sdb_oplog.specs.Snap.{becomes, document, snap};
+ghost use Rattle.sdb_oplog.specs.declared.codes.Code.TheVariants.{E10};
+ghost use Rattle.sdb_desk.specs.Machine.{look_at, looking_takes_memory};
+ghost use Rattle.sdb_desk.specs.Shown.{plain_look};
 ghost use Rattle.sdb_desk.specs.Told.{plain_reply};
 ghost use Rattle.sdb_snapcache.specs.Kept.{nearest, used_for};
 ghost use Rattle.sdb_snapcache.specs.View.{snapshot};
-ghost use Rattle.sdb_desk.specs.Documents.{IsMadeDocument, Settles, Begins};
+ghost use Rattle.sdb_desk.specs.Documents.{IsMadeDocument, IsOpen, Settles, Begins, RefusedAs, IsUnstored};
+ghost use Rattle.sdb_snapcache.specs.Snaps.{AreSnapsOf};
+ghost use Rattle.sdb_desk.specs.Read.{Leaves, Offers};
 
-use crate::attempts::{Attempt, Look, Work};
-use sdb_oplog::{Code, Content, Entry, Log, Prepared, Submission, Unprepared, copy_entries};
+use crate::attempts::Look;
+use sdb_oplog::{Code, Content, Entry, Kind, Log, Prepared, Submission, Unprepared, copy_entries};
 use sdb_snapcache::Cache;
 use sdb_value::{Json, MAX};
 use std::alloc::{AllocError, Global};
@@ -39,125 +41,136 @@ pub(crate) struct Document {
 }
 
 impl Model for Document {
-    ghost use Rattle.std.specs.Prelude.{List};
-    ghost use Rattle.sdb_oplog.specs.Plain.{PlainEntry};
-    ghost use Rattle.sdb_oplog.specs.Coding.{log_code};
+    ghost use Rattle.sdb_desk.specs.Coding.{document_code};
+    ghost use Rattle.sdb_desk.specs.Documents.{PlainDocument, IsDocument};
 
-    ghost Value = { List PlainEntry };
+    ghost Value = { PlainDocument };
 
-    ghost coded = { log_code };
+    ghost coded = { document_code };
 
-    ghost use Rattle.sdb_desk.specs.Documents.{IsDocument};
-
-    ghost view = { λ d. d.log };
+    ghost view = { λ d. record { log = d.log; kept = d.cache } };
 
     ghost invariant = { λ d. IsDocument d.log d.present d.cache };
 }
 
 impl Document {
-    // The document that the first submission to a key makes: none where nothing is stored. Where memory
-    // is wanting the work comes back.
-    pub(crate) fn first(alloc: Global, work: Work) -> Result<(Reply, Option<Document>), Work>
-        requires { work.look.missed ≡ missed [] work.submission }
-        ensures reply { IfOk result (λ r. plain_reply r.0 ≡ (decide [] work.submission).reply) }
-        ensures log { IfOk result (λ r. unwrap_or r.1 [] ≡ (decide [] work.submission).log) }
-        ensures err { IfErr result (λ w. w ≡ work) }
+    // The document that a submission makes, the first of its key.
+    pub(crate) fn first(
+        alloc: Global,
+        submission: Submission,
+        content: Option<Content>,
+    ) -> Result<Document, Code>
+        requires { Settles [] submission content }
+        ensures log { IfOk result (λ d. d.log ≡ (decide [] submission).log) }
+        ensures kept { IfOk result (λ d. d.kept ≡ []) }
+        ensures reply { OnOk result ((decide [] submission).reply ≡ stored 0 (missed [] submission)) }
+        ensures err { IfErr result (RefusedAs (decide [] submission).reply) }
     {
         let mut log = Log::new(alloc);
         let mut present = None;
-        let reply = decide(alloc, &mut log, &mut present, work)?;
-        if log.is_empty() {
-            return Ok((reply, None));
-        }
+        store(alloc, &mut log, &mut present, submission, content)?;
         let cache = Cache::new(alloc);
-        Ok((
-            reply,
-            Some(Document {
-                log,
-                present,
-                cache,
-            }),
-        ))
+        Ok(Document {
+            log,
+            present,
+            cache,
+        })
     }
 
     pub(crate) fn log(&self) -> &Log
-        ensures log { result.now ≡ self.now }
-        ensures filled { self.now ≢ [] }
-        ensures made { IsMade self.now }
+        ensures log { result.now ≡ self.now.log }
+        ensures filled { self.now.log ≢ [] }
+        ensures made { IsMade self.now.log }
     {
         &self.log
     }
 
     // The present document.
     pub(crate) fn present(&self) -> Option<&Json>
-        ensures { option_map (λ v. view v.now) result ≡ document self.now }
+        ensures { option_map (λ v. view v.now) result ≡ document self.now.log }
     {
         self.present.as_ref()
     }
 
-    // Decides the submission of a work that rests on the entries that it missed of this log. Where memory
-    // is wanting the work comes back, and nothing has changed.
-    pub(crate) fn decide(&mut self, alloc: Global, work: Work) -> Result<Reply, Work>
-        requires { work.look.missed ≡ missed self.old work.submission }
-        ensures reply { IfOk result (λ r. plain_reply r ≡ (decide self.old work.submission).reply) }
-        ensures log { OnOk result (self.new ≡ (decide self.old work.submission).log) }
-        ensures work { IfErr result (λ w. w ≡ work) }
-        ensures err { OnErr result (self.new ≡ self.old) }
+    // How many snapshots are kept.
+    pub(crate) fn kept(&self) -> usize
+        ensures count { result ≡ length self.now.kept }
+        ensures few { length self.now.kept ≤ 8 }
+        ensures snaps { AreSnapsOf self.now.log self.now.kept }
     {
-        decide(alloc, &mut self.log, &mut self.present, work)
+        self.cache.len()
+    }
+
+    // Stores what a submission has become, unless the document refuses it.
+    pub(crate) fn store(
+        &mut self,
+        alloc: Global,
+        submission: Submission,
+        content: Option<Content>,
+    ) -> Result<(), Code>
+        requires { Settles self.old.log submission content }
+        ensures log { OnOk result (self.new.log ≡ (decide self.old.log submission).log) }
+        ensures reply { OnOk result
+            ((decide self.old.log submission).reply ≡ stored (length self.old.log) (missed self.old.log submission)) }
+        ensures err { IfErr result (RefusedAs (decide self.old.log submission).reply) }
+        ensures same { OnErr result (self.new.log ≡ self.old.log) }
+        ensures kept { self.new.kept ≡ self.old.kept }
+    {
+        store(alloc, &mut self.log, &mut self.present, submission, content)
     }
 
     // The document at a version, made of the nearest snapshot that is kept. It is kept then, where there
     // is memory for it.
-    pub(crate) fn snapshot_at(
-        &mut self,
-        alloc: Global,
-        version: u64,
-    ) -> Result<Option<Json>, AllocError>
-        requires { version ≤ length self.old }
-        ensures snap { IfOk result (λ d. snap (take version self.old) ≡ Some (option_map view d)) }
-        ensures same { self.new ≡ self.old }
+    pub(crate) fn snapshot_at(&mut self, alloc: Global, version: u64) -> Result<Option<Json>, Code>
+        requires { version ≤ length self.old.log }
+        ensures snap { IfOk result (λ d. snap (take version self.old.log) ≡ Some (option_map view d)) }
+        ensures err { IfErr result (λ code. code ≡ E10) }
+        ensures memory { OnErr result (0 < version) }
+        ensures log { self.new.log ≡ self.old.log }
+        ensures kept { Leaves self.old.log version self.old.kept self.new.kept }
     {
         if version == self.log.len() {
-            return copy_of(alloc, self.present());
+            return Ok(copy_of(alloc, self.present())?);
         }
         let (from, base) = self.nearest(alloc, version)?;
         if from == version {
             return Ok(base);
         }
         let snapshot = self.log.replay_on(base, from, version)?;
-        if let Some(value) = &snapshot {
-            self.offer(alloc, version, value);
-        }
+        self.offer(alloc, version, snapshot.as_ref());
         Ok(snapshot)
     }
 
     // The kept snapshot of the greatest version up to this one; without one the version 0, where nothing
     // is.
     fn nearest(&mut self, alloc: Global, version: u64) -> Result<(u64, Option<Json>), AllocError>
-        requires { version ≤ length self.old }
+        requires { version ≤ length self.old.log }
         ensures up_to { IfOk result (λ r. r.0 ≤ version) }
-        ensures snap { IfOk result (λ r. snap (take r.0 self.old) ≡ Some (option_map view r.1)) }
-        ensures same { self.new ≡ self.old }
+        ensures snap { IfOk result (λ r. snap (take r.0 self.old.log) ≡ Some (option_map view r.1)) }
+        ensures memory { OnErr result (0 < version) }
+        ensures log { self.new.log ≡ self.old.log }
+        ensures kept { self.new.kept ≡ used_for version self.old.kept }
     {
         let found = copy_nearest(alloc, &mut self.cache, version)?;
         Ok(base_of(found))
     }
 
-    // Keeps a copy of the snapshot, where there is memory for it.
-    fn offer(&mut self, alloc: Global, version: u64, value: &Json)
-        requires reached { version ≤ length self.old }
-        requires snap { snap (take version self.old) ≡ Some (Some (view value.now)) }
-        ensures { self.new ≡ self.old }
+    // Keeps a copy of the snapshot, where there is one, and memory for it.
+    fn offer(&mut self, alloc: Global, version: u64, snapshot: Option<&Json>)
+        requires reached { version ≤ length self.old.log }
+        requires snap { snap (take version self.old.log) ≡ Some (option_map (λ v. view v.now) snapshot) }
+        ensures log { self.new.log ≡ self.old.log }
+        ensures kept { Offers version (option_map (λ v. view v.now) snapshot.entry) self.old.kept self.new.kept }
     {
-        if let Ok(copy) = value.try_clone(alloc) {
+        if let Ok(Some(copy)) = copy_of(alloc, snapshot) {
             let _ = self.cache.offer(version, copy);
         }
     }
 
     // Lets the kept snapshots go.
     pub(crate) fn forget(&mut self)
-        ensures { self.new ≡ self.old }
+        ensures log { self.new.log ≡ self.old.log }
+        ensures kept { self.new.kept ≡ [] }
     {
         self.cache.forget();
     }
@@ -171,6 +184,7 @@ fn copy_nearest(
 ) -> Result<Option<(u64, Json)>, AllocError>
     ensures found { IfOk result (λ o. option_map snapshot o ≡ nearest version cache.old) }
     ensures used { cache.new ≡ used_for version cache.old }
+    ensures some { OnErr result (is_some (nearest version cache.old) ≡ true) }
 {
     match cache.nearest(version) {
         Some((at, value)) => Ok(Some((at, value.try_clone(alloc)?))),
@@ -190,7 +204,8 @@ fn base_of(found: Option<(u64, Json)>) -> (u64, Option<Json>)
 
 // A copy of a document, which may be none.
 pub(crate) fn copy_of(alloc: Global, document: Option<&Json>) -> Result<Option<Json>, AllocError>
-    ensures { IfOk result (λ d. option_map view d ≡ option_map (λ v. view v.now) document.entry) }
+    ensures copy { IfOk result (λ d. option_map view d ≡ option_map (λ v. view v.now) document.entry) }
+    ensures some { OnErr result (is_some document.entry ≡ true) }
 {
     match document {
         Some(value) => Ok(Some(value.try_clone(alloc)?)),
@@ -198,85 +213,79 @@ pub(crate) fn copy_of(alloc: Global, document: Option<&Json>) -> Result<Option<J
     }
 }
 
-// Decides a submission on a log and the document that it makes. Where memory is wanting the work comes
-// back, and nothing has changed.
-fn decide(
-    alloc: Global,
-    log: &mut Log,
-    present: &mut Option<Json>,
-    work: Work,
-) -> Result<Reply, Work>
-    requires document { IsMadeDocument log.old present.old }
-    requires missed { work.look.missed ≡ missed log.old work.submission }
-    ensures reply { IfOk result (λ r. plain_reply r ≡ (decide log.old work.submission).reply) }
-    ensures log { OnOk result (log.new ≡ (decide log.old work.submission).log) }
-    ensures document { IsMadeDocument log.new present.new }
-    ensures work { IfErr result (λ w. w ≡ work) }
-    ensures err { OnErr result (log.new ≡ log.old) }
+// What a submission is answered whatever it asks, where it isn't to be carried: a repeat, a full log, a
+// version too new.
+pub(crate) fn reply_at_sight(log: &Log, submission: &Submission) -> Option<Reply>
+    ensures reply { IfSome result (λ r. plain_reply r ≡ (decide log.now submission.now).reply) }
+    ensures log { OnSome result ((decide log.now submission.now).log ≡ log.now) }
+    ensures unstored { IfSome result (λ r. IsUnstored (plain_reply r)) }
+    ensures open { IfNone result (IsOpen log.now submission.now) }
 {
-    if let Some(v) = log.stored_at(work.submission().src(), work.submission().seq()) {
-        return Ok(Reply::Repeat { v });
+    if let Some(v) = log.stored_at(submission.src(), submission.seq()) {
+        return Some(Reply::Repeat { v });
     }
     let version = log.len();
     if version == MAX {
-        return Ok(Reply::Refused(Code::E11));
+        return Some(Reply::Refused(Code::E11));
     }
-    if version < work.submission().version().unwrap_or(version) {
-        return Ok(Reply::Refused(Code::E4));
+    if version < submission.version().unwrap_or(version) {
+        return Some(Reply::Refused(Code::E4));
     }
-    let (attempt, worked) = work.into_parts();
-    match worked {
-        Ok(content) => store(alloc, log, present, attempt, content),
-        Err(code) => Ok(Reply::Refused(code)),
+    None
+}
+
+// Refuses a create on a document, and an edit of none.
+pub(crate) fn check_presence(content: &Content, document: Option<&Json>) -> Result<(), Code>
+    ensures ok { OnOk result
+        (storing_takes_memory content.now (option_map (λ v. view v.now) document.entry) ≡ true) }
+    ensures err { IfErr result
+        (λ code. becomes content.now (option_map (λ v. view v.now) document.entry) ≡ Err code) }
+{
+    match content.kind() {
+        Kind::Create(_) => match document {
+            Some(_) => Err(Code::E6),
+            None => Ok(()),
+        },
+        Kind::Delete => Ok(()),
+        Kind::Edit(_) => match document {
+            Some(_) => Ok(()),
+            None => Err(Code::E7),
+        },
     }
 }
 
-// Stores what the submission has become, unless the document refuses it. Where memory is wanting the work
-// comes back, and nothing has changed.
+// Stores what a submission has become, unless the document refuses it.
 fn store(
     alloc: Global,
     log: &mut Log,
     present: &mut Option<Json>,
-    attempt: Attempt,
+    submission: Submission,
     content: Option<Content>,
-) -> Result<Reply, Work>
+) -> Result<(), Code>
     requires document { IsMadeDocument log.old present.old }
-    requires settles { Settles log.old (plain_attempt attempt) content }
-    ensures reply { IfOk result (λ r. plain_reply r ≡ (decide log.old attempt.submission).reply) }
-    ensures log { OnOk result (log.new ≡ (decide log.old attempt.submission).log) }
+    requires settles { Settles log.old submission content }
+    ensures log { OnOk result (log.new ≡ (decide log.old submission).log) }
+    ensures reply { OnOk result
+        ((decide log.old submission).reply ≡ stored (length log.old) (missed log.old submission)) }
+    ensures err { IfErr result (RefusedAs (decide log.old submission).reply) }
+    ensures same { OnErr result (log.new ≡ log.old) }
     ensures document { IsMadeDocument log.new present.new }
-    ensures work { IfErr result (λ w. w ≡ plain_attempt attempt) }
-    ensures err { OnErr result (log.new ≡ log.old) }
 {
-    let v = log.len();
-    let Attempt { submission, look } = attempt;
     let prepared = match mem::replace(log, Log::new(alloc)).prepare(submission) {
         Ok(prepared) => prepared,
-        Err(
-            Unprepared {
-                log: kept,
-                submission,
-            },
-        ) => {
+        Err(Unprepared { log: kept, error }) => {
             *log = kept;
-            return Err(Work::from_parts(Attempt { submission, look }, Ok(content)));
+            return Err(Code::from(error));
         }
     };
     match settled_content(&content, &prepared).apply_to(alloc, present) {
         Ok(()) => {
             *log = prepared.store(content);
-            Ok(Reply::Stored {
-                v,
-                missed: look.missed,
-            })
+            Ok(())
         }
         Err(code) => {
-            let (kept, submission) = prepared.give_up();
-            *log = kept;
-            match code {
-                Code::E10 => Err(Work::from_parts(Attempt { submission, look }, Ok(content))),
-                _ => Ok(Reply::Refused(code)),
-            }
+            *log = prepared.give_up();
+            Err(code)
         }
     }
 }
@@ -293,11 +302,15 @@ fn settled_content<'c>(content: &'c Option<Content>, prepared: &'c Prepared) -> 
 
 // What a look at the log shows for a submission.
 pub(crate) fn look_at(alloc: Global, log: &Log, submission: &Submission) -> Result<Look, AllocError>
-    ensures { IfOk result (λ l. plain_look l ≡ look_at log.now submission.now) }
+    ensures look { IfOk result (λ l. plain_look l ≡ look_at log.now submission.now) }
+    ensures memory { OnErr result (looking_takes_memory log.now submission.now ≡ true) }
 {
     let version = log.len();
     let repeat = log.stored_at(submission.src(), submission.seq());
-    let missed = copy_entries(alloc, missed_of(log, submission))?;
+    let missed = match repeat {
+        Some(_) => Vec::new(alloc),
+        None => copy_entries(alloc, missed_of(log, submission))?,
+    };
     Ok(Look {
         version,
         repeat,

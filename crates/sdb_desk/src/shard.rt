@@ -1,25 +1,32 @@
 //! All documents, by key.
-ghost use Rattle.std.specs.Prelude.{◌≡◌, ◌≢◌, ◌≤◌, [], length, map, take, IfOk, IfErr, IfSome, IsTrue, OnOk, OnErr, Ok, Some, option_map, unwrap_or};
-ghost use Rattle.sdb_oplog.specs.Decide.{decide, missed, IsMade};
+ghost use Rattle.std.specs.Prelude.{◌≡◌, ◌≢◌, ◌≤◌, ◌<◌, [], true, length, map, take, IfOk, IfErr, IfSome, OnSome, IfNone, IsTrue, IsFalse, IsErrOf, OnOk, OnErr, Ok, Err, Some, option_map, unwrap_or, nat_eq};
+ghost use Rattle.sdb_oplog.specs.Decide.{decide, stored, missed, IsMade, storing_takes_memory, deciding_takes_memory};
+ghost use Rattle.sdb_oplog.specs.Over.{over_all, carrying_takes_memory};
 ghost use Rattle.sdb_oplog.specs.Keys.{no_logs, with_log, plain_key};
 ghost use Rattle.sdb_oplog.specs.Refused.{RefusedBy};
-ghost use Rattle.sdb_oplog.specs.Snap.{document};
-ghost use Rattle.sdb_subscribe.specs.Queue.{opened, queue_at};
+ghost use Rattle.sdb_oplog.specs.Snap.{becomes, document};
+ghost use Rattle.sdb_oplog.specs.declared.codes.Code.TheVariants.{E10};
+ghost use Rattle.sdb_snapcache.specs.Snaps.{AreSnapsOf};
+ghost use Rattle.sdb_subscribe.specs.Queue.{opened, queue_at, taken_from};
 ghost use Rattle.sdb_value.specs.View.{view};
-ghost use Rattle.sdb_desk.specs.Keyed.{logs_of, queues_of};
+ghost use Rattle.sdb_desk.specs.Documents.{no_document, IsOpen, Settles, RefusedAs, IsUnstored};
+ghost use Rattle.sdb_desk.specs.Held.{with_at};
+ghost use Rattle.sdb_desk.specs.Keyed.{documents_of, logs_of, kept_of, with_kept, queues_of};
+ghost use Rattle.sdb_desk.specs.Read.{Leaves};
 ghost use Rattle.sdb_desk.specs.Stored.{AreStored};
-ghost use Rattle.sdb_desk.specs.Machine.{look_at, fetched, operations, snapshot_at, no_queues, with_queues, closed, Decides, Commits, Keeps, Reads, Subscribes, Takes};
+ghost use Rattle.sdb_desk.specs.Machine.{IsFoundRefused, look_at, looking_takes_memory, fetched, operations, snapshot_at, start_of, start_free, is_filled, has_document, has_version, no_queues, with_queues, closed, Decides, Commits, Keeps, Reads, Subscribes, Takes};
 ghost use Rattle.sdb_desk.specs.Shown.{plain_look, plain_outcome, told_fetched, told_entries, told_subscribed, told_taken};
 ghost use Rattle.sdb_desk.specs.Told.{plain_reply};
 
-use crate::attempts::{Attempt, Look, Work};
-use crate::document::{Document, Reply, copy_of, look_at, missed_of};
-use sdb_oplog::{Code, Entry, Key, Log, Submission, copy_entries, same_entries};
+use crate::attempts::{Look, Work};
+use crate::document::{
+    Document, Reply, check_presence, copy_of, look_at, missed_of, reply_at_sight,
+};
+use sdb_oplog::{Code, Content, Entry, Key, Log, Submission, copy_entries, over_all, same_entries};
 use sdb_subscribe::{Queues, SubId};
 use sdb_value::Json;
 use std::alloc::{AllocError, Global};
 use std::collections::BTreeMap;
-use std::mem;
 
 /// What a commit answers.
 #[derive(Drop)]
@@ -60,6 +67,7 @@ impl Shard {
     /// A shard in which nothing is stored and no queue was opened. It keeps the allocator.
     pub fn new(alloc: Global) -> Shard
         ensures logs { logs_of result ≡ no_logs }
+        ensures kept { kept_of result ≡ (λ k. []) }
         ensures queues { queues_of result ≡ (λ k. no_queues) }
     {
         Shard {
@@ -71,7 +79,7 @@ impl Shard {
 
     // The document of the key, if something is stored of it.
     fn find(&self, key: &Key) -> Option<&Document>
-        ensures { unwrap_or (option_map (λ d. d.now) result) [] ≡ logs_of self.now (plain_key key.now) }
+        ensures { unwrap_or (option_map (λ d. d.now) result) no_document ≡ documents_of self.now (plain_key key.now) }
     {
         self.by_key.get(key)
     }
@@ -103,9 +111,35 @@ impl Shard {
         Ok(keys)
     }
 
-    /// What a look at the document shows for a submission. It fails only for want of memory.
+    /// How many older snapshots are kept of the document, at most eight. Each is the document at its
+    /// version.
+    pub fn kept(&self, key: &Key) -> usize
+        ensures count { result ≡ length (kept_of self.now (plain_key key.now)) }
+        ensures few { length (kept_of self.now (plain_key key.now)) ≤ 8 }
+        ensures snaps { AreSnapsOf (logs_of self.now (plain_key key.now)) (kept_of self.now (plain_key key.now)) }
+    {
+        match self.find(key) {
+            Some(document) => document.kept(),
+            None => 0,
+        }
+    }
+
+    /// The present version: how many operations are stored of the document.
+    pub fn version(&self, key: &Key) -> u64
+        ensures { result ≡ length (logs_of self.now (plain_key key.now)) }
+    {
+        match self.find(key) {
+            Some(document) => document.log().len(),
+            None => 0,
+        }
+    }
+
+    /// What a look at the document shows for a submission. It fails only for want of memory, where it
+    /// shows entries as missed.
     pub fn look(&self, key: &Key, submission: &Submission) -> Result<Look, AllocError>
-        ensures { IfOk result (λ l. plain_look l ≡ look_at (logs_of self.now (plain_key key.now)) submission.now) }
+        ensures look { IfOk result (λ l. plain_look l ≡ look_at (logs_of self.now (plain_key key.now)) submission.now) }
+        ensures memory { OnErr result
+            (looking_takes_memory (logs_of self.now (plain_key key.now)) submission.now ≡ true) }
     {
         match self.find(key) {
             Some(document) => look_at(self.alloc, document.log(), submission),
@@ -117,36 +151,46 @@ impl Shard {
     /// shows the log afresh. What was worked is used only where each entry that the look showed as
     /// missed stands in the log; elsewhere the submission is worked afresh.
     ///
-    /// `Refused(E10)` is want of memory. Then, and where the log has moved, nothing has changed and the
-    /// work is as it was.
+    /// Where it is stored, the entries that the look showed as missed are in the answer, and the work
+    /// keeps its submission: a second commit finds it stored. In all other cases the work stays as it is.
+    ///
+    /// `Refused(E10)` is want of memory, and nothing has changed then. A repeat, a full log, a version
+    /// above the present one and what the work found refused take none.
     pub fn commit(&mut self, key: &Key, work: &mut Work) -> Outcome
         ensures commits { Commits (logs_of self.old) (plain_key key.now) work.old (plain_outcome result)
             (logs_of self.new) }
         ensures keeps { Keeps (plain_outcome result) work.old work.new }
+        ensures kept { kept_of self.new ≡ kept_of self.old }
         ensures queues { queues_of self.new ≡ queues_of self.old }
     {
         if self.version(key) != work.version() {
             return match self.look(key, work.submission()) {
                 Ok(look) => Outcome::Moved(look),
-                Err(_) => Outcome::Decided(Reply::Refused(Code::E10)),
+                Err(error) => Outcome::Decided(Reply::Refused(Code::from(error))),
             };
         }
         if !self.agrees(key, work) {
             return Outcome::Decided(self.commit_now(key, work.submission()));
         }
-        match self.decide(key, mem::replace(work, Work::blank(self.alloc))) {
-            Ok(reply) => Outcome::Decided(reply),
-            Err(back) => {
-                *work = back;
-                Outcome::Decided(Reply::Refused(Code::E10))
-            }
+        if let Some(reply) = self.reply_at_sight(key, work.submission()) {
+            return Outcome::Decided(reply);
+        }
+        let v = work.version();
+        match self.store_work(key, work) {
+            Ok(()) => Outcome::Decided(Reply::Stored {
+                v,
+                missed: work.take_missed(self.alloc),
+            }),
+            Err(code) => Outcome::Decided(Reply::Refused(code)),
         }
     }
 
     // Whether the entries that the work rests on are those that its submission missed.
     fn agrees(&self, key: &Key, work: &Work) -> bool
-        ensures { IsTrue result → work.now.look.missed ≡
+        ensures same { IsTrue result → work.now.look.missed ≡
             missed (logs_of self.now (plain_key key.now)) work.now.submission }
+        ensures other { IsFalse result → work.now.look.missed ≡
+            missed (logs_of self.now (plain_key key.now)) work.now.submission → ⊥ }
     {
         match self.find(key) {
             Some(document) => {
@@ -156,108 +200,190 @@ impl Shard {
         }
     }
 
-    /// Decides a submission in one step. `Refused(E10)` is want of memory: nothing has changed.
+    /// Decides a submission in one step. `Refused(E10)` is want of memory, and nothing has changed then. A
+    /// repeat, a full log, a version above the present one, a create on a document and an edit of none
+    /// take none.
     pub fn commit_now(&mut self, key: &Key, submission: &Submission) -> Reply
         ensures decides { Decides (logs_of self.old) (plain_key key.now) submission.now (plain_reply result)
             (logs_of self.new) }
+        ensures kept { kept_of self.new ≡ kept_of self.old }
         ensures queues { queues_of self.new ≡ queues_of self.old }
     {
-        let Ok(work) = self.work_now(key, submission) else {
-            return Reply::Refused(Code::E10);
-        };
-        match self.decide(key, work) {
-            Ok(reply) => reply,
-            Err(_) => Reply::Refused(Code::E10),
+        if let Some(reply) = self.reply_at_sight(key, submission) {
+            return reply;
+        }
+        let v = self.version(key);
+        match self.store_now(key, submission) {
+            Ok(missed) => Reply::Stored { v, missed },
+            Err(code) => Reply::Refused(code),
         }
     }
 
-    // The submission, worked along the entries that it has missed now.
-    fn work_now(&self, key: &Key, submission: &Submission) -> Result<Work, AllocError>
-        ensures submission { IfOk result (λ w. w.submission ≡ submission.now) }
-        ensures missed { IfOk result
-            (λ w. w.look.missed ≡ missed (logs_of self.now (plain_key key.now)) submission.now) }
-    {
-        let look = self.look(key, submission)?;
-        let attempt = Attempt {
-            submission: submission.try_clone()?,
-            look,
-        };
-        match Work::of(self.alloc, attempt) {
-            Ok(work) => Ok(work),
-            Err(_) => Err(AllocError),
-        }
-    }
-
-    // The present version.
-    fn version(&self, key: &Key) -> u64
-        ensures { result ≡ length (logs_of self.now (plain_key key.now)) }
+    // What a submission is answered whatever it asks: a repeat, a full log, a version too new.
+    fn reply_at_sight(&self, key: &Key, submission: &Submission) -> Option<Reply>
+        ensures reply { IfSome result
+            (λ r. plain_reply r ≡ (decide (logs_of self.now (plain_key key.now)) submission.now).reply) }
+        ensures log { OnSome result ((decide (logs_of self.now (plain_key key.now)) submission.now).log ≡
+            logs_of self.now (plain_key key.now)) }
+        ensures unstored { IfSome result (λ r. IsUnstored (plain_reply r)) }
+        ensures open { IfNone result (IsOpen (logs_of self.now (plain_key key.now)) submission.now) }
     {
         match self.find(key) {
-            Some(document) => document.log().len(),
-            None => 0,
+            Some(document) => reply_at_sight(document.log(), submission),
+            None => reply_at_sight(&Log::new(self.alloc), submission),
         }
     }
 
-    // Decides the submission of a work that rests on the entries that it missed. Where memory is wanting
-    // the work comes back, and nothing has changed.
-    fn decide(&mut self, key: &Key, work: Work) -> Result<Reply, Work>
-        requires { work.look.missed ≡ missed (logs_of self.old (plain_key key.now)) work.submission }
-        ensures reply { IfOk result
-            (λ r. plain_reply r ≡ (decide (logs_of self.old (plain_key key.now)) work.submission).reply) }
-        ensures logs { OnOk result
-            (logs_of self.new ≡
-            with_log (logs_of self.old) (plain_key key.now)
-            (decide (logs_of self.old (plain_key key.now)) work.submission).log) }
-        ensures work { IfErr result (λ w. w ≡ work) }
-        ensures err { OnErr result (logs_of self.new ≡ logs_of self.old) }
+    // Stores what a work has become, unless it was refused on the way or the document refuses it.
+    fn store_work(&mut self, key: &Key, work: &Work) -> Result<(), Code>
+        requires open { IsOpen (logs_of self.old (plain_key key.now)) work.now.submission }
+        requires missed { work.now.look.missed ≡ missed (logs_of self.old (plain_key key.now)) work.now.submission }
+        ensures logs { OnOk result (logs_of self.new ≡ with_log (logs_of self.old) (plain_key key.now)
+            (decide (logs_of self.old (plain_key key.now)) work.now.submission).log) }
+        ensures reply { OnOk result ((decide (logs_of self.old (plain_key key.now)) work.now.submission).reply ≡
+            stored (length (logs_of self.old (plain_key key.now))) work.now.look.missed) }
+        ensures err { IfErr result
+            (RefusedAs (decide (logs_of self.old (plain_key key.now)) work.now.submission).reply) }
+        ensures memory { IsErrOf result E10 →
+            deciding_takes_memory (logs_of self.old (plain_key key.now)) work.now.submission ≡ true }
+        ensures found { IsErrOf result E10 → IsFoundRefused (logs_of self.old (plain_key key.now)) work.now → ⊥ }
+        ensures same { OnErr result (logs_of self.new ≡ logs_of self.old) }
+        ensures kept { kept_of self.new ≡ kept_of self.old }
         ensures queues { queues_of self.new ≡ queues_of self.old }
     {
+        let content = work.content()?;
+        self.check(key, content.unwrap_or(work.submission().content()))?;
+        self.store(key, work.submission(), content)
+    }
+
+    // Stores a submission, worked along the entries that it has missed now, and copies these; unless it is
+    // refused.
+    fn store_now(&mut self, key: &Key, submission: &Submission) -> Result<Vec<Entry>, Code>
+        requires { IsOpen (logs_of self.old (plain_key key.now)) submission.now }
+        ensures logs { OnOk result (logs_of self.new ≡ with_log (logs_of self.old) (plain_key key.now)
+            (decide (logs_of self.old (plain_key key.now)) submission.now).log) }
+        ensures reply { IfOk result (λ v. (decide (logs_of self.old (plain_key key.now)) submission.now).reply ≡
+            stored (length (logs_of self.old (plain_key key.now))) v.items) }
+        ensures err { IfErr result
+            (RefusedAs (decide (logs_of self.old (plain_key key.now)) submission.now).reply) }
+        ensures memory { IsErrOf result E10 →
+            deciding_takes_memory (logs_of self.old (plain_key key.now)) submission.now ≡ true }
+        ensures same { OnErr result (logs_of self.new ≡ logs_of self.old) }
+        ensures kept { kept_of self.new ≡ kept_of self.old }
+        ensures queues { queues_of self.new ≡ queues_of self.old }
+    {
+        let content = self.carried(key, submission)?;
+        self.check(key, content.as_ref().unwrap_or(submission.content()))?;
+        let missed = self.missed(key, submission)?;
+        self.store(key, submission, content.as_ref())?;
+        Ok(missed)
+    }
+
+    // What the content of a submission becomes along the entries that it has missed.
+    fn carried(&self, key: &Key, submission: &Submission) -> Result<Option<Content>, Code>
+        ensures ok { IfOk result (λ m. over_all submission.now.content
+            (missed (logs_of self.now (plain_key key.now)) submission.now) ≡
+            Ok (unwrap_or m submission.now.content)) }
+        ensures err { IfErr result (λ code. RefusedBy (over_all submission.now.content
+            (missed (logs_of self.now (plain_key key.now)) submission.now)) code) }
+        ensures memory { IsErrOf result E10 → carrying_takes_memory submission.now.content
+            (missed (logs_of self.now (plain_key key.now)) submission.now) ≡ true }
+    {
+        match self.find(key) {
+            Some(document) => {
+                let missed = missed_of(document.log(), submission);
+                over_all(self.alloc, submission.content(), missed)
+            }
+            None => Ok(None),
+        }
+    }
+
+    // Copies of the entries that a submission has missed.
+    fn missed(&self, key: &Key, submission: &Submission) -> Result<Vec<Entry>, AllocError>
+        ensures { IfOk result (λ v. v.items ≡ missed (logs_of self.now (plain_key key.now)) submission.now) }
+    {
+        match self.find(key) {
+            Some(document) => copy_entries(self.alloc, missed_of(document.log(), submission)),
+            None => Ok(Vec::new(self.alloc)),
+        }
+    }
+
+    // Refuses a create on a document, and an edit of none.
+    fn check(&self, key: &Key, content: &Content) -> Result<(), Code>
+        ensures ok { OnOk result
+            (storing_takes_memory content.now (document (logs_of self.now (plain_key key.now))) ≡ true) }
+        ensures err { IfErr result
+            (λ code. becomes content.now (document (logs_of self.now (plain_key key.now))) ≡ Err code) }
+    {
+        match self.find(key) {
+            Some(document) => check_presence(content, document.present()),
+            None => check_presence(content, None),
+        }
+    }
+
+    // Stores what a submission has become, unless the document refuses it.
+    fn store(
+        &mut self,
+        key: &Key,
+        submission: &Submission,
+        content: Option<&Content>,
+    ) -> Result<(), Code>
+        requires { Settles (logs_of self.old (plain_key key.now)) submission.now
+            (option_map (λ c. c.now) content) }
+        ensures logs { OnOk result (logs_of self.new ≡ with_log (logs_of self.old) (plain_key key.now)
+            (decide (logs_of self.old (plain_key key.now)) submission.now).log) }
+        ensures reply { OnOk result ((decide (logs_of self.old (plain_key key.now)) submission.now).reply ≡
+            stored (length (logs_of self.old (plain_key key.now)))
+            (missed (logs_of self.old (plain_key key.now)) submission.now)) }
+        ensures err { IfErr result
+            (RefusedAs (decide (logs_of self.old (plain_key key.now)) submission.now).reply) }
+        ensures same { OnErr result (logs_of self.new ≡ logs_of self.old) }
+        ensures kept { kept_of self.new ≡ kept_of self.old }
+        ensures queues { queues_of self.new ≡ queues_of self.old }
+    {
+        let submission = submission.try_clone()?;
+        let content = copy_content(content)?;
         match self.by_key.get_mut(key) {
-            Some(document) => document.decide(self.alloc, work),
-            None => self.decide_first(key, work),
+            Some(document) => document.store(self.alloc, submission, content),
+            None => self.store_first(key, submission, content),
         }
     }
 
-    // Decides a submission to a key that nothing is stored of. It works on a copy, so that nothing is left
-    // where there is no memory to keep the document.
-    fn decide_first(&mut self, key: &Key, work: Work) -> Result<Reply, Work>
-        requires nothing { [] ≡ logs_of self.old (plain_key key.now) }
-        requires missed { work.look.missed ≡ missed [] work.submission }
-        ensures reply { IfOk result (λ r. plain_reply r ≡ (decide [] work.submission).reply) }
+    // Stores the first submission to a key.
+    fn store_first(
+        &mut self,
+        key: &Key,
+        submission: Submission,
+        content: Option<Content>,
+    ) -> Result<(), Code>
+        requires nothing { no_document ≡ documents_of self.old (plain_key key.now) }
+        requires settles { Settles [] submission content }
         ensures logs { OnOk result
-            (logs_of self.new ≡ with_log (logs_of self.old) (plain_key key.now) (decide [] work.submission).log) }
-        ensures work { IfErr result (λ w. w ≡ work) }
-        ensures err { OnErr result (logs_of self.new ≡ logs_of self.old) }
+            (logs_of self.new ≡ with_log (logs_of self.old) (plain_key key.now) (decide [] submission).log) }
+        ensures reply { OnOk result ((decide [] submission).reply ≡ stored 0 (missed [] submission)) }
+        ensures err { IfErr result (RefusedAs (decide [] submission).reply) }
+        ensures same { OnErr result (logs_of self.new ≡ logs_of self.old) }
+        ensures kept { kept_of self.new ≡ kept_of self.old }
         ensures queues { queues_of self.new ≡ queues_of self.old }
     {
-        let Ok(copy) = work.try_clone(self.alloc) else {
-            return Err(work);
-        };
-        let Ok((reply, made)) = Document::first(self.alloc, copy) else {
-            return Err(work);
-        };
-        match made {
-            None => Ok(reply),
-            Some(document) => match self.keep(key, document) {
-                Ok(()) => Ok(reply),
-                Err(_) => Err(work),
-            },
-        }
+        let document = Document::first(self.alloc, submission, content)?;
+        Ok(self.keep(key, document)?)
     }
 
     // Keeps the document of a key.
     fn keep(&mut self, key: &Key, document: Document) -> Result<(), AllocError>
-        ensures ok { OnOk result (logs_of self.new ≡ with_log (logs_of self.old) (plain_key key.now) document) }
-        ensures err { OnErr result (logs_of self.new ≡ logs_of self.old) }
+        ensures ok { OnOk result
+            (documents_of self.new ≡ with_at (documents_of self.old) (plain_key key.now) document) }
+        ensures err { OnErr result (documents_of self.new ≡ documents_of self.old) }
         ensures queues { queues_of self.new ≡ queues_of self.old }
     {
         drop(self.by_key.insert(key.try_clone()?, document)?);
         Ok(())
     }
 
-    /// The present version, and a copy of the document there. E10 is want of memory.
+    /// The present version, and a copy of the document there. E10 is want of memory for the copy.
     pub fn fetch(&self, key: &Key) -> Result<Fetched, Code>
-        ensures { Reads (told_fetched result) (Ok (fetched (logs_of self.now (plain_key key.now)))) }
+        ensures { Reads has_document (told_fetched result) (Ok (fetched (logs_of self.now (plain_key key.now)))) }
     {
         match self.find(key) {
             Some(document) => Ok(Fetched {
@@ -272,9 +398,10 @@ impl Shard {
     }
 
     /// Copies of the stored operations from a version on. E4 where the version is above the present one,
-    /// E10 is want of memory.
+    /// E10 is want of memory, where there are any.
     pub fn ops_from(&self, key: &Key, version: u64) -> Result<Vec<Entry>, Code>
-        ensures { Reads (told_entries result) (operations (logs_of self.now (plain_key key.now)) version) }
+        ensures { Reads is_filled (told_entries result)
+            (operations (logs_of self.now (plain_key key.now)) version) }
     {
         if self.version(key) < version {
             return Err(Code::E4);
@@ -288,13 +415,19 @@ impl Shard {
     }
 
     /// The version, or the present one where none is named, and the document there. E4 where the version
-    /// is above the present one, E10 is want of memory.
+    /// is above the present one, E10 is want of memory, at a version above 0.
     ///
     /// The document is made of the nearest older snapshot that is kept, and is kept itself, at most eight
     /// of a document, those that were used last. So it costs the entries from there on, and two copies
     /// of the document; the present one, and one that is kept, cost one copy.
     pub fn snapshot_at(&mut self, key: &Key, version: Option<u64>) -> Result<Fetched, Code>
-        ensures snapshot { Reads (told_fetched result) (snapshot_at (logs_of self.old (plain_key key.now)) version) }
+        ensures snapshot { Reads has_version (told_fetched result)
+            (snapshot_at (logs_of self.old (plain_key key.now)) version) }
+        ensures kept { Leaves (logs_of self.old (plain_key key.now))
+            (unwrap_or version (length (logs_of self.old (plain_key key.now))))
+            (kept_of self.old (plain_key key.now)) (kept_of self.new (plain_key key.now)) }
+        ensures others { kept_of self.new ≡
+            with_kept (kept_of self.old) (plain_key key.now) (kept_of self.new (plain_key key.now)) }
         ensures logs { logs_of self.new ≡ logs_of self.old }
         ensures queues { queues_of self.new ≡ queues_of self.old }
     {
@@ -308,10 +441,16 @@ impl Shard {
     }
 
     // The document at a version, up to the present one.
-    fn snapshot_of(&mut self, key: &Key, version: u64) -> Result<Option<Json>, AllocError>
+    fn snapshot_of(&mut self, key: &Key, version: u64) -> Result<Option<Json>, Code>
         requires { version ≤ length (logs_of self.old (plain_key key.now)) }
         ensures snapshot { IfOk result
             (λ d. document (take version (logs_of self.old (plain_key key.now))) ≡ option_map view d) }
+        ensures err { IfErr result (λ code. code ≡ E10) }
+        ensures memory { OnErr result (0 < version) }
+        ensures kept { Leaves (logs_of self.old (plain_key key.now)) version
+            (kept_of self.old (plain_key key.now)) (kept_of self.new (plain_key key.now)) }
+        ensures others { kept_of self.new ≡
+            with_kept (kept_of self.old) (plain_key key.now) (kept_of self.new (plain_key key.now)) }
         ensures logs { logs_of self.new ≡ logs_of self.old }
         ensures queues { queues_of self.new ≡ queues_of self.old }
     {
@@ -323,6 +462,7 @@ impl Shard {
 
     /// Lets the snapshots go that are kept of the document. It takes no memory.
     pub fn forget(&mut self, key: &Key)
+        ensures kept { kept_of self.new ≡ with_kept (kept_of self.old) (plain_key key.now) [] }
         ensures logs { logs_of self.new ≡ logs_of self.old }
         ensures queues { queues_of self.new ≡ queues_of self.old }
     {
@@ -333,8 +473,8 @@ impl Shard {
 
     /// Opens a queue that takes all stored operations from the version on, or from the present one, and
     /// shows the document there. E4 where the version is above the present one; E11 where the numbers of
-    /// this key are used up, after 18446744073709551615 of them; E10 is want of memory. Nothing has
-    /// changed then.
+    /// this key are used up, after 18446744073709551615 of them; E10 is want of memory for a queue that
+    /// was to be opened. Nothing has changed then.
     pub fn subscribe(&mut self, key: &Key, version: Option<u64>) -> Result<Subscribed, Code>
         ensures subscribes { Subscribes (logs_of self.old (plain_key key.now)) version
             (queues_of self.old (plain_key key.now)) (told_subscribed result) (queues_of self.new (plain_key key.now)) }
@@ -344,21 +484,54 @@ impl Shard {
         ensures others { queues_of self.new ≡
             with_queues (queues_of self.old) (plain_key key.now) (queues_of self.new (plain_key key.now)) }
         ensures logs { logs_of self.new ≡ logs_of self.old }
+        ensures kept { kept_of self.new ≡ kept_of self.old }
+    {
+        let start = self.start_reached(key, version)?;
+        if self.are_used_up(key) {
+            return Err(Code::E11);
+        }
+        let Fetched { version, snapshot } = self.fetch(key)?;
+        let id = self.open(key, start)?;
+        Ok(Subscribed {
+            id,
+            start,
+            version,
+            snapshot,
+        })
+    }
+
+    /// The version that a queue would start at: the one that is named, or the present one. E4 where it is
+    /// above the present one, E11 where the numbers of this key are used up. It takes no memory.
+    pub fn start_of(&self, key: &Key, version: Option<u64>) -> Result<u64, Code>
+        ensures { result ≡ start_free (logs_of self.now (plain_key key.now)) version
+            (queues_of self.now (plain_key key.now)) }
+    {
+        let start = self.start_reached(key, version)?;
+        if !self.are_used_up(key) {
+            return Ok(start);
+        }
+        Err(Code::E11)
+    }
+
+    // The version that a queue would start at, if the log has come so far.
+    fn start_reached(&self, key: &Key, version: Option<u64>) -> Result<u64, Code>
+        ensures { result ≡ start_of (logs_of self.now (plain_key key.now)) version }
     {
         let present = self.version(key);
         let start = version.unwrap_or(present);
         if present < start {
             return Err(Code::E4);
         }
-        let Fetched { version, snapshot } = self.fetch(key)?;
-        match self.open(key, start) {
-            Ok(id) => Ok(Subscribed {
-                id,
-                start,
-                version,
-                snapshot,
-            }),
-            Err(code) => Err(code),
+        Ok(start)
+    }
+
+    // Whether the numbers of the queues of this key are used up.
+    fn are_used_up(&self, key: &Key) -> bool
+        ensures { result ≡ nat_eq (queues_of self.now (plain_key key.now)).next 18446744073709551615 }
+    {
+        match self.queues.get(key) {
+            Some(queues) => queues.given() == u64::MAX,
+            None => false,
         }
     }
 
@@ -374,6 +547,7 @@ impl Shard {
         ensures others { queues_of self.new ≡
             with_queues (queues_of self.old) (plain_key key.now) (queues_of self.new (plain_key key.now)) }
         ensures logs { logs_of self.new ≡ logs_of self.old }
+        ensures kept { kept_of self.new ≡ kept_of self.old }
     {
         match self.queues.get_mut(key) {
             Some(queues) => queues.open(start),
@@ -394,14 +568,24 @@ impl Shard {
         ensures others { queues_of self.new ≡
             with_queues (queues_of self.old) (plain_key key.now) (queues_of self.new (plain_key key.now)) }
         ensures logs { logs_of self.new ≡ logs_of self.old }
+        ensures kept { kept_of self.new ≡ kept_of self.old }
     {
         let mut queues = Queues::new(self.alloc);
         let id = queues.open(start)?;
-        let key = key.try_clone()?;
-        match self.queues.insert(key, queues) {
-            Ok(_) => Ok(id),
-            Err(_) => Err(Code::E10),
-        }
+        self.keep_queues(key, queues)?;
+        Ok(id)
+    }
+
+    // Keeps the queues of a key.
+    fn keep_queues(&mut self, key: &Key, queues: Queues) -> Result<(), AllocError>
+        ensures ok { OnOk result
+            (queues_of self.new ≡ with_queues (queues_of self.old) (plain_key key.now) queues) }
+        ensures err { OnErr result (queues_of self.new ≡ queues_of self.old) }
+        ensures logs { logs_of self.new ≡ logs_of self.old }
+        ensures kept { kept_of self.new ≡ kept_of self.old }
+    {
+        drop(self.queues.insert(key.try_clone()?, queues)?);
+        Ok(())
     }
 
     /// The next entries of a queue, at most `max`, fewer where the log ends; `None` where no open queue
@@ -413,6 +597,7 @@ impl Shard {
         ensures others { queues_of self.new ≡
             with_queues (queues_of self.old) (plain_key key.now) (queues_of self.new (plain_key key.now)) }
         ensures logs { logs_of self.new ≡ logs_of self.old }
+        ensures kept { kept_of self.new ≡ kept_of self.old }
     {
         let Some(queues) = self.queues.get_mut(key) else {
             return Ok(None);
@@ -428,10 +613,21 @@ impl Shard {
         ensures queues { queues_of self.new ≡
             with_queues (queues_of self.old) (plain_key key.now) (closed id (queues_of self.old (plain_key key.now))) }
         ensures logs { logs_of self.new ≡ logs_of self.old }
+        ensures kept { kept_of self.new ≡ kept_of self.old }
     {
         match self.queues.get_mut(key) {
             Some(queues) => queues.close(id),
             None => {}
         }
+    }
+}
+
+// A copy of a content, which shares what it holds.
+fn copy_content(content: Option<&Content>) -> Result<Option<Content>, AllocError>
+    ensures { IfOk result (λ c. c ≡ option_map (λ k. k.now) content.entry) }
+{
+    match content {
+        Some(content) => Ok(Some(content.try_clone()?)),
+        None => Ok(None),
     }
 }

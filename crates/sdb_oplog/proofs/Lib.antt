@@ -1,5 +1,7 @@
 pub mod Alike
+mod Carrying
 pub mod Growing
 pub mod Indexed
 pub mod Logging
 pub mod Numbers
+mod Used

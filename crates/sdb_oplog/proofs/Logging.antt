@@ -1,10 +1,12 @@
 -- What a log keeps while it grows.
-use Rattle.std.proofs.Common.{◌≡◌, ℕ, ◌+◌, ◌<◌, List, [], ◌∷◌, ◌++◌, length, true, cond, ◌&&◌, Some, None, bytes_eq, nat_eq, sym, ap, ◌∙◌, arith, length-append}
+use Rattle.std.proofs.Common.{◌≡◌, ◌≢◌, ℕ, ◌+◌, ◌<◌, List, [], ◌∷◌, ◌++◌, length, Bool, true, false, cond, ◌&&◌, Some, None, bytes_eq, nat_eq, refl, sym, ap, ◌∙◌, subst, arith, length-append}
+use Rattle.std.proofs.lemmas.Bool.{eq-eqb}
+use Rattle.std.proofs.lemmas.Slice.Eq.{bytes_eq-Decides}
 use Rattle.std.specs.Option.{is_some}
 use Rattle.sdb_oplog.specs.Plain.{PlainEntry}
 use Rattle.sdb_oplog.specs.Snap.{snap, stored_at, are_first}
 use Rattle.sdb_oplog.specs.Logged.{IsLog}
-use Rattle.sdb_oplog.specs.Placed.{place_in}
+use Rattle.sdb_oplog.specs.Placed.{place_in, IsUsed, AreUsed, OthersAreUsed}
 use Rattle.sdb_oplog.specs.declared.index.Index.{Index}
 use Rattle.sdb_oplog.proofs.Growing.{first_more}
 use Rattle.sdb_oplog.proofs.Indexed.{one_more_placed}
@@ -26,3 +28,22 @@ one_more es fs e x y is l first lives room new = record {
   room = let n : length fs ≡ length es + 1 = ap length is ∙ length-append es (e ∷ []) in omega (arith, n, room);
   indexed = λ s n. one_more_placed x y es e first l.indexed new s n ∙ ap (stored_at s n) (sym is);
 }
+
+used_or : (b : Bool) (x : Index) (one s : List ℕ) → bytes_eq one s ≡ b → IsUsed x one → (s ≢ one → IsUsed x s) → IsUsed x s
+used_or true x one s is here others = subst (λ t. IsUsed x t) ((bytes_eq-Decides one s).0 is) here
+used_or false x one s is here others =
+    others (λ e. let yes : bytes_eq one s ≡ true = (bytes_eq-Decides one s).1 (sym e) in let never : false ≡ true = sym is ∙ yes in cc)
+
+-- where the others are used, and the one too
+pub all_used : (x : Index) (one : List ℕ) → IsUsed x one → OthersAreUsed x one → AreUsed x
+all_used x one here others s = used_or (bytes_eq one s) x one s refl here (others s)
+
+-- a source with one more number is used
+pub put_used : (x y : Index) (one : List ℕ) (n at : ℕ) → OthersAreUsed x one → ((s : List ℕ) → s ≢ one → IsUsed x s → IsUsed y s)
+    → ((s : List ℕ) (k : ℕ) → place_in y s k ≡ cond (nat_eq n k && bytes_eq one s) (Some at) (place_in x s k)) → AreUsed y
+put_used x y one n at others kept places =
+    let same : nat_eq n n ≡ true = eq-eqb n n refl in
+    let itself : bytes_eq one one ≡ true = (bytes_eq-Decides one one).1 refl in
+    let there : place_in y one n ≡ Some at =
+    places one n ∙ ap (λ b. cond (b && bytes_eq one one) (Some at) (place_in x one n)) same ∙ ap (λ b. cond b (Some at) (place_in x one n)) itself in
+    all_used y one (λ h. (n, ap is_some there)) (λ s apart. kept s apart (others s apart))

@@ -1,9 +1,10 @@
 -- What one submission does to a log: `Decide`. The first case that holds decides.
-use Rattle.std.specs.Prelude.{◌≡◌, ℕ, List, [], ◌∷◌, ◌++◌, length, drop, if◌then◌else◌, nat_eq, nat_lt, Result, Ok, Err, unwrap_or}
-use Rattle.std.specs.Option.{option_map_or}
-use Rattle.sdb_oplog.specs.Plain.{PlainContent, PlainSubmission, PlainEntry}
+use Rattle.std.specs.Prelude.{◌≡◌, ℕ, List, [], ◌∷◌, ◌++◌, length, drop, Bool, true, false, ◌||◌, if◌then◌else◌, nat_eq, nat_lt, Option, Some, None, Result, Ok, Err, unwrap_or}
+use Rattle.std.specs.Option.{is_some, option_map_or}
+use Rattle.sdb_value.specs.Value.{Value}
+use Rattle.sdb_oplog.specs.Plain.{PlainContent, create, delete, edit, PlainSubmission, PlainEntry}
 use Rattle.sdb_oplog.specs.Refused.{result_then}
-use Rattle.sdb_oplog.specs.Over.{over_all}
+use Rattle.sdb_oplog.specs.Over.{over_all, carrying_takes_memory}
 use Rattle.sdb_oplog.specs.Snap.{becomes, document, stored_at}
 use Rattle.sdb_oplog.specs.declared.codes.Code.{Code}
 use Rattle.sdb_oplog.specs.declared.codes.Code.TheVariants.{E4, E11}
@@ -27,22 +28,34 @@ since log s = unwrap_or s.version (length log)
 abbrev pub missed : List PlainEntry → PlainSubmission → List PlainEntry
 missed log s = drop (since log s) log
 
--- cases 2 to 5, or the content as it will be stored
+-- there is no number for another version
+abbrev pub is_full : List PlainEntry → Bool
+is_full log = nat_eq (length log) 9007199254740991
+
+-- it was made at a version that the log hasn't reached
+abbrev pub is_newer : List PlainEntry → PlainSubmission → Bool
+is_newer log s = nat_lt (length log) (since log s)
+
+-- the content, if it has an effect on the document
+abbrev pub effective : PlainContent → Option Value → Result PlainContent Code
+effective m d = result_then (λ n. Ok m) (becomes m d)
+
+-- the content as it will be stored: carried along what it missed, and with an effect there
 abbrev pub settled : List PlainEntry → PlainSubmission → Result PlainContent Code
 settled log s =
-    if nat_eq (length log) 9007199254740991 then Err E11
-    else (if nat_lt (length log) (since log s) then Err E4
-    else (result_then (λ m. result_then (λ d. Ok m) (becomes m (document log))) (over_all s.content (missed log s))))
+    if is_full log then Err E11
+    else (if is_newer log s then Err E4
+    else (result_then (λ m. effective m (document log)) (over_all s.content (missed log s))))
 
 abbrev pub entry_of : List PlainEntry → PlainSubmission → PlainContent → PlainEntry
 entry_of log s m = record { version = length log; content = m; arrived = s }
 
--- case 6, unless it is refused
+-- a new entry at the end, unless it is refused
 abbrev pub store : List PlainEntry → PlainSubmission → Result PlainContent Code → Decided
 store log s (Err code) = record { reply = refused code; log = log }
 store log s (Ok m) = record { reply = stored (length log) (missed log s); log = log ++ entry_of log s m ∷ [] }
 
--- case 1, a repeat, wherever in the log it was stored; or the others
+-- a repeat, wherever in the log it was stored; or a submission that is settled now
 abbrev pub decide : List PlainEntry → PlainSubmission → Decided
 decide log s =
     option_map_or (λ i. record { reply = repeated i; log = log }) (stored_at s.src s.seq log)
@@ -55,3 +68,26 @@ MadeFrom before (e ∷ es) = ((decide before e.arrived).log ≡ before ++ e ∷ 
 
 abbrev pub IsMade : List PlainEntry → Type 0
 IsMade = MadeFrom []
+
+-- ---- memory
+
+-- a create on a document and an edit of none are refused at sight; else room for the entry is made before the document
+-- is changed
+abbrev pub storing_takes_memory : PlainContent → Option Value → Bool
+storing_takes_memory (create v) None = true
+storing_takes_memory (create v) (Some d) = false
+storing_takes_memory delete d = true
+storing_takes_memory (edit op) None = false
+storing_takes_memory (edit op) (Some d) = true
+
+-- and nothing is stored of what was refused on the way
+abbrev pub settling_takes_memory : Result PlainContent Code → Option Value → Bool
+settling_takes_memory (Ok m) d = storing_takes_memory m d
+settling_takes_memory (Err code) d = false
+
+-- what was stored long since, a full log and a version too new are answered without memory
+abbrev pub deciding_takes_memory : List PlainEntry → PlainSubmission → Bool
+deciding_takes_memory log s =
+    if is_some (stored_at s.src s.seq log) || (is_full log || is_newer log s) then false
+    else (carrying_takes_memory s.content (missed log s)
+    || settling_takes_memory (over_all s.content (missed log s)) (document log))

@@ -1,5 +1,5 @@
 -- Laws of decisions: what is stored, and logs that are made.
-use Rattle.std.proofs.Common.{Bool, ◌≡◌, ℕ, ◌<◌, ◌≤◌, ◌++◌, List, [], ◌∷◌, length, true, false, cond, Option, Some, None, Result, Ok, Err, refl, sym, ap, ◌∙◌, subst, append_assoc, nat_eq, nat_lt, arith}
+use Rattle.std.proofs.Common.{Bool, ◌||◌, ◌⊎◌, inl, inr, ◌≡◌, ℕ, ◌<◌, ◌≤◌, ◌++◌, List, [], ◌∷◌, length, true, false, cond, Option, Some, None, Result, Ok, Err, refl, sym, ap, ◌∙◌, subst, append_assoc, nat_eq, nat_lt, arith}
 use Rattle.std.proofs.lemmas.Bool.Decides.{nat_tests}
 use Rattle.std.specs.Option.{is_some, unwrap_or, option_and_then, option_map_or}
 use Rattle.std.specs.Result.{result_ok}
@@ -11,9 +11,9 @@ use Rattle.sdb_transform.specs.declared.side.Side.TheVariants.{Left}
 use Rattle.sdb_apply.specs.Does.{applies}
 use Rattle.sdb_oplog.specs.Plain.{PlainEntry, PlainContent, create, delete, edit, PlainSubmission}
 use Rattle.sdb_oplog.specs.Refused.{result_then, RefusedBy}
-use Rattle.sdb_oplog.specs.Over.{over, over_all}
+use Rattle.sdb_oplog.specs.Over.{over, over_all, carrying_takes_memory}
 use Rattle.sdb_oplog.specs.Snap.{edited, becomes, snap_from, snap, document, stored_at}
-use Rattle.sdb_oplog.specs.Decide.{decide, settled, since, missed, store, entry_of, stored, repeated, refused, MadeFrom, IsMade}
+use Rattle.sdb_oplog.specs.Decide.{is_full, is_newer, storing_takes_memory, settling_takes_memory, deciding_takes_memory, decide, settled, since, missed, store, entry_of, stored, repeated, refused, MadeFrom, IsMade}
 
 -- ---- codes
 
@@ -30,6 +30,20 @@ due_code r E8 n h = h
 due_code r E9 n h = h
 due_code r E10 n h = absurd (n refl)
 due_code r E11 n h = h
+
+-- memory was wanting, or the code is the one that is due
+pub due_or_wanting : {A : Type 0} (r : Result A Code) (c : Code) → RefusedBy r c → (c ≡ E10) ⊎ (r ≡ Err c)
+due_or_wanting r E1 h = inr h
+due_or_wanting r E2 h = inr h
+due_or_wanting r E3 h = inr h
+due_or_wanting r E4 h = inr h
+due_or_wanting r E5 h = inr h
+due_or_wanting r E6 h = inr h
+due_or_wanting r E7 h = inr h
+due_or_wanting r E8 h = inr h
+due_or_wanting r E9 h = inr h
+due_or_wanting r E10 h = inl refl
+due_or_wanting r E11 h = inr h
 
 -- ---- snapshots
 
@@ -275,3 +289,54 @@ never_first log s None e h =
 -- a decision is never want of memory
 pub decides_never_wanting : (log : List PlainEntry) (s : PlainSubmission) → (decide log s).reply ≡ refused E10 → ⊥
 decides_never_wanting log s = never_first log s (stored_at s.src s.seq log) refl
+
+-- ---- memory
+
+or_else : (a b : Bool) → b ≡ true → (a || b) ≡ true
+or_else true b h = refl
+or_else false b h = h
+
+or_first : (a b : Bool) → a ≡ true → (a || b) ≡ true
+or_first a b h = ap (λ c. c || b) h
+
+-- a submission that is new, of a version that has been reached, in a log with room
+abbrev takes_memory : List PlainEntry → PlainSubmission → Bool
+takes_memory log s =
+    carrying_takes_memory s.content (missed log s)
+    || settling_takes_memory (over_all s.content (missed log s)) (document log)
+
+takes_memory_open : (log : List PlainEntry) (s : PlainSubmission) → stored_at s.src s.seq log ≡ None
+    → length log < 9007199254740991 → since log s ≤ length log
+    → deciding_takes_memory log s
+    ≡ (carrying_takes_memory s.content (missed log s)
+    || settling_takes_memory (over_all s.content (missed log s)) (document log))
+takes_memory_open log s first room seen =
+    let full : is_full log ≡ false = grind (arith, nat_tests) in
+    let newer : is_newer log s ≡ false = grind (arith, nat_tests) in
+    ap (λ o. cond (is_some o || (is_full log || is_newer log s)) false (takes_memory log s)) first
+    ∙ ap (λ b. cond (b || is_newer log s) false (takes_memory log s)) full
+    ∙ ap (λ b. cond b false (takes_memory log s)) newer
+
+-- takes memory to be carried
+pub carrying_is_deciding : (log : List PlainEntry) (s : PlainSubmission) → stored_at s.src s.seq log ≡ None
+    → length log < 9007199254740991 → since log s ≤ length log
+    → carrying_takes_memory s.content (missed log s) ≡ true → deciding_takes_memory log s ≡ true
+carrying_is_deciding log s first room seen h =
+    takes_memory_open log s first room seen ∙ or_first (carrying_takes_memory s.content (missed log s)) _ h
+
+-- or, carried, to be stored
+pub storing_is_deciding : (log : List PlainEntry) (s : PlainSubmission) (m : PlainContent)
+    → stored_at s.src s.seq log ≡ None → length log < 9007199254740991 → since log s ≤ length log
+    → over_all s.content (missed log s) ≡ Ok m → storing_takes_memory m (document log) ≡ true
+    → deciding_takes_memory log s ≡ true
+storing_is_deciding log s m first room seen e h =
+    takes_memory_open log s first room seen
+    ∙ or_else (carrying_takes_memory s.content (missed log s)) _
+    (ap (λ r. settling_takes_memory r (document log)) e ∙ h)
+
+-- a content is never refused for want of memory by what is stored
+pub never_over_all_wanting : (m : PlainContent) (es : List PlainEntry) → over_all m es ≡ Err E10 → ⊥
+never_over_all_wanting m es h = never_over_all es m h
+
+pub never_becomes_wanting : (m : PlainContent) (d : Option Value) → becomes m d ≡ Err E10 → ⊥
+never_becomes_wanting m d h = never_becomes m d h

@@ -1,5 +1,5 @@
 -- What a content made at one version becomes after what was stored since: `Over`.
-use Rattle.std.specs.Prelude.{List, [], ◌∷◌, Result, Ok, Err}
+use Rattle.std.specs.Prelude.{List, [], ◌∷◌, Bool, true, false, Result, Ok, Err}
 use Rattle.std.specs.Option.{option_map_or}
 use Rattle.sdb_component.specs.Plain.{PlainComponent}
 use Rattle.sdb_transform.specs.Grid.{carried}
@@ -26,3 +26,19 @@ over (edit op) (edit other) = edit_over op other
 abbrev pub over_all : PlainContent → List PlainEntry → Result PlainContent Code
 over_all m [] = Ok m
 over_all m (e ∷ es) = result_then (λ k. over_all k es) (over m e.content)
+
+-- ---- memory
+
+-- only an edit over an edit is transformed
+abbrev pub over_takes_memory : PlainContent → PlainContent → Bool
+over_takes_memory (create v) stored = false
+over_takes_memory delete stored = false
+over_takes_memory (edit op) (create v) = false
+over_takes_memory (edit op) delete = false
+over_takes_memory (edit op) (edit other) = true
+
+-- along stored entries the first one tells: over it an edit is transformed, or refused, and all else is refused or a
+-- delete, which stays one
+abbrev pub carrying_takes_memory : PlainContent → List PlainEntry → Bool
+carrying_takes_memory m [] = false
+carrying_takes_memory m (e ∷ es) = over_takes_memory m e.content

@@ -22,11 +22,13 @@ becomes delete d = Ok None
 becomes (edit op) None = Err E7
 becomes (edit op) (Some d) = result_then (λ e. Ok (Some e)) (edited op d)
 
--- a create copies its data, and an edit takes what its components take
-abbrev pub becoming_takes_memory : PlainContent → Bool
-becoming_takes_memory (create v) = true
-becoming_takes_memory delete = false
-becoming_takes_memory (edit op) = whole_takes_memory op
+-- a create copies its data where there is no document, and an edit of one takes what its components take
+abbrev pub becoming_takes_memory : PlainContent → Option Value → Bool
+becoming_takes_memory (create v) None = true
+becoming_takes_memory (create v) (Some d) = false
+becoming_takes_memory delete d = false
+becoming_takes_memory (edit op) None = false
+becoming_takes_memory (edit op) (Some d) = whole_takes_memory op
 
 -- the document after these entries, from this one on, if each has an effect
 abbrev pub snap_from : Option Value → List PlainEntry → Option (Option Value)

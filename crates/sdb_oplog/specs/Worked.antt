@@ -1,11 +1,11 @@
 -- Rows worked by hand: what submissions do to a log.
-use Rattle.std.specs.Prelude.{◌≡◌, ℕ, List, [], ◌∷◌, Option, Some, None, codes, refl, pos}
+use Rattle.std.specs.Prelude.{◌≡◌, ℕ, true, false, List, [], ◌∷◌, Option, Some, None, codes, refl, pos}
 use Rattle.sdb_value.specs.Value.{whole, text, list, object, item, no_items, member, no_members, key}
 use Rattle.sdb_component.specs.Plain.{PlainAct, na, li}
 use Rattle.sdb_transform.specs.Grid.{cross, cross_in}
 use Rattle.sdb_oplog.specs.Plain.{PlainContent, create, delete, edit, PlainSubmission, PlainEntry}
 use Rattle.sdb_oplog.specs.Snap.{snap, document}
-use Rattle.sdb_oplog.specs.Decide.{decide, stored, repeated, refused, IsMade}
+use Rattle.sdb_oplog.specs.Decide.{decide, stored, repeated, refused, deciding_takes_memory, IsMade}
 use Rattle.sdb_oplog.specs.declared.codes.Code.TheVariants.{E4, E5, E6, E7, E8}
 
 abbrev from : List ℕ → ℕ → Option ℕ → PlainContent → PlainSubmission
@@ -80,3 +80,26 @@ pub row_left : document (decide met (insert_in (codes "z") 1 (codes "B"))).log
     ≡ Some (list (item (text (codes "B")) (item (text (codes "A")) (item (text (codes "x")) no_items))))
 unfolding cross cross_in
 row_left = refl
+
+-- without memory: a repeat, a version too new, a create on a document, an edit of none, an edit over a delete. To be
+-- stored takes memory, and so does an edit that is carried over an edit
+pub row_repeat_free : deciding_takes_memory two first ≡ false
+row_repeat_free = refl
+
+pub row_newer_free : deciding_takes_memory two (from (codes "y") 2 (Some 3) delete) ≡ false
+row_newer_free = refl
+
+pub row_created_free : deciding_takes_memory two (from (codes "y") 2 None (create (whole (pos 1)))) ≡ false
+row_created_free = refl
+
+pub row_absent_free : deciding_takes_memory [] (from (codes "y") 2 None (edit [])) ≡ false
+row_absent_free = refl
+
+pub row_deleted_free : deciding_takes_memory three (from (codes "z") 1 (Some 2) (edit [])) ≡ false
+row_deleted_free = refl
+
+pub row_stored_takes : deciding_takes_memory [] first ≡ true
+row_stored_takes = refl
+
+pub row_carried_takes : deciding_takes_memory three (from (codes "z") 1 (Some 1) (edit [])) ≡ true
+row_carried_takes = refl

@@ -6,43 +6,32 @@ use sdb_component::OpFault;
 use sdb_transform::Fault;
 use sdb_value::ValueFault;
 use std::alloc::AllocError;
-use thiserror::Error;
 
-/// Why a message, a step or a submission is refused. Each has a name and a text that replies show.
-#[derive(Clone, Copy, Debug, PartialEq, Eq, Drop, Error)]
+/// Why a message, a step or a submission is refused. `sdb_wire` has the name and the text that replies show
+/// for each.
+#[derive(Clone, Copy, Debug, PartialEq, Eq, Drop)]
 pub enum Code {
     /// The message has no reading, or a member is missing, of a wrong kind or past a limit.
-    #[error("message is badly formed")]
     E1,
     /// The type of a document to be created is neither json0 nor its address.
-    #[error("document type is not recognized")]
     E2,
     /// An operation or a value is outside the profile.
-    #[error("operation is badly formed")]
     E3,
     /// The version is above the present one.
-    #[error("version is newer than the current snapshot")]
     E4,
     /// The document was deleted meanwhile.
-    #[error("document was deleted")]
     E5,
     /// The document was created already, or meanwhile.
-    #[error("document was already created")]
     E6,
     /// There is no document to edit.
-    #[error("document does not exist")]
     E7,
     /// A component has no effect on the document, or can't be transformed.
-    #[error("operation can not be applied")]
     E8,
     /// The projection doesn't show what the operation changes.
-    #[error("operation is not allowed in the projection")]
     E9,
     /// A growth was refused.
-    #[error("out of memory")]
     E10,
     /// A limit of the server is reached.
-    #[error("limit reached")]
     E11,
 }
 

@@ -4,7 +4,7 @@ ghost use Rattle.sdb_value.specs.View.{view};
 ghost use Rattle.sdb_apply.specs.Outcome.{whole_takes_memory};
 ghost use Rattle.sdb_oplog.specs.Plain.{create, delete, edit};
 ghost use Rattle.sdb_oplog.specs.Refused.{RefusedBy};
-ghost use Rattle.sdb_oplog.specs.Over.{over, over_all, edit_over};
+ghost use Rattle.sdb_oplog.specs.Over.{over, over_all, edit_over, over_takes_memory, carrying_takes_memory};
 ghost use Rattle.sdb_oplog.specs.Snap.{becomes, becoming_takes_memory, edited};
 ghost use Rattle.sdb_oplog.specs.View.{plain_kind};
 ghost use Rattle.sdb_oplog.specs.declared.codes.Code.TheVariants.{E10};
@@ -105,7 +105,7 @@ impl Content {
     pub fn apply_to(&self, alloc: Global, document: &mut Option<Json>) -> Result<(), Code>
         ensures ok { OnOk result (becomes self.now (option_map view document.old) ≡ Ok (option_map view document.new)) }
         ensures err { IfErr result (λ code. RefusedBy (becomes self.now (option_map view document.old)) code) }
-        ensures memory { IsErrOf result E10 → becoming_takes_memory self.now ≡ true }
+        ensures memory { IsErrOf result E10 → becoming_takes_memory self.now (option_map view document.old) ≡ true }
         ensures same { OnErr result (option_map view document.new ≡ option_map view document.old) }
     {
         match &self.kind {
@@ -124,6 +124,8 @@ fn create_in(alloc: Global, value: &Json, document: &mut Option<Json>) -> Result
         (becomes (create (view value.now)) (option_map view document.old) ≡ Ok (option_map view document.new)) }
     ensures err { IfErr result
         (λ code. RefusedBy (becomes (create (view value.now)) (option_map view document.old)) code) }
+    ensures memory { IsErrOf result E10 →
+        becoming_takes_memory (create (view value.now)) (option_map view document.old) ≡ true }
     ensures same { OnErr result (option_map view document.new ≡ option_map view document.old) }
 {
     if document.is_some() {
@@ -137,7 +139,7 @@ fn edit_in(alloc: Global, op: &Op, document: &mut Option<Json>) -> Result<(), Co
     ensures ok { OnOk result
         (becomes (edit op.now) (option_map view document.old) ≡ Ok (option_map view document.new)) }
     ensures err { IfErr result (λ code. RefusedBy (becomes (edit op.now) (option_map view document.old)) code) }
-    ensures memory { IsErrOf result E10 → becoming_takes_memory (edit op.now) ≡ true }
+    ensures memory { IsErrOf result E10 → becoming_takes_memory (edit op.now) (option_map view document.old) ≡ true }
     ensures same { OnErr result (option_map view document.new ≡ option_map view document.old) }
 {
     match document {
@@ -158,10 +160,11 @@ fn edit_value(alloc: Global, op: &Op, value: &mut Json) -> Result<(), Code>
 
 /// What a content made at one version becomes after a stored content of that version. Over a create
 /// everything is E6; over a delete a create and an edit are E5; over an edit a create is E6, and an
-/// edit is transformed, as the left one. Then E8 where that can't be.
+/// edit is transformed, as the left one. Then E8 where that can't be, and E10 for want of memory.
 pub fn over(alloc: Global, content: &Content, stored: &Content) -> Result<Content, Code>
     ensures ok { IfOk result (λ c. over content.now stored.now ≡ Ok c) }
     ensures err { IfErr result (λ code. RefusedBy (over content.now stored.now) code) }
+    ensures memory { IsErrOf result E10 → over_takes_memory content.now stored.now ≡ true }
 {
     match stored.kind() {
         Kind::Create(_) => Err(Code::E6),
@@ -195,6 +198,7 @@ pub fn over_all(
 ) -> Result<Option<Content>, Code>
     ensures ok { IfOk result (λ m. over_all content.now entries.now ≡ Ok (unwrap_or m content.now)) }
     ensures err { IfErr result (λ code. RefusedBy (over_all content.now entries.now) code) }
+    ensures memory { IsErrOf result E10 → carrying_takes_memory content.now entries.now ≡ true }
 {
     let mut carried = None;
     for entry in entries {

@@ -1,5 +1,5 @@
 //! What is sent, and what is stored of it.
-ghost use Rattle.std.specs.Prelude.{◌≡◌, IfOk, string_bytes, unwrap_or};
+ghost use Rattle.std.specs.Prelude.{◌≡◌, ◌<◌, IfOk, OnErr, length, string_bytes, unwrap_or};
 ghost use Rattle.sdb_oplog.specs.Snap.{is_from};
 
 use crate::contents::Content;
@@ -196,10 +196,14 @@ impl Entry {
     }
 }
 
-/// Copies of the entries, in their order.
+/// Copies of the entries, in their order. Where there are none it takes no memory.
 pub fn copy_entries(alloc: Global, entries: &[Entry]) -> Result<Vec<Entry>, AllocError>
-    ensures { IfOk result (λ v. v.items ≡ entries.now) }
+    ensures copies { IfOk result (λ v. v.items ≡ entries.now) }
+    ensures some { OnErr result (0 < length entries.now) }
 {
+    if entries.is_empty() {
+        return Ok(Vec::new(alloc));
+    }
     let mut copies = Vec::with_capacity(alloc, entries.len())?;
     for entry in entries {
         copies.push(entry.try_clone()?)?;

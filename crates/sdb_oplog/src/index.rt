@@ -1,6 +1,6 @@
 //! Where the submissions of a log stand, by source and number.
-ghost use Rattle.std.specs.Prelude.{◌≡◌, ℕ, List, Some, None, IfSome, OnOk, if◌then◌else◌, ◌&&◌, bytes_eq, nat_eq};
-ghost use Rattle.sdb_oplog.specs.Placed.{place_in, HasRoom};
+ghost use Rattle.std.specs.Prelude.{◌≡◌, ◌≢◌, ℕ, List, Some, None, IfSome, OnOk, OnErr, if◌then◌else◌, ◌&&◌, bytes_eq, nat_eq};
+ghost use Rattle.sdb_oplog.specs.Placed.{place_in, HasRoom, IsUsed, AreUsed};
 
 use std::alloc::{AllocError, Global};
 use std::collections::HashMap;
@@ -14,7 +14,8 @@ pub(crate) struct Index {
 
 impl Index {
     pub(crate) fn new(alloc: Global) -> Index
-        ensures { (s : List ℕ) (n : ℕ) → place_in result s n ≡ None }
+        ensures places { (s : List ℕ) (n : ℕ) → place_in result s n ≡ None }
+        ensures used { AreUsed result }
     {
         Index {
             by_source: HashMap::new(alloc),
@@ -33,6 +34,8 @@ impl Index {
     pub(crate) fn make_room(&mut self, alloc: Global, src: &str) -> Result<(), AllocError>
         ensures same { (s : List ℕ) (n : ℕ) → place_in self.new s n ≡ place_in self.old s n }
         ensures room { OnOk result (HasRoom self.new src.now) }
+        ensures used { (s : List ℕ) → s ≢ src.now → IsUsed self.old s → IsUsed self.new s }
+        ensures err { OnErr result ((s : List ℕ) → IsUsed self.old s → IsUsed self.new s) }
     {
         match self.by_source.get_mut(src) {
             Some(numbers) => numbers.reserve(1),
@@ -45,6 +48,8 @@ impl Index {
         requires { (n : ℕ) → place_in self.old src.now n ≡ None }
         ensures same { (s : List ℕ) (n : ℕ) → place_in self.new s n ≡ place_in self.old s n }
         ensures room { OnOk result (HasRoom self.new src.now) }
+        ensures used { (s : List ℕ) → s ≢ src.now → IsUsed self.old s → IsUsed self.new s }
+        ensures err { OnErr result ((s : List ℕ) → IsUsed self.old s → IsUsed self.new s) }
     {
         let mut numbers = HashMap::new(alloc);
         numbers.reserve(1)?;
@@ -55,7 +60,9 @@ impl Index {
 
     // Takes a source out that has no number.
     pub(crate) fn forget_unused(&mut self, src: &str)
-        ensures { (s : List ℕ) (n : ℕ) → place_in self.new s n ≡ place_in self.old s n }
+        ensures same { (s : List ℕ) (n : ℕ) → place_in self.new s n ≡ place_in self.old s n }
+        ensures unused { IsUsed self.new src.now }
+        ensures used { (s : List ℕ) → s ≢ src.now → IsUsed self.old s → IsUsed self.new s }
     {
         let Some(numbers) = self.by_source.get(src) else {
             return;
@@ -68,8 +75,9 @@ impl Index {
     // Puts the place of one more number of the source. Room is made for it.
     pub(crate) fn put(&mut self, src: &str, seq: u64, at: u64)
         requires { HasRoom self.old src.now }
-        ensures { (s : List ℕ) (n : ℕ) → place_in self.new s n
+        ensures places { (s : List ℕ) (n : ℕ) → place_in self.new s n
             ≡ (if nat_eq seq n && bytes_eq src.now s then Some at else place_in self.old s n) }
+        ensures used { (s : List ℕ) → s ≢ src.now → IsUsed self.old s → IsUsed self.new s }
     {
         let Some(numbers) = self.by_source.get_mut(src) else {
             unreachable!();

@@ -1,9 +1,10 @@
 //! The log of a document.
-ghost use Rattle.std.specs.Prelude.{◌≡◌, ◌<◌, ◌≤◌, ℕ, List, [], ◌∷◌, ◌++◌, length, vec_len, vec_capacity, bytes_eq, nat_eq, ◌&&◌, if◌then◌else◌, take, drop, slice_get, true, Some, None, OnOk, OnErr, IfOk, IfErr, option_map, is_some, unwrap_or, IsTrue, ◌↔◌};
+ghost use Rattle.std.specs.Prelude.{◌≡◌, ◌<◌, ◌≤◌, ℕ, List, [], ◌∷◌, ◌++◌, length, vec_len, vec_capacity, bytes_eq, nat_eq, ◌&&◌, if◌then◌else◌, take, drop, slice_get, true, Some, None, OnOk, OnErr, IfOk, IfErr, option_map, is_some, unwrap_or, IsTrue, ◌↔◌, ◌≢◌};
 ghost use Rattle.sdb_value.specs.View.{view};
 ghost use Rattle.sdb_oplog.specs.Snap.{snap, stored_at, are_first};
 ghost use Rattle.sdb_oplog.specs.Logged.{stored_entry};
-ghost use Rattle.sdb_oplog.specs.Placed.{place_in, HasRoom};
+ghost use Rattle.sdb_oplog.specs.Placed.{place_in, HasRoom, IsUsed};
+ghost use Rattle.sdb_oplog.specs.declared.codes.Code.TheVariants.{E10};
 
 use crate::codes::Code;
 use crate::contents::Content;
@@ -32,10 +33,11 @@ impl Model for Log {
     ghost coded = { log_code };
 
     ghost use Rattle.sdb_oplog.specs.Logged.{IsLog};
+    ghost use Rattle.sdb_oplog.specs.Placed.{AreUsed};
 
     ghost view = { λ l. l.entries.items };
 
-    ghost invariant = { λ l. IsLog l.entries.items l.index };
+    ghost invariant = { λ l. IsLog l.entries.items l.index × AreUsed l.index };
 }
 
 /// A log with a submission that room is made for: to store it takes no memory.
@@ -57,19 +59,19 @@ impl Model for Prepared {
     ghost coded = { prepared_code };
 
     ghost use Rattle.sdb_oplog.specs.Logged.{IsLog};
-    ghost use Rattle.sdb_oplog.specs.Placed.{HasRoom};
+    ghost use Rattle.sdb_oplog.specs.Placed.{HasRoom, OthersAreUsed};
 
     ghost view = { λ p. record { log = p.entries.items; submission = p.submission } };
 
     ghost invariant = { λ p. IsLog p.entries.items p.index × (vec_len p.entries < vec_capacity p.entries) ×
-        HasRoom p.index p.submission.src };
+        HasRoom p.index p.submission.src × OthersAreUsed p.index p.submission.src };
 }
 
-/// A log and a submission that no room could be made for, both as they were.
+/// A log in which no room could be made, as it was, and why.
 #[derive(Drop)]
 pub struct Unprepared {
     pub log: Log,
-    pub submission: Submission,
+    pub error: AllocError,
 }
 
 impl Log {
@@ -143,11 +145,10 @@ impl Log {
     }
 
     /// Makes room for the entry of a submission, so that to store it takes no memory. After want of
-    /// memory the log and the submission come back as they were.
+    /// memory the log comes back as it was.
     pub fn prepare(self, submission: Submission) -> Result<Prepared, Unprepared>
         ensures ok { IfOk result (λ p. p ≡ record { log = self; submission = submission }) }
-        ensures log { IfErr result (λ u. u.log ≡ self) }
-        ensures submission { IfErr result (λ u. u.submission ≡ submission) }
+        ensures err { IfErr result (λ u. u.log ≡ self) }
     {
         let Log {
             alloc,
@@ -161,48 +162,45 @@ impl Log {
                 index,
                 submission,
             }),
-            Err(_) => Err(Unprepared {
+            Err(error) => Err(Unprepared {
                 log: Log {
                     alloc,
                     entries,
                     index,
                 },
-                submission,
+                error,
             }),
         }
     }
 
-    /// The document after the first entries, at most all. It applies them one by one.
-    pub fn replay(&self, version: u64) -> Result<Option<Json>, AllocError>
+    /// The document after the first entries, at most all. It applies them one by one. E10 is want of
+    /// memory.
+    pub fn replay(&self, version: u64) -> Result<Option<Json>, Code>
         requires { version ≤ length self.now }
-        ensures { IfOk result (λ d. snap (take version self.now) ≡ Some (option_map view d)) }
+        ensures ok { IfOk result (λ d. snap (take version self.now) ≡ Some (option_map view d)) }
+        ensures err { IfErr result (λ code. code ≡ E10) }
     {
         self.replay_on(None, 0, version)
     }
 
     /// The document after the first `to` entries, made of the one after the first `from`. It applies the
-    /// entries between them one by one.
+    /// entries between them one by one. E10 is want of memory.
     pub fn replay_on(
         &self,
         document: Option<Json>,
         from: u64,
         to: u64,
-    ) -> Result<Option<Json>, AllocError>
+    ) -> Result<Option<Json>, Code>
         requires order { from ≤ to }
         requires reached { to ≤ length self.now }
         requires document { snap (take from self.now) ≡ Some (option_map view document) }
-        ensures { IfOk result (λ d. snap (take to self.now) ≡ Some (option_map view d)) }
+        ensures ok { IfOk result (λ d. snap (take to self.now) ≡ Some (option_map view d)) }
+        ensures err { IfErr result (λ code. code ≡ E10) }
     {
         let mut replayed = document;
         let entries = self.entries.as_slice();
         for at in from as usize..to as usize {
-            match entries[at].content().apply_to(self.alloc, &mut replayed) {
-                Ok(()) => {}
-                Err(code) => match code {
-                    Code::E10 => return Err(AllocError),
-                    _ => unreachable!(),
-                },
-            }
+            entries[at].content().apply_to(self.alloc, &mut replayed)?;
         }
         Ok(replayed)
     }
@@ -239,10 +237,9 @@ impl Prepared {
         }
     }
 
-    /// The log and the submission, where nothing is stored.
-    pub fn give_up(self) -> (Log, Submission)
-        ensures log { result.0 ≡ self.log }
-        ensures submission { result.1 ≡ self.submission }
+    /// The log, where nothing is stored. The index keeps no source that nothing is stored of.
+    pub fn give_up(self) -> Log
+        ensures { result ≡ self.log }
     {
         let Prepared {
             alloc,
@@ -251,12 +248,11 @@ impl Prepared {
             submission,
         } = self;
         index.forget_unused(submission.src());
-        let log = Log {
+        Log {
             alloc,
             entries,
             index,
-        };
-        (log, submission)
+        }
     }
 }
 
@@ -271,6 +267,8 @@ fn make_room(
     ensures places { (s : List ℕ) (n : ℕ) → place_in index.new s n ≡ place_in index.old s n }
     ensures room { OnOk result (vec_len entries.new < vec_capacity entries.new) }
     ensures source { OnOk result (HasRoom index.new src.now) }
+    ensures used { (s : List ℕ) → s ≢ src.now → IsUsed index.old s → IsUsed index.new s }
+    ensures err { OnErr result ((s : List ℕ) → IsUsed index.old s → IsUsed index.new s) }
 {
     entries.reserve(1)?;
     index.make_room(alloc, src)
@@ -283,6 +281,7 @@ fn put(entries: &mut Vec<Entry>, index: &mut Index, entry: Entry)
     ensures entries { entries.new.items ≡ entries.old.items ++ entry ∷ [] }
     ensures places { (s : List ℕ) (n : ℕ) → place_in index.new s n
         ≡ (if nat_eq entry.arrived.seq n && bytes_eq entry.arrived.src s then Some (length entries.old.items) else place_in index.old s n) }
+    ensures used { (s : List ℕ) → s ≢ entry.arrived.src → IsUsed index.old s → IsUsed index.new s }
 {
     let at = entries.len() as u64;
     index.put(entry.arrived().src(), entry.arrived().seq(), at);

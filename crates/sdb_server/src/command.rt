@@ -10,6 +10,7 @@ use sdb_lines::{RunFault, WatchedReader, WatchedWriter};
 use sdb_projection::{Table, TableFault};
 use std::alloc::{AllocError, Global};
 use std::io;
+use std::io::Read;
 use std::net::{Net, SocketAddr, TcpListener, TcpStream};
 use std::sync::{Arc, Wait};
 use std::thread::Threads;
@@ -97,6 +98,13 @@ pub(crate) struct Options {
     pub table: Result<Table, Refusal>,
 }
 
+// A run that is asked for, or the status where none is.
+#[derive(Drop)]
+pub(crate) enum Asked {
+    Run(Job, Table),
+    Nothing(u8),
+}
+
 pub(crate) fn asked_options(alloc: Global, words: &[String]) -> Result<Options, Error> {
     let matches = command(alloc)?.try_get_matches_from(words)?;
     Ok(Options {
@@ -122,17 +130,28 @@ where
     R: Net<Listener = TcpListener, Stream = TcpStream> + Threads + Wait + Clock,
     R: Copy + Drop + Send + Sync + 'static,
 {
+    match asked_run(&rt, words)? {
+        Asked::Run(job, table) => do_job(rt, job, table),
+        Asked::Nothing(status) => Ok(status),
+    }
+}
+
+// What the words ask for. Words that are refused, or ask for no run, are answered.
+pub(crate) fn asked_run<R>(rt: &R, words: &[String]) -> anyhow::Result<Asked>
+where
+    R: AllocGlobal + Print + Eprint,
+{
     let asked = match asked_options(rt.alloc(), words) {
         Ok(asked) => asked,
-        Err(error) => return answer_no_run(&rt, &error),
+        Err(error) => return Ok(Asked::Nothing(answer_no_run(rt, &error)?)),
     };
     let Some(job) = asked.job else {
         let why = "error: --listen takes an address, as 127.0.0.1:8080";
-        return Ok(refuse(&rt, why)?);
+        return Ok(Asked::Nothing(refuse(rt, why)?));
     };
     match asked.table {
-        Ok(table) => do_job(rt, job, table),
-        Err(refusal) => refuse_projections(&rt, refusal),
+        Ok(table) => Ok(Asked::Run(job, table)),
+        Err(refusal) => Ok(Asked::Nothing(refuse_projections(rt, refusal)?)),
     }
 }
 
@@ -143,7 +162,7 @@ where
     R: Copy + Drop + Send + Sync + 'static,
 {
     match job {
-        Job::Lines => Ok(answer_input(&rt, &table)),
+        Job::Lines => Ok(answer_input(&rt, rt.reader(), &table)),
         Job::Listen {
             address,
             connections,
@@ -170,11 +189,25 @@ where
             return Ok(FAULT);
         }
     };
+    serve_at(rt, &listener, connections, table)
+}
+
+// Serves the clients that come to the listener.
+pub(crate) fn serve_at<R>(
+    rt: R,
+    listener: &TcpListener,
+    connections: Option<u64>,
+    table: Table,
+) -> anyhow::Result<u8>
+where
+    R: AllocGlobal + Print + Threads + Wait + Clock,
+    R: Copy + Drop + Send + Sync + 'static,
+{
     let alloc = rt.alloc();
     let (backend, mut host) = Backend::new(alloc, rt);
     let house = Arc::new(alloc, House::new(alloc, backend, table)?)?;
     println!(rt; "listening {}", listener.local_addr()?)?;
-    listen(rt, alloc, &listener, &house, &mut host, connections)?;
+    listen(rt, alloc, listener, &house, &mut host, connections)?;
     Ok(DONE)
 }
 
@@ -214,9 +247,13 @@ where
     Ok(refuse(rt, text.as_str())?)
 }
 
-// Answers standard input.
-fn answer_input<R: AllocGlobal + Input + Print>(rt: &R, table: &Table) -> u8 {
-    let mut reader = WatchedReader::new(rt.reader());
+// Answers the input on standard output, and gives the status.
+pub(crate) fn answer_input<R, I>(rt: &R, input: I, table: &Table) -> u8
+where
+    R: AllocGlobal + Print,
+    I: Read + Drop,
+{
+    let mut reader = WatchedReader::new(input);
     let mut writer = WatchedWriter::new(io::writer(rt));
     match run_lines(rt.alloc(), table, &mut reader, &mut writer) {
         Ok(_) => DONE,

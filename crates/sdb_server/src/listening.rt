@@ -160,7 +160,7 @@ fn configuration() -> WebSocketConfig {
         .write_buffer_size(BUFFER)
 }
 
-fn set_up(stream: &TcpStream) -> io::Result<()> {
+pub(crate) fn set_up(stream: &TcpStream) -> io::Result<()> {
     stream.set_nodelay(true)?;
     stream.set_read_timeout(Some(Duration::from_millis(READ_TIMEOUT)))?;
     stream.set_write_timeout(Some(Duration::from_millis(WRITE_TIMEOUT)))

@@ -3,10 +3,16 @@
 #![tactic(auto)]
 
 mod command;
+#[cfg(test)]
+mod command_tests;
+#[cfg(test)]
+mod crowd_tests;
 mod listening;
 mod projections;
 mod running;
 mod serving;
+#[cfg(test)]
+mod session_tests;
 #[cfg(test)]
 mod socket_tests;
 #[cfg(test)]

@@ -8,13 +8,56 @@ use std::random::RandomSource;
 use std::sync::Arc;
 use std::test::Fail;
 use std::thread;
+use std::time::Duration;
 use tungstenite::handshake::client::request_of;
-use tungstenite::{Message, RandomKeys, WebSocket, client};
+use tungstenite::{CloseCode, Message, RandomKeys, WebSocket, client};
 
-type Client<R> = WebSocket<TcpStream, RandomKeys<R>>;
+pub(crate) type Client<R> = WebSocket<TcpStream, RandomKeys<R>>;
+
+// How long a client waits for a server that says nothing, in seconds. One that is right is never waited
+// for so long.
+const PATIENCE: u64 = 20;
+
+// A client at the address, whose handshake is done.
+fn reach<R>(rt: R, alloc: Global, address: SocketAddr) -> Result<Client<R>, &'static str>
+where
+    R: Net<Stream = TcpStream> + RandomSource + Copy + Drop,
+{
+    let stream = TcpStream::connect(&rt, address).or(Err("no connection"))?;
+    let patience = Some(Duration::from_secs(PATIENCE));
+    stream.set_read_timeout(patience).or(Err("no patience"))?;
+    let request = request_of(alloc, "ws://localhost/").or(Err("no request"))?;
+    match client(alloc, rt, request, stream) {
+        Ok((socket, _)) => Ok(socket),
+        Err(_) => Err("no handshake"),
+    }
+}
+
+// A client at the address, which has read the opening text. None where it is told to come again.
+pub(crate) fn come<R>(
+    rt: R,
+    alloc: Global,
+    address: SocketAddr,
+    opening: &str,
+) -> Result<Option<Client<R>>, &'static str>
+where
+    R: Net<Stream = TcpStream> + RandomSource + Copy + Drop,
+{
+    let mut socket = reach(rt, alloc, address)?;
+    let Ok(message) = socket.read() else {
+        return Err("no message");
+    };
+    if is_text(&message, opening) {
+        return Ok(Some(socket));
+    }
+    if is_close(&message, CloseCode::Again) {
+        return Ok(None);
+    }
+    Err("no opening")
+}
 
 // A client at the address, which has read the opening text.
-fn enter<R>(
+pub(crate) fn enter<R>(
     rt: R,
     alloc: Global,
     address: SocketAddr,
@@ -23,16 +66,26 @@ fn enter<R>(
 where
     R: Net<Stream = TcpStream> + RandomSource + Copy + Drop,
 {
-    let stream = TcpStream::connect(&rt, address).or(Err("no connection"))?;
-    let request = request_of(alloc, "ws://localhost/").or(Err("no request"))?;
-    let Ok((mut socket, _)) = client(alloc, rt, request, stream) else {
-        return Err("no handshake");
-    };
-    expect(&mut socket, opening)?;
-    Ok(socket)
+    come(rt, alloc, address, opening)?.ok_or("sent away")
 }
 
-// Whether the next message is this text.
+// Whether a message is this text.
+fn is_text(message: &Message, wanted: &str) -> bool {
+    match message {
+        Message::Text(text) => text.as_str() == wanted,
+        _ => false,
+    }
+}
+
+// Whether a message is a close with this code.
+fn is_close(message: &Message, wanted: CloseCode) -> bool {
+    match message {
+        Message::Close(Some(frame)) => frame.code == wanted,
+        _ => false,
+    }
+}
+
+// Reads the next message, which has to be this text.
 fn expect<R>(socket: &mut Client<R>, wanted: &str) -> Result<(), &'static str>
 where
     R: RandomSource + Drop,
@@ -40,20 +93,30 @@ where
     let Ok(message) = socket.read() else {
         return Err("no message");
     };
-    match message {
-        Message::Text(text) => {
-            if text.as_str() == wanted {
-                Ok(())
-            } else {
-                Err("another text")
-            }
-        }
-        _ => Err("no text"),
+    if is_text(&message, wanted) {
+        Ok(())
+    } else {
+        Err("another message")
+    }
+}
+
+// Reads the next message, which has to be a close with this code.
+pub(crate) fn expect_close<R>(socket: &mut Client<R>, wanted: CloseCode) -> Result<(), &'static str>
+where
+    R: RandomSource + Drop,
+{
+    let Ok(message) = socket.read() else {
+        return Err("no message");
+    };
+    if is_close(&message, wanted) {
+        Ok(())
+    } else {
+        Err("another message")
     }
 }
 
 // Sends a text, and expects this answer.
-fn ask<R>(
+pub(crate) fn ask<R>(
     alloc: Global,
     socket: &mut Client<R>,
     text: &str,
@@ -82,7 +145,7 @@ where
     expect(&mut follower, FOLLOWED)
 }
 
-const FIRST_OPENING: &str =
+pub(crate) const FIRST_OPENING: &str =
     r#"{"a":"init","id":"s1","protocol":1,"protocolMinor":1,"type":"http://sharejs.org/types/JSONv0"}"#;
 
 const SECOND_OPENING: &str =

@@ -129,7 +129,7 @@ takes_some m n q max (Some r) es (h, others, logs) is =
 -- and nothing where memory is wanting
 takes_none : (m n : Machine) (b : PlainKey) (id max : ℕ) → Acts m b (take_next id max) None n → n ≡ m
 takes_none m n b id max (h, others, logs) =
-    same_machine m n logs (written m.queues n.queues b (m.queues b) others h ∙ queues_kept m.queues b)
+    same_machine m n logs (written m.queues n.queues b (m.queues b) others h.0 ∙ queues_kept m.queues b)
 
 closes_one : (m n : Machine) (q : QueueId) → Acts m q.base (unsubscribe_call q.id) tt n → n ≡ closed_machine (Some q) m
 closes_one m n q (h, logs) = same_machine (closed_machine (Some q) m) n logs h
@@ -214,11 +214,11 @@ module _ {P : Type 0} (machine : P → Machine) where
         → says (read_says e (through t k) k v r) → Marks t e (fetch k v) s p says new q
     fetch_said k None r (inl h, (l, z)) is said =
         wants (fetch k None) refl (same_at l z) is
-        (subst (λ (x : Result PlainFetched Code). says (found_says e (through t k) k x)) h said)
+        (subst (λ (x : Result PlainFetched Code). says (found_says e (through t k) k x)) h.0 said)
     fetch_said k None r (inr h, (l, z)) is said = replies (fetch k None) r h (same_at l z) is said
     fetch_said k (Some v) r (inl h, (l, z)) is said =
         wants (fetch k (Some v)) refl (same_at l z) is
-        (subst (λ (x : Result (List PlainEntry) Code). says (listed_says e (through t k) k x)) h said)
+        (subst (λ (x : Result (List PlainEntry) Code). says (listed_says e (through t k) k x)) h.0 said)
     fetch_said k (Some v) r (inr h, (l, z)) is said = replies (fetch k (Some v)) r h (same_at l z) is said
 
     snapshot_said : (k : PlainKey) (v : Option ℕ) (n : ℕ) (r : Result PlainFetched Code)
@@ -227,7 +227,7 @@ module _ {P : Type 0} (machine : P → Machine) where
         → Marks t e (snapshot k v n) s p says new q
     snapshot_said k v n r (inl h, (l, z)) is said =
         wants (snapshot k v n) refl (same_at l z) is
-        (subst (λ (x : Result PlainFetched Code). says (snapshot_says e (through t k) n x)) h said)
+        (subst (λ (x : Result PlainFetched Code). says (snapshot_says e (through t k) n x)) h.0 said)
     snapshot_said k v n r (inr h, (l, z)) is said = replies (snapshot k v n) r h (same_at l z) is said
 
     -- ---- submissions
@@ -311,7 +311,7 @@ module _ {P : Type 0} (machine : P → Machine) where
     refuses : (k : PlainKey) (v : Option ℕ) (r : Result PlainJoined Code) → Refuses (MachineActs (base_in t k)) v p r q
         → Joined true k v r
     refuses k None r h = inl (h.0 ∙ ap Err (sym (present_code ((machine p).logs (base_in t k)))), pass_same h.1)
-    refuses k (Some v) r (f, ((inl h, (l, z)), is)) = inr (inl (is ∙ ap (λ x. Err (full_code v x)) h, same_at l z))
+    refuses k (Some v) r (f, ((inl h, (l, z)), is)) = inr (inl (is ∙ ap (λ x. Err (full_code v x)) h.0, same_at l z))
     refuses k (Some v) r (f, ((inr h, (l, z)), is)) =
         let log = (machine p).logs (base_in t k) in
         inl (is ∙ ap (λ x. Err (full_code v x)) h ∙ ap Err (sym (code_if (nat_lt (length log) v) v)), same_at l z)

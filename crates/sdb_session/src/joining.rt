@@ -55,7 +55,7 @@ pub(crate) fn take<D: Desk>(
     match desk.take(pass, base, id, max) {
         Ok(Some(entries)) => Ok(entries),
         Ok(None) => Ok(Vec::new(alloc)),
-        Err(AllocError) => Err(AllocError),
+        Err(error) => Err(error),
     }
 }
 
@@ -92,9 +92,9 @@ pub(crate) fn join<D: Desk>(
             close(desk, pass, old);
             Ok(Joined { opened, first })
         }
-        Err(_) => {
+        Err(error) => {
             desk.unsubscribe(pass, base, opened.id);
-            Err(Code::E10)
+            Err(Code::from(error))
         }
     }
 }

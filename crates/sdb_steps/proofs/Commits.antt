@@ -1,15 +1,15 @@
 -- What a commit of the shard is to the attempt.
-use Rattle.std.proofs.Common.{◌≡◌, ℕ, ◌+◌, ◌<◌, length, Bool, true, false, ◌||◌, nat_eq, Option, Some, None, inl, inr, refl, sym, ap, ◌∙◌, arith}
+use Rattle.std.proofs.Common.{◌≡◌, ℕ, ◌+◌, ◌<◌, List, length, Bool, true, false, ◌||◌, nat_eq, Option, Some, None, inl, inr, refl, sym, ap, ◌∙◌, arith}
 use Rattle.std.specs.Option.{is_some}
-use Rattle.std.proofs.lemmas.Bool.{eq-eqb}
+use Rattle.std.proofs.lemmas.Bool.{eq-eqb, eqb-true}
 use Rattle.std.proofs.lemmas.Bool.Decides.{nat_tests}
 use Rattle.sdb_oplog.specs.declared.codes.Code.TheVariants.{E10}
-use Rattle.sdb_oplog.specs.Plain.{PlainSubmission}
+use Rattle.sdb_oplog.specs.Plain.{PlainEntry, PlainSubmission}
 use Rattle.sdb_oplog.specs.Keys.{PlainKey, Logs, with_log}
-use Rattle.sdb_oplog.specs.Decide.{PlainReply, refused, decide}
+use Rattle.sdb_oplog.specs.Decide.{PlainReply, refused, decide, deciding_takes_memory}
 use Rattle.sdb_oplog.specs.Laws.{decides_never_wanting}
 use Rattle.sdb_desk.specs.Keyed.{logs_of, queues_of}
-use Rattle.sdb_desk.specs.Machine.{PlainLook, PlainAttempt, decided, moved, Commits, Decides}
+use Rattle.sdb_desk.specs.Machine.{PlainLook, PlainAttempt, decided, moved, CommittingTakesMemory, Commits, Decides}
 use Rattle.sdb_desk.specs.declared.shard.Shard.{Shard}
 use Rattle.sdb_steps.specs.OneStep as machine
 use Rattle.sdb_steps.specs.OneStep.{OneStep, next}
@@ -39,8 +39,42 @@ wants : (logs new : Logs) (k : PlainKey) (w : PlainAttempt) (r : PlainReply) →
 wants logs new k w r is (inl h) = h.1
 wants logs new k w r is (inr h) = absurd (decides_never_wanting (logs k) w.submission (sym h.1 ∙ is))
 
-pub tries_wanting : (m n : Shard) (k : PlainKey) (w : PlainAttempt) (r : PlainReply) (a o : plain.Attempt) → r ≡ refused E10 → Commits (logs_of m) k w (decided r) (logs_of n) → queues_of n ≡ queues_of m → o ≡ a → Tries (core_of m) a plain.no_memory (core_of n) (Some o)
-tries_wanting m n k w r a o is h q same = (same_core m n (wants (logs_of m) (logs_of n) k w r is h) q, ap Some same)
+or_first : (b c : Bool) → c ≡ false → (b || c) ≡ true → b ≡ true
+or_first true c none h = refl
+or_first false c none h = let never : false ≡ true = sym none ∙ h in cc
+
+takes_if : (log : List PlainEntry) (w : PlainAttempt) → CommittingTakesMemory log w → length log ≡ w.look.version → deciding_takes_memory log w.submission ≡ true
+takes_if log w (inl h) e = absurd (h.0 e)
+takes_if log w (inr h) e = h.1
+
+takes : (logs new : Logs) (k : PlainKey) (w : PlainAttempt) (r : PlainReply) → r ≡ refused E10 → Commits logs k w (decided r) new → length (logs k) ≡ w.look.version → deciding_takes_memory (logs k) w.submission ≡ true
+takes logs new k w r is (inl h) e = takes_if (logs k) w h.2 e
+takes logs new k w r is (inr h) e = absurd (decides_never_wanting (logs k) w.submission (sym h.1 ∙ is))
+
+pub tries_wanting : (m n : Shard) (k : PlainKey) (w : PlainAttempt) (r : PlainReply) (tries : ℕ) (worked : Bool) (o : plain.Attempt) → tries < 8 → r ≡ refused E10 → Commits (logs_of m) k w (decided r) (logs_of n) → queues_of n ≡ queues_of m
+    → o ≡ attempt_of k w tries worked → Tries (core_of m) (attempt_of k w tries worked) plain.no_memory (core_of n) (Some o)
+tries_wanting m n k w r tries worked o few is h q same =
+    let more : nat_eq tries 8 ≡ false = grind (arith, nat_tests) in (
+      same_core m n (wants (logs_of m) (logs_of n) k w r is h) q,
+      ap Some same,
+      (λ d. takes (logs_of m) (logs_of n) k w r is h (eqb-true (length (logs_of m k)) w.look.version (or_first (nat_eq (length (logs_of m k)) w.look.version) (nat_eq tries 8) more d))),
+    )
+
+-- an attempt that wasn't worked, of a log that has moved
+pub unworked_wanting : (m : Shard) (a o : plain.Attempt) → a.tries < 8 → (length (logs_of m a.key) ≡ a.looked → ⊥) → o ≡ a → Tries (core_of m) a plain.no_memory (core_of m) (Some o)
+unworked_wanting m a o few apart same =
+    let more : nat_eq a.tries 8 ≡ false = grind (arith, nat_tests) in (
+      refl,
+      ap Some same,
+      (λ d. absurd (apart (eqb-true (length (logs_of m a.key)) a.looked (or_first (nat_eq (length (logs_of m a.key)) a.looked) (nat_eq a.tries 8) more d)))),
+    )
+
+-- an attempt must decide on the ninth try, and where the log is as long as looked at
+pub last_decides : (m : Shard) (a : plain.Attempt) → a.tries ≡ 8 → plain.decides (core_of m) a ≡ true
+last_decides m a last = let b = nat_eq (length (logs_of m a.key)) a.looked in ap (λ t. b || nat_eq t 8) last ∙ or_true b
+
+pub same_decides : (m : Shard) (a : plain.Attempt) → length (logs_of m a.key) ≡ a.looked → plain.decides (core_of m) a ≡ true
+same_decides m a e = ap (λ b. b || nat_eq a.tries 8) (eq-eqb (length (logs_of m a.key)) a.looked e)
 
 pub tries_decided : (m n : Shard) (k : PlainKey) (w : PlainAttempt) (r : PlainReply) (tries : ℕ) (worked : Bool) → (r ≡ refused E10 → ⊥) → Commits (logs_of m) k w (decided r) (logs_of n) → queues_of n ≡ queues_of m
     → Tries (core_of m) (attempt_of k w tries worked) (plain.replied (machine.decided r)) (core_of n) None
@@ -64,15 +98,13 @@ tries_moved m n k w l tries worked o few h q is =
 
 -- ---- the ninth
 
-pub now_wanting : (m n : Shard) (k : PlainKey) (s : PlainSubmission) (r : PlainReply) (a o : plain.Attempt) → r ≡ refused E10 → Decides (logs_of m) k s r (logs_of n) → queues_of n ≡ queues_of m → o ≡ a → Tries (core_of m) a plain.no_memory (core_of n) (Some o)
-now_wanting m n k s r a o is (inl h) q same = (same_core m n h.1 q, ap Some same)
-now_wanting m n k s r a o is (inr h) q same = absurd (decides_never_wanting (logs_of m k) s (sym h.0 ∙ is))
+pub now_wanting : (m n : Shard) (a : plain.Attempt) (r : PlainReply) → r ≡ refused E10 → Decides (logs_of m) a.key a.submission r (logs_of n) → queues_of n ≡ queues_of m → Tries (core_of m) a plain.no_memory (core_of n) (Some a)
+now_wanting m n a r is (inl h) q = (same_core m n h.1 q, refl, (λ d. h.2))
+now_wanting m n a r is (inr h) q = absurd (decides_never_wanting (logs_of m a.key) a.submission (sym h.0 ∙ is))
 
-pub now_decided : (m n : Shard) (a : plain.Attempt) (r : PlainReply) → a.tries ≡ 8 → (r ≡ refused E10 → ⊥) → Decides (logs_of m) a.key a.submission r (logs_of n) → queues_of n ≡ queues_of m → Tries (core_of m) a (plain.replied (machine.decided r)) (core_of n) None
-now_decided m n a r last enough (inl h) q = absurd (enough h.0)
-now_decided m n a r last enough (inr h) q =
-    let b = nat_eq (length (logs_of m a.key)) a.looked in
-    (ap (λ t. b || nat_eq t 8) last ∙ or_true b, ap machine.decided h.0, stored_core m n a.key a.submission h.1 q, refl)
+pub now_decided : (m n : Shard) (a : plain.Attempt) (r : PlainReply) → plain.decides (core_of m) a ≡ true → (r ≡ refused E10 → ⊥) → Decides (logs_of m) a.key a.submission r (logs_of n) → queues_of n ≡ queues_of m → Tries (core_of m) a (plain.replied (machine.decided r)) (core_of n) None
+now_decided m n a r due enough (inl h) q = absurd (enough h.0)
+now_decided m n a r due enough (inr h) q = (due, ap machine.decided h.0, stored_core m n a.key a.submission h.1 q, refl)
 
 -- ---- options
 

@@ -8,12 +8,13 @@ use Rattle.sdb_oplog.specs.Plain.{PlainEntry, PlainSubmission, PlainContent}
 use Rattle.sdb_oplog.specs.Keys.{PlainKey, same_key}
 use Rattle.sdb_oplog.specs.Snap.{document}
 use Rattle.sdb_oplog.specs.Refused.{result_then}
+use Rattle.sdb_oplog.specs.Decide.{deciding_takes_memory}
 use Rattle.sdb_subscribe.specs.Queue.{PlainQueue, PlainQueues, queue_at, waiting, moved as moved_by}
 use Rattle.sdb_subscribe.specs.Laws.{opened_other, after_take_at, after_take_other, without_other}
 use Rattle.sdb_desk.specs.Held.{with_at}
 use Rattle.sdb_desk.specs.HeldLaws.{kept_at}
 use Rattle.sdb_desk.specs.Laws.{equal_keys, queues_kept}
-use Rattle.sdb_desk.specs.Machine.{Queued, PlainFetched, PlainSubscribed, start_of, opening, subscribing_from, Subscribes, Takes, Reads, snapshot_at, closed, with_queues}
+use Rattle.sdb_desk.specs.Machine.{is_filled, Queued, PlainFetched, PlainSubscribed, start_of, opening, subscribing_from, Subscribes, Takes, Reads, has_version, snapshot_at, closed, with_queues}
 use Rattle.sdb_steps.specs.OneStep as machine
 use Rattle.sdb_steps.specs.OneStep.{OneStep, next, reply, started, one_given}
 use Rattle.sdb_steps.specs.Picks as plain
@@ -182,23 +183,23 @@ refuses log v q w code (inr h) = inr (start_refused (nat_lt (length log) (unwrap
 
 -- ---- the machine
 
-subscribe_wants : (x : Session) (k : PlainKey) (v : Option ℕ) (r : Result ℕ Code) → may_want (subscribes x k v r) ≡ true
-subscribe_wants x k v (Ok start) = refl
-subscribe_wants x k v (Err E1) = refl
-subscribe_wants x k v (Err E2) = refl
-subscribe_wants x k v (Err E3) = refl
-subscribe_wants x k v (Err E4) = refl
-subscribe_wants x k v (Err E5) = refl
-subscribe_wants x k v (Err E6) = refl
-subscribe_wants x k v (Err E7) = refl
-subscribe_wants x k v (Err E8) = refl
-subscribe_wants x k v (Err E9) = refl
-subscribe_wants x k v (Err E10) = refl
-subscribe_wants x k v (Err E11) = refl
+subscribe_wants : (m : OneStep) (x : Session) (k : PlainKey) (v : Option ℕ) (r : Result ℕ Code) → started m k v ≡ r → is_ok r ≡ true → may_want m (subscribes x k v r) ≡ true
+subscribe_wants m x k v (Ok start) e ok = ap is_ok e
+subscribe_wants m x k v (Err code) e ok = cc
+
+code_if : (b c : Bool) (n : ℕ) (code : Code) → result_then (λ (start : ℕ). cond c (Err E11) (Ok start)) (cond b (Err E4) (Ok n)) ≡ Err code → (code ≡ E4) ⊎ (code ≡ E11)
+code_if true c n code h = inl (let e : code ≡ E4 = cc in e)
+code_if false true n code h = inr (let e : code ≡ E11 = cc in e)
+code_if false false n code h = cc
+
+-- a start is refused by one of two codes
+pub started_code : (m : OneStep) (k : PlainKey) (v : Option ℕ) (code : Code) → started m k v ≡ Err code → (code ≡ E4) ⊎ (code ≡ E11)
+started_code m k v code h =
+    code_if (nat_lt (length (m.logs k)) (unwrap_or v (length (m.logs k)))) (nat_eq (m.given k) 18446744073709551615) (unwrap_or v (length (m.logs k))) code h
 
 -- a subscribe that found no memory
-pub subscribe_wanting : (i : ℕ) (m n : OneStep) (x y : Session) (k : PlainKey) (v : Option ℕ) → n ≡ m → y ≡ x → IsTurn i m x (plain.subscribe k v) no_memory n y
-subscribe_wanting i m n x y k v a b = (subscribe_wants x k v (started m k v), a, b)
+pub subscribe_wanting : (i : ℕ) (m n : OneStep) (x y : Session) (k : PlainKey) (v : Option ℕ) (start : ℕ) → started m k v ≡ Ok start → n ≡ m → y ≡ x → IsTurn i m x (plain.subscribe k v) no_memory n y
+subscribe_wanting i m n x y k v start ok a b = (subscribe_wants m x k v (started m k v) refl (ap is_ok ok), a, b)
 
 next_refused : (m : OneStep) (k : PlainKey) (v : Option ℕ) (code : Code) → started m k v ≡ Err code → next m (machine.subscribe k v) ≡ m
 next_refused m k v code e = ap (λ (r : Result ℕ Code). cond (is_ok r) (record { logs = m.logs; given = one_given m.given k }) m) e
@@ -211,7 +212,7 @@ due_turn m n x y k v code e (inr is) a b =
     let D : Code → Type 0 = λ c. started m k v ≡ Err c → Follows m (subscribes x k v (Err c)) (plain_start (Err c)) n y in
     subst D (sym is) (λ f. (refl, a, b)) e
 
-told_turn : (i : ℕ) (m n : OneStep) (x y : Session) (k : PlainKey) (v : Option ℕ) (code : Code) → started m k v ≡ Err code → (code ≡ E4) ⊎ (code ≡ E11) → n ≡ m → y ≡ x → IsTurn i m x (plain.subscribe k v) (told_start code) n y
+pub told_turn : (i : ℕ) (m n : OneStep) (x y : Session) (k : PlainKey) (v : Option ℕ) (code : Code) → started m k v ≡ Err code → (code ≡ E4) ⊎ (code ≡ E11) → n ≡ m → y ≡ x → IsTurn i m x (plain.subscribe k v) (told_start code) n y
 told_turn i m n x y k v code e (inl is) a b =
     let f : started m k v ≡ Err E4 = e ∙ ap Err is in
     subst (λ c. IsTurn i m x (plain.subscribe k v) (told_start c) n y) (sym is) (subst (λ r. Follows m (subscribes x k v r) (plain_start (Err E4)) n y) (sym f) (due_turn m n x y k v E4 f (inl refl) a b))
@@ -219,19 +220,19 @@ told_turn i m n x y k v code e (inr is) a b =
     let f : started m k v ≡ Err E11 = e ∙ ap Err is in
     subst (λ c. IsTurn i m x (plain.subscribe k v) (told_start c) n y) (sym is) (subst (λ r. Follows m (subscribes x k v r) (plain_start (Err E11)) n y) (sym f) (due_turn m n x y k v E11 f (inr refl) a b))
 
-refused_or : (i : ℕ) (m n : OneStep) (q w : PlainQueues) (x y : Session) (k : PlainKey) (v : Option ℕ) (code : Code) → q.next ≡ m.given k → (w ≡ q → (n ≡ m) × (y ≡ x)) → ((code ≡ E10) × (w ≡ q)) ⊎ Refuses (m.logs k) v q code w
+refused_or : (i : ℕ) (m n : OneStep) (q w : PlainQueues) (x y : Session) (k : PlainKey) (v : Option ℕ) (code : Code) (start : ℕ) → started m k v ≡ Ok start → q.next ≡ m.given k → (w ≡ q → (n ≡ m) × (y ≡ x)) → ((code ≡ E10) × (w ≡ q)) ⊎ Refuses (m.logs k) v q code w
     → (w ≡ q) × IsTurn i m x (plain.subscribe k v) (told_start code) n y
-refused_or i m n q w x y k v code given keeps (inl h) =
+refused_or i m n q w x y k v code start ok given keeps (inl h) =
     let same = keeps h.1 in
-    (h.1, subst (λ c. IsTurn i m x (plain.subscribe k v) (told_start c) n y) (sym h.0) (subscribe_wanting i m n x y k v same.0 same.1))
-refused_or i m n q w x y k v code given keeps (inr h) =
+    (h.1, subst (λ c. IsTurn i m x (plain.subscribe k v) (told_start c) n y) (sym h.0) (subscribe_wanting i m n x y k v start ok same.0 same.1))
+refused_or i m n q w x y k v code start ok given keeps (inr h) =
     let same = keeps h.same in
     let e : started m k v ≡ Err code = ap (λ g. result_then (λ start. cond (nat_eq g 18446744073709551615) (Err E11) (Ok start)) (start_of (m.logs k) v)) (sym given) ∙ h.is in
     (h.same, told_turn i m n x y k v code e h.due same.0 same.1)
 
-pub subscribe_refused : (i : ℕ) (m n : OneStep) (q w : PlainQueues) (x y : Session) (k : PlainKey) (v : Option ℕ) (code : Code) → q.next ≡ m.given k → Subscribes (m.logs k) v q (Err code) w → n.logs ≡ m.logs → (w ≡ q → (n ≡ m) × (y ≡ x))
+pub subscribe_refused : (i : ℕ) (m n : OneStep) (q w : PlainQueues) (x y : Session) (k : PlainKey) (v : Option ℕ) (code : Code) (start : ℕ) → started m k v ≡ Ok start → q.next ≡ m.given k → Subscribes (m.logs k) v q (Err code) w → n.logs ≡ m.logs → (w ≡ q → (n ≡ m) × (y ≡ x))
     → (w ≡ q) × IsTurn i m x (plain.subscribe k v) (told_start code) n y
-subscribe_refused i m n q w x y k v code given h logs keeps = refused_or i m n q w x y k v code given keeps (refuses (m.logs k) v q w code h)
+subscribe_refused i m n q w x y k v code start ok given h logs keeps = refused_or i m n q w x y k v code start ok given keeps (refuses (m.logs k) v q w code h)
 
 refused_keeps : (log : List PlainEntry) (v : Option ℕ) (q w : PlainQueues) (code : Code) → ((code ≡ E10) × (w ≡ q)) ⊎ Refuses log v q code w → w ≡ q
 refused_keeps log v q w code (inl h) = h.1
@@ -382,9 +383,9 @@ module _ (q0 q1 : Queued) (l0 l1 : PlainKey → List PlainEntry) (s0 s1 : Slots)
     take_deed : (i max : ℕ) (m : OneStep) → deed m i (seen_by a q0 s0) (plain.take k max) ≡ takes m (seen_by a q0 s0) k max w
     take_deed i max m = ap (λ (o : Option PlainQueue). option_map_or (takes m (seen_by a q0 s0) k max) o (plain.says plain.idle (seen_by a q0 s0))) seen_is
 
-    pub take_wanting : (i max : ℕ) → s1 ≡ s0 → q1 ≡ q0 → IsTurn i (core_at l0 q0) (seen_by a q0 s0) (plain.take k max) no_memory (core_at l1 q1) (seen_by a q1 s1)
-    take_wanting i max e q = (
-      ap may_want (take_deed i max (core_at l0 q0)),
+    pub take_wanting : (i max : ℕ) → is_filled (waiting (l0 k) max w) ≡ true → s1 ≡ s0 → q1 ≡ q0 → IsTurn i (core_at l0 q0) (seen_by a q0 s0) (plain.take k max) no_memory (core_at l1 q1) (seen_by a q1 s1)
+    take_wanting i max some e q = (
+      ap (may_want (core_at l0 q0)) (take_deed i max (core_at l0 q0)) ∙ some,
       core_kept,
       (λ j. record { attempt = a; queues = λ b. queue_seen (q j b) (e j b) }),
     )
@@ -434,9 +435,10 @@ moves_if : (b : Bool) (m n : OneStep) (x : Session) (a : plain.Attempt) (v : pla
 moves_if true m n x a v o is h g e = cc
 moves_if false m n x a v o is h g e = (ap said h, g, ap (plain.with_attempt x) e)
 
-wants_if : (b : Bool) (m : OneStep) (x : Session) (a : plain.Attempt) → may_want (cond b (plain.asks (machine.submission a.key a.submission) (plain.with_attempt x None)) (plain.says plain.moved (plain.with_attempt x (Some (plain.moved_on m a))))) ≡ true
-wants_if true m x a = refl
-wants_if false m x a = refl
+wants_if : (b : Bool) (m : OneStep) (x : Session) (a : plain.Attempt) → (b ≡ true → deciding_takes_memory (m.logs a.key) a.submission ≡ true)
+    → may_want m (cond b (plain.asks (machine.submission a.key a.submission) (plain.with_attempt x None)) (plain.says plain.moved (plain.with_attempt x (Some (plain.moved_on m a))))) ≡ true
+wants_if true m x a h = h refl
+wants_if false m x a h = refl
 
 -- the commit of a session's attempt
 pub commit_turn : (i : ℕ) (m n : OneStep) (x : Session) (a : plain.Attempt) (answer : Answer) (o : Option plain.Attempt) → x.attempt ≡ Some a → Tries m a answer n o → IsTurn i m x plain.commit answer n (plain.with_attempt x o)
@@ -445,18 +447,22 @@ commit_turn i m n x a (replied r) o has h =
 commit_turn i m n x a (said v) o has h =
     subst (λ d. Follows m d (said v) n (plain.with_attempt x o)) (sym (ap (λ p. option_map_or (plain.commits m x) p (plain.says plain.idle x)) has)) (moves_if (plain.decides m a) m n x a v o h.0 h.1 h.2 h.3)
 commit_turn i m n x a no_memory o has h = (
-  ap (λ p. may_want (option_map_or (plain.commits m x) p (plain.says plain.idle x))) has ∙ wants_if (plain.decides m a) m x a,
+  ap (λ p. may_want m (option_map_or (plain.commits m x) p (plain.says plain.idle x))) has ∙ wants_if (plain.decides m a) m x a h.2,
   h.0,
   ap (plain.with_attempt x) (h.1 ∙ sym has),
 )
 
 -- ---- a read that is refused
 
-snapped_or : (i : ℕ) (m n : OneStep) (x y : Session) (k : PlainKey) (v : Option ℕ) (code : Code) → (code ≡ E10 → ⊥) → Reads (Err code) (snapshot_at (m.logs k) v) → n ≡ m → y ≡ x → IsTurn i m x (plain.snapshot k v) (replied (machine.snapped (Err code))) n y
-snapped_or i m n x y k v code other (inl h) a b = absurd (other (let e : code ≡ E10 = cc in e))
+snapped_or : (i : ℕ) (m n : OneStep) (x y : Session) (k : PlainKey) (v : Option ℕ) (code : Code) → (code ≡ E10 → ⊥) → Reads has_version (Err code) (snapshot_at (m.logs k) v) → n ≡ m → y ≡ x → IsTurn i m x (plain.snapshot k v) (replied (machine.snapped (Err code))) n y
+snapped_or i m n x y k v code other (inl h) a b = absurd (other (let x = h.0 in let e : code ≡ E10 = cc in e))
 snapped_or i m n x y k v code other (inr h) a b = (ap (λ r. replied (machine.snapped r)) h, a, b)
 
-pub snapshot_refused : (i : ℕ) (m n : OneStep) (x y : Session) (k : PlainKey) (v : Option ℕ) (code : Code) → Reads (Err code) (snapshot_at (m.logs k) v) → n ≡ m → y ≡ x → IsTurn i m x (plain.snapshot k v) (told_snapshot code) n y
+never_snapped : {A : Type 0} (b : Bool) (f : A) → ◌≡◌ {A = Result A Code} (Err E10) (cond b (Err E4) (Ok f)) → ⊥
+never_snapped true f h = cc
+never_snapped false f h = cc
+
+pub snapshot_refused : (i : ℕ) (m n : OneStep) (x y : Session) (k : PlainKey) (v : Option ℕ) (code : Code) → Reads has_version (Err code) (snapshot_at (m.logs k) v) → n ≡ m → y ≡ x → IsTurn i m x (plain.snapshot k v) (told_snapshot code) n y
 snapshot_refused i m n x y k v E1 h a b = snapped_or i m n x y k v E1 (λ e. cc) h a b
 snapshot_refused i m n x y k v E2 h a b = snapped_or i m n x y k v E2 (λ e. cc) h a b
 snapshot_refused i m n x y k v E3 h a b = snapped_or i m n x y k v E3 (λ e. cc) h a b
@@ -466,11 +472,12 @@ snapshot_refused i m n x y k v E6 h a b = snapped_or i m n x y k v E6 (λ e. cc)
 snapshot_refused i m n x y k v E7 h a b = snapped_or i m n x y k v E7 (λ e. cc) h a b
 snapshot_refused i m n x y k v E8 h a b = snapped_or i m n x y k v E8 (λ e. cc) h a b
 snapshot_refused i m n x y k v E9 h a b = snapped_or i m n x y k v E9 (λ e. cc) h a b
-snapshot_refused i m n x y k v E10 h a b = (refl, a, b)
+snapshot_refused i m n x y k v E10 (inl h) a b = (h.1, a, b)
+snapshot_refused i m n x y k v E10 (inr h) a b = absurd (never_snapped (nat_lt (length (m.logs k)) (unwrap_or v (length (m.logs k)))) _ h)
 snapshot_refused i m n x y k v E11 h a b = snapped_or i m n x y k v E11 (λ e. cc) h a b
 
-pub snapshot_read : (i : ℕ) (m n : OneStep) (x y : Session) (k : PlainKey) (v : Option ℕ) (f : PlainFetched) → Reads (Ok f) (snapshot_at (m.logs k) v) → n ≡ m → y ≡ x → IsTurn i m x (plain.snapshot k v) (replied (machine.snapped (Ok f))) n y
-snapshot_read i m n x y k v f (inl h) a b = cc
+pub snapshot_read : (i : ℕ) (m n : OneStep) (x y : Session) (k : PlainKey) (v : Option ℕ) (f : PlainFetched) → Reads has_version (Ok f) (snapshot_at (m.logs k) v) → n ≡ m → y ≡ x → IsTurn i m x (plain.snapshot k v) (replied (machine.snapped (Ok f))) n y
+snapshot_read i m n x y k v f (inl h) a b = let x = h.0 in cc
 snapshot_read i m n x y k v f (inr h) a b = (ap (λ r. replied (machine.snapped r)) h, a, b)
 
 -- ---- an attempt that is opened
@@ -483,7 +490,7 @@ begin_deed i m x k src seq v content none =
 
 pub begin_turn : (i : ℕ) (m : OneStep) (x : Session) (k : PlainKey) (src : List ℕ) (seq : ℕ) (v : Option ℕ) (content : PlainContent) (answer : Answer) (o : Option plain.Attempt) → x.attempt ≡ None
     → Begins m k (plain.submission_of i k src seq v content) answer o → IsTurn i m x (plain.begin k src seq v content) answer m (plain.with_attempt x o)
-begin_turn i m x k src seq v content no_memory o none h = (ap may_want (begin_deed i m x k src seq v content none), refl, ap (plain.with_attempt x) (h ∙ sym none))
+begin_turn i m x k src seq v content no_memory o none h = (ap (may_want m) (begin_deed i m x k src seq v content none), refl, ap (plain.with_attempt x) (h ∙ sym none))
 begin_turn i m x k src seq v content (said plain.began) o none h =
     subst (λ d. Follows m d (said plain.began) m (plain.with_attempt x o)) (sym (begin_deed i m x k src seq v content none)) (refl, refl, ap (plain.with_attempt x) h)
 begin_turn i m x k src seq v content (said plain.worked) o none h = absurd h
@@ -497,5 +504,5 @@ begin_turn i m x k src seq v content (replied r) o none h = absurd h
 -- with a submission that was made, or for which there was no memory
 pub begins_with : {E : Type 0} (m : OneStep) (k : PlainKey) (s : PlainSubmission) (r : Result PlainSubmission E) (answer : Answer) (o : Option plain.Attempt) → IfOk r (λ u. u ≡ s) → IfOk r (λ u. Begins m k u answer o)
     → OnErr r ((answer ≡ no_memory) × (o ≡ None)) → Begins m k s answer o
-begins_with m k s (Ok u) answer o is h wanting = subst (λ z. Begins m k z answer o) is h
-begins_with m k s (Err e) answer o is h wanting = subst (λ z. Begins m k s z o) (sym wanting.0) wanting.1
+begins_with m k s (Ok u) answer o same h wanting = subst (λ z. Begins m k z answer o) same h
+begins_with m k s (Err e) answer o same h wanting = subst (λ z. Begins m k s z o) (sym wanting.0) wanting.1

@@ -1,11 +1,14 @@
 -- Which steps are events of the one-step machine, and what the others are answered: `Picks`.
 use Rattle.std.specs.Prelude.{◌≡◌, ℕ, ◌+◌, List, [], ◌∷◌, ◌++◌, flat_map, length, if◌then◌else◌, cond, nat_eq, Bool, true, false, ◌||◌, Option, Some, None, Result, Ok, Err}
 use Rattle.std.specs.Option.{option_map_or}
+use Rattle.std.specs.Result.{is_ok, result_ok}
 use Rattle.sdb_oplog.specs.declared.codes.Code.{Code}
 use Rattle.sdb_oplog.specs.declared.codes.Code.TheVariants.{E11}
 use Rattle.sdb_oplog.specs.Plain.{PlainSubmission, PlainContent}
 use Rattle.sdb_oplog.specs.Keys.{PlainKey, same_key}
-use Rattle.sdb_subscribe.specs.Queue.{PlainQueue, moved as moved_by}
+use Rattle.sdb_oplog.specs.Decide.{deciding_takes_memory}
+use Rattle.sdb_subscribe.specs.Queue.{PlainQueue, queue, moved as moved_by}
+use Rattle.sdb_desk.specs.Machine.{fetched, snapshot_at, has_document, has_version, is_filled}
 use Rattle.sdb_steps.specs.OneStep as machine
 use Rattle.sdb_steps.specs.OneStep.{OneStep, Event, Reply, started, after}
 
@@ -161,12 +164,21 @@ deed m n x (forget k) = says forgotten x
 
 -- ---- where memory may be wanting
 
--- an idle step, an unsubscribe and a forget take no memory
-abbrev pub may_want : Deed → Bool
-may_want (says idle x) = false
-may_want (says unsubscribed x) = false
-may_want (says forgotten x) = false
-may_want _ = true
+-- an event where its reply takes memory: not a repeat, E4, E11, a create on a document, a fetch of none, a take of nothing.
+-- Of the others those that copy or keep something
+abbrev pub may_want : OneStep → Deed → Bool
+may_want m (asks (machine.submission k s) x) = deciding_takes_memory (m.logs k) s
+may_want m (asks (machine.fetch k) x) = has_document (fetched (m.logs k))
+may_want m (asks (machine.snapshot k v) x) = option_map_or has_version (result_ok (snapshot_at (m.logs k) v)) false
+may_want m (asks (machine.subscribe k v) x) = is_ok (started m k v)
+may_want m (asks (machine.take_from k from max) x) = is_filled (queue (m.logs k) from max)
+may_want m (says began x) = true
+may_want m (says worked x) = true
+may_want m (says moved x) = true
+may_want m (says idle x) = false
+may_want m (says unsubscribed x) = false
+may_want m (says forgotten x) = false
+may_want m (says full x) = false
 
 -- ---- runs
 
@@ -177,7 +189,8 @@ IsDone (says a y) answer events x = (answer ≡ said a) × (events ≡ []) × (x
 
 -- one step. Where memory is wanting it is no event and leaves all as it was
 abbrev pub PicksOne : OneStep → Sessions → PlainStep → Answer → List Event → Sessions → Type 0
-PicksOne m w s no_memory events v = (may_want (deed m s.session (w s.session) s.act) ≡ true) × (events ≡ []) × (v ≡ w)
+PicksOne m w s no_memory events v =
+    (may_want m (deed m s.session (w s.session) s.act) ≡ true) × (events ≡ []) × (v ≡ w)
 PicksOne m w s answer events v =
     (x : Session) × IsDone (deed m s.session (w s.session) s.act) answer events x × (v ≡ with_session w s.session x)
 

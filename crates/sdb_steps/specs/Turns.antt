@@ -2,6 +2,7 @@
 -- crate's own functions speak of these; the steps of a world are `IsStep`.
 use Rattle.std.specs.Prelude.{◌≡◌, ℕ, true, false, Option, Some, None}
 use Rattle.sdb_oplog.specs.Plain.{PlainSubmission}
+use Rattle.sdb_oplog.specs.Decide.{deciding_takes_memory}
 use Rattle.sdb_oplog.specs.Keys.{PlainKey}
 use Rattle.sdb_steps.specs.OneStep.{OneStep, submission, reply, next}
 use Rattle.sdb_steps.specs.Picks.{Session, Attempt, Act, began, worked, moved, idle, opened, worked_on, moved_on, decides, Answer, Deed, asks, says, replied, said, no_memory, deed, may_want}
@@ -13,7 +14,7 @@ Follows m (says a y) answer n x = (answer ≡ said a) × (n ≡ m) × (x ≡ y)
 
 -- an act of session i, by `Picks` and the machine
 abbrev pub IsTurn : ℕ → OneStep → Session → Act → Answer → OneStep → Session → Type 0
-IsTurn i m x act no_memory n y = (may_want (deed m i x act) ≡ true) × (n ≡ m) × (y ≡ x)
+IsTurn i m x act no_memory n y = (may_want m (deed m i x act) ≡ true) × (n ≡ m) × (y ≡ x)
 IsTurn i m x act answer n y = Follows m (deed m i x act) answer n y
 
 -- an attempt is opened, unless memory was wanting
@@ -29,9 +30,11 @@ Works a (said worked) b = (a.worked ≡ false) × (b ≡ worked_on a)
 Works a (said idle) b = (a.worked ≡ true) × (b ≡ a)
 Works a answer b = ⊥
 
--- a commit of an attempt: it decides, or it finds the log moved, or memory was wanting and nothing has changed
+-- a commit of an attempt: it decides, or it finds the log moved, or memory was wanting and nothing has changed: to
+-- decide, where it must
 abbrev pub Tries : OneStep → Attempt → Answer → OneStep → Option Attempt → Type 0
-Tries m a no_memory n o = (n ≡ m) × (o ≡ Some a)
+Tries m a no_memory n o =
+    (n ≡ m) × (o ≡ Some a) × (decides m a ≡ true → deciding_takes_memory (m.logs a.key) a.submission ≡ true)
 Tries m a (replied r) n o =
     (decides m a ≡ true) × (r ≡ reply m (submission a.key a.submission)) × (n ≡ next m (submission a.key a.submission))
     × (o ≡ None)

@@ -1,11 +1,11 @@
 //! Attempts: a submission that is looked at, worked and committed.
-ghost use Rattle.std.specs.Prelude.{◌≡◌, ◌<◌, ℕ, IfOk, IfErr, IsTrue, IsFalse, option_map, false};
+ghost use Rattle.std.specs.Prelude.{◌≡◌, ◌<◌, ℕ, true, IfOk, IfErr, IsTrue, IsFalse, option_map, false};
 ghost use Rattle.sdb_oplog.specs.Decide.{refused};
 ghost use Rattle.sdb_oplog.specs.declared.codes.Code.TheVariants.{E10};
 ghost use Rattle.sdb_desk.specs.Told.{plain_reply};
 ghost use Rattle.sdb_oplog.specs.Keys.{PlainKey, plain_key};
 ghost use Rattle.sdb_desk.specs.Keyed.{queues_of};
-ghost use Rattle.sdb_steps.specs.Picks.{opened};
+ghost use Rattle.sdb_steps.specs.Picks.{opened, decides};
 ghost use Rattle.sdb_steps.specs.Turns.{Tries, Works};
 ghost use Rattle.sdb_steps.specs.Seen.{core_of, submitted, looked_at, is_worked, plain_trying, trying_at};
 ghost use Rattle.sdb_steps.specs.View.{plain_answer};
@@ -53,13 +53,27 @@ impl Trying {
         let is_worked = is_worked(&stage);
         match worked(alloc, stage) {
             Ok(work) => commit_work(shard, key, work, tries, is_worked),
-            Err(stage) => (StepAnswer::NoMemory, Some(Trying { key, stage, tries })),
+            Err(stage) => Trying { key, stage, tries }.commit_unworked(shard),
         }
+    }
+
+    // A try of an attempt that no memory was found to work: it decides where the log is as long as it was
+    // looked at.
+    fn commit_unworked(self, shard: &mut Shard) -> Committed
+        requires { self.tries < 8 }
+        ensures tries { Tries (core_of shard.old) (plain_trying self) (plain_answer result.0)
+            (core_of shard.new) (option_map plain_trying result.1) }
+        ensures queues { queues_of shard.new ≡ queues_of shard.old }
+    {
+        if shard.version(&self.key) != looked_at(&self.stage) {
+            return (StepAnswer::NoMemory, Some(self));
+        }
+        self.commit_now(shard)
     }
 
     // Decides the attempt, whatever the log has come to.
     fn commit_now(self, shard: &mut Shard) -> Committed
-        requires { self.tries ≡ 8 }
+        requires { decides (core_of shard.old) (plain_trying self) ≡ true }
         ensures tries { Tries (core_of shard.old) (plain_trying self) (plain_answer result.0)
             (core_of shard.new) (option_map plain_trying result.1) }
         ensures queues { queues_of shard.new ≡ queues_of shard.old }
@@ -88,6 +102,17 @@ fn submission_of(stage: &Stage) -> &Submission
         Stage::Looked(attempt) => &attempt.submission,
         Stage::Moved { last, .. } => last.submission(),
         Stage::Worked(work) => work.submission(),
+    }
+}
+
+// The version that was looked at.
+fn looked_at(stage: &Stage) -> u64
+    ensures { result ≡ looked_at stage.now }
+{
+    match stage {
+        Stage::Looked(attempt) => attempt.look.version,
+        Stage::Moved { look, .. } => look.version,
+        Stage::Worked(work) => work.version(),
     }
 }
 

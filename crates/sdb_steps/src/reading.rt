@@ -20,7 +20,7 @@ pub fn read_step(alloc: Global, text: &str) -> Result<Step, Code>
     match value_of(alloc, text) {
         Ok(Some(value)) => step_of(alloc, &value),
         Ok(None) => Err(Code::E1),
-        Err(_) => Err(Code::E10),
+        Err(error) => Err(Code::from(error)),
     }
 }
 

@@ -72,6 +72,9 @@ impl Session {
             (plain_answer result) (core_of shard.new) (plain_session (queues_of shard.new) self.new) }
         ensures leaves { Leaves (queues_of shard.old) (slots_of self.old) (queues_of shard.new) (slots_of self.new) }
     {
+        if let Err(code) = shard.start_of(key, version) {
+            return refused_start(code);
+        }
         let Ok(old) = make_slot(&mut self.slots, key) else {
             return StepAnswer::NoMemory;
         };

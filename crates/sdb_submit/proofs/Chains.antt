@@ -1,5 +1,5 @@
 -- Chains of tries, one try at a time.
-use Rattle.std.proofs.Common.{◌≡◌, ℕ, suc, refl, sym, subst, inl, inr}
+use Rattle.std.proofs.Common.{◌≡◌, ◌≢◌, ℕ, suc, sym, subst, inl, inr}
 use Rattle.sdb_oplog.specs.Plain.{PlainSubmission}
 use Rattle.sdb_oplog.specs.Decide.{PlainReply, refused}
 use Rattle.sdb_oplog.specs.declared.codes.Code.TheVariants.{E10}
@@ -16,16 +16,23 @@ module _ {P : Type 0} (acts : Calls P) (s : PlainSubmission) where
   unfolding Tries
   by_none n l p q r e h = subst (λ (m : ℕ). Tries acts s m l p r q) (sym e) h
 
-  pub by_wanting : (n k : ℕ) (l : PlainLook) (p : P) (r : PlainReply) → n ≡ suc k → r ≡ refused E10 → Left n l p r p
+  pub by_unworked : (n k : ℕ) (l : PlainLook) (p q : P) (r : PlainReply) → n ≡ suc k → acts (commit_now s) p r q → Left n l p r q
   unfolding Tries
-  by_wanting n k l p r e h = subst (λ (m : ℕ). Tries acts s m l p r p) (sym e) (inl (h, refl))
+  by_unworked n k l p q r e h = subst (λ (m : ℕ). Tries acts s m l p r q) (sym e) (inl h)
 
-  pub by_decided : (n k : ℕ) (l : PlainLook) (a : PlainAttempt) (p q : P) (r : PlainReply) → n ≡ suc k → a ≡ record { submission = s; look = l } → acts (commit a) p (decided r) q → Left n l p r q
+  pub by_decided : (n k : ℕ) (l : PlainLook) (a : PlainAttempt) (p q : P) (r : PlainReply) → n ≡ suc k → a ≡ record { submission = s; look = l } → acts (commit a) p (decided r) q → r ≢ refused E10 → Left n l p r q
   unfolding Tries
-  by_decided n k l a p q r e is h =
-      subst (λ (m : ℕ). Tries acts s m l p r q) (sym e) (inr (inl (subst (λ (a : PlainAttempt). acts (commit a) p (decided r) q) is h)))
+  by_decided n k l a p q r e is h isnt =
+      subst (λ (m : ℕ). Tries acts s m l p r q) (sym e) (inr (inl (subst (λ (a : PlainAttempt). acts (commit a) p (decided r) q) is h, isnt)))
+
+  pub by_wanting : (n k : ℕ) (l : PlainLook) (a : PlainAttempt) (p o q : P) (r w : PlainReply) → n ≡ suc k → a ≡ record { submission = s; look = l } → acts (commit a) p (decided w) o → w ≡ refused E10 → acts (commit_now s) o r q → Left n l p r q
+  unfolding Tries
+  by_wanting n k l a p o q r w e is h wants now =
+      let here : acts (commit (record { submission = s; look = l })) p (decided (refused E10)) o =
+      subst (λ (v : PlainReply). acts (commit (record { submission = s; look = l })) p (decided v) o) wants (subst (λ (a : PlainAttempt). acts (commit a) p (decided w) o) is h) in
+      subst (λ (m : ℕ). Tries acts s m l p r q) (sym e) (inr (inr (inl (o, (here, now)))))
 
   pub by_moved : (n k : ℕ) (l m : PlainLook) (a : PlainAttempt) (p o q : P) (r : PlainReply) → n ≡ suc k → a ≡ record { submission = s; look = l } → acts (commit a) p (moved m) o → Left k m o r q → Left n l p r q
   unfolding Tries
   by_moved n k l m a p o q r e is h t =
-      subst (λ (m : ℕ). Tries acts s m l p r q) (sym e) (inr (inr (m, (o, (subst (λ (a : PlainAttempt). acts (commit a) p (moved m) o) is h, t)))))
+      subst (λ (m : ℕ). Tries acts s m l p r q) (sym e) (inr (inr (inr (m, (o, (subst (λ (a : PlainAttempt). acts (commit a) p (moved m) o) is h, t))))))

@@ -1,11 +1,11 @@
 -- The calls of a desk and what they answer, as plain data.
-use Rattle.std.specs.Prelude.{◌≡◌, ℕ, List, Option, Some, None, Result, Ok, Err}
+use Rattle.std.specs.Prelude.{◌≡◌, ℕ, true, List, Option, Some, None, Result, Ok, Err}
 use Rattle.std.specs.declared.alloc.AllocError.{AllocError}
 use Rattle.sdb_oplog.specs.Plain.{PlainEntry, PlainSubmission}
 use Rattle.sdb_oplog.specs.Decide.{PlainReply}
 use Rattle.sdb_oplog.specs.Keys.{PlainKey}
 use Rattle.sdb_oplog.specs.declared.codes.Code.{Code}
-use Rattle.sdb_desk.specs.Machine.{PlainLook, PlainAttempt, PlainOutcome, PlainFetched, PlainSubscribed, Machine, Same, look_at, fetched, operations, snapshot_at, with_queues, closed, Commits, Decides, Reads, Subscribes, Takes}
+use Rattle.sdb_desk.specs.Machine.{PlainLook, PlainAttempt, PlainOutcome, PlainFetched, PlainSubscribed, Machine, Same, look_at, looking_takes_memory, is_filled, has_document, has_version, fetched, operations, snapshot_at, with_queues, closed, Commits, Decides, Reads, Subscribes, Takes}
 use Rattle.sdb_desk.specs.Shown.{plain_look}
 use Rattle.sdb_desk.specs.declared.attempts.Look.{Look}
 
@@ -44,9 +44,9 @@ abbrev pub told_look : Result Look AllocError → Option PlainLook
 told_look (Ok l) = Some (plain_look l)
 told_look (Err e) = None
 
--- a look shows the log as it is, or memory was wanting
+-- a look shows the log as it is, or memory was wanting for what it shows
 abbrev pub Looks : List PlainEntry → PlainSubmission → Option PlainLook → Type 0
-Looks log s None = Unit {0}
+Looks log s None = looking_takes_memory log s ≡ true
 Looks log s (Some l) = l ≡ look_at log s
 
 -- one call of the machine. Only what is decided changes a log, and only a call of queues changes those of its key
@@ -54,9 +54,9 @@ abbrev pub Acts : Machine → PlainKey → (c : PlainCall) → AnswerTo c → Ma
 Acts m k (look s) o new = Looks (m.logs k) s o × Same m new
 Acts m k (commit a) o new = Commits m.logs k a o new.logs × (new.queues ≡ m.queues)
 Acts m k (commit_now s) r new = Decides m.logs k s r new.logs × (new.queues ≡ m.queues)
-Acts m k fetch r new = Reads r (Ok (fetched (m.logs k))) × Same m new
-Acts m k (ops_from v) r new = Reads r (operations (m.logs k) v) × Same m new
-Acts m k (snapshot v) r new = Reads r (snapshot_at (m.logs k) v) × Same m new
+Acts m k fetch r new = Reads has_document r (Ok (fetched (m.logs k))) × Same m new
+Acts m k (ops_from v) r new = Reads is_filled r (operations (m.logs k) v) × Same m new
+Acts m k (snapshot v) r new = Reads has_version r (snapshot_at (m.logs k) v) × Same m new
 Acts m k forget u new = Same m new
 Acts m k (subscribe v) r new =
     Subscribes (m.logs k) v (m.queues k) r (new.queues k) × (new.queues ≡ with_queues m.queues k (new.queues k))

@@ -1,5 +1,5 @@
 -- What a submission does at a desk: a chain of calls of that desk.
-use Rattle.std.specs.Prelude.{◌≡◌, ℕ, zero, suc, ◌⊎◌, Some, None}
+use Rattle.std.specs.Prelude.{◌≢◌, ℕ, zero, suc, ◌⊎◌, Some, None}
 use Rattle.sdb_oplog.specs.Plain.{PlainSubmission}
 use Rattle.sdb_oplog.specs.Decide.{PlainReply, refused}
 use Rattle.sdb_oplog.specs.declared.codes.Code.TheVariants.{E10}
@@ -11,18 +11,20 @@ abbrev pub Calls : Type 0 → Type 1
 Calls P = (c : PlainCall) → P → AnswerTo c → P → Type 0
 
 -- n tries are left, by this look. Each works and commits: the reply is that of the first that decides. A try that finds
--- the log moved goes on by the look that it is answered. With none left the reply is that of `commit_now`. A try that
--- finds no memory to work answers E10
+-- the log moved goes on by the look that it is answered. With none left, and where memory is wanting to work or to
+-- commit, the reply is that of `commit_now`
 unfoldable pub Tries : {P : Type 0} → Calls P → PlainSubmission → ℕ → PlainLook → P → PlainReply → P → Type 0
 Tries acts s zero l p r q = acts (commit_now s) p r q
 Tries acts s (suc n) l p r q =
-    ((r ≡ refused E10) × (q ≡ p))
-    ⊎ (acts (commit (record { submission = s; look = l })) p (decided r) q
+    acts (commit_now s) p r q
+    ⊎ ((acts (commit (record { submission = s; look = l })) p (decided r) q × (r ≢ refused E10))
+    ⊎ (((o : _) × (acts (commit (record { submission = s; look = l })) p (decided (refused E10)) o
+    × acts (commit_now s) o r q))
     ⊎ ((m : PlainLook)
-    × ((o : _) × (acts (commit (record { submission = s; look = l })) p (moved m) o × Tries acts s n m o r q))))
+    × ((o : _) × (acts (commit (record { submission = s; look = l })) p (moved m) o × Tries acts s n m o r q)))))
 
--- a look, and eight tries by it
+-- a look, and eight tries by it; or, where memory is wanting for the look, a commit that decides
 abbrev pub Submits : {P : Type 0} → Calls P → PlainSubmission → P → PlainReply → P → Type 0
 Submits acts s p r q =
-    (acts (look s) p None q × (r ≡ refused E10))
+    ((o : _) × (acts (look s) p None o × acts (commit_now s) o r q))
     ⊎ ((l : PlainLook) × ((o : _) × (acts (look s) p (Some l) o × Tries acts s 8 l o r q)))

@@ -1,7 +1,8 @@
 -- Laws of chains: what each call keeps, and the one step of a submission to the machine.
-use Rattle.std.proofs.Common.{◌≡◌, ℕ, zero, suc, refl, sym, ◌∙◌, subst, inl, inr, ◌⊎◌, Some, None}
+use Rattle.std.proofs.Common.{◌≡◌, ◌≢◌, ℕ, zero, suc, sym, ◌∙◌, subst, inl, inr, ◌⊎◌, Some, None}
 use Rattle.sdb_oplog.specs.Plain.{PlainSubmission}
 use Rattle.sdb_oplog.specs.Decide.{PlainReply, refused}
+use Rattle.sdb_oplog.specs.Laws.{decides_never_wanting}
 use Rattle.sdb_oplog.specs.Keys.{PlainKey}
 use Rattle.sdb_oplog.specs.declared.codes.Code.TheVariants.{E10}
 use Rattle.sdb_desk.specs.Machine.{PlainLook, decided, moved, Machine, Commits, Decides}
@@ -13,28 +14,31 @@ use Rattle.sdb_submit.specs.Chain.{Calls, Tries, Submits}
 module _ {P : Type 0} (acts : Calls P) (s : PlainSubmission) (D : P → PlainReply → P → Type 0) where
   -- D is what a caller wants to know of a submission: of the pass before, the reply and the pass after
   pub record IsKept : Type 0 where
-    pub wanted : (p : P) → D p (refused E10) p
-    pub unseen : (p q : P) → acts (look s) p None q → D p (refused E10) q
+    pub unseen : (p o q : P) (r : PlainReply) → acts (look s) p None o → D o r q → D p r q
     pub seen : (p o q : P) (l : PlainLook) (r : PlainReply) → acts (look s) p (Some l) o → D o r q → D p r q
     pub moves : (p o q : P) (l m : PlainLook) (r : PlainReply)
         → acts (commit (record { submission = s; look = l })) p (moved m) o → D o r q → D p r q
+    pub wanting : (p o q : P) (l : PlainLook) (r : PlainReply)
+        → acts (commit (record { submission = s; look = l })) p (decided (refused E10)) o → D o r q → D p r q
     pub at_once : (p q : P) (l : PlainLook) (r : PlainReply)
-        → acts (commit (record { submission = s; look = l })) p (decided r) q → D p r q
+        → acts (commit (record { submission = s; look = l })) p (decided r) q → r ≢ refused E10 → D p r q
     pub at_last : (p q : P) (r : PlainReply) → acts (commit_now s) p r q → D p r q
 
   abbrev One : ℕ → PlainLook → P → PlainReply → P → Type 0
   One n l p r q =
-      ((r ≡ refused E10) × (q ≡ p))
-      ⊎ (acts (commit (record { submission = s; look = l })) p (decided r) q
+      acts (commit_now s) p r q
+      ⊎ ((acts (commit (record { submission = s; look = l })) p (decided r) q × (r ≢ refused E10))
+      ⊎ (((o : P) × (acts (commit (record { submission = s; look = l })) p (decided (refused E10)) o
+      × acts (commit_now s) o r q))
       ⊎ ((m : PlainLook)
-      × ((o : P) × (acts (commit (record { submission = s; look = l })) p (moved m) o × Tries acts s n m o r q))))
+      × ((o : P) × (acts (commit (record { submission = s; look = l })) p (moved m) o × Tries acts s n m o r q)))))
 
   one_kept : (k : IsKept) (n : ℕ) (l : PlainLook) (p : P) (r : PlainReply) (q : P)
       → ((m : PlainLook) (o : P) → Tries acts s n m o r q → D o r q) → One n l p r q → D p r q
-  one_kept k n l p r q below (inl h) =
-      subst (λ x. D p x q) (sym h.0) (subst (λ y. D p (refused E10) y) (sym h.1) (k.wanted p))
-  one_kept k n l p r q below (inr (inl h)) = k.at_once p q l r h
-  one_kept k n l p r q below (inr (inr h)) = k.moves p h.1.0 q l h.0 r h.1.1.0 (below h.0 h.1.0 h.1.1.1)
+  one_kept k n l p r q below (inl h) = k.at_last p q r h
+  one_kept k n l p r q below (inr (inl h)) = k.at_once p q l r h.0 h.1
+  one_kept k n l p r q below (inr (inr (inl h))) = k.wanting p h.0 q l r h.1.0 (k.at_last h.0 q r h.1.1)
+  one_kept k n l p r q below (inr (inr (inr h))) = k.moves p h.1.0 q l h.0 r h.1.1.0 (below h.0 h.1.0 h.1.1.1)
 
   tries_kept : (k : IsKept) (n : ℕ) (l : PlainLook) (p : P) (r : PlainReply) (q : P) → Tries acts s n l p r q → D p r q
   unfolding Tries
@@ -42,7 +46,7 @@ module _ {P : Type 0} (acts : Calls P) (s : PlainSubmission) (D : P → PlainRep
   tries_kept k (suc n) l p r q h = one_kept k n l p r q (λ m o t. tries_kept k n m o r q t) h
 
   pub submits_kept : (k : IsKept) (p : P) (r : PlainReply) (q : P) → Submits acts s p r q → D p r q
-  submits_kept k p r q (inl h) = subst (λ x. D p x q) (sym h.1) (k.unseen p q h.0)
+  submits_kept k p r q (inl h) = k.unseen p h.0 q r h.1.0 (k.at_last h.0 q r h.1.1)
   submits_kept k p r q (inr h) = k.seen p h.1.0 q h.0 r h.1.1.0 (tries_kept k 8 h.0 h.1.0 r q h.1.1.1)
 
 -- ---- a submission to the machine
@@ -60,19 +64,25 @@ module _ {P : Type 0} (machine : P → Machine) (k : PlainKey) (s : PlainSubmiss
       → InOneStep o r q → InOneStep p r q
   later p o q r logs queues h = (subst (λ l. Decides l k s r (machine q).logs) logs h.0, h.1 ∙ queues)
 
-  at_commit : (p q : P) (l : PlainLook) (r : PlainReply)
+  at_commit : (p q : P) (l : PlainLook) (r : PlainReply) → r ≢ refused E10
       → Commits (machine p).logs k (record { submission = s; look = l }) (decided r) (machine q).logs
       → Decides (machine p).logs k s r (machine q).logs
-  at_commit p q l r (inl h) = inl h
-  at_commit p q l r (inr h) = inr (h.1, h.2)
+  at_commit p q l r isnt (inl h) = absurd (isnt h.0)
+  at_commit p q l r isnt (inr h) = inr (h.1, h.2)
+
+  unchanged : (p o : P) (l : PlainLook)
+      → Commits (machine p).logs k (record { submission = s; look = l }) (decided (refused E10)) (machine o).logs
+      → (machine o).logs ≡ (machine p).logs
+  unchanged p o l (inl h) = h.1
+  unchanged p o l (inr h) = absurd (decides_never_wanting ((machine p).logs k) s (sym h.1))
 
   one_step_kept : IsKept OfMachine s InOneStep
   one_step_kept = record {
-    wanted = λ p. (inl (refl, refl), refl);
-    unseen = λ p q h. (inl (refl, h.1.0), h.1.1);
+    unseen = λ p o q r h d. later p o q r h.1.0 h.1.1 d;
     seen = λ p o q l r h d. later p o q r h.1.0 h.1.1 d;
     moves = λ p o q l m r h d. later p o q r h.0.2 h.1 d;
-    at_once = λ p q l r h. (at_commit p q l r h.0, h.1);
+    wanting = λ p o q l r h d. later p o q r (unchanged p o l h.0) h.1 d;
+    at_once = λ p q l r h isnt. (at_commit p q l r isnt h.0, h.1);
     at_last = λ p q r h. h;
   }
 

@@ -7,6 +7,6 @@ mod submitting;
 mod working;
 
 pub use desk::{Desk, Gate, NoGate};
-pub use solo::{Solo, submit_solo};
+pub use solo::Solo;
 pub use submitting::submit;
 pub use working::{work, work_on};

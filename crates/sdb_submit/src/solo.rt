@@ -1,17 +1,14 @@
 //! A desk for one caller, who holds the documents.
-ghost use Rattle.std.specs.Prelude.{◌≡◌, ⊤};
+ghost use Rattle.std.specs.Prelude.{◌≡◌, ℕ, [], ⊤};
 ghost use Rattle.sdb_oplog.specs.Keys.{plain_key};
-ghost use Rattle.sdb_desk.specs.Keyed.{logs_of, queues_of, machine_of};
-ghost use Rattle.sdb_desk.specs.Machine.{Decides};
-ghost use Rattle.sdb_desk.specs.Told.{plain_reply};
-ghost use Rattle.sdb_submit.specs.Calls.{Acts};
+ghost use Rattle.sdb_desk.specs.Keyed.{machine_of, kept_of, with_kept};
+ghost use Rattle.sdb_submit.specs.Calls.{Acts, forget};
 
-use crate::desk::{Desk, Gate};
-use crate::submitting::submit;
+use crate::desk::Desk;
 use sdb_desk::{Fetched, Look, Outcome, Reply, Shard, Subscribed, Work};
 use sdb_oplog::{Code, Entry, Key, Submission};
 use sdb_subscribe::SubId;
-use std::alloc::{AllocError, Global};
+use std::alloc::AllocError;
 
 /// A desk whose pass is the shard itself. The number of the pass is 0, and no call waits.
 #[derive(Clone, Copy, Drop)]
@@ -60,7 +57,12 @@ impl Desk for Solo {
         pass.snapshot_at(key, version)
     }
 
-    fn forget(&self, pass: &mut Shard, key: &Key) {
+    fn forget(&self, pass: &mut Shard, key: &Key)
+        ensures takes { ⊤ }
+        ensures number { ◌≡◌ {A = ℕ} 0 0 }
+        ensures acts { Acts (machine_of pass.old) (plain_key key.now) forget tt (machine_of pass.new) }
+        ensures kept { kept_of pass.new ≡ with_kept (kept_of pass.old) (plain_key key.now) [] }
+    {
         pass.forget(key)
     }
 
@@ -90,21 +92,4 @@ impl Desk for Solo {
     fn by(&self, _pass: &Shard) -> u64 {
         0
     }
-}
-
-/// Submits to a shard: the submission is decided in one step, or answered E10 and nothing has changed.
-/// The queues stay as they are.
-pub fn submit_solo<G: Gate>(
-    alloc: Global,
-    shard: &mut Shard,
-    key: &Key,
-    submission: &Submission,
-    gate: &G,
-) -> Reply
-    requires { submission.now.by ≡ 0 }
-    ensures decides { Decides (logs_of shard.old) (plain_key key.now) submission.now (plain_reply result)
-        (logs_of shard.new) }
-    ensures queues { queues_of shard.new ≡ queues_of shard.old }
-{
-    submit(alloc, &Solo, shard, key, submission, gate)
 }

@@ -1,5 +1,7 @@
 //! Submissions.
-ghost use Rattle.std.specs.Prelude.{◌≡◌};
+ghost use Rattle.std.specs.Prelude.{◌≡◌, IsTrue, IsFalse};
+ghost use Rattle.sdb_oplog.specs.Decide.{refused};
+ghost use Rattle.sdb_oplog.specs.declared.codes.Code.TheVariants.{E10};
 ghost use Rattle.sdb_oplog.specs.Keys.{plain_key};
 ghost use Rattle.sdb_desk.specs.Told.{plain_reply};
 ghost use Rattle.sdb_submit.specs.Chain.{Submits};
@@ -13,8 +15,9 @@ use std::alloc::Global;
 /// Submits: a look, then up to eight tries of work and commit, and at last a commit that decides. A try
 /// that found the log moved goes on from there. Refusals and repeats are decided at a commit too.
 ///
-/// The reply is that of the call that decided. E10 is want of memory, wherever it was found: nothing has
-/// changed.
+/// The reply is that of the call that decided. Where memory is wanting for a look, for work or for a
+/// commit, a commit decides at once, which answers E10 only where a decision takes memory itself: nothing
+/// has changed then.
 pub fn submit<D: Desk, G: Gate>(
     alloc: Global,
     desk: &D,
@@ -31,16 +34,21 @@ pub fn submit<D: Desk, G: Gate>(
         Submits (D.acts desk.now k) submission.now pass.old (plain_reply result) pass.new }
 {
     let Ok(mut look) = desk.look(pass, key, submission) else {
-        return Reply::Refused(Code::E10);
+        return desk.commit_now(pass, key, submission);
     };
     let mut last = None;
     for try_no in 1..=8 {
         let Some(mut worked) = next_work(alloc, submission, last, look) else {
-            return Reply::Refused(Code::E10);
+            return desk.commit_now(pass, key, submission);
         };
         gate.before_commit(try_no);
         match desk.commit(pass, key, &mut worked) {
-            Outcome::Decided(reply) => return reply,
+            Outcome::Decided(reply) => {
+                if is_wanting(&reply) {
+                    return desk.commit_now(pass, key, submission);
+                }
+                return reply;
+            }
             Outcome::Moved(fresh) => {
                 look = fresh;
                 last = Some(worked);
@@ -48,4 +56,12 @@ pub fn submit<D: Desk, G: Gate>(
         }
     }
     desk.commit_now(pass, key, submission)
+}
+
+// Whether memory was wanting.
+fn is_wanting(reply: &Reply) -> bool
+    ensures wanting { IsTrue result → plain_reply reply.now ≡ refused E10 }
+    ensures other { IsFalse result → plain_reply reply.now ≡ refused E10 → ⊥ }
+{
+    matches!(reply, Reply::Refused(Code::E10))
 }

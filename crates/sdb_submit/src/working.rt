@@ -1,6 +1,6 @@
 //! The work on an attempt: its content, carried along the entries that it missed.
-ghost use Rattle.std.specs.Prelude.{◌≡◌, ◌≤◌, IfOk, IfErr, IfSome, IsTrue, length, take, drop};
-ghost use Rattle.sdb_oplog.specs.Over.{over_all};
+ghost use Rattle.std.specs.Prelude.{◌≡◌, ◌≤◌, true, IfOk, IfErr, OnErr, IfSome, IsTrue, IsFalse, length, take, drop};
+ghost use Rattle.sdb_oplog.specs.Over.{over_all, carrying_takes_memory};
 ghost use Rattle.sdb_oplog.specs.Refused.{result_then};
 ghost use Rattle.sdb_desk.specs.Shown.{plain_attempt, plain_look, content_or};
 
@@ -9,10 +9,12 @@ use sdb_oplog::{Code, Content, Entry, Submission, over_all, same_entries};
 use std::alloc::Global;
 
 /// Works an attempt: it takes no lock and waits for nobody. The attempt is handed back, as it was, for
-/// want of memory alone.
+/// want of memory alone, where an edit was to be carried over an edit.
 pub fn work(alloc: Global, attempt: Attempt) -> Result<Work, Attempt>
     ensures ok { IfOk result (λ w. w ≡ plain_attempt attempt) }
     ensures err { IfErr result (λ a. plain_attempt a ≡ plain_attempt attempt) }
+    ensures memory { OnErr result
+        (carrying_takes_memory attempt.submission.content attempt.look.missed.items ≡ true) }
 {
     Work::of(alloc, attempt)
 }
@@ -68,6 +70,7 @@ pub fn work_on(alloc: Global, last: Work, look: Look) -> Result<Work, Attempt>
 fn is_front(first: &[Entry], all: &[Entry]) -> bool
     ensures long { IsTrue result → length first.now ≤ length all.now }
     ensures same { IsTrue result → first.now ≡ take (length first.now) all.now }
+    ensures other { IsFalse result → first.now ≡ take (length first.now) all.now → ⊥ }
 {
     first.len() <= all.len() && same_entries(first, &all[..first.len()])
 }

@@ -1,5 +1,5 @@
 -- The entries of the map of queues.
-use Rattle.std.proofs.Common.{◌≡◌, ℕ, ◌+◌, ◌⊎◌, inl, inr, Bool, true, false, cond, List, [], ◌∷◌, ◌++◌, Some, Result, Ok, Err, OnOk, nat_eq, Less, Equal, Greater, refl, sym, ap, ◌∙◌, subst, arith}
+use Rattle.std.proofs.Common.{◌≡◌, ℕ, ◌+◌, ◌⊎◌, inl, inr, Bool, true, false, cond, List, [], ◌∷◌, ◌++◌, Some, nat_eq, Less, Equal, Greater, refl, sym, ap, ◌∙◌, subst, arith}
 use Rattle.std.specs.declared.cmp.Ordering.{Ordering}
 use Rattle.std.specs.Ordering.{nat_cmp, is_eq, match_ordering}
 use Rattle.std.specs.Cmp.{nat_cmp_is}
@@ -9,7 +9,6 @@ use Rattle.std.specs.List.Sorted.{IsStrictlySortedBy}
 use Rattle.std.proofs.lemmas.Map.Keys.{IsDistinct-from_sorted}
 use Rattle.std.proofs.lemmas.Bool.{eqb-true}
 use Rattle.std.proofs.lemmas.Bool.Decides.{eqb_tells}
-use Rattle.std.specs.Result.{is_err}
 use Rattle.std.specs.BTreeMap.{is_at, insert_entry}
 use Rattle.std.specs.Map.{lookup, remove_entry, set_value}
 use Rattle.sdb_subscribe.specs.Queue.{PlainQueue, queue_at, with_queue, without, numbers, AreGiven}
@@ -83,12 +82,6 @@ same_numbers n w (e ∷ es) = elim (nat_eq n e.0) as (λ b. numbers (cond b ((e.
   | true ↦ refl
   | false ↦ ap (λ l. e.0 ∷ l) (same_numbers n w es)
 ]
-
--- ---- what is known where a queue is opened
-
-pub when_ok : {A F P : Type 0} (r : Result A F) → false ≡ is_err r → OnOk r P → P
-when_ok (Ok x) h p = p
-when_ok (Err e) h p = cc
 
 other_or : {A : Type 0} (b : Bool) (n k : ℕ) (x y : A) → nat_eq n k ≡ b → (n ≡ k → ⊥) → cond b x y ≡ y
 other_or true n k x y is h = absurd (h (eqb-true n k is))

@@ -92,8 +92,9 @@ impl Queues {
         if number == u64::MAX {
             return Err(Code::E11);
         }
-        if self.queues.insert(number, Queue::new(from)).is_err() {
-            return Err(Code::E10);
+        match self.queues.insert(number, Queue::new(from)) {
+            Ok(_) => {}
+            Err(error) => return Err(Code::from(AllocError::from(error))),
         }
         self.next = number + 1;
         Ok(SubId { number })

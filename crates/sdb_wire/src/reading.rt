@@ -28,9 +28,9 @@ pub fn read_message(alloc: Global, text: &str) -> Result<Request, Bad>
             echo: no_echo(),
             code: Code::E1,
         }),
-        Err(_) => Err(Bad {
+        Err(error) => Err(Bad {
             echo: no_echo(),
-            code: Code::E10,
+            code: Code::from(error),
         }),
     }
 }
@@ -112,9 +112,9 @@ fn read_value(alloc: Global, value: &Value) -> Result<Request, Bad>
         Ok(request) => Ok(request),
         Err(code) => match said(alloc, value) {
             Ok(echo) => Err(Bad { echo, code }),
-            Err(_) => Err(Bad {
+            Err(error) => Err(Bad {
                 echo: no_echo(),
-                code: Code::E10,
+                code: Code::from(error),
             }),
         },
     }

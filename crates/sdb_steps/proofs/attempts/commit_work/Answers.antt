@@ -1,6 +1,6 @@
-use Rattle.std.proofs.Common.{◌+◌, false, refl, ap, ◌∙◌}
+use Rattle.std.proofs.Common.{◌+◌, false, refl, ap, ◌∙◌, subst}
 use Rattle.sdb_oplog.specs.Keys.{plain_key}
-use Rattle.sdb_desk.specs.Machine.{PlainAttempt}
+use Rattle.sdb_desk.specs.Machine.{PlainAttempt, decided, Keeps}
 use Rattle.sdb_desk.specs.Told.{plain_reply}
 use Rattle.sdb_desk.specs.Shown.{plain_look}
 use Rattle.sdb_steps.specs.Picks as plain
@@ -12,8 +12,8 @@ returns-then-is_wanting-clause-tries c =
     let k = plain_key c.args.key in
     let said = c.in-Decided.ensures in
     let wanting = c.if-is_wanting.ensures.wanting refl in
-    tries_wanting c.args.shard.now c.commit.new.self k c.args.work (plain_reply c.in-Decided.reply) (attempt_of k c.args.work c.args.tries c.args.is_worked) _ wanting said.commits said.queues
-    (c.put_back-stage.ensures k c.args.tries ∙ ap (λ (w : PlainAttempt). attempt_of k w c.args.tries c.args.is_worked) (said.keeps wanting))
+    tries_wanting c.args.shard.now c.commit.new.self k c.args.work (plain_reply c.in-Decided.reply) c.args.tries c.args.is_worked _ c.requires wanting said.commits said.queues
+    (c.put_back-stage.ensures k c.args.tries ∙ ap (λ (w : PlainAttempt). attempt_of k w c.args.tries c.args.is_worked) (subst (λ r. Keeps (decided r) c.args.work c.commit.new.work) wanting said.keeps))
 
 pub returns-else-is_wanting-clause-tries : goal.returns-else-is_wanting-clause-tries
 returns-else-is_wanting-clause-tries c =

@@ -1,4 +1,4 @@
-use Rattle.std.proofs.Common.{◌≤◌, length, take, Some, sym, ap, ◌∙◌, subst}
+use Rattle.std.proofs.Common.{◌≤◌, length, take, Some, option_map, sym, ap, ◌∙◌, subst}
 use Rattle.sdb_value.specs.View.{view}
 use Rattle.sdb_oplog.specs.Snap.{snap}
 use Rattle.sdb_snapcache.specs.Snaps.{IsSnapOf}
@@ -9,8 +9,8 @@ pub invariant_of-self : goal.invariant_of-self
 invariant_of-self c =
     let log = c.self.inside.log in
     let v = c.args.version in
-    let is : IsSnapOf log (record { version = v; value = view c.in-Ok.copy }) = record {
-      within = subst (λ l. v ≤ length l) (sym c.self.view_is) c.requires.reached;
-      is = ap (λ l. snap (take v l)) c.self.view_is ∙ c.requires.snap ∙ ap (λ d. Some (Some d)) (sym c.in-Ok.ensures);
+    let is : IsSnapOf log (record { version = v; value = view c.in-Ok-Some.copy }) = record {
+      within = subst (λ d. v ≤ length d.log) (sym c.self.view_is) c.requires.reached;
+      is = ap (λ d. snap (take v d.log)) c.self.view_is ∙ c.requires.snap ∙ ap Some (sym c.in-Ok-Some.ensures.copy ∙ ap (option_map view) c.in-Ok-Some.field-0-is);
     } in
-    with_kept log c.self.inside.present c.self.inside.cache _ (offered_or log v (view c.in-Ok.copy) c.self.inside.cache _ c.offer.result is c.self.invariant.snaps c.offer.ensures.ok c.offer.ensures.err) c.self.invariant
+    with_kept log c.self.inside.present c.self.inside.cache _ (offered_or log v (view c.in-Ok-Some.copy) c.self.inside.cache _ c.offer.result is c.self.invariant.snaps c.offer.ensures.ok c.offer.ensures.err) c.self.invariant

@@ -1,10 +1,10 @@
-use Rattle.std.proofs.Common.{[], ap, ◌∙◌}
-use Rattle.sdb_oplog.specs.Keys.{with_log}
-use Rattle.sdb_desk.specs.Held.{held}
+use Rattle.std.proofs.Common.{ap, ◌∙◌}
+use Rattle.sdb_desk.specs.Documents.{no_document}
+use Rattle.sdb_desk.specs.Held.{held, with_at}
 use Rattle.sdb_desk.specs.HeldLaws.{inserted}
 use Rattle.sdb_desk.proofs.shard.Shard.keep.Goals as goal
 
 pub returns-clause-ok : goal.returns-clause-ok
 returns-clause-ok c =
     let es = c.args.self.now.by_key.entries in
-    inserted [] es _ c.in_ok-try_clone.field-0 c.args.document c.in_ok-insert.ensures.entries ∙ ap (λ k. with_log (held [] es) k c.args.document) c.in_ok-try_clone.ensures
+    inserted no_document es _ c.in_ok-try_clone.field-0 c.args.document c.in_ok-insert.ensures.entries ∙ ap (λ k. with_at (held no_document es) k c.args.document) c.in_ok-try_clone.ensures

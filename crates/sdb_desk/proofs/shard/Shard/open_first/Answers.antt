@@ -1,23 +1,25 @@
-use Rattle.std.proofs.Common.{refl, ap, ◌∙◌}
+use Rattle.std.proofs.Common.{Ok, refl, sym, ap, ◌∙◌}
 use Rattle.sdb_oplog.specs.Keys.{plain_key}
-use Rattle.sdb_desk.specs.Held.{held, with_at}
+use Rattle.sdb_subscribe.specs.Queue.{opened, queue_at}
+use Rattle.sdb_desk.specs.HeldLaws.{same_at, others_at, wrote_at}
 use Rattle.sdb_desk.specs.Keyed.{queues_of}
-use Rattle.sdb_desk.specs.Machine.{no_queues}
-use Rattle.sdb_desk.specs.HeldLaws.{same_at, others_at, inserted}
 use Rattle.sdb_desk.proofs.shard.Shard.open_first.Goals as goal
 
 pub returns-in_err-id-clause-others : goal.returns-in_err-id-clause-others
 returns-in_err-id-clause-others c = same_at (queues_of c.args.self.now) _ (plain_key c.args.key.now) refl
 
-pub returns-in_err-key-clause-others : goal.returns-in_err-key-clause-others
-returns-in_err-key-clause-others c = same_at (queues_of c.args.self.now) _ (plain_key c.args.key.now) refl
-
-pub returns-in-Ok-clause-others : goal.returns-in-Ok-clause-others
-returns-in-Ok-clause-others c =
-    let es = c.args.self.now.queues.entries in
-    let w = c.open.new.self in
-    others_at (queues_of c.args.self.now) (held no_queues c.insert.new.self.entries) (plain_key c.args.key.now) w
-    (inserted no_queues es _ c.in_ok-key.key w c.in-Ok.ensures.entries ∙ ap (λ k. with_at (held no_queues es) k w) c.in_ok-key.ensures)
+pub returns-in_err-keep_queues-clause-others : goal.returns-in_err-keep_queues-clause-others
+returns-in_err-keep_queues-clause-others c = same_at (queues_of c.args.self.now) (queues_of c.keep_queues.new.self) (plain_key c.args.key.now) c.in_err-keep_queues.ensures.err
 
 pub returns-clause-others : goal.returns-clause-others
-returns-clause-others c = same_at (queues_of c.args.self.now) (held no_queues c.insert.new.self.entries) (plain_key c.args.key.now) (ap (held no_queues) c.in-Err.ensures.err)
+returns-clause-others c = others_at (queues_of c.args.self.now) (queues_of c.keep_queues.new.self) (plain_key c.args.key.now) c.open.new.self c.in_ok-keep_queues.ensures.ok
+
+pub returns-clause-opened : goal.returns-clause-opened
+returns-clause-opened c =
+    let there = wrote_at (queues_of c.args.self.now) (queues_of c.keep_queues.new.self) (plain_key c.args.key.now) c.open.new.self c.in_ok-keep_queues.ensures.ok in
+    ap (opened c.args.start) (sym c.new-queues.ensures) ∙ c.in_ok-id.ensures.ok ∙ ap Ok (sym there)
+
+pub returns-clause-open : goal.returns-clause-open
+returns-clause-open c =
+    let there = wrote_at (queues_of c.args.self.now) (queues_of c.keep_queues.new.self) (plain_key c.args.key.now) c.open.new.self c.in_ok-keep_queues.ensures.ok in
+    ap (λ q. queue_at c.in_ok-id.id q.queues) there ∙ c.in_ok-id.ensures.open

@@ -2,6 +2,7 @@ use Rattle.std.proofs.Common.{Some, sym, ap, ◌∙◌, arith, string_bytes}
 use Rattle.std.specs.HashMap.{get_by_text}
 use Rattle.std.proofs.lemmas.Map.Text.{hash_map_updates_text}
 use Rattle.sdb_oplog.proofs.Numbers.{changed_same, number_in, none_in}
+use Rattle.sdb_oplog.proofs.Used.{other_used}
 use Rattle.sdb_oplog.proofs.index.Index.add_source.Goals as goal
 
 pub returns-clause-same : goal.returns-clause-same
@@ -15,3 +16,10 @@ returns-clause-same c =
 
 pub returns-clause-room : goal.returns-clause-room
 returns-clause-room c = (c.reserve.new.self, ap (get_by_text c.insert.new.self) (sym c.in_ok-source.ensures.ok) ∙ c.in_ok-insert.ensures.updates.1, let h = c.in_ok-reserve.ensures.ok in omega (arith, h))
+
+pub returns-clause-used : goal.returns-clause-used
+returns-clause-used c =
+    let bs = string_bytes c.in_ok-source.source in
+    let old = c.args.self.now.by_source in
+    let new = c.insert.new.self in
+    λ s n used. other_used (get_by_text old) (get_by_text new) bs s (Some c.reserve.new.self) (hash_map_updates_text bs old new (Some c.reserve.new.self) c.in_ok-insert.ensures.updates) (λ e. n (e ∙ c.in_ok-source.ensures.ok)) used

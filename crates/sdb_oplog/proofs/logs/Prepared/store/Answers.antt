@@ -1,9 +1,9 @@
-use Rattle.std.proofs.Common.{◌≡◌, ◌++◌, ◌∷◌, [], length, unwrap_or, ap, ◌∙◌, arith}
+use Rattle.std.proofs.Common.{◌≡◌, ◌++◌, ◌∷◌, [], length, unwrap_or, sym, ap, ◌∙◌, arith}
 use Rattle.std.specs.Option.{is_some}
 use Rattle.sdb_oplog.specs.Plain.{PlainEntry}
 use Rattle.sdb_oplog.specs.Logged.{stored_entry}
 use Rattle.sdb_oplog.specs.Snap.{snap, stored_at}
-use Rattle.sdb_oplog.proofs.Logging.{one_more}
+use Rattle.sdb_oplog.proofs.Logging.{one_more, put_used}
 use Rattle.sdb_oplog.proofs.logs.Prepared.store.Goals as goal
 
 pub invariant_of-result : goal.invariant_of-result
@@ -12,9 +12,11 @@ invariant_of-result c =
     let e = c.new-entry.result in
     let same : es ≡ c.args.self.log = ap (λ p. p.log) c.self.view_is in
     let is : e ≡ stored_entry c.args.self c.args.content =
-    c.new-entry.ensures ∙ ap (λ n. record { version = n; content = unwrap_or c.args.content c.self.inside.submission.content; arrived = c.self.inside.submission }) (ap length c.as_slice.ensures.value) ∙ ap (λ p. stored_entry p c.args.content) c.self.view_is in
-    one_more es c.put.new.entries.items e c.self.inside.index c.put.new.index c.put.ensures.entries c.self.invariant.0
-    (ap (λ (x : PlainEntry). stored_at x.arrived.src x.arrived.seq es) is ∙ ap (stored_at c.args.self.submission.src c.args.self.submission.seq) same ∙ c.requires.first)
-    (ap (λ l. is_some (snap (l ++ e ∷ []))) same ∙ ap (λ x. is_some (snap (c.args.self.log ++ x ∷ []))) is ∙ c.requires.lives)
-    (let n : length es ≡ length c.args.self.log = ap length same in omega (arith, n, c.requires.room))
-    c.put.ensures.places
+    c.new-entry.ensures ∙ ap (λ n. record { version = n; content = unwrap_or c.args.content c.self.inside.submission.content; arrived = c.self.inside.submission }) (ap length c.as_slice.ensures.value) ∙ ap (λ p. stored_entry p c.args.content) c.self.view_is in (
+      one_more es c.put.new.entries.items e c.self.inside.index c.put.new.index c.put.ensures.entries c.self.invariant.0
+          (ap (λ (x : PlainEntry). stored_at x.arrived.src x.arrived.seq es) is ∙ ap (stored_at c.args.self.submission.src c.args.self.submission.seq) same ∙ c.requires.first)
+          (ap (λ l. is_some (snap (l ++ e ∷ []))) same ∙ ap (λ x. is_some (snap (c.args.self.log ++ x ∷ []))) is ∙ c.requires.lives)
+          (let n : length es ≡ length c.args.self.log = ap length same in omega (arith, n, c.requires.room))
+          c.put.ensures.places,
+      put_used c.self.inside.index c.put.new.index e.arrived.src e.arrived.seq (length es) (λ s n. c.self.invariant.3 s (λ k. n (k ∙ ap (λ (x : PlainEntry). x.arrived.src) (sym c.new-entry.ensures)))) c.put.ensures.used c.put.ensures.places,
+    )

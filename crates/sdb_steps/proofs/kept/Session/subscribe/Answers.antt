@@ -8,18 +8,33 @@ use Rattle.sdb_steps.specs.Picks.{Session, Answer, subscribe}
 use Rattle.sdb_steps.specs.Turns.{IsTurn}
 use Rattle.sdb_steps.specs.Seen.{core_of, plain_session, plain_trying, slots_of, slots_in, queue_seen}
 use Rattle.sdb_steps.specs.Slots.{Slots, closed_of}
-use Rattle.sdb_steps.proofs.Turning.{Joins, joined_turn, joined_leaves, subscribe_wanting, subscribe_refused, leaves_all, kept_queues, session_kept, refused_same}
+use Rattle.sdb_steps.proofs.Turning.{told_turn, started_code, Joins, joined_turn, joined_leaves, subscribe_wanting, subscribe_refused, leaves_all, kept_queues, session_kept, refused_same}
 use Rattle.sdb_steps.proofs.Commits.{same_core}
 use Rattle.sdb_steps.proofs.kept.Session.subscribe.Goals as goal
 
-pub returns-in_default-clause-turns : goal.returns-in_default-clause-turns
-returns-in_default-clause-turns c =
+pub returns-in-Err-clause-turns : goal.returns-in-Err-clause-turns
+returns-in-Err-clause-turns c =
+    let m = core_of c.args.shard.now in
+    let x = plain_session (queues_of c.args.shard.now) c.args.self.now in
+    let k = plain_key c.args.key.now in
+    let e = sym c.in-Err.ensures in
+    λ i. subst (λ (z : Answer). IsTurn i m x (subscribe k c.args.version) z m x) (sym c.refused_start.ensures)
+    (told_turn i m m x x k c.args.version c.in-Err.code e (started_code m k c.args.version c.in-Err.code e) refl refl)
+
+pub returns-in-Err-clause-leaves : goal.returns-in-Err-clause-leaves
+returns-in-Err-clause-leaves c =
+    let q = queues_of c.args.shard.now in
+    let s = slots_of c.args.self.now in
+    leaves_all q q s s c.requires refl refl
+
+pub returns-in_default-make_slot-clause-turns : goal.returns-in_default-make_slot-clause-turns
+returns-in_default-make_slot-clause-turns c =
     let q = queues_of c.args.shard.now in
     let m = core_of c.args.shard.now in
-    λ i. subscribe_wanting i m m (plain_session q c.args.self.now) _ (plain_key c.args.key.now) c.args.version refl (session_kept (option_map plain_trying c.args.self.now.attempt) q q _ _ refl c.in_default.ensures.same)
+    λ i. subscribe_wanting i m m (plain_session q c.args.self.now) _ (plain_key c.args.key.now) c.args.version c.in_default.field-0 (sym c.in_default.ensures) refl (session_kept (option_map plain_trying c.args.self.now.attempt) q q _ _ refl c.in_default-make_slot.ensures.same)
 
-pub returns-in_default-clause-leaves : goal.returns-in_default-clause-leaves
-returns-in_default-clause-leaves c = let q = queues_of c.args.shard.now in leaves_all q q (slots_of c.args.self.now) _ c.requires refl c.in_default.ensures.same
+pub returns-in_default-make_slot-clause-leaves : goal.returns-in_default-make_slot-clause-leaves
+returns-in_default-make_slot-clause-leaves c = let q = queues_of c.args.shard.now in leaves_all q q (slots_of c.args.self.now) _ c.requires refl c.in_default-make_slot.ensures.same
 
 pub returns-in-Ok-subscribe-clause-turns : goal.returns-in-Ok-subscribe-clause-turns
 returns-in-Ok-subscribe-clause-turns c =
@@ -71,13 +86,13 @@ returns-in-Ok-subscribe-clause-leaves c =
     } in
     joined_leaves q0 q1 q2 l0 l2 s0 s2 k c.args.version o a h
 
-pub returns-in-Err-clause-turns : goal.returns-in-Err-clause-turns
-returns-in-Err-clause-turns c =
+pub returns-in-Err-subscribe-clause-turns : goal.returns-in-Err-subscribe-clause-turns
+returns-in-Err-subscribe-clause-turns c =
     let q0 = queues_of c.args.shard.now in
     let q1 = queues_of c.subscribe.new.self in
     let k = plain_key c.args.key.now in
     let v = c.args.version in
-    let told = c.in-Err.ensures in
+    let told = c.in-Err-subscribe.ensures in
     let m = core_of c.args.shard.now in
     let n = core_of c.subscribe.new.self in
     let x = plain_session q0 c.args.self.now in
@@ -85,15 +100,15 @@ returns-in-Err-clause-turns c =
     let a = option_map plain_trying c.args.self.now.attempt in
     let t = slots_in c.drop_empty_slot.new.slots.entries in
     let y : Session = record { attempt = a; queues = λ j. queue_seen (q1 j) (t j) } in
-    λ i. subst (λ (z : Answer). IsTurn i m x (subscribe k v) z n y) (sym c.refused_start.ensures)
-    (subscribe_refused i m n (q0 k) (q1 k) x y k v c.in-Err.code refl told.subscribes told.logs
+    λ i. subst (λ (z : Answer). IsTurn i m x (subscribe k v) z n y) (sym c.refused_start-in-Err-subscribe.ensures)
+    (subscribe_refused i m n (q0 k) (q1 k) x y k v c.in-Err-subscribe.code c.in_default.field-0 (sym c.in_default.ensures) refl told.subscribes told.logs
     (λ e. (same_core c.args.shard.now c.subscribe.new.self told.logs (kept_queues q0 q1 k told.others e), session_kept a q0 q1 (slots_of c.args.self.now) t (kept_queues q0 q1 k told.others e) slots))).1
 
-pub returns-in-Err-clause-leaves : goal.returns-in-Err-clause-leaves
-returns-in-Err-clause-leaves c =
+pub returns-in-Err-subscribe-clause-leaves : goal.returns-in-Err-subscribe-clause-leaves
+returns-in-Err-subscribe-clause-leaves c =
     let q0 = queues_of c.args.shard.now in
     let q1 = queues_of c.subscribe.new.self in
     let k = plain_key c.args.key.now in
-    let told = c.in-Err.ensures in
+    let told = c.in-Err-subscribe.ensures in
     let slots = c.drop_empty_slot.ensures ∙ c.in-Ok.ensures.same in
-    leaves_all q0 q1 (slots_of c.args.self.now) _ c.requires (kept_queues q0 q1 k told.others (refused_same (logs_of c.args.shard.now k) c.args.version (q0 k) (q1 k) c.in-Err.code told.subscribes)) slots
+    leaves_all q0 q1 (slots_of c.args.self.now) _ c.requires (kept_queues q0 q1 k told.others (refused_same (logs_of c.args.shard.now k) c.args.version (q0 k) (q1 k) c.in-Err-subscribe.code told.subscribes)) slots

@@ -1,7 +1,8 @@
-use Rattle.std.proofs.Common.{◌≡◌, Some, option_map, refl, ap, sym, ◌∙◌}
+use Rattle.std.proofs.Common.{◌≡◌, [], Some, option_map, unwrap_or, refl, ap, sym, ◌∙◌}
 use Rattle.sdb_oplog.specs.Keys.{plain_key}
 use Rattle.sdb_desk.specs.Keyed.{logs_of, queues_of}
-use Rattle.sdb_desk.specs.Machine.{Takes}
+use Rattle.sdb_subscribe.specs.Queue.{waiting}
+use Rattle.sdb_desk.specs.Machine.{Takes, is_filled}
 use Rattle.sdb_steps.specs.Seen.{plain_trying, slots_of}
 use Rattle.sdb_steps.proofs.Turning.{Holds, stands_of, taken_turn, taken_leaves, take_wanting, leaves_all, kept_queues}
 use Rattle.sdb_steps.proofs.kept.Session.take.Goals as goal
@@ -53,8 +54,9 @@ returns-in-Err-clause-turns c =
     let at : s k ≡ Some n = sym c.queue_of.ensures ∙ c.in-Some.is in
     let w = stands_of _ (c.requires k n at).1 in
     let told = c.in-Err.ensures in
-    let h : Holds q0 q1 l0 l1 s s k n w.0 a = record { all = c.requires; at = at; stands = w.1; others = told.others; next = ap (λ z. z.next) told.takes; logs = told.logs } in
-    λ i. take_wanting q0 q1 l0 l1 s s k n w.0 a h i c.args.max refl (kept_queues q0 q1 k told.others told.takes)
+    let h : Holds q0 q1 l0 l1 s s k n w.0 a = record { all = c.requires; at = at; stands = w.1; others = told.others; next = ap (λ z. z.next) told.takes.0; logs = told.logs } in
+    let some = sym (ap (λ o. is_filled (unwrap_or (option_map (waiting (l0 k) c.args.max) o) [])) w.1) ∙ told.takes.1 in
+    λ i. take_wanting q0 q1 l0 l1 s s k n w.0 a h i c.args.max some refl (kept_queues q0 q1 k told.others told.takes.0)
 
 pub returns-in-Err-clause-leaves : goal.returns-in-Err-clause-leaves
 returns-in-Err-clause-leaves c =
@@ -63,4 +65,4 @@ returns-in-Err-clause-leaves c =
     let k = plain_key c.args.key.now in
     let s = slots_of c.args.self.now in
     let told = c.in-Err.ensures in
-    leaves_all q0 q1 s s c.requires (kept_queues q0 q1 k told.others told.takes) refl
+    leaves_all q0 q1 s s c.requires (kept_queues q0 q1 k told.others told.takes.0) refl

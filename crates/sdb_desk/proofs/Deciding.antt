@@ -1,0 +1,39 @@
+-- What a refusal leaves, and what a commit answers for it.
+use Rattle.std.proofs.Common.{◌≡◌, List, length, true, Option, Some, None, Result, Ok, Err, inl, inr, refl, sym, ap, ◌∙◌, ℕ}
+use Rattle.sdb_oplog.specs.declared.codes.Code.{Code}
+use Rattle.sdb_oplog.specs.declared.codes.Code.TheVariants.{E10}
+use Rattle.sdb_oplog.specs.Plain.{PlainContent, PlainEntry, PlainSubmission}
+use Rattle.sdb_oplog.specs.Keys.{PlainKey, Logs, with_log}
+use Rattle.sdb_oplog.specs.Snap.{stored_at}
+use Rattle.sdb_oplog.specs.Decide.{decide, settled, store, refused, deciding_takes_memory}
+use Rattle.sdb_oplog.specs.Laws.{decides_repeat, decides_settled}
+use Rattle.sdb_desk.specs.Machine.{PlainAttempt, Decides, Commits, IsFoundRefused, decided}
+use Rattle.sdb_desk.specs.Documents.{RefusedAs}
+use Rattle.sdb_desk.specs.HeldLaws.{kept_at}
+
+stored_not : (log : List PlainEntry) (s : PlainSubmission) (r : Result PlainContent Code) (code : Code) → (store log s r).reply ≡ refused code → (store log s r).log ≡ log
+stored_not log s (Ok m) code h = cc
+stored_not log s (Err e) code h = refl
+
+first_not : (log : List PlainEntry) (s : PlainSubmission) (code : Code) (o : Option ℕ) → stored_at s.src s.seq log ≡ o → (decide log s).reply ≡ refused code → (decide log s).log ≡ log
+first_not log s code (Some i) e h = ap (λ d. d.log) (decides_repeat log s i e)
+first_not log s code None e h =
+    let d = decides_settled log s (settled log s) e refl in
+    ap (λ x. x.log) d ∙ stored_not log s (settled log s) code (sym (ap (λ x. x.reply) d) ∙ h)
+
+-- a refusal leaves the log
+refused_leaves : (log : List PlainEntry) (s : PlainSubmission) (code : Code) → (decide log s).reply ≡ refused code → (decide log s).log ≡ log
+refused_leaves log s code h = first_not log s code (stored_at s.src s.seq log) refl h
+
+-- a decision that leaves the log
+pub leaves : (logs : Logs) (k : PlainKey) (s : PlainSubmission) → (decide (logs k) s).log ≡ logs k → logs ≡ with_log logs k (decide (logs k) s).log
+leaves logs k s e = kept_at logs k (decide (logs k) s).log e
+
+pub decides_refused_as : (logs new : Logs) (k : PlainKey) (s : PlainSubmission) (code : Code) → RefusedAs (decide (logs k) s).reply code → (code ≡ E10 → deciding_takes_memory (logs k) s ≡ true) → new ≡ logs → Decides logs k s (refused code) new
+decides_refused_as logs new k s code (inl e) takes same = inl (ap refused e, same, takes e)
+decides_refused_as logs new k s code (inr e) takes same = inr (sym e, same ∙ leaves logs k s (refused_leaves (logs k) s code e))
+
+pub commits_refused_as : (logs new : Logs) (k : PlainKey) (a : PlainAttempt) (code : Code) → length (logs k) ≡ a.look.version → RefusedAs (decide (logs k) a.submission).reply code
+    → (code ≡ E10 → deciding_takes_memory (logs k) a.submission ≡ true) → (code ≡ E10 → IsFoundRefused (logs k) a → ⊥) → new ≡ logs → Commits logs k a (decided (refused code)) new
+commits_refused_as logs new k a code here (inl e) takes found same = inl (ap refused e, same, inr (here, takes e, found e))
+commits_refused_as logs new k a code here (inr e) takes found same = inr (here, sym e, same ∙ leaves logs k a.submission (refused_leaves (logs k) a.submission code e))

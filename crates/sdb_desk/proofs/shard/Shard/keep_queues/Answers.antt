@@ -1,0 +1,10 @@
+use Rattle.std.proofs.Common.{ap, ◌∙◌}
+use Rattle.sdb_desk.specs.Held.{held, with_at}
+use Rattle.sdb_desk.specs.HeldLaws.{inserted}
+use Rattle.sdb_desk.specs.Machine.{no_queues}
+use Rattle.sdb_desk.proofs.shard.Shard.keep_queues.Goals as goal
+
+pub returns-clause-ok : goal.returns-clause-ok
+returns-clause-ok c =
+    let es = c.args.self.now.queues.entries in
+    inserted no_queues es _ c.in_ok-try_clone.field-0 c.args.queues c.in_ok-insert.ensures.entries ∙ ap (λ k. with_at (held no_queues es) k c.args.queues) c.in_ok-try_clone.ensures

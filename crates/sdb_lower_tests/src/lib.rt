@@ -1,0 +1,25 @@
+//! Tests of the public calls of the libraries up to the log, its snapshots and its queues, and of the lines,
+//! a module for each. They stand in a crate above all of these, so that none is proved a second time for its
+//! tests.
+#![tactic(auto)]
+
+#[cfg(test)]
+mod apply;
+#[cfg(test)]
+mod component;
+#[cfg(test)]
+mod lines;
+#[cfg(test)]
+mod meet;
+#[cfg(test)]
+mod oplog;
+#[cfg(test)]
+mod snapcache;
+#[cfg(test)]
+mod subscribe;
+#[cfg(test)]
+mod texts;
+#[cfg(test)]
+mod transform;
+#[cfg(test)]
+mod value;

@@ -1,0 +1,46 @@
+-- Where a content that is carried along stored entries takes memory.
+use Rattle.std.proofs.Common.{◌≡◌, ℕ, ◌+◌, ◌<◌, List, [], ◌∷◌, length, get_or, Bool, true, false, Option, Some, None, unwrap_or, Ok, refl, sym, ap, ◌∙◌, arith}
+use Rattle.sdb_oplog.specs.Plain.{PlainContent, create, delete, edit, PlainEntry}
+use Rattle.sdb_oplog.specs.Over.{over, over_takes_memory, carrying_takes_memory}
+
+abbrev pub is_edit : PlainContent → Bool
+is_edit (create v) = false
+is_edit delete = false
+is_edit (edit op) = true
+
+-- what was carried as far as this place: nothing at first, and an edit only where the first entry is one too
+abbrev pub Carries : PlainContent → List PlainEntry → Option PlainContent → ℕ → Type 0
+Carries m es None i = i ≡ 0
+Carries m es (Some k) i = is_edit k ≡ true → carrying_takes_memory m es ≡ true
+
+takes_edit : (m stored : PlainContent) → over_takes_memory m stored ≡ true → is_edit m ≡ true
+takes_edit (create v) stored h = cc
+takes_edit delete stored h = cc
+takes_edit (edit op) (create v) h = cc
+takes_edit (edit op) delete h = cc
+takes_edit (edit op) (edit other) h = refl
+
+edit_takes : (m stored k : PlainContent) → over m stored ≡ Ok k → is_edit k ≡ true → over_takes_memory m stored ≡ true
+edit_takes (create v) (create w) k e h = cc
+edit_takes (create v) delete k e h = cc
+edit_takes (create v) (edit other) k e h = cc
+edit_takes delete (create w) k e h = cc
+edit_takes delete delete k e h = let c : delete ≡ k = cc in let never : false ≡ true = ap is_edit c ∙ h in cc
+edit_takes delete (edit other) k e h = let c : delete ≡ k = cc in let never : false ≡ true = ap is_edit c ∙ h in cc
+edit_takes (edit op) (create w) k e h = cc
+edit_takes (edit op) delete k e h = cc
+edit_takes (edit op) (edit other) k e h = refl
+
+-- memory is taken at this place
+pub carries_here : (m : PlainContent) (es : List PlainEntry) (o : Option PlainContent) (i : ℕ) (e : PlainEntry) → i < length es
+    → e ≡ get_or es i e → Carries m es o i → over_takes_memory (unwrap_or o m) e.content ≡ true → carrying_takes_memory m es ≡ true
+carries_here m es (Some k) i e below is carries h = carries (takes_edit k e.content h)
+carries_here m [] None i e below is carries h = absurd (omega arith)
+carries_here m (x ∷ es) None i e below is carries h =
+    let first : e ≡ x = is ∙ ap (λ n. get_or (x ∷ es) n e) carries in
+    sym (ap (λ (y : PlainEntry). over_takes_memory m y.content) first) ∙ h
+
+-- and what comes out of it is carried on
+pub carries_on : (m : PlainContent) (es : List PlainEntry) (o : Option PlainContent) (i : ℕ) (e : PlainEntry) (k : PlainContent) → i < length es
+    → e ≡ get_or es i e → Carries m es o i → over (unwrap_or o m) e.content ≡ Ok k → Carries m es (Some k) (i + 1)
+carries_on m es o i e k below is carries makes h = carries_here m es o i e below is carries (edit_takes (unwrap_or o m) e.content k makes h)
