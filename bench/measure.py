@@ -6,7 +6,7 @@ import tempfile
 import time
 
 HERE = os.path.dirname(os.path.abspath(__file__))
-SERVER = os.path.join(HERE, "..", "crates", "sdb_server", "out", "sdb_server")
+SERVER = os.path.join(HERE, "..", "crates", "sdb_server_program", "out", "sdb_server_program")
 BENCH = os.path.join(HERE, "..", "crates", "sdb_bench", "out", "sdb_bench")
 RUNS = 15
 

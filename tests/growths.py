@@ -11,7 +11,7 @@ import tempfile
 
 HERE = os.path.dirname(os.path.abspath(__file__))
 CRATES = os.path.join(HERE, "..", "crates")
-SERVER = [os.path.join(CRATES, "sdb_server", "out", "sdb_server"), "--lines", "--projection", "titles=boards:title"]
+SERVER = [os.path.join(CRATES, "sdb_server_program", "out", "sdb_server_program"), "--lines", "--projection", "titles=boards:title"]
 STEPS = [os.path.join(CRATES, "sdb_steps_program", "out", "sdb_steps_program")]
 FAULT = b"fault: memory\n"
 WANTING = (b"ERR_OUT_OF_MEMORY", b'{"error":"E10"}')
@@ -93,7 +93,7 @@ def main():
     with tempfile.TemporaryDirectory() as made:
         library, counted = os.path.join(made, "fail_nth.so"), os.path.join(made, "count")
         subprocess.run(["cc", "-shared", "-fPIC", "-O1", "-o", library, os.path.join(HERE, "fail_nth.c"), "-ldl"], check=True)
-        with open(os.path.join(CRATES, "sdb_server", "stdin"), "rb") as file:
+        with open(os.path.join(CRATES, "sdb_server_program", "stdin"), "rb") as file:
             stored = file.read()
         inputs = [
             ("a create and a fetch", SERVER, stored),

@@ -2,8 +2,8 @@
 ghost use Rattle.std.specs.Prelude.{◌≡◌};
 ghost use Rattle.sdb_oplog.specs.Keys.{plain_key};
 ghost use Rattle.sdb_desk.specs.Machine.{Keeps};
-ghost use Rattle.sdb_desk.specs.Shown.{plain_outcome, told_fetched, told_entries, told_subscribed, told_taken};
-ghost use Rattle.sdb_desk.specs.Told.{plain_reply};
+ghost use Rattle.sdb_desk.specs.View.{plain_outcome, told_fetched, told_entries, told_subscribed, told_taken};
+ghost use Rattle.sdb_desk.specs.ReplyView.{plain_reply};
 ghost use Rattle.sdb_submit.specs.Calls.{told_look};
 ghost use Rattle.sdb_submit.specs.Calls as call;
 ghost use Rattle.sdb_backend.specs.Calls.{Answered};
@@ -34,6 +34,12 @@ pub(crate) fn commit_now(shard: &mut Shard, key: &Key, submission: &Submission) 
     ensures answered { Answered (plain_key key.now) (call.commit_now submission.now) (plain_reply result) }
 {
     shard.commit_now(key, submission)
+}
+
+pub(crate) fn version(shard: &mut Shard, key: &Key) -> u64
+    ensures answered { Answered (plain_key key.now) call.present result }
+{
+    shard.version(key)
 }
 
 pub(crate) fn fetch(shard: &mut Shard, key: &Key) -> Result<Fetched, Code>

@@ -5,6 +5,7 @@ ghost use Rattle.sdb_backend.specs.Calls.{Answered};
 use crate::backend::Backend;
 use crate::calls::{
     commit, commit_now, fetch, forget, look, ops_from, snapshot_at, subscribe, take, unsubscribe,
+    version,
 };
 use crate::passes::Pass;
 use sdb_desk::{Fetched, Look, Outcome, Reply, Subscribed, Work};
@@ -40,6 +41,10 @@ impl<R: Wait + Drop> Desk for Backend<R> {
 
     fn commit_now(&self, _pass: &mut Pass, key: &Key, submission: &Submission) -> Reply {
         commit_now(&mut self.shard(), key, submission)
+    }
+
+    fn version(&self, _pass: &mut Pass, key: &Key) -> u64 {
+        version(&mut self.shard(), key)
     }
 
     fn fetch(&self, _pass: &mut Pass, key: &Key) -> Result<Fetched, Code> {

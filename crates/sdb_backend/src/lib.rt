@@ -8,8 +8,6 @@ mod calls;
 mod desk;
 mod listed;
 mod passes;
-#[cfg(test)]
-mod tests;
 
 pub use audit::Audit;
 pub use backend::{Backend, Refused, Why};

@@ -2,7 +2,7 @@
 ghost use Rattle.std.specs.Prelude.{◌≡◌, IfErr, IfOk, map};
 ghost use Rattle.std.proofs.Props.{props};
 ghost use Rattle.sdb_oplog.specs.Keys.{plain_key};
-ghost use Rattle.sdb_desk.specs.Keyed.{logs_of};
+ghost use Rattle.sdb_desk.specs.ShardView.{logs_of};
 ghost use Rattle.sdb_desk.specs.Stored.{AreStored};
 
 use sdb_desk::Shard;

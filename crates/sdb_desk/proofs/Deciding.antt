@@ -9,7 +9,7 @@ use Rattle.sdb_oplog.specs.Decide.{decide, settled, store, refused, deciding_tak
 use Rattle.sdb_oplog.specs.Laws.{decides_repeat, decides_settled}
 use Rattle.sdb_desk.specs.Machine.{PlainAttempt, Decides, Commits, IsFoundRefused, decided}
 use Rattle.sdb_desk.specs.Documents.{RefusedAs}
-use Rattle.sdb_desk.specs.HeldLaws.{kept_at}
+use Rattle.sdb_desk.specs.MapViewLaws.{kept_at}
 
 stored_not : (log : List PlainEntry) (s : PlainSubmission) (r : Result PlainContent Code) (code : Code) → (store log s r).reply ≡ refused code → (store log s r).log ≡ log
 stored_not log s (Ok m) code h = cc

@@ -6,7 +6,7 @@ use Rattle.std.specs.List.Sorted.{IsStrictlySortedBy}
 use Rattle.std.specs.Map.{keys_of, lookup}
 use Rattle.sdb_oplog.specs.Keys.{PlainKey, key_cmp, same_key, plain_key}
 use Rattle.sdb_oplog.specs.declared.keys.Key.{Key}
-use Rattle.sdb_desk.specs.Held.{held}
+use Rattle.sdb_desk.specs.MapView.{held}
 use Rattle.sdb_desk.specs.Laws.{equal_keys}
 use Rattle.sdb_desk.specs.Stored.{AreStored}
 use Rattle.sdb_desk.specs.Documents.{PlainDocument, no_document}

@@ -4,9 +4,9 @@ use Rattle.sdb_oplog.specs.Keys.{PlainKey, same_key, with_log}
 use Rattle.sdb_oplog.specs.Plain.{PlainEntry}
 use Rattle.sdb_snapcache.specs.Kept.{Snapshot}
 use Rattle.sdb_desk.specs.Documents.{PlainDocument}
-use Rattle.sdb_desk.specs.Held.{with_at}
-use Rattle.sdb_desk.specs.HeldLaws.{kept_at}
-use Rattle.sdb_desk.specs.Keyed.{with_kept}
+use Rattle.sdb_oplog.specs.Keys.{with_at}
+use Rattle.sdb_desk.specs.MapViewLaws.{kept_at}
+use Rattle.sdb_desk.specs.ShardView.{with_kept}
 
 log_or : (b : Bool) (x y : PlainDocument) → (cond b x y).log ≡ cond b x.log y.log
 log_or true x y = refl

@@ -1,11 +1,11 @@
 pub mod Coding
 pub mod Documents
-pub mod Held
-pub mod HeldLaws
-pub mod Keyed
 pub mod Laws
 pub mod Machine
+pub mod MapView
+pub mod MapViewLaws
 pub mod Read
-pub mod Shown
+pub mod ReplyView
+pub mod ShardView
 pub mod Stored
-pub mod Told
+pub mod View

@@ -1,5 +1,5 @@
 -- The machine that takes each submission in one step: what a look shows, what a commit does, and what is read.
-use Rattle.std.specs.Prelude.{◌≡◌, ◌≢◌, ℕ, List, [], ◌∷◌, Bool, true, false, cond, length, take, drop, if◌then◌else◌, nat_eq, nat_lt, Option, Some, None, unwrap_or, Result, Ok, Err, ◌⊎◌}
+use Rattle.std.specs.Prelude.{◌≡◌, ◌≢◌, ℕ, List, [], ◌∷◌, Bool, true, false, length, take, drop, if◌then◌else◌, nat_eq, nat_lt, Option, Some, None, unwrap_or, Result, Ok, Err, ◌⊎◌}
 use Rattle.std.specs.Option.{is_some, option_map_or}
 use Rattle.std.specs.Result.{is_ok, is_err, result_ok}
 use Rattle.sdb_value.specs.Value.{Value}
@@ -7,7 +7,7 @@ use Rattle.sdb_oplog.specs.Plain.{PlainEntry, PlainSubmission}
 use Rattle.sdb_oplog.specs.Refused.{result_then}
 use Rattle.sdb_oplog.specs.Over.{over_all}
 use Rattle.sdb_oplog.specs.Decide.{PlainReply, stored, repeated, refused, decide, missed, deciding_takes_memory}
-use Rattle.sdb_oplog.specs.Keys.{PlainKey, Logs, with_log, same_key}
+use Rattle.sdb_oplog.specs.Keys.{PlainKey, Logs, with_at, with_log}
 use Rattle.sdb_subscribe.specs.Queue.{PlainQueues, opened, taken_from, after_take, without}
 use Rattle.sdb_oplog.specs.Snap.{document, stored_at}
 use Rattle.sdb_oplog.specs.declared.codes.Code.{Code}
@@ -102,9 +102,8 @@ Queued = PlainKey → PlainQueues
 abbrev pub no_queues : PlainQueues
 no_queues = record { next = 0; queues = [] }
 
--- the queues, with these at k
 abbrev pub with_queues : Queued → PlainKey → PlainQueues → Queued
-with_queues f k w q = cond (same_key k q) w (f q)
+with_queues = with_at
 
 -- the machine: the log of each key, and its queues
 pub record Machine : Type 0 where

@@ -1,7 +1,7 @@
 //! Looks, attempts, and the work on them.
 ghost use Rattle.std.specs.Prelude.{◌≡◌, [], true, IfOk, IfErr, Ok, Err, OnErr, option_map, unwrap_or};
 ghost use Rattle.sdb_oplog.specs.Over.{over_all, carrying_takes_memory};
-ghost use Rattle.sdb_desk.specs.Shown.{plain_attempt, content_or};
+ghost use Rattle.sdb_desk.specs.View.{plain_attempt, content_or};
 
 use sdb_oplog::{Code, Content, Entry, Submission, over_all};
 use std::alloc::Global;
@@ -45,7 +45,7 @@ impl Model for Work {
     ghost coded = { attempt_code };
 
     ghost use Rattle.sdb_oplog.specs.Over.{over_all};
-    ghost use Rattle.sdb_desk.specs.Shown.{plain_attempt, content_or};
+    ghost use Rattle.sdb_desk.specs.View.{plain_attempt, content_or};
 
     ghost view = { λ w. plain_attempt w.attempt };
 

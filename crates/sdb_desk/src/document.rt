@@ -5,8 +5,8 @@ ghost use Rattle.sdb_oplog.specs.Decide.{decide, stored, missed, IsMade, storing
 ghost use Rattle.sdb_oplog.specs.Snap.{becomes, document, snap};
 ghost use Rattle.sdb_oplog.specs.declared.codes.Code.TheVariants.{E10};
 ghost use Rattle.sdb_desk.specs.Machine.{look_at, looking_takes_memory};
-ghost use Rattle.sdb_desk.specs.Shown.{plain_look};
-ghost use Rattle.sdb_desk.specs.Told.{plain_reply};
+ghost use Rattle.sdb_desk.specs.View.{plain_look};
+ghost use Rattle.sdb_desk.specs.ReplyView.{plain_reply};
 ghost use Rattle.sdb_snapcache.specs.Kept.{nearest, used_for};
 ghost use Rattle.sdb_snapcache.specs.View.{snapshot};
 ghost use Rattle.sdb_desk.specs.Documents.{IsMadeDocument, IsOpen, Settles, Begins, RefusedAs, IsUnstored};

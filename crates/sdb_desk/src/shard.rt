@@ -10,13 +10,13 @@ ghost use Rattle.sdb_snapcache.specs.Snaps.{AreSnapsOf};
 ghost use Rattle.sdb_subscribe.specs.Queue.{opened, queue_at, taken_from};
 ghost use Rattle.sdb_value.specs.View.{view};
 ghost use Rattle.sdb_desk.specs.Documents.{no_document, IsOpen, Settles, RefusedAs, IsUnstored};
-ghost use Rattle.sdb_desk.specs.Held.{with_at};
-ghost use Rattle.sdb_desk.specs.Keyed.{documents_of, logs_of, kept_of, with_kept, queues_of};
+ghost use Rattle.sdb_oplog.specs.Keys.{with_at};
+ghost use Rattle.sdb_desk.specs.ShardView.{documents_of, logs_of, kept_of, with_kept, queues_of};
 ghost use Rattle.sdb_desk.specs.Read.{Leaves};
 ghost use Rattle.sdb_desk.specs.Stored.{AreStored};
 ghost use Rattle.sdb_desk.specs.Machine.{IsFoundRefused, look_at, looking_takes_memory, fetched, operations, snapshot_at, start_of, start_free, is_filled, has_document, has_version, no_queues, with_queues, closed, Decides, Commits, Keeps, Reads, Subscribes, Takes};
-ghost use Rattle.sdb_desk.specs.Shown.{plain_look, plain_outcome, told_fetched, told_entries, told_subscribed, told_taken};
-ghost use Rattle.sdb_desk.specs.Told.{plain_reply};
+ghost use Rattle.sdb_desk.specs.View.{plain_look, plain_outcome, told_fetched, told_entries, told_subscribed, told_taken};
+ghost use Rattle.sdb_desk.specs.ReplyView.{plain_reply};
 
 use crate::attempts::{Look, Work};
 use crate::document::{

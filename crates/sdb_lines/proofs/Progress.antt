@@ -6,8 +6,8 @@ use Rattle.std.proofs.KnownBytes.{Consumes-trans, Consumes-whole}
 use Rattle.std.proofs.lemmas.List.{length-map}
 use Rattle.sdb_lines.specs.Lines.{readings_from, reading_of, lines_of}
 use Rattle.sdb_lines.specs.Pieces.{ended_in, unended_in, held_of}
-use Rattle.sdb_lines.specs.Counting.{counted, steps_of}
-use Rattle.sdb_lines.specs.Told.{AppendsFront}
+use Rattle.sdb_lines.specs.Counting.{counted, steps_of, CountsAll}
+use Rattle.sdb_lines.specs.Fronts.{AppendsFront}
 use Rattle.sdb_lines.specs.Runs.{Answers, AnswersFront}
 use Rattle.sdb_lines.specs.declared.runner.Counts.{Counts}
 use Rattle.sdb_lines.proofs.Pieces.{readings-piece, readings-held, counted-append}
@@ -117,11 +117,10 @@ module _ {S : Type 0} (takes : S → Option (List ℕ) → List ℕ → S → Ty
     went-whole_front new a =
         at-end (λ input. AnswersFront takes s (map reading_of (lines_of input)) first old new) (subst (λ l. AnswersFront takes s l first old new) (sym all) (lines-written_front takes w.answers a))
 
-    pub went-lines : (counts' : Counts) → counts' ≡ counted is_step counts (readings_from [] held) → IfSome left (λ input. counts'.lines ≡ length (lines_of input))
-    went-lines counts' k =
-        at-end (λ input. counts'.lines ≡ length (lines_of input))
-        (ap (λ n. n.lines) (k ∙ all-counted) ∙ omega (arith, length-map (lines_of w.read) reading_of))
-
-    pub went-steps : (counts' : Counts) → counts' ≡ counted is_step counts (readings_from [] held) → IfSome left (λ input. counts'.steps ≡ steps_of is_step (map reading_of (lines_of input)))
-    went-steps counts' k =
-        at-end (λ input. counts'.steps ≡ steps_of is_step (map reading_of (lines_of input))) (ap (λ n. n.steps) (k ∙ all-counted) ∙ omega arith)
+    pub went-counts : (counts' : Counts) → counts' ≡ counted is_step counts (readings_from [] held) → IfSome left (λ input. CountsAll is_step input counts')
+    went-counts counts' k =
+        at-end (λ input. CountsAll is_step input counts')
+        (record {
+          lines = ap (λ n. n.lines) (k ∙ all-counted) ∙ omega (arith, length-map (lines_of w.read) reading_of);
+          steps = ap (λ n. n.steps) (k ∙ all-counted) ∙ omega arith;
+        })

@@ -3,7 +3,7 @@ use Rattle.std.proofs.Common.{◌≡◌, ℕ, List, [], ◌∷◌, ◌++◌, Non
 use Rattle.std.specs.declared.option.Option.{Option}
 use Rattle.std.specs.Io.KnownBytes.{Appends, Keeps}
 use Rattle.std.proofs.KnownBytes.{Appends-trans}
-use Rattle.sdb_lines.specs.Told.{IsFront, AppendsFront}
+use Rattle.sdb_lines.specs.Fronts.{IsFront, AppendsFront}
 use Rattle.sdb_lines.specs.Runs.{GrewBy, Run, Answers, AnswersBut, AnswersFront}
 
 pub Appends-none : (a : Option (List ℕ)) → Appends a a []

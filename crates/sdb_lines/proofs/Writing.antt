@@ -6,7 +6,7 @@ use Rattle.std.specs.declared.option.Option.{Option}
 use Rattle.std.specs.declared.result.Result.{Result}
 use Rattle.std.specs.Io.KnownBytes.{Appends}
 use Rattle.std.proofs.KnownBytes.{Appends-trans}
-use Rattle.sdb_lines.specs.Told.{AppendsFront}
+use Rattle.sdb_lines.specs.Fronts.{AppendsFront}
 
 pub put-more : (a b c : Option (List ℕ)) (all out : List ℕ) (at n : ℕ) → out ≡ all → Appends a b (take at all) → Appends b c (take n (take (length out - at) (drop at out))) → Appends a c (take (at + n) all)
 put-more a b c all out at n e p q =

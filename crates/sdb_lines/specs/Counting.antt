@@ -1,6 +1,7 @@
 -- How many lines there are, and how many of them are steps.
-use Rattle.std.specs.Prelude.{ℕ, ◌+◌, Bool, false, List, [], ◌∷◌, length, if◌then◌else◌, Some, None}
+use Rattle.std.specs.Prelude.{◌≡◌, ℕ, ◌+◌, Bool, false, List, [], ◌∷◌, length, map, if◌then◌else◌, Some, None}
 use Rattle.std.specs.declared.option.Option.{Option}
+use Rattle.sdb_lines.specs.Lines.{lines_of, reading_of}
 use Rattle.sdb_lines.specs.declared.runner.Counts.{Counts}
 
 -- whether a line is a step: one that can't be read is none
@@ -17,3 +18,8 @@ steps_of is_step (line ∷ lines) = (if takes_step is_step line then 1 else 0) +
 abbrev pub counted : (List ℕ → Bool) → Counts → List (Option (List ℕ)) → Counts
 counted is_step counts lines =
     record { lines = counts.lines + length lines; steps = counts.steps + steps_of is_step lines }
+
+-- the lines of an input are counted, and those of them that are steps
+pub record CountsAll (is_step : List ℕ → Bool) (input : List ℕ) (counts : Counts) : Type 0 where
+  pub lines : counts.lines ≡ length (lines_of input)
+  pub steps : counts.steps ≡ steps_of is_step (map reading_of (lines_of input))

@@ -1,7 +1,8 @@
+pub mod Counting
+pub mod Fronts
 pub mod Limits
 pub mod Lines
 pub mod Pieces
-pub mod Counting
-pub mod Told
 pub mod Runs
 pub mod Stalls
+pub mod Streams

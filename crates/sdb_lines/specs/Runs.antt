@@ -2,7 +2,7 @@
 use Rattle.std.specs.Prelude.{◌≡◌, ℕ, List, [], ◌∷◌, ◌++◌}
 use Rattle.std.specs.declared.option.Option.{Option}
 use Rattle.std.specs.Io.KnownBytes.{Appends}
-use Rattle.sdb_lines.specs.Told.{IsFront, AppendsFront}
+use Rattle.sdb_lines.specs.Fronts.{IsFront, AppendsFront}
 
 -- bytes grew by some more, of which P holds
 abbrev pub GrewBy : List ℕ → List ℕ → (List ℕ → Type 0) → Type 0

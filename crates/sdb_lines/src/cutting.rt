@@ -9,7 +9,8 @@ ghost use Rattle.sdb_lines.specs.Limits.{most_held};
 ghost use Rattle.sdb_lines.specs.Lines.{reading_of, readings_from};
 ghost use Rattle.sdb_lines.specs.Pieces.{ended_in, unended_in, held_of};
 ghost use Rattle.sdb_lines.specs.Counting.{takes_step, counted};
-ghost use Rattle.sdb_lines.specs.Told.{AppendsFront};
+ghost use Rattle.sdb_lines.specs.Streams.{failures_after};
+ghost use Rattle.sdb_lines.specs.Fronts.{AppendsFront};
 ghost use Rattle.sdb_lines.specs.Runs.{GrewBy, Answers, AnswersBut, AnswersFront};
 ghost use Rattle.sdb_lines.specs.declared.runner.RunFault.{RunFault};
 
@@ -124,8 +125,9 @@ fn write_out<W: Sink>(out: &mut Vec<u8>, writer: &mut W) -> Result<(), RunFault>
     ensures empty { OnOk result (out.new.items ≡ []) }
     ensures wrote { OnOk result (Appends (W.contents writer.old) (W.contents writer.new) out.old.items) }
     ensures front { OnErr result (AppendsFront (W.contents writer.old) (W.contents writer.new) out.old.items) }
-    ensures unfailed { OnOk result (W.has_failed writer.new ≡ W.has_failed writer.old) }
-    ensures fault { OnErr result (IsErrOf result RunFault.Write × (W.has_failed writer.new ≡ true)) }
+    ensures unfailed { OnOk result (W.failures writer.new ≡ W.failures writer.old) }
+    ensures fault { OnErr result (IsErrOf result RunFault.Write
+        × (W.failures writer.new ≡ failures_after true (W.failures writer.old))) }
 {
     let mut at = 0;
     while at < out.len() {
@@ -167,8 +169,9 @@ fn take_line<M: Replier, W: Sink>(
     ensures front { OnErr result (AnswersFront M.takes
         machine.old (reading_of (pending.old.held.items ++ piece.now) ∷ [])
         pending.old.out.items (W.contents writer.old) (W.contents writer.new)) }
-    ensures writes { (W.has_failed writer.new ≡ W.has_failed writer.old) ⊎ IsErrOf result RunFault.Write }
-    ensures write { IsErrOf result RunFault.Write → W.has_failed writer.new ≡ true }
+    ensures writes { (W.failures writer.new ≡ W.failures writer.old) ⊎ IsErrOf result RunFault.Write }
+    ensures write { IsErrOf result RunFault.Write →
+        W.failures writer.new ≡ failures_after true (W.failures writer.old) }
     ensures read { IsErrOf result RunFault.Read → ⊥ }
 {
     let Ok(()) = hold(&mut pending.held, piece) else {
@@ -205,8 +208,9 @@ fn take_piece<M: Replier, W: Sink>(
         pending.old.out.items (W.contents writer.old) (W.contents writer.new)) }
     ensures front { OnErr result (AnswersFront M.takes machine.old (ended_in piece.now pending.old.held.items)
         pending.old.out.items (W.contents writer.old) (W.contents writer.new)) }
-    ensures writes { (W.has_failed writer.new ≡ W.has_failed writer.old) ⊎ IsErrOf result RunFault.Write }
-    ensures write { IsErrOf result RunFault.Write → W.has_failed writer.new ≡ true }
+    ensures writes { (W.failures writer.new ≡ W.failures writer.old) ⊎ IsErrOf result RunFault.Write }
+    ensures write { IsErrOf result RunFault.Write →
+        W.failures writer.new ≡ failures_after true (W.failures writer.old) }
     ensures read { IsErrOf result RunFault.Read → ⊥ }
 {
     let mut rest = piece;
@@ -228,8 +232,9 @@ fn show<W: Sink>(out: &mut Vec<u8>, writer: &mut W) -> Result<(), RunFault>
     ensures empty { OnOk result (out.new.items ≡ []) }
     ensures wrote { OnOk result (Appends (W.contents writer.old) (W.contents writer.new) out.old.items) }
     ensures front { OnErr result (AppendsFront (W.contents writer.old) (W.contents writer.new) out.old.items) }
-    ensures unfailed { OnOk result (W.has_failed writer.new ≡ W.has_failed writer.old) }
-    ensures fault { OnErr result (IsErrOf result RunFault.Write × (W.has_failed writer.new ≡ true)) }
+    ensures unfailed { OnOk result (W.failures writer.new ≡ W.failures writer.old) }
+    ensures fault { OnErr result (IsErrOf result RunFault.Write
+        × (W.failures writer.new ≡ failures_after true (W.failures writer.old))) }
 {
     match write_out(out, writer) {
         Ok(()) => {}
@@ -250,8 +255,9 @@ pub(crate) fn write_opening<M: Replier, W: Sink>(
     ensures wrote { OnOk result (Appends (W.contents writer.old) (W.contents writer.new) (M.opening machine.now)) }
     ensures front { OnErr result
         (AppendsFront (W.contents writer.old) (W.contents writer.new) (M.opening machine.now)) }
-    ensures writes { (W.has_failed writer.new ≡ W.has_failed writer.old) ⊎ IsErrOf result RunFault.Write }
-    ensures write { IsErrOf result RunFault.Write → W.has_failed writer.new ≡ true }
+    ensures writes { (W.failures writer.new ≡ W.failures writer.old) ⊎ IsErrOf result RunFault.Write }
+    ensures write { IsErrOf result RunFault.Write →
+        W.failures writer.new ≡ failures_after true (W.failures writer.old) }
     ensures read { IsErrOf result RunFault.Read → ⊥ }
 {
     let mut out = Vec::new(alloc);
@@ -282,8 +288,9 @@ pub(crate) fn answer_piece<M: Replier, W: Sink>(
         [] (W.contents writer.old) (W.contents writer.new)) }
     ensures front { OnErr result (AnswersFront M.takes machine.old (ended_in piece.now pending.old.held.items)
         [] (W.contents writer.old) (W.contents writer.new)) }
-    ensures writes { (W.has_failed writer.new ≡ W.has_failed writer.old) ⊎ IsErrOf result RunFault.Write }
-    ensures write { IsErrOf result RunFault.Write → W.has_failed writer.new ≡ true }
+    ensures writes { (W.failures writer.new ≡ W.failures writer.old) ⊎ IsErrOf result RunFault.Write }
+    ensures write { IsErrOf result RunFault.Write →
+        W.failures writer.new ≡ failures_after true (W.failures writer.old) }
     ensures read { IsErrOf result RunFault.Read → ⊥ }
 {
     match take_piece(alloc, machine, pending, writer, piece) {
@@ -311,8 +318,9 @@ pub(crate) fn answer_rest<M: Replier, W: Sink>(
         [] (W.contents writer.old) (W.contents writer.new)) }
     ensures front { OnErr result (AnswersFront M.takes machine.old (readings_from [] pending.old.held.items)
         [] (W.contents writer.old) (W.contents writer.new)) }
-    ensures writes { (W.has_failed writer.new ≡ W.has_failed writer.old) ⊎ IsErrOf result RunFault.Write }
-    ensures write { IsErrOf result RunFault.Write → W.has_failed writer.new ≡ true }
+    ensures writes { (W.failures writer.new ≡ W.failures writer.old) ⊎ IsErrOf result RunFault.Write }
+    ensures write { IsErrOf result RunFault.Write →
+        W.failures writer.new ≡ failures_after true (W.failures writer.old) }
     ensures read { IsErrOf result RunFault.Read → ⊥ }
 {
     if pending.held.is_empty() {

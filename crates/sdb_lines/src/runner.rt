@@ -3,11 +3,10 @@
 //! All that is pending is written and flushed before the next read, so whoever writes a line and waits gets the answer
 //! without having to send more.
 ghost use Rattle.std.specs.Prelude.{◌≡◌, ◌+◌, ◌-◌, ◌^◌, ◌≤◌, ◌<◌, ◌⊎◌, ◌++◌, true, if◌then◌else◌, length, min, map, OnOk, OnErr, IfOk, IfSome, vec_len, IsErrOf};
-ghost use Rattle.sdb_lines.specs.Limits.{read_limit};
 ghost use Rattle.sdb_lines.specs.Lines.{reading_of, lines_of};
-ghost use Rattle.sdb_lines.specs.Counting.{steps_of};
+ghost use Rattle.sdb_lines.specs.Counting.{CountsAll};
 ghost use Rattle.sdb_lines.specs.Runs.{Answers, AnswersFront};
-ghost use Rattle.sdb_lines.specs.declared.runner.RunFault.{RunFault};
+ghost use Rattle.sdb_lines.specs.Streams.{Reads, Writes};
 
 use crate::cutting::{Pending, Replier, answer_piece, answer_rest, write_opening};
 use crate::streams::{Sink, Source};
@@ -77,20 +76,15 @@ pub fn run_lines<M: Replier, R: Source, W: Sink>(
     ensures whole { OnOk result (IfSome (R.left reader.old) (λ input.
         Answers M.takes machine.old (map reading_of (lines_of input)) machine.new
         (M.opening machine.old) (W.contents writer.old) (W.contents writer.new))) }
-    ensures lines { IfOk result (λ counts. IfSome (R.left reader.old) (λ i. counts.lines ≡ length (lines_of i))) }
-    ensures steps { IfOk result (λ counts. IfSome (R.left reader.old) (λ input.
-        counts.steps ≡ steps_of M.is_step (map reading_of (lines_of input)))) }
+    ensures counts { IfOk result (λ counts. IfSome (R.left reader.old) (λ input. CountsAll M.is_step input counts)) }
     // After a fault a front of the opening and the answers to the first lines was written.
     ensures front { OnErr result (IfSome (R.left reader.old) (λ input.
         AnswersFront M.takes machine.old (map reading_of (lines_of input))
         (M.opening machine.old) (W.contents writer.old) (W.contents writer.new))) }
-    ensures calls { R.calls reader.new ≤ R.calls reader.old + read_limit }
     // No read failed, and no write or flush, but for the one that is the fault.
-    ensures reads { (R.has_failed reader.new ≡ R.has_failed reader.old) ⊎ IsErrOf result RunFault.Read }
-    ensures writes { (W.has_failed writer.new ≡ W.has_failed writer.old) ⊎ IsErrOf result RunFault.Write }
-    ensures read { IsErrOf result RunFault.Read → (R.has_failed reader.new ≡ true)
-        ⊎ (min (R.calls reader.old + read_limit) (2 ^ 64 - 1) ≤ R.calls reader.new) }
-    ensures write { IsErrOf result RunFault.Write → W.has_failed writer.new ≡ true }
+    ensures reads { Reads result (R.calls reader.old) (R.failures reader.old)
+        (R.calls reader.new) (R.failures reader.new) }
+    ensures writes { Writes result (W.failures writer.old) (W.failures writer.new) }
 {
     let Ok(mut space) = room(alloc) else {
         return Err(RunFault::Memory);

@@ -20,6 +20,10 @@ key_cmp a b = ordering_then (slice_cmp nat_cmp a.collection b.collection) (slice
 abbrev pub same_key : PlainKey → PlainKey → Bool
 same_key a b = is_eq (key_cmp a b)
 
+-- what stands at each key, with this at k
+abbrev pub with_at : {A : Type 0} → (PlainKey → A) → PlainKey → A → PlainKey → A
+with_at f k x q = cond (same_key k q) x (f q)
+
 -- an absent key has the empty log
 abbrev pub Logs : Type 0
 Logs = PlainKey → List PlainEntry
@@ -27,6 +31,5 @@ Logs = PlainKey → List PlainEntry
 abbrev pub no_logs : Logs
 no_logs q = []
 
--- the logs, with this one at k
 abbrev pub with_log : Logs → PlainKey → List PlainEntry → Logs
-with_log f k l q = cond (same_key k q) l (f q)
+with_log = with_at

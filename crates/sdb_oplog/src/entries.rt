@@ -1,6 +1,5 @@
 //! What is sent, and what is stored of it.
 ghost use Rattle.std.specs.Prelude.{◌≡◌, ◌<◌, IfOk, OnErr, length, string_bytes, unwrap_or};
-ghost use Rattle.sdb_oplog.specs.Snap.{is_from};
 
 use crate::contents::Content;
 use std::alloc::{AllocError, Global};
@@ -174,13 +173,6 @@ impl Entry {
         ensures { result.now ≡ self.now.arrived }
     {
         &self.arrived
-    }
-
-    /// Whether its submission has this source and number.
-    pub fn is_from(&self, src: &str, seq: u64) -> bool
-        ensures { result ≡ is_from src.now seq self.now }
-    {
-        self.arrived.seq == seq && self.arrived.src.as_str() == src
     }
 
     /// A copy, which shares the contents.

@@ -1,3 +1,3 @@
-pub mod Keyed
+pub mod State
 pub mod Runs
 pub mod Source

@@ -1,3 +1,3 @@
+pub mod Handling
 pub mod Pairs
 pub mod Taking
-pub mod Turning

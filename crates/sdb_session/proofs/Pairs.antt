@@ -8,8 +8,8 @@ use Rattle.indexmap.specs.IndexMap.{insert_entry}
 use Rattle.sdb_oplog.specs.Keys.{plain_key}
 use Rattle.sdb_oplog.specs.declared.keys.Key.{Key}
 use Rattle.sdb_session.specs.Sessions.{PlainSub, QueueId, same_pair, queue_of, put, without_pair}
-use Rattle.sdb_session.specs.Told.{plain_queue, plain_sub}
-use Rattle.sdb_session.specs.declared.joining.Subscription.{Subscription}
+use Rattle.sdb_session.specs.View.{plain_queue, plain_sub}
+use Rattle.sdb_session.specs.declared.subscriptions.Subscription.{Subscription}
 
 abbrev Entries : Type 0
 Entries = List (Key × Subscription)

@@ -8,8 +8,8 @@ use Rattle.sdb_submit.specs.Chain.{Calls}
 use Rattle.sdb_wire.specs.Answers.{PlainAnswer}
 use Rattle.sdb_session.specs.Laws.{pieces_append}
 use Rattle.sdb_session.specs.Sessions.{PlainSub, PlainSession}
-use Rattle.sdb_session.specs.Shown.{pieces_of}
-use Rattle.sdb_session.specs.Pumping.{Stops, PlainTaking, TakesOne, Takes, Closed, taking_says, pump_says, pump_counts}
+use Rattle.sdb_session.specs.Written.{pieces_of}
+use Rattle.sdb_session.specs.Pumps.{Stops, PlainTaking, TakesOne, Takes, Closed, taking_says, pump_says, pump_counts}
 
 module _ {P : Type 0} (acts : PlainKey → Calls P) (max : ℕ) where
   pub takes_more : (xs : List PlainTaking) (x : PlainTaking) (p m q : P) → Takes acts max xs p m → TakesOne acts max x.sub.queue m (Some x.entries) q → Takes acts max (xs ++ x ∷ []) p q

@@ -1,39 +1,41 @@
--- What one session says to its lines where it is alone with the machine: `Dialogue`. Each message is answered in one
--- step.
-use Rattle.std.specs.Prelude.{◌≡◌, ℕ, List, [], ◌∷◌, ◌++◌, if◌then◌else◌, Bool, true, false, Option, Some, None, unwrap_or, Result, Ok, Err}
+-- What one session says to its lines where it is alone with the machine: `Dialogue`. A line is answered in one step; then
+-- what waits in the session's queues is pushed.
+use Rattle.std.specs.Prelude.{◌≡◌, ℕ, List, [], ◌∷◌, ◌++◌, if◌then◌else◌, Bool, true, false, not, ◌&&◌, Option, Some, None, unwrap_or, Result, Ok, Err}
+use Rattle.std.specs.Option.{option_map_or}
+use Rattle.std.specs.Result.{is_ok, result_ok}
 use Rattle.sdb_oplog.specs.declared.codes.Code.{Code}
 use Rattle.sdb_oplog.specs.declared.codes.Code.TheVariants.{E1, E9, E10, E11}
 use Rattle.sdb_oplog.specs.Plain.{PlainEntry, PlainSubmission}
 use Rattle.sdb_oplog.specs.Keys.{PlainKey, with_log, no_logs}
-use Rattle.sdb_oplog.specs.Decide.{PlainReply, refused, decide}
+use Rattle.sdb_oplog.specs.Decide.{PlainReply, refused, decide, deciding_takes_memory}
 use Rattle.sdb_subscribe.specs.Queue.{taken_from, after_take}
-use Rattle.sdb_desk.specs.Machine.{Machine, PlainSubscribed, Subscribing, subscribing, start_of, fetched, operations, snapshot_at, Queued, no_queues, with_queues, closed}
+use Rattle.sdb_desk.specs.Machine.{Machine, PlainSubscribed, Subscribing, subscribing, start_of, fetched, operations, snapshot_at, has_document, is_filled, has_version, Queued, no_queues, with_queues, closed}
 use Rattle.sdb_projection.specs.Table.{PlainProjection}
-use Rattle.sdb_wire.specs.Wire.{PlainEcho, nothing_said, hear, PlainRequest, hello, fetch, subscribe, unsubscribe, submit, snapshot}
+use Rattle.sdb_wire.specs.Wire.{PlainEcho, nothing_said, parse_message, PlainRequest, hello, fetch, subscribe, unsubscribe, submit, snapshot}
 use Rattle.sdb_wire.specs.Answers.{PlainAnswer, init, failed}
-use Rattle.sdb_session.specs.Seen.{base_in, through, permits}
+use Rattle.sdb_session.specs.Projections.{base_in, through, permits}
 use Rattle.sdb_session.specs.Sessions.{QueueId, PlainSub, PlainSession, queue_of, is_full}
-use Rattle.sdb_session.specs.Shown.{shown}
-use Rattle.sdb_session.specs.Turns.{ReadOf, ReplyTo, PlainJoined, submission_of, behind, Turn, turn, takes_memory}
-use Rattle.sdb_session.specs.Pumping.{PlainTaking, pump_says}
+use Rattle.sdb_session.specs.Written.{shown}
+use Rattle.sdb_session.specs.Handling.{ReadOf, ReplyTo, PlainJoined, submission_of, behind, Response, respond}
+use Rattle.sdb_session.specs.Pumps.{PlainTaking, pump_says}
 
 -- the machine, and the session
-pub record Room : Type 0 where
+pub record State : Type 0 where
   pub machine : Machine
   pub session : PlainSession
 
--- what is answered, and the room after it
-pub record Said : Type 0 where
+-- what is answered, and the state after it
+pub record Transition : Type 0 where
   pub answers : List PlainAnswer
-  pub room : Room
+  pub state : State
 
--- whether a message found memory
-pub data Mark : Type 0 where
-  enough : Mark
-  -- its work found none, and nothing has changed
-  wanting : Mark
-  -- its work found none when its queue was open: the number of that queue is given, and the queue closed
-  late : Mark
+-- whether a request found the memory that it takes
+pub data Memory : Type 0 where
+  enough : Memory
+  -- none, and nothing has changed
+  none_before : Memory
+  -- none any more when its queue was open: the number of that queue is given, and the queue closed
+  none_after : Memory
 
 -- ---- the calls of the machine
 
@@ -98,87 +100,123 @@ subscribed_at true m b v old = (Err (refused_at (start_of (m.logs b) v)), m)
 subscribed_at false m b v old = joined_at m b v old (opening_at m b v).answer
 
 -- what the machine replies, and the machine after it
-abbrev pub replied : List PlainProjection → Room → (r : PlainRequest) → (ReplyTo r × Machine)
-replied t m (hello n) = (tt, m.machine)
-replied t m (fetch k v) = (read_at (m.machine.logs (base_in t k)) v, m.machine)
-replied t m (submit k v n src c) =
-    decided_at (permits (through t k) c) m.machine (base_in t k) (submission_of m.session k v n src c 0)
-replied t m (snapshot k v n) = (snapshot_at (m.machine.logs (base_in t k)) v, m.machine)
-replied t m (subscribe k v) =
-    subscribed_at (is_full k m.session.subs) m.machine (base_in t k) v (queue_of k m.session.subs)
-replied t m (unsubscribe k) = (tt, closed_machine (queue_of k m.session.subs) m.machine)
+abbrev pub replied : List PlainProjection → State → (r : PlainRequest) → (ReplyTo r × Machine)
+replied t s (hello n) = (tt, s.machine)
+replied t s (fetch k v) = (read_at (s.machine.logs (base_in t k)) v, s.machine)
+replied t s (submit k v n src c) =
+    decided_at (permits (through t k) c) s.machine (base_in t k) (submission_of s.session k v n src c 0)
+replied t s (snapshot k v n) = (snapshot_at (s.machine.logs (base_in t k)) v, s.machine)
+replied t s (subscribe k v) =
+    subscribed_at (is_full k s.session.subs) s.machine (base_in t k) v (queue_of k s.session.subs)
+replied t s (unsubscribe k) = (tt, closed_machine (queue_of k s.session.subs) s.machine)
 
-abbrev pub said_by : Turn → Machine → Said
-said_by u m = record { answers = u.answers; room = record { machine = m; session = u.session } }
+-- the request is answered by this reply of the machine
+abbrev pub reply_answered : Response → Machine → Transition
+reply_answered u m = record { answers = u.answers; state = record { machine = m; session = u.session } }
 
--- a message that found memory
-abbrev pub answered : List PlainProjection → PlainEcho → Room → PlainRequest → Said
-answered t e m r = said_by (turn e t m.session r (replied t m r).0) (replied t m r).1
+abbrev pub request_answered : List PlainProjection → PlainEcho → State → PlainRequest → Transition
+request_answered t e s r = reply_answered (respond e t s.session r (replied t s r).0) (replied t s r).1
 
--- the machine after a message that found no memory when its queue was open
-abbrev pub late_machine : List PlainProjection → Machine → PlainRequest → Machine
-late_machine t m (subscribe k v) =
-    closed_machine (Some (record { base = base_in t k; id = (m.queues (base_in t k)).next }))
-    (opened_machine m (base_in t k) v)
-late_machine t m r = m
+-- ---- want of memory
 
--- a message that found none is answered E10
-abbrev pub failing : PlainEcho → Room → Machine → Said
-failing e m new = record { answers = failed e E10 ∷ []; room = record { machine = new; session = m.session } }
+-- whether the machine opens a queue for the session
+abbrev pub opens : List PlainProjection → State → PlainKey → Option ℕ → Bool
+opens t s k v =
+    not (is_full k s.session.subs) && is_ok (opening_at s.machine (base_in t k) v).answer
 
-abbrev pub marked : List PlainProjection → PlainEcho → Room → Mark → PlainRequest → Said
-marked t e m enough r = answered t e m r
-marked t e m wanting r = if takes_memory r then failing e m m.machine else answered t e m r
-marked t e m late r = if takes_memory r then failing e m (late_machine t m.machine r) else answered t e m r
+-- whether a fetch takes memory: it copies a document, or stored operations
+abbrev pub reading_takes_memory : List PlainEntry → Option ℕ → Bool
+reading_takes_memory log None = has_document (fetched log)
+reading_takes_memory log (Some v) = option_map_or is_filled (result_ok (operations log v)) false
 
-abbrev pub heard : List PlainProjection → PlainEcho → Room → Mark → Result PlainRequest Code → Said
-heard t e m w (Ok r) = marked t e m w r
-heard t e m w (Err code) = record { answers = failed e code ∷ []; room = m }
+-- whether the call of the machine that a request makes takes memory
+abbrev pub takes_memory : List PlainProjection → State → PlainRequest → Bool
+takes_memory t s (hello n) = false
+takes_memory t s (fetch k v) = reading_takes_memory (s.machine.logs (base_in t k)) v
+takes_memory t s (submit k v n src c) =
+    permits (through t k) c
+    && deciding_takes_memory (s.machine.logs (base_in t k)) (submission_of s.session k v n src c 0)
+takes_memory t s (snapshot k v n) =
+    option_map_or has_version (result_ok (snapshot_at (s.machine.logs (base_in t k)) v)) false
+takes_memory t s (subscribe k v) = opens t s k v
+takes_memory t s (unsubscribe k) = false
 
--- a text, or none that has no reading
-abbrev pub handled : List PlainProjection → Room → Mark → Option (List ℕ) → Said
-handled t m w (Some text) = heard t (hear text).echo m w (hear text).request
-handled t m w None = record { answers = failed nothing_said E1 ∷ []; room = m }
+-- the machine after a request that found none when its queue was open
+abbrev pub opened_and_closed : Machine → PlainKey → Option ℕ → Machine
+opened_and_closed m b v =
+    closed_machine (Some (record { base = b; id = (m.queues b).next })) (opened_machine m b v)
+
+-- a request that found none is answered E10
+abbrev pub memory_wanting : PlainEcho → State → Machine → Transition
+memory_wanting e s m =
+    record { answers = failed e E10 ∷ []; state = record { machine = m; session = s.session } }
+
+abbrev pub after_opening : List PlainProjection → PlainEcho → State → PlainRequest → Transition
+after_opening t e s (subscribe k v) =
+    if opens t s k v then memory_wanting e s (opened_and_closed s.machine (base_in t k) v)
+    else request_answered t e s (subscribe k v)
+after_opening t e s r = request_answered t e s r
+
+-- a request that takes no memory is answered whether there is some or not
+abbrev pub answered_with : Memory → List PlainProjection → PlainEcho → State → PlainRequest → Transition
+answered_with enough t e s r = request_answered t e s r
+answered_with none_before t e s r =
+    if takes_memory t s r then memory_wanting e s s.machine else request_answered t e s r
+answered_with none_after t e s r = after_opening t e s r
+
+-- ---- one line
+
+abbrev pub message_answered : List PlainProjection → State → Memory → PlainEcho → Result PlainRequest Code → Transition
+message_answered t s w e (Ok r) = answered_with w t e s r
+message_answered t s w e (Err code) = record { answers = failed e code ∷ []; state = s }
+
+-- a line, or none that isn't UTF-8 or is too long
+abbrev pub answered : List PlainProjection → State → Memory → Option (List ℕ) → Transition
+answered t s w (Some line) = message_answered t s w (parse_message line).echo (parse_message line).request
+answered t s w None = record { answers = failed nothing_said E1 ∷ []; state = s }
 
 -- ---- what waits
 
 -- the most entries that are taken of one queue after a line
-abbrev pub most_taken : ℕ
-most_taken = 64
+abbrev pub take_limit : ℕ
+take_limit = 64
 
 abbrev pub takings : List PlainSub → Machine → List PlainTaking
 takings [] m = []
 takings (s ∷ subs) m =
-    record { sub = s; entries = next_of m s.queue most_taken } ∷ takings subs (after_next m s.queue most_taken)
+    record { sub = s; entries = next_of m s.queue take_limit } ∷ takings subs (after_next m s.queue take_limit)
 
 abbrev pub after_takings : List PlainSub → Machine → Machine
 after_takings [] m = m
-after_takings (s ∷ subs) m = after_takings subs (after_next m s.queue most_taken)
+after_takings (s ∷ subs) m = after_takings subs (after_next m s.queue take_limit)
 
-abbrev pub pumped : List PlainProjection → Room → Said
-pumped t m = record {
-  answers = pump_says t m.session.source (takings m.session.subs m.machine);
-  room = record { machine = after_takings m.session.subs m.machine; session = m.session };
+-- the entries that wait in each queue, in order, but for the session's own
+abbrev pub pushed : List PlainProjection → State → Transition
+pushed t s = record {
+  answers = pump_says t s.session.source (takings s.session.subs s.machine);
+  state = record { machine = after_takings s.session.subs s.machine; session = s.session };
 }
 
--- ---- lines
+-- ---- the dialogue
 
--- the answers to the message, then the entries that wait in each queue, in order, but for the session's own
-abbrev pub told : List PlainProjection → Room → Mark → Option (List ℕ) → Said
-told t m w line = record {
-  answers = (handled t m w line).answers ++ (pumped t (handled t m w line).room).answers;
-  room = (pumped t (handled t m w line).room).room;
+-- the line is answered, then what waits is pushed
+abbrev pub step : List PlainProjection → State → Memory → Option (List ℕ) → Transition
+step t s w line = record {
+  answers = (answered t s w line).answers ++ (pushed t (answered t s w line).state).answers;
+  state = (pushed t (answered t s w line).state).state;
 }
 
--- `Dialogue`: a line is answered by these bytes, in this room, and leaves that one. None is a line that isn't UTF-8 or
--- is too long
-abbrev pub Dialogue : List PlainProjection → Room → Option (List ℕ) → List ℕ → Room → Type 0
-Dialogue t m line bytes new = (w : Mark) × (bytes ≡ shown (told t m w line).answers) × (new ≡ (told t m w line).room)
+-- `Dialogue`: from a state a line is answered by these bytes, and leaves that state
+pub record Dialogue (t : List PlainProjection) (old : State) (line : Option (List ℕ)) (bytes : List ℕ) (new : State)
+    : Type 0 where
+  pub memory : Memory
+  pub written : bytes ≡ shown (step t old memory line).answers
+  pub left : new ≡ (step t old memory line).state
 
 -- ---- the beginning
 
-abbrev pub first_room : List ℕ → Room
-first_room source =
+abbrev pub first_state : List ℕ → State
+first_state source =
     record {
       machine = record { logs = no_logs; queues = λ k. no_queues };
       session = record { source = source; subs = [] };

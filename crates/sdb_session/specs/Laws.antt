@@ -1,11 +1,12 @@
 -- Laws of sessions: alone with the machine, what a session's calls say is its dialogue.
-use Rattle.std.proofs.Common.{◌≡◌, ℕ, List, [], ◌∷◌, length, Bool, true, false, cond, nat_lt, ◌+◌, ◌++◌, map, nat_eq, Option, Some, None, unwrap_or, Result, Ok, Err, ◌⊎◌, inl, inr, refl, sym, ap, ◌∙◌, subst, append_assoc, arith}
+use Rattle.std.proofs.Common.{◌≡◌, ℕ, List, [], ◌∷◌, length, Bool, true, false, not, ◌&&◌, cond, nat_lt, ◌+◌, ◌++◌, map, nat_eq, Option, Some, None, unwrap_or, Result, Ok, Err, ◌⊎◌, inl, inr, refl, sym, ap, ◌∙◌, subst, append_assoc, arith}
 use Rattle.std.proofs.lemmas.Bool.Decides.{nat_tests}
+use Rattle.std.specs.Result.{is_ok}
 use Rattle.sdb_oplog.specs.declared.codes.Code.{Code}
 use Rattle.sdb_oplog.specs.declared.codes.Code.TheVariants.{E4, E10, E11}
 use Rattle.sdb_oplog.specs.Plain.{PlainEntry, PlainSubmission, PlainContent}
 use Rattle.sdb_oplog.specs.Keys.{PlainKey, same_key}
-use Rattle.sdb_oplog.specs.Decide.{PlainReply, refused}
+use Rattle.sdb_oplog.specs.Decide.{PlainReply, refused, deciding_takes_memory}
 use Rattle.sdb_subscribe.specs.Queue.{PlainQueues, opened}
 use Rattle.sdb_oplog.specs.Snap.{document}
 use Rattle.sdb_desk.specs.Laws.{queues_kept}
@@ -14,14 +15,14 @@ use Rattle.sdb_projection.specs.Table.{PlainProjection}
 use Rattle.sdb_submit.specs.Calls.{Acts, take_next, unsubscribe as unsubscribe_call, subscribe as subscribe_call, snapshot as snapshot_call}
 use Rattle.sdb_submit.specs.Chain.{Calls}
 use Rattle.sdb_submit.specs.Laws.{submits_in_one_step}
-use Rattle.sdb_wire.specs.Wire.{PlainEcho, hear, PlainRequest, hello, fetch, subscribe, unsubscribe, submit, snapshot}
+use Rattle.sdb_wire.specs.Wire.{PlainEcho, parse_message, PlainRequest, hello, fetch, subscribe, unsubscribe, submit, snapshot}
 use Rattle.sdb_wire.specs.Answers.{PlainAnswer, failed}
-use Rattle.sdb_session.specs.Seen.{base_in, through, permits}
+use Rattle.sdb_session.specs.Projections.{base_in, through, permits}
 use Rattle.sdb_session.specs.Sessions.{QueueId, PlainSub, PlainSession, queue_of, is_full}
-use Rattle.sdb_session.specs.Shown.{pieces_of}
-use Rattle.sdb_session.specs.Turns.{ReadOf, ReplyTo, PlainJoined, turn, may_turn, takes_memory, submission_of, behind, came, full_code, found_says, listed_says, read_says, reply_says, snapshot_says, joined_turn, Fetches, Sends, Refuses, Closes, Joins, Subscribes, MayReply, Hears, Answers}
-use Rattle.sdb_session.specs.Pumping.{PlainTaking, Takes, Pumps, pump_says}
-use Rattle.sdb_session.specs.Dialogue.{Room, Said, Mark, enough, wanting, late, opening_at, opened_machine, next_of, after_next, closed_machine, decided_at, joined_at, refused_at, subscribed_at, replied, answered, late_machine, failing, marked, heard, handled, takings, after_takings, pumped}
+use Rattle.sdb_session.specs.Written.{pieces_of}
+use Rattle.sdb_session.specs.Handling.{ReadOf, ReplyTo, PlainJoined, respond, submission_of, behind, came, full_code, found_says, listed_says, read_says, reply_says, snapshot_says, joined_response, Fetches, Sends, Refuses, Closes, Begins, Joins, Subscribes, Replies, Responds, Answers}
+use Rattle.sdb_session.specs.Pumps.{PlainTaking, Takes, Pumps, pump_says}
+use Rattle.sdb_session.specs.Dialogue.{State, Transition, Memory, enough, none_before, none_after, opening_at, opened_machine, next_of, after_next, closed_machine, decided_at, joined_at, refused_at, subscribed_at, replied, request_answered, opens, takes_memory, opened_and_closed, memory_wanting, answered_with, message_answered, answered, takings, after_takings, pushed}
 
 -- ---- pieces
 
@@ -36,9 +37,9 @@ pieces_append f (x ∷ a) b =
 same_machine : (m n : Machine) → n.logs ≡ m.logs → n.queues ≡ m.queues → n ≡ m
 same_machine m n l q = λ i. record { logs = l i; queues = q i }
 
-same_room : (m n : Machine) (s t : PlainSession) → n ≡ m → t ≡ s
-    → ◌≡◌ {A = Room} (record { machine = n; session = t }) (record { machine = m; session = s })
-same_room m n s t a b = λ i. record { machine = a i; session = b i }
+same_state : (m n : Machine) (s t : PlainSession) → n ≡ m → t ≡ s
+    → ◌≡◌ {A = State} (record { machine = n; session = t }) (record { machine = m; session = s })
+same_state m n s t a b = λ i. record { machine = a i; session = b i }
 
 cond_same : {A : Type 0} (b : Bool) (x : A) → cond b x x ≡ x
 cond_same true x = refl
@@ -103,10 +104,10 @@ opens_ok m n b v o (inr h, others, logs) = (
 )
 
 opens_err : (m n : Machine) (b : PlainKey) (v : Option ℕ) (code : Code) → Opens m b v (Err code) n
-    → (((code ≡ E10) ⊎ ((opening_at m b v).answer ≡ Err code)) × (n ≡ m))
+    → ((((code ≡ E10) × (is_ok (opening_at m b v).answer ≡ true)) ⊎ ((opening_at m b v).answer ≡ Err code)) × (n ≡ m))
 opens_err m n b v code (inl h, others, logs) =
     let e : code ≡ E10 = (let x = h.0 in cc) in
-    (inl e, same_machine m n logs (written m.queues n.queues b (m.queues b) others h.1 ∙ queues_kept m.queues b))
+    (inl (e, h.2), same_machine m n logs (written m.queues n.queues b (m.queues b) others h.1 ∙ queues_kept m.queues b))
 opens_err m n b v code (inr h, others, logs) =
     let q = m.queues b in
     let here : n.queues b ≡ q = h.1 ∙ start_keeps (start_of (m.logs b) v) (m.logs b) q code (sym h.0) in
@@ -115,6 +116,11 @@ opens_err m n b v code (inr h, others, logs) =
 came_is : (r : Option (List PlainEntry)) → came (Some r) ≡ Some (unwrap_or r [])
 came_is None = refl
 came_is (Some es) = refl
+
+came_none : (a : Option (Option (List PlainEntry))) → came a ≡ None → a ≡ None
+came_none None is = refl
+came_none (Some (Some es)) is = cc
+came_none (Some None) is = cc
 
 -- a take gives what comes next
 takes_some : (m n : Machine) (q : QueueId) (max : ℕ) (a : Option (Option (List PlainEntry))) (es : List PlainEntry)
@@ -152,55 +158,60 @@ module _ {P : Type 0} (machine : P → Machine) where
   abbrev pub MachineActs : PlainKey → Calls P
   MachineActs k c p a q = Acts (machine p) k c a (machine q)
 
-  abbrev pub room_at : P → PlainSession → Room
-  room_at p s = record { machine = machine p; session = s }
+  abbrev pub state_at : P → PlainSession → State
+  state_at p s = record { machine = machine p; session = s }
 
-  -- this is what is said, and the room after it
-  abbrev pub IsSaid : Said → (List PlainAnswer → Type 0) → PlainSession → P → Type 0
-  IsSaid x says new q = says x.answers × (room_at q new ≡ x.room)
+  -- what is answered is what the transition answers, and the state after it is left
+  abbrev pub IsTransition : Transition → (List PlainAnswer → Type 0) → PlainSession → P → Type 0
+  IsTransition x says new q = says x.answers × (state_at q new ≡ x.state)
 
-  abbrev Marks : List PlainProjection → PlainEcho → PlainRequest → PlainSession → P → (List PlainAnswer → Type 0)
+  abbrev Finds : List PlainProjection → PlainEcho → PlainRequest → PlainSession → P → (List PlainAnswer → Type 0)
       → PlainSession → P → Type 0
-  Marks t e r s p says new q = (w : Mark) × IsSaid (marked t e (room_at p s) w r) says new q
+  Finds t e r s p says new q = (w : Memory) × IsTransition (answered_with w t e (state_at p s) r) says new q
 
   module _ (t : List PlainProjection) (e : PlainEcho) (s : PlainSession) (p : P) (says : List PlainAnswer → Type 0)
       (new : PlainSession) (q : P) where
-    -- a message that found no memory
-    wants : (r : PlainRequest) → takes_memory r ≡ true → machine q ≡ machine p → new ≡ s → says (failed e E10 ∷ [])
-        → Marks t e r s p says new q
+    -- a request that found no memory
+    wants : (r : PlainRequest) → takes_memory t (state_at p s) r ≡ true → machine q ≡ machine p → new ≡ s
+        → says (failed e E10 ∷ []) → Finds t e r s p says new q
     wants r h same is said =
-        let m = room_at p s in
-        let x = failing e m m.machine in
-        let y = answered t e m r in
-        let due : marked t e m wanting r ≡ x = ap (λ b. cond b x y) h in (
-          wanting,
-          subst (λ (z : Said). IsSaid z says new q) (sym due)
-              (said, same_room (machine p) (machine q) s new same is),
+        let m = state_at p s in
+        let x = memory_wanting e m m.machine in
+        let y = request_answered t e m r in
+        let due : answered_with none_before t e m r ≡ x = ap (λ b. cond b x y) h in (
+          none_before,
+          subst (λ (z : Transition). IsTransition z says new q) (sym due)
+              (said, same_state (machine p) (machine q) s new same is),
         )
 
-    lates : (r : PlainRequest) → takes_memory r ≡ true → machine q ≡ late_machine t (machine p) r → new ≡ s
-        → says (failed e E10 ∷ []) → Marks t e r s p says new q
-    lates r h same is said =
-        let m = room_at p s in
-        let x = failing e m (late_machine t m.machine r) in
-        let y = answered t e m r in
-        let due : marked t e m late r ≡ x = ap (λ b. cond b x y) h in (
-          late,
-          subst (λ (z : Said). IsSaid z says new q) (sym due)
-              (said, same_room (late_machine t (machine p) r) (machine q) s new same is),
+    abbrev IsOpened : PlainKey → Option ℕ → Type 0
+    IsOpened k v = opens t (state_at p s) k v ≡ true
+
+    -- one that found none when its queue was open
+    lates : (k : PlainKey) (v : Option ℕ) → IsOpened k v
+        → machine q ≡ opened_and_closed (machine p) (base_in t k) v → new ≡ s → says (failed e E10 ∷ [])
+        → Finds t e (subscribe k v) s p says new q
+    lates k v h same is said =
+        let m = state_at p s in
+        let x = memory_wanting e m (opened_and_closed m.machine (base_in t k) v) in
+        let y = request_answered t e m (subscribe k v) in
+        let due : answered_with none_after t e m (subscribe k v) ≡ x = ap (λ b. cond b x y) h in (
+          none_after,
+          subst (λ (z : Transition). IsTransition z says new q) (sym due)
+              (said, same_state (opened_and_closed (machine p) (base_in t k) v) (machine q) s new same is),
         )
 
     -- one that found enough: the reply is the machine's
-    replies : (r : PlainRequest) (reply : ReplyTo r) → reply ≡ (replied t (room_at p s) r).0
-        → machine q ≡ (replied t (room_at p s) r).1 → new ≡ (turn e t s r reply).session
-        → says (turn e t s r reply).answers → Marks t e r s p says new q
+    replies : (r : PlainRequest) (reply : ReplyTo r) → reply ≡ (replied t (state_at p s) r).0
+        → machine q ≡ (replied t (state_at p s) r).1 → new ≡ (respond e t s r reply).session
+        → says (respond e t s r reply).answers → Finds t e r s p says new q
     replies r reply due after is said =
-        let m = room_at p s in (
+        let m = state_at p s in (
           enough,
           (
-            subst (λ (x : ReplyTo r). says (turn e t s r x).answers) due said,
-            same_room (replied t m r).1 (machine q) (turn e t s r (replied t m r).0).session new after
-                (is ∙ ap (λ (x : ReplyTo r). (turn e t s r x).session) due),
+            subst (λ (x : ReplyTo r). says (respond e t s r x).answers) due said,
+            same_state (replied t m r).1 (machine q) (respond e t s r (replied t m r).0).session new after
+                (is ∙ ap (λ (x : ReplyTo r). (respond e t s r x).session) due),
           ),
         )
 
@@ -211,22 +222,22 @@ module _ {P : Type 0} (machine : P → Machine) where
     pass_same h = ap machine h
 
     fetch_said : (k : PlainKey) (v : Option ℕ) (r : ReadOf v) → Fetches (MachineActs (base_in t k)) v p r q → new ≡ s
-        → says (read_says e (through t k) k v r) → Marks t e (fetch k v) s p says new q
+        → says (read_says e (through t k) k v r) → Finds t e (fetch k v) s p says new q
     fetch_said k None r (inl h, (l, z)) is said =
-        wants (fetch k None) refl (same_at l z) is
+        wants (fetch k None) h.1 (same_at l z) is
         (subst (λ (x : Result PlainFetched Code). says (found_says e (through t k) k x)) h.0 said)
     fetch_said k None r (inr h, (l, z)) is said = replies (fetch k None) r h (same_at l z) is said
     fetch_said k (Some v) r (inl h, (l, z)) is said =
-        wants (fetch k (Some v)) refl (same_at l z) is
+        wants (fetch k (Some v)) h.1 (same_at l z) is
         (subst (λ (x : Result (List PlainEntry) Code). says (listed_says e (through t k) k x)) h.0 said)
     fetch_said k (Some v) r (inr h, (l, z)) is said = replies (fetch k (Some v)) r h (same_at l z) is said
 
     snapshot_said : (k : PlainKey) (v : Option ℕ) (n : ℕ) (r : Result PlainFetched Code)
         → Acts (machine p) (base_in t k) (snapshot_call v) r (machine q) → new ≡ s
         → says (snapshot_says e (through t k) n r)
-        → Marks t e (snapshot k v n) s p says new q
+        → Finds t e (snapshot k v n) s p says new q
     snapshot_said k v n r (inl h, (l, z)) is said =
-        wants (snapshot k v n) refl (same_at l z) is
+        wants (snapshot k v n) h.1 (same_at l z) is
         (subst (λ (x : Result PlainFetched Code). says (snapshot_says e (through t k) n x)) h.0 said)
     snapshot_said k v n r (inr h, (l, z)) is said = replies (snapshot k v n) r h (same_at l z) is said
 
@@ -234,13 +245,13 @@ module _ {P : Type 0} (machine : P → Machine) where
 
     abbrev Decided : Bool → PlainKey → PlainSubmission → PlainReply → Type 0
     Decided b k u r =
-        ((r ≡ refused E10) × (machine q ≡ machine p))
+        ((r ≡ refused E10) × (machine q ≡ machine p) × ((b && deciding_takes_memory ((machine p).logs k) u) ≡ true))
         ⊎ ((r ≡ (decided_at b (machine p) k u).0) × (machine q ≡ (decided_at b (machine p) k u).1))
 
     in_one_step : (k : PlainKey) (u : PlainSubmission) (r : PlainReply)
         → Decides (machine p).logs k u r (machine q).logs × ((machine q).queues ≡ (machine p).queues)
         → Decided true k u r
-    in_one_step k u r (inl h, z) = inl (h.0, same_machine (machine p) (machine q) h.1 z)
+    in_one_step k u r (inl h, z) = inl (h.0, same_machine (machine p) (machine q) h.1 z, h.2)
     in_one_step k u r (inr h, z) = inr (h.0, same_machine (decided_at true (machine p) k u).1 (machine q) h.1 z)
 
     decides : (b : Bool) (k : PlainKey) (u : PlainSubmission) (r : PlainReply) → Sends (MachineActs k) b u p r q
@@ -254,24 +265,24 @@ module _ {P : Type 0} (machine : P → Machine) where
     submit_by : (k : PlainKey) (v : Option ℕ) (n : ℕ) (src : Option (List ℕ)) (c : PlainContent) (r : PlainReply)
         → Decided (permits (through t k) c) (base_in t k) (sent k v n src c) r → new ≡ s
         → says (reply_says e (through t k) k (unwrap_or src s.source) n r)
-        → Marks t e (submit k v n src c) s p says new q
+        → Finds t e (submit k v n src c) s p says new q
     submit_by k v n src c r (inl h) is said =
-        wants (submit k v n src c) refl h.1 is
+        wants (submit k v n src c) h.2 h.1 is
         (subst (λ x. says (reply_says e (through t k) k (unwrap_or src s.source) n x)) h.0 said)
     submit_by k v n src c r (inr h) is said = replies (submit k v n src c) r h.0 h.1 is said
 
     submit_said : (k : PlainKey) (v : Option ℕ) (n : ℕ) (src : Option (List ℕ)) (c : PlainContent) (r : PlainReply)
         → Sends (MachineActs (base_in t k)) (permits (through t k) c) (sent k v n src c) p r q → new ≡ s
         → says (reply_says e (through t k) k (unwrap_or src s.source) n r)
-        → Marks t e (submit k v n src c) s p says new q
+        → Finds t e (submit k v n src c) s p says new q
     submit_said k v n src c r h is said =
         submit_by k v n src c r (decides (permits (through t k) c) (base_in t k) (sent k v n src c) r h) is said
 
     -- ---- queues that are closed
 
     unsubscribe_said : (k : PlainKey) (r : Unit {0}) → machine q ≡ closed_machine (queue_of k s.subs) (machine p)
-        → new ≡ (turn e t s (unsubscribe k) r).session → says (turn e t s (unsubscribe k) r).answers
-        → Marks t e (unsubscribe k) s p says new q
+        → new ≡ (respond e t s (unsubscribe k) r).session → says (respond e t s (unsubscribe k) r).answers
+        → Finds t e (unsubscribe k) s p says new q
     unsubscribe_said k r after is said = replies (unsubscribe k) r refl after is said
 
     -- ---- queues that are opened
@@ -281,28 +292,32 @@ module _ {P : Type 0} (machine : P → Machine) where
         (r ≡ (subscribed_at b (machine p) (base_in t k) v (queue_of k s.subs)).0)
         × (machine q ≡ (subscribed_at b (machine p) (base_in t k) v (queue_of k s.subs)).1)
 
+    -- whether a queue is opened, where the session is full or not
+    abbrev opens_if : Bool → PlainKey → Option ℕ → Bool
+    opens_if b k v = not b && is_ok (opening_at (machine p) (base_in t k) v).answer
+
     -- the reply is due, or memory was wanting, before or after the queue was open
     abbrev Joined : Bool → PlainKey → Option ℕ → Result PlainJoined Code → Type 0
     Joined b k v r =
         Due b k v r
-        ⊎ (((r ≡ Err E10) × (machine q ≡ machine p))
-        ⊎ ((r ≡ Err E10) × (machine q ≡ late_machine t (machine p) (subscribe k v))))
+        ⊎ (((r ≡ Err E10) × (machine q ≡ machine p) × (opens_if b k v ≡ true))
+        ⊎ ((r ≡ Err E10) × (machine q ≡ opened_and_closed (machine p) (base_in t k) v) × (opens_if b k v ≡ true)))
 
     joined_says : (b : Bool) (k : PlainKey) (v : Option ℕ) (r : Result PlainJoined Code) → is_full k s.subs ≡ b
-        → Joined b k v r → new ≡ (joined_turn e t s k v r).session → says (joined_turn e t s k v r).answers
-        → Marks t e (subscribe k v) s p says new q
+        → Joined b k v r → new ≡ (joined_response e t s k v r).session → says (joined_response e t s k v r).answers
+        → Finds t e (subscribe k v) s p says new q
     joined_says b k v r full (inl h) is said =
         let D : Bool → Type 0 = λ x. Due x k v r in
         let d = subst D (sym full) h in
         replies (subscribe k v) r d.0 d.1 is said
     joined_says b k v r full (inr (inl h)) is said =
-        wants (subscribe k v) refl h.1
-        (is ∙ ap (λ (x : Result PlainJoined Code). (joined_turn e t s k v x).session) h.0)
-        (subst (λ (x : Result PlainJoined Code). says (joined_turn e t s k v x).answers) h.0 said)
+        wants (subscribe k v) (subst (λ x. opens_if x k v ≡ true) (sym full) h.2) h.1
+        (is ∙ ap (λ (x : Result PlainJoined Code). (joined_response e t s k v x).session) h.0)
+        (subst (λ (x : Result PlainJoined Code). says (joined_response e t s k v x).answers) h.0 said)
     joined_says b k v r full (inr (inr h)) is said =
-        lates (subscribe k v) refl h.1
-        (is ∙ ap (λ (x : Result PlainJoined Code). (joined_turn e t s k v x).session) h.0)
-        (subst (λ (x : Result PlainJoined Code). says (joined_turn e t s k v x).answers) h.0 said)
+        lates k v (subst (λ x. opens_if x k v ≡ true) (sym full) h.2) h.1
+        (is ∙ ap (λ (x : Result PlainJoined Code). (joined_response e t s k v x).session) h.0)
+        (subst (λ (x : Result PlainJoined Code). says (joined_response e t s k v x).answers) h.0 said)
 
     closes : (old : Option QueueId) (m : P) → Closes MachineActs old m q → machine q ≡ closed_machine old (machine m)
     closes None m h = ap machine h
@@ -311,8 +326,7 @@ module _ {P : Type 0} (machine : P → Machine) where
     refuses : (k : PlainKey) (v : Option ℕ) (r : Result PlainJoined Code) → Refuses (MachineActs (base_in t k)) v p r q
         → Joined true k v r
     refuses k None r h = inl (h.0 ∙ ap Err (sym (present_code ((machine p).logs (base_in t k)))), pass_same h.1)
-    refuses k (Some v) r (f, ((inl h, (l, z)), is)) = inr (inl (is ∙ ap (λ x. Err (full_code v x)) h.0, same_at l z))
-    refuses k (Some v) r (f, ((inr h, (l, z)), is)) =
+    refuses k (Some v) r (last, ((h, (l, z)), is)) =
         let log = (machine p).logs (base_in t k) in
         inl (is ∙ ap (λ x. Err (full_code v x)) h ∙ ap Err (sym (code_if (nat_lt (length log) v) v)), same_at l z)
 
@@ -327,16 +341,27 @@ module _ {P : Type 0} (machine : P → Machine) where
     )
 
     refused_by : (k : PlainKey) (v : Option ℕ) (code : Code)
-        → (((code ≡ E10) ⊎ ((opening_at (machine p) (base_in t k) v).answer ≡ Err code)) × (machine q ≡ machine p))
+        → ((((code ≡ E10) × (is_ok (opening_at (machine p) (base_in t k) v).answer ≡ true))
+        ⊎ ((opening_at (machine p) (base_in t k) v).answer ≡ Err code)) × (machine q ≡ machine p))
         → Joined false k v (Err code)
-    refused_by k v code (inl h, same) = inr (inl (ap Err h, same))
+    refused_by k v code (inl h, same) = inr (inl (ap Err h.0, same, h.1))
     refused_by k v code (inr h, same) =
         inl (joined_by (base_in t k) v (queue_of k s.subs) (opening_at (machine p) (base_in t k) v).answer (Err code)
         (Err code) h refl same)
 
+    -- memory that is wanting for what a queue begins with changes nothing
+    began : (k : PlainKey) (v : Option ℕ) (o : PlainSubscribed) (m n : P)
+        → Begins MachineActs (base_in t k) v o m None n → machine n ≡ machine m
+    began k v o m n (inl h) = ap machine h.1
+    began k v o m n (inr (a, (takes, is))) =
+        let A : Option (Option (List PlainEntry)) → Type 0 =
+        λ x. MachineActs (base_in t k) (take_next o.id (behind v o.version)) m x n in
+        takes_none (machine m) (machine n) (base_in t k) o.id (behind v o.version) (subst A (came_none a is) takes)
+
     joins : (k : PlainKey) (v : Option ℕ) (r : Result PlainJoined Code)
         → Joins MachineActs (base_in t k) v (queue_of k s.subs) p r q → Joined false k v r
-    joins k v (Ok j) (m, (n, (a, (opens, takes, is, ends)))) =
+    joins k v (Ok j) (m, (n, (opens, inl h, ends))) = let x = h.0 in cc
+    joins k v (Ok j) (m, (n, (opens, inr (a, (takes, is)), ends))) =
         let b = base_in t k in
         let old = queue_of k s.subs in
         let o = opens_ok (machine p) (machine m) b v j.opened opens in
@@ -351,10 +376,10 @@ module _ {P : Type 0} (machine : P → Machine) where
         ap (λ es. Ok (record { opened = j.opened; first = es })) first in
         inl (joined_by b v old (opening_at (machine p) b v).answer (Ok j.opened) (Ok j) o.0 reply after)
     joins k v (Err code) (inl h) = refused_by k v code (opens_err (machine p) (machine q) (base_in t k) v code h)
-    joins k v (Err code) (inr (o, (m, (n, (opens, takes, ends, is))))) =
+    joins k v (Err code) (inr (o, (m, (n, (opens, begins, ends, is))))) =
         let b = base_in t k in
         let x = opens_ok (machine p) (machine m) b v o opens in
-        let y = takes_none (machine m) (machine n) b o.id (behind v o.version) takes in
+        let y = began k v o m n begins in
         let id = next_number ((machine p).logs b) v ((machine p).queues b) o x.0 in
         let after : machine q
         ≡ closed_machine (Some (record { base = b; id = o.id })) (opened_machine (machine p) b v) =
@@ -365,6 +390,7 @@ module _ {P : Type 0} (machine : P → Machine) where
           after
               ∙ ap (λ (i : ℕ). closed_machine (Some (record { base = b; id = i }))
               (opened_machine (machine p) b v)) id,
+          ap is_ok x.0,
         ))
 
     subscribes : (b : Bool) (k : PlainKey) (v : Option ℕ) (r : Result PlainJoined Code)
@@ -374,27 +400,27 @@ module _ {P : Type 0} (machine : P → Machine) where
 
     -- ---- all messages
 
-    request_said : (r : PlainRequest) (reply : Option (ReplyTo r)) → MayReply MachineActs t 0 s r p reply q
-        → new ≡ (may_turn e t s r reply).session → says (may_turn e t s r reply).answers → Marks t e r s p says new q
-    request_said r None h is said = wants r h.0 (pass_same h.1) is said
-    request_said (hello n) (Some r) h is said = replies (hello n) r refl (pass_same h) is said
-    request_said (fetch k v) (Some r) h is said = fetch_said k v r h is said
-    request_said (submit k v n src c) (Some r) h is said = submit_said k v n src c r h is said
-    request_said (snapshot k v n) (Some r) h is said = snapshot_said k v n r h is said
-    request_said (subscribe k v) (Some r) h is said =
+    request_said : (r : PlainRequest) (reply : ReplyTo r) → Replies MachineActs t 0 s r p reply q
+        → new ≡ (respond e t s r reply).session → says (respond e t s r reply).answers → Finds t e r s p says new q
+    request_said (hello n) r h is said = replies (hello n) r refl (pass_same h) is said
+    request_said (fetch k v) r h is said = fetch_said k v r h is said
+    request_said (submit k v n src c) r h is said = submit_said k v n src c r h is said
+    request_said (snapshot k v n) r h is said = snapshot_said k v n r h is said
+    request_said (subscribe k v) r h is said =
         joined_says (is_full k s.subs) k v r refl (subscribes (is_full k s.subs) k v r h) is said
-    request_said (unsubscribe k) (Some r) h is said = unsubscribe_said k r (closes (queue_of k s.subs) p h) is said
+    request_said (unsubscribe k) r h is said = unsubscribe_said k r (closes (queue_of k s.subs) p h) is said
 
-    heard_said : (r : Result PlainRequest Code) → Hears MachineActs e r t 0 s p says new q
-        → (w : Mark) × IsSaid (heard t e (room_at p s) w r) says new q
-    heard_said (Ok r) (reply, (h, is, said)) = request_said r reply h is said
-    heard_said (Err code) h = (enough, (h.2, same_room (machine p) (machine q) s new (pass_same h.0) h.1))
+    message_said : (r : Result PlainRequest Code) → Responds MachineActs e r t 0 s p says new q
+        → (w : Memory) × IsTransition (message_answered t (state_at p s) w e r) says new q
+    message_said (Ok r) (reply, (h, is, said)) = request_said r reply h is said
+    message_said (Err code) h = (enough, (h.2, same_state (machine p) (machine q) s new (pass_same h.0) h.1))
 
   -- what answers one text is the dialogue's answer
   pub answers_said : (text : List ℕ) (t : List PlainProjection) (s : PlainSession) (p : P)
       (says : List PlainAnswer → Type 0) (new : PlainSession) (q : P) → Answers MachineActs text t 0 s p says new q
-      → (w : Mark) × IsSaid (handled t (room_at p s) w (Some text)) says new q
-  answers_said text t s p says new q h = heard_said t (hear text).echo s p says new q (hear text).request h
+      → (w : Memory) × IsTransition (answered t (state_at p s) w (Some text)) says new q
+  answers_said text t s p says new q h =
+      message_said t (parse_message text).echo s p says new q (parse_message text).request h
 
   -- ---- pumps
 
@@ -415,12 +441,12 @@ module _ {P : Type 0} (machine : P → Machine) where
   -- what a pump says is what waits
   pub pumps_said : (t : List PlainProjection) (s : PlainSession) (p : P) (count : ℕ) (says : List PlainAnswer → Type 0)
       (q : P) → Pumps MachineActs 64 t s p count says q
-      → IsSaid (pumped t (room_at p s)) says s q
+      → IsTransition (pushed t (state_at p s)) says s q
   pumps_said t s p count says q (xs, (subs, takes, is, said)) =
       let all = takings_are xs p q takes in
       let xs_are : xs ≡ takings s.subs (machine p) = all.0 ∙ ap (λ l. takings l (machine p)) subs in
       let after : machine q ≡ after_takings s.subs (machine p) = all.1 ∙ ap (λ l. after_takings l (machine p)) subs in (
         subst (λ l. says (pump_says t s.source l)) xs_are said,
-        same_room (after_takings s.subs (machine p))
+        same_state (after_takings s.subs (machine p))
             (machine q) s s after refl,
       )

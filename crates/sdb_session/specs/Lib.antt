@@ -1,8 +1,8 @@
 pub mod Dialogue
+pub mod Handling
 pub mod Laws
-pub mod Pumping
-pub mod Seen
+pub mod Projections
+pub mod Pumps
 pub mod Sessions
-pub mod Shown
-pub mod Told
-pub mod Turns
+pub mod View
+pub mod Written

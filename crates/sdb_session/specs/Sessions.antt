@@ -37,12 +37,12 @@ without_pair k [] = []
 without_pair k (s ∷ subs) = if same_pair k s.key then subs else s ∷ without_pair k subs
 
 -- the most subscriptions of one session
-abbrev pub most_subs : ℕ
-most_subs = 64
+abbrev pub subscription_limit : ℕ
+subscription_limit = 64
 
 -- whether there is no room for this pair
 abbrev pub is_full : PlainKey → List PlainSub → Bool
-is_full k subs = not (is_some (queue_of k subs)) && nat_le most_subs (length subs)
+is_full k subs = not (is_some (queue_of k subs)) && nat_le subscription_limit (length subs)
 
 abbrev pub with_source : PlainSession → Option (List ℕ) → PlainSession
 with_source s n = record { source = unwrap_or n s.source; subs = s.subs }

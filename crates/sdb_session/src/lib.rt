@@ -1,14 +1,14 @@
 //! One session: each message is answered, and what was stored meanwhile is sent.
 #![tactic(auto)]
 
-mod joining;
-mod page;
+mod handlers;
+mod projected;
 mod pumping;
-mod saying;
-mod seeing;
+mod replies;
+mod reply_sink;
 mod session;
-mod turns;
+mod subscriptions;
 
-pub use page::Page;
 pub use pumping::Pumped;
+pub use reply_sink::ReplySink;
 pub use session::{Ended, Session};

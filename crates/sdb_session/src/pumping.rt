@@ -2,16 +2,16 @@
 ghost use Rattle.std.specs.Prelude.{◌≡◌, ⊤, ℕ, IfOk, OnOk, OnErr, length, map, string_bytes, true};
 ghost use Rattle.std.specs.Result.{is_err};
 ghost use Rattle.sdb_oplog.specs.Keys.{plain_key};
-ghost use Rattle.sdb_session.specs.Pumping.{is_own, others, Closed, Pumps, Stops};
-ghost use Rattle.sdb_session.specs.Seen.{through};
-ghost use Rattle.sdb_session.specs.Told.{Wrote, has_ended, plain_session};
-ghost use Rattle.sdb_session.specs.Turns.{messages};
+ghost use Rattle.sdb_session.specs.Pumps.{is_own, others, Closed, Pumps, Stops};
+ghost use Rattle.sdb_session.specs.Projections.{through};
+ghost use Rattle.sdb_session.specs.View.{Wrote, has_ended, plain_session};
+ghost use Rattle.sdb_session.specs.Handling.{messages};
 ghost use Rattle.sdb_wire.specs.Answers.{answer_text};
 
-use crate::joining::take;
-use crate::page::Page;
-use crate::saying::say_entry;
+use crate::replies::say_entry;
+use crate::reply_sink::ReplySink;
 use crate::session::{Ended, Session};
+use crate::subscriptions::take;
 use sdb_oplog::{Entry, Key};
 use sdb_projection::Table;
 use sdb_submit::Desk;
@@ -59,7 +59,7 @@ impl Session {
     ///
     /// Where nothing waits it takes no memory. After want of memory the session is [`Ended`], and nothing
     /// is said of `out`.
-    pub fn pump_to<D: Desk, O: Page>(
+    pub fn pump_to<D: Desk, O: ReplySink>(
         &mut self,
         desk: &D,
         pass: &mut D::Pass,
@@ -81,19 +81,16 @@ impl Session {
         // After an error the first queues were taken from.
         ensures stops { OnErr result (Stops (D.acts desk.now) max (plain_session self.old) pass.old pass.new) }
     {
-        if self.ended {
-            return Err(Ended);
+        if let Some(ended) = self.ended {
+            return Err(ended);
         }
         match self.take_all(desk, pass, table, max, out) {
             Ok(taken) => Ok(taken),
-            Err(_) => {
-                self.ended = true;
-                Err(Ended)
-            }
+            Err(error) => Err(self.end_by(error)),
         }
     }
 
-    fn take_all<D: Desk, O: Page>(
+    fn take_all<D: Desk, O: ReplySink>(
         &self,
         desk: &D,
         pass: &mut D::Pass,
@@ -119,7 +116,7 @@ impl Session {
     }
 
     // Writes the entries that aren't the session's own.
-    fn say_others<O: Page>(
+    fn say_others<O: ReplySink>(
         &self,
         table: &Table,
         key: &Key,

@@ -1,30 +1,36 @@
 //! Sessions.
-ghost use Rattle.std.specs.Prelude.{◌≡◌, ⊤, ◌⊎◌, ◌∷◌, [], true, false, IfOk, OnOk, OnErr, map, string_bytes, Option};
+ghost use Rattle.std.specs.Prelude.{◌≡◌, ◌∷◌, [], true, false, IfOk, OnOk, map, string_bytes};
 ghost use Rattle.std.specs.Result.{is_err, is_ok};
 ghost use Rattle.sdb_oplog.specs.declared.codes.Code.TheVariants.{E1};
-ghost use Rattle.sdb_session.specs.Seen.{through};
-ghost use Rattle.sdb_session.specs.Shown.{text_of};
-ghost use Rattle.sdb_session.specs.Told.{Says, Wrote, has_ended, plain_session};
-ghost use Rattle.sdb_session.specs.Turns.{Answers, Stands};
+ghost use Rattle.sdb_session.specs.View.{Wrote, has_ended, plain_session};
+ghost use Rattle.sdb_session.specs.Handling.{Answers, Handled};
 ghost use Rattle.sdb_wire.specs.Answers.{answer_text, init, failed};
-ghost use Rattle.sdb_wire.specs.Wire.{hear, nothing_said};
+ghost use Rattle.sdb_wire.specs.Wire.{nothing_said, parse_message};
 
-use crate::joining::Subscription;
-use crate::page::Page;
-use crate::saying::{refuse, say};
+use crate::replies::{refuse, say};
+use crate::reply_sink::ReplySink;
+use crate::subscriptions::Subscription;
 use indexmap::IndexMap;
 use sdb_oplog::{Code, Key};
 use sdb_projection::Table;
 use sdb_submit::Desk;
-use sdb_wire::{Answer, Heard, hear, no_echo, reply_text};
+use sdb_wire::{Answer, Message, no_echo, parse_message, reply_text};
 use std::alloc::{AllocError, Global};
 
 /// The most pairs of a collection name and an id that one session subscribes to.
-pub const MOST_SUBSCRIPTIONS: usize = 64;
+pub const SUBSCRIPTION_LIMIT: usize = 64;
 
-/// A session ends where the text of an answer finds no memory.
-#[derive(Clone, Copy, Debug, PartialEq, Eq, Drop)]
-pub struct Ended;
+/// Why a session is at its end: a message, a name or the text of an answer found no memory.
+#[derive(Clone, Copy, Drop)]
+pub struct Ended {
+    error: AllocError,
+}
+
+impl From<Ended> for AllocError {
+    fn from(ended: Ended) -> AllocError {
+        ended.error
+    }
+}
 
 /// A session: its source, and what it is subscribed to, in the order of subscribing.
 #[derive(Drop)]
@@ -32,7 +38,7 @@ pub struct Session {
     pub(crate) alloc: Global,
     pub(crate) source: String,
     pub(crate) subscriptions: IndexMap<Key, Subscription>,
-    pub(crate) ended: bool,
+    pub(crate) ended: Option<Ended>,
 }
 
 impl Session {
@@ -47,7 +53,7 @@ impl Session {
             alloc,
             source: id,
             subscriptions: IndexMap::new(alloc),
-            ended: false,
+            ended: None,
         }
     }
 
@@ -64,7 +70,7 @@ impl Session {
     }
 
     /// Writes the opening text.
-    pub fn opening_to<O: Page>(&self, out: &mut O) -> Result<(), AllocError>
+    pub fn opening_to<O: ReplySink>(&self, out: &mut O) -> Result<(), AllocError>
         ensures { OnOk result (Wrote O.pieces (O.written out.old) (O.written out.new)
             (init (plain_session self.now).source ∷ [])) }
     {
@@ -93,13 +99,11 @@ impl Session {
         // An ended session asks nobody.
         ensures asks { has_ended self.old ≡ true →
             (pass.new ≡ pass.old) × (plain_session self.new ≡ plain_session self.old) }
-        ensures answers { IfOk result (λ texts. Answers (D.acts desk.now) text.now table.now
-            (D.number desk.now pass.old) (plain_session self.old) pass.old
-            (λ answers. map string_bytes texts.items ≡ map answer_text answers)
-            (plain_session self.new) pass.new) }
-        ensures stopped { OnErr result (Stands (Answers (D.acts desk.now) text.now table.now
-            (D.number desk.now pass.old) (plain_session self.old) pass.old (λ answers. ⊤))
-            (plain_session self.old) pass.old (plain_session self.new) pass.new) }
+        ensures handled { Handled result
+            (Answers (D.acts desk.now) text.now table.now (D.number desk.now pass.old)
+            (plain_session self.old) pass.old)
+            (λ answers. IfOk result (λ texts. map string_bytes texts.items ≡ map answer_text answers))
+            (plain_session self.old) pass.old (plain_session self.new) pass.new }
     {
         let mut texts = Vec::new(self.alloc);
         match self.handle_to(desk, pass, table, text, &mut texts) {
@@ -110,10 +114,11 @@ impl Session {
 
     /// Writes the answers to one message, in order, and says whether it is a request.
     ///
-    /// A message whose work finds no memory is answered E10 and changes nothing. Only where it can't be
-    /// read, or the text of an answer not be made, for want of memory, the session is [`Ended`], from then
-    /// on in every call; what was stored stays stored, and nothing is said of `out`.
-    pub fn handle_to<D: Desk, O: Page>(
+    /// A message whose call of the desk finds no memory is answered E10 and changes nothing but, where its
+    /// queue was open, the next number of queues. Where memory is wanting to read a message, to copy a
+    /// name or to make the text of an answer, the session is [`Ended`], from then on in every call; what
+    /// was stored stays stored, and nothing is said of `out`.
+    pub fn handle_to<D: Desk, O: ReplySink>(
         &mut self,
         desk: &D,
         pass: &mut D::Pass,
@@ -124,34 +129,29 @@ impl Session {
         requires takes { D.takes desk.now pass.old }
         ensures takes { D.takes desk.now pass.new }
         ensures number { D.number desk.now pass.new ≡ D.number desk.now pass.old }
-        ensures request { IfOk result (λ b. b ≡ is_ok (hear text.now).request) }
+        ensures request { IfOk result (λ b. b ≡ is_ok (parse_message text.now).request) }
         ensures ended { has_ended self.new ≡ is_err result }
         ensures again { has_ended self.old ≡ true → is_err result ≡ true }
         // An ended session asks nobody.
         ensures asks { has_ended self.old ≡ true →
             (pass.new ≡ pass.old) × (plain_session self.new ≡ plain_session self.old) }
-        ensures answers { OnOk result (Answers (D.acts desk.now) text.now table.now
-            (D.number desk.now pass.old) (plain_session self.old) pass.old
-            (Wrote O.pieces (O.written out.old) (O.written out.new))
-            (plain_session self.new) pass.new) }
         // After an error nothing was done, or all that the message does but for its answers.
-        ensures stopped { OnErr result (Stands (Answers (D.acts desk.now) text.now table.now
-            (D.number desk.now pass.old) (plain_session self.old) pass.old (λ answers. ⊤))
-            (plain_session self.old) pass.old (plain_session self.new) pass.new) }
+        ensures handled { Handled result
+            (Answers (D.acts desk.now) text.now table.now (D.number desk.now pass.old)
+            (plain_session self.old) pass.old)
+            (Wrote O.pieces (O.written out.old) (O.written out.new))
+            (plain_session self.old) pass.old (plain_session self.new) pass.new }
     {
-        if self.ended {
-            return Err(Ended);
+        if let Some(ended) = self.ended {
+            return Err(ended);
         }
         match self.answer(desk, pass, table, text, out) {
             Ok(is_request) => Ok(is_request),
-            Err(_) => {
-                self.ended = true;
-                Err(Ended)
-            }
+            Err(error) => Err(self.end_by(error)),
         }
     }
 
-    fn answer<D: Desk, O: Page>(
+    fn answer<D: Desk, O: ReplySink>(
         &mut self,
         desk: &D,
         pass: &mut D::Pass,
@@ -162,18 +162,16 @@ impl Session {
         requires takes { D.takes desk.now pass.old }
         ensures takes { D.takes desk.now pass.new }
         ensures number { D.number desk.now pass.new ≡ D.number desk.now pass.old }
-        ensures request { IfOk result (λ b. b ≡ is_ok (hear text.now).request) }
-        ensures ended { has_ended self.new ≡ has_ended self.old }
-        ensures answers { OnOk result (Answers (D.acts desk.now) text.now table.now
-            (D.number desk.now pass.old) (plain_session self.old) pass.old
+        ensures request { IfOk result (λ b. b ≡ is_ok (parse_message text.now).request) }
+        ensures ended { self.new.ended ≡ self.old.ended }
+        ensures handled { Handled result
+            (Answers (D.acts desk.now) text.now table.now (D.number desk.now pass.old)
+            (plain_session self.old) pass.old)
             (Wrote O.pieces (O.written out.old) (O.written out.new))
-            (plain_session self.new) pass.new) }
-        ensures stopped { OnErr result (Stands (Answers (D.acts desk.now) text.now table.now
-            (D.number desk.now pass.old) (plain_session self.old) pass.old (λ answers. ⊤))
-            (plain_session self.old) pass.old (plain_session self.new) pass.new) }
+            (plain_session self.old) pass.old (plain_session self.new) pass.new }
     {
-        let Heard { message, request } = hear(self.alloc, text)?;
-        let message = message.as_ref();
+        let Message { json, request } = parse_message(self.alloc, text)?;
+        let message = json.as_ref();
         match request {
             Ok(request) => {
                 self.answer_request(desk, pass, table, message, request, out)?;
@@ -188,24 +186,31 @@ impl Session {
 
     /// Writes the answer to a message that has no text: one that is too long, not UTF-8, or binary. It is
     /// E1 and shows nothing of the message.
-    pub fn refuse_to<O: Page>(&mut self, out: &mut O) -> Result<(), Ended>
+    pub fn refuse_to<O: ReplySink>(&mut self, out: &mut O) -> Result<(), Ended>
         ensures session { plain_session self.new ≡ plain_session self.old }
         ensures ended { has_ended self.new ≡ is_err result }
         ensures again { has_ended self.old ≡ true → is_err result ≡ true }
         ensures says { OnOk result (Wrote O.pieces (O.written out.old) (O.written out.new)
             (failed nothing_said E1 ∷ [])) }
     {
-        if self.ended {
-            return Err(Ended);
+        if let Some(ended) = self.ended {
+            return Err(ended);
         }
         let echo = no_echo();
         let code = Code::E1;
         match say(self.alloc, &Answer::Failed { echo: &echo, code }, out) {
             Ok(()) => Ok(()),
-            Err(_) => {
-                self.ended = true;
-                Err(Ended)
-            }
+            Err(error) => Err(self.end_by(error)),
         }
+    }
+
+    // Each later call answers so.
+    pub(crate) fn end_by(&mut self, error: AllocError) -> Ended
+        ensures session { plain_session self.new ≡ plain_session self.old }
+        ensures ended { has_ended self.new ≡ true }
+    {
+        let ended = Ended { error };
+        self.ended = Some(ended);
+        ended
     }
 }

@@ -8,14 +8,14 @@ use Rattle.sdb_oplog.specs.Plain.{PlainEntry, PlainSubmission}
 use Rattle.sdb_oplog.specs.Keys.{PlainKey, Logs, with_log}
 use Rattle.sdb_oplog.specs.Decide.{PlainReply, refused, decide, deciding_takes_memory}
 use Rattle.sdb_oplog.specs.Laws.{decides_never_wanting}
-use Rattle.sdb_desk.specs.Keyed.{logs_of, queues_of}
+use Rattle.sdb_desk.specs.ShardView.{logs_of, queues_of}
 use Rattle.sdb_desk.specs.Machine.{PlainLook, PlainAttempt, decided, moved, CommittingTakesMemory, Commits, Decides}
 use Rattle.sdb_desk.specs.declared.shard.Shard.{Shard}
 use Rattle.sdb_steps.specs.OneStep as machine
 use Rattle.sdb_steps.specs.OneStep.{OneStep, next}
 use Rattle.sdb_steps.specs.Picks as plain
-use Rattle.sdb_steps.specs.Turns.{Tries}
-use Rattle.sdb_steps.specs.Seen.{core_of}
+use Rattle.sdb_steps.specs.Dispatch.{Tries}
+use Rattle.sdb_steps.specs.StateView.{core_of}
 
 -- ---- the machine of a shard
 

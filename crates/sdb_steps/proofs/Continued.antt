@@ -14,7 +14,7 @@ use Rattle.sdb_desk.specs.Laws.{equal_keys}
 use Rattle.sdb_steps.specs.OneStep as machine
 use Rattle.sdb_steps.specs.OneStep.{OneStep, Event, Legal, empty, started, subscribed}
 use Rattle.sdb_steps.specs.Picks as plain
-use Rattle.sdb_steps.specs.Picks.{Attempt, Session, Sessions, Act, PlainStep, Answer, replied, said, no_memory, Deed, asks, says, deed, replies_in, Picks, all_fresh, with_attempt, with_queue, with_session}
+use Rattle.sdb_steps.specs.Picks.{Attempt, Session, Sessions, Act, PlainStep, Answer, replied, said, no_memory, Effect, event, notice, effect, replies_in, Picks, all_fresh, with_attempt, with_queue, with_session}
 use Rattle.sdb_steps.specs.Runs.{IsSteps}
 use Rattle.sdb_steps.specs.Continued.{read_on, read_after, IsNext, IsContinued, all_read, ContinuedFrom, ContinuedAll}
 use Rattle.sdb_steps.proofs.Follows.{Follows, Comes, comes, legal_steps}
@@ -58,38 +58,38 @@ record Kept (f : PlainKey → Option PlainQueue) (act : Act) (a : Answer) (y : S
   pub tracks : (j : PlainKey) → read_after j act a (f j) ≡ y.queues j
   pub continued : IsContinued end f act a
 
--- of what comes of a deed
-abbrev Keeps : OneStep → (PlainKey → Option PlainQueue) → Act → Deed → Logs → Type 0
-Keeps m f act (asks e y) end = Kept f act (replied (machine.reply m e)) y end
-Keeps m f act (says n y) end = Kept f act (said n) y end
+-- of what comes of an effect
+abbrev Keeps : OneStep → (PlainKey → Option PlainQueue) → Act → Effect → Logs → Type 0
+Keeps m f act (event e y) end = Kept f act (replied (machine.reply m e)) y end
+Keeps m f act (notice n y) end = Kept f act (said n) y end
 
-kept_follows : (m n : OneStep) (f : PlainKey → Option PlainQueue) (act : Act) (d : Deed) (a : Answer) (y : Session) (end : Logs) → Keeps m f act d end → Follows m d a n y → Kept f act a y end
-kept_follows m n f act (asks e z) a y end k h =
+kept_follows : (m n : OneStep) (f : PlainKey → Option PlainQueue) (act : Act) (d : Effect) (a : Answer) (y : Session) (end : Logs) → Keeps m f act d end → Follows m d a n y → Kept f act a y end
+kept_follows m n f act (event e z) a y end k h =
     subst (λ (c : Answer). Kept f act c y end) (sym h.0) (subst (λ (x : Session). Kept f act (replied (machine.reply m e)) x end) (sym h.2) k)
-kept_follows m n f act (says c z) a y end k h =
+kept_follows m n f act (notice c z) a y end k h =
     subst (λ (c : Answer). Kept f act c y end) (sym h.0) (subst (λ (x : Session). Kept f act (said c) x end) (sym h.2) k)
 
 keeps_begin : (m : OneStep) (f : PlainKey → Option PlainQueue) (i : ℕ) (x : Session) (k : PlainKey) (src : List ℕ) (seq : ℕ) (v : Option ℕ) (content : PlainContent) (o : Option Attempt) (end : Logs) → Tracks f x
-    → Keeps m f (plain.begin k src seq v content) (option_map_or (λ a. says plain.idle x) o (says plain.began (with_attempt x (Some (plain.opened m k (plain.submission_of i k src seq v content)))))) end
+    → Keeps m f (plain.begin k src seq v content) (option_map_or (λ a. notice plain.idle x) o (notice plain.began (with_attempt x (Some (plain.opened m k (plain.submission_of i k src seq v content)))))) end
 keeps_begin m f i x k src seq v content None end t = record { tracks = t; continued = tt }
 keeps_begin m f i x k src seq v content (Some a) end t = record { tracks = t; continued = tt }
 
 keeps_worked : (m : OneStep) (f : PlainKey → Option PlainQueue) (x : Session) (a : Attempt) (c : Bool) (end : Logs) → Tracks f x
-    → Keeps m f plain.work (cond c (says plain.idle x) (says plain.worked (with_attempt x (Some (plain.worked_on a))))) end
+    → Keeps m f plain.work (cond c (notice plain.idle x) (notice plain.worked (with_attempt x (Some (plain.worked_on a))))) end
 keeps_worked m f x a true end t = record { tracks = t; continued = tt }
 keeps_worked m f x a false end t = record { tracks = t; continued = tt }
 
 keeps_work : (m : OneStep) (f : PlainKey → Option PlainQueue) (x : Session) (o : Option Attempt) (end : Logs) → Tracks f x
-    → Keeps m f plain.work (option_map_or (λ a. cond a.worked (says plain.idle x) (says plain.worked (with_attempt x (Some (plain.worked_on a))))) o (says plain.idle x)) end
+    → Keeps m f plain.work (option_map_or (λ a. cond a.worked (notice plain.idle x) (notice plain.worked (with_attempt x (Some (plain.worked_on a))))) o (notice plain.idle x)) end
 keeps_work m f x None end t = record { tracks = t; continued = tt }
 keeps_work m f x (Some a) end t = keeps_worked m f x a a.worked end t
 
 keeps_tried : (m : OneStep) (f : PlainKey → Option PlainQueue) (x : Session) (a : Attempt) (c : Bool) (end : Logs) → Tracks f x
-    → Keeps m f plain.commit (cond c (asks (machine.submission a.key a.submission) (with_attempt x None)) (says plain.moved (with_attempt x (Some (plain.moved_on m a))))) end
+    → Keeps m f plain.commit (cond c (event (machine.submission a.key a.submission) (with_attempt x None)) (notice plain.moved (with_attempt x (Some (plain.moved_on m a))))) end
 keeps_tried m f x a true end t = record { tracks = t; continued = tt }
 keeps_tried m f x a false end t = record { tracks = t; continued = tt }
 
-keeps_commit : (m : OneStep) (f : PlainKey → Option PlainQueue) (x : Session) (o : Option Attempt) (end : Logs) → Tracks f x → Keeps m f plain.commit (option_map_or (plain.commits m x) o (says plain.idle x)) end
+keeps_commit : (m : OneStep) (f : PlainKey → Option PlainQueue) (x : Session) (o : Option Attempt) (end : Logs) → Tracks f x → Keeps m f plain.commit (option_map_or (plain.commits m x) o (notice plain.idle x)) end
 keeps_commit m f x None end t = record { tracks = t; continued = tt }
 keeps_commit m f x (Some a) end t = keeps_tried m f x a (plain.decides m a) end t
 
@@ -138,7 +138,7 @@ read_same f x k j es q true is has t = ap (option_map (read_on es)) (t j ∙ ap 
 read_same f x k j es q false is has t = t j
 
 keeps_take : (m : OneStep) (f : PlainKey → Option PlainQueue) (x : Session) (k : PlainKey) (max : ℕ) (o : Option PlainQueue) (end : Logs) → x.queues k ≡ o → Grow m end → Tracks f x
-    → Keeps m f (plain.take k max) (option_map_or (plain.takes m x k max) o (says plain.idle x)) end
+    → Keeps m f (plain.take k max) (option_map_or (plain.takes m x k max) o (notice plain.idle x)) end
 keeps_take m f x k max None end has g t = record { tracks = t; continued = tt }
 keeps_take m f x k max (Some q) end has g t =
     let es = waiting (m.logs k) max q in
@@ -148,11 +148,11 @@ keeps_take m f x k max (Some q) end has g t =
     }
 
 keeps_close : (m : OneStep) (f : PlainKey → Option PlainQueue) (x : Session) (k : PlainKey) (o : Option PlainQueue) (end : Logs) → Tracks f x
-    → Keeps m f (plain.unsubscribe k) (option_map_or (λ q. says plain.unsubscribed (with_queue x k None)) o (says plain.idle x)) end
+    → Keeps m f (plain.unsubscribe k) (option_map_or (λ q. notice plain.unsubscribed (with_queue x k None)) o (notice plain.idle x)) end
 keeps_close m f x k None end t = record { tracks = t; continued = tt }
 keeps_close m f x k (Some q) end t = record { tracks = λ j. put_same (same_key k j) None (f j) (x.queues j) (t j); continued = tt }
 
-keeps_deed : (m : OneStep) (f : PlainKey → Option PlainQueue) (i : ℕ) (x : Session) (act : Act) (end : Logs) → Grow m end → Tracks f x → Keeps m f act (deed m i x act) end
+keeps_deed : (m : OneStep) (f : PlainKey → Option PlainQueue) (i : ℕ) (x : Session) (act : Act) (end : Logs) → Grow m end → Tracks f x → Keeps m f act (effect m i x act) end
 keeps_deed m f i x (plain.begin k src seq v content) end g t = keeps_begin m f i x k src seq v content x.attempt end t
 keeps_deed m f i x plain.work end g t = keeps_work m f x x.attempt end t
 keeps_deed m f i x plain.commit end g t = keeps_commit m f x x.attempt end t
@@ -191,10 +191,10 @@ track_at : (c : Bool) (i n : ℕ) (f : ℕ → PlainKey → Option PlainQueue) (
 track_at true i n f act a y x j is h t = subst (λ (l : ℕ). read_after j act a (f l j) ≡ y.queues j) (eqb-true i n is) (h j)
 track_at false i n f act a y x j is h t = t j
 
-goes_with : (m n : OneStep) (f : ℕ → PlainKey → Option PlainQueue) (s : PlainStep) (a : Answer) (w v : Sessions) (y : Session) (end : Logs) → TrackAll f w → Follows m (deed m s.session (w s.session) s.act) a n y → v ≡ with_session w s.session y
+goes_with : (m n : OneStep) (f : ℕ → PlainKey → Option PlainQueue) (s : PlainStep) (a : Answer) (w v : Sessions) (y : Session) (end : Logs) → TrackAll f w → Follows m (effect m s.session (w s.session) s.act) a n y → v ≡ with_session w s.session y
     → Grow m end → Goes f s a v end
 goes_with m n f s a w v y end t h put g =
-    let d = deed m s.session (w s.session) s.act in
+    let d = effect m s.session (w s.session) s.act in
     let k : Kept (f s.session) s.act a y end = kept_follows m n (f s.session) s.act d a y end (keeps_deed m (f s.session) s.session (w s.session) s.act end g (t s.session)) h in
     let all : TrackAll (all_read f s a) (with_session w s.session y) = λ i j. track_at (nat_eq s.session i) s.session i f s.act a y (w i) j refl k.tracks (t i) in
     record { tracks = subst (λ (u : Sessions). TrackAll (all_read f s a) u) (sym put) all; continued = k.continued }

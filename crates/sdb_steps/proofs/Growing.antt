@@ -8,7 +8,7 @@ use Rattle.sdb_oplog.specs.Laws.{decide_grows, made_decided}
 use Rattle.sdb_desk.specs.Laws.{equal_keys}
 use Rattle.sdb_steps.specs.OneStep as machine
 use Rattle.sdb_steps.specs.OneStep.{OneStep, Event, started, next, after, empty}
-use Rattle.sdb_steps.specs.Picks.{Session, Sessions, PlainStep, Answer, replied, said, no_memory, Deed, asks, says, deed}
+use Rattle.sdb_steps.specs.Picks.{Session, Sessions, PlainStep, Answer, replied, said, no_memory, Effect, event, notice, effect}
 use Rattle.sdb_steps.specs.Runs.{IsStep, IsSteps}
 use Rattle.sdb_steps.proofs.Runs.{append_nil}
 use Rattle.sdb_steps.proofs.Follows.{Follows, Comes, comes}
@@ -48,13 +48,13 @@ grows_next m (machine.take_from q from n) k = same_log (m.logs k)
 
 -- ---- one step, and many
 
-grows_follows : (m n : OneStep) (d : Deed) (a : Answer) (x : Session) (k : PlainKey) → Follows m d a n x → Grows (m.logs k) (n.logs k)
-grows_follows m n (asks e y) a x k h = subst (λ (o : OneStep). Grows (m.logs k) (o.logs k)) (sym h.1) (grows_next m e k)
-grows_follows m n (says b y) a x k h = subst (λ (o : OneStep). Grows (m.logs k) (o.logs k)) (sym h.1) (same_log (m.logs k))
+grows_follows : (m n : OneStep) (d : Effect) (a : Answer) (x : Session) (k : PlainKey) → Follows m d a n x → Grows (m.logs k) (n.logs k)
+grows_follows m n (event e y) a x k h = subst (λ (o : OneStep). Grows (m.logs k) (o.logs k)) (sym h.1) (grows_next m e k)
+grows_follows m n (notice b y) a x k h = subst (λ (o : OneStep). Grows (m.logs k) (o.logs k)) (sym h.1) (same_log (m.logs k))
 
 grows_comes : (m n : OneStep) (w v : Sessions) (s : PlainStep) (a : Answer) (k : PlainKey) → Comes m w s a n v → Grows (m.logs k) (n.logs k)
-grows_comes m n w v s (replied r) k h = grows_follows m n (deed m s.session (w s.session) s.act) (replied r) h.0 k h.1
-grows_comes m n w v s (said b) k h = grows_follows m n (deed m s.session (w s.session) s.act) (said b) h.0 k h.1
+grows_comes m n w v s (replied r) k h = grows_follows m n (effect m s.session (w s.session) s.act) (replied r) h.0 k h.1
+grows_comes m n w v s (said b) k h = grows_follows m n (effect m s.session (w s.session) s.act) (said b) h.0 k h.1
 grows_comes m n w v s no_memory k h = subst (λ (o : OneStep). Grows (m.logs k) (o.logs k)) (sym h.0) (same_log (m.logs k))
 
 grows_step : (m n : OneStep) (w v : Sessions) (s : PlainStep) (a : Answer) (k : PlainKey) → IsStep m w s a n v → Grows (m.logs k) (n.logs k)

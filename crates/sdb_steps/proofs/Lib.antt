@@ -4,10 +4,10 @@ pub mod Follows
 pub mod Growing
 pub mod Made
 pub mod Placed
+pub mod QueueSteps
 pub mod Replays
 pub mod Runs
 pub mod Taken
 pub mod Tries
-pub mod Turning
 pub mod Worlds
 pub mod Written

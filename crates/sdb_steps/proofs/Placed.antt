@@ -14,7 +14,7 @@ use Rattle.sdb_desk.specs.Laws.{same_itself}
 use Rattle.sdb_steps.specs.OneStep as machine
 use Rattle.sdb_steps.specs.OneStep.{OneStep, Event, Legal, empty, decided, started, next}
 use Rattle.sdb_steps.specs.Picks as plain
-use Rattle.sdb_steps.specs.Picks.{Attempt, Session, Sessions, Act, PlainStep, Answer, replied, said, no_memory, Deed, asks, says, deed, replies_in, Picks, all_fresh, with_attempt, with_session}
+use Rattle.sdb_steps.specs.Picks.{Attempt, Session, Sessions, Act, PlainStep, Answer, replied, said, no_memory, Effect, event, notice, effect, replies_in, Picks, all_fresh, with_attempt, with_session}
 use Rattle.sdb_steps.specs.Runs.{IsSteps}
 use Rattle.sdb_steps.specs.Placed.{Begun, begun_after, IsPlaced, with_begun, PlacedFrom, PlacedAll}
 use Rattle.sdb_steps.proofs.Follows.{Follows, Comes, comes, legal_steps}
@@ -80,41 +80,41 @@ record Kept (b : Option Begun) (act : Act) (a : Answer) (y : Session) (end : Log
   pub tracks : Tracks (begun_after act a b) y
   pub placed : IsPlaced end b act a
 
--- of what comes of a deed
-abbrev Keeps : OneStep → Option Begun → Act → Deed → Logs → Type 0
-Keeps m b act (asks e y) end = Grow (next m e) end → Kept b act (replied (machine.reply m e)) y end
-Keeps m b act (says n y) end = Kept b act (said n) y end
+-- of what comes of an effect
+abbrev Keeps : OneStep → Option Begun → Act → Effect → Logs → Type 0
+Keeps m b act (event e y) end = Grow (next m e) end → Kept b act (replied (machine.reply m e)) y end
+Keeps m b act (notice n y) end = Kept b act (said n) y end
 
-kept_follows : (m n : OneStep) (b : Option Begun) (act : Act) (d : Deed) (a : Answer) (y : Session) (end : Logs) → Keeps m b act d end → Follows m d a n y → Grow n end → Kept b act a y end
-kept_follows m n b act (asks e z) a y end k h g =
+kept_follows : (m n : OneStep) (b : Option Begun) (act : Act) (d : Effect) (a : Answer) (y : Session) (end : Logs) → Keeps m b act d end → Follows m d a n y → Grow n end → Kept b act a y end
+kept_follows m n b act (event e z) a y end k h g =
     let now = k (subst (λ (o : OneStep). Grow o end) h.1 g) in
     subst (λ (c : Answer). Kept b act c y end) (sym h.0) (subst (λ (x : Session). Kept b act (replied (machine.reply m e)) x end) (sym h.2) now)
-kept_follows m n b act (says c z) a y end k h g =
+kept_follows m n b act (notice c z) a y end k h g =
     subst (λ (c : Answer). Kept b act c y end) (sym h.0) (subst (λ (x : Session). Kept b act (said c) x end) (sym h.2) k)
 
 keeps_begin : (m : OneStep) (b : Option Begun) (i : ℕ) (x : Session) (k : PlainKey) (src : List ℕ) (seq : ℕ) (v : Option ℕ) (content : PlainContent) (o : Option Attempt) (end : Logs) → Tracks b x
-    → Keeps m b (plain.begin k src seq v content) (option_map_or (λ a. says plain.idle x) o (says plain.began (with_attempt x (Some (plain.opened m k (plain.submission_of i k src seq v content)))))) end
+    → Keeps m b (plain.begin k src seq v content) (option_map_or (λ a. notice plain.idle x) o (notice plain.began (with_attempt x (Some (plain.opened m k (plain.submission_of i k src seq v content)))))) end
 keeps_begin m b i x k src seq v content None end t = record { tracks = refl; placed = tt }
 keeps_begin m b i x k src seq v content (Some a) end t = record { tracks = t; placed = tt }
 
 keeps_worked : (m : OneStep) (b : Option Begun) (x : Session) (a : Attempt) (c : Bool) (end : Logs) → x.attempt ≡ Some a → Tracks b x
-    → Keeps m b plain.work (cond c (says plain.idle x) (says plain.worked (with_attempt x (Some (plain.worked_on a))))) end
+    → Keeps m b plain.work (cond c (notice plain.idle x) (notice plain.worked (with_attempt x (Some (plain.worked_on a))))) end
 keeps_worked m b x a true end is t = record { tracks = t; placed = tt }
 keeps_worked m b x a false end is t = record { tracks = t ∙ ap (option_map begun_of) is; placed = tt }
 
 keeps_work : (m : OneStep) (b : Option Begun) (x : Session) (o : Option Attempt) (end : Logs) → x.attempt ≡ o → Tracks b x
-    → Keeps m b plain.work (option_map_or (λ a. cond a.worked (says plain.idle x) (says plain.worked (with_attempt x (Some (plain.worked_on a))))) o (says plain.idle x)) end
+    → Keeps m b plain.work (option_map_or (λ a. cond a.worked (notice plain.idle x) (notice plain.worked (with_attempt x (Some (plain.worked_on a))))) o (notice plain.idle x)) end
 keeps_work m b x None end is t = record { tracks = t; placed = tt }
 keeps_work m b x (Some a) end is t = keeps_worked m b x a a.worked end is t
 
 keeps_tried : (m : OneStep) (b : Option Begun) (x : Session) (a : Attempt) (c : Bool) (end : Logs) → b ≡ Some (begun_of a)
-    → Keeps m b plain.commit (cond c (asks (machine.submission a.key a.submission) (with_attempt x None)) (says plain.moved (with_attempt x (Some (plain.moved_on m a))))) end
+    → Keeps m b plain.commit (cond c (event (machine.submission a.key a.submission) (with_attempt x None)) (notice plain.moved (with_attempt x (Some (plain.moved_on m a))))) end
 keeps_tried m b x a true end is =
     λ g. record { tracks = refl; placed = subst (λ (c : Option Begun). IsPlaced end c plain.commit (replied (machine.reply m (machine.submission a.key a.submission)))) (sym is) (placed_next m a end (g a.key)) }
 keeps_tried m b x a false end is = record { tracks = is; placed = tt }
 
 keeps_commit : (m : OneStep) (b : Option Begun) (x : Session) (o : Option Attempt) (end : Logs) → x.attempt ≡ o → Tracks b x
-    → Keeps m b plain.commit (option_map_or (plain.commits m x) o (says plain.idle x)) end
+    → Keeps m b plain.commit (option_map_or (plain.commits m x) o (notice plain.idle x)) end
 keeps_commit m b x None end is t = record { tracks = t; placed = tt }
 keeps_commit m b x (Some a) end is t = keeps_tried m b x a (plain.decides m a) end (t ∙ ap (option_map begun_of) is)
 
@@ -132,16 +132,16 @@ keeps_subscribe m b x k v (Err E9) end t = λ g. record { tracks = t; placed = t
 keeps_subscribe m b x k v (Err E10) end t = λ g. record { tracks = t; placed = tt }
 keeps_subscribe m b x k v (Err E11) end t = record { tracks = t; placed = tt }
 
-keeps_take : (m : OneStep) (b : Option Begun) (x : Session) (k : PlainKey) (max : ℕ) (o : Option PlainQueue) (end : Logs) → Tracks b x → Keeps m b (plain.take k max) (option_map_or (plain.takes m x k max) o (says plain.idle x)) end
+keeps_take : (m : OneStep) (b : Option Begun) (x : Session) (k : PlainKey) (max : ℕ) (o : Option PlainQueue) (end : Logs) → Tracks b x → Keeps m b (plain.take k max) (option_map_or (plain.takes m x k max) o (notice plain.idle x)) end
 keeps_take m b x k max None end t = record { tracks = t; placed = tt }
 keeps_take m b x k max (Some q) end t = λ g. record { tracks = t; placed = tt }
 
 keeps_close : (m : OneStep) (b : Option Begun) (x : Session) (k : PlainKey) (o : Option PlainQueue) (end : Logs) → Tracks b x
-    → Keeps m b (plain.unsubscribe k) (option_map_or (λ q. says plain.unsubscribed (plain.with_queue x k None)) o (says plain.idle x)) end
+    → Keeps m b (plain.unsubscribe k) (option_map_or (λ q. notice plain.unsubscribed (plain.with_queue x k None)) o (notice plain.idle x)) end
 keeps_close m b x k None end t = record { tracks = t; placed = tt }
 keeps_close m b x k (Some q) end t = record { tracks = t; placed = tt }
 
-keeps_deed : (m : OneStep) (b : Option Begun) (i : ℕ) (x : Session) (act : Act) (end : Logs) → Tracks b x → Keeps m b act (deed m i x act) end
+keeps_deed : (m : OneStep) (b : Option Begun) (i : ℕ) (x : Session) (act : Act) (end : Logs) → Tracks b x → Keeps m b act (effect m i x act) end
 keeps_deed m b i x (plain.begin k src seq v content) end t = keeps_begin m b i x k src seq v content x.attempt end t
 keeps_deed m b i x plain.work end t = keeps_work m b x x.attempt end refl t
 keeps_deed m b i x plain.commit end t = keeps_commit m b x x.attempt end refl t
@@ -184,9 +184,9 @@ goes_kept f s a w v y end t put k =
     λ n. track_at (nat_eq s.session n) (begun_after s.act a (f s.session)) (f n) y (w n) k.tracks (t n) in
     record { tracks = subst (λ (u : Sessions). TrackAll (with_begun f s.session (begun_after s.act a (f s.session))) u) (sym put) all; placed = k.placed }
 
-goes_with : (m n : OneStep) (f : ℕ → Option Begun) (s : PlainStep) (a : Answer) (w v : Sessions) (y : Session) (end : Logs) → TrackAll f w → Follows m (deed m s.session (w s.session) s.act) a n y → v ≡ with_session w s.session y → Grow n end → Goes f s a v end
+goes_with : (m n : OneStep) (f : ℕ → Option Begun) (s : PlainStep) (a : Answer) (w v : Sessions) (y : Session) (end : Logs) → TrackAll f w → Follows m (effect m s.session (w s.session) s.act) a n y → v ≡ with_session w s.session y → Grow n end → Goes f s a v end
 goes_with m n f s a w v y end t h put g =
-    goes_kept f s a w v y end t put (kept_follows m n (f s.session) s.act (deed m s.session (w s.session) s.act) a y end (keeps_deed m (f s.session) s.session (w s.session) s.act end (t s.session)) h g)
+    goes_kept f s a w v y end t put (kept_follows m n (f s.session) s.act (effect m s.session (w s.session) s.act) a y end (keeps_deed m (f s.session) s.session (w s.session) s.act end (t s.session)) h g)
 
 -- a session put back where it was
 track_same : (c : Bool) (i n : ℕ) (b : Option Begun) (f : ℕ → Option Begun) (w : Sessions) → nat_eq i n ≡ c → Tracks b (w i) → TrackAll f w → Tracks (cond c b (f n)) (w n)

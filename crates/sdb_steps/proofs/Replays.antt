@@ -11,7 +11,7 @@ use Rattle.sdb_desk.specs.Machine as desk
 use Rattle.sdb_desk.specs.Machine.{PlainFetched}
 use Rattle.sdb_steps.specs.OneStep.{OneStep, Event, Legal, empty, snapped}
 use Rattle.sdb_steps.specs.Picks as plain
-use Rattle.sdb_steps.specs.Picks.{Session, Sessions, Act, PlainStep, Answer, replied, said, no_memory, deed, replies_in, Picks, all_fresh}
+use Rattle.sdb_steps.specs.Picks.{Session, Sessions, Act, PlainStep, Answer, replied, said, no_memory, effect, replies_in, Picks, all_fresh}
 use Rattle.sdb_steps.specs.Runs.{IsSteps}
 use Rattle.sdb_steps.specs.Replays.{IsReplayOf, IsReplay, ReplaysAll}
 use Rattle.sdb_steps.proofs.Follows.{Follows, Comes, comes, legal_steps}
@@ -45,7 +45,7 @@ snapped_is old end k v false g is =
 
 -- ---- one step, and many
 
-read : (m n : OneStep) (i : ℕ) (x y : Session) (act : Act) (a : Answer) (end : Logs) → Follows m (deed m i x act) a n y → ((k : PlainKey) → Grows (m.logs k) (end k)) → IsReplay end act a
+read : (m n : OneStep) (i : ℕ) (x y : Session) (act : Act) (a : Answer) (end : Logs) → Follows m (effect m i x act) a n y → ((k : PlainKey) → Grows (m.logs k) (end k)) → IsReplay end act a
 read m n i x y (plain.begin k src seq v content) a end h g = tt
 read m n i x y plain.work a end h g = tt
 read m n i x y plain.commit a end h g = tt

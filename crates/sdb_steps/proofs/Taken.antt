@@ -15,7 +15,7 @@ use Rattle.sdb_desk.specs.Laws.{equal_keys}
 use Rattle.sdb_steps.specs.OneStep as machine
 use Rattle.sdb_steps.specs.OneStep.{OneStep, Event, Reply, subscribed, started, reply, next}
 use Rattle.sdb_steps.specs.Picks as plain
-use Rattle.sdb_steps.specs.Picks.{Session, Sessions, Act, PlainStep, Answer, replied, said, no_memory, Deed, asks, says, deed, replies_in, with_session, with_queue, with_attempt}
+use Rattle.sdb_steps.specs.Picks.{Session, Sessions, Act, PlainStep, Answer, replied, said, no_memory, Effect, event, notice, effect, replies_in, with_session, with_queue, with_attempt}
 use Rattle.sdb_steps.specs.Runs.{IsSteps}
 use Rattle.sdb_steps.specs.Took.{adds, took_on, took, TookAll}
 use Rattle.sdb_steps.proofs.Follows.{Follows, Comes, comes, legal_steps}
@@ -68,37 +68,37 @@ HasTaken m x k es = (q : PlainQueue) → x.queues k ≡ Some q → IsOn (m.logs 
 grown : (m : OneStep) (e : Event) (x : Session) (k : PlainKey) (es : List PlainEntry) → HasTaken m x k es → HasTaken (next m e) x k es
 grown m e x k es h q is = on_grown (m.logs k) ((next m e).logs k) q es (grows_next m e k) (h q is)
 
--- a deed that opens and moves no queue
+-- an effect that opens and moves no queue
 abbrev Sub : Session → Session → Type 0
 Sub x y = (k : PlainKey) (q : PlainQueue) → y.queues k ≡ Some q → x.queues k ≡ Some q
 
-abbrev DeedSub : Session → Deed → Type 0
-DeedSub x (asks e y) = Sub x y
-DeedSub x (says a y) = Sub x y
+abbrev DeedSub : Session → Effect → Type 0
+DeedSub x (event e y) = Sub x y
+DeedSub x (notice a y) = Sub x y
 
-sub_follows : (m n : OneStep) (x y : Session) (d : Deed) (a : Answer) (k : PlainKey) (es : List PlainEntry) → DeedSub x d → Follows m d a n y → HasTaken m x k es → HasTaken n y k es
-sub_follows m n x y (asks e z) a k es sub h t =
+sub_follows : (m n : OneStep) (x y : Session) (d : Effect) (a : Answer) (k : PlainKey) (es : List PlainEntry) → DeedSub x d → Follows m d a n y → HasTaken m x k es → HasTaken n y k es
+sub_follows m n x y (event e z) a k es sub h t =
     subst (λ (o : OneStep). HasTaken o y k es) (sym h.1) (subst (λ (w : Session). HasTaken (next m e) w k es) (sym h.2) (λ q is. grown m e x k es t q (sub k q is)))
-sub_follows m n x y (says b z) a k es sub h t =
+sub_follows m n x y (notice b z) a k es sub h t =
     subst (λ (o : OneStep). HasTaken o y k es) (sym h.1) (subst (λ (w : Session). HasTaken m w k es) (sym h.2) (λ q is. t q (sub k q is)))
 
-sub_begin : (x : Session) (new : plain.Attempt) (o : Option plain.Attempt) → DeedSub x (option_map_or (λ a. says plain.idle x) o (says plain.began (with_attempt x (Some new))))
+sub_begin : (x : Session) (new : plain.Attempt) (o : Option plain.Attempt) → DeedSub x (option_map_or (λ a. notice plain.idle x) o (notice plain.began (with_attempt x (Some new))))
 sub_begin x new None = λ j q is. is
 sub_begin x new (Some a) = λ j q is. is
 
-sub_worked : (x : Session) (a : plain.Attempt) (b : Bool) → DeedSub x (cond b (says plain.idle x) (says plain.worked (with_attempt x (Some (plain.worked_on a)))))
+sub_worked : (x : Session) (a : plain.Attempt) (b : Bool) → DeedSub x (cond b (notice plain.idle x) (notice plain.worked (with_attempt x (Some (plain.worked_on a)))))
 sub_worked x a true = λ j q is. is
 sub_worked x a false = λ j q is. is
 
-sub_work : (x : Session) (o : Option plain.Attempt) → DeedSub x (option_map_or (λ a. cond a.worked (says plain.idle x) (says plain.worked (with_attempt x (Some (plain.worked_on a))))) o (says plain.idle x))
+sub_work : (x : Session) (o : Option plain.Attempt) → DeedSub x (option_map_or (λ a. cond a.worked (notice plain.idle x) (notice plain.worked (with_attempt x (Some (plain.worked_on a))))) o (notice plain.idle x))
 sub_work x None = λ j q is. is
 sub_work x (Some a) = sub_worked x a a.worked
 
-sub_commits : (m : OneStep) (x : Session) (a : plain.Attempt) (b : Bool) → DeedSub x (cond b (asks (machine.submission a.key a.submission) (with_attempt x None)) (says plain.moved (with_attempt x (Some (plain.moved_on m a)))))
+sub_commits : (m : OneStep) (x : Session) (a : plain.Attempt) (b : Bool) → DeedSub x (cond b (event (machine.submission a.key a.submission) (with_attempt x None)) (notice plain.moved (with_attempt x (Some (plain.moved_on m a)))))
 sub_commits m x a true = λ j q is. is
 sub_commits m x a false = λ j q is. is
 
-sub_commit : (m : OneStep) (x : Session) (o : Option plain.Attempt) → DeedSub x (option_map_or (plain.commits m x) o (says plain.idle x))
+sub_commit : (m : OneStep) (x : Session) (o : Option plain.Attempt) → DeedSub x (option_map_or (plain.commits m x) o (notice plain.idle x))
 sub_commit m x None = λ j q is. is
 sub_commit m x (Some a) = sub_commits m x a (plain.decides m a)
 
@@ -106,7 +106,7 @@ shut : (b : Bool) (o : Option PlainQueue) (q : PlainQueue) → cond b None o ≡
 shut true o q h = cc
 shut false o q h = h
 
-sub_unsubscribe : (x : Session) (k : PlainKey) (o : Option PlainQueue) → DeedSub x (option_map_or (λ q. says plain.unsubscribed (with_queue x k None)) o (says plain.idle x))
+sub_unsubscribe : (x : Session) (k : PlainKey) (o : Option PlainQueue) → DeedSub x (option_map_or (λ q. notice plain.unsubscribed (with_queue x k None)) o (notice plain.idle x))
 sub_unsubscribe x k None = λ j q is. is
 sub_unsubscribe x k (Some p) = λ j q is. shut (same_key k j) (x.queues j) q is
 
@@ -158,7 +158,7 @@ subscribe_step m n x y k j v (Ok start) a es is h t =
     subst (λ (b : Answer). HasTaken n y j (adds j (plain.subscribe k v) b es)) (sym told)
     (subst (λ (o : OneStep). HasTaken o y j (cond (same_key k j) [] es)) (sym h.1) (subst (λ (w : Session). HasTaken (next m e) w j (cond (same_key k j) [] es)) (sym h.2) now))
 
-take_step : (m n : OneStep) (x y : Session) (k j : PlainKey) (max : ℕ) (o : Option PlainQueue) (a : Answer) (es : List PlainEntry) → x.queues k ≡ o → Follows m (option_map_or (plain.takes m x k max) o (says plain.idle x)) a n y
+take_step : (m n : OneStep) (x y : Session) (k j : PlainKey) (max : ℕ) (o : Option PlainQueue) (a : Answer) (es : List PlainEntry) → x.queues k ≡ o → Follows m (option_map_or (plain.takes m x k max) o (notice plain.idle x)) a n y
     → HasTaken m x j es → HasTaken n y j (adds j (plain.take k max) a es)
 take_step m n x y k j max None a es is h t =
     subst (λ (b : Answer). HasTaken n y j (adds j (plain.take k max) b es)) (sym h.0)
@@ -173,21 +173,21 @@ take_step m n x y k j max (Some p) a es is h t =
     subst (λ (b : Answer). HasTaken n y j (adds j (plain.take k max) b es)) (sym h.0)
     (subst (λ (o : OneStep). HasTaken o y j (cond (same_key k j) (es ++ new) es)) (sym h.1) (subst (λ (w : Session). HasTaken m w j (cond (same_key k j) (es ++ new) es)) (sym h.2) now))
 
-session_step : (m n : OneStep) (i : ℕ) (x y : Session) (act : Act) (a : Answer) (j : PlainKey) (es : List PlainEntry) → Follows m (deed m i x act) a n y → HasTaken m x j es → HasTaken n y j (adds j act a es)
+session_step : (m n : OneStep) (i : ℕ) (x y : Session) (act : Act) (a : Answer) (j : PlainKey) (es : List PlainEntry) → Follows m (effect m i x act) a n y → HasTaken m x j es → HasTaken n y j (adds j act a es)
 session_step m n i x y (plain.begin k src seq v content) a j es h t =
-    sub_follows m n x y (deed m i x (plain.begin k src seq v content)) a j es (sub_begin x (plain.opened m k (plain.submission_of i k src seq v content)) x.attempt) h t
-session_step m n i x y plain.work a j es h t = sub_follows m n x y (deed m i x plain.work) a j es (sub_work x x.attempt) h t
-session_step m n i x y plain.commit a j es h t = sub_follows m n x y (deed m i x plain.commit) a j es (sub_commit m x x.attempt) h t
-session_step m n i x y (plain.fetch k) a j es h t = sub_follows m n x y (deed m i x (plain.fetch k)) a j es (λ i q p. p) h t
-session_step m n i x y (plain.snapshot k v) a j es h t = sub_follows m n x y (deed m i x (plain.snapshot k v)) a j es (λ i q p. p) h t
+    sub_follows m n x y (effect m i x (plain.begin k src seq v content)) a j es (sub_begin x (plain.opened m k (plain.submission_of i k src seq v content)) x.attempt) h t
+session_step m n i x y plain.work a j es h t = sub_follows m n x y (effect m i x plain.work) a j es (sub_work x x.attempt) h t
+session_step m n i x y plain.commit a j es h t = sub_follows m n x y (effect m i x plain.commit) a j es (sub_commit m x x.attempt) h t
+session_step m n i x y (plain.fetch k) a j es h t = sub_follows m n x y (effect m i x (plain.fetch k)) a j es (λ i q p. p) h t
+session_step m n i x y (plain.snapshot k v) a j es h t = sub_follows m n x y (effect m i x (plain.snapshot k v)) a j es (λ i q p. p) h t
 session_step m n i x y (plain.subscribe k v) a j es h t = subscribe_step m n x y k j v (started m k v) a es refl h t
 session_step m n i x y (plain.take k max) a j es h t = take_step m n x y k j max (x.queues k) a es refl h t
-session_step m n i x y (plain.unsubscribe k) a j es h t = sub_follows m n x y (deed m i x (plain.unsubscribe k)) a j es (sub_unsubscribe x k (x.queues k)) h t
-session_step m n i x y (plain.forget k) a j es h t = sub_follows m n x y (deed m i x (plain.forget k)) a j es (λ i q p. p) h t
+session_step m n i x y (plain.unsubscribe k) a j es h t = sub_follows m n x y (effect m i x (plain.unsubscribe k)) a j es (sub_unsubscribe x k (x.queues k)) h t
+session_step m n i x y (plain.forget k) a j es h t = sub_follows m n x y (effect m i x (plain.forget k)) a j es (λ i q p. p) h t
 
-other_session : (m n : OneStep) (x z : Session) (d : Deed) (a : Answer) (j : PlainKey) (es : List PlainEntry) → Follows m d a n x → HasTaken m z j es → HasTaken n z j es
-other_session m n x z (asks e y) a j es h t = subst (λ (o : OneStep). HasTaken o z j es) (sym h.1) (grown m e z j es t)
-other_session m n x z (says b y) a j es h t = subst (λ (o : OneStep). HasTaken o z j es) (sym h.1) t
+other_session : (m n : OneStep) (x z : Session) (d : Effect) (a : Answer) (j : PlainKey) (es : List PlainEntry) → Follows m d a n x → HasTaken m z j es → HasTaken n z j es
+other_session m n x z (event e y) a j es h t = subst (λ (o : OneStep). HasTaken o z j es) (sym h.1) (grown m e z j es t)
+other_session m n x z (notice b y) a j es h t = subst (λ (o : OneStep). HasTaken o z j es) (sym h.1) t
 
 -- ---- one step of all sessions, and runs
 
@@ -198,13 +198,13 @@ abbrev added : PlainStep → Answer → (ℕ → PlainKey → List PlainEntry) �
 added s a f i k = cond (nat_eq s.session i) (adds k s.act a (f i k)) (f i k)
 
 one_session : (m n : OneStep) (w : Sessions) (s : PlainStep) (a : Answer) (x : Session) (f : ℕ → PlainKey → List PlainEntry) (i : ℕ) (k : PlainKey) (b : Bool) → nat_eq s.session i ≡ b
-    → Follows m (deed m s.session (w s.session) s.act) a n x → HaveTaken m w f → HasTaken n (cond b x (w i)) k (cond b (adds k s.act a (f i k)) (f i k))
+    → Follows m (effect m s.session (w s.session) s.act) a n x → HaveTaken m w f → HasTaken n (cond b x (w i)) k (cond b (adds k s.act a (f i k)) (f i k))
 one_session m n w s a x f i k true is h t =
     let here : HasTaken m (w s.session) k (f i k) = subst (λ (j : ℕ). HasTaken m (w j) k (f i k)) (sym (eqb-true s.session i is)) (t i k) in
     session_step m n s.session (w s.session) x s.act a k (f i k) h here
-one_session m n w s a x f i k false is h t = other_session m n x (w i) (deed m s.session (w s.session) s.act) a k (f i k) h (t i k)
+one_session m n w s a x f i k false is h t = other_session m n x (w i) (effect m s.session (w s.session) s.act) a k (f i k) h (t i k)
 
-taken_done : (m n : OneStep) (w v : Sessions) (s : PlainStep) (a : Answer) (f : ℕ → PlainKey → List PlainEntry) (x : Session) → Follows m (deed m s.session (w s.session) s.act) a n x → v ≡ with_session w s.session x
+taken_done : (m n : OneStep) (w v : Sessions) (s : PlainStep) (a : Answer) (f : ℕ → PlainKey → List PlainEntry) (x : Session) → Follows m (effect m s.session (w s.session) s.act) a n x → v ≡ with_session w s.session x
     → HaveTaken m w f → HaveTaken n v (added s a f)
 taken_done m n w v s a f x h put t =
     let new : HaveTaken n (with_session w s.session x) (added s a f) = λ i k. one_session m n w s a x f i k (nat_eq s.session i) refl h t in

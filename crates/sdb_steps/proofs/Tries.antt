@@ -9,7 +9,7 @@ use Rattle.sdb_oplog.specs.Keys.{PlainKey}
 use Rattle.sdb_steps.specs.OneStep as machine
 use Rattle.sdb_steps.specs.OneStep.{OneStep, Event, empty, after, started}
 use Rattle.sdb_steps.specs.Picks as plain
-use Rattle.sdb_steps.specs.Picks.{Attempt, Session, Sessions, Act, PlainStep, Answer, replied, said, no_memory, Deed, asks, says, deed, IsDone, PicksOne, PicksAfter, Picks, all_fresh, with_session, with_attempt}
+use Rattle.sdb_steps.specs.Picks.{Attempt, Session, Sessions, Act, PlainStep, Answer, replied, said, no_memory, Effect, event, notice, effect, IsDone, PicksOne, PicksAfter, Picks, all_fresh, with_session, with_attempt}
 
 -- the attempt, if there is one
 abbrev Few : Option Attempt → Type 0
@@ -21,20 +21,20 @@ few_none a is = cc
 few_some : (b : Attempt) → b.tries < 9 → Few (Some b)
 few_some b h a is = let e : b ≡ a = cc in subst (λ (x : Attempt). x.tries < 9) e h
 
--- of the session after a deed
-abbrev After : Deed → Type 0
-After (asks e y) = Few y.attempt
-After (says a y) = Few y.attempt
+-- of the session after an effect
+abbrev After : Effect → Type 0
+After (event e y) = Few y.attempt
+After (notice a y) = Few y.attempt
 
-begins : (x : Session) (b : Attempt) (o : Option Attempt) → Few x.attempt → b.tries < 9 → After (option_map_or (λ a. says plain.idle x) o (says plain.began (with_attempt x (Some b))))
+begins : (x : Session) (b : Attempt) (o : Option Attempt) → Few x.attempt → b.tries < 9 → After (option_map_or (λ a. notice plain.idle x) o (notice plain.began (with_attempt x (Some b))))
 begins x b None h few = few_some b few
 begins x b (Some a) h few = h
 
-worked_if : (x : Session) (a : Attempt) (b : Bool) → Few x.attempt → a.tries < 9 → After (cond b (says plain.idle x) (says plain.worked (with_attempt x (Some (plain.worked_on a)))))
+worked_if : (x : Session) (a : Attempt) (b : Bool) → Few x.attempt → a.tries < 9 → After (cond b (notice plain.idle x) (notice plain.worked (with_attempt x (Some (plain.worked_on a)))))
 worked_if x a true h few = h
 worked_if x a false h few = few_some (plain.worked_on a) few
 
-works : (x : Session) (o : Option Attempt) → x.attempt ≡ o → Few x.attempt → After (option_map_or (λ a. cond a.worked (says plain.idle x) (says plain.worked (with_attempt x (Some (plain.worked_on a))))) o (says plain.idle x))
+works : (x : Session) (o : Option Attempt) → x.attempt ≡ o → Few x.attempt → After (option_map_or (λ a. cond a.worked (notice plain.idle x) (notice plain.worked (with_attempt x (Some (plain.worked_on a))))) o (notice plain.idle x))
 works x None is h = h
 works x (Some a) is h = worked_if x a a.worked h (h a is)
 
@@ -43,14 +43,14 @@ or_false true c h = cc
 or_false false c h = h
 
 commits_if : (m : OneStep) (x : Session) (a : Attempt) (b : Bool) → plain.decides m a ≡ b → a.tries < 9
-    → After (cond b (asks (machine.submission a.key a.submission) (with_attempt x None)) (says plain.moved (with_attempt x (Some (plain.moved_on m a)))))
+    → After (cond b (event (machine.submission a.key a.submission) (with_attempt x None)) (notice plain.moved (with_attempt x (Some (plain.moved_on m a)))))
 commits_if m x a true is few = few_none
 commits_if m x a false is few =
     let other : nat_eq a.tries 8 ≡ false = or_false (nat_eq (length (m.logs a.key)) a.looked) (nat_eq a.tries 8) is in
     let less : a.tries + 1 < 9 = grind (arith, nat_tests) in
     few_some (plain.moved_on m a) less
 
-commits : (m : OneStep) (x : Session) (o : Option Attempt) → x.attempt ≡ o → Few x.attempt → After (option_map_or (plain.commits m x) o (says plain.idle x))
+commits : (m : OneStep) (x : Session) (o : Option Attempt) → x.attempt ≡ o → Few x.attempt → After (option_map_or (plain.commits m x) o (notice plain.idle x))
 commits m x None is h = h
 commits m x (Some a) is h = commits_if m x a (plain.decides m a) refl (h a is)
 
@@ -68,15 +68,15 @@ subscribes x k v (Err E9) h = h
 subscribes x k v (Err E10) h = h
 subscribes x k v (Err E11) h = h
 
-takes : (m : OneStep) (x : Session) (k : PlainKey) (max : ℕ) (o : Option PlainQueue) → Few x.attempt → After (option_map_or (plain.takes m x k max) o (says plain.idle x))
+takes : (m : OneStep) (x : Session) (k : PlainKey) (max : ℕ) (o : Option PlainQueue) → Few x.attempt → After (option_map_or (plain.takes m x k max) o (notice plain.idle x))
 takes m x k max None h = h
 takes m x k max (Some q) h = h
 
-closes : (x : Session) (k : PlainKey) (o : Option PlainQueue) → Few x.attempt → After (option_map_or (λ q. says plain.unsubscribed (plain.with_queue x k None)) o (says plain.idle x))
+closes : (x : Session) (k : PlainKey) (o : Option PlainQueue) → Few x.attempt → After (option_map_or (λ q. notice plain.unsubscribed (plain.with_queue x k None)) o (notice plain.idle x))
 closes x k None h = h
 closes x k (Some q) h = h
 
-few_deed : (m : OneStep) (i : ℕ) (x : Session) (act : Act) → Few x.attempt → After (deed m i x act)
+few_deed : (m : OneStep) (i : ℕ) (x : Session) (act : Act) → Few x.attempt → After (effect m i x act)
 few_deed m i x (plain.begin k src seq v content) h = begins x (plain.opened m k (plain.submission_of i k src seq v content)) x.attempt h (omega arith)
 few_deed m i x plain.work h = works x x.attempt refl h
 few_deed m i x plain.commit h = commits m x x.attempt refl h
@@ -89,9 +89,9 @@ few_deed m i x (plain.forget k) h = h
 
 -- ---- runs
 
-few_done : (d : Deed) (answer : Answer) (events : List Event) (x : Session) → IsDone d answer events x → After d → Few x.attempt
-few_done (asks e y) answer events x h few = subst (λ (z : Session). Few z.attempt) (sym h.3) few
-few_done (says a y) answer events x h few = subst (λ (z : Session). Few z.attempt) (sym h.2) few
+few_done : (d : Effect) (answer : Answer) (events : List Event) (x : Session) → IsDone d answer events x → After d → Few x.attempt
+few_done (event e y) answer events x h few = subst (λ (z : Session). Few z.attempt) (sym h.3) few
+few_done (notice a y) answer events x h few = subst (λ (z : Session). Few z.attempt) (sym h.2) few
 
 abbrev All : Sessions → Type 0
 All w = (n : ℕ) → Few (w n).attempt
@@ -100,9 +100,9 @@ few_at : (b : Bool) (w : Sessions) (n : ℕ) (x : Session) → Few x.attempt →
 few_at true w n x h all = h
 few_at false w n x h all = all n
 
-few_with : (m : OneStep) (w v : Sessions) (s : PlainStep) (answer : Answer) (events : List Event) (x : Session) → IsDone (deed m s.session (w s.session) s.act) answer events x → v ≡ with_session w s.session x → All w → All v
+few_with : (m : OneStep) (w v : Sessions) (s : PlainStep) (answer : Answer) (events : List Event) (x : Session) → IsDone (effect m s.session (w s.session) s.act) answer events x → v ≡ with_session w s.session x → All w → All v
 few_with m w v s answer events x done put all =
-    let few : Few x.attempt = few_done (deed m s.session (w s.session) s.act) answer events x done (few_deed m s.session (w s.session) s.act (all s.session)) in
+    let few : Few x.attempt = few_done (effect m s.session (w s.session) s.act) answer events x done (few_deed m s.session (w s.session) s.act (all s.session)) in
     subst All (sym put) (λ n. few_at (nat_eq s.session n) w n x few all)
 
 few_one : (m : OneStep) (w v : Sessions) (s : PlainStep) (answer : Answer) (events : List Event) → PicksOne m w s answer events v → All w → All v

@@ -10,25 +10,25 @@ use Rattle.sdb_subscribe.specs.Queue.{PlainQueues, queue_at}
 use Rattle.sdb_desk.specs.Machine.{Queued}
 use Rattle.sdb_steps.specs.OneStep.{OneStep, Event, reply, replies, after}
 use Rattle.sdb_steps.specs.Picks as plain
-use Rattle.sdb_steps.specs.Picks.{Sessions, Act, PlainStep, Answer, replied, said, no_memory, Deed, asks, says, deed, reply_in, IsDone, PicksOne, with_session, fresh}
+use Rattle.sdb_steps.specs.Picks.{Sessions, Act, PlainStep, Answer, replied, said, no_memory, Effect, event, notice, effect, reply_in, IsDone, PicksOne, with_session, fresh}
 use Rattle.sdb_steps.specs.Runs.{IsStep}
-use Rattle.sdb_steps.specs.Turns.{Follows, IsTurn}
-use Rattle.sdb_steps.specs.Seen.{queue_seen, plain_trying, plain_session, plain_sessions, slots_of, slots_at}
+use Rattle.sdb_steps.specs.Dispatch.{Follows, Dispatches}
+use Rattle.sdb_steps.specs.StateView.{queue_seen, plain_attempt, plain_session, plain_sessions, slots_of, slots_at}
 use Rattle.sdb_steps.specs.Slots.{Slots, AreOpen, AreApart, Leaves}
-use Rattle.sdb_steps.specs.declared.kept.Session.{Session}
+use Rattle.sdb_steps.specs.declared.session_state.Session.{Session}
 
 -- ---- a turn and its step
 
--- what comes of a deed is its events, by the machine
-record Comes (m : OneStep) (d : Deed) (answer : Answer) (n : OneStep) (x : plain.Session) : Type 0 where
+-- what comes of an effect is its events, by the machine
+record Comes (m : OneStep) (d : Effect) (answer : Answer) (n : OneStep) (x : plain.Session) : Type 0 where
   pub events : List Event
   pub done : IsDone d answer events x
   pub told : replies m events ≡ reply_in answer
   pub ends : after m events ≡ n
 
-comes : (m : OneStep) (d : Deed) (answer : Answer) (n : OneStep) (x : plain.Session) → Follows m d answer n x → Comes m d answer n x
-comes m (asks e y) answer n x h = record { events = e ∷ []; done = (reply m e, h.0, refl, h.2); told = sym (ap reply_in h.0); ends = sym h.1 }
-comes m (says a y) answer n x h = record { events = []; done = (h.0, refl, h.2); told = sym (ap reply_in h.0); ends = sym h.1 }
+comes : (m : OneStep) (d : Effect) (answer : Answer) (n : OneStep) (x : plain.Session) → Follows m d answer n x → Comes m d answer n x
+comes m (event e y) answer n x h = record { events = e ∷ []; done = (reply m e, h.0, refl, h.2); told = sym (ap reply_in h.0); ends = sym h.1 }
+comes m (notice a y) answer n x h = record { events = []; done = (h.0, refl, h.2); told = sym (ap reply_in h.0); ends = sym h.1 }
 
 kept : (w : Sessions) (i k : ℕ) (b : Bool) → nat_eq i k ≡ b → cond b (w i) (w k) ≡ w k
 kept w i k true h = ap w (eqb-true i k h)
@@ -38,13 +38,13 @@ kept w i k false h = refl
 same_session : (w : Sessions) (i : ℕ) → with_session w i (w i) ≡ w
 same_session w i = λ j k. kept w i k (nat_eq i k) refl j
 
-done_step : (m n : OneStep) (w v : Sessions) (s : PlainStep) (a : Answer) (y : plain.Session) → v ≡ with_session w s.session y → Comes m (deed m s.session (w s.session) s.act) a n y
-    → ((events : List Event) → (x : plain.Session) × IsDone (deed m s.session (w s.session) s.act) a events x × (v ≡ with_session w s.session x) → PicksOne m w s a events v) → IsStep m w s a n v
+done_step : (m n : OneStep) (w v : Sessions) (s : PlainStep) (a : Answer) (y : plain.Session) → v ≡ with_session w s.session y → Comes m (effect m s.session (w s.session) s.act) a n y
+    → ((events : List Event) → (x : plain.Session) × IsDone (effect m s.session (w s.session) s.act) a events x × (v ≡ with_session w s.session x) → PicksOne m w s a events v) → IsStep m w s a n v
 done_step m n w v s a y put h picks = (h.events, picks h.events (y, h.done, put), h.told, h.ends)
 
-pub turn_step : (m n : OneStep) (w v : Sessions) (s : PlainStep) (a : Answer) (y : plain.Session) → v ≡ with_session w s.session y → IsTurn s.session m (w s.session) s.act a n y → IsStep m w s a n v
-turn_step m n w v s (replied r) y put h = done_step m n w v s (replied r) y put (comes m (deed m s.session (w s.session) s.act) (replied r) n y h) (λ events p. p)
-turn_step m n w v s (said a) y put h = done_step m n w v s (said a) y put (comes m (deed m s.session (w s.session) s.act) (said a) n y h) (λ events p. p)
+pub turn_step : (m n : OneStep) (w v : Sessions) (s : PlainStep) (a : Answer) (y : plain.Session) → v ≡ with_session w s.session y → Dispatches s.session m (w s.session) s.act a n y → IsStep m w s a n v
+turn_step m n w v s (replied r) y put h = done_step m n w v s (replied r) y put (comes m (effect m s.session (w s.session) s.act) (replied r) n y h) (λ events p. p)
+turn_step m n w v s (said a) y put h = done_step m n w v s (said a) y put (comes m (effect m s.session (w s.session) s.act) (said a) n y h) (λ events p. p)
 turn_step m n w v s no_memory y put h = ([], (h.0, refl, put ∙ ap (with_session w s.session) h.2 ∙ same_session w s.session), refl, sym h.1)
 
 -- ---- the sessions of a world
@@ -134,7 +134,7 @@ none_more (y ∷ xs) x h f zero k = f zero k
 none_more (y ∷ xs) x h f (suc n) k = none_more xs x h (λ m. f (suc m)) n k
 
 pub fresh_session : (q : Queued) (x : Session) → x.attempt ≡ None → slots_of x ≡ (λ k. None) → plain_session q x ≡ fresh
-fresh_session q x a s = λ i. record { attempt = option_map plain_trying (a i); queues = λ k. queue_seen (q k) (s i k) }
+fresh_session q x a s = λ i. record { attempt = option_map plain_attempt (a i); queues = λ k. queue_seen (q k) (s i k) }
 
 pub fresh_more : (q : Queued) (xs : List Session) (x : Session) → plain_session q x ≡ fresh → ((k : ℕ) → plain_sessions q xs k ≡ fresh) → (k : ℕ) → plain_sessions q (xs ++ x ∷ []) k ≡ fresh
 fresh_more q [] x h f zero = h

@@ -3,7 +3,7 @@ use Rattle.std.proofs.Common.{◌≡◌, ℕ, List, [], ◌∷◌, ◌++◌, map
 use Rattle.sdb_lines.specs.Runs as lines
 use Rattle.sdb_lines.specs.Runs.{Answers, AnswersFront}
 use Rattle.sdb_oplog.specs.declared.codes.Code.{Code}
-use Rattle.sdb_steps.specs.Keyed.{machine_of, sessions_of}
+use Rattle.sdb_steps.specs.WorldView.{machine_of, sessions_of}
 use Rattle.sdb_steps.specs.Lines.{reading_step, steps_in, lines_text, line_of, answer_text, refusal_text}
 use Rattle.sdb_steps.specs.OneStep.{OneStep, empty}
 use Rattle.sdb_steps.specs.Picks.{Sessions, PlainStep, Answer, all_fresh}

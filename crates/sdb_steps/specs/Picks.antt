@@ -96,11 +96,11 @@ replies_in answers = flat_map reply_in answers
 
 -- ---- one step of one session, where the machine stands at m
 
-pub data Deed : Type 0 where
+pub data Effect : Type 0 where
   -- an event: its reply is the answer. The session after it
-  asks : Event → Session → Deed
+  event : Event → Session → Effect
   -- no event, and this notice. The session after it
-  says : Notice → Session → Deed
+  notice : Notice → Session → Effect
 
 -- session n submits through the collection's own name
 abbrev pub submission_of : ℕ → PlainKey → List ℕ → ℕ → Option ℕ → PlainContent → PlainSubmission
@@ -130,69 +130,69 @@ abbrev pub decides : OneStep → Attempt → Bool
 decides m a = nat_eq (length (m.logs a.key)) a.looked || nat_eq a.tries 8
 
 -- and then the attempt is at its end
-abbrev pub commits : OneStep → Session → Attempt → Deed
+abbrev pub commits : OneStep → Session → Attempt → Effect
 commits m x a =
-    if decides m a then asks (machine.submission a.key a.submission) (with_attempt x None)
-    else says moved (with_attempt x (Some (moved_on m a)))
+    if decides m a then event (machine.submission a.key a.submission) (with_attempt x None)
+    else notice moved (with_attempt x (Some (moved_on m a)))
 
 -- a start replaces the session's queue of that key
-abbrev pub subscribes : Session → PlainKey → Option ℕ → Result ℕ Code → Deed
-subscribes x k v (Ok start) = asks (machine.subscribe k v) (with_queue x k (Some (record { start = start; taken = 0 })))
-subscribes x k v (Err E11) = says full x
-subscribes x k v (Err code) = asks (machine.subscribe k v) x
+abbrev pub subscribes : Session → PlainKey → Option ℕ → Result ℕ Code → Effect
+subscribes x k v (Ok start) = event (machine.subscribe k v) (with_queue x k (Some (record { start = start; taken = 0 })))
+subscribes x k v (Err E11) = notice full x
+subscribes x k v (Err code) = event (machine.subscribe k v) x
 
 -- on from what was taken
-abbrev pub takes : OneStep → Session → PlainKey → ℕ → PlainQueue → Deed
+abbrev pub takes : OneStep → Session → PlainKey → ℕ → PlainQueue → Effect
 takes m x k max q =
-    asks (machine.take_from k (q.start + q.taken) max) (with_queue x k (Some (moved_by (m.logs k) max q)))
+    event (machine.take_from k (q.start + q.taken) max) (with_queue x k (Some (moved_by (m.logs k) max q)))
 
 -- what session n does by this act
-abbrev pub deed : OneStep → ℕ → Session → Act → Deed
-deed m n x (begin k src seq v content) =
-    option_map_or (λ a. says idle x) x.attempt
-    (says began (with_attempt x (Some (opened m k (submission_of n k src seq v content)))))
-deed m n x work =
-    option_map_or (λ a. if a.worked then says idle x else says worked (with_attempt x (Some (worked_on a)))) x.attempt
-    (says idle x)
-deed m n x commit = option_map_or (commits m x) x.attempt (says idle x)
-deed m n x (fetch k) = asks (machine.fetch k) x
-deed m n x (snapshot k v) = asks (machine.snapshot k v) x
-deed m n x (subscribe k v) = subscribes x k v (started m k v)
-deed m n x (take k max) = option_map_or (takes m x k max) (x.queues k) (says idle x)
-deed m n x (unsubscribe k) = option_map_or (λ q. says unsubscribed (with_queue x k None)) (x.queues k) (says idle x)
-deed m n x (forget k) = says forgotten x
+abbrev pub effect : OneStep → ℕ → Session → Act → Effect
+effect m n x (begin k src seq v content) =
+    option_map_or (λ a. notice idle x) x.attempt
+    (notice began (with_attempt x (Some (opened m k (submission_of n k src seq v content)))))
+effect m n x work =
+    option_map_or (λ a. if a.worked then notice idle x else notice worked (with_attempt x (Some (worked_on a)))) x.attempt
+    (notice idle x)
+effect m n x commit = option_map_or (commits m x) x.attempt (notice idle x)
+effect m n x (fetch k) = event (machine.fetch k) x
+effect m n x (snapshot k v) = event (machine.snapshot k v) x
+effect m n x (subscribe k v) = subscribes x k v (started m k v)
+effect m n x (take k max) = option_map_or (takes m x k max) (x.queues k) (notice idle x)
+effect m n x (unsubscribe k) = option_map_or (λ q. notice unsubscribed (with_queue x k None)) (x.queues k) (notice idle x)
+effect m n x (forget k) = notice forgotten x
 
 -- ---- where memory may be wanting
 
 -- an event where its reply takes memory: not a repeat, E4, E11, a create on a document, a fetch of none, a take of nothing.
 -- Of the others those that copy or keep something
-abbrev pub may_want : OneStep → Deed → Bool
-may_want m (asks (machine.submission k s) x) = deciding_takes_memory (m.logs k) s
-may_want m (asks (machine.fetch k) x) = has_document (fetched (m.logs k))
-may_want m (asks (machine.snapshot k v) x) = option_map_or has_version (result_ok (snapshot_at (m.logs k) v)) false
-may_want m (asks (machine.subscribe k v) x) = is_ok (started m k v)
-may_want m (asks (machine.take_from k from max) x) = is_filled (queue (m.logs k) from max)
-may_want m (says began x) = true
-may_want m (says worked x) = true
-may_want m (says moved x) = true
-may_want m (says idle x) = false
-may_want m (says unsubscribed x) = false
-may_want m (says forgotten x) = false
-may_want m (says full x) = false
+abbrev pub may_want : OneStep → Effect → Bool
+may_want m (event (machine.submission k s) x) = deciding_takes_memory (m.logs k) s
+may_want m (event (machine.fetch k) x) = has_document (fetched (m.logs k))
+may_want m (event (machine.snapshot k v) x) = option_map_or has_version (result_ok (snapshot_at (m.logs k) v)) false
+may_want m (event (machine.subscribe k v) x) = is_ok (started m k v)
+may_want m (event (machine.take_from k from max) x) = is_filled (queue (m.logs k) from max)
+may_want m (notice began x) = true
+may_want m (notice worked x) = true
+may_want m (notice moved x) = true
+may_want m (notice idle x) = false
+may_want m (notice unsubscribed x) = false
+may_want m (notice forgotten x) = false
+may_want m (notice full x) = false
 
 -- ---- runs
 
--- what a deed is answered, which events it is, none or one, and the session after it
-abbrev pub IsDone : Deed → Answer → List Event → Session → Type 0
-IsDone (asks e y) answer events x = (r : Reply) × (answer ≡ replied r) × (events ≡ e ∷ []) × (x ≡ y)
-IsDone (says a y) answer events x = (answer ≡ said a) × (events ≡ []) × (x ≡ y)
+-- what an effect is answered, which events it is, none or one, and the session after it
+abbrev pub IsDone : Effect → Answer → List Event → Session → Type 0
+IsDone (event e y) answer events x = (r : Reply) × (answer ≡ replied r) × (events ≡ e ∷ []) × (x ≡ y)
+IsDone (notice a y) answer events x = (answer ≡ said a) × (events ≡ []) × (x ≡ y)
 
 -- one step. Where memory is wanting it is no event and leaves all as it was
 abbrev pub PicksOne : OneStep → Sessions → PlainStep → Answer → List Event → Sessions → Type 0
 PicksOne m w s no_memory events v =
-    (may_want m (deed m s.session (w s.session) s.act) ≡ true) × (events ≡ []) × (v ≡ w)
+    (may_want m (effect m s.session (w s.session) s.act) ≡ true) × (events ≡ []) × (v ≡ w)
 PicksOne m w s answer events v =
-    (x : Session) × IsDone (deed m s.session (w s.session) s.act) answer events x × (v ≡ with_session w s.session x)
+    (x : Session) × IsDone (effect m s.session (w s.session) s.act) answer events x × (v ≡ with_session w s.session x)
 
 -- steps after these past events: each where the machine stands after the events before it
 abbrev pub PicksAfter : List Event → Sessions → List PlainStep → List Answer → List Event → Sessions → Type 0

@@ -5,8 +5,8 @@ use Rattle.sdb_oplog.specs.declared.codes.Code.{Code}
 use Rattle.sdb_oplog.specs.declared.codes.Code.TheVariants.{E10, E11}
 use Rattle.sdb_oplog.specs.Keys.{plain_key}
 use Rattle.sdb_desk.specs.Machine.{PlainFetched}
-use Rattle.sdb_desk.specs.Shown.{told_fetched}
-use Rattle.sdb_desk.specs.Told.{plain_reply}
+use Rattle.sdb_desk.specs.View.{told_fetched}
+use Rattle.sdb_desk.specs.ReplyView.{plain_reply}
 use Rattle.sdb_desk.specs.declared.shard.Fetched.{Fetched}
 use Rattle.sdb_steps.specs.OneStep.{decided, fetched, snapped, subscribed, taken}
 use Rattle.sdb_steps.specs.Picks as plain

@@ -1,7 +1,7 @@
 -- What a run over lines writes, from an empty world on.
 use Rattle.std.specs.Prelude.{◌≡◌, ℕ, List, map, Option, Result, Ok, Err}
 use Rattle.std.specs.Io.KnownBytes.{Appends}
-use Rattle.sdb_lines.specs.Told.{IsFront, AppendsFront}
+use Rattle.sdb_lines.specs.Fronts.{IsFront, AppendsFront}
 use Rattle.sdb_oplog.specs.Keys.{Logs}
 use Rattle.sdb_oplog.specs.declared.codes.Code.{Code}
 use Rattle.sdb_steps.specs.Lines.{reading_step, answer_text, refusal_text, line_of, steps_in, lines_text}

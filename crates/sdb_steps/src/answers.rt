@@ -2,13 +2,13 @@
 ghost use Rattle.std.specs.Prelude.{◌≡◌, ◌++◌, Some, None, OnOk, OnErr, option_map};
 ghost use Rattle.sdb_value.specs.Printed.{data_tokens};
 ghost use Rattle.sdb_value.specs.View.{view};
-ghost use Rattle.sdb_desk.specs.Shown.{told_fetched};
-ghost use Rattle.sdb_desk.specs.Told.{plain_reply};
+ghost use Rattle.sdb_desk.specs.View.{told_fetched};
+ghost use Rattle.sdb_desk.specs.ReplyView.{plain_reply};
 ghost use Rattle.sdb_steps.specs.Lines.{answer_data, answer_text, decided_data, document_data, entries_data, notice_data, refusal_data, refusal_text, refused_data, reply_data, short_name, started_data, stored_data, taken_data};
 ghost use Rattle.sdb_steps.specs.OneStep.{snapped};
 ghost use Rattle.sdb_steps.specs.View.{plain_answer, plain_start};
 
-use crate::number::SessionNumber;
+use crate::session_number::SessionNumber;
 use crate::step::StepAnswer;
 use json::Writer;
 use sdb_desk::{Fetched, Reply};

@@ -2,15 +2,15 @@
 ghost use Rattle.std.specs.Prelude.{◌≡◌, ◌<◌, ℕ, true, IfOk, IfErr, IsTrue, IsFalse, option_map, false};
 ghost use Rattle.sdb_oplog.specs.Decide.{refused};
 ghost use Rattle.sdb_oplog.specs.declared.codes.Code.TheVariants.{E10};
-ghost use Rattle.sdb_desk.specs.Told.{plain_reply};
+ghost use Rattle.sdb_desk.specs.ReplyView.{plain_reply};
 ghost use Rattle.sdb_oplog.specs.Keys.{PlainKey, plain_key};
-ghost use Rattle.sdb_desk.specs.Keyed.{queues_of};
+ghost use Rattle.sdb_desk.specs.ShardView.{queues_of};
 ghost use Rattle.sdb_steps.specs.Picks.{opened, decides};
-ghost use Rattle.sdb_steps.specs.Turns.{Tries, Works};
-ghost use Rattle.sdb_steps.specs.Seen.{core_of, submitted, looked_at, is_worked, plain_trying, trying_at};
+ghost use Rattle.sdb_steps.specs.Dispatch.{Tries, Works};
+ghost use Rattle.sdb_steps.specs.StateView.{core_of, submitted, looked_at, is_worked, plain_attempt, attempt_at};
 ghost use Rattle.sdb_steps.specs.View.{plain_answer};
 
-use crate::kept::{Stage, Trying};
+use crate::session_state::{OpenAttempt, Phase};
 use crate::step::StepAnswer;
 use sdb_desk::{Attempt, Look, Outcome, Reply, Shard, Work};
 use sdb_oplog::{Code, Key, Submission};
@@ -21,39 +21,39 @@ use std::alloc::{AllocError, Global};
 const LAST_TRY: u64 = 8;
 
 // The answer to a commit, and the attempt where it goes on.
-pub(crate) type Committed = (StepAnswer, Option<Trying>);
+pub(crate) type Committed = (StepAnswer, Option<OpenAttempt>);
 
-impl Trying {
+impl OpenAttempt {
     // Opens an attempt by a look.
     pub(crate) fn open(
         shard: &Shard,
         key: &Key,
         submission: Submission,
-    ) -> Result<Trying, AllocError>
-        ensures { IfOk result (λ t. plain_trying t ≡ opened (core_of shard.now) (plain_key key.now) submission) }
+    ) -> Result<OpenAttempt, AllocError>
+        ensures { IfOk result (λ t. plain_attempt t ≡ opened (core_of shard.now) (plain_key key.now) submission) }
     {
         let look = shard.look(key, &submission)?;
-        Ok(Trying {
+        Ok(OpenAttempt {
             key: key.try_clone()?,
-            stage: Stage::Looked(Attempt { submission, look }),
+            phase: Phase::Looked(Attempt { submission, look }),
             tries: 0,
         })
     }
 
     // Commits: one try, or, after eight, at once.
     pub(crate) fn commit(self, alloc: Global, shard: &mut Shard) -> Committed
-        ensures tries { Tries (core_of shard.old) (plain_trying self) (plain_answer result.0)
-            (core_of shard.new) (option_map plain_trying result.1) }
+        ensures tries { Tries (core_of shard.old) (plain_attempt self) (plain_answer result.0)
+            (core_of shard.new) (option_map plain_attempt result.1) }
         ensures queues { queues_of shard.new ≡ queues_of shard.old }
     {
         if self.tries == LAST_TRY {
             return self.commit_now(shard);
         }
-        let Trying { key, stage, tries } = self;
-        let is_worked = is_worked(&stage);
-        match worked(alloc, stage) {
+        let OpenAttempt { key, phase, tries } = self;
+        let is_worked = is_worked(&phase);
+        match worked(alloc, phase) {
             Ok(work) => commit_work(shard, key, work, tries, is_worked),
-            Err(stage) => Trying { key, stage, tries }.commit_unworked(shard),
+            Err(phase) => OpenAttempt { key, phase, tries }.commit_unworked(shard),
         }
     }
 
@@ -61,11 +61,11 @@ impl Trying {
     // looked at.
     fn commit_unworked(self, shard: &mut Shard) -> Committed
         requires { self.tries < 8 }
-        ensures tries { Tries (core_of shard.old) (plain_trying self) (plain_answer result.0)
-            (core_of shard.new) (option_map plain_trying result.1) }
+        ensures tries { Tries (core_of shard.old) (plain_attempt self) (plain_answer result.0)
+            (core_of shard.new) (option_map plain_attempt result.1) }
         ensures queues { queues_of shard.new ≡ queues_of shard.old }
     {
-        if shard.version(&self.key) != looked_at(&self.stage) {
+        if shard.version(&self.key) != looked_at(&self.phase) {
             return (StepAnswer::NoMemory, Some(self));
         }
         self.commit_now(shard)
@@ -73,12 +73,12 @@ impl Trying {
 
     // Decides the attempt, whatever the log has come to.
     fn commit_now(self, shard: &mut Shard) -> Committed
-        requires { decides (core_of shard.old) (plain_trying self) ≡ true }
-        ensures tries { Tries (core_of shard.old) (plain_trying self) (plain_answer result.0)
-            (core_of shard.new) (option_map plain_trying result.1) }
+        requires { decides (core_of shard.old) (plain_attempt self) ≡ true }
+        ensures tries { Tries (core_of shard.old) (plain_attempt self) (plain_answer result.0)
+            (core_of shard.new) (option_map plain_attempt result.1) }
         ensures queues { queues_of shard.new ≡ queues_of shard.old }
     {
-        let reply = shard.commit_now(&self.key, submission_of(&self.stage));
+        let reply = shard.commit_now(&self.key, submission_of(&self.phase));
         if is_wanting(&reply) {
             return (StepAnswer::NoMemory, Some(self));
         }
@@ -86,72 +86,72 @@ impl Trying {
     }
 
     // Works the attempt: whether it was worked just now. Where memory is wanting it is as it was.
-    pub(crate) fn work(self, alloc: Global) -> (StepAnswer, Trying)
-        ensures { Works (plain_trying self) (plain_answer result.0) (plain_trying result.1) }
+    pub(crate) fn work(self, alloc: Global) -> (StepAnswer, OpenAttempt)
+        ensures { Works (plain_attempt self) (plain_answer result.0) (plain_attempt result.1) }
     {
-        let Trying { key, stage, tries } = self;
-        let (answer, stage) = work_stage(alloc, stage);
-        (answer, Trying { key, stage, tries })
+        let OpenAttempt { key, phase, tries } = self;
+        let (answer, phase) = work_phase(alloc, phase);
+        (answer, OpenAttempt { key, phase, tries })
     }
 }
 
-fn submission_of(stage: &Stage) -> &Submission
-    ensures { result.now ≡ submitted stage.now }
+fn submission_of(phase: &Phase) -> &Submission
+    ensures { result.now ≡ submitted phase.now }
 {
-    match stage {
-        Stage::Looked(attempt) => &attempt.submission,
-        Stage::Moved { last, .. } => last.submission(),
-        Stage::Worked(work) => work.submission(),
+    match phase {
+        Phase::Looked(attempt) => &attempt.submission,
+        Phase::Moved { last, .. } => last.submission(),
+        Phase::Worked(work) => work.submission(),
     }
 }
 
 // The version that was looked at.
-fn looked_at(stage: &Stage) -> u64
-    ensures { result ≡ looked_at stage.now }
+fn looked_at(phase: &Phase) -> u64
+    ensures { result ≡ looked_at phase.now }
 {
-    match stage {
-        Stage::Looked(attempt) => attempt.look.version,
-        Stage::Moved { look, .. } => look.version,
-        Stage::Worked(work) => work.version(),
+    match phase {
+        Phase::Looked(attempt) => attempt.look.version,
+        Phase::Moved { look, .. } => look.version,
+        Phase::Worked(work) => work.version(),
     }
 }
 
-fn is_worked(stage: &Stage) -> bool
-    ensures { result ≡ is_worked stage.now }
+fn is_worked(phase: &Phase) -> bool
+    ensures { result ≡ is_worked phase.now }
 {
-    match stage {
-        Stage::Worked(_) => true,
+    match phase {
+        Phase::Worked(_) => true,
         _ => false,
     }
 }
 
-// The work that a stage comes to. Where memory is wanting it is as it was, but for what was worked by an
+// The work that a phase comes to. Where memory is wanting it is as it was, but for what was worked by an
 // older look.
-fn worked(alloc: Global, stage: Stage) -> Result<Work, Stage>
-    ensures submission { IfOk result (λ w. w.submission ≡ submitted stage) }
-    ensures version { IfOk result (λ w. w.look.version ≡ looked_at stage) }
-    ensures err { IfErr result (λ s. (k : PlainKey) (n : ℕ) → trying_at k s n ≡ trying_at k stage n) }
+fn worked(alloc: Global, phase: Phase) -> Result<Work, Phase>
+    ensures submission { IfOk result (λ w. w.submission ≡ submitted phase) }
+    ensures version { IfOk result (λ w. w.look.version ≡ looked_at phase) }
+    ensures err { IfErr result (λ s. (k : PlainKey) (n : ℕ) → attempt_at k s n ≡ attempt_at k phase n) }
 {
-    let made = match stage {
-        Stage::Looked(attempt) => work(alloc, attempt),
-        Stage::Moved { last, look } => work_on(alloc, last, look),
-        Stage::Worked(work) => Ok(work),
+    let made = match phase {
+        Phase::Looked(attempt) => work(alloc, attempt),
+        Phase::Moved { last, look } => work_on(alloc, last, look),
+        Phase::Worked(work) => Ok(work),
     };
     match made {
         Ok(work) => Ok(work),
-        Err(attempt) => Err(Stage::Looked(attempt)),
+        Err(attempt) => Err(Phase::Looked(attempt)),
     }
 }
 
-fn work_stage(alloc: Global, stage: Stage) -> (StepAnswer, Stage)
-    ensures { (k : PlainKey) (n : ℕ) → Works (trying_at k stage n) (plain_answer result.0) (trying_at k result.1 n) }
+fn work_phase(alloc: Global, phase: Phase) -> (StepAnswer, Phase)
+    ensures { (k : PlainKey) (n : ℕ) → Works (attempt_at k phase n) (plain_answer result.0) (attempt_at k result.1 n) }
 {
-    if is_worked(&stage) {
-        return (StepAnswer::Idle, stage);
+    if is_worked(&phase) {
+        return (StepAnswer::Idle, phase);
     }
-    match worked(alloc, stage) {
-        Ok(work) => (StepAnswer::Worked, Stage::Worked(work)),
-        Err(stage) => (StepAnswer::NoMemory, stage),
+    match worked(alloc, phase) {
+        Ok(work) => (StepAnswer::Worked, Phase::Worked(work)),
+        Err(phase) => (StepAnswer::NoMemory, phase),
     }
 }
 
@@ -166,22 +166,25 @@ fn commit_work(shard: &mut Shard, key: Key, work: Work, tries: u64, is_worked: b
           tries = tries;
           worked = is_worked;
         })
-        (plain_answer result.0) (core_of shard.new) (option_map plain_trying result.1) }
+        (plain_answer result.0) (core_of shard.new) (option_map plain_attempt result.1) }
     ensures queues { queues_of shard.new ≡ queues_of shard.old }
 {
     let mut work = work;
     match shard.commit(&key, &mut work) {
         Outcome::Decided(reply) => {
             if is_wanting(&reply) {
-                let stage = put_back(work, is_worked);
-                return (StepAnswer::NoMemory, Some(Trying { key, stage, tries }));
+                let phase = put_back(work, is_worked);
+                return (
+                    StepAnswer::NoMemory,
+                    Some(OpenAttempt { key, phase, tries }),
+                );
             }
             (StepAnswer::Decided(reply), None)
         }
         Outcome::Moved(look) => {
-            let stage = looked_again(work, look);
+            let phase = looked_again(work, look);
             let tries = tries + 1;
-            (StepAnswer::Moved, Some(Trying { key, stage, tries }))
+            (StepAnswer::Moved, Some(OpenAttempt { key, phase, tries }))
         }
     }
 }
@@ -198,8 +201,8 @@ fn is_wanting(reply: &Reply) -> bool
 }
 
 // A work, put back as it was before the commit: worked, or looked at alone.
-fn put_back(work: Work, is_worked: bool) -> Stage
-    ensures { (k : PlainKey) (n : ℕ) → trying_at k result n ≡ record {
+fn put_back(work: Work, is_worked: bool) -> Phase
+    ensures { (k : PlainKey) (n : ℕ) → attempt_at k result n ≡ record {
       key = k;
       submission = work.submission;
       looked = work.look.version;
@@ -208,15 +211,15 @@ fn put_back(work: Work, is_worked: bool) -> Stage
     } }
 {
     if is_worked {
-        Stage::Worked(work)
+        Phase::Worked(work)
     } else {
-        Stage::Looked(work.into_attempt())
+        Phase::Looked(work.into_attempt())
     }
 }
 
 // The submission of a work, by a fresh look.
-fn looked_again(work: Work, look: Look) -> Stage
-    ensures { (k : PlainKey) (n : ℕ) → trying_at k result n ≡ record {
+fn looked_again(work: Work, look: Look) -> Phase
+    ensures { (k : PlainKey) (n : ℕ) → attempt_at k result n ≡ record {
       key = k;
       submission = work.submission;
       looked = look.version;
@@ -224,5 +227,5 @@ fn looked_again(work: Work, look: Look) -> Stage
       worked = false;
     } }
 {
-    Stage::Moved { last: work, look }
+    Phase::Moved { last: work, look }
 }

@@ -3,17 +3,17 @@
 
 mod answers;
 mod attempts;
-mod kept;
+mod dispatch;
 mod laws;
-mod number;
-mod parts;
+mod queue_slots;
 mod reading;
 mod running;
 mod session;
-mod slots;
+mod session_number;
+mod session_state;
 mod step;
-mod turns;
 mod world;
+mod world_parts;
 
 pub use answers::{write_refusal, write_step_answer};
 pub use laws::{
@@ -21,8 +21,8 @@ pub use laws::{
     runs_are_legal, runs_begin, runs_go_on, snapshots_are_replays, stored_once,
     submissions_are_placed, takes_continue, tries_stay_below_nine,
 };
-pub use number::{SESSIONS, SessionNumber};
 pub use reading::read_step;
 pub use running::{Ran, run, run_steps};
+pub use session_number::{SESSIONS, SessionNumber};
 pub use step::{Step, StepAnswer};
 pub use world::World;

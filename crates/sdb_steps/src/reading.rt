@@ -5,7 +5,7 @@ ghost use Rattle.sdb_oplog.specs.Refused.{RefusedBy};
 ghost use Rattle.sdb_steps.specs.Lines.{session_of, begin_of, fetch_of, snapshot_of, subscribe_of, take_of, unsubscribe_of, forget_of, act_of, step_of, read_step};
 ghost use Rattle.sdb_steps.specs.View.{plain_step};
 
-use crate::number::SessionNumber;
+use crate::session_number::SessionNumber;
 use crate::step::Step;
 use sdb_oplog::Code;
 use sdb_wire::{count_at, key_of, may_count, need_name, read_content, value_of};

@@ -1,14 +1,13 @@
 //! Runs of steps, from a list and from lines.
-ghost use Rattle.std.specs.Prelude.{◌≡◌, ℕ, ◌+◌, ◌-◌, ◌^◌, ◌≤◌, ◌⊎◌, ◌++◌, [], true, min, map, length, List, OnOk, OnErr, IfOk, IfSome, IsErrOf};
-ghost use Rattle.sdb_lines.specs.Counting.{steps_of};
-ghost use Rattle.sdb_lines.specs.Limits.{read_limit};
+ghost use Rattle.std.specs.Prelude.{◌≡◌, ℕ, ◌++◌, [], true, map, List, OnOk, OnErr, IfOk, IfSome};
+ghost use Rattle.sdb_lines.specs.Counting.{CountsAll};
 ghost use Rattle.sdb_lines.specs.Lines.{reading_of, lines_of};
-ghost use Rattle.sdb_lines.specs.declared.runner.RunFault.{RunFault};
+ghost use Rattle.sdb_lines.specs.Streams.{Reads, Writes};
 ghost use Rattle.sdb_oplog.specs.Decide.{IsMade};
 ghost use Rattle.sdb_oplog.specs.Keys.{PlainKey};
 ghost use Rattle.sdb_oplog.specs.Snap.{are_first};
 ghost use Rattle.sdb_steps.specs.Continued.{ContinuedAll};
-ghost use Rattle.sdb_steps.specs.Keyed.{machine_of, sessions_of};
+ghost use Rattle.sdb_steps.specs.WorldView.{machine_of, sessions_of};
 ghost use Rattle.sdb_steps.specs.Lines.{reading_step, is_step, line_of, refusal_text};
 ghost use Rattle.sdb_steps.specs.OneStep.{Event, Legal};
 ghost use Rattle.sdb_steps.specs.Picks.{Picks, replies_in};
@@ -29,6 +28,7 @@ use crate::step::{Step, StepAnswer};
 use crate::world::World;
 use sdb_lines::{Counts, Replier, RunFault, Sink, Source, run_lines};
 use sdb_oplog::Code;
+use sdb_wire::refusal;
 use std::alloc::{AllocError, Global};
 
 /// The answers to steps, one for each, and the world after them.
@@ -102,9 +102,8 @@ impl Replier for World {
                 out.push(b'\n')?;
                 Ok(true)
             }
-            Err(Code::E10) => Err(AllocError),
             Err(code) => {
-                refuse(alloc, code, out)?;
+                refuse(alloc, refusal(code)?, out)?;
                 Ok(false)
             }
         }
@@ -141,20 +140,14 @@ pub fn run<R: Source, W: Sink>(
     // One line for each line: the answers of the headline for the steps, and the codes for the others.
     ensures whole { OnOk result (IfSome (R.left reader.old) (λ input.
         Wrote (map reading_of (lines_of input)) (W.contents writer.old) (W.contents writer.new))) }
-    ensures lines { IfOk result (λ counts. IfSome (R.left reader.old) (λ input.
-        counts.lines ≡ length (lines_of input))) }
-    ensures steps { IfOk result (λ counts. IfSome (R.left reader.old) (λ input.
-        counts.steps ≡ steps_of is_step (map reading_of (lines_of input)))) }
+    ensures counts { IfOk result (λ counts. IfSome (R.left reader.old) (λ input. CountsAll is_step input counts)) }
     // After a fault a front of that was written.
     ensures front { OnErr result (IfSome (R.left reader.old) (λ input.
         WroteFront (map reading_of (lines_of input)) (W.contents writer.old) (W.contents writer.new))) }
-    ensures calls { R.calls reader.new ≤ R.calls reader.old + read_limit }
     // No read failed, and no write or flush, but for the one that is the fault.
-    ensures reads { (R.has_failed reader.new ≡ R.has_failed reader.old) ⊎ IsErrOf result RunFault.Read }
-    ensures writes { (W.has_failed writer.new ≡ W.has_failed writer.old) ⊎ IsErrOf result RunFault.Write }
-    ensures read { IsErrOf result RunFault.Read → (R.has_failed reader.new ≡ true)
-        ⊎ (min (R.calls reader.old + read_limit) (2 ^ 64 - 1) ≤ R.calls reader.new) }
-    ensures write { IsErrOf result RunFault.Write → W.has_failed writer.new ≡ true }
+    ensures reads { Reads result (R.calls reader.old) (R.failures reader.old)
+        (R.calls reader.new) (R.failures reader.new) }
+    ensures writes { Writes result (W.failures writer.old) (W.failures writer.new) }
 {
     let Ok(mut world) = World::new(alloc) else {
         return Err(RunFault::Memory);

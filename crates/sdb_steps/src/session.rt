@@ -1,17 +1,17 @@
 //! The steps of one session.
 ghost use Rattle.std.specs.Prelude.{◌≡◌, ℕ, None};
 ghost use Rattle.sdb_oplog.specs.Keys.{plain_key};
-ghost use Rattle.sdb_desk.specs.Keyed.{logs_of, queues_of};
+ghost use Rattle.sdb_desk.specs.ShardView.{logs_of, queues_of};
 ghost use Rattle.sdb_desk.specs.Machine.{Queued, with_queues};
 ghost use Rattle.sdb_steps.specs.OneStep.{OneStep};
 ghost use Rattle.sdb_steps.specs.Picks.{work, commit, subscribe, take, unsubscribe};
-ghost use Rattle.sdb_steps.specs.Turns.{IsTurn};
-ghost use Rattle.sdb_steps.specs.Seen.{core_of, plain_session, slots_of};
+ghost use Rattle.sdb_steps.specs.Dispatch.{Dispatches};
+ghost use Rattle.sdb_steps.specs.StateView.{core_of, plain_session, slots_of};
 ghost use Rattle.sdb_steps.specs.Slots.{AreOpen, Leaves, closed_of};
 ghost use Rattle.sdb_steps.specs.View.{plain_answer, told_start};
 
-use crate::kept::Session;
-use crate::slots::{drop_empty_slot, drop_slot, fill_slot, make_slot, queue_of};
+use crate::queue_slots::{drop_empty_slot, drop_slot, fill_slot, make_slot, queue_of};
+use crate::session_state::Session;
 use crate::step::StepAnswer;
 use sdb_desk::Shard;
 use sdb_oplog::{Code, Key};
@@ -32,8 +32,8 @@ impl Session {
 
     // Works on the attempt.
     pub(crate) fn work(&mut self, alloc: Global) -> StepAnswer
-        ensures turns { (i : ℕ) (m : OneStep) (q : Queued) →
-            IsTurn i m (plain_session q self.old) work (plain_answer result) m (plain_session q self.new) }
+        ensures dispatches { (i : ℕ) (m : OneStep) (q : Queued) →
+            Dispatches i m (plain_session q self.old) work (plain_answer result) m (plain_session q self.new) }
         ensures slots { slots_of self.new ≡ slots_of self.old }
     {
         let Some(attempt) = self.attempt.take() else {
@@ -46,7 +46,7 @@ impl Session {
 
     // Commits the attempt.
     pub(crate) fn commit(&mut self, alloc: Global, shard: &mut Shard) -> StepAnswer
-        ensures turns { (i : ℕ) (q : Queued) → IsTurn i (core_of shard.old) (plain_session q self.old) commit
+        ensures dispatches { (i : ℕ) (q : Queued) → Dispatches i (core_of shard.old) (plain_session q self.old) commit
             (plain_answer result) (core_of shard.new) (plain_session q self.new) }
         ensures slots { slots_of self.new ≡ slots_of self.old }
         ensures queues { queues_of shard.new ≡ queues_of shard.old }
@@ -67,7 +67,7 @@ impl Session {
         version: Option<u64>,
     ) -> StepAnswer
         requires { AreOpen (queues_of shard.old) (slots_of self.old) }
-        ensures turns { (i : ℕ) → IsTurn i (core_of shard.old) (plain_session (queues_of shard.old) self.old)
+        ensures dispatches { (i : ℕ) → Dispatches i (core_of shard.old) (plain_session (queues_of shard.old) self.old)
             (subscribe (plain_key key.now) version)
             (plain_answer result) (core_of shard.new) (plain_session (queues_of shard.new) self.new) }
         ensures leaves { Leaves (queues_of shard.old) (slots_of self.old) (queues_of shard.new) (slots_of self.new) }
@@ -94,7 +94,7 @@ impl Session {
     // Takes the next entries of the queue.
     pub(crate) fn take(&mut self, shard: &mut Shard, key: &Key, max: u64) -> StepAnswer
         requires { AreOpen (queues_of shard.old) (slots_of self.old) }
-        ensures turns { (i : ℕ) → IsTurn i (core_of shard.old) (plain_session (queues_of shard.old) self.old)
+        ensures dispatches { (i : ℕ) → Dispatches i (core_of shard.old) (plain_session (queues_of shard.old) self.old)
             (take (plain_key key.now) max)
             (plain_answer result) (core_of shard.new) (plain_session (queues_of shard.new) self.new) }
         ensures leaves { Leaves (queues_of shard.old) (slots_of self.old) (queues_of shard.new) (slots_of self.new) }
@@ -112,7 +112,7 @@ impl Session {
     // Closes the queue.
     pub(crate) fn unsubscribe(&mut self, shard: &mut Shard, key: &Key) -> StepAnswer
         requires { AreOpen (queues_of shard.old) (slots_of self.old) }
-        ensures turns { (i : ℕ) → IsTurn i (core_of shard.old) (plain_session (queues_of shard.old) self.old)
+        ensures dispatches { (i : ℕ) → Dispatches i (core_of shard.old) (plain_session (queues_of shard.old) self.old)
             (unsubscribe (plain_key key.now))
             (plain_answer result) (core_of shard.new) (plain_session (queues_of shard.new) self.new) }
         ensures leaves { Leaves (queues_of shard.old) (slots_of self.old) (queues_of shard.new) (slots_of self.new) }

@@ -2,7 +2,7 @@
 ghost use Rattle.std.specs.Prelude.{◌≡◌};
 ghost use Rattle.sdb_steps.specs.View.{plain_step};
 
-use crate::number::SessionNumber;
+use crate::session_number::SessionNumber;
 use sdb_desk::{Fetched, Reply};
 use sdb_oplog::{Code, Content, Entry, Key};
 

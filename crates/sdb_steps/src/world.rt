@@ -1,13 +1,13 @@
 //! The world of 64 sessions.
 ghost use Rattle.std.specs.Prelude.{◌≡◌, IfOk};
-ghost use Rattle.sdb_steps.specs.Keyed.{machine_of, sessions_of};
+ghost use Rattle.sdb_steps.specs.WorldView.{machine_of, sessions_of};
 ghost use Rattle.sdb_steps.specs.OneStep.{empty};
 ghost use Rattle.sdb_steps.specs.Picks.{all_fresh};
 ghost use Rattle.sdb_steps.specs.Runs.{IsStep};
 ghost use Rattle.sdb_steps.specs.View.{plain_step, plain_answer};
 
-use crate::parts::Parts;
 use crate::step::{Step, StepAnswer};
+use crate::world_parts::Parts;
 use std::alloc::{AllocError, Global};
 
 /// All documents, and what each of the 64 sessions keeps: at most one attempt, and at most one queue of

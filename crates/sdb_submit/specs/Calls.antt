@@ -1,18 +1,20 @@
 -- The calls of a desk and what they answer, as plain data.
-use Rattle.std.specs.Prelude.{◌≡◌, ℕ, true, List, Option, Some, None, Result, Ok, Err}
+use Rattle.std.specs.Prelude.{◌≡◌, ℕ, true, List, length, Option, Some, None, Result, Ok, Err}
 use Rattle.std.specs.declared.alloc.AllocError.{AllocError}
 use Rattle.sdb_oplog.specs.Plain.{PlainEntry, PlainSubmission}
 use Rattle.sdb_oplog.specs.Decide.{PlainReply}
 use Rattle.sdb_oplog.specs.Keys.{PlainKey}
 use Rattle.sdb_oplog.specs.declared.codes.Code.{Code}
 use Rattle.sdb_desk.specs.Machine.{PlainLook, PlainAttempt, PlainOutcome, PlainFetched, PlainSubscribed, Machine, Same, look_at, looking_takes_memory, is_filled, has_document, has_version, fetched, operations, snapshot_at, with_queues, closed, Commits, Decides, Reads, Subscribes, Takes}
-use Rattle.sdb_desk.specs.Shown.{plain_look}
+use Rattle.sdb_desk.specs.View.{plain_look}
 use Rattle.sdb_desk.specs.declared.attempts.Look.{Look}
 
 pub data PlainCall : Type 0 where
   look : PlainSubmission → PlainCall
   commit : PlainAttempt → PlainCall
   commit_now : PlainSubmission → PlainCall
+  -- the present version
+  present : PlainCall
   fetch : PlainCall
   -- from a version on
   ops_from : ℕ → PlainCall
@@ -32,6 +34,7 @@ abbrev pub AnswerTo : PlainCall → Type 0
 AnswerTo (look s) = Option PlainLook
 AnswerTo (commit a) = PlainOutcome
 AnswerTo (commit_now s) = PlainReply
+AnswerTo present = ℕ
 AnswerTo fetch = Result PlainFetched Code
 AnswerTo (ops_from v) = Result (List PlainEntry) Code
 AnswerTo (snapshot v) = Result PlainFetched Code
@@ -54,6 +57,7 @@ abbrev pub Acts : Machine → PlainKey → (c : PlainCall) → AnswerTo c → Ma
 Acts m k (look s) o new = Looks (m.logs k) s o × Same m new
 Acts m k (commit a) o new = Commits m.logs k a o new.logs × (new.queues ≡ m.queues)
 Acts m k (commit_now s) r new = Decides m.logs k s r new.logs × (new.queues ≡ m.queues)
+Acts m k present v new = (v ≡ length (m.logs k)) × Same m new
 Acts m k fetch r new = Reads has_document r (Ok (fetched (m.logs k))) × Same m new
 Acts m k (ops_from v) r new = Reads is_filled r (operations (m.logs k) v) × Same m new
 Acts m k (snapshot v) r new = Reads has_version r (snapshot_at (m.logs k) v) × Same m new

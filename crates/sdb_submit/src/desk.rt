@@ -2,9 +2,9 @@
 ghost use Rattle.std.specs.Prelude.{◌≡◌, ℕ};
 ghost use Rattle.sdb_oplog.specs.Keys.{PlainKey, plain_key};
 ghost use Rattle.sdb_desk.specs.Machine.{Keeps};
-ghost use Rattle.sdb_desk.specs.Shown.{plain_outcome, told_fetched, told_entries, told_subscribed, told_taken};
-ghost use Rattle.sdb_desk.specs.Told.{plain_reply};
-ghost use Rattle.sdb_submit.specs.Calls.{PlainCall, look, commit, commit_now, fetch, ops_from, snapshot, forget, subscribe, take_next, unsubscribe, AnswerTo, told_look};
+ghost use Rattle.sdb_desk.specs.View.{plain_outcome, told_fetched, told_entries, told_subscribed, told_taken};
+ghost use Rattle.sdb_desk.specs.ReplyView.{plain_reply};
+ghost use Rattle.sdb_submit.specs.Calls.{PlainCall, look, commit, commit_now, present, fetch, ops_from, snapshot, forget, subscribe, take_next, unsubscribe, AnswerTo, told_look};
 
 use sdb_desk::{Fetched, Look, Outcome, Reply, Subscribed, Work};
 use sdb_oplog::{Code, Entry, Key, Submission};
@@ -58,6 +58,13 @@ pub trait Desk {
         ensures acts { acts self.now (plain_key key.now) (commit_now submission.now) pass.old
             (plain_reply result) pass.new };
 
+    /// The present version; 0 where there is no document yet. It takes no memory.
+    fn version(&self, pass: &mut Self::Pass, key: &Key) -> u64
+        requires { takes self.now pass.old }
+        ensures takes { takes self.now pass.new }
+        ensures number { number self.now pass.new ≡ number self.now pass.old }
+        ensures acts { acts self.now (plain_key key.now) present pass.old result pass.new };
+
     /// The present version and the document there, or E10.
     fn fetch(&self, pass: &mut Self::Pass, key: &Key) -> Result<Fetched, Code>
         requires { takes self.now pass.old }
@@ -104,7 +111,8 @@ pub trait Desk {
         requires { takes self.now pass.old }
         ensures takes { takes self.now pass.new }
         ensures number { number self.now pass.new ≡ number self.now pass.old }
-        ensures acts { acts self.now (plain_key key.now) (subscribe version) pass.old (told_subscribed result) pass.new };
+        ensures acts { acts self.now (plain_key key.now) (subscribe version) pass.old
+            (told_subscribed result) pass.new };
 
     /// The next entries of a queue, at most `max`; `None` where no open queue of the key has the number.
     /// It fails only for want of memory.

@@ -1,7 +1,7 @@
 //! A desk for one caller, who holds the documents.
 ghost use Rattle.std.specs.Prelude.{◌≡◌, ℕ, [], ⊤};
 ghost use Rattle.sdb_oplog.specs.Keys.{plain_key};
-ghost use Rattle.sdb_desk.specs.Keyed.{machine_of, kept_of, with_kept};
+ghost use Rattle.sdb_desk.specs.ShardView.{machine_of, kept_of, with_kept};
 ghost use Rattle.sdb_submit.specs.Calls.{Acts, forget};
 
 use crate::desk::Desk;
@@ -38,6 +38,10 @@ impl Desk for Solo {
 
     fn commit_now(&self, pass: &mut Shard, key: &Key, submission: &Submission) -> Reply {
         pass.commit_now(key, submission)
+    }
+
+    fn version(&self, pass: &mut Shard, key: &Key) -> u64 {
+        pass.version(key)
     }
 
     fn fetch(&self, pass: &mut Shard, key: &Key) -> Result<Fetched, Code> {

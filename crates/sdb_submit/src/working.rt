@@ -2,7 +2,7 @@
 ghost use Rattle.std.specs.Prelude.{◌≡◌, ◌≤◌, true, IfOk, IfErr, OnErr, IfSome, IsTrue, IsFalse, length, take, drop};
 ghost use Rattle.sdb_oplog.specs.Over.{over_all, carrying_takes_memory};
 ghost use Rattle.sdb_oplog.specs.Refused.{result_then};
-ghost use Rattle.sdb_desk.specs.Shown.{plain_attempt, plain_look, content_or};
+ghost use Rattle.sdb_desk.specs.View.{plain_attempt, plain_look, content_or};
 
 use sdb_desk::{Attempt, Look, Work};
 use sdb_oplog::{Code, Content, Entry, Submission, over_all, same_entries};

@@ -3,6 +3,8 @@
 #![tactic(auto)]
 
 #[cfg(test)]
+mod backend;
+#[cfg(test)]
 mod desk;
 #[cfg(test)]
 mod growths;

@@ -1,7 +1,7 @@
 //! `sdb_submit`: tries that are counted, and a desk at which others store too.
 ghost use Rattle.std.specs.Prelude.{◌≡◌, ℕ, ⊤, IfOk};
 ghost use Rattle.sdb_oplog.specs.Keys.{Logs};
-ghost use Rattle.sdb_desk.specs.Keyed.{machine_of};
+ghost use Rattle.sdb_desk.specs.ShardView.{machine_of};
 ghost use Rattle.sdb_desk.specs.Machine.{Queued};
 ghost use Rattle.sdb_submit.specs.Calls.{Acts};
 
@@ -78,6 +78,10 @@ impl Desk for Meddling {
 
     fn commit_now(&self, pass: &mut Shared, key: &Key, submission: &Submission) -> Reply {
         pass.shard.commit_now(key, submission)
+    }
+
+    fn version(&self, pass: &mut Shared, key: &Key) -> u64 {
+        pass.shard.version(key)
     }
 
     fn fetch(&self, pass: &mut Shared, key: &Key) -> Result<Fetched, Code> {

@@ -3,7 +3,7 @@ use sdb_component::op_value;
 use sdb_oplog::{Code, Content, Entry, Key, Kind, Submission};
 use sdb_value::{Json, to_value};
 use sdb_wire::{
-    Answer, Echo, MESSAGE_LIMIT, Request, Word, echo_of, entry_value, hear, no_echo, read_content,
+    Answer, Echo, MESSAGE_LIMIT, Request, Word, echo_of, entry_value, parse_message, no_echo, read_content,
     read_message, reply_text, write_reply,
 };
 use serde_json::Value;
@@ -240,7 +240,7 @@ fn a_text_of_the_limit_is_read(rt: HostRuntime) -> Result<(), Fail> {
     let text = padded(rt.alloc(), 1_048_576)?;
     assert!(rt; text.len() == MESSAGE_LIMIT);
     assert!(rt; fetches(rt.alloc(), text.as_str()) == Ok(true));
-    assert!(rt; is_heard_as_json(rt.alloc(), text.as_str())?);
+    assert!(rt; has_json_value(rt.alloc(), text.as_str())?);
     Ok(())
 }
 
@@ -248,19 +248,19 @@ fn a_text_of_the_limit_is_read(rt: HostRuntime) -> Result<(), Fail> {
 fn a_text_past_the_limit_is_not_read(rt: HostRuntime) -> Result<(), Fail> {
     let text = padded(rt.alloc(), 1_048_577)?;
     assert!(rt; fetches(rt.alloc(), text.as_str()) == Err(Code::E1));
-    assert!(rt; !is_heard_as_json(rt.alloc(), text.as_str())?);
+    assert!(rt; !has_json_value(rt.alloc(), text.as_str())?);
     Ok(())
 }
 
-fn is_heard_as_json(alloc: Global, text: &str) -> Result<bool, Fail> {
-    let heard = hear(alloc, text)?;
-    Ok(heard.message.is_some())
+fn has_json_value(alloc: Global, text: &str) -> Result<bool, Fail> {
+    let message = parse_message(alloc, text)?;
+    Ok(message.json.is_some())
 }
 
 // The number of the submission or of the snapshot that is heard, or the code that refuses it.
 fn heard(alloc: Global, text: &str) -> Result<Result<u64, Code>, Fail> {
-    let heard = hear(alloc, text)?;
-    Ok(number_of(&heard.request))
+    let message = parse_message(alloc, text)?;
+    Ok(number_of(&message.request))
 }
 
 // The others have none.
@@ -275,8 +275,8 @@ fn number_of(request: &Result<Request, Code>) -> Result<u64, Code> {
 
 // What an error shows of what is heard.
 fn echoed(alloc: Global, text: &str) -> Result<Echo, Fail> {
-    let heard = hear(alloc, text)?;
-    echo_in(alloc, heard.message.as_ref())
+    let message = parse_message(alloc, text)?;
+    echo_in(alloc, message.json.as_ref())
 }
 
 fn echo_in(alloc: Global, message: Option<&Value>) -> Result<Echo, Fail> {

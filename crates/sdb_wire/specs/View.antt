@@ -8,15 +8,15 @@ use Rattle.sdb_value.specs.View.{view}
 use Rattle.sdb_oplog.specs.Keys.{plain_key}
 use Rattle.sdb_oplog.specs.declared.codes.Code.{Code}
 use Rattle.sdb_oplog.specs.declared.codes.Code.TheVariants.{E10}
-use Rattle.sdb_wire.specs.Wire.{PlainRequest, hello, fetch, subscribe, unsubscribe, submit, snapshot as asks_snapshot, PlainEcho, said, nothing_said, PlainWord, text, count, PlainBad, with_echo, message_of, PlainHeard}
+use Rattle.sdb_wire.specs.Wire.{PlainRequest, hello, fetch, subscribe, unsubscribe, submit, snapshot as asks_snapshot, PlainEcho, said, nothing_said, PlainWord, text, count, PlainBadMessage, with_echo, message_of, PlainMessage}
 use Rattle.sdb_wire.specs.Answers.{PlainAnswer, init, named, fetched, listed, subscribed, caught_up, unsubscribed, snapshot, op_message, with_content, acknowledged, failed}
 use Rattle.sdb_wire.specs.declared.requests.Word.{Word}
 use Rattle.sdb_wire.specs.declared.requests.Word.TheVariants.{Text, Count}
 use Rattle.sdb_wire.specs.declared.requests.Echo.{Echo}
-use Rattle.sdb_wire.specs.declared.requests.Bad.{Bad}
+use Rattle.sdb_wire.specs.declared.requests.BadMessage.{BadMessage}
 use Rattle.sdb_wire.specs.declared.requests.Request.{Request}
 use Rattle.sdb_wire.specs.declared.requests.Request.TheVariants.{Hello, Fetch, Subscribe, Unsubscribe, Submit, Snapshot}
-use Rattle.sdb_wire.specs.declared.requests.Heard.{Heard}
+use Rattle.sdb_wire.specs.declared.requests.Message.{Message}
 use Rattle.sdb_wire.specs.declared.requests.Answer.{Answer}
 use Rattle.sdb_wire.specs.declared.requests.Answer.TheVariants.{Init, Named, Fetched, Listed, Subscribed, CaughtUp, Unsubscribed, OpMessage, Acknowledged, Failed}
 use Rattle.sdb_wire.specs.declared.requests.Answer.TheVariants as answer
@@ -51,8 +51,8 @@ asked (Err c) = Err c
 abbrev pub echo_from : Option Value → PlainEcho
 echo_from m = option_map_or (λ v. said (data_view v)) m nothing_said
 
-abbrev pub plain_heard : Heard → PlainHeard
-plain_heard h = record { echo = echo_from h.message; request = asked h.request }
+abbrev pub plain_message : Message → PlainMessage
+plain_message m = record { echo = echo_from m.json; request = asked m.request }
 
 abbrev pub plain_answer : Answer → PlainAnswer
 plain_answer (Init src) = init src.now
@@ -68,8 +68,8 @@ plain_answer (Acknowledged k src seq v) = acknowledged (plain_key k.now) src.now
 plain_answer (Failed echo code) = failed (plain_echo echo.now) code
 
 -- the fault is the one that is due, or memory was wanting
-abbrev pub IsFault : Bad → Result PlainRequest PlainBad → Type 0
+abbrev pub IsFault : BadMessage → Result PlainRequest PlainBadMessage → Type 0
 IsFault b r = (b.code ≡ E10 → ⊥) → r ≡ Err (record { echo = plain_echo b.echo; code = b.code })
 
-abbrev pub IsFaultOf : Bad → Data → Type 0
+abbrev pub IsFaultOf : BadMessage → Data → Type 0
 IsFaultOf b d = IsFault b (with_echo (said d) (message_of d))

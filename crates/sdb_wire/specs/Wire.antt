@@ -165,11 +165,11 @@ message_of d =
 
 -- ---- texts
 
-pub record PlainBad : Type 0 where
+pub record PlainBadMessage : Type 0 where
   pub echo : PlainEcho
   pub code : Code
 
-abbrev pub with_echo : {A : Type 0} → PlainEcho → Result A Code → Result A PlainBad
+abbrev pub with_echo : {A : Type 0} → PlainEcho → Result A Code → Result A PlainBadMessage
 with_echo e (Ok x) = Ok x
 with_echo e (Err c) = Err (record { echo = e; code = c })
 
@@ -182,7 +182,7 @@ abbrev pub value_of : List ℕ → Option Data
 value_of line = if nat_lt message_limit (length line) then None else read line
 
 -- `Wire`: the request, or the first code in order and what the error reply shows of the message
-abbrev pub wire : List ℕ → Result PlainRequest PlainBad
+abbrev pub wire : List ℕ → Result PlainRequest PlainBadMessage
 wire line =
     option_map_or (λ d. with_echo (said d) (message_of d)) (value_of line)
     (Err (record { echo = nothing_said; code = E1 }))
@@ -193,13 +193,13 @@ echo_of line = option_map_or said (value_of line) nothing_said
 
 -- ---- the same with the echo always, since a refusal by the log shows it too
 
-pub record PlainHeard : Type 0 where
+pub record PlainMessage : Type 0 where
   pub echo : PlainEcho
   pub request : Result PlainRequest Code
 
-abbrev pub heard_of : Option Data → PlainHeard
-heard_of None = record { echo = nothing_said; request = Err E1 }
-heard_of (Some d) = record { echo = said d; request = message_of d }
+abbrev pub plain_message_of : Option Data → PlainMessage
+plain_message_of None = record { echo = nothing_said; request = Err E1 }
+plain_message_of (Some d) = record { echo = said d; request = message_of d }
 
-abbrev pub hear : List ℕ → PlainHeard
-hear line = heard_of (value_of line)
+abbrev pub parse_message : List ℕ → PlainMessage
+parse_message line = plain_message_of (value_of line)

@@ -1,8 +1,23 @@
-//! The names and texts of codes.
-ghost use Rattle.std.specs.Prelude.{◌≡◌};
+//! The names and texts of codes, and which of them refuse.
+ghost use Rattle.std.specs.Prelude.{◌≡◌, IfOk, OnOk, OnErr};
+ghost use Rattle.sdb_oplog.specs.declared.codes.Code.TheVariants.{E10};
 ghost use Rattle.sdb_wire.specs.Answers.{code_name, code_text};
 
 use sdb_oplog::Code;
+use std::alloc::AllocError;
+
+/// The code, where it refuses what was asked. E10 refuses nothing: it is want of memory, and becomes the
+/// allocator's error again.
+pub fn refusal(code: Code) -> Result<Code, AllocError>
+    ensures code { IfOk result (λ c. c ≡ code) }
+    ensures refuses { OnOk result (code ≡ E10 → ⊥) }
+    ensures memory { OnErr result (code ≡ E10) }
+{
+    match code {
+        Code::E10 => Err(AllocError),
+        code => Ok(code),
+    }
+}
 
 pub(crate) fn code_name(code: Code) -> &'static str
     ensures { result.now ≡ code_name code }

@@ -9,7 +9,7 @@ ghost use Rattle.sdb_oplog.specs.declared.codes.Code.TheVariants.{E1};
 ghost use Rattle.sdb_wire.specs.Wire.{as_name, as_word, count_at, name_at, word_at, present, unless_null, may, said};
 ghost use Rattle.sdb_wire.specs.View.{plain_word, plain_echo};
 
-use crate::requests::{Echo, Word};
+use crate::requests::{Echo, NAME_LIMIT, Word};
 use sdb_oplog::Code;
 use sdb_value::count_of;
 use serde_json::Value;
@@ -19,7 +19,7 @@ pub(crate) fn as_name(value: &Value) -> Option<&str>
     ensures { option_map (λ s. s.now) result ≡ as_name (data_view value.now) }
 {
     let text = value.as_str()?;
-    if text.is_empty() || text.len() > 200 {
+    if text.is_empty() || text.len() > NAME_LIMIT {
         return None;
     }
     Some(text)

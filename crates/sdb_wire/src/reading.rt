@@ -3,11 +3,12 @@ ghost use Rattle.std.specs.Prelude.{◌≡◌, ◌⊎◌, Ok, IfOk, IfErr, optio
 ghost use Rattle.serde_json.specs.View.{view as data_view};
 ghost use Rattle.sdb_oplog.specs.Keys.{plain_key};
 ghost use Rattle.sdb_oplog.specs.Refused.{RefusedBy};
-ghost use Rattle.sdb_wire.specs.Wire.{key_of, hello_of, fetch_of, subscribe_of, unsubscribe_of, submit_of, snapshot_of, message_of, content_of, is_deletion, creation, created, edition, wire, hear, value_of, echo_of, said, nothing_said};
-ghost use Rattle.sdb_wire.specs.View.{plain_request, plain_echo, plain_heard, echo_from, IsFault, IsFaultOf};
+ghost use Rattle.sdb_wire.specs.Wire.{key_of, hello_of, fetch_of, subscribe_of, unsubscribe_of, submit_of, snapshot_of, message_of, content_of, is_deletion, creation, created, edition, wire, parse_message, value_of, echo_of, said, nothing_said};
+ghost use Rattle.sdb_wire.specs.View.{plain_request, plain_echo, plain_message, echo_from, IsFault, IsFaultOf};
 
+use crate::codes::refusal;
 use crate::members::{count_at, may_count, may_name, name_at, need_name, present, said};
-use crate::requests::{Bad, Echo, Heard, MESSAGE_LIMIT, Request, TYPE};
+use crate::requests::{BadMessage, Echo, MESSAGE_LIMIT, Message, Request, TYPE};
 use sdb_component::read_op;
 use sdb_oplog::{Code, Content, Key};
 use sdb_value::from_value;
@@ -16,7 +17,7 @@ use std::alloc::{AllocError, Global};
 
 /// The request that a text is, or the first code in order, E1 to E3, with what the error shows. A text of
 /// more than [`MESSAGE_LIMIT`] bytes isn't read, and is E1.
-pub fn read_message(alloc: Global, text: &str) -> Result<Request, Bad>
+pub fn read_message(alloc: Global, text: &str) -> Result<Request, BadMessage>
     ensures ok { IfOk result (λ r. wire text.now ≡ Ok (plain_request r)) }
     ensures err { IfErr result (λ b. IsFault b (wire text.now)) }
     // For want of memory too, an error shows members of this message, or none.
@@ -24,37 +25,34 @@ pub fn read_message(alloc: Global, text: &str) -> Result<Request, Bad>
 {
     match value_of(alloc, text) {
         Ok(Some(value)) => read_value(alloc, &value),
-        Ok(None) => Err(Bad {
+        Ok(None) => Err(BadMessage {
             echo: no_echo(),
             code: Code::E1,
         }),
-        Err(error) => Err(Bad {
+        Err(error) => Err(BadMessage {
             echo: no_echo(),
             code: Code::from(error),
         }),
     }
 }
 
-/// What a line says: as [`read_message`], but with the message itself, since a refusal by the log
+/// The message that a text is: as [`read_message`], but with its JSON value, since a refusal by the log
 /// shows members of it too.
-pub fn hear(alloc: Global, text: &str) -> Result<Heard, AllocError>
-    ensures { IfOk result (λ h. plain_heard h ≡ hear text.now) }
+pub fn parse_message(alloc: Global, text: &str) -> Result<Message, AllocError>
+    ensures { IfOk result (λ m. plain_message m ≡ parse_message text.now) }
 {
-    let Some(value) = value_of(alloc, text)? else {
-        return Ok(Heard {
-            message: None,
+    let Some(json) = value_of(alloc, text)? else {
+        return Ok(Message {
+            json: None,
             request: Err(Code::E1),
         });
     };
-    let request = match message_of(alloc, &value) {
+    let request = match message_of(alloc, &json) {
         Ok(request) => Ok(request),
-        Err(code) => match code {
-            Code::E10 => return Err(AllocError),
-            code => Err(code),
-        },
+        Err(code) => Err(refusal(code)?),
     };
-    Ok(Heard {
-        message: Some(value),
+    Ok(Message {
+        json: Some(json),
         request,
     })
 }
@@ -102,7 +100,7 @@ pub fn no_echo() -> Echo
     }
 }
 
-fn read_value(alloc: Global, value: &Value) -> Result<Request, Bad>
+fn read_value(alloc: Global, value: &Value) -> Result<Request, BadMessage>
     ensures ok { IfOk result (λ r. message_of (data_view value.now) ≡ Ok (plain_request r)) }
     ensures err { IfErr result (λ b. IsFaultOf b (data_view value.now)) }
     ensures echo { IfErr result (λ b.
@@ -111,8 +109,8 @@ fn read_value(alloc: Global, value: &Value) -> Result<Request, Bad>
     match message_of(alloc, value) {
         Ok(request) => Ok(request),
         Err(code) => match said(alloc, value) {
-            Ok(echo) => Err(Bad { echo, code }),
-            Err(error) => Err(Bad {
+            Ok(echo) => Err(BadMessage { echo, code }),
+            Err(error) => Err(BadMessage {
                 echo: no_echo(),
                 code: Code::from(error),
             }),

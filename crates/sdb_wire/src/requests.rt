@@ -6,6 +6,9 @@ use serde_json::Value;
 /// The longest text of a message, in bytes: 1,048,576.
 pub const MESSAGE_LIMIT: usize = 1_048_576;
 
+/// The longest name, in bytes: 200. A name has one byte at least.
+pub const NAME_LIMIT: usize = 200;
+
 // The address of the type of all documents, as ShareDB's json0 has it.
 pub(crate) const TYPE: &str = "http://sharejs.org/types/JSONv0";
 
@@ -69,16 +72,16 @@ pub enum Request {
 
 /// Why a message asks nothing, and what the error shows of it. E10 is want of memory.
 #[derive(Drop)]
-pub struct Bad {
+pub struct BadMessage {
     pub echo: Echo,
     pub code: Code,
 }
 
-/// What a line says: the request, or the code that refuses it, and the message as JSON, if it has a
-/// reading. An error shows some members of it ([`echo_of`](crate::echo_of)).
+/// A message: the request that it is, or the code that refuses it, and its JSON value, if it has one. An
+/// error shows some members of it ([`echo_of`](crate::echo_of)).
 #[derive(Drop)]
-pub struct Heard {
-    pub message: Option<Value>,
+pub struct Message {
+    pub json: Option<Value>,
     pub request: Result<Request, Code>,
 }
 

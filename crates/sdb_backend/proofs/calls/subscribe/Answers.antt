@@ -1,5 +1,5 @@
 use Rattle.std.proofs.Common.{rules}
-use Rattle.sdb_desk.specs.Keyed.{machine_of}
+use Rattle.sdb_desk.specs.ShardView.{machine_of}
 use Rattle.sdb_backend.proofs.calls.subscribe.Goals as goal
 
 pub returns : goal.returns

@@ -8,7 +8,7 @@ use Rattle.sdb_lines.proofs.cutting.take_piece.Given as goal
 abbrev pub invariant-loop-at : goal.invariant-loop-at
 invariant-loop-at g l = record {
   room : l.pending.counts.lines + length l.rest ≤ l.initial.pending.counts.lines + length l.initial.rest;
-  unfailed : g.W.Sink.has_failed l.writer ≡ g.W.Sink.has_failed l.initial.writer;
+  unfailed : g.W.Sink.failures l.writer ≡ g.W.Sink.failures l.initial.writer;
   unended : unended_in l.initial.rest l.initial.pending.held.items ≡ unended_in l.rest l.pending.held.items;
   taken : (lines : List (Option (List ℕ)))
       × (ended_in l.initial.rest l.initial.pending.held.items ≡ lines ++ ended_in l.rest l.pending.held.items)

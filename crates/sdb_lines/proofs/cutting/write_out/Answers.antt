@@ -11,7 +11,7 @@ returns-in-Ok-eq0-clause-front g c =
 pub loop-at-preserved : goal.loop-at-preserved
 loop-at-preserved g c = record {
   in_range = omega (arith, c.in-Ok.ensures.bound);
-  unfailed = (let e = rw (ne_eqb c.in-Ok.n 0 c.in-Ok.n-test.1) at c.in-Ok.ensures.failed in e ∙ c.loop-at.invariant.unfailed);
+  unfailed = (let e = rw (ne_eqb c.in-Ok.n 0 c.in-Ok.n-test.1) at c.in-Ok.ensures.failures in e ∙ c.loop-at.invariant.unfailed);
   wrote = put-more _ _ _ c.args.out.now.items c.deref.result.now c.loop-at.at c.in-Ok.n c.deref.ensures.value c.loop-at.invariant.wrote c.in-Ok.ensures.bytes;
 }
 

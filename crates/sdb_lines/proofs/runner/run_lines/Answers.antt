@@ -1,7 +1,7 @@
 use Rattle.std.proofs.Common.{arith, inr, take, ap, ◌∙◌, length-take, refl}
 use Rattle.sdb_lines.proofs.Pieces.{ended-few}
 use Rattle.sdb_lines.proofs.Writing.{but-no_error}
-use Rattle.sdb_lines.proofs.Progress.{went-start, went-on, went-front, went-stop, went-whole, went-whole_front, went-lines, went-steps, opening-front}
+use Rattle.sdb_lines.proofs.Progress.{went-start, went-on, went-front, went-stop, went-whole, went-whole_front, went-counts, opening-front}
 use Rattle.sdb_lines.proofs.runner.run_lines.Goals as goal
 
 pub returns-in-Err-clause-front : goal.returns-in-Err-clause-front
@@ -29,7 +29,7 @@ loop-turn-preserved g c =
       few = omega (arith, ap (λ n. n.lines) c.in-Ok-answer_piece.ensures.counted, c.loop-turn.invariant.few, c.loop-turn.invariant.room, c.take.auto.buf, ended-few piece c.loop-turn.pending.held.items, length-take c.in-Ok-take.n c.take.new.buf);
       calls = omega (arith, c.loop-turn.invariant.calls, c.take.ensures.calls);
       at_most = omega (arith, c.loop-turn.invariant.at_most, c.take.ensures.calls);
-      reads = c.in-Ok-take.ensures.failed ∙ c.loop-turn.invariant.reads;
+      reads = c.in-Ok-take.ensures.failures ∙ c.loop-turn.invariant.reads;
       writes = but-no_error _ _ c.in-Ok-answer_piece.ensures.writes ∙ c.loop-turn.invariant.writes;
       went = went-on g.M.Replier.takes g.M.Replier.is_step _ piece _ _ c.loop-turn.invariant.went c.in-Ok-take.ensures.bytes.0 c.in-Ok-answer_piece.ensures.held c.in-Ok-answer_piece.ensures.counted c.in-Ok-answer_piece.ensures.all;
     }
@@ -60,36 +60,10 @@ returns-in-Ok-answer_rest-clause-whole g c =
     let ends = bytes.1 c.in-Ok-eq0.field-0-test (omega (arith, c.loop-turn.invariant.room, c.take.auto.buf)) in
     went-whole takes g.M.Replier.is_step _ _ nothing c.loop-turn.invariant.went bytes.0 ends _ _ c.in-Ok-answer_rest.ensures.all
 
-pub returns-in-Ok-answer_rest-clause-lines : goal.returns-in-Ok-answer_rest-clause-lines
-returns-in-Ok-answer_rest-clause-lines g c =
+pub returns-in-Ok-answer_rest-clause-counts : goal.returns-in-Ok-answer_rest-clause-counts
+returns-in-Ok-answer_rest-clause-counts g c =
     let takes = g.M.Replier.takes in
     let bytes = c.in-Ok-eq0.ensures.bytes in
     let nothing = ap (λ n. take n c.take.new.buf) c.in-Ok-eq0.field-0-test in
     let ends = bytes.1 c.in-Ok-eq0.field-0-test (omega (arith, c.loop-turn.invariant.room, c.take.auto.buf)) in
-    went-lines takes g.M.Replier.is_step _ _ nothing c.loop-turn.invariant.went bytes.0 ends _ c.in-Ok-answer_rest.ensures.counted
-
-pub returns-in-Ok-answer_rest-clause-steps : goal.returns-in-Ok-answer_rest-clause-steps
-returns-in-Ok-answer_rest-clause-steps g c =
-    let takes = g.M.Replier.takes in
-    let bytes = c.in-Ok-eq0.ensures.bytes in
-    let nothing = ap (λ n. take n c.take.new.buf) c.in-Ok-eq0.field-0-test in
-    let ends = bytes.1 c.in-Ok-eq0.field-0-test (omega (arith, c.loop-turn.invariant.room, c.take.auto.buf)) in
-    went-steps takes g.M.Replier.is_step _ _ nothing c.loop-turn.invariant.went bytes.0 ends _ c.in-Ok-answer_rest.ensures.counted
-
-pub returns-in-Ok-answer_rest-clause-calls : goal.returns-in-Ok-answer_rest-clause-calls
-returns-in-Ok-answer_rest-clause-calls g c = omega (arith, c.loop-turn.invariant.at_most, c.take.ensures.calls)
-
-pub returns-in-Err-answer_rest-clause-calls : goal.returns-in-Err-answer_rest-clause-calls
-returns-in-Err-answer_rest-clause-calls g c = omega (arith, c.loop-turn.invariant.at_most, c.take.ensures.calls)
-
-pub returns-in-Err-answer_piece-clause-calls : goal.returns-in-Err-answer_piece-clause-calls
-returns-in-Err-answer_piece-clause-calls g c = omega (arith, c.loop-turn.invariant.at_most, c.take.ensures.calls)
-
-pub returns-in-Err-take-clause-calls : goal.returns-in-Err-take-clause-calls
-returns-in-Err-take-clause-calls g c = omega (arith, c.loop-turn.invariant.at_most, c.take.ensures.calls)
-
-pub returns-clause-calls : goal.returns-clause-calls
-returns-clause-calls g c = omega (arith, c.loop-turn.invariant.at_most)
-
-pub returns-clause-read : goal.returns-clause-read
-returns-clause-read g c = λ e. inr (omega (arith, c.loop-turn.invariant.calls))
+    went-counts takes g.M.Replier.is_step _ _ nothing c.loop-turn.invariant.went bytes.0 ends _ c.in-Ok-answer_rest.ensures.counted

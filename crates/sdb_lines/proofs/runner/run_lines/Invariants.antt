@@ -9,8 +9,8 @@ invariant-loop-turn g l = record {
   few : l.pending.counts.lines ≤ 65536 * l._turn;
   calls : min (g.R.Source.calls l.fn.reader + l._turn) (2 ^ 64 - 1) ≤ g.R.Source.calls l.reader;
   at_most : g.R.Source.calls l.reader ≤ g.R.Source.calls l.fn.reader + l._turn;
-  reads : g.R.Source.has_failed l.reader ≡ g.R.Source.has_failed l.fn.reader;
-  writes : g.W.Sink.has_failed l.writer ≡ g.W.Sink.has_failed l.fn.writer;
+  reads : g.R.Source.failures l.reader ≡ g.R.Source.failures l.fn.reader;
+  writes : g.W.Sink.failures l.writer ≡ g.W.Sink.failures l.fn.writer;
   went : Went g.M.Replier.takes g.M.Replier.is_step (g.R.Source.left l.fn.reader) (g.R.Source.left l.reader) l.fn.machine l.machine
       (g.M.Replier.opening l.fn.machine) (g.W.Sink.contents l.fn.writer) (g.W.Sink.contents l.writer) l.pending.counts l.pending.held.items;
 }

@@ -1,7 +1,7 @@
 use Rattle.std.proofs.Common.{◌++◌, ap, sym, ◌∙◌}
 use Rattle.std.proofs.lemmas.Result.{on_ok_weaker}
 use Rattle.sdb_value.specs.Printed.{data_tokens}
-use Rattle.sdb_desk.specs.Told.{plain_reply}
+use Rattle.sdb_desk.specs.ReplyView.{plain_reply}
 use Rattle.sdb_steps.specs.Lines.{decided_data}
 use Rattle.sdb_steps.proofs.answers.write_decided.Goals as goal
 

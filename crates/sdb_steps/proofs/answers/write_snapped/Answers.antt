@@ -1,7 +1,7 @@
 use Rattle.std.proofs.Common.{◌++◌, ap, sym, ◌∙◌}
 use Rattle.std.proofs.lemmas.Result.{on_ok_weaker}
 use Rattle.sdb_value.specs.Printed.{data_tokens}
-use Rattle.sdb_desk.specs.Shown.{told_fetched}
+use Rattle.sdb_desk.specs.View.{told_fetched}
 use Rattle.sdb_steps.specs.Lines.{reply_data}
 use Rattle.sdb_steps.specs.OneStep.{snapped}
 use Rattle.sdb_steps.proofs.answers.write_snapped.Goals as goal

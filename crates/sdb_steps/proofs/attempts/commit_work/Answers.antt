@@ -1,8 +1,8 @@
 use Rattle.std.proofs.Common.{◌+◌, false, refl, ap, ◌∙◌, subst}
 use Rattle.sdb_oplog.specs.Keys.{plain_key}
 use Rattle.sdb_desk.specs.Machine.{PlainAttempt, decided, Keeps}
-use Rattle.sdb_desk.specs.Told.{plain_reply}
-use Rattle.sdb_desk.specs.Shown.{plain_look}
+use Rattle.sdb_desk.specs.ReplyView.{plain_reply}
+use Rattle.sdb_desk.specs.View.{plain_look}
 use Rattle.sdb_steps.specs.Picks as plain
 use Rattle.sdb_steps.proofs.Commits.{attempt_of, tries_wanting, tries_decided, tries_moved}
 use Rattle.sdb_steps.proofs.attempts.commit_work.Goals as goal
@@ -13,7 +13,7 @@ returns-then-is_wanting-clause-tries c =
     let said = c.in-Decided.ensures in
     let wanting = c.if-is_wanting.ensures.wanting refl in
     tries_wanting c.args.shard.now c.commit.new.self k c.args.work (plain_reply c.in-Decided.reply) c.args.tries c.args.is_worked _ c.requires wanting said.commits said.queues
-    (c.put_back-stage.ensures k c.args.tries ∙ ap (λ (w : PlainAttempt). attempt_of k w c.args.tries c.args.is_worked) (subst (λ r. Keeps (decided r) c.args.work c.commit.new.work) wanting said.keeps))
+    (c.put_back-phase.ensures k c.args.tries ∙ ap (λ (w : PlainAttempt). attempt_of k w c.args.tries c.args.is_worked) (subst (λ r. Keeps (decided r) c.args.work c.commit.new.work) wanting said.keeps))
 
 pub returns-else-is_wanting-clause-tries : goal.returns-else-is_wanting-clause-tries
 returns-else-is_wanting-clause-tries c =
@@ -28,4 +28,4 @@ returns-in-Moved-clause-tries c =
     let n = c.args.tries + 1 in
     let v = c.in-Moved.look.version in
     let again : PlainAttempt → plain.Attempt = λ w. record { key = k; submission = w.submission; looked = v; tries = n; worked = false } in
-    tries_moved c.args.shard.now c.commit.new.self k c.args.work (plain_look c.in-Moved.look) c.args.tries c.args.is_worked _ c.requires said.commits said.queues (c.looked_again-stage.ensures k n ∙ ap again said.keeps)
+    tries_moved c.args.shard.now c.commit.new.self k c.args.work (plain_look c.in-Moved.look) c.args.tries c.args.is_worked _ c.requires said.commits said.queues (c.looked_again-phase.ensures k n ∙ ap again said.keeps)

@@ -2,7 +2,7 @@ use Rattle.std.proofs.Common.{◌≡◌, List, [], ◌∷◌, ◌++◌, map, tak
 use Rattle.std.proofs.lemmas.List.{take_more, take_all, map-append}
 use Rattle.sdb_oplog.specs.Keys.{Logs}
 use Rattle.sdb_oplog.specs.Decide.{IsMade}
-use Rattle.sdb_steps.specs.Keyed.{machine_of, sessions_of}
+use Rattle.sdb_steps.specs.WorldView.{machine_of, sessions_of}
 use Rattle.sdb_steps.specs.Picks.{PlainStep, Answer}
 use Rattle.sdb_steps.specs.Runs.{IsRun}
 use Rattle.sdb_steps.specs.View.{plain_step, plain_answer}

@@ -1,5 +1,5 @@
 use Rattle.std.proofs.Common.{map, take}
-use Rattle.sdb_steps.specs.Keyed.{machine_of, sessions_of}
+use Rattle.sdb_steps.specs.WorldView.{machine_of, sessions_of}
 use Rattle.sdb_steps.specs.Runs.{IsRun}
 use Rattle.sdb_steps.specs.View.{plain_step, plain_answer}
 use Rattle.sdb_steps.proofs.running.run_steps.Given as goal

@@ -1,6 +1,6 @@
 use Rattle.std.proofs.Common.{ap, sym, ◌∙◌}
 use Rattle.sdb_oplog.specs.Keys.{plain_key}
-use Rattle.sdb_desk.specs.Keyed.{queues_of}
+use Rattle.sdb_desk.specs.ShardView.{queues_of}
 use Rattle.sdb_desk.specs.Laws.{queues_kept}
 use Rattle.sdb_desk.specs.Machine.{with_queues}
 use Rattle.sdb_steps.specs.Slots.{closed_of}

@@ -1,7 +1,7 @@
 use Rattle.std.proofs.Common.{Err, inr, sym, ap, ◌∙◌}
 use Rattle.sdb_oplog.specs.Decide.{decide}
 use Rattle.sdb_oplog.specs.Keys.{plain_key}
-use Rattle.sdb_desk.specs.Keyed.{logs_of}
+use Rattle.sdb_desk.specs.ShardView.{logs_of}
 use Rattle.sdb_desk.proofs.Deciding.{leaves, commits_refused_as}
 use Rattle.sdb_desk.proofs.shard.Shard.commit.Goals as goal
 

@@ -1,6 +1,6 @@
 use Rattle.std.proofs.Common.{inr, Err, ap}
 use Rattle.sdb_oplog.specs.Keys.{plain_key}
-use Rattle.sdb_desk.specs.Keyed.{logs_of}
+use Rattle.sdb_desk.specs.ShardView.{logs_of}
 use Rattle.sdb_desk.proofs.Deciding.{leaves, decides_refused_as}
 use Rattle.sdb_desk.proofs.shard.Shard.commit_now.Goals as goal
 

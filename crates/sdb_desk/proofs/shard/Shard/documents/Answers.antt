@@ -1,7 +1,7 @@
 use Rattle.std.proofs.Common.{◌≡◌, [], ◌++◌, ◌∙◌, sym, subst, map, ap, append-nil}
 use Rattle.sdb_oplog.specs.Keys.{plain_key}
 use Rattle.sdb_desk.proofs.Listing.{kept, kept_are_stored}
-use Rattle.sdb_desk.specs.Keyed.{logs_of}
+use Rattle.sdb_desk.specs.ShardView.{logs_of}
 use Rattle.sdb_desk.specs.Stored.{AreStored}
 use Rattle.sdb_desk.proofs.shard.Shard.documents.Goals as goal
 

@@ -1,9 +1,9 @@
 use Rattle.std.proofs.Common.{[], ap, ◌∙◌}
 use Rattle.sdb_oplog.specs.Keys.{plain_key}
 use Rattle.sdb_desk.specs.Documents.{no_document}
-use Rattle.sdb_desk.specs.Held.{held}
-use Rattle.sdb_desk.specs.HeldLaws.{write_through, held_found, held_none, kept_at}
-use Rattle.sdb_desk.specs.Keyed.{documents_of, kept_of, with_kept}
+use Rattle.sdb_desk.specs.MapView.{held}
+use Rattle.sdb_desk.specs.MapViewLaws.{write_through, held_found, held_none, kept_at}
+use Rattle.sdb_desk.specs.ShardView.{documents_of, kept_of, with_kept}
 use Rattle.sdb_desk.proofs.Writing.{kept_written, logs_left}
 use Rattle.sdb_desk.proofs.shard.Shard.forget.Goals as goal
 

@@ -1,7 +1,8 @@
 use Rattle.std.proofs.Common.{ap, ◌∙◌}
 use Rattle.sdb_desk.specs.Documents.{no_document}
-use Rattle.sdb_desk.specs.Held.{held, with_at}
-use Rattle.sdb_desk.specs.HeldLaws.{inserted}
+use Rattle.sdb_desk.specs.MapView.{held}
+use Rattle.sdb_oplog.specs.Keys.{with_at}
+use Rattle.sdb_desk.specs.MapViewLaws.{inserted}
 use Rattle.sdb_desk.proofs.shard.Shard.keep.Goals as goal
 
 pub returns-clause-ok : goal.returns-clause-ok

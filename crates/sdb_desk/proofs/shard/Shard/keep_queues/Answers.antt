@@ -1,6 +1,7 @@
 use Rattle.std.proofs.Common.{ap, ◌∙◌}
-use Rattle.sdb_desk.specs.Held.{held, with_at}
-use Rattle.sdb_desk.specs.HeldLaws.{inserted}
+use Rattle.sdb_desk.specs.MapView.{held}
+use Rattle.sdb_oplog.specs.Keys.{with_at}
+use Rattle.sdb_desk.specs.MapViewLaws.{inserted}
 use Rattle.sdb_desk.specs.Machine.{no_queues}
 use Rattle.sdb_desk.proofs.shard.Shard.keep_queues.Goals as goal
 

@@ -1,7 +1,7 @@
 use Rattle.sdb_oplog.specs.Keys.{plain_key}
-use Rattle.sdb_desk.specs.Keyed.{queues_of}
+use Rattle.sdb_desk.specs.ShardView.{queues_of}
 use Rattle.sdb_desk.specs.Machine.{no_queues}
-use Rattle.sdb_desk.specs.HeldLaws.{put_back, write_through, others_at}
+use Rattle.sdb_desk.specs.MapViewLaws.{put_back, write_through, others_at}
 use Rattle.sdb_desk.proofs.Looks.{on_err}
 use Rattle.sdb_desk.proofs.shard.Shard.open.Goals as goal
 

@@ -1,8 +1,8 @@
 use Rattle.std.proofs.Common.{Ok, refl, sym, ap, ◌∙◌}
 use Rattle.sdb_oplog.specs.Keys.{plain_key}
 use Rattle.sdb_subscribe.specs.Queue.{opened, queue_at}
-use Rattle.sdb_desk.specs.HeldLaws.{same_at, others_at, wrote_at}
-use Rattle.sdb_desk.specs.Keyed.{queues_of}
+use Rattle.sdb_desk.specs.MapViewLaws.{same_at, others_at, wrote_at}
+use Rattle.sdb_desk.specs.ShardView.{queues_of}
 use Rattle.sdb_desk.proofs.shard.Shard.open_first.Goals as goal
 
 pub returns-in_err-id-clause-others : goal.returns-in_err-id-clause-others

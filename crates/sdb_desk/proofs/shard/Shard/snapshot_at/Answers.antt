@@ -1,7 +1,7 @@
 use Rattle.std.proofs.Common.{refl}
 use Rattle.sdb_oplog.specs.Keys.{plain_key}
-use Rattle.sdb_desk.specs.HeldLaws.{same_at}
-use Rattle.sdb_desk.specs.Keyed.{kept_of}
+use Rattle.sdb_desk.specs.MapViewLaws.{same_at}
+use Rattle.sdb_desk.specs.ShardView.{kept_of}
 use Rattle.sdb_desk.proofs.shard.Shard.snapshot_at.Goals as goal
 
 pub returns-then-present-version-clause-others : goal.returns-then-present-version-clause-others

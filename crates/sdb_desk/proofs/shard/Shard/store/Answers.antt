@@ -2,9 +2,9 @@ use Rattle.std.proofs.Common.{ap, ◌∙◌}
 use Rattle.sdb_oplog.specs.Decide.{decide}
 use Rattle.sdb_oplog.specs.Keys.{plain_key, with_log}
 use Rattle.sdb_desk.specs.Documents.{no_document}
-use Rattle.sdb_desk.specs.Held.{held}
-use Rattle.sdb_desk.specs.HeldLaws.{write_through, held_found}
-use Rattle.sdb_desk.specs.Keyed.{documents_of, logs_of}
+use Rattle.sdb_desk.specs.MapView.{held}
+use Rattle.sdb_desk.specs.MapViewLaws.{write_through, held_found}
+use Rattle.sdb_desk.specs.ShardView.{documents_of, logs_of}
 use Rattle.sdb_desk.proofs.Looks.{on_ok, on_err}
 use Rattle.sdb_desk.proofs.Writing.{logs_written, logs_left, kept_left}
 use Rattle.sdb_desk.proofs.shard.Shard.store.Goals as goal

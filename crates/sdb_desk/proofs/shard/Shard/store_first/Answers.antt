@@ -1,6 +1,6 @@
 use Rattle.std.proofs.Common.{ap, ◌∙◌}
 use Rattle.sdb_oplog.specs.Keys.{plain_key, with_log}
-use Rattle.sdb_desk.specs.Keyed.{documents_of, logs_of}
+use Rattle.sdb_desk.specs.ShardView.{documents_of, logs_of}
 use Rattle.sdb_desk.proofs.Looks.{on_err_all}
 use Rattle.sdb_desk.proofs.Writing.{logs_written, kept_left, logs_same, kept_same}
 use Rattle.sdb_desk.proofs.shard.Shard.store_first.Goals as goal

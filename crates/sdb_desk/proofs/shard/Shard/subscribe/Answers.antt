@@ -2,9 +2,9 @@ use Rattle.std.proofs.Common.{Err, subst, refl, sym, ap, ◌∙◌}
 use Rattle.sdb_oplog.specs.Keys.{plain_key}
 use Rattle.std.proofs.lemmas.Result.{err_from_is_err_and}
 use Rattle.sdb_desk.specs.Machine.{Subscribes}
-use Rattle.sdb_desk.specs.Shown.{told_subscribed}
-use Rattle.sdb_desk.specs.Keyed.{logs_of, queues_of}
-use Rattle.sdb_desk.specs.HeldLaws.{same_at}
+use Rattle.sdb_desk.specs.View.{told_subscribed}
+use Rattle.sdb_desk.specs.ShardView.{logs_of, queues_of}
+use Rattle.sdb_desk.specs.MapViewLaws.{same_at}
 use Rattle.sdb_desk.proofs.Queueing.{subscribe_refused}
 use Rattle.sdb_desk.proofs.shard.Shard.subscribe.Goals as goal
 

@@ -1,9 +1,9 @@
 use Rattle.std.proofs.Common.{ap}
 use Rattle.sdb_oplog.specs.Keys.{plain_key}
-use Rattle.sdb_desk.specs.Held.{held}
-use Rattle.sdb_desk.specs.Keyed.{queues_of}
+use Rattle.sdb_desk.specs.MapView.{held}
+use Rattle.sdb_desk.specs.ShardView.{queues_of}
 use Rattle.sdb_desk.specs.Machine.{no_queues}
-use Rattle.sdb_desk.specs.HeldLaws.{same_at, write_through, others_at}
+use Rattle.sdb_desk.specs.MapViewLaws.{same_at, write_through, others_at}
 use Rattle.sdb_desk.proofs.shard.Shard.take.Goals as goal
 
 pub returns-in_default-clause-others : goal.returns-in_default-clause-others

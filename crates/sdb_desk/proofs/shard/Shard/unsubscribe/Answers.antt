@@ -1,9 +1,10 @@
 use Rattle.std.proofs.Common.{◌≡◌, ap, sym, ◌∙◌}
 use Rattle.sdb_oplog.specs.Keys.{plain_key}
-use Rattle.sdb_desk.specs.Held.{held, with_at}
-use Rattle.sdb_desk.specs.Keyed.{queues_of}
+use Rattle.sdb_desk.specs.MapView.{held}
+use Rattle.sdb_oplog.specs.Keys.{with_at}
+use Rattle.sdb_desk.specs.ShardView.{queues_of}
 use Rattle.sdb_desk.specs.Machine.{no_queues, closed}
-use Rattle.sdb_desk.specs.HeldLaws.{kept_at, write_through, held_found, held_none}
+use Rattle.sdb_desk.specs.MapViewLaws.{kept_at, write_through, held_found, held_none}
 use Rattle.sdb_desk.proofs.shard.Shard.unsubscribe.Goals as goal
 
 pub returns-in-Some-clause-queues : goal.returns-in-Some-clause-queues

@@ -1,7 +1,7 @@
 use Rattle.std.proofs.Common.{◌++◌, [], ◌∷◌, map, refl, sym, ap, ◌∙◌, append_assoc}
 use Rattle.sdb_oplog.specs.declared.keys.Key.{Key}
-use Rattle.sdb_session.specs.Told.{plain_sub}
-use Rattle.sdb_session.specs.declared.joining.Subscription.{Subscription}
+use Rattle.sdb_session.specs.View.{plain_sub}
+use Rattle.sdb_session.specs.declared.subscriptions.Subscription.{Subscription}
 use Rattle.sdb_session.proofs.Taking.{closed_more, closed_none}
 use Rattle.sdb_session.proofs.session.Session.end.Goals as goal
 

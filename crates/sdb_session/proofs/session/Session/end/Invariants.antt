@@ -1,7 +1,7 @@
 use Rattle.std.proofs.Common.{◌≡◌, List, ◌++◌, map}
-use Rattle.sdb_session.specs.Pumping.{Closed}
+use Rattle.sdb_session.specs.Pumps.{Closed}
 use Rattle.sdb_session.specs.Sessions.{PlainSub}
-use Rattle.sdb_session.specs.Told.{plain_sub}
+use Rattle.sdb_session.specs.View.{plain_sub}
 use Rattle.sdb_session.proofs.session.Session.end.Given as goal
 
 abbrev pub invariant-loop-queue : goal.invariant-loop-queue

@@ -1,7 +1,7 @@
 use Rattle.std.proofs.Common.{◌&&◌, length, map, not, sym, ap, ◌∙◌}
 use Rattle.std.proofs.lemmas.List.{length-map}
 use Rattle.std.specs.Bool.{nat_le}
-use Rattle.sdb_session.specs.Told.{plain_sub}
+use Rattle.sdb_session.specs.View.{plain_sub}
 use Rattle.sdb_session.proofs.Pairs.{is_there}
 use Rattle.sdb_session.proofs.session.Session.is_full.Goals as goal
 

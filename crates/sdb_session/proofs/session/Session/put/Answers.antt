@@ -1,5 +1,5 @@
 use Rattle.std.proofs.Common.{◌∙◌, ap, map}
-use Rattle.sdb_session.specs.Told.{plain_sub}
+use Rattle.sdb_session.specs.View.{plain_sub}
 use Rattle.sdb_session.proofs.Pairs.{put_entry, from_ok}
 use Rattle.sdb_session.proofs.session.Session.put.Goals as goal
 

@@ -1,13 +1,13 @@
 use Rattle.std.proofs.Common.{◌++◌, [], ◌∷◌, None, length, map, refl, sym, ap, ◌∙◌, inl, inr, arith}
 use Rattle.std.proofs.lemmas.List.{append-nil}
 use Rattle.sdb_oplog.specs.Keys.{plain_key}
-use Rattle.sdb_session.specs.Pumping.{PlainTaking, others, taking_says, pump_says}
+use Rattle.sdb_session.specs.Pumps.{PlainTaking, others, taking_says, pump_says}
 use Rattle.sdb_oplog.specs.declared.keys.Key.{Key}
-use Rattle.sdb_session.specs.Seen.{through}
-use Rattle.sdb_session.specs.Shown.{pieces_of}
-use Rattle.sdb_session.specs.Turns.{messages}
-use Rattle.sdb_session.specs.declared.joining.Subscription.{Subscription}
-use Rattle.sdb_session.specs.Told.{plain_sub, plain_queue, plain_session}
+use Rattle.sdb_session.specs.Projections.{through}
+use Rattle.sdb_session.specs.Written.{pieces_of}
+use Rattle.sdb_session.specs.Handling.{messages}
+use Rattle.sdb_session.specs.declared.subscriptions.Subscription.{Subscription}
+use Rattle.sdb_session.specs.View.{plain_sub, plain_queue, plain_session}
 use Rattle.sdb_session.proofs.Taking.{takes_more, takes_none, says_more, counts_more, pieces_more, taken_sub, on_err_any}
 use Rattle.sdb_session.proofs.session.Session.take_all.Goals as goal
 
@@ -16,7 +16,7 @@ loop-key-init g c = record {
   takes = c.requires.takes;
   number = refl;
   small = omega (arith, ap length c.into_iter-key-iterator.ensures.into_iter_gives, ap length c.iter-key-items.ensures.rest);
-  so_far = ([], (ap (map plain_sub) (c.into_iter-key-iterator.ensures.into_iter_gives ∙ c.iter-key-items.ensures.rest), takes_none (g.D.Desk.acts c.args.desk.now) c.args.max c.args.pass.now, refl, sym (append-nil (g.O.Page.written c.args.out.now))));
+  so_far = ([], (ap (map plain_sub) (c.into_iter-key-iterator.ensures.into_iter_gives ∙ c.iter-key-items.ensures.rest), takes_none (g.D.Desk.acts c.args.desk.now) c.args.max c.args.pass.now, refl, sym (append-nil (g.O.ReplySink.written c.args.out.now))));
 }
 
 pub returns-in_err-entries-clause-stops : goal.returns-in_err-entries-clause-stops
@@ -65,9 +65,9 @@ loop-key-preserved g c =
           taken_sub plain_sub far.0 x e c.loop-key.key-iterator rest (plain_session c.args.self.now).subs c.in-Some.ensures.steps refl far.1.0,
           takes_more (g.D.Desk.acts c.args.desk.now) c.args.max far.0 x c.args.pass.now c.loop-key.pass c.take.new.pass far.1.1 c.in_ok-entries.ensures.takes_one,
           omega (arith, counts_more far.0 x, far.1.2, c.len.ensures),
-          pieces_more g.O.Page.pieces (g.O.Page.written c.args.out.now) (g.O.Page.written c.loop-key.out) (g.O.Page.written c.say_others.new.out) (pump_says t source far.0) (taking_says t source x) far.1.3
-              (c.in_ok-say_others.ensures ∙ ap (λ es. g.O.Page.written c.loop-key.out ++ pieces_of g.O.Page.pieces (messages (through t k) k (others source k es))) c.as_slice.ensures.value)
-              ∙ ap (λ a. g.O.Page.written c.args.out.now ++ pieces_of g.O.Page.pieces a) (sym (says_more t source far.0 x)),
+          pieces_more g.O.ReplySink.pieces (g.O.ReplySink.written c.args.out.now) (g.O.ReplySink.written c.loop-key.out) (g.O.ReplySink.written c.say_others.new.out) (pump_says t source far.0) (taking_says t source x) far.1.3
+              (c.in_ok-say_others.ensures ∙ ap (λ es. g.O.ReplySink.written c.loop-key.out ++ pieces_of g.O.ReplySink.pieces (messages (through t k) k (others source k es))) c.as_slice.ensures.value)
+              ∙ ap (λ a. g.O.ReplySink.written c.args.out.now ++ pieces_of g.O.ReplySink.pieces a) (sym (says_more t source far.0 x)),
         ),
       );
     }

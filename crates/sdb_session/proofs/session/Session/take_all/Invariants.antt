@@ -1,6 +1,6 @@
 use Rattle.std.proofs.Common.{◌≡◌, ◌+◌, ◌*◌, ◌≤◌, List, ◌++◌, length, map}
-use Rattle.sdb_session.specs.Pumping.{PlainTaking, Takes, pump_counts, pump_says}
-use Rattle.sdb_session.specs.Told.{plain_sub, plain_session, Wrote}
+use Rattle.sdb_session.specs.Pumps.{PlainTaking, Takes, pump_counts, pump_says}
+use Rattle.sdb_session.specs.View.{plain_sub, plain_session, Wrote}
 use Rattle.sdb_session.proofs.session.Session.take_all.Given as goal
 
 abbrev pub invariant-loop-key : goal.invariant-loop-key
@@ -11,5 +11,5 @@ invariant-loop-key g l =
       small : l.taken + length l.key-iterator * 18446744073709551615 ≤ length l.self.subscriptions.entries * 18446744073709551615;
       so_far : (xs : List PlainTaking)
           × ((map (λ x. x.sub) xs ++ map plain_sub l.key-iterator ≡ map plain_sub l.self.subscriptions.entries) × Takes (g.D.Desk.acts l.desk) l.max xs l.fn.pass l.pass × (l.taken ≡ pump_counts xs)
-          × Wrote g.O.Page.pieces (g.O.Page.written l.fn.out) (g.O.Page.written l.out) (pump_says l.table (plain_session l.self).source xs));
+          × Wrote g.O.ReplySink.pieces (g.O.ReplySink.written l.fn.out) (g.O.ReplySink.written l.out) (pump_says l.table (plain_session l.self).source xs));
     }

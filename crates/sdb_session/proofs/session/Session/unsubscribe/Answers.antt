@@ -1,7 +1,7 @@
 use Rattle.std.proofs.Common.{Option, map, option_map, ap, ◌∙◌, subst, string_bytes}
 use Rattle.sdb_session.specs.Sessions.{QueueId}
-use Rattle.sdb_session.specs.Told.{plain_sub, plain_queue}
-use Rattle.sdb_session.specs.Turns.{Closes}
+use Rattle.sdb_session.specs.View.{plain_sub, plain_queue}
+use Rattle.sdb_session.specs.Handling.{Closes}
 use Rattle.sdb_session.proofs.Pairs.{copied, queue_entry, without_entry}
 use Rattle.sdb_session.proofs.session.Session.unsubscribe.Goals as goal
 

@@ -1,4 +1,4 @@
-use Rattle.sdb_desk.specs.Keyed.{logs_of, queues_of}
+use Rattle.sdb_desk.specs.ShardView.{logs_of, queues_of}
 use Rattle.sdb_upper_tests.proofs.submit.MeddlingDesk.take.Goals as goal
 
 pub returns-clause-acts : goal.returns-clause-acts

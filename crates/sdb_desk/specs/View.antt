@@ -1,0 +1,47 @@
+-- What looks, attempts and answers of the code stand for.
+use Rattle.std.specs.Prelude.{List, Option, Some, None, option_map, unwrap_or, Result, Ok, Err, Vec}
+use Rattle.std.specs.declared.alloc.AllocError.{AllocError}
+use Rattle.std.specs.declared.alloc.Global.{Global}
+use Rattle.sdb_value.specs.View.{view}
+use Rattle.sdb_oplog.specs.Plain.{PlainContent, PlainEntry}
+use Rattle.sdb_oplog.specs.declared.codes.Code.{Code}
+use Rattle.sdb_desk.specs.Machine.{PlainLook, PlainAttempt, PlainOutcome, decided, moved, PlainFetched, PlainSubscribed}
+use Rattle.sdb_desk.specs.ReplyView.{plain_reply}
+use Rattle.sdb_desk.specs.declared.attempts.Look.{Look}
+use Rattle.sdb_desk.specs.declared.attempts.Attempt.{Attempt}
+use Rattle.sdb_desk.specs.declared.shard.Outcome.{Outcome}
+use Rattle.sdb_desk.specs.declared.shard.Outcome.TheVariants.{Decided, Moved}
+use Rattle.sdb_desk.specs.declared.shard.Fetched.{Fetched}
+use Rattle.sdb_desk.specs.declared.shard.Subscribed.{Subscribed}
+
+abbrev pub plain_look : Look → PlainLook
+plain_look l = record { version = l.version; repeat = l.repeat; missed = l.missed.items }
+
+abbrev pub plain_attempt : Attempt → PlainAttempt
+plain_attempt a = record { submission = a.submission; look = plain_look a.look }
+
+-- what was worked: without a content it stays as it arrived
+abbrev pub content_or : PlainContent → Result (Option PlainContent) Code → Result PlainContent Code
+content_or arrived (Ok content) = Ok (unwrap_or content arrived)
+content_or arrived (Err code) = Err code
+
+abbrev pub plain_outcome : Outcome → PlainOutcome
+plain_outcome (Decided r) = decided (plain_reply r)
+plain_outcome (Moved l) = moved (plain_look l)
+
+abbrev pub told_fetched : Result Fetched Code → Result PlainFetched Code
+told_fetched (Ok f) = Ok (record { version = f.version; snapshot = option_map view f.snapshot })
+told_fetched (Err code) = Err code
+
+abbrev pub told_subscribed : Result Subscribed Code → Result PlainSubscribed Code
+told_subscribed (Ok s) =
+    Ok (record { id = s.id; start = s.start; version = s.version; snapshot = option_map view s.snapshot })
+told_subscribed (Err code) = Err code
+
+abbrev pub told_taken : Result (Option (Vec PlainEntry Global)) AllocError → Option (Option (List PlainEntry))
+told_taken (Ok r) = Some (option_map (λ v. v.items) r)
+told_taken (Err e) = None
+
+abbrev pub told_entries : Result (Vec PlainEntry Global) Code → Result (List PlainEntry) Code
+told_entries (Ok v) = Ok v.items
+told_entries (Err code) = Err code

@@ -1,0 +1,45 @@
+//! A client that creates a document and fetches it.
+use std::net::{Net, SocketAddr, TcpStream};
+use std::random::RandomSource;
+use tungstenite::handshake::client::request_of;
+use tungstenite::{Message, RandomKeys, WebSocket, client};
+
+const MESSAGES: [&str; 2] = [
+    r#"{"a":"op","c":"board","d":"1","seq":1,"create":{"type":"json0","data":{"votes":0}}}"#,
+    r#"{"a":"f","c":"board","d":"1"}"#,
+];
+
+// Visits the server at the address, and prints what it says, as far as it says something.
+pub(crate) fn visit<R>(rt: R, address: SocketAddr)
+where
+    R: AllocGlobal + Print + Net<Stream = TcpStream> + RandomSource + Drop + Copy,
+{
+    let _ = talk(rt, address);
+}
+
+// Prints the opening of the session, and then the answer to each message.
+fn talk<R>(rt: R, address: SocketAddr) -> Option<()>
+where
+    R: AllocGlobal + Print + Net<Stream = TcpStream> + RandomSource + Drop + Copy,
+{
+    let alloc = rt.alloc();
+    let stream = TcpStream::connect(&rt, address).ok()?;
+    let request = request_of(alloc, "ws://localhost/").ok()?;
+    let (mut socket, _) = client(alloc, rt, request, stream).ok()?;
+    print_next(&rt, &mut socket)?;
+    for message in MESSAGES {
+        socket.send(Message::text(alloc, message).ok()?).ok()?;
+        print_next(&rt, &mut socket)?;
+    }
+    Some(())
+}
+
+fn print_next<R>(rt: &R, socket: &mut WebSocket<TcpStream, RandomKeys<R>>) -> Option<()>
+where
+    R: Print + RandomSource + Drop,
+{
+    match socket.read().ok()? {
+        Message::Text(text) => println!(rt; "{}", text.as_str()).ok(),
+        _ => None,
+    }
+}

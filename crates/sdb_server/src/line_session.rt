@@ -1,0 +1,104 @@
+//! One session over lines.
+ghost use Rattle.std.specs.Prelude.{◌≡◌, map, OnOk, OnErr, IfOk, IfSome};
+ghost use Rattle.sdb_lines.specs.Counting.{CountsAll};
+ghost use Rattle.sdb_lines.specs.Lines.{reading_of, lines_of};
+ghost use Rattle.sdb_lines.specs.Streams.{Reads, Writes};
+ghost use Rattle.sdb_session.specs.Dialogue.{Dialogue, opening};
+ghost use Rattle.sdb_session.specs.View.{plain_session};
+ghost use Rattle.sdb_server.specs.Runs.{Wrote, WroteFront};
+ghost use Rattle.sdb_server.specs.Source.{is_request};
+ghost use Rattle.sdb_server.specs.State.{state_of};
+
+use crate::TAKE_LIMIT;
+use sdb_desk::Shard;
+use sdb_lines::{Counts, Replier, RunFault, Sink, Source, run_lines as run};
+use sdb_projection::Table;
+use sdb_session::Session;
+use sdb_submit::Solo;
+use std::alloc::{AllocError, Global};
+
+// The source of the one session.
+const SOURCE: &str = "s1";
+
+// The one session, with all documents, and the projections through which it sees them.
+#[derive(Drop)]
+struct LineSession<'a> {
+    table: &'a Table,
+    shard: Shard,
+    session: Session,
+}
+
+impl Replier for LineSession<'_> {
+    ghost opening = { λ s. opening (plain_session s.session).source };
+
+    // as the dialogue answers it, and the projections stay
+    ghost takes = { λ s line answer t.
+        Dialogue s.table.now (state_of s) line answer (state_of t) × (t.table ≡ s.table) };
+
+    ghost is_step = { is_request };
+
+    fn open(&self, _alloc: Global, out: &mut Vec<u8>) -> Result<(), AllocError> {
+        self.session.opening_to(out)
+    }
+
+    fn reply(&mut self, _alloc: Global, line: &str, out: &mut Vec<u8>) -> Result<bool, AllocError> {
+        let LineSession {
+            table,
+            shard,
+            session,
+        } = self;
+        let is_request = session.handle_to(&Solo, shard, table, line, out)?;
+        session.pump_to(&Solo, shard, table, TAKE_LIMIT, out)?;
+        Ok(is_request)
+    }
+
+    fn reply_unreadable(&mut self, _alloc: Global, out: &mut Vec<u8>) -> Result<(), AllocError> {
+        let LineSession {
+            table,
+            shard,
+            session,
+        } = self;
+        session.refuse_to(out)?;
+        session.pump_to(&Solo, shard, table, TAKE_LIMIT, out)?;
+        Ok(())
+    }
+}
+
+/// Answers the lines of one session from the reader, whose source is `s1`, on documents that are all
+/// absent at first, seen through the projections of the table. The opening text comes first. Behind the
+/// answers to a line comes what the line stored in documents that the session is subscribed to. An empty
+/// line, one that isn't UTF-8 and one of more than 1,048,576 bytes are E1; a last piece without a line
+/// feed is a line if it isn't empty. The answers to what was read are written and flushed before the
+/// next read.
+///
+/// A request whose call of the documents finds no memory is answered E10 and changes nothing, and the run
+/// goes on. Where a line can't be read, a name not copied or the answer not written for want of memory,
+/// the run ends with [`RunFault::Memory`], and what was written is a front of the whole answer. `lines`
+/// counts the lines, `steps` those that are requests.
+pub fn run_lines<R: Source, W: Sink>(
+    alloc: Global,
+    table: &Table,
+    reader: &mut R,
+    writer: &mut W,
+) -> Result<Counts, RunFault>
+    ensures whole { OnOk result (IfSome (R.left reader.old) (λ input.
+        Wrote table.now (map reading_of (lines_of input)) (W.contents writer.old) (W.contents writer.new))) }
+    ensures counts { IfOk result (λ counts. IfSome (R.left reader.old) (λ input. CountsAll is_request input counts)) }
+    // After a fault a front of the opening and the answers to the first lines was written.
+    ensures front { OnErr result (IfSome (R.left reader.old) (λ input.
+        WroteFront table.now (map reading_of (lines_of input)) (W.contents writer.old) (W.contents writer.new))) }
+    // No read failed, and no write or flush, but for the one that is the fault.
+    ensures reads { Reads result (R.calls reader.old) (R.failures reader.old)
+        (R.calls reader.new) (R.failures reader.new) }
+    ensures writes { Writes result (W.failures writer.old) (W.failures writer.new) }
+{
+    let Ok(source) = String::from_str(alloc, SOURCE) else {
+        return Err(RunFault::Memory);
+    };
+    let mut line_session = LineSession {
+        table,
+        shard: Shard::new(alloc),
+        session: Session::new(alloc, source),
+    };
+    run(alloc, &mut line_session, reader, writer)
+}

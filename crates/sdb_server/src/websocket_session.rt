@@ -1,0 +1,352 @@
+//! One session over a WebSocket.
+ghost use Rattle.std.specs.Prelude.{◌≡◌};
+
+use crate::TAKE_LIMIT;
+use sdb_backend::{Backend, Pass};
+use sdb_projection::Table;
+use sdb_session::Session;
+use std::alloc::{AllocError, Global};
+use std::io::{Error as IoError, ErrorKind, Read, Write};
+use std::sync::Wait;
+use tungstenite::{
+    Bytes, CloseCode, CloseFrame, Error, Message, NoMask, Role, Utf8Bytes, WebSocket,
+};
+
+// How often what waits is taken between two reads.
+const PUMP_LIMIT: u64 = 16;
+
+// After so many reads without a message the client is asked for a sign of life. With a read timeout of
+// 20 milliseconds that is a minute.
+const SILENCE_LIMIT_BEFORE_PING: u64 = 3_000;
+
+// After so many the connection ends.
+const SILENCE_LIMIT: u64 = 6_000;
+
+// How many reads, of so many bytes each, throw away what a client still sends to a session that has ended.
+const DRAIN_READ_LIMIT: u64 = 16_384;
+
+const DRAIN_BYTE_LIMIT: usize = 4_096;
+
+// How many of these may find nothing: with a read timeout of 20 milliseconds a second.
+const DRAIN_SILENCE_LIMIT: u64 = 50;
+
+// Why a session ends.
+#[derive(Clone, Copy, Drop)]
+enum SessionEnd {
+    // The client has closed the connection, or it is broken.
+    Gone,
+    // The message is longer than a message may be, so what follows it can't be told apart from it.
+    TooLong,
+    // The server closes, and says why.
+    Closed(CloseCode),
+}
+
+impl From<AllocError> for SessionEnd {
+    fn from(_: AllocError) -> SessionEnd {
+        SessionEnd::Closed(CloseCode::Error)
+    }
+}
+
+impl From<sdb_session::Ended> for SessionEnd {
+    fn from(_: sdb_session::Ended) -> SessionEnd {
+        SessionEnd::Closed(CloseCode::Error)
+    }
+}
+
+impl From<Error> for SessionEnd {
+    fn from(error: Error) -> SessionEnd {
+        match error {
+            Error::Capacity(_) => SessionEnd::TooLong,
+            Error::Protocol(_) => SessionEnd::Closed(CloseCode::Protocol),
+            Error::Utf8 => SessionEnd::Closed(CloseCode::Invalid),
+            Error::OutOfMemory => SessionEnd::Closed(CloseCode::Error),
+            _ => SessionEnd::Gone,
+        }
+    }
+}
+
+// What a read of the socket gives.
+#[derive(Drop)]
+enum Incoming {
+    Text(Utf8Bytes),
+    Binary,
+    // A ping, a pong or a close, which the library answers.
+    Control,
+    // Nothing, for as long as a read waits.
+    Silence,
+}
+
+// A client at a socket, and what it is served with.
+#[derive(Drop)]
+struct Client<'a, R: Wait, S> {
+    alloc: Global,
+    socket: &'a mut WebSocket<S, NoMask>,
+    backend: &'a Backend<R>,
+    table: &'a Table,
+    pass: Pass,
+    session: Session,
+    silent_reads: u64,
+}
+
+/// Serves a client at a socket until one of both closes it, and gives the pass back. The session's
+/// source is `s` and the number of the pass. Each text message is handled, a binary one answered as E1;
+/// between two reads what was stored meanwhile is sent, so the stream's reads should answer `WouldBlock`
+/// or `TimedOut` after some milliseconds without input, as those of a stream do on which
+/// [`set_socket_options`](crate::set_socket_options) was called. A message longer than the socket takes
+/// is answered as E1, and ends the session.
+///
+/// A client from which 3,000 reads in a row bring nothing is sent a ping, and after 6,000 a close with
+/// the status 1001. The session's queues are closed when this returns.
+pub fn serve<R: Wait + Drop, S: Read + Write + Drop>(
+    rt: &R,
+    alloc: Global,
+    socket: &mut WebSocket<S, NoMask>,
+    backend: &Backend<R>,
+    pass: Pass,
+    table: &Table,
+) -> Pass
+    ensures number { result ≡ pass }
+{
+    let number = pass.number();
+    let Ok(source) = format!(in alloc; "s{number}") else {
+        close_and_drain(socket, CloseCode::Error);
+        return pass;
+    };
+    let mut client = Client {
+        alloc,
+        socket,
+        backend,
+        table,
+        pass,
+        session: Session::new(alloc, source),
+        silent_reads: 0,
+    };
+    let end = client.converse(rt);
+    client.close(end);
+    client.leave()
+}
+
+impl<R: Wait + Drop, S: Read + Write + Drop> Client<'_, R, S> {
+    // Answers the client until the session ends.
+    fn converse(&mut self, rt: &R) -> SessionEnd
+        ensures { self.new.pass ≡ self.old.pass }
+    {
+        if let Err(end) = self.open() {
+            return end;
+        }
+        for _ in rt.forever() {
+            if let Err(end) = self.turn() {
+                return end;
+            }
+        }
+        unreachable!()
+    }
+
+    fn open(&mut self) -> Result<(), SessionEnd>
+        ensures { self.new.pass ≡ self.old.pass }
+    {
+        let opening = self.session.opening()?;
+        self.say(opening)?;
+        self.socket.flush()?;
+        Ok(())
+    }
+
+    // One read, its answers, and what was stored meanwhile. They go out together.
+    fn turn(&mut self) -> Result<(), SessionEnd>
+        ensures { self.new.pass ≡ self.old.pass }
+    {
+        let incoming = next_incoming(self.socket)?;
+        self.answer(&incoming)?;
+        self.pump()?;
+        self.watch(&incoming)?;
+        self.socket.flush()?;
+        Ok(())
+    }
+
+    fn answer(&mut self, incoming: &Incoming) -> Result<(), SessionEnd>
+        ensures { self.new.pass ≡ self.old.pass }
+    {
+        let mut texts = Vec::new(self.alloc);
+        match incoming {
+            Incoming::Text(text) => {
+                texts = self
+                    .session
+                    .handle(self.backend, &mut self.pass, self.table, text.as_str())?;
+            }
+            Incoming::Binary => self.session.refuse_to(&mut texts)?,
+            Incoming::Control | Incoming::Silence => {}
+        }
+        self.say_all(texts)
+    }
+
+    // Sends what was stored meanwhile.
+    fn pump(&mut self) -> Result<(), SessionEnd>
+        ensures { self.new.pass ≡ self.old.pass }
+    {
+        for _ in 0..PUMP_LIMIT {
+            let pumped = self
+                .session
+                .pump(self.backend, &mut self.pass, self.table, TAKE_LIMIT)?;
+            self.say_all(pumped.texts)?;
+            if pumped.taken < u128::from(TAKE_LIMIT) {
+                break;
+            }
+        }
+        Ok(())
+    }
+
+    // Asks a client that is silent for a sign of life, and ends with one that gives none.
+    fn watch(&mut self, incoming: &Incoming) -> Result<(), SessionEnd>
+        ensures { self.new.pass ≡ self.old.pass }
+    {
+        self.silent_reads = match incoming {
+            Incoming::Silence => self.silent_reads.saturating_add(1),
+            _ => 0,
+        };
+        if self.silent_reads == SILENCE_LIMIT_BEFORE_PING {
+            self.socket.write(Message::Ping(Bytes::new()))?;
+        }
+        if self.silent_reads >= SILENCE_LIMIT {
+            return Err(SessionEnd::Closed(CloseCode::Away));
+        }
+        Ok(())
+    }
+
+    fn say_all(&mut self, texts: Vec<String>) -> Result<(), SessionEnd>
+        ensures { self.new.pass ≡ self.old.pass }
+    {
+        for text in texts {
+            self.say(text)?;
+        }
+        Ok(())
+    }
+
+    fn say(&mut self, text: String) -> Result<(), SessionEnd>
+        ensures { self.new.pass ≡ self.old.pass }
+    {
+        let text = Utf8Bytes::from_string(text)?;
+        self.socket.write(Message::Text(text))?;
+        Ok(())
+    }
+
+    // Closes the connection as the session has ended.
+    fn close(&mut self, end: SessionEnd)
+        ensures { self.new.pass ≡ self.old.pass }
+    {
+        match end {
+            SessionEnd::Gone => {}
+            SessionEnd::TooLong => self.refuse_too_long(),
+            SessionEnd::Closed(code) => close_and_drain(self.socket, code),
+        }
+    }
+
+    // Answers a message that is too long, and closes. The socket takes no text any more, so the answer
+    // goes out over a fresh one on the same stream.
+    fn refuse_too_long(&mut self)
+        ensures { self.new.pass ≡ self.old.pass }
+    {
+        let stream = self.socket.get_mut();
+        let mut socket = WebSocket::from_raw_socket(self.alloc, stream, NoMask, Role::Server, None);
+        let mut texts = Vec::new(self.alloc);
+        if self.session.refuse_to(&mut texts).is_err() {
+            return;
+        }
+        for text in texts {
+            if send_text(&mut socket, text).is_err() {
+                return;
+            }
+        }
+        close_and_drain(&mut socket, CloseCode::Size);
+    }
+
+    // Closes the queues of the session, and gives the pass back.
+    fn leave(self) -> Pass
+        ensures { result ≡ self.entry.pass }
+    {
+        let Client {
+            backend,
+            mut pass,
+            session,
+            ..
+        } = self;
+        session.end(backend, &mut pass);
+        pass
+    }
+}
+
+// One read of the socket.
+fn next_incoming<S: Read + Write + Drop>(
+    socket: &mut WebSocket<S, NoMask>,
+) -> Result<Incoming, SessionEnd> {
+    match socket.read() {
+        Ok(message) => Ok(incoming_of(message)),
+        Err(error) => {
+            if finds_nothing(&error) {
+                Ok(Incoming::Silence)
+            } else {
+                Err(error.into())
+            }
+        }
+    }
+}
+
+fn incoming_of(message: Message) -> Incoming {
+    match message {
+        Message::Text(text) => Incoming::Text(text),
+        Message::Binary(_) => Incoming::Binary,
+        _ => Incoming::Control,
+    }
+}
+
+// Whether the read has found nothing for as long as it waits.
+fn finds_nothing(error: &Error) -> bool {
+    match error {
+        Error::Io(error) => is_silence(error),
+        _ => false,
+    }
+}
+
+fn send_text<S: Read + Write + Drop>(
+    socket: &mut WebSocket<S, NoMask>,
+    text: String,
+) -> Result<(), Error> {
+    match Utf8Bytes::from_string(text) {
+        Ok(text) => socket.send(Message::Text(text)),
+        Err(_) => Err(Error::OutOfMemory),
+    }
+}
+
+/// Closes a connection, and says why. What the client still sends is thrown away for a while, so that it
+/// reads this before its own writes fail.
+pub(crate) fn close_and_drain<S: Read + Write + Drop>(
+    socket: &mut WebSocket<S, NoMask>,
+    code: CloseCode,
+) {
+    let reason = Utf8Bytes::new();
+    if socket.close(Some(CloseFrame { code, reason })).is_ok() {
+        drain(socket.get_mut());
+    }
+}
+
+fn drain<S: Read>(stream: &mut S) {
+    let mut bytes = [0; DRAIN_BYTE_LIMIT];
+    let mut silent_reads = 0;
+    for _ in 0..DRAIN_READ_LIMIT {
+        match stream.read(&mut bytes) {
+            Ok(0) => return,
+            Ok(_) => {}
+            Err(error) if is_silence(&error) && silent_reads < DRAIN_SILENCE_LIMIT => {
+                silent_reads += 1;
+            }
+            Err(_) => return,
+        }
+    }
+}
+
+// Whether a read has found nothing for as long as it waits.
+fn is_silence(error: &IoError) -> bool {
+    matches!(
+        error.kind(),
+        ErrorKind::WouldBlock | ErrorKind::TimedOut | ErrorKind::Interrupted
+    )
+}

@@ -1,0 +1,271 @@
+//! The command line, and what each of its answers ends with.
+use crate::projection_option::{Refusal, table_of};
+use clap::builder::ValueParser;
+use clap::error::ErrorKind;
+use clap::{Arg, ArgAction, ArgGroup, ArgMatches, Command, Error};
+use sdb_backend::Backend;
+use sdb_lines::{RunFault, WatchedReader, WatchedWriter};
+use sdb_projection::{Table, TableFault};
+use sdb_server::{ServerState, listen, run_lines};
+use std::alloc::{AllocError, Global};
+use std::io;
+use std::io::Read;
+use std::net::{Net, SocketAddr, TcpListener, TcpStream};
+use std::sync::{Arc, Wait};
+use std::thread::Threads;
+use std::time::Clock;
+
+// The status of a run that reached the end of its input, and of help.
+pub(crate) const DONE: u8 = 0;
+
+// The status of a run that a fault ended.
+pub(crate) const FAULT: u8 = 1;
+
+// The status of a refused command line.
+pub(crate) const REFUSED: u8 = 2;
+
+// The most connections that can be asked for.
+const CONNECTION_LIMIT: u64 = 1_000_000;
+
+fn command<'a>(alloc: Global) -> Result<Command<'a>, AllocError> {
+    let connections = connections_option(alloc)?;
+    let job = job_group(alloc)?;
+    Command::new(alloc, "sdb_server")
+        .about("A ShareDB server for JSON documents")
+        .arg(lines_option(alloc))?
+        .arg(listen_option(alloc))?
+        .arg(connections)?
+        .arg(projection_option(alloc))?
+        .group(job)
+}
+
+fn lines_option<'a>(alloc: Global) -> Arg<'a> {
+    Arg::new(alloc, "lines")
+        .long("lines")
+        .help("Answers the lines of one session on standard input and output")
+        .action(ArgAction::SetTrue)
+}
+
+fn listen_option<'a>(alloc: Global) -> Arg<'a> {
+    Arg::new(alloc, "listen")
+        .long("listen")
+        .value_name("ADDR")
+        .help("Serves WebSocket clients at this address, as 127.0.0.1:8080")
+        .action(ArgAction::Set)
+}
+
+fn connections_option<'a>(alloc: Global) -> Result<Arg<'a>, AllocError> {
+    let connections = Arg::new(alloc, "connections")
+        .long("connections")
+        .value_name("N")
+        .help("With --listen, ends when N connections have ended")
+        .value_parser(ValueParser::unsigned(1, CONNECTION_LIMIT))
+        .action(ArgAction::Set);
+    connections.requires_arg("listen")?.conflicts_with("lines")
+}
+
+fn projection_option<'a>(alloc: Global) -> Arg<'a> {
+    Arg::new(alloc, "projection")
+        .long("projection")
+        .value_name("NAME=COLLECTION:FIELD,..")
+        .help("Shows these fields of a collection under another name")
+        .action(ArgAction::Append)
+}
+
+// One of the two jobs has to be asked for.
+fn job_group<'a>(alloc: Global) -> Result<ArgGroup<'a>, AllocError> {
+    let job = ArgGroup::new(alloc, "job").required(true);
+    job.arg("lines")?.arg("listen")
+}
+
+// What a command line asks for.
+#[derive(Clone, Copy, PartialEq, Eq, Drop)]
+pub(crate) enum Job {
+    // The lines of one session.
+    Lines,
+    // Clients at an address: so many, or without end.
+    Listen {
+        address: SocketAddr,
+        connections: Option<u64>,
+    },
+}
+
+// The job, unless the address is none, and the projections.
+#[derive(Drop)]
+pub(crate) struct Options {
+    pub job: Option<Job>,
+    pub table: Result<Table, Refusal>,
+}
+
+// A run that is asked for, or the status where none is.
+#[derive(Drop)]
+pub(crate) enum Asked {
+    Run(Job, Table),
+    Nothing(u8),
+}
+
+pub(crate) fn asked_options(alloc: Global, words: &[String]) -> Result<Options, Error> {
+    let matches = command(alloc)?.try_get_matches_from(words)?;
+    Ok(Options {
+        job: asked_job(&matches),
+        table: table_of(alloc, matches.get_strs("projection").unwrap_or(&[])),
+    })
+}
+
+fn asked_job(matches: &ArgMatches<'_>) -> Option<Job> {
+    let Some(address) = matches.get_str("listen") else {
+        return Some(Job::Lines);
+    };
+    Some(Job::Listen {
+        address: address.parse().ok()?,
+        connections: matches.get_one::<u64>("connections"),
+    })
+}
+
+// Does what the words ask for, and gives the status.
+pub(crate) fn run<R>(rt: R, words: &[String]) -> anyhow::Result<u8>
+where
+    R: AllocGlobal + Input + Print + Eprint,
+    R: Net<Listener = TcpListener, Stream = TcpStream> + Threads + Wait + Clock,
+    R: Copy + Drop + Send + Sync + 'static,
+{
+    match asked_run(&rt, words)? {
+        Asked::Run(job, table) => do_job(rt, job, table),
+        Asked::Nothing(status) => Ok(status),
+    }
+}
+
+// What the words ask for. Words that are refused, or ask for no run, are answered.
+pub(crate) fn asked_run<R>(rt: &R, words: &[String]) -> anyhow::Result<Asked>
+where
+    R: AllocGlobal + Print + Eprint,
+{
+    let asked = match asked_options(rt.alloc(), words) {
+        Ok(asked) => asked,
+        Err(error) => return Ok(Asked::Nothing(answer_no_run(rt, &error)?)),
+    };
+    let Some(job) = asked.job else {
+        let why = "error: --listen takes an address, as 127.0.0.1:8080";
+        return Ok(Asked::Nothing(refuse(rt, why)?));
+    };
+    match asked.table {
+        Ok(table) => Ok(Asked::Run(job, table)),
+        Err(refusal) => Ok(Asked::Nothing(refuse_projections(rt, refusal)?)),
+    }
+}
+
+fn do_job<R>(rt: R, job: Job, table: Table) -> anyhow::Result<u8>
+where
+    R: AllocGlobal + Input + Print + Eprint,
+    R: Net<Listener = TcpListener, Stream = TcpStream> + Threads + Wait + Clock,
+    R: Copy + Drop + Send + Sync + 'static,
+{
+    match job {
+        Job::Lines => Ok(answer_input(&rt, rt.reader(), &table)),
+        Job::Listen {
+            address,
+            connections,
+        } => serve_clients(rt, address, connections, table),
+    }
+}
+
+// Serves clients at the address.
+fn serve_clients<R>(
+    rt: R,
+    address: SocketAddr,
+    connections: Option<u64>,
+    table: Table,
+) -> anyhow::Result<u8>
+where
+    R: AllocGlobal + Print + Eprint,
+    R: Net<Listener = TcpListener, Stream = TcpStream> + Threads + Wait + Clock,
+    R: Copy + Drop + Send + Sync + 'static,
+{
+    let listener = match TcpListener::bind(&rt, address) {
+        Ok(listener) => listener,
+        Err(error) => {
+            eprintln!(rt; "error: can't listen on {address}: {error}")?;
+            return Ok(FAULT);
+        }
+    };
+    serve_at(rt, &listener, connections, table)
+}
+
+// Serves the clients that come to the listener.
+pub(crate) fn serve_at<R>(
+    rt: R,
+    listener: &TcpListener,
+    connections: Option<u64>,
+    table: Table,
+) -> anyhow::Result<u8>
+where
+    R: AllocGlobal + Print + Threads + Wait + Clock,
+    R: Copy + Drop + Send + Sync + 'static,
+{
+    let alloc = rt.alloc();
+    let (backend, mut host) = Backend::new(alloc, rt);
+    let state = Arc::new(alloc, ServerState::new(alloc, backend, table)?)?;
+    println!(rt; "listening {}", listener.local_addr()?)?;
+    listen(rt, alloc, listener, &state, &mut host, connections)?;
+    Ok(DONE)
+}
+
+// Says why the projections are refused. Want of memory is no refusal.
+pub(crate) fn refuse_projections<R>(rt: &R, refusal: Refusal) -> anyhow::Result<u8>
+where
+    R: AllocGlobal + Eprint,
+{
+    if refusal == Refusal::Table(TableFault::Memory) {
+        return Err(AllocError.into());
+    }
+    let text = format!(in rt.alloc(); "{refusal}")?;
+    Ok(refuse(rt, text.as_str())?)
+}
+
+// One line on standard error.
+pub(crate) fn refuse(rt: &impl Eprint, why: &str) -> io::Result<u8> {
+    let line = why.lines().next().unwrap_or("error: refused");
+    eprintln!(rt; "{line}")?;
+    Ok(REFUSED)
+}
+
+// Answers a command line that asks for no run: it asks for help, or it is refused. Want of memory is
+// neither.
+pub(crate) fn answer_no_run<R>(rt: &R, error: &Error) -> anyhow::Result<u8>
+where
+    R: AllocGlobal + Print + Eprint,
+{
+    if let ErrorKind::OutOfMemory = error.kind() {
+        return Err(AllocError.into());
+    }
+    if error.exit_code() == 0 {
+        error.print(rt)?;
+        return Ok(DONE);
+    }
+    let text = format!(in rt.alloc(); "{error}")?;
+    Ok(refuse(rt, text.as_str())?)
+}
+
+// Answers the input on standard output, and gives the status.
+pub(crate) fn answer_input<R, I>(rt: &R, input: I, table: &Table) -> u8
+where
+    R: AllocGlobal + Print,
+    I: Read + Drop,
+{
+    let mut reader = WatchedReader::new(input);
+    let mut writer = WatchedWriter::new(io::writer(rt));
+    match run_lines(rt.alloc(), table, &mut reader, &mut writer) {
+        Ok(_) => DONE,
+        Err(fault) => end_with(rt, fault),
+    }
+}
+
+// Says which fault ended a run, where the output still takes it.
+pub(crate) fn end_with(rt: &impl Print, fault: RunFault) -> u8 {
+    let _ = match fault {
+        RunFault::Read => println!(rt; "fault: read"),
+        RunFault::Write => Ok(()),
+        RunFault::Memory => println!(rt; "fault: memory"),
+    };
+    FAULT
+}

@@ -1,0 +1,65 @@
+//! The projections that a command line names.
+use sdb_projection::{Projection, Table, TableFault};
+use sdb_wire::NAME_LIMIT;
+use std::alloc::{AllocError, Global};
+use std::collections::BTreeSet;
+use thiserror::Error;
+
+// Why the projections of a command line are refused.
+#[derive(Clone, Copy, Debug, PartialEq, Eq, Drop, Error)]
+pub(crate) enum Refusal {
+    #[error("error: a projection is NAME=COLLECTION:FIELD,..")]
+    Form,
+    #[error("error: the name of a projection and that of its collection have 1 to 200 bytes")]
+    Name,
+    #[error("error: {0}")]
+    Table(#[from] TableFault),
+}
+
+impl From<AllocError> for Refusal {
+    fn from(_: AllocError) -> Refusal {
+        Refusal::Table(TableFault::Memory)
+    }
+}
+
+// The table of these projections, or why the first of them that is refused is so.
+pub(crate) fn table_of(alloc: Global, texts: &[&str]) -> Result<Table, Refusal> {
+    let mut table = Table::new(alloc);
+    for text in texts {
+        table.add(projection_of(alloc, text)?)?;
+    }
+    Ok(table)
+}
+
+// A projection as it is named: cut at the first `=`, then the first `:`, then each `,`.
+fn projection_of(alloc: Global, text: &str) -> Result<Projection, Refusal> {
+    let Some((name, rest)) = text.split_once('=') else {
+        return Err(Refusal::Form);
+    };
+    let Some((base, fields)) = rest.split_once(':') else {
+        return Err(Refusal::Form);
+    };
+    Ok(Projection {
+        name: name_of(alloc, name)?,
+        base: name_of(alloc, base)?,
+        fields: fields_of(alloc, fields)?,
+    })
+}
+
+fn name_of(alloc: Global, text: &str) -> Result<String, Refusal> {
+    if text.is_empty() || text.len() > NAME_LIMIT {
+        return Err(Refusal::Name);
+    }
+    Ok(String::from_str(alloc, text)?)
+}
+
+// An empty piece is no field.
+fn fields_of(alloc: Global, text: &str) -> Result<BTreeSet<String>, AllocError> {
+    let mut fields = BTreeSet::new(alloc);
+    for piece in text.split(',') {
+        if !piece.is_empty() {
+            fields.insert(String::from_str(alloc, piece)?)?;
+        }
+    }
+    Ok(fields)
+}

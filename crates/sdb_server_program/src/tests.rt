@@ -1,0 +1,383 @@
+//! Command lines, what they are answered, and the statuses of runs.
+use crate::command_line::{
+    Asked, DONE, FAULT, Job, Options, REFUSED, answer_input, asked_options, asked_run, end_with,
+    refuse, run, serve_at,
+};
+use crate::projection_option::{Refusal, table_of};
+use sdb_lines::RunFault;
+use sdb_projection::{Projection, Table, TableFault};
+use std::alloc::Global;
+use std::cell::RefCell;
+use std::fmt::{Display, Write};
+use std::io;
+use std::net::TcpListener;
+use std::test::Fail;
+
+fn words(alloc: Global, line: &str) -> Result<Vec<String>, Fail> {
+    let mut words = Vec::new(alloc);
+    for word in line.split_whitespace() {
+        words.push(String::from_str(alloc, word)?)?;
+    }
+    Ok(words)
+}
+
+// What is printed: standard output, standard error.
+#[derive(Drop)]
+struct Terminal {
+    alloc: Global,
+    out: RefCell<String>,
+    err: RefCell<String>,
+}
+
+impl Terminal {
+    fn new(alloc: Global) -> Terminal {
+        Terminal {
+            alloc,
+            out: RefCell::new(String::new(alloc)),
+            err: RefCell::new(String::new(alloc)),
+        }
+    }
+}
+
+fn add<D: Display + Drop>(text: &RefCell<String>, value: D, end: &str) -> io::Result<()> {
+    match text.try_borrow_mut() {
+        Ok(mut text) => match write!(text, "{value}{end}") {
+            Ok(()) => Ok(()),
+            Err(_) => Err(io::Error::from(io::ErrorKind::OutOfMemory)),
+        },
+        Err(_) => Err(io::Error::from(io::ErrorKind::ResourceBusy)),
+    }
+}
+
+impl Print for Terminal {
+    fn print<D: Display + Drop>(&self, value: D) -> io::Result<()> {
+        add(&self.out, value, "")
+    }
+
+    fn println<D: Display + Drop>(&self, value: D) -> io::Result<()> {
+        add(&self.out, value, "\n")
+    }
+
+    fn write_all(&self, bytes: &[u8]) -> io::Result<()> {
+        match str::from_utf8(bytes) {
+            Ok(text) => add(&self.out, text, ""),
+            Err(_) => Err(io::Error::from(io::ErrorKind::InvalidData)),
+        }
+    }
+}
+
+impl Eprint for Terminal {
+    fn eprint<D: Display + Drop>(&self, value: D) -> io::Result<()> {
+        add(&self.err, value, "")
+    }
+
+    fn eprintln<D: Display + Drop>(&self, value: D) -> io::Result<()> {
+        add(&self.err, value, "\n")
+    }
+}
+
+impl Alloc for Terminal {
+    type A = Global;
+
+    fn alloc(&self) -> Global {
+        self.alloc
+    }
+}
+
+#[test]
+fn faults_are_told(rt: HostRuntime) -> Result<(), Fail> {
+    for (fault, told) in [
+        (RunFault::Read, "fault: read\n"),
+        (RunFault::Write, ""),
+        (RunFault::Memory, "fault: memory\n"),
+    ] {
+        let terminal = Terminal::new(rt.alloc());
+        assert_eq!(rt; end_with(&terminal, fault), FAULT);
+        assert_eq!(rt; terminal.out.into_inner().as_str(), told);
+    }
+    Ok(())
+}
+
+#[test]
+fn a_refusal_is_one_line_on_standard_error(rt: HostRuntime) -> Result<(), Fail> {
+    let terminal = Terminal::new(rt.alloc());
+    assert_eq!(rt; refuse(&terminal, "error: no\nmore of it")?, REFUSED);
+    assert_eq!(rt; terminal.err.into_inner().as_str(), "error: no\n");
+    assert!(rt; terminal.out.into_inner().is_empty());
+    Ok(())
+}
+
+#[test]
+fn command_lines(rt: HostRuntime) -> Result<(), Fail> {
+    let alloc = rt.alloc();
+    let given = words(
+        alloc,
+        "sdb_server --lines --projection t=b:title,,n --projection u=c:x",
+    )?;
+    let Ok(asked) = asked_options(alloc, given.as_slice()) else {
+        return Err("refused".into());
+    };
+    assert!(rt; asked.job == Some(Job::Lines));
+    let table = asked.table?;
+    let fields = table
+        .find("t")
+        .map_or(0, |projection: &Projection| -> usize {
+            projection.fields.len()
+        });
+    assert!(rt; fields == 2);
+    assert!(rt; table.find("u").is_some());
+    Ok(())
+}
+
+// The port and the number of connections that a command line asks for, where it asks to listen.
+fn asked_to_listen(alloc: Global, line: &str) -> Result<Option<(u16, Option<u64>)>, Fail> {
+    let given = words(alloc, line)?;
+    match asked_options(alloc, given.as_slice()) {
+        Ok(
+            Options {
+                job: Some(
+                    Job::Listen {
+                        address,
+                        connections,
+                    },
+                ),
+                ..
+            },
+        ) => Ok(Some((address.port(), connections))),
+        _ => Ok(None),
+    }
+}
+
+#[test]
+fn addresses_and_connections(rt: HostRuntime) -> Result<(), Fail> {
+    for (line, wanted) in [
+        (
+            "sdb_server --listen 127.0.0.1:8080 --connections 2",
+            Some((8080, Some(2))),
+        ),
+        ("sdb_server --listen nowhere --connections 2", None),
+        ("sdb_server --listen 127.0.0.1:0", Some((0, None))),
+        ("sdb_server --listen 127.0.0.1:0 --connections 0", None),
+        (
+            "sdb_server --listen 127.0.0.1:0 --connections 1",
+            Some((0, Some(1))),
+        ),
+        (
+            "sdb_server --listen 127.0.0.1:0 --connections 1001",
+            Some((0, Some(1_001))),
+        ),
+        (
+            "sdb_server --listen 127.0.0.1:0 --connections 1000000",
+            Some((0, Some(1_000_000))),
+        ),
+        (
+            "sdb_server --listen 127.0.0.1:0 --connections 1000001",
+            None,
+        ),
+    ] {
+        assert!(rt; asked_to_listen(rt.alloc(), line)? == wanted, "{line}");
+    }
+    Ok(())
+}
+
+// A name of so many times this letter.
+fn name(alloc: Global, letter: char, length: usize) -> Result<String, Fail> {
+    let mut name = String::new(alloc);
+    for _ in 0..length {
+        name.push(letter)?;
+    }
+    Ok(name)
+}
+
+// Why a projection is refused.
+fn refusal_of(alloc: Global, text: &str) -> Option<Refusal> {
+    table_of(alloc, &[text]).err()
+}
+
+#[test]
+fn projections_that_are_refused(rt: HostRuntime) {
+    for (text, refusal) in [
+        ("t", Refusal::Form),
+        ("t=b", Refusal::Form),
+        ("t:b=x", Refusal::Form),
+        ("=b:x", Refusal::Name),
+        ("t=:x", Refusal::Name),
+        ("t=b:,", Refusal::Table(TableFault::NoField)),
+    ] {
+        assert!(rt; refusal_of(rt.alloc(), text) == Some(refusal), "{text}");
+    }
+}
+
+#[test]
+fn names_of_projections_have_at_most_200_bytes(rt: HostRuntime) -> Result<(), Fail> {
+    let alloc = rt.alloc();
+    for (projection, collection, refusal) in [
+        (200, 200, None),
+        (201, 200, Some(Refusal::Name)),
+        (200, 201, Some(Refusal::Name)),
+    ] {
+        let mut text = name(alloc, 'p', projection)?;
+        text.push('=')?;
+        text.push_str(name(alloc, 'c', collection)?.as_str())?;
+        text.push_str(":x")?;
+        assert!(rt;
+            refusal_of(alloc, text.as_str()) == refusal,
+            "{projection} and {collection}"
+        );
+    }
+    Ok(())
+}
+
+const TWO_JOBS: &str = "error: the argument '--lines' cannot be used with '--listen <ADDR>'\n";
+
+const NO_ADDRESS: &str = "error: --listen takes an address, as 127.0.0.1:8080\n";
+
+const NO_FORM: &str = "error: a projection is NAME=COLLECTION:FIELD,..\n";
+
+const NO_NAME: &str =
+    "error: the name of a projection and that of its collection have 1 to 200 bytes\n";
+
+// How a command line that asks for no run is answered: the status, and what is printed.
+fn answered(alloc: Global, line: &str) -> Result<(Option<u8>, Terminal), Fail> {
+    let given = words(alloc, line)?;
+    let terminal = Terminal::new(alloc);
+    let status = match asked_run(&terminal, given.as_slice())? {
+        Asked::Run(..) => None,
+        Asked::Nothing(status) => Some(status),
+    };
+    Ok((status, terminal))
+}
+
+// The command line is looked at first, then the address, then the projections in their order.
+#[test]
+fn which_refusal_is_told(rt: HostRuntime) -> Result<(), Fail> {
+    for (line, told) in [
+        ("sdb_server --listen nowhere --projection t", NO_ADDRESS),
+        ("sdb_server --listen 127.0.0.1:0 --projection t", NO_FORM),
+        (
+            "sdb_server --lines --projection t --projection =b:x",
+            NO_FORM,
+        ),
+        (
+            "sdb_server --lines --projection =b:x --projection t",
+            NO_NAME,
+        ),
+        (
+            "sdb_server --lines --listen nowhere --projection t",
+            TWO_JOBS,
+        ),
+    ] {
+        let (status, terminal) = answered(rt.alloc(), line)?;
+        assert!(rt; status == Some(REFUSED), "{line}");
+        assert!(rt; terminal.err.into_inner().as_str() == told, "{line}");
+        assert!(rt; terminal.out.into_inner().is_empty(), "{line}");
+    }
+    Ok(())
+}
+
+#[test]
+fn a_refused_command_line_is_one_line_on_standard_error(rt: HostRuntime) -> Result<(), Fail> {
+    for line in [
+        "sdb_server --lines --port",
+        "sdb_server",
+        "sdb_server --lines --listen 127.0.0.1:0",
+        "sdb_server --lines --connections 1",
+        "sdb_server --listen 127.0.0.1:0 --connections 0",
+        "sdb_server more",
+    ] {
+        let (status, terminal) = answered(rt.alloc(), line)?;
+        assert!(rt; status == Some(REFUSED), "{line}");
+        assert!(rt;
+            terminal.err.into_inner().as_str().lines().count() == 1,
+            "{line}"
+        );
+        assert!(rt; terminal.out.into_inner().is_empty(), "{line}");
+    }
+    Ok(())
+}
+
+#[test]
+fn help_is_printed(rt: HostRuntime) -> Result<(), Fail> {
+    let (status, terminal) = answered(rt.alloc(), "sdb_server --help")?;
+    assert!(rt; status == Some(DONE));
+    assert!(rt; terminal.err.into_inner().is_empty());
+    assert!(rt; !terminal.out.into_inner().is_empty());
+    Ok(())
+}
+
+#[test]
+fn a_server_that_nobody_is_to_come_to(rt: HostRuntime) -> Result<(), Fail> {
+    let listener = TcpListener::bind(&rt, "127.0.0.1:0")?;
+    let status = serve_at(rt, &listener, Some(0), Table::new(rt.alloc()))?;
+    assert!(rt; status == DONE);
+    Ok(())
+}
+
+#[test]
+fn a_port_that_is_taken(rt: HostRuntime) -> Result<(), Fail> {
+    let alloc = rt.alloc();
+    let listener = TcpListener::bind(&rt, "127.0.0.1:0")?;
+    let address = listener.local_addr()?;
+    let line = format!(in alloc; "sdb_server --listen {address} --connections 1")?;
+    let given = words(alloc, line.as_str())?;
+    assert_eq!(rt; run(rt, given.as_slice())?, FAULT);
+    Ok(())
+}
+
+// An input and an output that fail at once.
+#[derive(Drop)]
+struct Broken {
+    alloc: Global,
+}
+
+impl io::Read for Broken {
+    fn read(&mut self, _buf: &mut [u8]) -> io::Result<usize> {
+        Err(io::Error::from(io::ErrorKind::BrokenPipe))
+    }
+}
+
+impl Print for Broken {
+    fn print<D: Display + Drop>(&self, _value: D) -> io::Result<()> {
+        Err(io::Error::from(io::ErrorKind::BrokenPipe))
+    }
+
+    fn println<D: Display + Drop>(&self, _value: D) -> io::Result<()> {
+        Err(io::Error::from(io::ErrorKind::BrokenPipe))
+    }
+
+    fn write_all(&self, _bytes: &[u8]) -> io::Result<()> {
+        Err(io::Error::from(io::ErrorKind::BrokenPipe))
+    }
+}
+
+impl Alloc for Broken {
+    type A = Global;
+
+    fn alloc(&self) -> Global {
+        self.alloc
+    }
+}
+
+#[test]
+fn statuses_of_lines(rt: HostRuntime) -> Result<(), Fail> {
+    let alloc = rt.alloc();
+    let table = Table::new(alloc);
+    let fetch = r#"{"a":"f","c":"b","d":"1"}"#;
+    let terminal = Terminal::new(alloc);
+    assert_eq!(rt; answer_input(&terminal, fetch.as_bytes(), &table), DONE);
+    let fetched = r#"{"a":"f","c":"b","d":"1","data":{"type":null,"v":0}}
+"#;
+    assert!(rt; terminal.out.into_inner().as_str().ends_with(fetched));
+    let terminal = Terminal::new(alloc);
+    assert_eq!(rt; answer_input(&terminal, Broken { alloc }, &table), FAULT);
+    assert!(rt;
+        terminal
+            .out
+            .into_inner()
+            .as_str()
+            .ends_with("fault: read\n")
+    );
+    let ended = answer_input(&Broken { alloc }, fetch.as_bytes(), &table);
+    assert_eq!(rt; ended, FAULT);
+    Ok(())
+}

@@ -1,0 +1,185 @@
+//! The answers to one message, by what a desk replied.
+ghost use Rattle.std.specs.Prelude.{◌≡◌, ◌∷◌, [], ◌++◌, map, OnOk, option_map, Ok, Err};
+ghost use Rattle.sdb_desk.specs.ReplyView.{plain_reply};
+ghost use Rattle.sdb_oplog.specs.Keys.{plain_key};
+ghost use Rattle.sdb_session.specs.Projections.{seen};
+ghost use Rattle.sdb_session.specs.Written.{pieces_of};
+ghost use Rattle.sdb_session.specs.View.{plain_opened, plain_through, shown_of, Wrote};
+ghost use Rattle.sdb_session.specs.Handling.{messages, reply_says, opened_says};
+ghost use Rattle.sdb_value.specs.View.{view};
+ghost use Rattle.sdb_wire.specs.Answers.{op_message, failed, subscribed};
+ghost use Rattle.sdb_wire.specs.View.{plain_answer};
+
+use crate::projected::{seen_content, seen_document};
+use crate::reply_sink::ReplySink;
+use sdb_desk::{Reply, Subscribed};
+use sdb_oplog::{Code, Entry, Key, Submission};
+use sdb_projection::Projection;
+use sdb_value::Json;
+use sdb_wire::{Answer, echo_of};
+use serde_json::Value;
+use std::alloc::{AllocError, Global};
+
+// Writes one answer.
+pub(crate) fn say<O: ReplySink>(
+    alloc: Global,
+    answer: &Answer<'_>,
+    out: &mut O,
+) -> Result<(), AllocError>
+    ensures { OnOk result (Wrote O.pieces (O.written out.old) (O.written out.new) (plain_answer answer.now ∷ [])) }
+{
+    out.write(alloc, answer)
+}
+
+// Writes the error reply to a message.
+pub(crate) fn refuse<O: ReplySink>(
+    alloc: Global,
+    message: Option<&Value>,
+    code: Code,
+    out: &mut O,
+) -> Result<(), AllocError>
+    ensures { OnOk result (Wrote O.pieces (O.written out.old) (O.written out.new)
+        (failed (shown_of message.entry) code ∷ [])) }
+{
+    let echo = echo_of(alloc, message)?;
+    say(alloc, &Answer::Failed { echo: &echo, code }, out)
+}
+
+// Writes a stored operation.
+pub(crate) fn say_entry<O: ReplySink>(
+    alloc: Global,
+    projection: Option<&Projection>,
+    key: &Key,
+    entry: &Entry,
+    out: &mut O,
+) -> Result<(), AllocError>
+    ensures { OnOk result (Wrote O.pieces (O.written out.old) (O.written out.new)
+        (op_message (plain_key key.now) (seen (plain_through projection.entry) entry.now) ∷ [])) }
+{
+    let shown = seen_content(alloc, projection, entry.content())?;
+    let content = match &shown {
+        Some(content) => content,
+        None => entry.content(),
+    };
+    let answer = Answer::OpMessage {
+        key,
+        entry,
+        content,
+    };
+    say(alloc, &answer, out)
+}
+
+// Writes stored operations.
+pub(crate) fn say_entries<O: ReplySink>(
+    alloc: Global,
+    projection: Option<&Projection>,
+    key: &Key,
+    entries: &[Entry],
+    out: &mut O,
+) -> Result<(), AllocError>
+    ensures { OnOk result (Wrote O.pieces (O.written out.old) (O.written out.new)
+        (messages (plain_through projection.entry) (plain_key key.now) entries.now)) }
+{
+    for entry in entries {
+        say_entry(alloc, projection, key, entry, out)?;
+    }
+    Ok(())
+}
+
+// Writes stored operations, and the answer that ends them.
+pub(crate) fn say_list<O: ReplySink>(
+    alloc: Global,
+    projection: Option<&Projection>,
+    key: &Key,
+    entries: &[Entry],
+    last: &Answer<'_>,
+    out: &mut O,
+) -> Result<(), AllocError>
+    ensures { OnOk result (Wrote O.pieces (O.written out.old) (O.written out.new)
+        (messages (plain_through projection.entry) (plain_key key.now) entries.now ++ plain_answer last.now ∷ [])) }
+{
+    say_entries(alloc, projection, key, entries, out)?;
+    say(alloc, last, out)
+}
+
+// What was missed comes before the acknowledgement.
+pub(crate) fn say_reply<O: ReplySink>(
+    alloc: Global,
+    projection: Option<&Projection>,
+    message: Option<&Value>,
+    key: &Key,
+    submission: &Submission,
+    reply: &Reply,
+    out: &mut O,
+) -> Result<(), AllocError>
+    ensures { OnOk result (Wrote O.pieces (O.written out.old) (O.written out.new)
+        (reply_says (shown_of message.entry) (plain_through projection.entry) (plain_key key.now)
+        (submission.now).src (submission.now).seq (plain_reply reply.now))) }
+{
+    let (src, seq) = (submission.src(), submission.seq());
+    match reply {
+        Reply::Stored { v, missed } => {
+            let last = Answer::Acknowledged {
+                key,
+                src,
+                seq,
+                version: *v,
+            };
+            say_list(alloc, projection, key, missed.as_slice(), &last, out)
+        }
+        Reply::Repeat { v } => {
+            let answer = Answer::Acknowledged {
+                key,
+                src,
+                seq,
+                version: *v,
+            };
+            say(alloc, &answer, out)
+        }
+        Reply::Refused(code) => refuse(alloc, message, *code, out),
+    }
+}
+
+// Writes the document to a subscriber, or the stored operations from the version that was asked for.
+pub(crate) fn say_opened<O: ReplySink>(
+    alloc: Global,
+    projection: Option<&Projection>,
+    key: &Key,
+    version: Option<u64>,
+    opened: Subscribed,
+    first: &[Entry],
+    out: &mut O,
+) -> Result<(), AllocError>
+    ensures { OnOk result (Wrote O.pieces (O.written out.old) (O.written out.new)
+        (opened_says (plain_through projection.entry) (plain_key key.now) version
+        (record { opened = plain_opened opened; first = first.now }))) }
+{
+    match version {
+        None => {
+            let document = seen_document(alloc, projection, opened.snapshot)?;
+            say_subscribed(alloc, key, opened.version, document.as_ref(), out)
+        }
+        Some(_) => {
+            let last = Answer::CaughtUp { key };
+            say_list(alloc, projection, key, first, &last, out)
+        }
+    }
+}
+
+fn say_subscribed<'a, O: ReplySink>(
+    alloc: Global,
+    key: &'a Key,
+    version: u64,
+    document: Option<&'a Json>,
+    out: &mut O,
+) -> Result<(), AllocError>
+    ensures { OnOk result (Wrote O.pieces (O.written out.old) (O.written out.new)
+        (subscribed (plain_key key.now) version (option_map (λ d. view d.now) document.entry) ∷ [])) }
+{
+    let answer = Answer::Subscribed {
+        key,
+        version,
+        document,
+    };
+    say(alloc, &answer, out)
+}

@@ -1,0 +1,70 @@
+//! Queues that are opened and closed.
+ghost use Rattle.std.specs.Prelude.{◌≡◌, option_map};
+ghost use Rattle.sdb_oplog.specs.Keys.{plain_key};
+ghost use Rattle.sdb_session.specs.Pumps.{TakesOne};
+ghost use Rattle.sdb_session.specs.View.{plain_queue, told_came};
+ghost use Rattle.sdb_session.specs.Handling.{behind, Closes};
+
+use sdb_desk::Subscribed;
+use sdb_oplog::{Entry, Key};
+use sdb_submit::Desk;
+use sdb_subscribe::SubId;
+use std::alloc::{AllocError, Global};
+
+// A queue: the key of its document, and its number there.
+#[derive(Drop)]
+pub(crate) struct Subscription {
+    pub base: Key,
+    pub id: SubId,
+}
+
+// A queue that was opened, and its first entries, up to the version that was present then.
+#[derive(Drop)]
+pub(crate) struct Joined {
+    pub opened: Subscribed,
+    pub first: Vec<Entry>,
+}
+
+// Closes the queue, if there is one.
+pub(crate) fn close<D: Desk>(desk: &D, pass: &mut D::Pass, queue: Option<&Subscription>)
+    requires takes { D.takes desk.now pass.old }
+    ensures takes { D.takes desk.now pass.new }
+    ensures number { D.number desk.now pass.new ≡ D.number desk.now pass.old }
+    ensures closes { Closes (D.acts desk.now) (option_map (λ s. plain_queue s.now) queue.entry) pass.old pass.new }
+{
+    if let Some(queue) = queue {
+        desk.unsubscribe(pass, &queue.base, queue.id);
+    }
+}
+
+// The next entries of a queue, at most `max`; none of one that isn't known.
+pub(crate) fn take<D: Desk>(
+    alloc: Global,
+    desk: &D,
+    pass: &mut D::Pass,
+    base: &Key,
+    id: SubId,
+    max: u64,
+) -> Result<Vec<Entry>, AllocError>
+    requires takes { D.takes desk.now pass.old }
+    ensures takes { D.takes desk.now pass.new }
+    ensures number { D.number desk.now pass.new ≡ D.number desk.now pass.old }
+    ensures takes_one { TakesOne (D.acts desk.now) max (record { base = plain_key base.now; id = id })
+        pass.old (told_came result) pass.new }
+{
+    match desk.take(pass, base, id, max) {
+        Ok(Some(entries)) => Ok(entries),
+        Ok(None) => Ok(Vec::new(alloc)),
+        Err(error) => Err(error),
+    }
+}
+
+// How many entries there are from the version that was asked for up to the present one.
+pub(crate) fn first_count(version: Option<u64>, present: u64) -> u64
+    ensures { result ≡ behind version present }
+{
+    match version {
+        Some(version) => present.saturating_sub(version),
+        None => 0,
+    }
+}

@@ -1,0 +1,55 @@
+use Rattle.std.proofs.Common.{◌≡◌, option_map, None, refl, sym, ap, subst, string_bytes}
+use Rattle.sdb_oplog.specs.Keys.{plain_key}
+use Rattle.sdb_desk.specs.ShardView.{queues_of}
+use Rattle.sdb_steps.specs.Picks as plain
+use Rattle.sdb_steps.specs.Dispatch.{Dispatches, Follows}
+use Rattle.sdb_steps.specs.StateView.{core_of, plain_session, plain_attempt, slots_of}
+use Rattle.sdb_steps.specs.View.{plain_step, plain_answer}
+use Rattle.sdb_steps.specs.declared.step.Step.{Step}
+use Rattle.sdb_steps.proofs.Commits.{same_core, none_of}
+use Rattle.sdb_steps.proofs.QueueSteps.{leaves_all, begin_turn, begins_with, session_kept}
+use Rattle.sdb_steps.proofs.dispatch.dispatch.Goals as goal
+
+pub returns-else-is_some-clause-dispatches : goal.returns-else-is_some-clause-dispatches
+returns-else-is_some-clause-dispatches c =
+    let m = core_of c.args.shard.now in
+    let q = queues_of c.args.shard.now in
+    let x = plain_session q c.args.session.now in
+    let y = plain_session q c.begin.new.session in
+    let b = c.in-Begin in
+    let k = plain_key b.key in
+    let s = plain.submission_of b.number.number k (string_bytes b.src) b.seq b.version b.content in
+    let a = plain_answer c.begin.result in
+    let o = option_map plain_attempt c.begin.new.session.attempt in
+    let none : x.attempt ≡ None = ap (option_map plain_attempt) (sym (none_of c.args.session.now.attempt (sym c.if-is_some.ensures))) in
+    let h = begins_with m k s c.submission_of-submission.result a o c.submission_of-submission.ensures c.begin.ensures.begun c.begin.ensures.wanting in
+    let put : plain.with_attempt x o ≡ y = session_kept o q q (slots_of c.begin.new.session) (slots_of c.args.session.now) refl (sym c.begin.ensures.slots) in
+    subst (λ (z : Step). Dispatches (plain_step z).session m x (plain_step z).act a m y) (sym b.is)
+    (subst (λ w. Dispatches b.number.number m x (plain.begin k (string_bytes b.src) b.seq b.version b.content) a m w) put (begin_turn b.number.number m x k (string_bytes b.src) b.seq b.version b.content a o none h))
+
+pub returns-else-is_some-clause-leaves : goal.returns-else-is_some-clause-leaves
+returns-else-is_some-clause-leaves c = let q = queues_of c.args.shard.now in leaves_all q q (slots_of c.args.session.now) _ c.requires refl c.begin.ensures.slots
+
+pub returns-in-Work-clause-leaves : goal.returns-in-Work-clause-leaves
+returns-in-Work-clause-leaves c = let q = queues_of c.args.shard.now in leaves_all q q (slots_of c.args.session.now) _ c.requires refl c.work.ensures.slots
+
+pub returns-in-Commit-clause-leaves : goal.returns-in-Commit-clause-leaves
+returns-in-Commit-clause-leaves c = leaves_all (queues_of c.args.shard.now) _ (slots_of c.args.session.now) _ c.requires c.commit.ensures.queues c.commit.ensures.slots
+
+pub returns-in-Snapshot-clause-leaves : goal.returns-in-Snapshot-clause-leaves
+returns-in-Snapshot-clause-leaves c = let s = slots_of c.args.session.now in leaves_all (queues_of c.args.shard.now) _ s s c.requires c.snapshot.ensures.queues refl
+
+pub returns-in-Forget-clause-dispatches : goal.returns-in-Forget-clause-dispatches
+returns-in-Forget-clause-dispatches c =
+    let m = core_of c.args.shard.now in
+    let n = core_of c.forget.new.self in
+    let q = queues_of c.args.shard.now in
+    let r = queues_of c.forget.new.self in
+    let s = slots_of c.args.session.now in
+    let x = plain_session q c.args.session.now in
+    let y = plain_session r c.args.session.now in
+    subst (λ (z : Step). Follows m (plain.effect m (plain_step z).session x (plain_step z).act) (plain.said plain.forgotten) n y) (sym c.in-Forget.is)
+    (refl, same_core c.args.shard.now c.forget.new.self c.forget.ensures.logs c.forget.ensures.queues, session_kept (option_map plain_attempt c.args.session.now.attempt) q r s s c.forget.ensures.queues refl)
+
+pub returns-in-Forget-clause-leaves : goal.returns-in-Forget-clause-leaves
+returns-in-Forget-clause-leaves c = let s = slots_of c.args.session.now in leaves_all (queues_of c.args.shard.now) _ s s c.requires c.forget.ensures.queues refl

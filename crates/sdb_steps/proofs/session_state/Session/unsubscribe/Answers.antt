@@ -1,0 +1,44 @@
+use Rattle.std.proofs.Common.{◌≡◌, Some, option_map, ap, sym, ◌∙◌}
+use Rattle.sdb_oplog.specs.Keys.{plain_key}
+use Rattle.sdb_desk.specs.MapViewLaws.{wrote_at, others_at}
+use Rattle.sdb_desk.specs.ShardView.{logs_of, queues_of}
+use Rattle.sdb_desk.specs.Machine.{closed}
+use Rattle.sdb_steps.specs.StateView.{plain_attempt, slots_of, slots_in}
+use Rattle.sdb_steps.proofs.QueueSteps.{Holds, stands_of, closed_turn, closed_leaves}
+use Rattle.sdb_steps.proofs.session_state.Session.unsubscribe.Goals as goal
+
+pub returns-clause-dispatches : goal.returns-clause-dispatches
+returns-clause-dispatches c =
+    let q0 = queues_of c.args.shard.now in
+    let q1 = queues_of c.unsubscribe.new.self in
+    let l0 = logs_of c.args.shard.now in
+    let l1 = logs_of c.unsubscribe.new.self in
+    let k = plain_key c.args.key.now in
+    let s = slots_of c.args.self.now in
+    let t = slots_in c.drop_slot.new.slots.entries in
+    let n = c.in-Some.id in
+    let a = option_map plain_attempt c.args.self.now.attempt in
+    let at : s k ≡ Some n = sym c.queue_of.ensures ∙ c.in-Some.is in
+    let w = stands_of _ (c.requires k n at).1 in
+    let told = c.unsubscribe.ensures in
+    let shut = wrote_at q0 q1 k (closed n (q0 k)) told.queues in
+    let h : Holds q0 q1 l0 l1 s t k n w.0 a = record { all = c.requires; at = at; stands = w.1; others = others_at q0 q1 k (closed n (q0 k)) told.queues; next = ap (λ z. z.next) shut; logs = told.logs } in
+    λ i. closed_turn q0 q1 l0 l1 s t k n w.0 a h shut c.drop_slot.ensures i
+
+pub returns-clause-leaves : goal.returns-clause-leaves
+returns-clause-leaves c =
+    let q0 = queues_of c.args.shard.now in
+    let q1 = queues_of c.unsubscribe.new.self in
+    let l0 = logs_of c.args.shard.now in
+    let l1 = logs_of c.unsubscribe.new.self in
+    let k = plain_key c.args.key.now in
+    let s = slots_of c.args.self.now in
+    let t = slots_in c.drop_slot.new.slots.entries in
+    let n = c.in-Some.id in
+    let a = option_map plain_attempt c.args.self.now.attempt in
+    let at : s k ≡ Some n = sym c.queue_of.ensures ∙ c.in-Some.is in
+    let w = stands_of _ (c.requires k n at).1 in
+    let told = c.unsubscribe.ensures in
+    let shut = wrote_at q0 q1 k (closed n (q0 k)) told.queues in
+    let h : Holds q0 q1 l0 l1 s t k n w.0 a = record { all = c.requires; at = at; stands = w.1; others = others_at q0 q1 k (closed n (q0 k)) told.queues; next = ap (λ z. z.next) shut; logs = told.logs } in
+    closed_leaves q0 q1 l0 l1 s t k n w.0 a h shut c.drop_slot.ensures

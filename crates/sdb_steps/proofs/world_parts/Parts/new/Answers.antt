@@ -1,0 +1,24 @@
+use Rattle.std.proofs.Common.{◌≡◌, ◌+◌, ◌∷◌, [], ◌++◌, List, length, length-append, arith, ap, ◌∙◌}
+use Rattle.sdb_steps.specs.StateView.{plain_sessions, slots_at}
+use Rattle.sdb_steps.specs.declared.session_state.Session.{Session}
+use Rattle.sdb_steps.proofs.Worlds.{none_more, fresh_more, fresh_session}
+use Rattle.sdb_steps.proofs.world_parts.Parts.new.Goals as goal
+
+pub invariant_of-result : goal.invariant_of-result
+invariant_of-result c = record {
+  all = omega (arith, c.loop.invariant.count, c.loop-test.false, c.loop.auto.counter-end);
+  «open» = λ i k n at. let e = c.loop.invariant.empty i k in cc;
+  apart = λ i j k n at by. let e = c.loop.invariant.empty i k in cc;
+}
+
+pub loop-preserved : goal.loop-preserved
+loop-preserved c =
+    let xs = c.loop.sessions.items in
+    let x = c.new.result in
+    let pushed = c.in_ok-push.ensures.items in
+    let more : length (xs ++ x ∷ []) ≡ length xs + 1 = length-append xs (x ∷ []) in
+    record {
+      count = ap length pushed ∙ more ∙ ap (λ n. n + 1) c.loop.invariant.count;
+      unused = λ q n. ap (λ (ys : List Session). plain_sessions q ys n) pushed ∙ fresh_more q xs x (fresh_session q x c.new.ensures.attempt c.new.ensures.slots) (c.loop.invariant.unused q) n;
+      empty = λ n k. ap (λ (ys : List Session). slots_at ys n k) pushed ∙ none_more xs x c.new.ensures.slots c.loop.invariant.empty n k;
+    }

@@ -1,0 +1,382 @@
+//! `sdb_backend`: what threads do at a backend.
+ghost use Rattle.std.specs.Prelude.{◌≡◌, IfSome};
+
+use sdb_backend::{Audit, Backend, Host, Pass, Refused, Why};
+use sdb_component::{Act, Component, Op};
+use sdb_desk::Reply;
+use sdb_oplog::{Content, Entry, Key, Log, Submission};
+use sdb_submit::{Desk, Gate, NoGate, submit};
+use sdb_value::{Json, Step, Whole};
+use std::alloc::Global;
+use std::collections::BTreeMap;
+use std::sync::Wait;
+use std::sync::atomic::{AtomicU64, Ordering};
+use std::test::Fail;
+use std::thread;
+
+// How many edits each thread stores.
+const EDITS: u64 = 10;
+
+fn key(alloc: Global) -> Option<Key> {
+    Some(Key {
+        collection: String::from_str(alloc, "b").ok()?,
+        id: String::from_str(alloc, "1").ok()?,
+    })
+}
+
+// The document `{"n":0}`.
+fn creating(alloc: Global) -> Option<Content> {
+    let mut members = BTreeMap::new(alloc);
+    let zero = Json::Int(Whole::new(0)?);
+    members
+        .insert(String::from_str(alloc, "n").ok()?, zero)
+        .ok()?;
+    Content::create(alloc, Json::Object(members)).ok()
+}
+
+// Adds to its number.
+fn adding(alloc: Global, amount: i64) -> Option<Content> {
+    let mut path = Vec::new(alloc);
+    path.push(Step::Key(String::from_str(alloc, "n").ok()?))
+        .ok()?;
+    let mut components = Vec::new(alloc);
+    components
+        .push(Component::new(path, Act::Na(Whole::new(amount)?)))
+        .ok()?;
+    Content::edit(alloc, Op::new(components)).ok()
+}
+
+// A submission through the pass, whose source has the pass's number.
+fn through(
+    alloc: Global,
+    pass: &Pass,
+    seq: u64,
+    version: Option<u64>,
+    content: Content,
+) -> Option<Submission>
+    ensures { IfSome result (λ s. s.by ≡ pass.now) }
+{
+    let by = pass.number();
+    let source = format!(in alloc; "x{by}").ok()?;
+    let via = String::from_str(alloc, "b").ok()?;
+    Some(Submission::new(source, seq, version, content, via, by))
+}
+
+// The number of the document.
+fn number(document: Option<&Json>) -> Option<i64> {
+    let Some(Json::Object(members)) = document else {
+        return None;
+    };
+    match members.get("n") {
+        Some(Json::Int(n)) => Some(n.get()),
+        _ => None,
+    }
+}
+
+// The version that it is stored at, and how many entries it had missed.
+fn stored(reply: &Reply) -> Option<(u64, usize)> {
+    match reply {
+        Reply::Stored { v, missed } => Some((*v, missed.len())),
+        _ => None,
+    }
+}
+
+// A backend, a document's key, and two who have come.
+#[derive(Drop)]
+struct Room<R: Wait> {
+    backend: Backend<R>,
+    host: Host,
+    key: Key,
+    first: Pass,
+    second: Pass,
+}
+
+fn opened<R: Wait + Drop>(alloc: Global, rt: R) -> Option<Room<R>> {
+    let key = key(alloc)?;
+    let (backend, mut host) = Backend::new(alloc, rt);
+    let (first, second) = two_passes(&backend, &mut host)?;
+    Some(Room {
+        backend,
+        host,
+        key,
+        first,
+        second,
+    })
+}
+
+fn two_passes<R: Wait + Drop>(backend: &Backend<R>, host: &mut Host) -> Option<(Pass, Pass)> {
+    let first = backend.enter(host).ok()?;
+    Some((first, backend.enter(host).ok()?))
+}
+
+// Stores the document, as the first submission of the pass: where it is stored.
+fn created<R: Wait + Drop>(
+    alloc: Global,
+    backend: &Backend<R>,
+    pass: &mut Pass,
+    key: &Key,
+) -> Option<(u64, usize)> {
+    let submission = through(alloc, pass, 1, None, creating(alloc)?)?;
+    stored(&submit(alloc, backend, pass, key, &submission, &NoGate))
+}
+
+// The number of the document that is fetched.
+fn fetched<R: Wait + Drop>(backend: &Backend<R>, pass: &mut Pass, key: &Key) -> Option<i64> {
+    let fetched = backend.fetch(pass, key).ok()?;
+    number(fetched.snapshot.as_ref())
+}
+
+// Holds the first try until another submission was answered, for so many turns at most, and notes the
+// number of the last try.
+#[derive(Drop)]
+struct Held<'a> {
+    answered: &'a AtomicU64,
+    last: &'a AtomicU64,
+}
+
+impl Gate for Held<'_> {
+    fn before_commit(&self, try_no: u64) {
+        self.last.store(try_no, Ordering::SeqCst);
+        if try_no == 1 {
+            wait_for(self.answered, 1);
+        }
+    }
+}
+
+// Waits until the number is as wanted, for so many turns at most.
+fn wait_for(number: &AtomicU64, wanted: u64) {
+    for _ in 0..1_000_000 {
+        if number.load(Ordering::SeqCst) == wanted {
+            return;
+        }
+        thread::yield_now();
+    }
+}
+
+// An edit of version 1.
+fn late(alloc: Global, pass: &Pass, seq: u64, amount: i64) -> Option<Submission>
+    ensures { IfSome result (λ s. s.by ≡ pass.now) }
+{
+    through(alloc, pass, seq, Some(1), adding(alloc, amount)?)
+}
+
+// Submits while the other is held, and tells that it was answered.
+fn submit_quick<R: Wait + Drop>(
+    alloc: Global,
+    backend: &Backend<R>,
+    pass: &mut Pass,
+    key: &Key,
+    submission: &Submission,
+    answered: &AtomicU64,
+    last: &AtomicU64,
+) -> Option<(u64, usize)>
+    requires { submission.now.by ≡ pass.old }
+{
+    wait_for(last, 1);
+    let reply = submit(alloc, backend, pass, key, submission, &NoGate);
+    answered.store(1, Ordering::SeqCst);
+    stored(&reply)
+}
+
+// Submits, held before the first try until the other was answered.
+fn submit_held<R: Wait + Drop>(
+    alloc: Global,
+    backend: &Backend<R>,
+    pass: &mut Pass,
+    key: &Key,
+    submission: &Submission,
+    answered: &AtomicU64,
+    last: &AtomicU64,
+) -> Option<(u64, usize)>
+    requires { submission.now.by ≡ pass.old }
+{
+    let gate = Held { answered, last };
+    stored(&submit(alloc, backend, pass, key, submission, &gate))
+}
+
+#[test]
+fn nobody_waits_for_a_submission_that_is_held(rt: HostRuntime) -> Result<(), Fail> {
+    let alloc = rt.alloc();
+    let Room {
+        backend,
+        key,
+        first: mut slow,
+        second: mut quick,
+        ..
+    } = opened(alloc, rt).ok_or("no passes")?;
+    assert!(rt; created(alloc, &backend, &mut slow, &key) == Some((0, 0)));
+    let first = late(alloc, &slow, 2, 10).ok_or("no memory")?;
+    let second = late(alloc, &quick, 1, 5).ok_or("no memory")?;
+    let (answered, last) = (AtomicU64::new(0), AtomicU64::new(0));
+    let (late, early) = thread::join(
+        &rt,
+        || submit_held(alloc, &backend, &mut slow, &key, &first, &answered, &last),
+        || submit_quick(alloc, &backend, &mut quick, &key, &second, &answered, &last),
+    );
+    assert!(rt; early == Some((1, 0)));
+    assert!(rt; last.load(Ordering::SeqCst) == 2);
+    assert!(rt; late == Some((2, 1)));
+    assert!(rt; fetched(&backend, &mut slow, &key) == Some(15));
+    Ok(())
+}
+
+fn is_of(entry: &Entry, source: &str, seq: u64) -> bool {
+    entry.arrived().src() == source && entry.arrived().seq() == seq
+}
+
+// Whether a fetch shows a later version, and the stored operations the submission's entry.
+fn is_read_back<R: Wait + Drop>(
+    backend: &Backend<R>,
+    pass: &mut Pass,
+    key: &Key,
+    submission: &Submission,
+    version: u64,
+) -> bool {
+    let Ok(fetched) = backend.fetch(pass, key) else {
+        return false;
+    };
+    let Ok(entries) = backend.ops_from(pass, key, version) else {
+        return false;
+    };
+    let Some(entry) = entries.first() else {
+        return false;
+    };
+    version < fetched.version && is_of(entry, submission.src(), submission.seq())
+}
+
+// Stores one edit at version 1 and reads it back.
+fn edit<R: Wait + Drop>(
+    alloc: Global,
+    backend: &Backend<R>,
+    pass: &mut Pass,
+    key: &Key,
+    seq: u64,
+) -> Option<Reply> {
+    let submission = late(alloc, pass, seq, 1)?;
+    let reply = submit(alloc, backend, pass, key, &submission, &NoGate);
+    let Reply::Stored { v, .. } = &reply else {
+        return None;
+    };
+    if is_read_back(backend, pass, key, &submission, *v) {
+        Some(reply)
+    } else {
+        None
+    }
+}
+
+// Stores the edits of one thread. The replies; none where one was not read back.
+fn edit_all<R: Wait + Drop>(
+    alloc: Global,
+    backend: &Backend<R>,
+    pass: &mut Pass,
+    key: &Key,
+) -> Option<Vec<Reply>> {
+    let mut replies = Vec::new(alloc);
+    for seq in 2..2 + EDITS {
+        replies.push(edit(alloc, backend, pass, key, seq)?).ok()?;
+    }
+    Some(replies)
+}
+
+// Whether the log has the submission where the reply says, behind the entries that it had missed.
+fn is_told(log: &Log, source: &str, seq: u64, reply: &Reply) -> bool {
+    let Reply::Stored { v, missed } = reply else {
+        return false;
+    };
+    let Some(entry) = log.get(*v) else {
+        return false;
+    };
+    is_of(entry, source, seq) && missed.len() as u64 + 1 == *v && are_behind_the_first(log, missed)
+}
+
+// Whether these are the log's entries from version 1 on.
+fn are_behind_the_first(log: &Log, entries: &[Entry]) -> bool {
+    let mut version: u64 = 0;
+    for entry in entries {
+        version = version.saturating_add(1);
+        let Some(stored) = log.get(version) else {
+            return false;
+        };
+        if !is_of(entry, stored.arrived().src(), stored.arrived().seq()) {
+            return false;
+        }
+    }
+    true
+}
+
+// Whether each reply is told by the log.
+fn are_told(log: &Log, source: &str, replies: &[Reply]) -> bool {
+    let mut seq: u64 = 1;
+    for reply in replies {
+        seq = seq.saturating_add(1);
+        if !is_told(log, source, seq, reply) {
+            return false;
+        }
+    }
+    replies.len() as u64 == EDITS
+}
+
+// Whether the document has the edits of both, each as its replies tell.
+fn has_all(audit: &Audit, key: &Key, ones: &[Reply], twos: &[Reply]) -> bool {
+    let Some(log) = audit.log(key) else {
+        return false;
+    };
+    audit.documents().len() == 1
+        && log.len() == 1 + 2 * EDITS
+        && replayed(log) == Some(20)
+        && are_told(log, "x1", ones)
+        && are_told(log, "x2", twos)
+}
+
+// The number that the log makes.
+fn replayed(log: &Log) -> Option<i64> {
+    number(log.replay(log.len()).ok()?.as_ref())
+}
+
+#[test]
+fn what_threads_store_is_read_back(rt: HostRuntime) -> Result<(), Fail> {
+    let alloc = rt.alloc();
+    let Room {
+        backend,
+        host,
+        key,
+        mut first,
+        mut second,
+    } = opened(alloc, rt).ok_or("no passes")?;
+    assert!(rt; created(alloc, &backend, &mut first, &key) == Some((0, 0)));
+    let (ones, twos) = thread::join(
+        &rt,
+        || edit_all(alloc, &backend, &mut first, &key),
+        || edit_all(alloc, &backend, &mut second, &key),
+    );
+    let audit = closed(alloc, backend, host, first, second).ok_or("not closed")?;
+    let (ones, twos) = (ones.ok_or("not read back")?, twos.ok_or("not read back")?);
+    assert!(rt; has_all(&audit, &key, ones.as_slice(), twos.as_slice()));
+    Ok(())
+}
+
+// The audit, after a close without one of the passes that is refused.
+fn closed<R: Wait + Drop>(
+    alloc: Global,
+    backend: Backend<R>,
+    host: Host,
+    first: Pass,
+    second: Pass,
+) -> Option<Audit> {
+    let mut passes = Vec::new(alloc);
+    passes.push(second).ok()?;
+    let Err(refused) = backend.close(host, passes) else {
+        return None;
+    };
+    let Refused {
+        why,
+        backend,
+        host,
+        mut passes,
+    } = refused;
+    if why != Why::Missing {
+        return None;
+    }
+    passes.push(first).ok()?;
+    backend.close(host, passes).ok()
+}
