@@ -3,8 +3,8 @@ use sdb_component::op_value;
 use sdb_oplog::{Code, Content, Entry, Key, Kind, Submission};
 use sdb_value::{Json, to_value};
 use sdb_wire::{
-    Answer, Echo, MESSAGE_LIMIT, Request, Word, echo_of, entry_value, parse_message, no_echo, read_content,
-    read_message, reply_text, write_reply,
+    Answer, Echo, MESSAGE_LIMIT, Request, Word, echo_of, entry_value, no_echo, parse_message,
+    read_content, read_message, reply_text, write_reply,
 };
 use serde_json::Value;
 use std::alloc::Global;
