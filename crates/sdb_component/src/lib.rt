@@ -2,6 +2,7 @@
 //! operations").
 #![tactic(auto)]
 
+mod comparing;
 mod component;
 mod copies;
 mod lists;
@@ -17,6 +18,7 @@ mod shaped;
 mod weighing;
 mod writing;
 
+pub use comparing::same_components;
 pub use component::{Act, Component};
 pub use copies::copy_path;
 pub use operation::Op;

@@ -1,6 +1,7 @@
 //! Operations as text, written token by token.
-ghost use Rattle.std.specs.Prelude.{◌≡◌, ◌∷◌, [], ◌++◌, OnOk};
+ghost use Rattle.std.specs.Prelude.{◌≡◌, ◌∷◌, [], ◌++◌, OnOk, OnErr};
 ghost use Rattle.json.specs.Token.{key};
+ghost use Rattle.json.specs.Written.{WritesFront};
 ghost use Rattle.sdb_value.specs.Printed.{array_rest, data_tokens, object_rest};
 ghost use Rattle.sdb_value.specs.Profile.{to_data};
 ghost use Rattle.sdb_value.specs.View.{plain_step, view};
@@ -21,6 +22,7 @@ use std::alloc::AllocError;
 pub fn write_op(op: &Op, out: &mut Writer) -> Result<(), AllocError>
     ensures tokens { OnOk result (out.new.tokens ≡ out.old.tokens ++ data_tokens (op_data op.now)) }
     ensures before { out.new.before ≡ out.old.before }
+    ensures err { OnErr result (WritesFront out.old.tokens out.new.tokens (data_tokens (op_data op.now))) }
 {
     out.begin_array()?;
     for component in op.components() {
@@ -32,6 +34,8 @@ pub fn write_op(op: &Op, out: &mut Writer) -> Result<(), AllocError>
 fn write_component(component: &Component, out: &mut Writer) -> Result<(), AllocError>
     ensures tokens { OnOk result (out.new.tokens ≡ out.old.tokens ++ data_tokens (component_data component.now)) }
     ensures before { out.new.before ≡ out.old.before }
+    ensures err { OnErr result (WritesFront out.old.tokens out.new.tokens
+        (data_tokens (component_data component.now))) }
 {
     out.begin_object()?;
     write_values(component.act(), out)?;
@@ -46,6 +50,8 @@ fn write_values(act: &Act, out: &mut Writer) -> Result<(), AllocError>
     ensures tokens { OnOk result ((rest : Members) → out.new.tokens ++ object_rest rest
         ≡ out.old.tokens ++ object_rest (before_path (plain_act act.now) rest)) }
     ensures before { out.new.before ≡ out.old.before }
+    ensures err { OnErr result ((rest : Members) → WritesFront out.old.tokens out.new.tokens
+        (object_rest (before_path (plain_act act.now) rest))) }
 {
     match act {
         Act::Na(amount) => {
@@ -72,6 +78,8 @@ fn write_member(name: &str, value: &Json, out: &mut Writer) -> Result<(), AllocE
     ensures tokens { OnOk result (out.new.tokens
         ≡ out.old.tokens ++ key name.now ∷ data_tokens (to_data (view value.now))) }
     ensures before { out.new.before ≡ out.old.before }
+    ensures err { OnErr result (WritesFront out.old.tokens out.new.tokens
+        (key name.now ∷ data_tokens (to_data (view value.now)))) }
 {
     out.key(name)?;
     write_value(value, out)
@@ -82,6 +90,8 @@ fn write_text(act: &Act, out: &mut Writer) -> Result<(), AllocError>
     ensures tokens { OnOk result (out.new.tokens ++ object_rest no_members
         ≡ out.old.tokens ++ object_rest (behind_path (plain_act act.now))) }
     ensures before { out.new.before ≡ out.old.before }
+    ensures err { OnErr result (WritesFront out.old.tokens out.new.tokens
+        (object_rest (behind_path (plain_act act.now)))) }
 {
     match act {
         Act::Si(_, text) => {
@@ -100,6 +110,8 @@ fn write_path(component: &Component, out: &mut Writer) -> Result<(), AllocError>
     ensures tokens { OnOk result (out.new.tokens
         ≡ out.old.tokens ++ data_tokens (path_data (whole_path component.now.path component.now.act))) }
     ensures before { out.new.before ≡ out.old.before }
+    ensures err { OnErr result (WritesFront out.old.tokens out.new.tokens
+        (data_tokens (path_data (whole_path component.now.path component.now.act)))) }
 {
     out.begin_array()?;
     for step in component.path() {
@@ -112,6 +124,8 @@ fn write_path(component: &Component, out: &mut Writer) -> Result<(), AllocError>
 fn write_step(step: &Step, out: &mut Writer) -> Result<(), AllocError>
     ensures tokens { OnOk result (out.new.tokens ≡ out.old.tokens ++ data_tokens (step_data (plain_step step.now))) }
     ensures before { out.new.before ≡ out.old.before }
+    ensures err { OnErr result (WritesFront out.old.tokens out.new.tokens
+        (data_tokens (step_data (plain_step step.now)))) }
 {
     match step {
         Step::Key(name) => out.string(name.as_str()),
@@ -124,6 +138,8 @@ fn write_last(act: &Act, out: &mut Writer) -> Result<(), AllocError>
     ensures tokens { OnOk result (out.new.tokens ++ array_rest no_items
         ≡ out.old.tokens ++ array_rest (path_items (last_step (plain_act act.now)))) }
     ensures before { out.new.before ≡ out.old.before }
+    ensures err { OnErr result (WritesFront out.old.tokens out.new.tokens
+        (array_rest (path_items (last_step (plain_act act.now))))) }
 {
     match act {
         Act::Na(_) => Ok(()),

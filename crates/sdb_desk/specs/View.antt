@@ -1,5 +1,5 @@
 -- What looks, attempts and answers of the code stand for.
-use Rattle.std.specs.Prelude.{List, Option, Some, None, option_map, unwrap_or, Result, Ok, Err, Vec}
+use Rattle.std.specs.Prelude.{List, Option, Some, None, option_map, Result, Ok, Err, Vec}
 use Rattle.std.specs.declared.alloc.AllocError.{AllocError}
 use Rattle.std.specs.declared.alloc.Global.{Global}
 use Rattle.sdb_value.specs.View.{view}
@@ -9,6 +9,8 @@ use Rattle.sdb_desk.specs.Machine.{PlainLook, PlainAttempt, PlainOutcome, decide
 use Rattle.sdb_desk.specs.ReplyView.{plain_reply}
 use Rattle.sdb_desk.specs.declared.attempts.Look.{Look}
 use Rattle.sdb_desk.specs.declared.attempts.Attempt.{Attempt}
+use Rattle.sdb_desk.specs.declared.attempts.WorkedContent.{WorkedContent}
+use Rattle.sdb_desk.specs.declared.attempts.WorkedContent.TheVariants.{AsArrived, Became, Refused}
 use Rattle.sdb_desk.specs.declared.shard.Outcome.{Outcome}
 use Rattle.sdb_desk.specs.declared.shard.Outcome.TheVariants.{Decided, Moved}
 use Rattle.sdb_desk.specs.declared.shard.Fetched.{Fetched}
@@ -20,10 +22,11 @@ plain_look l = record { version = l.version; repeat = l.repeat; missed = l.misse
 abbrev pub plain_attempt : Attempt → PlainAttempt
 plain_attempt a = record { submission = a.submission; look = plain_look a.look }
 
--- what was worked: without a content it stays as it arrived
-abbrev pub content_or : PlainContent → Result (Option PlainContent) Code → Result PlainContent Code
-content_or arrived (Ok content) = Ok (unwrap_or content arrived)
-content_or arrived (Err code) = Err code
+-- the content that was worked, or the code that refuses it
+abbrev pub content_of : PlainContent → WorkedContent → Result PlainContent Code
+content_of arrived AsArrived = Ok arrived
+content_of arrived (Became content) = Ok content
+content_of arrived (Refused code) = Err code
 
 abbrev pub plain_outcome : Outcome → PlainOutcome
 plain_outcome (Decided r) = decided (plain_reply r)

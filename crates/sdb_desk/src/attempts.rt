@@ -1,7 +1,7 @@
 //! Looks, attempts, and the work on them.
 ghost use Rattle.std.specs.Prelude.{◌≡◌, [], true, IfOk, IfErr, Ok, Err, OnErr, option_map, unwrap_or};
 ghost use Rattle.sdb_oplog.specs.Over.{over_all, carrying_takes_memory};
-ghost use Rattle.sdb_desk.specs.View.{plain_attempt, content_or};
+ghost use Rattle.sdb_desk.specs.View.{content_of, plain_attempt};
 
 use sdb_oplog::{Code, Content, Entry, Submission, over_all};
 use std::alloc::Global;
@@ -27,12 +27,22 @@ pub struct Attempt {
     pub look: Look,
 }
 
+/// What the content of a submission is along the entries that it has missed.
+#[derive(Drop)]
+pub enum WorkedContent {
+    /// It stays as it arrived.
+    AsArrived,
+    /// It became this.
+    Became(Content),
+    /// It is refused by this code.
+    Refused(Code),
+}
+
 /// An attempt, with what its content becomes along the entries that the look shows as missed.
 #[derive(Drop)]
 pub struct Work {
     attempt: Attempt,
-    // none where the content stays as it arrived
-    worked: Result<Option<Content>, Code>,
+    worked: WorkedContent,
 }
 
 impl Model for Work {
@@ -45,11 +55,11 @@ impl Model for Work {
     ghost coded = { attempt_code };
 
     ghost use Rattle.sdb_oplog.specs.Over.{over_all};
-    ghost use Rattle.sdb_desk.specs.View.{plain_attempt, content_or};
+    ghost use Rattle.sdb_desk.specs.View.{content_of, plain_attempt};
 
     ghost view = { λ w. plain_attempt w.attempt };
 
-    ghost invariant = { λ w. content_or w.attempt.submission.content w.worked ≡
+    ghost invariant = { λ w. content_of w.attempt.submission.content w.worked ≡
         over_all w.attempt.submission.content w.attempt.look.missed.items };
 }
 
@@ -61,8 +71,8 @@ impl Work {
         ensures { result ≡ plain_attempt attempt }
     {
         let worked = match worked {
-            Ok(content) => Ok(Some(content)),
-            Err(code) => Err(code),
+            Ok(content) => WorkedContent::Became(content),
+            Err(code) => WorkedContent::Refused(code),
         };
         Work { attempt, worked }
     }
@@ -77,14 +87,18 @@ impl Work {
     {
         let missed = attempt.look.missed.as_slice();
         match over_all(alloc, attempt.submission.content(), missed) {
-            Ok(content) => Ok(Work {
+            Ok(None) => Ok(Work {
                 attempt,
-                worked: Ok(content),
+                worked: WorkedContent::AsArrived,
+            }),
+            Ok(Some(content)) => Ok(Work {
+                attempt,
+                worked: WorkedContent::Became(content),
             }),
             Err(Code::E10) => Err(attempt),
             Err(code) => Ok(Work {
                 attempt,
-                worked: Err(code),
+                worked: WorkedContent::Refused(code),
             }),
         }
     }
@@ -119,8 +133,9 @@ impl Work {
             (λ code. over_all self.now.submission.content self.now.look.missed ≡ Err code) }
     {
         match &self.worked {
-            Ok(content) => Ok(content.as_ref()),
-            Err(code) => Err(*code),
+            WorkedContent::AsArrived => Ok(None),
+            WorkedContent::Became(content) => Ok(Some(content)),
+            WorkedContent::Refused(code) => Err(*code),
         }
     }
 
@@ -131,18 +146,18 @@ impl Work {
         self.attempt
     }
 
-    /// The attempt and what its content became, given back; no content where it stays as it arrived.
-    pub fn into_parts(self) -> (Attempt, Result<Option<Content>, Code>)
+    /// The attempt and what its content became, given back.
+    pub fn into_parts(self) -> (Attempt, WorkedContent)
         ensures attempt { plain_attempt result.0 ≡ self }
-        ensures worked { content_or self.submission.content result.1 ≡
+        ensures worked { content_of self.submission.content result.1 ≡
             over_all self.submission.content self.look.missed }
     {
         (self.attempt, self.worked)
     }
 
     /// The work of these parts, as [`into_parts`](Work::into_parts) gives them.
-    pub fn from_parts(attempt: Attempt, worked: Result<Option<Content>, Code>) -> Work
-        requires { content_or attempt.submission.content worked ≡
+    pub fn from_parts(attempt: Attempt, worked: WorkedContent) -> Work
+        requires { content_of attempt.submission.content worked ≡
             over_all attempt.submission.content attempt.look.missed.items }
         ensures { result ≡ plain_attempt attempt }
     {
@@ -154,7 +169,7 @@ impl Work {
         ensures missed { result.items ≡ self.old.look.missed }
         ensures submission { self.new.submission ≡ self.old.submission }
     {
-        self.worked = Ok(None);
+        self.worked = WorkedContent::AsArrived;
         mem::replace(&mut self.attempt.look.missed, Vec::new(alloc))
     }
 }

@@ -5,6 +5,6 @@ mod attempts;
 mod document;
 mod shard;
 
-pub use attempts::{Attempt, Look, Work};
+pub use attempts::{Attempt, Look, Work, WorkedContent};
 pub use document::Reply;
 pub use shard::{Fetched, Outcome, Shard, Subscribed};

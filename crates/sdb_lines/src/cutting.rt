@@ -174,21 +174,14 @@ fn take_line<M: Replier, W: Sink>(
         W.failures writer.new ≡ failures_after true (W.failures writer.old) }
     ensures read { IsErrOf result RunFault.Read → ⊥ }
 {
-    let Ok(()) = hold(&mut pending.held, piece) else {
-        return Err(RunFault::Memory);
-    };
-    let Ok(is_step) = answer_line(alloc, machine, pending.held.as_slice(), &mut pending.out) else {
-        return Err(RunFault::Memory);
-    };
+    hold(&mut pending.held, piece)?;
+    let is_step = answer_line(alloc, machine, pending.held.as_slice(), &mut pending.out)?;
     pending.held.clear();
     pending.counts.count_line(is_step);
     if pending.out.len() < OUTPUT_LIMIT {
         return Ok(());
     }
-    match write_out(&mut pending.out, writer) {
-        Ok(()) => Ok(()),
-        Err(fault) => Err(fault),
-    }
+    write_out(&mut pending.out, writer)
 }
 
 // Answers the lines that end in this piece of the input, and holds the rest of it.
@@ -215,15 +208,10 @@ fn take_piece<M: Replier, W: Sink>(
 {
     let mut rest = piece;
     while let Some(at) = first_line_feed(rest) {
-        match take_line(alloc, machine, pending, writer, &rest[..at]) {
-            Ok(()) => {}
-            Err(fault) => return Err(fault),
-        }
+        take_line(alloc, machine, pending, writer, &rest[..at])?;
         rest = &rest[at + 1..];
     }
-    let Ok(()) = hold(&mut pending.held, rest) else {
-        return Err(RunFault::Memory);
-    };
+    hold(&mut pending.held, rest)?;
     Ok(())
 }
 
@@ -236,14 +224,8 @@ fn show<W: Sink>(out: &mut Vec<u8>, writer: &mut W) -> Result<(), RunFault>
     ensures fault { OnErr result (IsErrOf result RunFault.Write
         × (W.failures writer.new ≡ failures_after true (W.failures writer.old))) }
 {
-    match write_out(out, writer) {
-        Ok(()) => {}
-        Err(fault) => return Err(fault),
-    }
-    match writer.push_out() {
-        Ok(()) => Ok(()),
-        Err(_) => Err(RunFault::Write),
-    }
+    write_out(out, writer)?;
+    writer.push_out().map_err(|_| RunFault::Write)
 }
 
 // Writes the opening text, and flushes it.
@@ -261,13 +243,8 @@ pub(crate) fn write_opening<M: Replier, W: Sink>(
     ensures read { IsErrOf result RunFault.Read → ⊥ }
 {
     let mut out = Vec::new(alloc);
-    let Ok(()) = machine.open(alloc, &mut out) else {
-        return Err(RunFault::Memory);
-    };
-    match show(&mut out, writer) {
-        Ok(()) => Ok(()),
-        Err(fault) => Err(fault),
-    }
+    machine.open(alloc, &mut out)?;
+    show(&mut out, writer)
 }
 
 // Answers the lines that end in this piece of the input, writes their answers and flushes.
@@ -293,14 +270,8 @@ pub(crate) fn answer_piece<M: Replier, W: Sink>(
         W.failures writer.new ≡ failures_after true (W.failures writer.old) }
     ensures read { IsErrOf result RunFault.Read → ⊥ }
 {
-    match take_piece(alloc, machine, pending, writer, piece) {
-        Ok(()) => {}
-        Err(fault) => return Err(fault),
-    }
-    match show(&mut pending.out, writer) {
-        Ok(()) => Ok(()),
-        Err(fault) => Err(fault),
-    }
+    take_piece(alloc, machine, pending, writer, piece)?;
+    show(&mut pending.out, writer)
 }
 
 // Answers a last line that has no line feed.
@@ -326,12 +297,7 @@ pub(crate) fn answer_rest<M: Replier, W: Sink>(
     if pending.held.is_empty() {
         return Ok(());
     }
-    let Ok(is_step) = answer_line(alloc, machine, pending.held.as_slice(), &mut pending.out) else {
-        return Err(RunFault::Memory);
-    };
+    let is_step = answer_line(alloc, machine, pending.held.as_slice(), &mut pending.out)?;
     pending.counts.count_line(is_step);
-    match show(&mut pending.out, writer) {
-        Ok(()) => Ok(()),
-        Err(fault) => Err(fault),
-    }
+    show(&mut pending.out, writer)
 }

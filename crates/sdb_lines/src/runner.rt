@@ -57,6 +57,16 @@ pub enum RunFault {
     Memory,
 }
 
+impl From<AllocError> for RunFault {
+    ghost use Rattle.sdb_lines.specs.declared.runner.RunFault.TheVariants.{Memory};
+
+    ghost from_gives = { λ _ fault. fault ≡ Memory };
+
+    fn from(_error: AllocError) -> RunFault {
+        RunFault::Memory
+    }
+}
+
 /// Writes the opening text, reads the input to its end, and writes the answer to each of its lines. On `Ok` it tells
 /// how many lines there were, and how many of them were steps.
 ///
@@ -86,24 +96,17 @@ pub fn run_lines<M: Replier, R: Source, W: Sink>(
         (R.calls reader.new) (R.failures reader.new) }
     ensures writes { Writes result (W.failures writer.old) (W.failures writer.new) }
 {
-    let Ok(mut space) = room(alloc) else {
-        return Err(RunFault::Memory);
-    };
+    let mut space = room(alloc)?;
     let buffer = space.as_mut_slice();
-    if let Err(fault) = write_opening(alloc, machine, writer) {
-        return Err(fault);
-    }
+    write_opening(alloc, machine, writer)?;
     let mut pending = Pending::new(alloc);
     for _turn in 0..READ_LIMIT {
         match reader.take(buffer) {
-            Ok(0) => match answer_rest(alloc, machine, &mut pending, writer) {
-                Ok(()) => return Ok(pending.counts),
-                Err(fault) => return Err(fault),
-            },
-            Ok(n) => match answer_piece(alloc, machine, &mut pending, writer, &buffer[..n]) {
-                Ok(()) => {}
-                Err(fault) => return Err(fault),
-            },
+            Ok(0) => {
+                answer_rest(alloc, machine, &mut pending, writer)?;
+                return Ok(pending.counts);
+            }
+            Ok(n) => answer_piece(alloc, machine, &mut pending, writer, &buffer[..n])?,
             Err(_) => return Err(RunFault::Read),
         }
     }

@@ -1,4 +1,3 @@
-pub mod Alike
 mod Carrying
 pub mod Growing
 pub mod Indexed

@@ -25,7 +25,14 @@ impl Model for Submission {
 
     ghost coded = { submission_code };
 
-    ghost view = { λ s. record { src = string_bytes s.src; seq = s.seq; version = s.version; content = s.content; via = string_bytes s.via; by = s.by } };
+    ghost view = { λ s. record {
+      src = string_bytes s.src;
+      seq = s.seq;
+      version = s.version;
+      content = s.content;
+      via = string_bytes s.via;
+      by = s.by;
+    } };
 }
 
 impl Submission {
@@ -131,7 +138,11 @@ impl Model for Entry {
 
     ghost coded = { entry_code };
 
-    ghost view = { λ e. record { version = e.version; content = unwrap_or e.content e.arrived.content; arrived = e.arrived } };
+    ghost view = { λ e. record {
+      version = e.version;
+      content = unwrap_or e.content e.arrived.content;
+      arrived = e.arrived;
+    } };
 }
 
 impl Entry {

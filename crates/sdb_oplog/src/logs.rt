@@ -280,7 +280,8 @@ fn put(entries: &mut Vec<Entry>, index: &mut Index, entry: Entry)
     requires source { HasRoom index.old entry.arrived.src }
     ensures entries { entries.new.items ≡ entries.old.items ++ entry ∷ [] }
     ensures places { (s : List ℕ) (n : ℕ) → place_in index.new s n
-        ≡ (if nat_eq entry.arrived.seq n && bytes_eq entry.arrived.src s then Some (length entries.old.items) else place_in index.old s n) }
+        ≡ (if nat_eq entry.arrived.seq n && bytes_eq entry.arrived.src s
+        then Some (length entries.old.items) else place_in index.old s n) }
     ensures used { (s : List ℕ) → s ≢ entry.arrived.src → IsUsed index.old s → IsUsed index.new s }
 {
     let at = entries.len() as u64;

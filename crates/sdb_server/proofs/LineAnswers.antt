@@ -22,6 +22,10 @@ pub on_err : {A E P Q : Type 0} (r : Result A E) → (P → Q) → OnErr r P →
 on_err (Ok x) f p = tt
 on_err (Err e) f p = f p
 
+pub on_any_err : {A E P : Type 0} (r : Result A E) → P → OnErr r P
+on_any_err (Ok x) p = tt
+on_any_err (Err e) p = p
+
 -- ---- a line
 
 -- what was written behind what was there, in two steps

@@ -92,13 +92,10 @@ pub fn run_lines<R: Source, W: Sink>(
         (R.calls reader.new) (R.failures reader.new) }
     ensures writes { Writes result (W.failures writer.old) (W.failures writer.new) }
 {
-    let Ok(source) = String::from_str(alloc, SOURCE) else {
-        return Err(RunFault::Memory);
-    };
     let mut line_session = LineSession {
         table,
         shard: Shard::new(alloc),
-        session: Session::new(alloc, source),
+        session: Session::new(alloc, String::from_str(alloc, SOURCE)?),
     };
     run(alloc, &mut line_session, reader, writer)
 }

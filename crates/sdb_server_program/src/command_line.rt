@@ -1,10 +1,10 @@
-//! The command line, and what each of its answers ends with.
+//! The command line, and what it asks for.
 use crate::projection_option::{Refusal, table_of};
 use clap::builder::ValueParser;
-use clap::error::ErrorKind;
 use clap::{Arg, ArgAction, ArgGroup, ArgMatches, Command, Error};
 use sdb_backend::Backend;
-use sdb_lines::{RunFault, WatchedReader, WatchedWriter};
+use sdb_command_line::{DONE, FAULT, answer_no_run, end_with, refuse};
+use sdb_lines::{WatchedReader, WatchedWriter};
 use sdb_projection::{Table, TableFault};
 use sdb_server::{ServerState, listen, run_lines};
 use std::alloc::{AllocError, Global};
@@ -14,15 +14,6 @@ use std::net::{Net, SocketAddr, TcpListener, TcpStream};
 use std::sync::{Arc, Wait};
 use std::thread::Threads;
 use std::time::Clock;
-
-// The status of a run that reached the end of its input, and of help.
-pub(crate) const DONE: u8 = 0;
-
-// The status of a run that a fault ended.
-pub(crate) const FAULT: u8 = 1;
-
-// The status of a refused command line.
-pub(crate) const REFUSED: u8 = 2;
 
 // The most connections that can be asked for.
 const CONNECTION_LIMIT: u64 = 1_000_000;
@@ -222,30 +213,6 @@ where
     Ok(refuse(rt, text.as_str())?)
 }
 
-// One line on standard error.
-pub(crate) fn refuse(rt: &impl Eprint, why: &str) -> io::Result<u8> {
-    let line = why.lines().next().unwrap_or("error: refused");
-    eprintln!(rt; "{line}")?;
-    Ok(REFUSED)
-}
-
-// Answers a command line that asks for no run: it asks for help, or it is refused. Want of memory is
-// neither.
-pub(crate) fn answer_no_run<R>(rt: &R, error: &Error) -> anyhow::Result<u8>
-where
-    R: AllocGlobal + Print + Eprint,
-{
-    if let ErrorKind::OutOfMemory = error.kind() {
-        return Err(AllocError.into());
-    }
-    if error.exit_code() == 0 {
-        error.print(rt)?;
-        return Ok(DONE);
-    }
-    let text = format!(in rt.alloc(); "{error}")?;
-    Ok(refuse(rt, text.as_str())?)
-}
-
 // Answers the input on standard output, and gives the status.
 pub(crate) fn answer_input<R, I>(rt: &R, input: I, table: &Table) -> u8
 where
@@ -258,14 +225,4 @@ where
         Ok(_) => DONE,
         Err(fault) => end_with(rt, fault),
     }
-}
-
-// Says which fault ended a run, where the output still takes it.
-pub(crate) fn end_with(rt: &impl Print, fault: RunFault) -> u8 {
-    let _ = match fault {
-        RunFault::Read => println!(rt; "fault: read"),
-        RunFault::Write => Ok(()),
-        RunFault::Memory => println!(rt; "fault: memory"),
-    };
-    FAULT
 }

@@ -1,111 +1,16 @@
 //! Command lines, what they are answered, and the statuses of runs.
 use crate::command_line::{
-    Asked, DONE, FAULT, Job, Options, REFUSED, answer_input, asked_options, asked_run, end_with,
-    refuse, run, serve_at,
+    Asked, Job, Options, answer_input, asked_options, asked_run, run, serve_at,
 };
 use crate::projection_option::{Refusal, table_of};
-use sdb_lines::RunFault;
+use sdb_command_line::terminal::{Terminal, words};
+use sdb_command_line::{DONE, FAULT, REFUSED};
 use sdb_projection::{Projection, Table, TableFault};
 use std::alloc::Global;
-use std::cell::RefCell;
-use std::fmt::{Display, Write};
+use std::fmt::Display;
 use std::io;
 use std::net::TcpListener;
 use std::test::Fail;
-
-fn words(alloc: Global, line: &str) -> Result<Vec<String>, Fail> {
-    let mut words = Vec::new(alloc);
-    for word in line.split_whitespace() {
-        words.push(String::from_str(alloc, word)?)?;
-    }
-    Ok(words)
-}
-
-// What is printed: standard output, standard error.
-#[derive(Drop)]
-struct Terminal {
-    alloc: Global,
-    out: RefCell<String>,
-    err: RefCell<String>,
-}
-
-impl Terminal {
-    fn new(alloc: Global) -> Terminal {
-        Terminal {
-            alloc,
-            out: RefCell::new(String::new(alloc)),
-            err: RefCell::new(String::new(alloc)),
-        }
-    }
-}
-
-fn add<D: Display + Drop>(text: &RefCell<String>, value: D, end: &str) -> io::Result<()> {
-    match text.try_borrow_mut() {
-        Ok(mut text) => match write!(text, "{value}{end}") {
-            Ok(()) => Ok(()),
-            Err(_) => Err(io::Error::from(io::ErrorKind::OutOfMemory)),
-        },
-        Err(_) => Err(io::Error::from(io::ErrorKind::ResourceBusy)),
-    }
-}
-
-impl Print for Terminal {
-    fn print<D: Display + Drop>(&self, value: D) -> io::Result<()> {
-        add(&self.out, value, "")
-    }
-
-    fn println<D: Display + Drop>(&self, value: D) -> io::Result<()> {
-        add(&self.out, value, "\n")
-    }
-
-    fn write_all(&self, bytes: &[u8]) -> io::Result<()> {
-        match str::from_utf8(bytes) {
-            Ok(text) => add(&self.out, text, ""),
-            Err(_) => Err(io::Error::from(io::ErrorKind::InvalidData)),
-        }
-    }
-}
-
-impl Eprint for Terminal {
-    fn eprint<D: Display + Drop>(&self, value: D) -> io::Result<()> {
-        add(&self.err, value, "")
-    }
-
-    fn eprintln<D: Display + Drop>(&self, value: D) -> io::Result<()> {
-        add(&self.err, value, "\n")
-    }
-}
-
-impl Alloc for Terminal {
-    type A = Global;
-
-    fn alloc(&self) -> Global {
-        self.alloc
-    }
-}
-
-#[test]
-fn faults_are_told(rt: HostRuntime) -> Result<(), Fail> {
-    for (fault, told) in [
-        (RunFault::Read, "fault: read\n"),
-        (RunFault::Write, ""),
-        (RunFault::Memory, "fault: memory\n"),
-    ] {
-        let terminal = Terminal::new(rt.alloc());
-        assert_eq!(rt; end_with(&terminal, fault), FAULT);
-        assert_eq!(rt; terminal.out.into_inner().as_str(), told);
-    }
-    Ok(())
-}
-
-#[test]
-fn a_refusal_is_one_line_on_standard_error(rt: HostRuntime) -> Result<(), Fail> {
-    let terminal = Terminal::new(rt.alloc());
-    assert_eq!(rt; refuse(&terminal, "error: no\nmore of it")?, REFUSED);
-    assert_eq!(rt; terminal.err.into_inner().as_str(), "error: no\n");
-    assert!(rt; terminal.out.into_inner().is_empty());
-    Ok(())
-}
 
 #[test]
 fn command_lines(rt: HostRuntime) -> Result<(), Fail> {

@@ -1,5 +1,6 @@
 -- What a run over lines writes.
-use Rattle.std.proofs.Common.{◌≡◌, ℕ, List, [], ◌∷◌, ◌++◌, map, Option, Result, Ok, Err, OnOk, OnErr, refl, ap, ◌∙◌, subst}
+use Rattle.std.proofs.Common.{◌≡◌, ℕ, List, [], ◌∷◌, ◌++◌, map, Option, None, Some, IfSome, Result, Ok, Err, OnOk, OnErr, refl, sym, ap, ◌∙◌, subst, append-nil}
+use Rattle.std.specs.Io.KnownBytes.{Appends}
 use Rattle.sdb_lines.specs.Runs as lines
 use Rattle.sdb_lines.specs.Runs.{Answers, AnswersFront}
 use Rattle.sdb_oplog.specs.declared.codes.Code.{Code}
@@ -39,6 +40,10 @@ told s t [] text h = record { answers = []; steps = (ap machine_of h.1, ap sessi
 told s t (line ∷ input) text (answer, next, more, takes, rest, is) =
     one_more (reading_step line) (machine_of s) (machine_of next) (machine_of t) (sessions_of s) (sessions_of next) (sessions_of t) (map reading_step input) answer more text takes is (told next t input more rest)
 
+kept : (a : Option (List ℕ)) → Appends a a []
+kept None = tt
+kept (Some x) = sym (append-nil x)
+
 -- from an empty world on
 ran : (s t : World) (input : List (Option (List ℕ))) (text : List ℕ) → machine_of s ≡ empty → sessions_of s ≡ all_fresh → lines.Run Takes s input text t → Run (map reading_step input) text
 ran s t input text new fresh h =
@@ -54,6 +59,21 @@ wrote_all s t input old new first fresh h = (h.bytes, ran s t input h.bytes firs
 
 pub wrote_front : (s : World) (input : List (Option (List ℕ))) (old new : Option (List ℕ)) → machine_of s ≡ empty → sessions_of s ≡ all_fresh → AnswersFront Takes s input [] old new → WroteFront input old new
 wrote_front s input old new first fresh h = (h.taken, h.bytes, h.from_first, ran s h.last h.taken h.bytes first fresh h.run, h.wrote)
+
+-- nothing is written where no line was taken
+pub wrote_nothing : (input : List (Option (List ℕ))) (old : Option (List ℕ)) → WroteFront input old old
+wrote_nothing input old =
+    let l = legal_run [] [] empty all_fresh (run_none empty all_fresh [] refl refl refl) in
+    let none : Run [] [] = record { answers = []; events = l.0; sessions = all_fresh; logs = empty.logs; picks = l.1; legal = l.2; shown = refl } in
+    ([], [], (input, refl), none, ([], kept old, ([], refl)))
+
+pub if_any_some : {A : Type 0} (a : Option A) (P : A → Type 0) → ((x : A) → P x) → IfSome a P
+if_any_some None P f = tt
+if_any_some (Some x) P f = f x
+
+pub on_any_err : {A E P : Type 0} (r : Result A E) → P → OnErr r P
+on_any_err (Ok x) p = tt
+on_any_err (Err e) p = p
 
 pub on_ok : {A E P Q : Type 0} (r : Result A E) → (P → Q) → OnOk r P → OnOk r Q
 on_ok (Ok x) f h = f h

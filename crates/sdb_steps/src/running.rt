@@ -149,8 +149,6 @@ pub fn run<R: Source, W: Sink>(
         (R.calls reader.new) (R.failures reader.new) }
     ensures writes { Writes result (W.failures writer.old) (W.failures writer.new) }
 {
-    let Ok(mut world) = World::new(alloc) else {
-        return Err(RunFault::Memory);
-    };
+    let mut world = World::new(alloc)?;
     run_lines(alloc, &mut world, reader, writer)
 }

@@ -1,18 +1,9 @@
-//! The command line, and what each of its answers ends with.
-use clap::error::ErrorKind;
+//! The command line, and what it asks for.
 use clap::{Command, Error};
-use sdb_lines::{RunFault, WatchedReader, WatchedWriter};
-use std::alloc::{AllocError, Global};
+use sdb_command_line::{DONE, answer_no_run, end_with};
+use sdb_lines::{WatchedReader, WatchedWriter};
+use std::alloc::Global;
 use std::io;
-
-// The status of a run that reached the end of its input, and of help.
-pub(crate) const DONE: u8 = 0;
-
-// The status of a run that a fault ended.
-pub(crate) const FAULT: u8 = 1;
-
-// The status of a refused command line.
-pub(crate) const REFUSED: u8 = 2;
 
 // Takes a command line without an option. Help and what is refused are errors.
 pub(crate) fn read_words(alloc: Global, words: &[String]) -> Result<(), Error> {
@@ -34,25 +25,6 @@ where
     }
 }
 
-// Answers a command line that asks for no run: it asks for help, or it is refused by one line on
-// standard error. Want of memory is neither.
-pub(crate) fn answer_no_run<R>(rt: &R, error: &Error) -> anyhow::Result<u8>
-where
-    R: AllocGlobal + Print + Eprint,
-{
-    if let ErrorKind::OutOfMemory = error.kind() {
-        return Err(AllocError.into());
-    }
-    if error.exit_code() == 0 {
-        error.print(rt)?;
-        return Ok(DONE);
-    }
-    let text = format!(in rt.alloc(); "{error}")?;
-    let line = text.as_str().lines().next().unwrap_or("error: refused");
-    eprintln!(rt; "{line}")?;
-    Ok(REFUSED)
-}
-
 // Answers standard input.
 fn answer_input<R: AllocGlobal + Input + Print>(rt: &R) -> u8 {
     let mut reader = WatchedReader::new(rt.reader());
@@ -61,14 +33,4 @@ fn answer_input<R: AllocGlobal + Input + Print>(rt: &R) -> u8 {
         Ok(_) => DONE,
         Err(fault) => end_with(rt, fault),
     }
-}
-
-// Says which fault ended a run, where the output still takes it.
-pub(crate) fn end_with(rt: &impl Print, fault: RunFault) -> u8 {
-    let _ = match fault {
-        RunFault::Read => println!(rt; "fault: read"),
-        RunFault::Write => Ok(()),
-        RunFault::Memory => println!(rt; "fault: memory"),
-    };
-    FAULT
 }

@@ -2,9 +2,9 @@
 ghost use Rattle.std.specs.Prelude.{◌≡◌, ◌≤◌, true, IfOk, IfErr, OnErr, IfSome, IsTrue, IsFalse, length, take, drop};
 ghost use Rattle.sdb_oplog.specs.Over.{over_all, carrying_takes_memory};
 ghost use Rattle.sdb_oplog.specs.Refused.{result_then};
-ghost use Rattle.sdb_desk.specs.View.{plain_attempt, plain_look, content_or};
+ghost use Rattle.sdb_desk.specs.View.{content_of, plain_attempt, plain_look};
 
-use sdb_desk::{Attempt, Look, Work};
+use sdb_desk::{Attempt, Look, Work, WorkedContent};
 use sdb_oplog::{Code, Content, Entry, Submission, over_all, same_entries};
 use std::alloc::Global;
 
@@ -83,30 +83,25 @@ fn behind(entries: &[Entry], first: usize) -> &[Entry]
     &entries[first..]
 }
 
-// What was worked, along further entries; no content where it stays as it arrived. None where memory is
-// wanting.
+// What was worked, along further entries. None where memory is wanting.
 fn carried_on(
     alloc: Global,
     arrived: &Content,
-    worked: Result<Option<Content>, Code>,
+    worked: WorkedContent,
     entries: &[Entry],
-) -> Option<Result<Option<Content>, Code>>
+) -> Option<WorkedContent>
     ensures { IfSome result
-        (λ r. content_or arrived.now r ≡ result_then (λ k. over_all k entries.now) (content_or arrived.now worked)) }
+        (λ r. content_of arrived.now r ≡ result_then (λ k. over_all k entries.now) (content_of arrived.now worked)) }
 {
-    match worked {
-        Err(code) => Some(Err(code)),
-        Ok(content) => {
-            let current = match &content {
-                Some(content) => content,
-                None => arrived,
-            };
-            match over_all(alloc, current, entries) {
-                Ok(None) => Some(Ok(content)),
-                Ok(Some(carried)) => Some(Ok(Some(carried))),
-                Err(Code::E10) => None,
-                Err(code) => Some(Err(code)),
-            }
-        }
+    let current = match &worked {
+        WorkedContent::AsArrived => arrived,
+        WorkedContent::Became(content) => content,
+        WorkedContent::Refused(_) => return Some(worked),
+    };
+    match over_all(alloc, current, entries) {
+        Ok(None) => Some(worked),
+        Ok(Some(content)) => Some(WorkedContent::Became(content)),
+        Err(Code::E10) => None,
+        Err(code) => Some(WorkedContent::Refused(code)),
     }
 }

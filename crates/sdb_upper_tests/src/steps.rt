@@ -1,12 +1,14 @@
 //! `sdb_steps`: steps in lists and in lines.
 use sdb_desk::Reply;
-use sdb_lines::{WatchedReader, WatchedWriter};
+use sdb_lines::{RunFault, WatchedReader, WatchedWriter};
 use sdb_oplog::{Code, Content, Key};
 use sdb_steps::{
     SESSIONS, SessionNumber, Step, StepAnswer, World, read_step, run, run_steps, write_refusal,
     write_step_answer,
 };
 use std::alloc::{AllocError, Global};
+use std::io;
+use std::io::Read;
 use std::test::Fail;
 
 // A run from a fresh world: its name, the lines read and the lines written.
@@ -679,6 +681,38 @@ fn are_three(answers: &[StepAnswer]) -> bool {
         }
         _ => false,
     }
+}
+
+// A reader that gives its bytes at once, and fails at the second read.
+#[derive(Drop)]
+struct Torn {
+    bytes: &'static [u8],
+    is_torn: bool,
+}
+
+impl Read for Torn {
+    fn read(&mut self, buf: &mut [u8]) -> io::Result<usize> {
+        if self.is_torn {
+            return Err(io::Error::from(io::ErrorKind::ConnectionReset));
+        }
+        self.is_torn = true;
+        let n = buf.len().min(self.bytes.len());
+        buf[..n].copy_from_slice(&self.bytes[..n]);
+        Ok(n)
+    }
+}
+
+#[test]
+fn the_lines_before_a_failed_read_are_answered(rt: HostRuntime) {
+    let mut reader = WatchedReader::new(Torn {
+        bytes: b"{\"s\":3,\"do\":\"work\"}\n{\"s\":3,",
+        is_torn: false,
+    });
+    let mut writer = WatchedWriter::new(Vec::new(rt.alloc()));
+    let ended = run(rt.alloc(), &mut reader, &mut writer);
+    assert!(rt; ended.err() == Some(RunFault::Read));
+    let written = b"{\"do\":\"idle\",\"s\":3}\n";
+    assert!(rt; writer.stream.as_slice() == written.as_slice());
 }
 
 #[test]

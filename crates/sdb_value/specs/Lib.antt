@@ -2,6 +2,7 @@ pub mod Apart
 pub mod Change
 pub mod Coding
 pub mod Edits
+pub mod FrontLaws
 pub mod Law
 pub mod Places
 pub mod Printed

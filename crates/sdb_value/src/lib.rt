@@ -1,6 +1,7 @@
 //! JSON values of whole numbers, the places in them, and texts measured in UTF-16 units.
 #![tactic(auto)]
 
+mod comparing;
 mod convert;
 mod copy;
 pub mod laws;
@@ -14,6 +15,7 @@ mod text;
 mod value;
 mod writing;
 
+pub use comparing::{same_path, same_value};
 pub use convert::{ValueFault, from_value};
 pub use lends::{list_mut, object_mut, text_mut};
 pub use numbers::{MAX, count_of, whole_of};

@@ -1,5 +1,6 @@
 //! Values as text, written token by token.
-ghost use Rattle.std.specs.Prelude.{◌≡◌, ◌++◌, OnOk};
+ghost use Rattle.std.specs.Prelude.{◌≡◌, ◌++◌, OnOk, OnErr};
+ghost use Rattle.json.specs.Written.{WritesFront};
 ghost use Rattle.sdb_value.specs.Printed.{array_rest, data_tokens, object_rest};
 ghost use Rattle.sdb_value.specs.Profile.{to_data, to_items, to_members};
 ghost use Rattle.sdb_value.specs.View.{view, items_view, members_view};
@@ -14,6 +15,7 @@ use std::collections::BTreeMap;
 pub fn write_value(value: &Json, out: &mut Writer) -> Result<(), AllocError>
     ensures tokens { OnOk result (out.new.tokens ≡ out.old.tokens ++ data_tokens (to_data (view value.now))) }
     ensures before { out.new.before ≡ out.old.before }
+    ensures err { OnErr result (WritesFront out.old.tokens out.new.tokens (data_tokens (to_data (view value.now)))) }
 {
     write(value, out)
 }
@@ -22,6 +24,7 @@ pub fn write_value(value: &Json, out: &mut Writer) -> Result<(), AllocError>
 fn write(value: &Json, out: &mut Writer) -> Result<(), AllocError>
     ensures tokens { OnOk result (out.new.tokens ≡ out.old.tokens ++ data_tokens (to_data (view value.now))) }
     ensures before { out.new.before ≡ out.old.before }
+    ensures err { OnErr result (WritesFront out.old.tokens out.new.tokens (data_tokens (to_data (view value.now)))) }
 {
     match value {
         Json::Null => out.null(),
@@ -43,6 +46,8 @@ fn write(value: &Json, out: &mut Writer) -> Result<(), AllocError>
 fn write_items(items: &[Json], out: &mut Writer) -> Result<(), AllocError>
     ensures tokens { OnOk result (out.new.tokens ≡ out.old.tokens ++ array_rest (to_items (items_view items.now))) }
     ensures before { out.new.before ≡ out.old.before }
+    ensures err { OnErr result (WritesFront out.old.tokens out.new.tokens
+        (array_rest (to_items (items_view items.now)))) }
 {
     for item in items {
         write(item, out)?;
@@ -55,6 +60,8 @@ fn write_members(members: &BTreeMap<String, Json>, out: &mut Writer) -> Result<(
     ensures tokens { OnOk result (out.new.tokens
         ≡ out.old.tokens ++ object_rest (to_members (members_view members.now.entries))) }
     ensures before { out.new.before ≡ out.old.before }
+    ensures err { OnErr result (WritesFront out.old.tokens out.new.tokens
+        (object_rest (to_members (members_view members.now.entries)))) }
 {
     for (key, member) in members.iter() {
         out.key(key.as_str())?;

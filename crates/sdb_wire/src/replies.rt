@@ -2,6 +2,7 @@
 ghost use Rattle.std.specs.Prelude.{◌≡◌, ◌∷◌, [], ◌++◌, Some, None, IfOk, OnOk, OnErr, string_bytes, option_map, decimal, codes};
 ghost use Rattle.json.specs.Print.{print};
 ghost use Rattle.json.specs.Token.{begin_object, key as key_token, string, number};
+ghost use Rattle.json.specs.Written.{WritesFront};
 ghost use Rattle.serde_json.specs.Data.{Members};
 ghost use Rattle.sdb_value.specs.Printed.{data_tokens, object_rest};
 ghost use Rattle.sdb_value.specs.View.{view};
@@ -101,6 +102,7 @@ fn write_answer(answer: &Answer<'_>, out: &mut Writer) -> Result<(), AllocError>
 pub fn write_text(name: &str, text: &str, out: &mut Writer) -> Result<(), AllocError>
     ensures tokens { OnOk result (out.new.tokens ≡ out.old.tokens ++ key_token name.now ∷ string text.now ∷ []) }
     ensures before { out.new.before ≡ out.old.before }
+    ensures err { OnErr result (WritesFront out.old.tokens out.new.tokens (key_token name.now ∷ string text.now ∷ [])) }
 {
     out.key(name)?;
     out.string(text)
@@ -110,6 +112,8 @@ pub fn write_text(name: &str, text: &str, out: &mut Writer) -> Result<(), AllocE
 pub fn write_count(name: &str, count: u64, out: &mut Writer) -> Result<(), AllocError>
     ensures tokens { OnOk result (out.new.tokens ≡ out.old.tokens ++ key_token name.now ∷ number (decimal count) ∷ []) }
     ensures before { out.new.before ≡ out.old.before }
+    ensures err { OnErr result (WritesFront out.old.tokens out.new.tokens
+        (key_token name.now ∷ number (decimal count) ∷ [])) }
 {
     out.key(name)?;
     out.u64(count)
@@ -265,6 +269,7 @@ fn write_op_message(
 pub fn write_entry(entry: &Entry, out: &mut Writer) -> Result<(), AllocError>
     ensures tokens { OnOk result (out.new.tokens ≡ out.old.tokens ++ data_tokens (entry_data entry.now)) }
     ensures before { out.new.before ≡ out.old.before }
+    ensures err { OnErr result (WritesFront out.old.tokens out.new.tokens (data_tokens (entry_data entry.now))) }
 {
     out.begin_object()?;
     write_own_content(entry, out)?;
@@ -276,6 +281,8 @@ fn write_own_content(entry: &Entry, out: &mut Writer) -> Result<(), AllocError>
     ensures tokens { OnOk result (out.new.tokens ++ object_rest (op_tail entry.now)
         ≡ out.old.tokens ++ object_rest (entry_members entry.now (entry.now).content)) }
     ensures before { out.new.before ≡ out.old.before }
+    ensures err { OnErr result (WritesFront out.old.tokens out.new.tokens
+        (object_rest (entry_members entry.now (entry.now).content))) }
 {
     match entry.content().kind() {
         Kind::Create(value) => {
@@ -297,6 +304,7 @@ fn write_own_content(entry: &Entry, out: &mut Writer) -> Result<(), AllocError>
 fn write_tail(entry: &Entry, out: &mut Writer) -> Result<(), AllocError>
     ensures tokens { OnOk result (out.new.tokens ≡ out.old.tokens ++ object_rest (op_tail entry.now)) }
     ensures before { out.new.before ≡ out.old.before }
+    ensures err { OnErr result (WritesFront out.old.tokens out.new.tokens (object_rest (op_tail entry.now))) }
 {
     write_count("seq", entry.arrived().seq(), out)?;
     write_text("src", entry.arrived().src(), out)?;
@@ -333,6 +341,8 @@ fn write_content(key: &Key, content: &Content, out: &mut Writer) -> Result<(), A
 fn write_create(value: &Json, out: &mut Writer) -> Result<(), AllocError>
     ensures tokens { OnOk result (out.new.tokens ≡ out.old.tokens ++ data_tokens (create_data (view value.now))) }
     ensures before { out.new.before ≡ out.old.before }
+    ensures err { OnErr result (WritesFront out.old.tokens out.new.tokens
+        (data_tokens (create_data (view value.now)))) }
 {
     out.begin_object()?;
     out.key("data")?;

@@ -1,5 +1,5 @@
-use Rattle.std.proofs.Common.{◌≡◌, ◌∷◌, ◌++◌, drop}
-use Rattle.json.specs.Token.{begin_array}
+use Rattle.std.proofs.Common.{◌≡◌, List, ◌∷◌, ◌++◌, drop}
+use Rattle.json.specs.Token.{Token, begin_array}
 use Rattle.sdb_value.specs.Printed.{array_rest}
 use Rattle.sdb_value.specs.View.{plain_path}
 use Rattle.sdb_component.specs.Prints.{last_step, path_items}
@@ -9,4 +9,7 @@ abbrev pub invariant-loop-step : goal.invariant-loop-step
 invariant-loop-step l = record {
   before : l.out.before ≡ l.fn.out.before;
   whole : l.out.tokens ++ array_rest (path_items (plain_path (drop l.step-index l.step-items) ++ last_step l.component.act)) ≡ l.fn.out.tokens ++ begin_array ∷ array_rest (path_items (plain_path l.step-items ++ last_step l.component.act));
+  done : List Token;
+  split : begin_array ∷ array_rest (path_items (plain_path l.step-items ++ last_step l.component.act)) ≡ done ++ array_rest (path_items (plain_path (drop l.step-index l.step-items) ++ last_step l.component.act));
+  written : l.out.tokens ≡ l.fn.out.tokens ++ done;
 }

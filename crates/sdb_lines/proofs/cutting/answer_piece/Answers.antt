@@ -1,12 +1,13 @@
+use Rattle.std.proofs.lemmas.Result.{on_ok_weaker, on_err_weaker}
 use Rattle.sdb_lines.proofs.Runs.{pending-written, pending-front}
 use Rattle.sdb_lines.proofs.cutting.answer_piece.Goals as goal
 
-pub returns-in-Err-show-clause-front : goal.returns-in-Err-show-clause-front
-returns-in-Err-show-clause-front g c =
-    let takes = g.M.Replier.takes in
-    rw c.requires.empty at (pending-front takes _ c.in-Ok.ensures.all c.in-Err-show.ensures.front)
+pub returns-clause-front : goal.returns-clause-front
+returns-clause-front g c =
+    let pending = rw c.requires.empty at c.in_ok-take_piece.ensures.all in
+    on_err_weaker c.show.result (λ f. pending-front g.M.Replier.takes _ pending f) c.show.ensures.front
 
-pub returns-in-Ok-show-clause-all : goal.returns-in-Ok-show-clause-all
-returns-in-Ok-show-clause-all g c =
-    let takes = g.M.Replier.takes in
-    rw c.requires.empty at (pending-written takes _ c.in-Ok.ensures.all c.in-Ok-show.ensures.wrote)
+pub returns-clause-all : goal.returns-clause-all
+returns-clause-all g c =
+    let pending = rw c.requires.empty at c.in_ok-take_piece.ensures.all in
+    on_ok_weaker c.show.result (λ w. pending-written g.M.Replier.takes _ pending w) c.show.ensures.wrote

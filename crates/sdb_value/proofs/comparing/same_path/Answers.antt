@@ -1,7 +1,7 @@
 use Rattle.std.proofs.Common.{◌<◌, ap, sym, ◌∙◌, length, arith}
 use Rattle.sdb_value.specs.View.{plain_step}
-use Rattle.sdb_oplog.proofs.Alike.{alike_at}
-use Rattle.sdb_oplog.proofs.comparing.same_path.Goals as goal
+use Rattle.sdb_value.proofs.Alike.{alike_at}
+use Rattle.sdb_value.proofs.comparing.same_path.Goals as goal
 
 -- paths of which one step is another are other paths
 pub returns-then-not-same_step-clause-other : goal.returns-then-not-same_step-clause-other

@@ -1,7 +1,7 @@
 use Rattle.std.proofs.Common.{◌<◌, ap, sym, ◌∙◌, map, length, arith}
 use Rattle.sdb_value.specs.View.{view}
-use Rattle.sdb_oplog.proofs.Alike.{items_alike, as_long, alike_at}
-use Rattle.sdb_oplog.proofs.comparing.+same.Goals as goal
+use Rattle.sdb_value.proofs.Alike.{items_alike, as_long, alike_at}
+use Rattle.sdb_value.proofs.comparing.+same.Goals as goal
 
 -- lists of other lengths are other lists
 pub same_items-returns-then-len-clause-other : goal.same_items-returns-then-len-clause-other
@@ -12,8 +12,8 @@ same_items-returns-then-len-clause-other t c _ h =
     c.if-len.true (omega (arith, c.len.ensures, c.len-2.ensures, long))
 
 -- and so are lists of which one item is another
-pub same_items-returns-then-not-same_json-clause-other : goal.same_items-returns-then-not-same_json-clause-other
-same_items-returns-then-not-same_json-clause-other t c f h =
+pub same_items-returns-then-not-same-clause-other : goal.same_items-returns-then-not-same-clause-other
+same_items-returns-then-not-same-clause-other t c f h =
     let xs = c.args.a.now.items in
     let ys = c.args.b.now.items in
     let x = c.index.result.now in
@@ -21,4 +21,4 @@ same_items-returns-then-not-same_json-clause-other t c f h =
     let below : c.loop-at.at < length xs = omega (arith, c.loop-at-test.true, c.len-at-end.ensures) in
     let within : c.loop-at.at < length ys = omega (arith, below, c.loop-at.invariant.long) in
     let same = alike_at view xs ys c.loop-at.at x y below within (items_alike (map view xs) (map view ys) h) in
-    c.if-not-same_json.ensures.other f (ap view c.index.ensures ∙ same ∙ sym (ap view c.index-in-loop-at.ensures))
+    c.if-not-same.ensures.other f (ap view c.index.ensures ∙ same ∙ sym (ap view c.index-in-loop-at.ensures))

@@ -1,0 +1,47 @@
+use Rattle.std.proofs.Common.{◌≡◌, ◌+◌, ◌∷◌, [], ◌++◌, drop, string_bytes, sym, ap, ◌∙◌, append_assoc, arith, rules}
+use Rattle.std.proofs.lemmas.List.{drop_more}
+use Rattle.json.specs.Token.{key}
+use Rattle.sdb_value.specs.Printed.{array_rest, data_tokens, object_rest}
+use Rattle.sdb_value.specs.Profile.{to_data, to_items, to_members}
+use Rattle.sdb_value.specs.View.{view, items_view, members_view}
+use Rattle.sdb_value.specs.FrontLaws.{on_any_err, wrote_after}
+use Rattle.sdb_value.proofs.writing.+write.Goals as goal
+
+pub write_items-returns-in_err-write-clause-err : goal.write_items-returns-in_err-write-clause-err
+write_items-returns-in_err-write-clause-err t c =
+    let l = c.loop-item in
+    let xs = c.args.items.now in
+    let x = c.item-item.result in
+    let later = drop (l.item-index + 1) xs in
+    let here : drop l.item-index xs ≡ x ∷ later = drop_more xs l.item-index x (omega arith) ∙ ap (λ y. y ∷ later) (sym c.item-item.is) in
+    let whole = l.invariant.split ∙ ap (λ ys. l.invariant.done ++ array_rest (to_items (items_view ys))) here in
+    on_any_err _ (wrote_after _ l.out.tokens _ l.invariant.done (data_tokens (to_data (view x))) (array_rest (to_items (items_view later))) _ l.invariant.written whole c.in_err-write.ensures.err)
+
+pub write_members-loop-key-preserved : goal.write_members-loop-key-preserved
+write_members-loop-key-preserved t c =
+    let l = c.loop-key in
+    let done = l.invariant.done in
+    let k = string_bytes c.in-Some.key.now in
+    let mine = data_tokens (to_data (view c.in-Some.member.now)) in
+    let rest = object_rest (to_members (members_view c.next.new.self)) in
+    let left = ap (λ es. object_rest (to_members (members_view es))) c.in-Some.ensures.steps in
+    let named : c.key.new.self.tokens ≡ l.out.tokens ++ key k ∷ [] = c.in_ok-key.ensures.ok ∙ ap (λ n. l.out.tokens ++ key n ∷ []) c.as_str.ensures.value in
+    let put = c.in_ok-write.ensures.tokens ∙ ap (λ ts. ts ++ mine) named ∙ append_assoc l.out.tokens (key k ∷ []) mine in
+    record {
+      before = search rules;
+      whole = ap (λ ts. ts ++ rest) put ∙ append_assoc l.out.tokens (key k ∷ mine) _ ∙ ap (λ ts. l.out.tokens ++ ts) (sym left) ∙ l.invariant.whole;
+      done = done ++ key k ∷ mine;
+      split = l.invariant.split ∙ ap (λ ts. done ++ ts) left ∙ sym (append_assoc done (key k ∷ mine) _);
+      written = put ∙ ap (λ ts. ts ++ key k ∷ mine) l.invariant.written ∙ append_assoc _ done _;
+    }
+
+pub write_members-returns-in_err-write-clause-err : goal.write_members-returns-in_err-write-clause-err
+write_members-returns-in_err-write-clause-err t c =
+    let l = c.loop-key in
+    let done = l.invariant.done in
+    let k = string_bytes c.in-Some.key.now in
+    let left = ap (λ es. object_rest (to_members (members_view es))) c.in-Some.ensures.steps in
+    let named : c.key.new.self.tokens ≡ l.out.tokens ++ key k ∷ [] = c.in_ok-key.ensures.ok ∙ ap (λ n. l.out.tokens ++ key n ∷ []) c.as_str.ensures.value in
+    let so_far = named ∙ ap (λ ts. ts ++ key k ∷ []) l.invariant.written ∙ append_assoc _ done _ in
+    let whole = l.invariant.split ∙ ap (λ ts. done ++ ts) left ∙ sym (append_assoc done (key k ∷ []) _) in
+    on_any_err _ (wrote_after _ c.key.new.self.tokens _ (done ++ key k ∷ []) (data_tokens (to_data (view c.in-Some.member.now))) (object_rest (to_members (members_view c.next.new.self))) _ so_far whole c.in_err-write.ensures.err)

@@ -1,0 +1,116 @@
+//! Whether values and paths are the same.
+ghost use Rattle.std.specs.Prelude.{◌≡◌, IsTrue, IsFalse};
+ghost use Rattle.sdb_value.specs.View.{view, items_view, members_view, plain_step, plain_path};
+
+use crate::places::Step;
+use crate::value::Json;
+use std::collections::BTreeMap;
+
+/// Whether the values are the same: of one kind, with the same parts, and the members of objects under the
+/// same keys. It walks both as far as they are the same, and takes no memory.
+pub fn same_value(a: &Json, b: &Json) -> bool
+    ensures same { IsTrue result → view a.now ≡ view b.now }
+    ensures other { IsFalse result → view a.now ≡ view b.now → ⊥ }
+{
+    same(a, b)
+}
+
+#[cycle(same)]
+fn same(a: &Json, b: &Json) -> bool
+    ensures same { IsTrue result → view a.now ≡ view b.now }
+    ensures other { IsFalse result → view a.now ≡ view b.now → ⊥ }
+{
+    match a {
+        Json::Null => match b {
+            Json::Null => true,
+            _ => false,
+        },
+        Json::Bool(x) => match b {
+            Json::Bool(y) => *x == *y,
+            _ => false,
+        },
+        Json::Int(x) => match b {
+            Json::Int(y) => x.get() == y.get(),
+            _ => false,
+        },
+        Json::Text(x) => match b {
+            Json::Text(y) => x.as_str() == y.as_str(),
+            _ => false,
+        },
+        Json::List(x) => match b {
+            Json::List(y) => same_items(x, y),
+            _ => false,
+        },
+        Json::Object(x) => match b {
+            Json::Object(y) => same_members(x, y),
+            _ => false,
+        },
+    }
+}
+
+#[cycle(same)]
+fn same_items(a: &Vec<Json>, b: &Vec<Json>) -> bool
+    ensures same { IsTrue result → items_view a.now.items ≡ items_view b.now.items }
+    ensures other { IsFalse result → items_view a.now.items ≡ items_view b.now.items → ⊥ }
+{
+    if a.len() != b.len() {
+        return false;
+    }
+    for at in 0..a.len() {
+        if !same(&a[at], &b[at]) {
+            return false;
+        }
+    }
+    true
+}
+
+#[cycle(same)]
+fn same_members(a: &BTreeMap<String, Json>, b: &BTreeMap<String, Json>) -> bool
+    ensures same { IsTrue result → members_view a.now.entries ≡ members_view b.now.entries }
+    ensures other { IsFalse result → members_view a.now.entries ≡ members_view b.now.entries → ⊥ }
+{
+    let mut others = b.iter();
+    for (key, member) in a.iter() {
+        match others.next() {
+            Some((name, other)) => {
+                if key.as_str() != name.as_str() || !same(member, other) {
+                    return false;
+                }
+            }
+            None => return false,
+        }
+    }
+    others.next().is_none()
+}
+
+/// Whether the paths are the same, step by step. It takes no memory.
+pub fn same_path(a: &[Step], b: &[Step]) -> bool
+    ensures same { IsTrue result → plain_path a.now ≡ plain_path b.now }
+    ensures other { IsFalse result → plain_path a.now ≡ plain_path b.now → ⊥ }
+{
+    if a.len() != b.len() {
+        return false;
+    }
+    for at in 0..a.len() {
+        if !same_step(&a[at], &b[at]) {
+            return false;
+        }
+    }
+    true
+}
+
+fn same_step(a: &Step, b: &Step) -> bool
+    ensures same { IsTrue result → plain_step a.now ≡ plain_step b.now }
+    ensures other { IsFalse result → plain_step a.now ≡ plain_step b.now → ⊥ }
+{
+    match a {
+        Step::Key(key) => match b {
+            Step::Key(other) => key.as_str() == other.as_str(),
+            Step::Index(_) => false,
+        },
+        Step::Index(index) => match b {
+            Step::Key(_) => false,
+            Step::Index(other) => *index == *other,
+        },
+    }
+}
