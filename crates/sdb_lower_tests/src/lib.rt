@@ -14,9 +14,13 @@ mod meet;
 #[cfg(test)]
 mod oplog;
 #[cfg(test)]
+mod pieces;
+#[cfg(test)]
 mod snapcache;
 #[cfg(test)]
 mod subscribe;
+#[cfg(test)]
+mod text_pieces;
 #[cfg(test)]
 mod texts;
 #[cfg(test)]

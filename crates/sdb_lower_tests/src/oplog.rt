@@ -14,7 +14,7 @@ fn submission(alloc: Global, seq: u64, content: Content) -> Result<Submission, F
     ensures content { IfOk result (λ s. s.content ≡ content) }
 {
     let (src, via) = (String::from_str(alloc, "x")?, String::from_str(alloc, "b")?);
-    Ok(Submission::new(src, seq, None, content, via, 7))
+    Ok(Submission::new(alloc, src, seq, None, content, via, 7)?)
 }
 
 // A log whose one entry creates the document true.

@@ -12,7 +12,7 @@ fn entry(alloc: Global, version: u64) -> Result<Entry, Fail>
     ensures content { IfOk result (λ e. e.content ≡ delete) }
 {
     let (src, via) = (String::from_str(alloc, "x")?, String::from_str(alloc, "b")?);
-    let submission = Submission::new(src, version, None, Content::delete(), via, 0);
+    let submission = Submission::new(alloc, src, version, None, Content::delete(), via, 0)?;
     Ok(Entry::new(version, None, submission))
 }
 

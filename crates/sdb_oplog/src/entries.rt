@@ -4,16 +4,23 @@ ghost use Rattle.std.specs.Prelude.{◌≡◌, ◌<◌, IfOk, OnErr, length, str
 use crate::contents::Content;
 use std::alloc::{AllocError, Global};
 use std::marker::Model;
+use std::sync::Arc;
 
-/// What a session asks of one document.
+// What a submission has.
 #[derive(Drop)]
-pub struct Submission {
+struct Fields {
     src: String,
     seq: u64,
     version: Option<u64>,
     content: Content,
     via: String,
     by: u64,
+}
+
+/// What a session asks of one document. It never changes, and its copies share it.
+#[derive(Drop)]
+pub struct Submission {
+    fields: Arc<Fields>,
 }
 
 impl Model for Submission {
@@ -26,96 +33,99 @@ impl Model for Submission {
     ghost coded = { submission_code };
 
     ghost view = { λ s. record {
-      src = string_bytes s.src;
-      seq = s.seq;
-      version = s.version;
-      content = s.content;
-      via = string_bytes s.via;
-      by = s.by;
+      src = string_bytes s.fields.value.src;
+      seq = s.fields.value.seq;
+      version = s.fields.value.version;
+      content = s.fields.value.content;
+      via = string_bytes s.fields.value.via;
+      by = s.fields.value.by;
     } };
 }
 
 impl Submission {
     /// A submission of the source, by its own sequence number, made at the version, or at the
     /// version at which it is decided where that is `None`. `via` is the collection name it comes
-    /// through, `by` the number of the pass.
+    /// through, `by` the number of the pass. Fails only where memory is wanting.
     pub fn new(
+        alloc: Global,
         src: String,
         seq: u64,
         version: Option<u64>,
         content: Content,
         via: String,
         by: u64,
-    ) -> Submission
-        ensures { result ≡ record {
+    ) -> Result<Submission, AllocError>
+        ensures { IfOk result (λ s. s ≡ record {
           src = string_bytes src;
           seq = seq;
           version = version;
           content = content;
           via = string_bytes via;
           by = by;
-        } }
+        }) }
     {
-        Submission {
+        let fields = Fields {
             src,
             seq,
             version,
             content,
             via,
             by,
-        }
+        };
+        Ok(Submission {
+            fields: Arc::new(alloc, fields)?,
+        })
     }
 
     /// The source.
     pub fn src(&self) -> &str
         ensures { result.now ≡ self.now.src }
     {
-        self.src.as_str()
+        self.fields.src.as_str()
     }
 
     /// The number that its source gave it.
     pub fn seq(&self) -> u64
         ensures { result ≡ self.now.seq }
     {
-        self.seq
+        self.fields.seq
     }
 
     /// The version that it was made at.
     pub fn version(&self) -> Option<u64>
         ensures { result ≡ self.now.version }
     {
-        self.version
+        self.fields.version
     }
 
     /// What it asks.
     pub fn content(&self) -> &Content
         ensures { result.now ≡ self.now.content }
     {
-        &self.content
+        &self.fields.content
     }
 
     /// The collection name that it came through.
     pub fn via(&self) -> &str
         ensures { result.now ≡ self.now.via }
     {
-        self.via.as_str()
+        self.fields.via.as_str()
     }
 
     /// The number of the pass.
     pub fn by(&self) -> u64
         ensures { result ≡ self.now.by }
     {
-        self.by
+        self.fields.by
     }
 
-    /// A copy, which shares the content.
+    /// A copy, which shares all. It takes no memory; it fails only where there are 2^63 copies already.
     pub fn try_clone(&self) -> Result<Submission, AllocError>
         ensures { IfOk result (λ s. s ≡ self.now) }
     {
-        let src = self.src.clone()?;
-        let content = self.content.try_clone()?;
-        let via = self.via.clone()?;
-        Ok(Submission::new(src, self.seq, self.version, content, via, self.by))
+        Ok(Submission {
+            fields: Arc::try_clone(&self.fields)?,
+        })
     }
 }
 
@@ -175,7 +185,7 @@ impl Entry {
     {
         match &self.content {
             Some(content) => content,
-            None => &self.arrived.content,
+            None => self.arrived.content(),
         }
     }
 
@@ -186,7 +196,8 @@ impl Entry {
         &self.arrived
     }
 
-    /// A copy, which shares the contents.
+    /// A copy, which shares the content and the submission. It takes no memory; it fails only where there are
+    /// 2^63 copies already.
     pub fn try_clone(&self) -> Result<Entry, AllocError>
         ensures { IfOk result (λ e. e ≡ self.now) }
     {

@@ -252,7 +252,7 @@ impl Session {
             None => self.source.clone()?,
         };
         let via = key.collection.clone()?;
-        Ok(Submission::new(src, seq, version, content, via, by))
+        Submission::new(self.alloc, src, seq, version, content, via, by)
     }
 
     // Writes the document at a version.

@@ -41,7 +41,7 @@ pub(crate) fn dispatch(
             if session.attempt.is_some() {
                 return StepAnswer::Idle;
             }
-            let submission = submission_of(*number, key, src, *seq, *version, content);
+            let submission = submission_of(alloc, *number, key, src, *seq, *version, content);
             begin(shard, session, key, submission)
         }
         Step::Work { .. } => session.work(alloc),
@@ -60,6 +60,7 @@ pub(crate) fn dispatch(
 
 // The submission of a session, through the collection's own name.
 fn submission_of(
+    alloc: Global,
     number: SessionNumber,
     key: &Key,
     src: &String,
@@ -73,7 +74,7 @@ fn submission_of(
     let src = src.clone()?;
     let content = content.try_clone()?;
     let via = key.collection.clone()?;
-    Ok(Submission::new(src, seq, version, content, via, number.number))
+    Submission::new(alloc, src, seq, version, content, via, number.number)
 }
 
 // Opens an attempt, unless there was no memory for its submission.

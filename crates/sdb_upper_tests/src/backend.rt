@@ -59,7 +59,7 @@ fn through(
     let by = pass.number();
     let source = format!(in alloc; "x{by}").ok()?;
     let via = String::from_str(alloc, "b").ok()?;
-    Some(Submission::new(source, seq, version, content, via, by))
+    Submission::new(alloc, source, seq, version, content, via, by).ok()
 }
 
 // The number of the document.

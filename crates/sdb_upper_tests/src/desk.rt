@@ -23,7 +23,7 @@ pub(crate) fn from(
     ensures { IfOk result (λ s. s.content ≡ content) }
 {
     let (src, via) = (String::from_str(alloc, src)?, String::from_str(alloc, "b")?);
-    Ok(Submission::new(src, 1, version, content, via, 0))
+    Ok(Submission::new(alloc, src, 1, version, content, via, 0)?)
 }
 
 // An edit of one component.
@@ -541,7 +541,8 @@ fn long(alloc: Global, entries: u64) -> Result<Board, Fail> {
     let mut board = Board::new(alloc)?;
     for seq in 1..=entries {
         let (src, via) = (String::from_str(alloc, "x")?, String::from_str(alloc, "b")?);
-        board.put(Submission::new(src, seq, None, adding(alloc, 1)?, via, 0))?;
+        let submission = Submission::new(alloc, src, seq, None, adding(alloc, 1)?, via, 0)?;
+        board.put(submission)?;
     }
     Ok(board)
 }

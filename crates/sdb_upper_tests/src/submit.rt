@@ -162,7 +162,7 @@ fn from(
     ensures { IfOk result (λ s. s.by ≡ 0) }
 {
     let (src, via) = (String::from_str(alloc, src)?, String::from_str(alloc, "b")?);
-    Ok(Submission::new(src, seq, version, content, via, 0))
+    Ok(Submission::new(alloc, src, seq, version, content, via, 0)?)
 }
 
 fn create(alloc: Global) -> Result<Submission, Fail>

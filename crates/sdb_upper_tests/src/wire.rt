@@ -22,7 +22,7 @@ fn key(alloc: Global) -> Result<Key, Fail> {
 // What is stored at version 4 of submission 7 from x.
 fn entry(alloc: Global, content: Content) -> Result<Entry, Fail> {
     let (src, via) = (String::from_str(alloc, "x")?, String::from_str(alloc, "b")?);
-    let arrived = Submission::new(src, 7, None, content, via, 7);
+    let arrived = Submission::new(alloc, src, 7, None, content, via, 7)?;
     Ok(Entry::new(4, None, arrived))
 }
 

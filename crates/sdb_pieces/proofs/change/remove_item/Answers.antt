@@ -1,0 +1,62 @@
+use Rattle.std.proofs.Common.{slice_get, ap, sym, ◌∙◌, subst}
+use Rattle.std.specs.List.{remove}
+use Rattle.sdb_pieces.specs.Block.{is_own}
+use Rattle.sdb_pieces.specs.Pieces.{seen_items}
+use Rattle.sdb_pieces.specs.Place.{IsItem}
+use Rattle.sdb_pieces.proofs.Joined.{joined_remove, joined_same, joined_get, own_changed, shared_at, on_err}
+use Rattle.sdb_pieces.proofs.change.remove_item.Goals as goal
+
+pub returns-in_err-item-clause-err : goal.returns-in_err-item-clause-err
+returns-in_err-item-clause-err g c =
+    let f = g.T.Share.seen in
+    let bs = c.args.blocks.now.items in
+    let k = c.in-Some.at in
+    let d = c.index_mut.result.now in
+    let at = subst (λ l. IsItem f l c.args.index k c.in-Some.inside) c.deref.ensures.value c.in-Some.ensures.item in
+    on_err c.from_residual.result (joined_same f bs k c.remove_in.new.block d at.inside (c.in_err-item.ensures.err ∙ ap (seen_items f) c.index_mut.ensures.value))
+
+pub returns-in_err-item-clause-own : goal.returns-in_err-item-clause-own
+returns-in_err-item-clause-own g c =
+    let f = g.T.Share.seen in
+    let bs = c.args.blocks.now.items in
+    let k = c.in-Some.at in
+    let d = c.index_mut.result.now in
+    let at = subst (λ l. IsItem f l c.args.index k c.in-Some.inside) c.deref.ensures.value c.in-Some.ensures.item in
+    own_changed bs k c.remove_in.new.block d at.inside c.index_mut.ensures.value c.in_err-item.ensures.own
+
+pub returns-in_err-item-clause-shared : goal.returns-in_err-item-clause-shared
+returns-in_err-item-clause-shared g c =
+    let f = g.T.Share.seen in
+    let bs = c.args.blocks.now.items in
+    let k = c.in-Some.at in
+    let d = c.index_mut.result.now in
+    let at = subst (λ l. IsItem f l c.args.index k c.in-Some.inside) c.deref.ensures.value c.in-Some.ensures.item in
+    on_err c.from_residual.result (shared_at bs k d at.inside (sym (ap is_own c.index_mut.ensures.value) ∙ c.in_err-item.ensures.shared))
+
+pub returns-clause-item : goal.returns-clause-item
+returns-clause-item g c =
+    let f = g.T.Share.seen in
+    let bs = c.args.blocks.now.items in
+    let k = c.in-Some.at in
+    let d = c.index_mut.result.now in
+    let at = subst (λ l. IsItem f l c.args.index k c.in-Some.inside) c.deref.ensures.value c.in-Some.ensures.item in
+    c.in_ok-item.ensures.item ∙ ap (λ b. slice_get (seen_items f b) c.in-Some.inside) c.index_mut.ensures.value ∙ joined_get f bs c.args.index k c.in-Some.inside d at
+
+pub returns-clause-ok : goal.returns-clause-ok
+returns-clause-ok g c =
+    let f = g.T.Share.seen in
+    let bs = c.args.blocks.now.items in
+    let k = c.in-Some.at in
+    let d = c.index_mut.result.now in
+    let at = subst (λ l. IsItem f l c.args.index k c.in-Some.inside) c.deref.ensures.value c.in-Some.ensures.item in
+    c.drop_empty.ensures.same ∙ joined_remove f bs c.args.index k c.in-Some.inside c.remove_in.new.block d at
+    (c.in_ok-item.ensures.ok ∙ ap (λ b. remove (seen_items f b) c.in-Some.inside) c.index_mut.ensures.value)
+
+pub returns-clause-own : goal.returns-clause-own
+returns-clause-own g c =
+    let f = g.T.Share.seen in
+    let bs = c.args.blocks.now.items in
+    let k = c.in-Some.at in
+    let d = c.index_mut.result.now in
+    let at = subst (λ l. IsItem f l c.args.index k c.in-Some.inside) c.deref.ensures.value c.in-Some.ensures.item in
+    λ all. c.drop_empty.ensures.own (own_changed bs k c.remove_in.new.block d at.inside c.index_mut.ensures.value c.in_ok-item.ensures.own all)

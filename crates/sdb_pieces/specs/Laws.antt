@@ -1,0 +1,65 @@
+-- Laws of lists in pieces.
+use Rattle.std.specs.Prelude.{◌≡◌, ℕ, ◌-◌, List, [], ◌∷◌, ◌++◌, map, length, Bool, true, false, cond, nat_lt, if◌then◌else◌, refl}
+use Rattle.std.proofs.Common.{ap, sym, ◌∙◌}
+use Rattle.std.specs.List.{flat_map}
+use Rattle.sdb_pieces.specs.Block.{items_of, is_own}
+use Rattle.sdb_pieces.specs.Pieces.{seen_form, seen_in, joined, all_own, own_among, is_own_form, is_own_form_at, is_own_list, is_own_at, parts_form, parts_in}
+use Rattle.sdb_pieces.specs.declared.block.Block.{Block}
+use Rattle.sdb_pieces.specs.declared.pieces.Form.{Form}
+use Rattle.sdb_pieces.specs.declared.pieces.Form.TheVariants.{One, Many}
+use Rattle.sdb_pieces.specs.declared.pieces.Pieces.{Pieces}
+
+-- ---- the list is that of its parts
+
+map_append : {X S : Type 0} (f : X → S) (xs ys : List X) → map f (xs ++ ys) ≡ map f xs ++ map f ys
+map_append f [] ys = refl
+map_append f (x ∷ xs) ys = ap (λ l. f x ∷ l) (map_append f xs ys)
+
+append_none : {X : Type 0} (xs : List X) → xs ++ [] ≡ xs
+append_none [] = refl
+append_none (x ∷ xs) = ap (λ l. x ∷ l) (append_none xs)
+
+joined_parts : {X S : Type 0} (f : X → S) (bs : List (Block X)) → joined f bs ≡ map f (flat_map (λ xs. xs) (map items_of bs))
+joined_parts f [] = refl
+joined_parts f (b ∷ bs) =
+    ap (λ l. map f (items_of b) ++ l) (joined_parts f bs) ∙ sym (map_append f (items_of b) (flat_map (λ xs. xs) (map items_of bs)))
+
+form_parts : {X S : Type 0} (f : X → S) (w : Form X) → seen_form f w ≡ map f (flat_map (λ xs. xs) (parts_form w))
+form_parts f (One b) = ap (map f) (sym (append_none (items_of b)))
+form_parts f (Many bs) = joined_parts f (items_of bs)
+
+pub seen_parts : {X S : Type 0} (f : X → S) (l : Pieces X) → seen_in f l ≡ map f (flat_map (λ xs. xs) (parts_in l))
+seen_parts f l = form_parts f l.form
+
+-- ---- of a list that is its own, each block is
+
+both_first : (a b : Bool) → cond a b false ≡ true → a ≡ true
+both_first true b e = refl
+both_first false b e = e
+
+both_second : (a b : Bool) → cond a b false ≡ true → b ≡ true
+both_second true b e = e
+both_second false b e = cc
+
+either : (t a b : Bool) → a ≡ true → b ≡ true → (if t then a else b) ≡ true
+either true a b p q = p
+either false a b p q = q
+
+both : (a b : Bool) → a ≡ true → b ≡ true → cond a b false ≡ true
+both true b p q = q
+both false b p q = p
+
+pub own_anywhere : {X : Type 0} (bs : List (Block X)) (i : ℕ) → all_own bs ≡ true → own_among bs i ≡ true
+own_anywhere [] i e = refl
+own_anywhere (b ∷ bs) i e =
+    either (nat_lt i (length (items_of b))) (is_own b) (own_among bs (i - length (items_of b))) (both_first (is_own b) (all_own bs) e)
+    (own_anywhere bs (i - length (items_of b)) (both_second (is_own b) (all_own bs) e))
+
+own_form_anywhere : {X : Type 0} (w : Form X) (i : ℕ) → is_own_form w ≡ true → is_own_form_at w i ≡ true
+own_form_anywhere (One b) i e = e
+own_form_anywhere (Many bs) i e =
+    both (is_own bs) (own_among (items_of bs) i) (both_first (is_own bs) (all_own (items_of bs)) e)
+    (own_anywhere (items_of bs) i (both_second (is_own bs) (all_own (items_of bs)) e))
+
+pub own_everywhere : {X : Type 0} (l : Pieces X) (i : ℕ) → is_own_list l ≡ true → is_own_at l i ≡ true
+own_everywhere l i e = own_form_anywhere l.form i e

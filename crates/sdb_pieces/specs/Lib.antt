@@ -1,0 +1,4 @@
+pub mod Block
+pub mod Laws
+pub mod Pieces
+pub mod Place

@@ -1,0 +1,296 @@
+//! Blocks changed in place.
+ghost use Rattle.std.specs.Prelude.{◌≡◌, ◌≤◌, ◌<◌, ◌/◌, true, false, [], length, map, take, drop, slice_get, slice_set, Some};
+ghost use Rattle.std.specs.Prelude.{nat_le, if◌then◌else◌, option_map, IfOk, IfSome, IfNone, OnOk, OnErr};
+ghost use Rattle.std.specs.List.{insert, remove};
+ghost use Rattle.sdb_pieces.specs.Block.{items_of, is_own};
+ghost use Rattle.sdb_pieces.specs.Pieces.{joined, all_own, own_among};
+ghost use Rattle.sdb_pieces.specs.Place.{IsPlace, IsItem};
+
+use crate::block::{Block, Share};
+use std::alloc::{AllocError, Global};
+use std::mem::replace;
+
+// How many items a block may have before it is split.
+pub(crate) const MAX: usize = 512;
+
+// The block where an item can be put at the index, and the place in it. `None` where there is none.
+fn place<T: Share>(blocks: &[Block<T>], index: usize) -> Option<(usize, usize)>
+    ensures place { IfSome result (λ r. IsPlace T.seen blocks.now index r.0 r.1) }
+    ensures none { IfNone result (index ≤ length (joined T.seen blocks.now) → blocks.now ≡ []) }
+{
+    let mut left = index;
+    for (at, block) in blocks.iter().enumerate() {
+        if left <= block.len() {
+            return Some((at, left));
+        }
+        left -= block.len();
+    }
+    None
+}
+
+// The block of the item at the index, and the place in it. `None` past the end.
+fn place_of<T: Share>(blocks: &[Block<T>], index: usize) -> Option<(usize, usize)>
+    ensures item { IfSome result (λ r. IsItem T.seen blocks.now index r.0 r.1) }
+    ensures none { IfNone result (length (joined T.seen blocks.now) ≤ index) }
+{
+    let mut left = index;
+    for (at, block) in blocks.iter().enumerate() {
+        if left < block.len() {
+            return Some((at, left));
+        }
+        left -= block.len();
+    }
+    None
+}
+
+// The item at the index.
+pub(crate) fn item_in<T: Share>(blocks: &[Block<T>], index: usize) -> Option<&T>
+    ensures { option_map (λ x. T.seen x.now) result ≡ slice_get (joined T.seen blocks.now) index }
+{
+    let mut left = index;
+    for block in blocks {
+        if left < block.len() {
+            return block.get(left);
+        }
+        left -= block.len();
+    }
+    None
+}
+
+// Puts an item into a block's own memory.
+pub(crate) fn insert_in<T: Share>(
+    alloc: Global,
+    block: &mut Block<T>,
+    index: usize,
+    item: T,
+) -> Result<(), AllocError>
+    requires { index ≤ length (items_of block.old) }
+    ensures ok { OnOk result (map T.seen (items_of block.new)
+        ≡ insert (map T.seen (items_of block.old)) index (T.seen item)) }
+    ensures err { OnErr result (map T.seen (items_of block.new) ≡ map T.seen (items_of block.old)) }
+    ensures own { is_own block.old ≡ true → is_own block.new ≡ true }
+{
+    block.make_own(alloc)?;
+    if let Block::Own(items) = block {
+        items.insert(index, item)?;
+    }
+    Ok(())
+}
+
+// Takes an item out of a block's own memory.
+pub(crate) fn remove_in<T: Share>(
+    alloc: Global,
+    block: &mut Block<T>,
+    index: usize,
+) -> Result<Option<T>, AllocError>
+    requires { index < length (items_of block.old) }
+    ensures item { IfOk result (λ x. option_map T.seen x ≡ slice_get (map T.seen (items_of block.old)) index) }
+    ensures ok { OnOk result (map T.seen (items_of block.new) ≡ remove (map T.seen (items_of block.old)) index) }
+    ensures err { OnErr result (map T.seen (items_of block.new) ≡ map T.seen (items_of block.old)) }
+    ensures own { is_own block.old ≡ true → is_own block.new ≡ true }
+    ensures shared { OnErr result (is_own block.old ≡ false) }
+{
+    block.make_own(alloc)?;
+    match block {
+        Block::Own(items) => Ok(Some(items.remove(index))),
+        Block::Shared(_) => Ok(None),
+    }
+}
+
+// Puts another item in the place of one in a block's own memory, and answers that one.
+pub(crate) fn replace_in<T: Share>(
+    alloc: Global,
+    block: &mut Block<T>,
+    index: usize,
+    item: T,
+) -> Result<Option<T>, AllocError>
+    requires { index < length (items_of block.old) }
+    ensures item { IfOk result (λ x. option_map T.seen x ≡ slice_get (map T.seen (items_of block.old)) index) }
+    ensures ok { OnOk result (map T.seen (items_of block.new)
+        ≡ slice_set (map T.seen (items_of block.old)) index (T.seen item)) }
+    ensures err { OnErr result (map T.seen (items_of block.new) ≡ map T.seen (items_of block.old)) }
+    ensures own { is_own block.old ≡ true → is_own block.new ≡ true }
+    ensures shared { OnErr result (is_own block.old ≡ false) }
+    ensures now_own { OnOk result (is_own block.new ≡ true) }
+{
+    block.make_own(alloc)?;
+    match block {
+        Block::Own(items) => Ok(Some(replace(&mut items[index], item))),
+        Block::Shared(_) => Ok(None),
+    }
+}
+
+// Leaves the first half of a block's items in it, and answers the others.
+fn upper_half<T: Share>(alloc: Global, block: &mut Block<T>) -> Result<Block<T>, AllocError>
+    ensures low { OnOk result (map T.seen (items_of block.new)
+        ≡ take (length (items_of block.old) / 2) (map T.seen (items_of block.old))) }
+    ensures high { IfOk result (λ b. map T.seen (items_of b)
+        ≡ drop (length (items_of block.old) / 2) (map T.seen (items_of block.old))) }
+    ensures err { OnErr result (map T.seen (items_of block.new) ≡ map T.seen (items_of block.old)) }
+    ensures own { is_own block.old ≡ true → is_own block.new ≡ true }
+    ensures other { IfOk result (λ b. is_own b ≡ true) }
+{
+    let middle = block.len() / 2;
+    block.make_own(alloc)?;
+    match block {
+        Block::Own(items) => Ok(Block::Own(items.split_off(middle)?)),
+        Block::Shared(_) => Ok(Block::Own(Vec::new(alloc))),
+    }
+}
+
+// Makes two blocks of one.
+fn split_block<T: Share>(
+    alloc: Global,
+    blocks: &mut Vec<Block<T>>,
+    at: usize,
+) -> Result<(), AllocError>
+    requires { at < length blocks.old.items }
+    ensures same { joined T.seen blocks.new.items ≡ joined T.seen blocks.old.items }
+    ensures own { all_own blocks.old.items ≡ true → all_own blocks.new.items ≡ true }
+{
+    blocks.insert(at + 1, Block::Own(Vec::new(alloc)))?;
+    let high = upper_half(alloc, &mut blocks[at])?;
+    blocks[at + 1] = high;
+    Ok(())
+}
+
+// Puts an item at the index. `false`, with all as it was, past the end.
+fn insert_at<T: Share>(
+    alloc: Global,
+    blocks: &mut Vec<Block<T>>,
+    index: usize,
+    item: T,
+) -> Result<bool, AllocError>
+    ensures ok { IfOk result (λ done. joined T.seen blocks.new.items ≡ (if done
+        then insert (joined T.seen blocks.old.items) index (T.seen item) else joined T.seen blocks.old.items)) }
+    ensures within { IfOk result (λ done. done ≡ nat_le index (length (joined T.seen blocks.old.items))) }
+    ensures err { OnErr result (joined T.seen blocks.new.items ≡ joined T.seen blocks.old.items) }
+    ensures own { all_own blocks.old.items ≡ true → all_own blocks.new.items ≡ true }
+{
+    match place(blocks, index) {
+        Some((at, inside)) => {
+            insert_in(alloc, &mut blocks[at], inside, item)?;
+            Ok(true)
+        }
+        None => {
+            if !blocks.is_empty() || index != 0 {
+                return Ok(false);
+            }
+            let mut items = Vec::with_capacity(alloc, MAX)?;
+            items.push(item)?;
+            blocks.push(Block::Own(items))?;
+            Ok(true)
+        }
+    }
+}
+
+// The same, and a block that is full is split first.
+pub(crate) fn insert_item<T: Share>(
+    alloc: Global,
+    blocks: &mut Vec<Block<T>>,
+    index: usize,
+    item: T,
+) -> Result<bool, AllocError>
+    ensures ok { IfOk result (λ done. joined T.seen blocks.new.items ≡ (if done
+        then insert (joined T.seen blocks.old.items) index (T.seen item) else joined T.seen blocks.old.items)) }
+    ensures within { IfOk result (λ done. done ≡ nat_le index (length (joined T.seen blocks.old.items))) }
+    ensures err { OnErr result (joined T.seen blocks.new.items ≡ joined T.seen blocks.old.items) }
+    ensures own { all_own blocks.old.items ≡ true → all_own blocks.new.items ≡ true }
+{
+    if let Some((at, _)) = place(blocks, index) {
+        if blocks[at].len() >= MAX {
+            split_block(alloc, blocks, at)?;
+        }
+    }
+    let done = insert_at(alloc, blocks, index, item)?;
+    Ok(done)
+}
+
+// Takes a block out in which nothing is left.
+fn drop_empty<T: Share>(blocks: &mut Vec<Block<T>>, at: usize)
+    requires { at < length blocks.old.items }
+    ensures same { joined T.seen blocks.new.items ≡ joined T.seen blocks.old.items }
+    ensures own { all_own blocks.old.items ≡ true → all_own blocks.new.items ≡ true }
+{
+    if blocks[at].len() == 0 {
+        drop(blocks.remove(at));
+    }
+}
+
+// Takes the item at the index out. `None`, with all as it was, past the end.
+pub(crate) fn remove_item<T: Share>(
+    alloc: Global,
+    blocks: &mut Vec<Block<T>>,
+    index: usize,
+) -> Result<Option<T>, AllocError>
+    ensures item { IfOk result (λ x. option_map T.seen x ≡ slice_get (joined T.seen blocks.old.items) index) }
+    ensures ok { OnOk result (joined T.seen blocks.new.items ≡ remove (joined T.seen blocks.old.items) index) }
+    ensures err { OnErr result (joined T.seen blocks.new.items ≡ joined T.seen blocks.old.items) }
+    ensures own { all_own blocks.old.items ≡ true → all_own blocks.new.items ≡ true }
+    ensures shared { OnErr result (all_own blocks.old.items ≡ false) }
+{
+    let Some((at, inside)) = place_of(blocks, index) else {
+        return Ok(None);
+    };
+    let item = remove_in(alloc, &mut blocks[at], inside)?;
+    drop_empty(blocks, at);
+    Ok(item)
+}
+
+// Puts another item in the place of the one at the index, and answers that one. `None`, with all as it
+// was, past the end.
+pub(crate) fn replace_item<T: Share>(
+    alloc: Global,
+    blocks: &mut Vec<Block<T>>,
+    index: usize,
+    item: T,
+) -> Result<Option<T>, AllocError>
+    ensures item { IfOk result (λ x. option_map T.seen x ≡ slice_get (joined T.seen blocks.old.items) index) }
+    ensures ok { OnOk result (joined T.seen blocks.new.items
+        ≡ slice_set (joined T.seen blocks.old.items) index (T.seen item)) }
+    ensures err { OnErr result (joined T.seen blocks.new.items ≡ joined T.seen blocks.old.items) }
+    ensures own { all_own blocks.old.items ≡ true → all_own blocks.new.items ≡ true }
+    ensures shared { OnErr result (own_among blocks.old.items index ≡ false) }
+    ensures now_own { IfOk result (λ x. IfSome x (λ _. own_among blocks.new.items index ≡ true)) }
+{
+    let Some((at, inside)) = place_of(blocks, index) else {
+        return Ok(None);
+    };
+    let old = replace_in(alloc, &mut blocks[at], inside, item)?;
+    Ok(old)
+}
+
+// The item at the index, to be changed, where its block is its owner's own.
+pub(crate) fn item_mut<T: Share>(blocks: &mut Vec<Block<T>>, index: usize) -> Option<&mut T>
+    ensures { own_among blocks.old.items index ≡ true
+        → option_map (λ x. T.seen x.now) result ≡ slice_get (joined T.seen blocks.old.items) index }
+{
+    let (at, inside) = place_of(blocks, index)?;
+    match blocks.get_mut(at)? {
+        Block::Own(items) => items.get_mut(inside),
+        Block::Shared(_) => None,
+    }
+}
+
+// Exchanges the items of a block for others, where it has one owner.
+pub(crate) fn swap_block<T: Drop>(blocks: &mut Vec<Block<T>>, at: usize, items: &mut Vec<T>) -> bool
+    ensures list { map items_of blocks.new.items ≡ (if result
+        then slice_set (map items_of blocks.old.items) at items.old.items else map items_of blocks.old.items) }
+    ensures items { Some items.new.items
+        ≡ (if result then slice_get (map items_of blocks.old.items) at else Some items.old.items) }
+    ensures own { all_own blocks.new.items ≡ all_own blocks.old.items }
+{
+    if at >= blocks.len() {
+        return false;
+    }
+    blocks[at].swap(items)
+}
+
+// Shares each block.
+pub(crate) fn share_blocks<T: Drop>(alloc: Global, blocks: &mut Vec<Block<T>>)
+    ensures { map items_of blocks.new.items ≡ map items_of blocks.old.items }
+{
+    for at in 0..blocks.len() {
+        blocks[at].make_shared(alloc);
+    }
+}

@@ -1,0 +1,7 @@
+pub mod Blocks
+pub mod Cuts
+pub mod Encoded
+pub mod Inside
+pub mod Parts
+pub mod Pieces
+pub mod Texts

@@ -1,0 +1,7 @@
+pub mod Blocks
+pub mod Chars
+pub mod Edits
+pub mod Held
+pub mod Parts
+pub mod Pieces
+pub mod Text

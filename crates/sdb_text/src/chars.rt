@@ -1,0 +1,147 @@
+//! The bytes of a piece.
+ghost use Rattle.std.specs.Prelude.{length, ◌≡◌, ◌≤◌, true, false, string_bytes, IfOk, OnOk, OnErr};
+ghost use Rattle.std.specs.List.{insert_slice, remove_range};
+ghost use Rattle.std.specs.String.Boundary.{IsSplitPoint};
+ghost use Rattle.sdb_text.specs.Edits.{Edits};
+ghost use Rattle.sdb_text.specs.Text as texts;
+ghost use Rattle.sdb_text.specs.Chars.{chars_bytes, chars_own};
+
+use crate::units::cut_at;
+use sdb_pieces::Share;
+use std::alloc::{AllocError, Global};
+use std::mem::replace;
+use std::sync::Arc;
+
+/// Some of a text.
+#[derive(Drop)]
+pub enum Chars {
+    /// Of one owner.
+    Own(String),
+    /// Of as many as have the pointer.
+    Shared(Arc<String>),
+}
+
+impl Chars {
+    pub(crate) fn as_str(&self) -> &str
+        ensures { result.now ≡ chars_bytes self.now }
+    {
+        match self {
+            Chars::Own(text) => text.as_str(),
+            Chars::Shared(text) => text.as_str(),
+        }
+    }
+
+    /// Makes the bytes this owner's own. Fails only where they were shared and memory is wanting.
+    pub(crate) fn make_own(&mut self, alloc: Global) -> Result<(), AllocError>
+        ensures same { chars_bytes self.new ≡ chars_bytes self.old }
+        ensures own { OnOk result (chars_own self.new ≡ true) }
+        ensures shared { OnErr result (chars_own self.old ≡ false) }
+        ensures kept { chars_own self.old ≡ true → chars_own self.new ≡ true }
+    {
+        match replace(self, Chars::Own(String::new(alloc))) {
+            Chars::Own(text) => {
+                *self = Chars::Own(text);
+                Ok(())
+            }
+            Chars::Shared(shared) => match Arc::try_unwrap(shared) {
+                Ok(text) => {
+                    *self = Chars::Own(text);
+                    Ok(())
+                }
+                Err(shared) => {
+                    let copied = String::from_str(alloc, shared.as_str());
+                    *self = Chars::Shared(shared);
+                    *self = Chars::Own(copied?);
+                    Ok(())
+                }
+            },
+        }
+    }
+
+    /// Puts a text before a byte.
+    pub(crate) fn insert(&mut self, alloc: Global, at: usize, new: &str) -> Result<(), AllocError>
+        requires { IsSplitPoint (chars_bytes self.old) at }
+        ensures ok { OnOk result (chars_bytes self.new ≡ insert_slice (chars_bytes self.old) at new.now) }
+        ensures err { OnErr result (chars_bytes self.new ≡ chars_bytes self.old) }
+        ensures own { chars_own self.old ≡ true → chars_own self.new ≡ true }
+    {
+        self.make_own(alloc)?;
+        match self {
+            Chars::Own(text) => text.insert_str(at, new)?,
+            Chars::Shared(_) => unreachable!(),
+        }
+        Ok(())
+    }
+
+    /// Takes the bytes from one place to another out.
+    pub(crate) fn remove(&mut self, from: usize, to: usize)
+        requires own { chars_own self.old ≡ true }
+        requires order { from ≤ to }
+        requires start { IsSplitPoint (chars_bytes self.old) from }
+        requires end { IsSplitPoint (chars_bytes self.old) to }
+        ensures bytes { chars_bytes self.new ≡ remove_range (chars_bytes self.old) from to }
+        ensures own { chars_own self.new ≡ true }
+    {
+        match self {
+            Chars::Own(text) => {
+                let _done = text.replace_range(from..to, "");
+            }
+            Chars::Shared(_) => unreachable!(),
+        }
+    }
+
+    /// Takes a text out at an offset of UTF-16 units. `false`, with the bytes unchanged, where the offset is
+    /// inside a pair or past the end, or another text stands there.
+    pub(crate) fn remove_text(
+        &mut self,
+        alloc: Global,
+        offset: u64,
+        old: &str,
+    ) -> Result<bool, AllocError>
+        ensures ok { IfOk result (λ done. Edits done (texts.remove_text offset old.now (chars_bytes self.old))
+            (chars_bytes self.old) (chars_bytes self.new)) }
+        ensures err { OnErr result (chars_bytes self.new ≡ chars_bytes self.old) }
+        ensures own { chars_own self.old ≡ true → chars_own self.new ≡ true }
+        ensures shared { OnErr result (chars_own self.old ≡ false) }
+        ensures short { length (chars_bytes self.new) ≤ length (chars_bytes self.old) }
+    {
+        let Some(at) = cut_at(self.as_str(), offset) else {
+            return Ok(false);
+        };
+        if !self.as_str().as_bytes()[at..].starts_with(old.as_bytes()) {
+            return Ok(false);
+        }
+        self.make_own(alloc)?;
+        self.remove(at, at + old.len());
+        Ok(true)
+    }
+
+    /// Shares the bytes, so that the next copy is a pointer. Where memory is wanting they stay own.
+    pub(crate) fn make_shared(&mut self, alloc: Global)
+        ensures { chars_bytes self.new ≡ chars_bytes self.old }
+    {
+        match replace(self, Chars::Own(String::new(alloc))) {
+            Chars::Own(text) => match Arc::new(alloc, text) {
+                Ok(shared) => *self = Chars::Shared(shared),
+                Err(failed) => *self = Chars::Own(failed.value),
+            },
+            Chars::Shared(shared) => *self = Chars::Shared(shared),
+        }
+    }
+}
+
+impl Share for Chars {
+    ghost use Rattle.std.specs.Prelude.{List, ℕ, Bool};
+    ghost use Rattle.sdb_text.specs.Chars.{chars_bytes, chars_own};
+
+    ghost Seen = { List ℕ × Bool };
+
+    ghost seen = { λ c. (chars_bytes c, chars_own c) };
+
+    fn share(&self, alloc: Global) -> Result<Chars, AllocError> {
+        match self {
+            Chars::Own(text) => Ok(Chars::Own(String::from_str(alloc, text.as_str())?)),
+            Chars::Shared(text) => Ok(Chars::Shared(Arc::try_clone(text)?)),
+        }
+    }
+}

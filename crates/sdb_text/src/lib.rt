@@ -1,0 +1,15 @@
+//! A text in pieces of bounded size, each its owner's own or shared with copies, measured in UTF-16 units.
+#![tactic(auto)]
+
+mod change;
+mod chars;
+pub mod laws;
+mod many;
+mod part;
+mod places;
+mod removal;
+mod same;
+mod text;
+pub mod units;
+
+pub use text::Text;

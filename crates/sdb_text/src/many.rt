@@ -1,0 +1,88 @@
+//! Edits of a text of many pieces.
+ghost use Rattle.std.specs.Prelude.{◌≡◌, true, false, IfOk, OnErr};
+ghost use Rattle.std.specs.List.{concat};
+ghost use Rattle.sdb_text.specs.Blocks.{block_texts, block_own};
+ghost use Rattle.sdb_text.specs.Edits.{Edits};
+ghost use Rattle.sdb_text.specs.Parts.{texts_of};
+ghost use Rattle.sdb_text.specs.Pieces.{AreShort};
+ghost use Rattle.sdb_text.specs.Text as texts;
+
+use crate::change::insert;
+use crate::part::Part;
+use crate::places::find;
+use crate::removal::take_out;
+use sdb_pieces::Block;
+use std::alloc::{AllocError, Global};
+
+/// Puts a text at an offset of UTF-16 units. `false`, with the text unchanged, where the offset is inside
+/// a pair or past the end.
+pub(crate) fn insert_many(
+    alloc: Global,
+    block: &mut Block<Part>,
+    offset: u64,
+    new: &str,
+) -> Result<bool, AllocError>
+    ensures ok { IfOk result (λ done. Edits done (texts.insert_text offset new.now (concat (block_texts block.old)))
+        (concat (block_texts block.old)) (concat (block_texts block.new))) }
+    ensures err { OnErr result (concat (block_texts block.new) ≡ concat (block_texts block.old)) }
+    ensures own { block_own block.old ≡ true → block_own block.new ≡ true }
+    ensures short { AreShort (block_texts block.old) → AreShort (block_texts block.new) }
+{
+    block.make_own(alloc)?;
+    match block {
+        Block::Own(parts) => {
+            let done = insert(alloc, parts, offset, new)?;
+            Ok(done)
+        }
+        Block::Shared(_) => unreachable!(),
+    }
+}
+
+/// Takes a text out at an offset of UTF-16 units. `false`, with the text unchanged, where the offset is inside
+/// a pair or past the end, or another text stands there.
+pub(crate) fn remove_many(
+    alloc: Global,
+    block: &mut Block<Part>,
+    offset: u64,
+    old: &str,
+) -> Result<bool, AllocError>
+    ensures ok { IfOk result (λ done. Edits done (texts.remove_text offset old.now (concat (block_texts block.old)))
+        (concat (block_texts block.old)) (concat (block_texts block.new))) }
+    ensures err { OnErr result (concat (block_texts block.new) ≡ concat (block_texts block.old)) }
+    ensures own { block_own block.old ≡ true → block_own block.new ≡ true }
+    ensures short { AreShort (block_texts block.old) → AreShort (block_texts block.new) }
+    ensures shared { OnErr result (block_own block.old ≡ false) }
+{
+    if block.items().is_empty() {
+        return Ok(offset == 0 && old.is_empty());
+    }
+    let Some(span) = find(block.items(), offset, old) else {
+        return Ok(false);
+    };
+    block.make_own(alloc)?;
+    match block {
+        Block::Own(parts) => {
+            take_out(alloc, parts, span)?;
+            Ok(true)
+        }
+        Block::Shared(_) => unreachable!(),
+    }
+}
+
+/// Shares the list and all pieces. Where memory is wanting something stays own.
+pub(crate) fn share_many(alloc: Global, block: &mut Block<Part>)
+    ensures { block_texts block.new ≡ block_texts block.old }
+{
+    if let Block::Own(parts) = block {
+        share_parts(alloc, parts);
+    }
+    block.make_shared(alloc);
+}
+
+fn share_parts(alloc: Global, parts: &mut [Part])
+    ensures { texts_of parts.new ≡ texts_of parts.old }
+{
+    for part in parts.iter_mut() {
+        part.make_shared(alloc);
+    }
+}
