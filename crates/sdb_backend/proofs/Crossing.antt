@@ -22,6 +22,9 @@ use Rattle.sdb_oplog.specs.contracts.contents.Kind as Kind
 use Rattle.sdb_oplog.specs.contracts.contents.Content as Content
 use Rattle.sdb_oplog.specs.contracts.contents.Content.TheInside as content
 use Rattle.sdb_oplog.specs.contracts.entries.Entry as Entry
+use Rattle.sdb_oplog.specs.contracts.entries.Fields as Fields
+use Rattle.sdb_oplog.specs.contracts.entries.Submission as Submission
+use Rattle.sdb_oplog.specs.contracts.entries.Submission.TheInside as submission
 use Rattle.sdb_oplog.specs.contracts.logs.Log as Log
 use Rattle.sdb_snapcache.specs.contracts.cache.Cache as Cache
 use Rattle.sdb_snapcache.specs.contracts.cache.Cache.TheInside as cache
@@ -81,8 +84,35 @@ content-send = declared_send content.the_type (search (sendable, Kind-send) dept
 pub Content-send : IsSend Content.the_row
 Content-send = view_send _ _ _ _ _ content-send
 
+Kind-sync : IsSync Kind.the_row
+Kind-sync = search (sendable, crosses, maps.crosses, Json-send, Json-sync, Op-send, Op-sync) depth 20
+
+content-sync : IsSync content.the_row
+content-sync = declared_sync content.the_type (search (sendable, Kind-sync) depth 20, tt)
+
+pub Content-sync : IsSync Content.the_row
+Content-sync = view_sync _ _ _ _ _ content-sync
+
+Fields-send : IsSend Fields.the_row
+Fields-send = search (sendable, crosses, maps.crosses, Content-send) depth 20
+
+Fields-sync : IsSync Fields.the_row
+Fields-sync = search (sendable, crosses, maps.crosses, Content-sync) depth 20
+
+submission-send : IsSend submission.the_row
+submission-send = declared_send submission.the_type (search (sendable, crosses, Fields-send, Fields-sync) depth 20, tt)
+
+submission-sync : IsSync submission.the_row
+submission-sync = declared_sync submission.the_type (search (sendable, crosses, Fields-send, Fields-sync) depth 20, tt)
+
+pub Submission-send : IsSend Submission.the_row
+Submission-send = view_send _ _ _ _ _ submission-send
+
+pub Submission-sync : IsSync Submission.the_row
+Submission-sync = view_sync _ _ _ _ _ submission-sync
+
 pub Entry-send : IsSend Entry.the_row
-Entry-send = search (sendable, crosses, maps.crosses, Content-send) depth 20
+Entry-send = search (sendable, crosses, maps.crosses, Content-send, Submission-send) depth 20
 
 pub Log-send : IsSend Log.the_row
 Log-send = search (sendable, crosses, maps.crosses, Entry-send) depth 20

@@ -1,8 +1,8 @@
 use denote.Param.Send.{sendable}
 use Rattle.std.proofs.Crossing.{crosses}
 use Rattle.std.proofs.MapsCrossing as maps
-use Rattle.sdb_backend.proofs.Crossing.{Backend-sync}
-use Rattle.sdb_backend.proofs.Handing.{Key-sync, Reply-send, Submission-sync}
+use Rattle.sdb_backend.proofs.Crossing.{Backend-sync, Submission-sync}
+use Rattle.sdb_backend.proofs.Handing.{Key-sync, Reply-send}
 use Rattle.sdb_upper_tests.proofs.backend.nobody_waits_for_a_submission_that_is_held.Goals as goal
 
 pub join-late-requires-send-F : goal.join-late-requires-send-F
