@@ -1,11 +1,9 @@
-//! `sdb_session`: what no line shows of a session: how many entries a pump takes, answers as texts, and that
-//! its end closes its queues.
+//! `sdb_session`: what no line shows of a session: answers as texts, and how many entries a pump takes. That its
+//! end closes its queues is in the tests of the server.
 use sdb_desk::Shard;
-use sdb_oplog::Key;
 use sdb_projection::Table;
 use sdb_session::Session;
 use sdb_submit::Solo;
-use sdb_subscribe::SubId;
 use std::alloc::Global;
 use std::test::Fail;
 
@@ -89,25 +87,5 @@ fn a_session_takes_what_is_stored(rt: HostRuntime) -> Result<(), Fail> {
         r#"","v":1}}"#,
     )?;
     assert!(rt; room.answers(&mut second, FETCH, shown.as_str()));
-    Ok(())
-}
-
-// The number of the first queue of a shard.
-fn first_queue(alloc: Global, key: &Key) -> Result<SubId, Fail> {
-    let opened = Shard::new(alloc).subscribe(key, None).or(Err("no queue"))?;
-    Ok(opened.id)
-}
-
-#[test]
-fn the_end_closes_the_queues(rt: HostRuntime) -> Result<(), Fail> {
-    let alloc = rt.alloc();
-    let (collection, id) = (String::from_str(alloc, "b")?, String::from_str(alloc, "1")?);
-    let key = Key { collection, id };
-    let first = first_queue(alloc, &key)?;
-    let (mut room, mut session) = (Room::new(alloc), named(alloc, "s1")?);
-    assert!(rt; room.answers(&mut session, SUBSCRIBE, SUBSCRIBED));
-    assert!(rt; room.shard.take(&key, first, 1)?.is_some());
-    session.end(&Solo, &mut room.shard);
-    assert!(rt; room.shard.take(&key, first, 1)?.is_none());
     Ok(())
 }
