@@ -16,10 +16,11 @@ fn entry(alloc: Global, version: u64) -> Result<Entry, Fail>
     Ok(Entry::new(version, None, submission))
 }
 
-fn two_entries(alloc: Global) -> Result<Log, Fail> {
+fn entries(alloc: Global, count: u64) -> Result<Log, Fail> {
     let mut log = Log::new(alloc);
-    log.push(entry(alloc, 0)?)?;
-    log.push(entry(alloc, 1)?)?;
+    for version in 0..count {
+        log.push(entry(alloc, version)?)?;
+    }
     Ok(log)
 }
 
@@ -54,7 +55,7 @@ fn gives_each_once(queues: &mut Queues, log: &Log) -> Result<bool, Fail> {
 
 #[test]
 fn a_queue_gives_each_entry_once(rt: HostRuntime) -> Result<(), Fail> {
-    let log = two_entries(rt.alloc())?;
+    let log = entries(rt.alloc(), 2)?;
     assert!(rt; gives_each_once(&mut Queues::new(rt.alloc()), &log)?);
     Ok(())
 }
@@ -71,7 +72,7 @@ fn stand_apart(queues: &mut Queues, log: &Log) -> Result<bool, Fail> {
 
 #[test]
 fn queues_stand_apart(rt: HostRuntime) -> Result<(), Fail> {
-    let log = two_entries(rt.alloc())?;
+    let log = entries(rt.alloc(), 2)?;
     assert!(rt; stand_apart(&mut Queues::new(rt.alloc()), &log)?);
     Ok(())
 }
@@ -84,7 +85,57 @@ fn forgets_a_closed_one(queues: &mut Queues, log: &Log) -> Result<bool, Fail> {
 
 #[test]
 fn a_closed_queue_is_unknown(rt: HostRuntime) -> Result<(), Fail> {
-    let log = two_entries(rt.alloc())?;
+    let log = entries(rt.alloc(), 2)?;
     assert!(rt; forgets_a_closed_one(&mut Queues::new(rt.alloc()), &log)?);
+    Ok(())
+}
+
+// Stores entries up to this many, and notes each.
+fn store_up_to(alloc: Global, log: &mut Log, queues: &mut Queues, count: u64) -> Result<(), Fail> {
+    for version in log.len()..count {
+        let stored = entry(alloc, version)?;
+        queues.note(&stored);
+        log.push(stored)?;
+    }
+    Ok(())
+}
+
+fn serves_from_the_ring(alloc: Global, queues: &mut Queues) -> Result<bool, Fail> {
+    let mut log = Log::new(alloc);
+    let id = opened(queues, 0)?;
+    let empty = queues.ringed(id) == Some(0);
+    store_up_to(alloc, &mut log, queues, 65)?;
+    let full = queues.ringed(id) == Some(64);
+    let oldest = taken(queues, &log, id, 1)? == Some((1, Some(0)));
+    let still = queues.ringed(id) == Some(64);
+    store_up_to(alloc, &mut log, queues, 129)?;
+    let rest = taken(queues, &log, id, 200)? == Some((128, Some(1)));
+    Ok(empty && full && oldest && still && rest && queues.ringed(id) == Some(0))
+}
+
+#[test]
+fn a_ring_holds_the_last_entries(rt: HostRuntime) -> Result<(), Fail> {
+    assert!(rt; serves_from_the_ring(rt.alloc(), &mut Queues::new(rt.alloc()))?);
+    Ok(())
+}
+
+fn waits_beyond(alloc: Global, queues: &mut Queues) -> Result<bool, Fail> {
+    let mut log = Log::new(alloc);
+    let (late, closed) = (opened(queues, 2)?, opened(queues, 0)?);
+    queues.close(closed);
+    store_up_to(alloc, &mut log, queues, 2)?;
+    let before = queues.ringed(late) == Some(0);
+    store_up_to(alloc, &mut log, queues, 3)?;
+    Ok(
+        before
+            && queues.ringed(late) == Some(1)
+            && queues.ringed(closed).is_none()
+            && taken(queues, &log, late, 9)? == Some((1, Some(2))),
+    )
+}
+
+#[test]
+fn a_ring_takes_in_nothing_before_its_start(rt: HostRuntime) -> Result<(), Fail> {
+    assert!(rt; waits_beyond(rt.alloc(), &mut Queues::new(rt.alloc()))?);
     Ok(())
 }
