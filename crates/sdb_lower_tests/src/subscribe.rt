@@ -139,3 +139,21 @@ fn a_ring_takes_in_nothing_before_its_start(rt: HostRuntime) -> Result<(), Fail>
     assert!(rt; waits_beyond(rt.alloc(), &mut Queues::new(rt.alloc()))?);
     Ok(())
 }
+
+// Opens a queue. Where that finds no memory nothing has changed, and it is opened with memory.
+fn opens_again(queues: &mut Queues) -> Result<bool, Fail> {
+    match queues.open(7) {
+        Ok(_) => Ok(true),
+        Err(_) => {
+            let nothing = queues.given() == 0 && queues.len() == 0;
+            let id = opened(queues, 7)?;
+            Ok(nothing && queues.ringed(id) == Some(0))
+        }
+    }
+}
+
+#[test]
+fn an_open_that_finds_no_memory_changes_nothing(rt: HostRuntime) -> Result<(), Fail> {
+    assert!(rt; opens_again(&mut Queues::new(rt.alloc()))?);
+    Ok(())
+}

@@ -158,7 +158,8 @@ impl Queues {
         take_from(&mut self.queues, self.alloc, log, id.number, max)
     }
 
-    /// Closes a queue. It takes no memory. A number that no open queue has does nothing.
+    /// Closes a queue. It takes no memory, and where no queue is left none is held. A number that no open
+    /// queue has does nothing.
     pub fn close(&mut self, id: SubId)
         ensures queues { (bare self.new).queues ≡ without id (bare self.old).queues }
         ensures next { self.new.next ≡ self.old.next }
@@ -166,6 +167,16 @@ impl Queues {
         ensures fit { (log : List PlainEntry) → FitLog log self.old.queues → FitLog log self.new.queues }
     {
         drop(self.queues.remove(&id.number));
+        free_empty(&mut self.queues);
+    }
+}
+
+// A map that was emptied keeps a block until it is cleared.
+fn free_empty(queues: &mut BTreeMap<u64, Queue>)
+    ensures { queues.new.entries ≡ queues.old.entries }
+{
+    if queues.is_empty() {
+        queues.clear();
     }
 }
 
