@@ -4,7 +4,7 @@ use Rattle.std.specs.Prelude.{⊤, if◌then◌else◌}
 use Rattle.std.specs.Option.{option_and_then}
 use Rattle.sdb_value.specs.Value.{Value, Items, Members, PlainStep, null, truth, whole, text, list, object, at, with, as_text, as_list, as_object}
 use Rattle.sdb_value.specs.Change.{ChangedAt}
-use Rattle.sdb_value.specs.Edits.{Edits}
+use Rattle.sdb_text.specs.Edits.{Edits}
 use Rattle.sdb_value.specs.Law.{with_same, text_is, list_is, object_is}
 use Rattle.sdb_apply.specs.Does.{on_text, on_list, on_object}
 use Rattle.sdb_apply.specs.Outcome.{Outcome}

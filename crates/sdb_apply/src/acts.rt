@@ -1,7 +1,7 @@
 //! What each act does at its place.
 ghost use Rattle.std.specs.Prelude.{◌≡◌, ◌+ℤ◌, false, true, if◌then◌else◌};
 ghost use Rattle.sdb_value.specs.Profile.{in_range};
-ghost use Rattle.sdb_value.specs.Text.{insert_text, remove_text};
+ghost use Rattle.sdb_text.specs.Text.{insert_text, remove_text};
 ghost use Rattle.sdb_value.specs.Value.{insert_item, remove_item, replace_item, put, without};
 ghost use Rattle.sdb_value.specs.View.{view};
 ghost use Rattle.sdb_component.specs.View.{plain_act};

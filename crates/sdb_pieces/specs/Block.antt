@@ -10,3 +10,7 @@ items_of (Shared a) = a.value.items
 abbrev pub is_own : {X : Type 0} → Block X → Bool
 is_own (Own v) = true
 is_own (Shared a) = false
+
+abbrev pub is_shared : {X : Type 0} → Block X → Bool
+is_shared (Own v) = false
+is_shared (Shared a) = true

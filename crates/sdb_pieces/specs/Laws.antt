@@ -1,9 +1,9 @@
 -- Laws of lists in pieces.
-use Rattle.std.specs.Prelude.{◌≡◌, ℕ, ◌-◌, List, [], ◌∷◌, ◌++◌, map, length, Bool, true, false, cond, nat_lt, if◌then◌else◌, refl}
-use Rattle.std.proofs.Common.{ap, sym, ◌∙◌}
+use Rattle.std.specs.Prelude.{◌≡◌, ℕ, zero, suc, ◌+◌, ◌-◌, List, [], ◌∷◌, ◌++◌, map, take, drop, length, Bool, true, false, cond, nat_lt, if◌then◌else◌, Option, Some, None, slice_get, refl}
+use Rattle.std.proofs.Common.{ap, sym, ◌∙◌, append_assoc}
 use Rattle.std.specs.List.{flat_map}
 use Rattle.sdb_pieces.specs.Block.{items_of, is_own}
-use Rattle.sdb_pieces.specs.Pieces.{seen_form, seen_in, joined, all_own, own_among, is_own_form, is_own_form_at, is_own_list, is_own_at, parts_form, parts_in}
+use Rattle.sdb_pieces.specs.Pieces.{seen_form, seen_in, joined, all_own, own_among, is_own_form, is_own_form_at, is_own_list, is_own_at, blocks_form, blocks_in, items_in, parts_in}
 use Rattle.sdb_pieces.specs.declared.block.Block.{Block}
 use Rattle.sdb_pieces.specs.declared.pieces.Form.{Form}
 use Rattle.sdb_pieces.specs.declared.pieces.Form.TheVariants.{One, Many}
@@ -24,12 +24,29 @@ joined_parts f [] = refl
 joined_parts f (b ∷ bs) =
     ap (λ l. map f (items_of b) ++ l) (joined_parts f bs) ∙ sym (map_append f (items_of b) (flat_map (λ xs. xs) (map items_of bs)))
 
-form_parts : {X S : Type 0} (f : X → S) (w : Form X) → seen_form f w ≡ map f (flat_map (λ xs. xs) (parts_form w))
+form_parts : {X S : Type 0} (f : X → S) (w : Form X) → seen_form f w ≡ map f (flat_map (λ xs. xs) (map items_of (blocks_form w)))
 form_parts f (One b) = ap (map f) (sym (append_none (items_of b)))
 form_parts f (Many bs) = joined_parts f (items_of bs)
 
 pub seen_parts : {X S : Type 0} (f : X → S) (l : Pieces X) → seen_in f l ≡ map f (flat_map (λ xs. xs) (parts_in l))
 seen_parts f l = form_parts f l.form
+
+form_blocks : {X S : Type 0} (f : X → S) (w : Form X) → seen_form f w ≡ joined f (blocks_form w)
+form_blocks f (One b) = sym (append_none (map f (items_of b)))
+form_blocks f (Many bs) = refl
+
+-- and that of its blocks
+pub seen_blocks : {X S : Type 0} (f : X → S) (l : Pieces X) → seen_in f l ≡ joined f (blocks_in l)
+seen_blocks f l = form_blocks f l.form
+
+joined_items : {X S : Type 0} (f : X → S) (bs : List (Block X)) → joined f bs ≡ map f (flat_map items_of bs)
+joined_items f [] = refl
+joined_items f (b ∷ bs) =
+    ap (λ l. map f (items_of b) ++ l) (joined_items f bs) ∙ sym (map_append f (items_of b) (flat_map items_of bs))
+
+-- what is seen of a list is what is seen of its items
+pub seen_items_in : {X S : Type 0} (f : X → S) (l : Pieces X) → seen_in f l ≡ map f (items_in l)
+seen_items_in f l = seen_blocks f l ∙ joined_items f (blocks_in l)
 
 -- ---- of a list that is its own, each block is
 
@@ -63,3 +80,24 @@ own_form_anywhere (Many bs) i e =
 
 pub own_everywhere : {X : Type 0} (l : Pieces X) (i : ℕ) → is_own_list l ≡ true → is_own_at l i ≡ true
 own_everywhere l i e = own_form_anywhere l.form i e
+
+-- ---- the blocks one after the other
+
+pub part_taken : {X : Type 0} (xs : List X) (i : ℕ) (x : X) → slice_get xs i ≡ Some x → take (suc i) xs ≡ take i xs ++ x ∷ []
+part_taken [] i x e = cc
+part_taken (y ∷ xs) zero x e = cc
+part_taken (y ∷ xs) (suc i) x e = ap (λ l. y ∷ l) (part_taken xs i x e)
+
+pub part_left : {X : Type 0} (xs : List X) (i : ℕ) (x : X) → slice_get xs i ≡ Some x → drop i xs ≡ x ∷ drop (suc i) xs
+part_left [] i x e = cc
+part_left (y ∷ xs) zero x e = cc
+part_left (y ∷ xs) (suc i) x e = part_left xs i x e
+
+flat_append : {X : Type 0} (xss : List (List X)) (xs : List X) → flat_map (λ xs. xs) (xss ++ xs ∷ []) ≡ flat_map (λ xs. xs) xss ++ xs
+flat_append [] xs = append_none xs
+flat_append (ys ∷ xss) xs = ap (λ l. ys ++ l) (flat_append xss xs) ∙ sym (append_assoc ys (flat_map (λ xs. xs) xss) xs)
+
+-- what is seen of some blocks, and of one more
+pub joined_more : {X S : Type 0} (f : X → S) (xss : List (List X)) (xs : List X)
+    → map f (flat_map (λ xs. xs) (xss ++ xs ∷ [])) ≡ map f (flat_map (λ xs. xs) xss) ++ map f xs
+joined_more f xss xs = ap (map f) (flat_append xss xs) ∙ map_append f (flat_map (λ xs. xs) xss) xs

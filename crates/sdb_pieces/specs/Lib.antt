@@ -1,4 +1,6 @@
 pub mod Block
+pub mod Iter
 pub mod Laws
 pub mod Pieces
 pub mod Place
+pub mod Shareable

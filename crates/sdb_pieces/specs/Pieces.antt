@@ -1,7 +1,7 @@
 -- What a list in pieces holds, and whether all of it is its own.
 use Rattle.std.specs.Prelude.{ℕ, ◌-◌, List, [], ◌∷◌, map, length, Bool, true, false, cond, nat_lt, if◌then◌else◌}
 use Rattle.std.specs.List.{flat_map}
-use Rattle.sdb_pieces.specs.Block.{items_of, is_own}
+use Rattle.sdb_pieces.specs.Block.{items_of, is_own, is_shared}
 use Rattle.sdb_pieces.specs.declared.block.Block.{Block}
 use Rattle.sdb_pieces.specs.declared.pieces.Form.{Form}
 use Rattle.sdb_pieces.specs.declared.pieces.Form.TheVariants.{One, Many}
@@ -46,10 +46,38 @@ is_own_form_at (Many bs) i = cond (is_own bs) (own_among (items_of bs) i) false
 abbrev pub is_own_at : {X : Type 0} → Pieces X → ℕ → Bool
 is_own_at l i = is_own_form_at l.form i
 
--- the items of each block
-abbrev pub parts_form : {X : Type 0} → Form X → List (List X)
-parts_form (One b) = items_of b ∷ []
-parts_form (Many bs) = map items_of (items_of bs)
+-- its items stand in one block that is its own
+abbrev pub is_vector_form : {X : Type 0} → Form X → Bool
+is_vector_form (One b) = is_own b
+is_vector_form (Many bs) = false
 
+abbrev pub is_vector : {X : Type 0} → Pieces X → Bool
+is_vector l = is_vector_form l.form
+
+-- a copy of it is a pointer
+abbrev pub is_shared_form : {X : Type 0} → Form X → Bool
+is_shared_form (One b) = is_shared b
+is_shared_form (Many bs) = is_shared bs
+
+abbrev pub is_shared_list : {X : Type 0} → Pieces X → Bool
+is_shared_list l = is_shared_form l.form
+
+abbrev pub all_shared : {X : Type 0} → List (Block X) → Bool
+all_shared [] = true
+all_shared (b ∷ bs) = cond (is_shared b) (all_shared bs) false
+
+-- its blocks
+abbrev pub blocks_form : {X : Type 0} → Form X → List (Block X)
+blocks_form (One b) = b ∷ []
+blocks_form (Many bs) = items_of bs
+
+abbrev pub blocks_in : {X : Type 0} → Pieces X → List (Block X)
+blocks_in l = blocks_form l.form
+
+-- the items of each block
 abbrev pub parts_in : {X : Type 0} → Pieces X → List (List X)
-parts_in l = parts_form l.form
+parts_in l = map items_of (blocks_in l)
+
+-- its items
+abbrev pub items_in : {X : Type 0} → Pieces X → List X
+items_in l = flat_map items_of (blocks_in l)

@@ -1,10 +1,10 @@
 //! Items in one run of memory, a list's own or shared with its copies.
 ghost use Rattle.std.specs.Option.{option_copied};
-ghost use Rattle.std.specs.Prelude.{◌≡◌, true, false, length, map, slice_get, if◌then◌else◌, IfOk, OnOk, OnErr};
-ghost use Rattle.sdb_pieces.specs.Block.{items_of, is_own};
+ghost use Rattle.std.specs.Prelude.{◌≡◌, true, false, length, map, slice_get, if◌then◌else◌, IfOk, OnOk, OnErr, IfSome, is_some};
+ghost use Rattle.sdb_pieces.specs.Block.{items_of, is_own, is_shared};
 
 use std::alloc::{AllocError, Global};
-use std::mem::{replace, swap};
+use std::mem::replace;
 use std::sync::Arc;
 
 /// What can be had again.
@@ -57,6 +57,24 @@ impl<T> Block<T> {
         self.items().len()
     }
 
+    /// Whether it is its owner's own.
+    pub fn is_own(&self) -> bool
+        ensures { result ≡ is_own self.now }
+    {
+        match self {
+            Block::Own(_) => true,
+            Block::Shared(_) => false,
+        }
+    }
+
+    /// The allocator of the items.
+    pub fn allocator(&self) -> Global {
+        match self {
+            Block::Own(items) => *items.allocator(),
+            Block::Shared(items) => *items.allocator(),
+        }
+    }
+
     /// The item at the index, or `None` past the end.
     pub fn get(&self, index: usize) -> Option<&T>
         ensures { option_copied result ≡ slice_get (items_of self.now) index }
@@ -66,32 +84,31 @@ impl<T> Block<T> {
 }
 
 impl<T: Drop> Block<T> {
-    /// Exchanges its items for others, where it has one owner. `false`, with both as they were, where not.
-    pub fn swap(&mut self, items: &mut Vec<T>) -> bool
-        ensures block { items_of self.new ≡ (if result then items.old.items else items_of self.old) }
-        ensures items { items.new.items ≡ (if result then items_of self.old else items.old.items) }
-        ensures own { is_own self.new ≡ is_own self.old }
+    /// The same items, shared, so that the next copy of them is a pointer.
+    pub fn into_shared(self, alloc: Global) -> Result<Block<T>, AllocError>
+        ensures same { IfOk result (λ b. items_of b ≡ items_of self) }
+        ensures shared { IfOk result (λ b. is_shared b ≡ true) }
+        ensures own { OnErr result (is_own self ≡ true) }
     {
         match self {
-            Block::Own(own) => {
-                swap(own, items);
-                true
-            }
-            Block::Shared(_) => false,
+            Block::Own(items) => Ok(Block::Shared(Arc::new(alloc, items)?)),
+            Block::Shared(items) => Ok(Block::Shared(items)),
         }
     }
+}
 
-    /// Shares the items, so that the next copy of them is a pointer. Where memory is wanting they stay
-    /// of one owner.
-    pub fn make_shared(&mut self, alloc: Global)
-        ensures { items_of self.new ≡ items_of self.old }
+impl<T> Block<T> {
+    /// The same items again, as a pointer to them, where they are shared; `None` where they have one owner.
+    /// Fails only where no more pointers can be counted.
+    pub fn share_pointer(&self) -> Result<Option<Block<T>>, AllocError>
+        ensures same { IfOk result (λ o. IfSome o (λ b. items_of b ≡ items_of self.now)) }
+        ensures shared { IfOk result (λ o. IfSome o (λ b. is_shared b ≡ true)) }
+        ensures found { IfOk result (λ o. is_some o ≡ is_shared self.now) }
+        ensures some { OnErr result (is_shared self.now ≡ true) }
     {
-        match replace(self, Block::Own(Vec::new(alloc))) {
-            Block::Own(items) => match Arc::new(alloc, items) {
-                Ok(shared) => *self = Block::Shared(shared),
-                Err(failed) => *self = Block::Own(failed.value),
-            },
-            Block::Shared(items) => *self = Block::Shared(items),
+        match self {
+            Block::Own(_) => Ok(None),
+            Block::Shared(items) => Ok(Some(Block::Shared(Arc::try_clone(items)?))),
         }
     }
 }

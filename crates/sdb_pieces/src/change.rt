@@ -271,26 +271,3 @@ pub(crate) fn item_mut<T: Share>(blocks: &mut Vec<Block<T>>, index: usize) -> Op
         Block::Shared(_) => None,
     }
 }
-
-// Exchanges the items of a block for others, where it has one owner.
-pub(crate) fn swap_block<T: Drop>(blocks: &mut Vec<Block<T>>, at: usize, items: &mut Vec<T>) -> bool
-    ensures list { map items_of blocks.new.items ≡ (if result
-        then slice_set (map items_of blocks.old.items) at items.old.items else map items_of blocks.old.items) }
-    ensures items { Some items.new.items
-        ≡ (if result then slice_get (map items_of blocks.old.items) at else Some items.old.items) }
-    ensures own { all_own blocks.new.items ≡ all_own blocks.old.items }
-{
-    if at >= blocks.len() {
-        return false;
-    }
-    blocks[at].swap(items)
-}
-
-// Shares each block.
-pub(crate) fn share_blocks<T: Drop>(alloc: Global, blocks: &mut Vec<Block<T>>)
-    ensures { map items_of blocks.new.items ≡ map items_of blocks.old.items }
-{
-    for at in 0..blocks.len() {
-        blocks[at].make_shared(alloc);
-    }
-}

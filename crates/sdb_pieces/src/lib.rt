@@ -4,7 +4,11 @@
 mod among;
 mod block;
 mod change;
+mod iter;
 mod pieces;
+mod shareable;
 
 pub use block::{Block, Share};
+pub use iter::Iter;
 pub use pieces::Pieces;
+pub use shareable::Shareable;

@@ -1,16 +1,16 @@
 //! Lists in pieces.
 ghost use Rattle.std.specs.List.{insert, remove};
-ghost use Rattle.std.specs.Option.{option_copied};
-ghost use Rattle.std.specs.Prelude.{◌≡◌, true, false, Some, length, map, slice_get, slice_set, option_map, nat_le};
-ghost use Rattle.std.specs.Prelude.{if◌then◌else◌, IfOk, IfSome, OnOk, OnErr};
-ghost use Rattle.sdb_pieces.specs.Pieces.{seen_in, is_own_list, is_own_at, parts_in};
+ghost use Rattle.sdb_pieces.specs.Iter.{rest};
+ghost use Rattle.std.specs.Prelude.{◌≡◌, ◌<◌, ◌++◌, ◌∷◌, [], true, false, Some, length, map, slice_get, slice_set, option_map, nat_le};
+ghost use Rattle.std.specs.Prelude.{if◌then◌else◌, IfOk, IfSome, is_some, OnOk, OnErr};
+ghost use Rattle.sdb_pieces.specs.Pieces.{seen_in, is_own_list, is_own_at, is_shared_list, is_vector, all_own, all_shared, blocks_in, items_in, parts_in};
 
 use crate::among::{block_item, insert_among, one_block, remove_among, replace_among};
 use crate::block::{Block, Share};
-use crate::change::{
-    MAX, insert_in, item_in, item_mut, remove_in, replace_in, share_blocks, swap_block,
-};
+use crate::change::{MAX, insert_in, item_in, item_mut, remove_in, replace_in};
+use crate::iter::Iter;
 use std::alloc::{AllocError, Global};
+use std::sync::Arc;
 
 /// A list: in one block while it is short, and else in blocks of bounded size. Each is the list's own,
 /// or shared with its copies.
@@ -29,9 +29,19 @@ pub enum Form<T> {
 }
 
 impl<T> Pieces<T> {
+    /// A list of these items, in the vector's own memory.
+    pub fn from_vec(items: Vec<T>) -> Pieces<T>
+        ensures items { parts_in result ≡ items.items ∷ [] }
+        ensures own { is_own_list result ≡ true }
+    {
+        Pieces {
+            form: Form::One(Block::Own(items)),
+        }
+    }
+
     /// In how many blocks the items stand, from 0 on.
     pub fn part_count(&self) -> usize
-        ensures { result ≡ length (parts_in self.now) }
+        ensures { result ≡ length (blocks_in self.now) }
     {
         match &self.form {
             Form::One(_) => 1,
@@ -39,67 +49,114 @@ impl<T> Pieces<T> {
         }
     }
 
-    /// The items of one block, or `None` where there are fewer.
-    pub fn part(&self, at: usize) -> Option<&[T]>
-        ensures { option_copied result ≡ slice_get (parts_in self.now) at }
+    /// Its items, one after the other.
+    pub fn iter(&self) -> Iter<'_, T>
+        ensures { rest result ≡ items_in self.now }
     {
         match &self.form {
-            Form::One(block) => { if at == 0 { Some(block.items()) } else { None } }
-            Form::Many(blocks) => Some(blocks.get(at)?.items()),
+            Form::One(block) => Iter::new(block.items(), &[]),
+            Form::Many(blocks) => Iter::new(&[], blocks.items()),
         }
+    }
+
+    /// One of its blocks.
+    pub fn block(&self, at: usize) -> &Block<T>
+        requires { at < length (blocks_in self.now) }
+        ensures { slice_get (blocks_in self.now) at ≡ Some result.now }
+    {
+        match &self.form {
+            Form::One(block) => block,
+            Form::Many(blocks) => &blocks.items()[at],
+        }
+    }
+
+    /// The items of one of its blocks.
+    pub fn part(&self, at: usize) -> &[T]
+        requires { at < length (blocks_in self.now) }
+        ensures { slice_get (parts_in self.now) at ≡ Some result.now }
+    {
+        self.block(at).items()
     }
 }
 
 impl<T: Drop> Pieces<T> {
-    /// Exchanges the items of a block for others, where the block and the list of blocks are the list's own.
-    /// `false`, with both as they were, where they aren't, or there is no such block.
-    pub fn swap_part(&mut self, at: usize, items: &mut Vec<T>) -> bool
-        ensures list { parts_in self.new
-            ≡ (if result then slice_set (parts_in self.old) at items.old.items else parts_in self.old) }
-        ensures items { Some items.new.items
-            ≡ (if result then slice_get (parts_in self.old) at else Some items.old.items) }
-        ensures own { is_own_list self.new ≡ is_own_list self.old }
+    /// The list of these blocks, in order. One block alone is in no other vector.
+    pub fn from_blocks(mut blocks: Vec<Block<T>>) -> Pieces<T>
+        ensures blocks { blocks_in result ≡ blocks.items }
+        ensures own { is_own_list result ≡ all_own blocks.items }
     {
-        match &mut self.form {
-            Form::One(block) => {
-                if at != 0 {
-                    return false;
-                }
-                block.swap(items)
+        if blocks.len() == 1 {
+            if let Some(block) = blocks.pop() {
+                return Pieces {
+                    form: Form::One(block),
+                };
             }
-            Form::Many(blocks) => match blocks {
-                Block::Own(blocks) => swap_block(blocks, at, items),
-                Block::Shared(_) => false,
-            },
+        }
+        Pieces {
+            form: Form::Many(Block::Own(blocks)),
         }
     }
 
-    /// Shares each block, and the list of them, so that the next copy of the list is a pointer. The items are
-    /// as they were, so what they share is for the caller to see to. Where memory is wanting something stays
-    /// the list's own.
-    pub fn make_shared(&mut self, alloc: Global)
-        ensures { parts_in self.new ≡ parts_in self.old }
+    /// The list of these blocks, in order, so that the next copy of it is a pointer where the blocks are shared.
+    pub fn from_shared_blocks(
+        alloc: Global,
+        mut blocks: Vec<Block<T>>,
+    ) -> Result<Pieces<T>, AllocError>
+        requires { all_shared blocks.items ≡ true }
+        ensures blocks { IfOk result (λ l. blocks_in l ≡ blocks.items) }
+        ensures shared { IfOk result (λ l. is_shared_list l ≡ true) }
     {
-        match &mut self.form {
-            Form::One(block) => block.make_shared(alloc),
-            Form::Many(blocks) => {
-                if let Block::Own(blocks) = blocks {
-                    share_blocks(alloc, blocks);
-                }
-                blocks.make_shared(alloc);
+        if blocks.len() == 1 {
+            if let Some(block) = blocks.pop() {
+                return Ok(Pieces {
+                    form: Form::One(block),
+                });
             }
+        }
+        let blocks = Arc::new(alloc, blocks)?;
+        Ok(Pieces {
+            form: Form::Many(Block::Shared(blocks)),
+        })
+    }
+}
+
+impl<T> Pieces<T> {
+    /// The same list again, as a pointer to its items, where it is shared; `None` where it isn't. Fails only
+    /// where no more pointers can be counted.
+    pub fn share_pointer(&self) -> Result<Option<Pieces<T>>, AllocError>
+        ensures same { IfOk result (λ o. IfSome o (λ l. parts_in l ≡ parts_in self.now)) }
+        ensures shared { IfOk result (λ o. IfSome o (λ l. is_shared_list l ≡ true)) }
+        ensures found { IfOk result (λ o. is_some o ≡ is_shared_list self.now) }
+        ensures some { OnErr result (is_shared_list self.now ≡ true) }
+    {
+        match &self.form {
+            Form::One(block) => match block.share_pointer()? {
+                Some(block) => Ok(Some(Pieces {
+                    form: Form::One(block),
+                })),
+                None => Ok(None),
+            },
+            Form::Many(blocks) => match blocks.share_pointer()? {
+                Some(blocks) => Ok(Some(Pieces {
+                    form: Form::Many(blocks),
+                })),
+                None => Ok(None),
+            },
         }
     }
 }
 
 impl<T: Share> Pieces<T> {
-    /// A list of these items, in the vector's own memory.
-    pub fn from_vec(items: Vec<T>) -> Pieces<T>
-        ensures items { seen_in T.seen result ≡ map T.seen items.items }
-        ensures own { is_own_list result ≡ true }
+    /// The items in one vector: their own, without memory, where they stand in one block that is the list's
+    /// own; else they are had again.
+    pub fn into_vec(self, alloc: Global) -> Result<Vec<T>, AllocError>
+        ensures items { IfOk result (λ v. map T.seen v.items ≡ seen_in T.seen self) }
+        ensures apart { OnErr result (is_vector self ≡ false) }
     {
-        Pieces {
-            form: Form::One(Block::Own(items)),
+        let Pieces { form } = self;
+        match form {
+            Form::One(Block::Own(items)) => Ok(items),
+            form => items_again(alloc, &Pieces { form }),
         }
     }
 
@@ -222,6 +279,27 @@ impl<T: Share> Pieces<T> {
             }
         }
     }
+}
+
+// Has the items of a block again, behind others.
+fn push_again<T: Share>(alloc: Global, items: &mut Vec<T>, block: &[T]) -> Result<(), AllocError>
+    ensures { OnOk result (map T.seen items.new.items ≡ map T.seen items.old.items ++ map T.seen block.now) }
+{
+    for item in block {
+        items.push(item.share(alloc)?)?;
+    }
+    Ok(())
+}
+
+// Has all items again, in one vector.
+fn items_again<T: Share>(alloc: Global, list: &Pieces<T>) -> Result<Vec<T>, AllocError>
+    ensures { IfOk result (λ v. map T.seen v.items ≡ seen_in T.seen list.now) }
+{
+    let mut items = Vec::new(alloc);
+    for at in 0..list.part_count() {
+        push_again(alloc, &mut items, list.part(at))?;
+    }
+    Ok(items)
 }
 
 impl<T: Share> Share for Pieces<T> {

@@ -10,3 +10,7 @@ chars_bytes (Shared a) = string_bytes a.value
 abbrev pub chars_own : Chars → Bool
 chars_own (Own s) = true
 chars_own (Shared a) = false
+
+abbrev pub chars_shared : Chars → Bool
+chars_shared (Own t) = false
+chars_shared (Shared a) = true

@@ -1,7 +1,8 @@
 -- What a text holds, and whether it is its owner's own.
 use Rattle.std.specs.Prelude.{ℕ, List, [], ◌∷◌, Bool}
 use Rattle.std.specs.List.{concat}
-use Rattle.sdb_text.specs.Chars.{chars_bytes, chars_own}
+use Rattle.sdb_pieces.specs.Block.{is_shared as block_shared}
+use Rattle.sdb_text.specs.Chars.{chars_bytes, chars_own, chars_shared}
 use Rattle.sdb_text.specs.Blocks.{block_texts, block_own}
 use Rattle.sdb_text.specs.Pieces.{AreShort}
 use Rattle.sdb_text.specs.declared.text.Form.{Form}
@@ -27,6 +28,14 @@ form_own (Many b) = block_own b
 -- nothing of it is shared
 abbrev pub is_own : Text → Bool
 is_own t = form_own t.form
+
+abbrev pub form_shared : Form → Bool
+form_shared (One c) = chars_shared c
+form_shared (Many b) = block_shared b
+
+-- a copy of it is a pointer
+abbrev pub is_shared : Text → Bool
+is_shared t = form_shared t.form
 
 -- each piece has at most 4096 bytes
 abbrev pub HasShortParts : Text → Type 0

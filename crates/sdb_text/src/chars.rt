@@ -4,7 +4,7 @@ ghost use Rattle.std.specs.List.{insert_slice, remove_range};
 ghost use Rattle.std.specs.String.Boundary.{IsSplitPoint};
 ghost use Rattle.sdb_text.specs.Edits.{Edits};
 ghost use Rattle.sdb_text.specs.Text as texts;
-ghost use Rattle.sdb_text.specs.Chars.{chars_bytes, chars_own};
+ghost use Rattle.sdb_text.specs.Chars.{chars_bytes, chars_own, chars_shared};
 
 use crate::units::cut_at;
 use sdb_pieces::Share;
@@ -116,16 +116,25 @@ impl Chars {
         Ok(true)
     }
 
-    /// Shares the bytes, so that the next copy is a pointer. Where memory is wanting they stay own.
-    pub(crate) fn make_shared(&mut self, alloc: Global)
-        ensures { chars_bytes self.new ≡ chars_bytes self.old }
+    /// The same bytes, shared: at the cost of a pointer where they are already.
+    pub(crate) fn shared_copy(&self, alloc: Global) -> Result<Chars, AllocError>
+        ensures same { IfOk result (λ c. chars_bytes c ≡ chars_bytes self.now) }
+        ensures shared { IfOk result (λ c. chars_shared c ≡ true) }
     {
-        match replace(self, Chars::Own(String::new(alloc))) {
-            Chars::Own(text) => match Arc::new(alloc, text) {
-                Ok(shared) => *self = Chars::Shared(shared),
-                Err(failed) => *self = Chars::Own(failed.value),
-            },
-            Chars::Shared(shared) => *self = Chars::Shared(shared),
+        match self {
+            Chars::Own(text) => {
+                let copy = String::from_str(alloc, text.as_str())?;
+                Ok(Chars::Shared(Arc::new(alloc, copy)?))
+            }
+            Chars::Shared(text) => Ok(Chars::Shared(Arc::try_clone(text)?)),
+        }
+    }
+
+    /// The allocator of the bytes.
+    pub(crate) fn allocator(&self) -> Global {
+        match self {
+            Chars::Own(text) => *text.allocator(),
+            Chars::Shared(text) => *text.allocator(),
         }
     }
 }

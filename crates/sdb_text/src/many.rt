@@ -1,6 +1,7 @@
 //! Edits of a text of many pieces.
 ghost use Rattle.std.specs.Prelude.{◌≡◌, true, false, IfOk, OnErr};
 ghost use Rattle.std.specs.List.{concat};
+ghost use Rattle.sdb_pieces.specs.Block.{is_shared};
 ghost use Rattle.sdb_text.specs.Blocks.{block_texts, block_own};
 ghost use Rattle.sdb_text.specs.Edits.{Edits};
 ghost use Rattle.sdb_text.specs.Parts.{texts_of};
@@ -69,20 +70,24 @@ pub(crate) fn remove_many(
     }
 }
 
-/// Shares the list and all pieces. Where memory is wanting something stays own.
-pub(crate) fn share_many(alloc: Global, block: &mut Block<Part>)
-    ensures { block_texts block.new ≡ block_texts block.old }
+/// The same pieces, shared, and the list of them: at the cost of a pointer where it is already.
+pub(crate) fn shared_many(alloc: Global, block: &Block<Part>) -> Result<Block<Part>, AllocError>
+    ensures same { IfOk result (λ b. block_texts b ≡ block_texts block.now) }
+    ensures shared { IfOk result (λ b. is_shared b ≡ true) }
 {
-    if let Block::Own(parts) = block {
-        share_parts(alloc, parts);
+    if let Some(copy) = block.share_pointer()? {
+        return Ok(copy);
     }
-    block.make_shared(alloc);
+    let parts = shared_parts(alloc, block.items())?;
+    Block::Own(parts).into_shared(alloc)
 }
 
-fn share_parts(alloc: Global, parts: &mut [Part])
-    ensures { texts_of parts.new ≡ texts_of parts.old }
+fn shared_parts(alloc: Global, parts: &[Part]) -> Result<Vec<Part>, AllocError>
+    ensures { IfOk result (λ v. texts_of v.items ≡ texts_of parts.now) }
 {
-    for part in parts.iter_mut() {
-        part.make_shared(alloc);
+    let mut copies = Vec::with_capacity(alloc, parts.len())?;
+    for part in parts {
+        copies.push(part.shared_copy(alloc)?)?;
     }
+    Ok(copies)
 }

@@ -17,7 +17,7 @@ pub struct Part {
 }
 
 impl Part {
-    ghost use Rattle.std.specs.Prelude.{true, false, ◌≤◌, string_bytes, length, OnOk, OnErr};
+    ghost use Rattle.std.specs.Prelude.{true, false, ◌≤◌, string_bytes, length, IfOk, OnOk, OnErr};
     ghost use Rattle.std.specs.List.{insert_slice, remove_range};
     ghost use Rattle.std.specs.String.Boundary.{IsSplitPoint};
     ghost use Rattle.sdb_text.specs.Parts.{part_bytes, part_own};
@@ -81,10 +81,14 @@ impl Part {
         self.units -= gone;
     }
 
-    pub(crate) fn make_shared(&mut self, alloc: Global)
-        ensures { part_bytes self.new ≡ part_bytes self.old }
+    /// The same bytes, shared.
+    pub(crate) fn shared_copy(&self, alloc: Global) -> Result<Part, AllocError>
+        ensures { IfOk result (λ p. part_bytes p ≡ part_bytes self.now) }
     {
-        self.chars.make_shared(alloc);
+        Ok(Part {
+            units: self.units,
+            chars: self.chars.shared_copy(alloc)?,
+        })
     }
 }
 

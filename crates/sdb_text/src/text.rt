@@ -1,13 +1,13 @@
 //! A text in pieces.
-ghost use Rattle.std.specs.Prelude.{◌≡◌, ◌<◌, true, false, length, string_bytes, slice_get, option_map};
+ghost use Rattle.std.specs.Prelude.{◌≡◌, ◌<◌, true, false, length, min, string_bytes, slice_get, option_map};
 ghost use Rattle.std.specs.Prelude.{IfOk, OnErr, IfSome, IsTrue, IsFalse};
 ghost use Rattle.sdb_text.specs.Edits.{Edits};
-ghost use Rattle.sdb_text.specs.Held.{bytes_in, parts_in, is_own, HasShortParts};
+ghost use Rattle.sdb_text.specs.Held.{bytes_in, parts_in, is_own, is_shared, HasShortParts};
 ghost use Rattle.sdb_text.specs.Text as texts;
 
-use crate::change::{MAX, joined, pieces, pieces_with};
+use crate::change::{MAX, bytes_up_to, joined, pieces, pieces_with};
 use crate::chars::Chars;
-use crate::many::{insert_many, remove_many, share_many};
+use crate::many::{insert_many, remove_many, shared_many};
 use crate::part::Part;
 use crate::same::{is_whole, same_parts};
 use crate::units::cut_at;
@@ -47,6 +47,42 @@ impl Text {
         Ok(Text {
             form: Form::One(Chars::Own(text)),
         })
+    }
+
+    /// A copy of this text, in pieces where it has more than 4096 bytes.
+    pub fn from_str(alloc: Global, text: &str) -> Result<Text, AllocError>
+        ensures ok { IfOk result (λ t. bytes_in t ≡ text.now) }
+        ensures own { IfOk result (λ t. is_own t ≡ true) }
+        ensures short { IfOk result HasShortParts }
+    {
+        if text.len() > MAX {
+            let parts = pieces(alloc, text)?;
+            return Ok(Text {
+                form: Form::Many(Block::Own(parts)),
+            });
+        }
+        let chars = String::from_str(alloc, text)?;
+        Ok(Text {
+            form: Form::One(Chars::Own(chars)),
+        })
+    }
+
+    /// The allocator of its memory.
+    pub fn allocator(&self) -> Global {
+        match &self.form {
+            Form::One(chars) => chars.allocator(),
+            Form::Many(parts) => parts.allocator(),
+        }
+    }
+
+    /// How many bytes it has, up to the limit. Where it has more, the rest isn't looked at.
+    pub fn bytes_up_to(&self, limit: u64) -> u64
+        ensures { result ≡ min limit (length (bytes_in self.now)) }
+    {
+        match &self.form {
+            Form::One(chars) => (chars.as_str().len() as u64).min(limit),
+            Form::Many(parts) => bytes_up_to(parts.items(), limit),
+        }
     }
 
     /// The number of pieces.
@@ -163,15 +199,25 @@ impl Text {
         }
     }
 
-    /// Shares all pieces and the list of them, so that the next copy is a pointer. Where memory is wanting
-    /// something stays of one owner.
-    pub fn make_shared(&mut self, alloc: Global)
-        ensures bytes { bytes_in self.new ≡ bytes_in self.old }
-        ensures parts { parts_in self.new ≡ parts_in self.old }
+    /// The same text, all of it shared, so that the next copy is a pointer. It costs what isn't shared yet.
+    pub fn shared_copy(&self, alloc: Global) -> Result<Text, AllocError>
+        ensures bytes { IfOk result (λ t. bytes_in t ≡ bytes_in self.now) }
+        ensures parts { IfOk result (λ t. parts_in t ≡ parts_in self.now) }
+        ensures shared { IfOk result (λ t. is_shared t ≡ true) }
     {
-        match &mut self.form {
-            Form::One(chars) => chars.make_shared(alloc),
-            Form::Many(parts) => share_many(alloc, parts),
+        match &self.form {
+            Form::One(chars) => {
+                let copy = chars.shared_copy(alloc)?;
+                Ok(Text {
+                    form: Form::One(copy),
+                })
+            }
+            Form::Many(parts) => {
+                let copy = shared_many(alloc, parts)?;
+                Ok(Text {
+                    form: Form::Many(copy),
+                })
+            }
         }
     }
 }

@@ -1,7 +1,7 @@
 use Rattle.std.proofs.Common.{List, ℕ, subst}
 use Rattle.std.specs.Prelude.{string_bytes}
-use Rattle.sdb_value.specs.Edits.{Edits}
-use Rattle.sdb_value.specs.Text.{remove_text}
+use Rattle.sdb_text.specs.Edits.{Edits}
+use Rattle.sdb_text.specs.Text.{remove_text}
 use Rattle.sdb_value.specs.Law.{known}
 use Rattle.sdb_apply.proofs.Outcomes.{text_edited}
 use Rattle.sdb_apply.proofs.acts.delete_at.Goals as goal

@@ -1,6 +1,6 @@
 use Rattle.std.proofs.Common.{refl, subst}
 use Rattle.std.proofs.lemmas.Result.{err_from_is_err_and}
-use Rattle.sdb_value.specs.Edits.{Edits}
+use Rattle.sdb_text.specs.Edits.{Edits}
 use Rattle.sdb_value.specs.Value.{Value, insert_item}
 use Rattle.sdb_value.specs.View.{view, items_view}
 use Rattle.sdb_value.specs.Law.{known}

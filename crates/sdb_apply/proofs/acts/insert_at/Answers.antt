@@ -1,8 +1,8 @@
 use Rattle.std.proofs.Common.{List, ℕ, refl, subst}
 use Rattle.std.proofs.lemmas.Result.{err_from_is_err_and}
 use Rattle.std.specs.Prelude.{string_bytes}
-use Rattle.sdb_value.specs.Edits.{Edits}
-use Rattle.sdb_value.specs.Text.{insert_text}
+use Rattle.sdb_text.specs.Edits.{Edits}
+use Rattle.sdb_text.specs.Text.{insert_text}
 use Rattle.sdb_value.specs.Law.{known}
 use Rattle.sdb_apply.proofs.Outcomes.{text_edited, text_stays}
 use Rattle.sdb_apply.proofs.acts.insert_at.Goals as goal

@@ -1,5 +1,5 @@
 use Rattle.std.proofs.Common.{subst}
-use Rattle.sdb_value.specs.Edits.{Edits}
+use Rattle.sdb_text.specs.Edits.{Edits}
 use Rattle.sdb_value.specs.Value.{Value, replace_item}
 use Rattle.sdb_value.specs.View.{view, items_view}
 use Rattle.sdb_value.specs.Law.{known}

@@ -1,0 +1,10 @@
+use Rattle.std.proofs.Common.{◌≡◌, ◌-◌, ◌≤◌, min, take, length}
+use Rattle.std.specs.List.{concat}
+use Rattle.sdb_text.specs.Parts.{texts_of}
+use Rattle.sdb_text.proofs.change.bytes_up_to.Given as goal
+
+abbrev pub invariant-loop-part : goal.invariant-loop-part
+invariant-loop-part l = record {
+  within : l.left ≤ l.limit;
+  counted : l.limit - l.left ≡ min l.limit (length (concat (texts_of (take l.part-index l.parts))));
+}
