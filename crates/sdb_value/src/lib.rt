@@ -23,5 +23,7 @@ pub use members::{put_member, remove_member};
 pub use numbers::{MAX, count_of, whole_of};
 pub use places::{Change, Path, Step, change_at, find, find_mut};
 pub use print::to_value;
+pub use sdb_text::Text;
+pub use sdb_text::units::{cut_at, units};
 pub use value::{Json, List, Members, Whole};
 pub use writing::write_value;
