@@ -1,6 +1,6 @@
 //! Lists in pieces, beside vectors.
 
-use sdb_pieces::{Pieces, Share};
+use sdb_pieces::{Block, Pieces, Share};
 use std::alloc::{AllocError, Global};
 use std::test::Fail;
 
@@ -30,9 +30,7 @@ fn push_all(found: &mut Vec<u64>, items: &[Number]) -> Result<(), Fail> {
 fn numbers(alloc: Global, list: &Pieces<Number>) -> Result<Vec<u64>, Fail> {
     let mut found = Vec::new(alloc);
     for at in 0..list.part_count() {
-        if let Some(items) = list.part(at) {
-            push_all(&mut found, items)?;
-        }
+        push_all(&mut found, list.part(at))?;
     }
     Ok(found)
 }
@@ -103,9 +101,15 @@ fn a_list_of_many_blocks_is_that_of_a_vector(rt: HostRuntime) -> Result<(), Fail
     Ok(())
 }
 
+// A list of these items, of which a copy is a pointer.
+fn shared(alloc: Global, items: Vec<Number>) -> Result<Pieces<Number>, Fail> {
+    let mut blocks = Vec::new(alloc);
+    blocks.push(Block::Own(items).into_shared(alloc)?)?;
+    Ok(Pieces::from_shared_blocks(alloc, blocks)?)
+}
+
 // What a copy has after its original was changed, and the original after the copy was.
 fn apart(alloc: Global, list: &mut Pieces<Number>, plain: &mut Vec<u64>) -> Result<bool, Fail> {
-    list.make_shared(alloc);
     let copy = list.share(alloc)?;
     let before = numbers(alloc, &copy)?;
     if !take(alloc, list, plain, 5)? || !put(alloc, list, plain, 77)? {
@@ -121,6 +125,8 @@ fn copies_are_changed_apart(rt: HostRuntime) -> Result<(), Fail> {
     let mut plain = Vec::new(alloc);
     let mut list = Pieces::from_vec(Vec::new(alloc));
     assert!(rt; put_all(alloc, &mut list, &mut plain)?);
+    let mut list = shared(alloc, list.into_vec(alloc)?)?;
+    assert!(rt; is(alloc, &list, &plain)? && list.part_count() == 1);
     assert!(rt; apart(alloc, &mut list, &mut plain)?);
     Ok(())
 }
@@ -147,24 +153,7 @@ fn an_item_is_changed_in_place(rt: HostRuntime) -> Result<(), Fail> {
     let mut list = short(rt.alloc())?;
     assert!(rt; changed(&mut list, 1) && !changed(&mut list, 2));
     assert!(rt; list.get(1).map(|item| item.0) == Some(9) && list.get(2).is_none());
-    list.make_shared(rt.alloc());
+    let mut list = shared(rt.alloc(), list.into_vec(rt.alloc())?)?;
     assert!(rt; !changed(&mut list, 1));
-    Ok(())
-}
-
-fn exchanged(alloc: Global, list: &mut Pieces<Number>) -> Result<bool, Fail> {
-    let mut items = Vec::new(alloc);
-    items.push(Number(5))?;
-    let done = list.swap_part(0, &mut items);
-    Ok(done && items.len() == 2 && list.part_count() == 1)
-}
-
-#[test]
-fn the_items_of_a_block_are_exchanged(rt: HostRuntime) -> Result<(), Fail> {
-    let mut list = short(rt.alloc())?;
-    assert!(rt; exchanged(rt.alloc(), &mut list)?);
-    assert!(rt; list.get(0).map(|item| item.0) == Some(5) && list.get(1).is_none());
-    list.make_shared(rt.alloc());
-    assert!(rt; !exchanged(rt.alloc(), &mut list)?);
     Ok(())
 }

@@ -103,7 +103,7 @@ fn a_text_in_pieces_is_that_of_a_string(rt: HostRuntime) -> Result<(), Fail> {
 }
 
 fn apart(alloc: Global, text: &mut Text) -> Result<bool, Fail> {
-    text.make_shared(alloc);
+    *text = text.shared_copy(alloc)?;
     let copy = text.share(alloc)?;
     let before = copy.to_string(alloc)?;
     let done = text.insert(alloc, 3_000, "x")? && text.remove(alloc, 0, "a")?;
