@@ -21,6 +21,10 @@ def lines_of(script, count):
     return subprocess.run([sys.executable, os.path.join(HERE, "..", "bench", script), str(count)], stdout=subprocess.PIPE, check=True).stdout
 
 
+STORED = b"""{"a":"op","c":"b","d":"1","v":null,"src":"x","seq":1,"create":{"type":"http://sharejs.org/types/JSONv0","data":{"n":1}}}
+{"a":"f","c":"b","d":"1"}
+"""
+
 # A session that says who it is, subscribes, sees what is stored, also through a projection, subscribes anew and lets go.
 SESSION = b"""{"a":"hs","id":"me"}
 {"a":"op","c":"boards","d":"1","src":"x","seq":1,"create":{"type":"json0","data":{"title":"a","votes":0}}}
@@ -93,10 +97,8 @@ def main():
     with tempfile.TemporaryDirectory() as made:
         library, counted = os.path.join(made, "fail_nth.so"), os.path.join(made, "count")
         subprocess.run(["cc", "-shared", "-fPIC", "-O1", "-o", library, os.path.join(HERE, "fail_nth.c"), "-ldl"], check=True)
-        with open(os.path.join(CRATES, "sdb_server_program", "stdin"), "rb") as file:
-            stored = file.read()
         inputs = [
-            ("a create and a fetch", SERVER, stored),
+            ("a create and a fetch", SERVER, STORED),
             ("40 lines on new documents", SERVER, lines_of("lines.py", 40)),
             ("40 inserts into one text", SERVER, lines_of("trace.py", 40)),
             ("a session", SERVER, SESSION),

@@ -1,8 +1,9 @@
-//! `sdb_apply`: components and operations applied.
+//! `sdb_apply`: components and operations applied. That a refused edit changes nothing is in the lines of the
+//! server.
 use crate::texts::{is_shown, json, op};
-use sdb_apply::{ApplyFault, Refused, apply, apply_at, apply_one, apply_whole};
+use sdb_apply::{ApplyFault, Refused, apply, apply_one};
 use sdb_component::read_op;
-use sdb_value::{Json, Step, from_value};
+use sdb_value::{Json, from_value};
 use serde_json::Value;
 use std::alloc::Global;
 use std::test::Fail;
@@ -109,31 +110,6 @@ fn operations_are_applied_or_refused(rt: HostRuntime) -> Result<(), Fail> {
     Ok(())
 }
 
-fn is_done(alloc: Global, value: &mut Json, steps: &Value) -> Result<bool, Fail> {
-    let op = read_op(alloc, steps)?;
-    Ok(apply_whole(alloc, value, &op).is_ok())
-}
-
-// Whether all of the operation is applied, or nothing of it.
-fn holds_whole(alloc: Global, row: &Value) -> Result<bool, Fail> {
-    let [before, steps, at, after] = row.as_array().ok_or("no row")?.as_slice() else {
-        return Err("no row of four".into());
-    };
-    let mut value = from_value(alloc, before)?;
-    let done = is_done(alloc, &mut value, steps)?;
-    let wanted = if done { after } else { before };
-    Ok(is_value(alloc, &value, wanted)? && done == at.is_null())
-}
-
-#[test]
-fn operations_are_applied_whole_or_refused(rt: HostRuntime) -> Result<(), Fail> {
-    let rows = Value::from_str(rt.alloc(), STEPS)?;
-    for row in rows.as_array().ok_or("no rows")? {
-        assert!(rt; holds_whole(rt.alloc(), row)?, "{row}");
-    }
-    Ok(())
-}
-
 // Applies the one component that the text names.
 fn applied_one(alloc: Global, value: &mut Json, text: &str) -> Result<bool, Fail> {
     match op(alloc, text)?.components() {
@@ -156,29 +132,6 @@ fn takes_one_insert(alloc: Global, value: &mut Json) -> Result<bool, Fail> {
 fn one_component_is_applied(rt: HostRuntime) -> Result<(), Fail> {
     let mut value = json(rt.alloc(), r#"{"l":[1]}"#)?;
     assert!(rt; takes_one_insert(rt.alloc(), &mut value)?);
-    Ok(())
-}
-
-// Applies the act of the one component that the text names.
-fn applied_at(alloc: Global, value: &mut Json, path: &[Step], text: &str) -> Result<bool, Fail> {
-    match op(alloc, text)?.components() {
-        [component] => Ok(apply_at(alloc, value, path, component.act()).is_ok()),
-        _ => Err("no component".into()),
-    }
-}
-
-// Inserts into the second item.
-fn applied_in_second(alloc: Global, value: &mut Json) -> Result<bool, Fail> {
-    let mut path = Vec::new(alloc);
-    path.push(Step::Index(1))?;
-    applied_at(alloc, value, path.as_slice(), r#"[{"p":[2],"si":"c"}]"#)
-}
-
-#[test]
-fn an_act_is_applied_at_a_path(rt: HostRuntime) -> Result<(), Fail> {
-    let mut value = json(rt.alloc(), r#"[[],"ab"]"#)?;
-    assert!(rt; applied_in_second(rt.alloc(), &mut value)?);
-    assert!(rt; is_shown(rt.alloc(), &value, r#"[[],"abc"]"#)?);
     Ok(())
 }
 

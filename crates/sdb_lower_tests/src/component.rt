@@ -1,5 +1,5 @@
-//! `sdb_component`: operations read, copied, weighed and printed.
-use crate::texts::{extended, op, printed};
+//! `sdb_component`: operations read, copied, weighed and printed. What is refused is in the lines of the server.
+use crate::texts::{op, printed};
 use json::Writer;
 use sdb_component::{Component, Op, OpFault, op_value, read_op, weight, write_op};
 use serde_json::Value;
@@ -58,101 +58,6 @@ fn each_shape_is_read_and_printed(rt: HostRuntime) -> Result<(), Fail> {
     Ok(())
 }
 
-// No operations.
-const OTHERS: &str = r#"[
-  {},
-  [1],
-  [{"p":[]}],
-  [{"na":1}],
-  [{"p":[],"oi":1}],
-  [{"p":["k"],"li":1}],
-  [{"p":[0],"oi":1}],
-  [{"p":[0],"lm":1}],
-  [{"p":[0],"li":1,"lm":1}],
-  [{"p":[],"t":"text0","o":[]}],
-  [{"p":["k"],"oi":1,"li":2}],
-  [{"p":[],"na":1.5}],
-  [{"p":[],"na":9007199254740992}],
-  [{"p":[9007199254740992],"ld":1}],
-  [{"p":[-1],"ld":1}],
-  [{"p":[1.0],"ld":1}],
-  [{"p":[0],"si":1}],
-  [{"p":[],"si":""}],
-  [{"p":["k"],"oi":[1.5]}],
-  [{"oi":1,"p":["k"],"t":null}],
-  [{"lm":null,"li":1,"p":[0]}],
-  [{"oi":1,"li":null,"p":["k"]}],
-  [{"na":null,"p":[]}],
-  [{"oi":1,"p":null}]
-]"#;
-
-fn is_form(alloc: Global, value: &Value) -> bool {
-    matches!(read_op(alloc, value), Err(OpFault::Form))
-}
-
-#[test]
-fn other_values_are_refused(rt: HostRuntime) -> Result<(), Fail> {
-    let values = Value::from_str(rt.alloc(), OTHERS)?;
-    for value in values.as_array().ok_or("no values")? {
-        assert!(rt; is_form(rt.alloc(), value), "{value}");
-    }
-    Ok(())
-}
-
-// An edit of the number at a path of so many steps.
-fn long_path(alloc: Global, steps: u64) -> Result<Value, Fail> {
-    let mut text = extended(
-        alloc,
-        r#"[{"na":1,"p":["a""#,
-        r#","a""#,
-        steps.saturating_sub(1),
-    )?;
-    text.push_str("]}]")?;
-    Ok(Value::from_str(alloc, text.as_str())?)
-}
-
-// An operation of so many components, of which the last alone has an effect.
-fn many(alloc: Global, components: u64) -> Result<Value, Fail> {
-    let empty = r#"{"p":[0],"si":""},"#;
-    let mut text = extended(alloc, "[", empty, components.saturating_sub(1))?;
-    text.push_str(r#"{"p":[],"na":1}]"#)?;
-    Ok(Value::from_str(alloc, text.as_str())?)
-}
-
-// An insert of lists, so many inside one another.
-fn deep(alloc: Global, depth: u64) -> Result<Value, Fail> {
-    let opened = extended(alloc, r#"[{"p":["k"],"oi":"#, "[", depth)?;
-    let mut text = extended(alloc, opened.as_str(), "]", depth)?;
-    text.push_str("}]")?;
-    Ok(Value::from_str(alloc, text.as_str())?)
-}
-
-fn is_read_as_sent(alloc: Global, sent: &Value) -> Result<bool, Fail> {
-    is_read_as(alloc, sent, sent.to_string(alloc)?.as_str())
-}
-
-#[test]
-fn steps_are_limited(rt: HostRuntime) -> Result<(), Fail> {
-    assert!(rt; is_read_as_sent(rt.alloc(), &long_path(rt.alloc(), 50)?)?);
-    assert!(rt; is_form(rt.alloc(), &long_path(rt.alloc(), 51)?));
-    Ok(())
-}
-
-#[test]
-fn components_are_limited(rt: HostRuntime) -> Result<(), Fail> {
-    let most = many(rt.alloc(), 256)?;
-    assert!(rt; is_read_as(rt.alloc(), &most, r#"[{"na":1,"p":[]}]"#)?);
-    assert!(rt; is_form(rt.alloc(), &many(rt.alloc(), 257)?));
-    Ok(())
-}
-
-#[test]
-fn depth_is_limited(rt: HostRuntime) -> Result<(), Fail> {
-    assert!(rt; !is_form(rt.alloc(), &deep(rt.alloc(), 50)?));
-    assert!(rt; is_form(rt.alloc(), &deep(rt.alloc(), 51)?));
-    Ok(())
-}
-
 // An operation of all nine shapes, each in containers of containers.
 const NINE: &str = r#"[
     {"na":-3,"p":["a",0,"n"]},
@@ -165,15 +70,6 @@ const NINE: &str = r#"[
     {"od":{"p":[false,[1]]},"p":["e","f"]},
     {"od":["q",{"r":1}],"oi":{"s":[2,[3]]},"p":[6,"g"]}
 ]"#;
-
-// Whether the component, alone, is read as it is spelled.
-fn is_read_alone(alloc: Global, component: &Component) -> Result<bool, Fail> {
-    let mut components = Vec::new(alloc);
-    components.push(component.try_clone(alloc)?)?;
-    let alone = Op::new(components);
-    let again = read_op(alloc, &op_value(alloc, &alone)?)?;
-    is_spelled(alloc, &again, printed(alloc, &alone)?.as_str())
-}
 
 fn copy_of_nine(alloc: Global) -> Result<Op, Fail> {
     Ok(op(alloc, NINE)?.try_clone(alloc)?)
@@ -189,15 +85,6 @@ fn a_copy_is_the_same(rt: HostRuntime) -> Result<(), Fail> {
     let copy = copy_of_nine(rt.alloc())?;
     assert!(rt; is_nine(rt.alloc(), &copy)?);
     assert!(rt; copy.components().len() == 9 && weight(&copy) == 11);
-    Ok(())
-}
-
-#[test]
-fn components_are_read_alone(rt: HostRuntime) -> Result<(), Fail> {
-    let op = op(rt.alloc(), NINE)?;
-    for component in op.components() {
-        assert!(rt; is_read_alone(rt.alloc(), component)?);
-    }
     Ok(())
 }
 

@@ -2,7 +2,7 @@
 ghost use Rattle.std.specs.Prelude.{◌≡◌, ◌∷◌, [], ◌++◌, decimal, OnOk};
 ghost use Rattle.sdb_lower_tests.specs.LongestLine.{TakesLine, has_bytes};
 
-use sdb_lines::{Counts, LINE_LIMIT, Replier, RunFault, WatchedReader, WatchedWriter, run_lines};
+use sdb_lines::{Counts, Replier, RunFault, WatchedReader, WatchedWriter, run_lines};
 use std::alloc::{AllocError, Global};
 use std::cell::Cell;
 use std::io;
@@ -188,23 +188,6 @@ fn ends_lines_at_line_feeds(rt: HostRuntime) {
     assert!(rt; is_answered(rt.alloc(), b"ab\r\n\n", b"0\n3\n3\n", 2, 1));
     assert!(rt; is_answered(rt.alloc(), b"a\n\nb", b"0\n1\n1\n1\n", 3, 2));
     assert!(rt; is_answered(rt.alloc(), b"\xc3\n\xc3\xa9\n", b"0\nbad\n2\n", 2, 1));
-}
-
-// A line of so many bytes, and one that is a byte longer.
-fn two_lines(alloc: Global, length: usize) -> Result<Vec<u8>, AllocError> {
-    let mut lines = vec![in alloc; b'a'; length]?;
-    lines.push(b'\n')?;
-    for _ in 0..=length {
-        lines.push(b'b')?;
-    }
-    Ok(lines)
-}
-
-#[test]
-fn reads_lines_up_to_the_limit(rt: HostRuntime) -> Result<(), AllocError> {
-    let input = two_lines(rt.alloc(), LINE_LIMIT)?;
-    assert!(rt; is_answered(rt.alloc(), input.as_slice(), b"0\n1048576\nbad\n", 2, 1));
-    Ok(())
 }
 
 // Whether the read of this number fails once this is written and flushed.

@@ -72,17 +72,28 @@ const EDITED: &str = r#"{"a":"op","c":"b","d":"1","seq":1,"src":"y","v":1}"#;
 const FOLLOWED: &str =
     r#"{"a":"op","c":"b","d":"1","op":[{"na":1,"p":["n"]}],"seq":1,"src":"y","v":1}"#;
 
+// The first client, which has created the document and follows it.
+fn follow(rt: HostRuntime, alloc: Global, address: SocketAddr) -> Result<Client, &'static str> {
+    let mut client = enter(rt, alloc, address, FIRST_OPENING)?;
+    ask(alloc, &mut client, CREATE, CREATED)?;
+    ask(alloc, &mut client, SUBSCRIBE, SUBSCRIBED)?;
+    Ok(client)
+}
+
+// The second client edits the document, and goes.
+fn edit(rt: HostRuntime, alloc: Global, address: SocketAddr) -> Result<(), &'static str> {
+    let mut client = enter(rt, alloc, address, SECOND_OPENING)?;
+    ask(alloc, &mut client, EDIT, EDITED)
+}
+
 // One client follows what another one edits.
 fn edit_and_follow(
     rt: HostRuntime,
     alloc: Global,
     address: SocketAddr,
 ) -> Result<(), &'static str> {
-    let mut follower = enter(rt, alloc, address, FIRST_OPENING)?;
-    ask(alloc, &mut follower, CREATE, CREATED)?;
-    ask(alloc, &mut follower, SUBSCRIBE, SUBSCRIBED)?;
-    let mut editor = enter(rt, alloc, address, SECOND_OPENING)?;
-    ask(alloc, &mut editor, EDIT, EDITED)?;
+    let mut follower = follow(rt, alloc, address)?;
+    edit(rt, alloc, address)?;
     expect(&mut follower, FOLLOWED)
 }
 
@@ -114,25 +125,54 @@ fn leave(mut client: Client) -> Result<(), &'static str> {
     Err("not closed by the server")
 }
 
-// All slots are taken, some are rejected, and then each slot is left and taken by another one.
-fn fill_all_slots(rt: HostRuntime, alloc: Global, address: SocketAddr) -> Result<(), &'static str> {
-    let mut first = Vec::new(alloc);
+// A client in each slot.
+fn enter_all(
+    rt: HostRuntime,
+    alloc: Global,
+    address: SocketAddr,
+) -> Result<Vec<Client>, &'static str> {
+    let mut clients = Vec::new(alloc);
     for number in 1..=SLOTS {
-        let client = enter(rt, alloc, address, opening(alloc, number)?.as_str())?;
-        first.push(client).or(Err("no memory"))?;
+        let opening = opening(alloc, number)?;
+        clients
+            .push(enter(rt, alloc, address, opening.as_str())?)
+            .or(Err("no memory"))?;
     }
+    Ok(clients)
+}
+
+// Some come while all slots are taken.
+fn be_sent_away(rt: HostRuntime, alloc: Global, address: SocketAddr) -> Result<(), &'static str> {
     for _ in 0..3 {
         if come(rt, alloc, address, "")?.is_some() {
             return Err("one too many is served");
         }
     }
+    Ok(())
+}
+
+// Each leaves, and another one takes the slot and keeps it.
+fn take_turns(
+    rt: HostRuntime,
+    alloc: Global,
+    address: SocketAddr,
+    mut first: Vec<Client>,
+) -> Result<(), &'static str> {
     let mut next = Vec::new(alloc);
     for number in SLOTS + 1..=ALL {
         leave(first.pop().ok_or("nobody is left")?)?;
-        let client = come_again(rt, alloc, address, opening(alloc, number)?.as_str())?;
-        next.push(client).or(Err("no memory"))?;
+        let opening = opening(alloc, number)?;
+        next.push(come_again(rt, alloc, address, opening.as_str())?)
+            .or(Err("no memory"))?;
     }
     Ok(())
+}
+
+// All slots are taken, some are rejected, and then each slot is left and taken by another one.
+fn fill_all_slots(rt: HostRuntime, alloc: Global, address: SocketAddr) -> Result<(), &'static str> {
+    let clients = enter_all(rt, alloc, address)?;
+    be_sent_away(rt, alloc, address)?;
+    take_turns(rt, alloc, address, clients)
 }
 
 // A fetch of so many bytes.
@@ -144,6 +184,17 @@ fn padded(alloc: Global, length: usize) -> Result<String, &'static str> {
     Ok(text)
 }
 
+// Sends a fetch of so many bytes.
+fn ask_padded(
+    alloc: Global,
+    client: &mut Client,
+    length: usize,
+    answer: &str,
+) -> Result<(), &'static str> {
+    let text = padded(alloc, length)?;
+    ask(alloc, client, text.as_str(), answer)
+}
+
 fn send_large_messages(
     rt: HostRuntime,
     alloc: Global,
@@ -151,11 +202,9 @@ fn send_large_messages(
 ) -> Result<(), &'static str> {
     let mut client = enter(rt, alloc, address, FIRST_OPENING)?;
     for length in [65_536, 65_537, 1_048_576] {
-        let text = padded(alloc, length)?;
-        ask(alloc, &mut client, text.as_str(), FETCHED)?;
+        ask_padded(alloc, &mut client, length, FETCHED)?;
     }
-    let text = padded(alloc, 1_048_577)?;
-    ask(alloc, &mut client, text.as_str(), BADLY_FORMED)?;
+    ask_padded(alloc, &mut client, 1_048_577, BADLY_FORMED)?;
     expect_close(&mut client, CloseCode::Size)
 }
 

@@ -4,6 +4,7 @@ use sdb_oplog::Key;
 use sdb_projection::Table;
 use sdb_server::serve;
 use sdb_submit::Desk;
+use sdb_subscribe::SubId;
 use std::alloc::{AllocError, Global};
 use std::io;
 use std::io::{ErrorKind, Read, Write};
@@ -120,33 +121,43 @@ fn attend<R: Wait + Drop>(
     (pass, socket.into_inner().told)
 }
 
+// What the first client of a server is told.
+fn told<R: AllocGlobal + Wait + Drop + Copy>(rt: R, peer: Peer<'_>) -> Result<Vec<u8>, Fail> {
+    let (backend, mut host) = Backend::new(rt.alloc(), rt);
+    let pass = backend.enter(&mut host)?;
+    let (_, told) = attend(&rt, rt.alloc(), &backend, pass, peer);
+    Ok(told)
+}
+
+// What a silent client is told.
+fn told_in_silence(alloc: Global, is_pinged: bool, is_ended: bool) -> Result<Vec<u8>, Fail> {
+    let mut frames = Vec::new(alloc);
+    tell(&mut frames, OPENING)?;
+    if is_pinged {
+        frames.extend_from_slice(PING_FRAME)?;
+    }
+    if is_ended {
+        frames.extend_from_slice(AWAY_FRAME)?;
+    }
+    Ok(frames)
+}
+
+// A pong, with the mask 0.
+const PONG_FRAME: &[u8] = &[PONG, 0x80, 0, 0, 0, 0];
+
 #[test]
 fn silent_clients(rt: HostRuntime) -> Result<(), Fail> {
-    let alloc = rt.alloc();
-    let mut pong = Vec::new(alloc);
-    send(&mut pong, PONG, "")?;
-    let pong = pong.as_slice();
     for (before, bytes, behind, is_pinged, is_ended) in [
         (0, &[] as &[u8], 2_999, false, false),
         (0, &[], 3_000, true, false),
         (0, &[], 5_999, true, false),
         (0, &[], 6_000, true, true),
         (0, &[], 7_000, true, true),
-        (2_999, pong, 2_999, false, false),
-        (5_999, pong, 2_999, true, false),
+        (2_999, PONG_FRAME, 2_999, false, false),
+        (5_999, PONG_FRAME, 2_999, true, false),
     ] {
-        let (backend, mut host) = Backend::new(alloc, rt);
-        let pass = backend.enter(&mut host)?;
-        let peer = Peer::new(alloc, before, bytes, behind);
-        let (_, told) = attend(&rt, alloc, &backend, pass, peer);
-        let mut wanted = Vec::new(alloc);
-        tell(&mut wanted, OPENING)?;
-        if is_pinged {
-            wanted.extend_from_slice(PING_FRAME)?;
-        }
-        if is_ended {
-            wanted.extend_from_slice(AWAY_FRAME)?;
-        }
+        let told = told(rt, Peer::new(rt.alloc(), before, bytes, behind))?;
+        let wanted = told_in_silence(rt.alloc(), is_pinged, is_ended)?;
         assert!(rt;
             told.as_slice() == wanted.as_slice(),
             "{before} and {behind}"
@@ -155,21 +166,28 @@ fn silent_clients(rt: HostRuntime) -> Result<(), Fail> {
     Ok(())
 }
 
+// A binary message and the same as a text.
+fn twice(alloc: Global) -> Result<Vec<u8>, Fail> {
+    let mut frames = Vec::new(alloc);
+    send(&mut frames, BINARY, SUBSCRIBE)?;
+    send(&mut frames, TEXT, SUBSCRIBE)?;
+    Ok(frames)
+}
+
+// What is told of these.
+fn told_of_twice(alloc: Global) -> Result<Vec<u8>, Fail> {
+    let mut frames = Vec::new(alloc);
+    for text in [OPENING, BADLY_FORMED, SUBSCRIBED] {
+        tell(&mut frames, text)?;
+    }
+    Ok(frames)
+}
+
 #[test]
 fn a_binary_message(rt: HostRuntime) -> Result<(), Fail> {
-    let alloc = rt.alloc();
-    let mut sent = Vec::new(alloc);
-    send(&mut sent, BINARY, SUBSCRIBE)?;
-    send(&mut sent, TEXT, SUBSCRIBE)?;
-    let (backend, mut host) = Backend::new(alloc, rt);
-    let pass = backend.enter(&mut host)?;
-    let peer = Peer::new(alloc, 0, sent.as_slice(), 1);
-    let (_, told) = attend(&rt, alloc, &backend, pass, peer);
-    let mut wanted = Vec::new(alloc);
-    tell(&mut wanted, OPENING)?;
-    tell(&mut wanted, BADLY_FORMED)?;
-    tell(&mut wanted, SUBSCRIBED)?;
-    assert!(rt; told.as_slice() == wanted.as_slice());
+    let sent = twice(rt.alloc())?;
+    let told = told(rt, Peer::new(rt.alloc(), 0, sent.as_slice(), 1))?;
+    assert!(rt; told.as_slice() == told_of_twice(rt.alloc())?.as_slice());
     Ok(())
 }
 
@@ -180,24 +198,39 @@ fn document(alloc: Global) -> Result<Key, AllocError> {
     })
 }
 
-// The first queue of a document has the same number at every backend, so it is asked for by the number
-// that another backend gave.
+// The number of the first queue of a document, which is the same at every backend.
+fn first_queue<R: AllocGlobal + Wait + Drop>(rt: R, key: &Key) -> Result<SubId, Fail> {
+    let (backend, mut host) = Backend::new(rt.alloc(), rt);
+    let mut pass = backend.enter(&mut host)?;
+    Ok(backend.subscribe(&mut pass, key, None)?.id)
+}
+
+fn one_subscribe(alloc: Global) -> Result<Vec<u8>, Fail> {
+    let mut frames = Vec::new(alloc);
+    send(&mut frames, TEXT, SUBSCRIBE)?;
+    Ok(frames)
+}
+
+// Whether the queue is gone, and another one is opened.
+fn is_gone<R: Wait + Drop>(
+    backend: &Backend<R>,
+    pass: &mut Pass,
+    key: &Key,
+    first: SubId,
+) -> Result<bool, Fail> {
+    let is_gone = backend.take(pass, key, first, 1)?.is_none();
+    let second = backend.subscribe(pass, key, None)?.id;
+    Ok(is_gone && second != first && backend.take(pass, key, second, 1)?.is_some())
+}
+
 #[test]
 fn a_session_that_has_ended_has_no_queue(rt: HostRuntime) -> Result<(), Fail> {
-    let alloc = rt.alloc();
-    let key = document(alloc)?;
-    let (other, mut other_host) = Backend::new(alloc, rt);
-    let mut other_pass = other.enter(&mut other_host)?;
-    let first = other.subscribe(&mut other_pass, &key, None)?.id;
-    let mut sent = Vec::new(alloc);
-    send(&mut sent, TEXT, SUBSCRIBE)?;
-    let (backend, mut host) = Backend::new(alloc, rt);
+    let (key, sent) = (document(rt.alloc())?, one_subscribe(rt.alloc())?);
+    let first = first_queue(rt, &key)?;
+    let (backend, mut host) = Backend::new(rt.alloc(), rt);
     let pass = backend.enter(&mut host)?;
-    let peer = Peer::new(alloc, 0, sent.as_slice(), 1);
-    let (mut pass, _) = attend(&rt, alloc, &backend, pass, peer);
-    assert!(rt; backend.take(&mut pass, &key, first, 1)?.is_none());
-    let second = backend.subscribe(&mut pass, &key, None)?.id;
-    assert!(rt; second != first);
-    assert!(rt; backend.take(&mut pass, &key, second, 1)?.is_some());
+    let peer = Peer::new(rt.alloc(), 0, sent.as_slice(), 1);
+    let (mut pass, _) = attend(&rt, rt.alloc(), &backend, pass, peer);
+    assert!(rt; is_gone(&backend, &mut pass, &key, first)?);
     Ok(())
 }

@@ -1,12 +1,9 @@
-//! Projections.
+//! `sdb_projection`: tables that refuse, and an operation alone. All else is in the lines of the server.
 use sdb_component::{Act, Component, Op};
-use sdb_oplog::{Content, Kind};
-use sdb_projection::{
-    Projection, Table, TableFault, allowed, project_content, project_data, project_op,
-};
+use sdb_projection::{Projection, Table, TableFault, project_op};
 use sdb_value::{Json, Step, Whole};
 use std::alloc::Global;
-use std::collections::{BTreeMap, BTreeSet};
+use std::collections::BTreeSet;
 use std::test::Fail;
 
 // A projection that shows `title`.
@@ -23,15 +20,6 @@ fn no_fields(alloc: Global, name: &str, base: &str) -> Result<Projection, Fail> 
     );
     let fields = BTreeSet::new(alloc);
     Ok(Projection { name, base, fields })
-}
-
-// The object that has null at each of the keys.
-fn nulls(alloc: Global, keys: &[&str]) -> Result<Json, Fail> {
-    let mut members = BTreeMap::new(alloc);
-    for key in keys {
-        drop(members.insert(String::from_str(alloc, key)?, Json::Null)?);
-    }
-    Ok(Json::Object(members))
 }
 
 // Adds 1 below the key.
@@ -57,76 +45,16 @@ fn op_of(alloc: Global, added: &str, put: &str) -> Result<Op, Fail> {
     Ok(Op::new(components))
 }
 
-fn shown_data(alloc: Global, data: &Json) -> Result<Json, Fail> {
-    Ok(project_data(alloc, &titles(alloc, "t", "b")?, data)?)
-}
-
-// Whether of an object of these keys those are shown.
-fn shows(alloc: Global, keys: &[&str], wanted: &[&str]) -> Result<bool, Fail> {
-    Ok(shown_data(alloc, &nulls(alloc, keys)?)? == nulls(alloc, wanted)?)
-}
-
-#[test]
-fn data_show_the_fields_alone(rt: HostRuntime) -> Result<(), Fail> {
-    let alloc = rt.alloc();
-    assert!(rt; shows(alloc, &["n", "title"], &["title"])?);
-    assert!(rt; shown_data(alloc, &Json::Bool(true))? == Json::Null);
-    Ok(())
-}
-
 // How many components the projection shows of an operation.
 fn shown_components(alloc: Global, op: &Op) -> Result<usize, Fail> {
     let shown = project_op(alloc, &titles(alloc, "t", "b")?, op)?;
     Ok(shown.components().len())
 }
 
-// How many components the projection shows of an edit.
-fn shown_puts(alloc: Global, content: &Content) -> Result<Option<usize>, Fail> {
-    let content = project_content(alloc, &titles(alloc, "t", "b")?, content)?;
-    match content.kind() {
-        Kind::Edit(op) => Ok(Some(op.components().len())),
-        _ => Ok(None),
-    }
-}
-
-fn shown_of_edit(alloc: Global) -> Result<Option<usize>, Fail> {
-    let edit = Content::edit(alloc, op_of(alloc, "n", "title")?)?;
-    shown_puts(alloc, &edit)
-}
-
 #[test]
-fn contents_show_what_leads_to_fields(rt: HostRuntime) -> Result<(), Fail> {
-    let alloc = rt.alloc();
-    assert!(rt; shown_components(alloc, &op_of(alloc, "n", "title")?)? == 1);
-    assert!(rt; shown_of_edit(alloc)? == Some(1));
-    assert!(rt; shown_puts(alloc, &Content::delete())?.is_none());
-    Ok(())
-}
-
-fn allows(alloc: Global, content: &Content) -> Result<bool, Fail> {
-    Ok(allowed(&titles(alloc, "t", "b")?, content))
-}
-
-fn allows_create(alloc: Global, keys: &[&str]) -> Result<bool, Fail> {
-    allows(alloc, &Content::create(alloc, nulls(alloc, keys)?)?)
-}
-
-#[test]
-fn what_data_are_allowed(rt: HostRuntime) -> Result<(), Fail> {
-    assert!(rt; allows(rt.alloc(), &Content::delete())?);
-    assert!(rt; allows_create(rt.alloc(), &["title"])?);
-    assert!(rt; !allows_create(rt.alloc(), &["n", "title"])?);
-    Ok(())
-}
-
-fn allows_edit(alloc: Global, put: &str) -> Result<bool, Fail> {
-    allows(alloc, &Content::edit(alloc, op_of(alloc, "title", put)?)?)
-}
-
-#[test]
-fn what_edits_are_allowed(rt: HostRuntime) -> Result<(), Fail> {
-    assert!(rt; allows_edit(rt.alloc(), "title")?);
-    assert!(rt; !allows_edit(rt.alloc(), "n")?);
+fn an_operation_shows_what_leads_to_fields(rt: HostRuntime) -> Result<(), Fail> {
+    let op = op_of(rt.alloc(), "n", "title")?;
+    assert!(rt; shown_components(rt.alloc(), &op)? == 1);
     Ok(())
 }
 

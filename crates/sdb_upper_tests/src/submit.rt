@@ -7,9 +7,9 @@ ghost use Rattle.sdb_submit.specs.Calls.{Acts};
 
 use crate::desk::{editing, number, stored, whole};
 use sdb_component::{Act, Component};
-use sdb_desk::{Attempt, Fetched, Look, Outcome, Reply, Shard, Subscribed, Work};
+use sdb_desk::{Fetched, Look, Outcome, Reply, Shard, Subscribed, Work};
 use sdb_oplog::{Code, Content, Entry, Key, Submission};
-use sdb_submit::{Desk, Gate, NoGate, Solo, submit, work};
+use sdb_submit::{Desk, Gate, Solo, submit};
 use sdb_subscribe::SubId;
 use sdb_value::{Json, Step};
 use std::alloc::{AllocError, Global};
@@ -228,19 +228,6 @@ fn one_caller_commits_once(rt: HostRuntime) -> Result<(), Fail> {
     Ok(())
 }
 
-// Whether the shard stores the document.
-fn is_submitted_to(alloc: Global, shard: &mut Shard, key: &Key) -> Result<bool, Fail> {
-    let reply = submit(alloc, &Solo, shard, key, &create(alloc)?, &NoGate);
-    Ok(stored(&reply) == Some((0, 0)) && present(shard, key)? == (1, Some(0)))
-}
-
-#[test]
-fn a_shard_is_submitted_to(rt: HostRuntime) -> Result<(), Fail> {
-    let key = a_key(rt.alloc())?;
-    assert!(rt; is_submitted_to(rt.alloc(), &mut Shard::new(rt.alloc()), &key)?);
-    Ok(())
-}
-
 fn with_others(alloc: Global, key: &Key) -> Result<Shared, Fail> {
     Ok(Shared {
         shard: started(alloc, key)?,
@@ -267,21 +254,5 @@ fn a_commit_without_a_try_decides_after_eight(rt: HostRuntime) -> Result<(), Fai
     assert!(rt; reply == Some((9, 8)));
     assert!(rt; gate.digits.get() == 12_345_678);
     assert!(rt; present == (10, Some(108)));
-    Ok(())
-}
-
-fn an_attempt(alloc: Global) -> Result<Attempt, Fail> {
-    let key = a_key(alloc)?;
-    let submission = hundred(alloc)?;
-    let look = started(alloc, &key)?.look(&key, &submission)?;
-    Ok(Attempt { submission, look })
-}
-
-#[test]
-fn an_attempt_is_worked(rt: HostRuntime) -> Result<(), Fail> {
-    let Ok(worked) = work(rt.alloc(), an_attempt(rt.alloc())?) else {
-        return Err("no work".into());
-    };
-    assert!(rt; worked.version() == 1 && worked.missed().is_empty());
     Ok(())
 }
