@@ -3,6 +3,7 @@ use denote.RattleType.{RattleType}
 use denote.Param.Send.{IsSend, IsSync, sendable, view_send, view_sync}
 use denote.Struct.Field.{row_field}
 use denote.Param.SendFields.{as_row_send, as_row_sync, declared_send, declared_sync}
+use Rattle.circular_buffer.proofs.Crosses as rings
 use Rattle.lru.proofs.Crosses as lru
 use Rattle.std.proofs.Crossing.{Vec-send, Vec-sync, crosses, frees}
 use Rattle.std.proofs.MapsCrossing as maps
@@ -28,8 +29,14 @@ use Rattle.sdb_oplog.specs.contracts.entries.Submission.TheInside as submission
 use Rattle.sdb_oplog.specs.contracts.logs.Log as Log
 use Rattle.sdb_snapcache.specs.contracts.cache.Cache as Cache
 use Rattle.sdb_snapcache.specs.contracts.cache.Cache.TheInside as cache
+use Rattle.sdb_subscribe.specs.contracts.queue.Queue as Queue
+use Rattle.sdb_subscribe.specs.contracts.queue.Queue.TheInside as queue
+use Rattle.sdb_subscribe.specs.contracts.queues.Queues as Queues
+use Rattle.sdb_subscribe.specs.contracts.queues.Queues.TheInside as queues
 use Rattle.sdb_desk.specs.contracts.document.Document as Document
 use Rattle.sdb_desk.specs.contracts.document.Document.TheInside as document
+use Rattle.sdb_desk.specs.contracts.topic.Topic as Topic
+use Rattle.sdb_desk.specs.contracts.topic.Topic.TheInside as topic
 use Rattle.sdb_desk.specs.contracts.shard.Shard as Shard
 use Rattle.sdb_backend.specs.contracts.backend.Backend as Backend
 
@@ -132,8 +139,26 @@ document-send = declared_send document.the_type (search (sendable, Log-send) dep
 pub Document-send : IsSend Document.the_row
 Document-send = view_send _ _ _ _ _ document-send
 
+queue-send : IsSend queue.the_row
+queue-send = declared_send queue.the_type (search sendable, (search sendable, (search (sendable, crosses, rings.Cells-send, rings.Deed-send, frees, Entry-send) depth 30, tt)))
+
+pub Queue-send : IsSend Queue.the_row
+Queue-send = view_send _ _ _ _ _ queue-send
+
+queues-send : IsSend queues.the_row
+queues-send = declared_send queues.the_type (search (sendable, crosses) depth 20, (search sendable, (search (sendable, crosses, maps.crosses, Queue-send) depth 20, tt)))
+
+pub Queues-send : IsSend Queues.the_row
+Queues-send = view_send _ _ _ _ _ queues-send
+
+topic-send : IsSend topic.the_row
+topic-send = declared_send topic.the_type (search (sendable, crosses, Document-send) depth 20, (search (sendable, Queues-send) depth 20, tt))
+
+pub Topic-send : IsSend Topic.the_row
+Topic-send = view_send _ _ _ _ _ topic-send
+
 pub Shard-send : IsSend Shard.the_row
-Shard-send = search (sendable, crosses, maps.crosses, Document-send) depth 20
+Shard-send = search (sendable, crosses, maps.crosses, Topic-send) depth 20
 
 module _ (R : RattleType) where
   pub Backend-send : IsSend R → IsSend (Backend.the_row R)

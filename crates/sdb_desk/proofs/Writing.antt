@@ -1,38 +1,50 @@
--- What a write of one document does to the logs, and to the snapshots that are kept.
-use Rattle.std.proofs.Common.{◌≡◌, List, Bool, true, false, cond, refl, sym, ap, ◌∙◌}
-use Rattle.sdb_oplog.specs.Keys.{PlainKey, same_key, with_log}
+-- What a write of one topic does to a part of each: to the logs, the snapshots that are kept, the queues.
+use Rattle.std.proofs.Common.{◌≡◌, ℕ, Option, List, Bool, true, false, cond, refl, sym, ap, ◌∙◌}
+use Rattle.sdb_oplog.specs.Keys.{PlainKey, same_key, with_at}
 use Rattle.sdb_oplog.specs.Plain.{PlainEntry}
 use Rattle.sdb_snapcache.specs.Kept.{Snapshot}
-use Rattle.sdb_desk.specs.Documents.{PlainDocument}
-use Rattle.sdb_oplog.specs.Keys.{with_at}
-use Rattle.sdb_desk.specs.MapViewLaws.{kept_at}
-use Rattle.sdb_desk.specs.ShardView.{with_kept}
+use Rattle.sdb_subscribe.specs.Queue.{PlainQueues}
+use Rattle.sdb_subscribe.specs.Ring.{bare, ring_at}
+use Rattle.sdb_desk.specs.MapViewLaws.{kept_at, others_at, wrote_at}
+use Rattle.sdb_desk.specs.Topics.{PlainTopic}
 
-log_or : (b : Bool) (x y : PlainDocument) → (cond b x y).log ≡ cond b x.log y.log
-log_or true x y = refl
-log_or false x y = refl
+part_or : {A : Type 0} (p : PlainTopic → A) (b : Bool) (x y : PlainTopic) → p (cond b x y) ≡ cond b (p x) (p y)
+part_or p true x y = refl
+part_or p false x y = refl
 
-kept_or : (b : Bool) (x y : PlainDocument) → (cond b x y).kept ≡ cond b x.kept y.kept
-kept_or true x y = refl
-kept_or false x y = refl
+module _ {A : Type 0} (p : PlainTopic → A) (f g : PlainKey → PlainTopic) (k : PlainKey) (w : PlainTopic) where
+  pub written : g ≡ with_at f k w → ◌≡◌ {A = PlainKey → A} (λ q. p (g q)) (with_at (λ q. p (f q)) k (p w))
+  written e = λ i q. (ap (λ h. p (h q)) e ∙ part_or p (same_key k q) w (f q)) i
 
-module _ (f g : PlainKey → PlainDocument) (k : PlainKey) (w : PlainDocument) where
-  pub logs_written : g ≡ with_at f k w → (λ q. (g q).log) ≡ with_log (λ q. (f q).log) k w.log
-  logs_written e = λ i q. (ap (λ h. (h q).log) e ∙ log_or (same_key k q) w (f q)) i
+  pub same : g ≡ f → ◌≡◌ {A = PlainKey → A} (λ q. p (g q)) (λ q. p (f q))
+  same e = λ i q. p (e i q)
 
-  pub kept_written : g ≡ with_at f k w → (λ q. (g q).kept) ≡ with_kept (λ q. (f q).kept) k w.kept
-  kept_written e = λ i q. (ap (λ h. (h q).kept) e ∙ kept_or (same_key k q) w (f q)) i
+  -- the part is as it was
+  pub left : g ≡ with_at f k w → p w ≡ p (f k) → ◌≡◌ {A = PlainKey → A} (λ q. p (g q)) (λ q. p (f q))
+  left e is = written e ∙ (let old : PlainKey → A = λ q. p (f q) in sym (kept_at old k (p w) is))
 
-  pub logs_same : g ≡ f → ◌≡◌ {A = PlainKey → List PlainEntry} (λ q. (g q).log) (λ q. (f q).log)
-  logs_same e = λ i q. (e i q).log
+-- a topic whose document is as it was, and its queues
+module _ (f g : PlainKey → PlainTopic) (k : PlainKey) (old w : PlainTopic) (found : old ≡ f k) (wrote : g ≡ with_at f k w) where
+  pub logs_left : w.document ≡ old.document → ◌≡◌ {A = PlainKey → List PlainEntry} (λ q. (g q).document.log) (λ q. (f q).document.log)
+  logs_left e = left (λ t. t.document.log) f g k w wrote (ap (λ d. d.log) e ∙ ap (λ t. t.document.log) found)
 
-  pub kept_same : g ≡ f → ◌≡◌ {A = PlainKey → List Snapshot} (λ q. (g q).kept) (λ q. (f q).kept)
-  kept_same e = λ i q. (e i q).kept
+  pub kept_left : w.document ≡ old.document → ◌≡◌ {A = PlainKey → List Snapshot} (λ q. (g q).document.kept) (λ q. (f q).document.kept)
+  kept_left e = left (λ t. t.document.kept) f g k w wrote (ap (λ d. d.kept) e ∙ ap (λ t. t.document.kept) found)
 
-  -- the log is as it was
-  pub logs_left : g ≡ with_at f k w → w.log ≡ (f k).log → ◌≡◌ {A = PlainKey → List PlainEntry} (λ q. (g q).log) (λ q. (f q).log)
-  logs_left e same = logs_written e ∙ (let old : PlainKey → List PlainEntry = λ q. (f q).log in sym (kept_at old k w.log same))
+  pub queues_left : bare w.queues ≡ bare old.queues → ◌≡◌ {A = PlainKey → PlainQueues} (λ q. bare (g q).queues) (λ q. bare (f q).queues)
+  queues_left e = left (λ t. bare t.queues) f g k w wrote (e ∙ ap (λ t. bare t.queues) found)
 
-  -- and so are the snapshots
-  pub kept_left : g ≡ with_at f k w → w.kept ≡ (f k).kept → ◌≡◌ {A = PlainKey → List Snapshot} (λ q. (g q).kept) (λ q. (f q).kept)
-  kept_left e same = kept_written e ∙ (let old : PlainKey → List Snapshot = λ q. (f q).kept in sym (kept_at old k w.kept same))
+  pub queues_there : bare (g k).queues ≡ bare w.queues
+  queues_there = ap (λ t. bare t.queues) (wrote_at f g k w wrote)
+
+  pub queues_others : ◌≡◌ {A = PlainKey → PlainQueues} (λ q. bare (g q).queues) (with_at (λ q. bare (f q).queues) k (bare (g k).queues))
+  queues_others =
+      let old_queues : PlainKey → PlainQueues = λ q. bare (f q).queues in
+      let new_queues : PlainKey → PlainQueues = λ q. bare (g q).queues in
+      others_at old_queues new_queues k (bare w.queues) (written (λ t. bare t.queues) f g k w wrote)
+
+  pub queues_written : ◌≡◌ {A = PlainKey → PlainQueues} (λ q. bare (g q).queues) (with_at (λ q. bare (f q).queues) k (bare w.queues))
+  queues_written = written (λ t. bare t.queues) f g k w wrote
+
+  pub rings_left : w.queues ≡ old.queues → ◌≡◌ {A = PlainKey → ℕ → Option (List PlainEntry)} (λ q n. ring_at n (g q).queues.queues) (λ q n. ring_at n (f q).queues.queues)
+  rings_left e = left (λ t n. ring_at n t.queues.queues) f g k w wrote (ap (λ q n. ring_at n q.queues) (e ∙ ap (λ t. t.queues) found))

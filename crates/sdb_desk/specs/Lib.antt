@@ -8,4 +8,5 @@ pub mod Read
 pub mod ReplyView
 pub mod ShardView
 pub mod Stored
+pub mod Topics
 pub mod View

@@ -1,15 +1,22 @@
--- The logs, the kept snapshots and the queues of a shard.
-use Rattle.std.specs.Prelude.{List}
+-- The logs, the kept snapshots, the queues and the rings of a shard.
+use Rattle.std.specs.Prelude.{ℕ, List, Option}
 use Rattle.sdb_oplog.specs.Keys.{PlainKey, Logs, with_at}
+use Rattle.sdb_oplog.specs.Plain.{PlainEntry}
 use Rattle.sdb_snapcache.specs.Kept.{Snapshot}
-use Rattle.sdb_desk.specs.Documents.{PlainDocument, no_document}
+use Rattle.sdb_subscribe.specs.Ring.{bare, ring_at}
+use Rattle.sdb_desk.specs.Documents.{PlainDocument}
 use Rattle.sdb_desk.specs.MapView.{held}
-use Rattle.sdb_desk.specs.Machine.{no_queues, Queued, Machine}
+use Rattle.sdb_desk.specs.Machine.{Queued, Machine}
+use Rattle.sdb_desk.specs.Topics.{PlainTopic, no_topic}
 use Rattle.sdb_desk.specs.declared.shard.Shard.{Shard}
+
+-- what is kept of each key
+abbrev pub topics_of : Shard → PlainKey → PlainTopic
+topics_of m = held no_topic m.topics.entries
 
 -- the document of each key, one of which nothing is stored where there is none
 abbrev pub documents_of : Shard → PlainKey → PlainDocument
-documents_of m = held no_document m.by_key.entries
+documents_of m k = (topics_of m k).document
 
 abbrev pub logs_of : Shard → Logs
 logs_of m k = (documents_of m k).log
@@ -24,8 +31,13 @@ kept_of m k = (documents_of m k).kept
 abbrev pub with_kept : Kept → PlainKey → List Snapshot → Kept
 with_kept = with_at
 
+-- the queues of each key, without their rings
 abbrev pub queues_of : Shard → Queued
-queues_of m = held no_queues m.queues.entries
+queues_of m k = bare (topics_of m k).queues
+
+-- the rings of each key, by the numbers of their queues
+abbrev pub rings_of : Shard → PlainKey → ℕ → Option (List PlainEntry)
+rings_of m k n = ring_at n (topics_of m k).queues.queues
 
 abbrev pub machine_of : Shard → Machine
 machine_of s = record { logs = logs_of s; queues = queues_of s }

@@ -4,6 +4,7 @@
 mod attempts;
 mod document;
 mod shard;
+mod topic;
 
 pub use attempts::{Attempt, Look, Work, WorkedContent};
 pub use document::Reply;

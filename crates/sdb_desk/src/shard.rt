@@ -1,4 +1,4 @@
-//! All documents, by key.
+//! All documents and their queues, by key.
 ghost use Rattle.std.specs.Prelude.{◌≡◌, ◌≢◌, ◌≤◌, ◌<◌, [], true, length, map, take, IfOk, IfErr, IfSome, OnSome, IfNone, IsTrue, IsFalse, IsErrOf, OnOk, OnErr, Ok, Err, Some, option_map, unwrap_or, nat_eq};
 ghost use Rattle.sdb_oplog.specs.Decide.{decide, stored, missed, IsMade, storing_takes_memory, deciding_takes_memory};
 ghost use Rattle.sdb_oplog.specs.Over.{over_all, carrying_takes_memory};
@@ -11,7 +11,8 @@ ghost use Rattle.sdb_subscribe.specs.Queue.{opened, queue_at, taken_from};
 ghost use Rattle.sdb_value.specs.View.{view};
 ghost use Rattle.sdb_desk.specs.Documents.{no_document, IsOpen, Settles, RefusedAs, IsUnstored};
 ghost use Rattle.sdb_oplog.specs.Keys.{with_at};
-ghost use Rattle.sdb_desk.specs.ShardView.{documents_of, logs_of, kept_of, with_kept, queues_of};
+ghost use Rattle.sdb_desk.specs.ShardView.{topics_of, documents_of, logs_of, kept_of, with_kept, queues_of, rings_of};
+ghost use Rattle.sdb_desk.specs.Topics.{no_topic};
 ghost use Rattle.sdb_desk.specs.Read.{Leaves};
 ghost use Rattle.sdb_desk.specs.Stored.{AreStored};
 ghost use Rattle.sdb_desk.specs.Machine.{IsFoundRefused, look_at, looking_takes_memory, fetched, operations, snapshot_at, start_of, start_free, is_filled, has_document, has_version, no_queues, with_queues, closed, Decides, Commits, Keeps, Reads, Subscribes, Takes};
@@ -22,8 +23,9 @@ use crate::attempts::{Look, Work};
 use crate::document::{
     Document, Reply, check_presence, copy_of, look_at, missed_of, reply_at_sight,
 };
+use crate::topic::Topic;
 use sdb_oplog::{Code, Content, Entry, Key, Log, Submission, copy_entries, over_all, same_entries};
-use sdb_subscribe::{Queues, SubId};
+use sdb_subscribe::SubId;
 use sdb_value::Json;
 use std::alloc::{AllocError, Global};
 use std::collections::BTreeMap;
@@ -55,12 +57,12 @@ pub struct Subscribed {
 }
 
 /// The documents that something is stored of, by key, and the queues of each key. A key without a
-/// document has version 0; it may have queues.
+/// document has version 0; it may have queues. A key that has neither, and had queues, keeps how many
+/// numbers it gave.
 #[derive(Drop)]
 pub struct Shard {
     alloc: Global,
-    by_key: BTreeMap<Key, Document>,
-    queues: BTreeMap<Key, Queues>,
+    topics: BTreeMap<Key, Topic>,
 }
 
 impl Shard {
@@ -69,11 +71,11 @@ impl Shard {
         ensures logs { logs_of result ≡ no_logs }
         ensures kept { kept_of result ≡ (λ k. []) }
         ensures queues { queues_of result ≡ (λ k. no_queues) }
+        ensures rings { rings_of result ≡ (λ k n. None) }
     {
         Shard {
             alloc,
-            by_key: BTreeMap::new(alloc),
-            queues: BTreeMap::new(alloc),
+            topics: BTreeMap::new(alloc),
         }
     }
 
@@ -81,7 +83,10 @@ impl Shard {
     fn find(&self, key: &Key) -> Option<&Document>
         ensures { unwrap_or (option_map (λ d. d.now) result) no_document ≡ documents_of self.now (plain_key key.now) }
     {
-        self.by_key.get(key)
+        match self.topics.get(key) {
+            Some(topic) => topic.document(),
+            None => None,
+        }
     }
 
     /// The log of the document, if something is stored of it. Each log is made: its entries are those
@@ -102,9 +107,9 @@ impl Shard {
     pub fn documents(&self) -> Result<Vec<Key>, AllocError>
         ensures { IfOk result (λ keys. AreStored (logs_of self.now) (map plain_key keys.items)) }
     {
-        let mut keys = Vec::with_capacity(self.alloc, self.by_key.len())?;
-        for (key, document) in self.by_key.iter() {
-            if !document.log().is_empty() {
+        let mut keys = Vec::with_capacity(self.alloc, self.topics.len())?;
+        for (key, topic) in self.topics.iter() {
+            if topic.is_stored() {
                 keys.push(key.try_clone()?)?;
             }
         }
@@ -343,8 +348,8 @@ impl Shard {
     {
         let submission = submission.try_clone()?;
         let content = copy_content(content)?;
-        match self.by_key.get_mut(key) {
-            Some(document) => document.store(self.alloc, submission, content),
+        match self.topics.get_mut(key) {
+            Some(topic) => topic.store(self.alloc, submission, content),
             None => self.store_first(key, submission, content),
         }
     }
@@ -356,7 +361,7 @@ impl Shard {
         submission: Submission,
         content: Option<Content>,
     ) -> Result<(), Code>
-        requires nothing { no_document ≡ documents_of self.old (plain_key key.now) }
+        requires nothing { no_topic ≡ topics_of self.old (plain_key key.now) }
         requires settles { Settles [] submission content }
         ensures logs { OnOk result
             (logs_of self.new ≡ with_log (logs_of self.old) (plain_key key.now) (decide [] submission).log) }
@@ -366,18 +371,17 @@ impl Shard {
         ensures kept { kept_of self.new ≡ kept_of self.old }
         ensures queues { queues_of self.new ≡ queues_of self.old }
     {
-        let document = Document::first(self.alloc, submission, content)?;
-        Ok(self.keep(key, document)?)
+        let mut topic = Topic::new(self.alloc);
+        topic.store(self.alloc, submission, content)?;
+        Ok(self.keep(key, topic)?)
     }
 
-    // Keeps the document of a key.
-    fn keep(&mut self, key: &Key, document: Document) -> Result<(), AllocError>
-        ensures ok { OnOk result
-            (documents_of self.new ≡ with_at (documents_of self.old) (plain_key key.now) document) }
-        ensures err { OnErr result (documents_of self.new ≡ documents_of self.old) }
-        ensures queues { queues_of self.new ≡ queues_of self.old }
+    // Keeps the topic of a key.
+    fn keep(&mut self, key: &Key, topic: Topic) -> Result<(), AllocError>
+        ensures ok { OnOk result (topics_of self.new ≡ with_at (topics_of self.old) (plain_key key.now) topic) }
+        ensures err { OnErr result (topics_of self.new ≡ topics_of self.old) }
     {
-        drop(self.by_key.insert(key.try_clone()?, document)?);
+        drop(self.topics.insert(key.try_clone()?, topic)?);
         Ok(())
     }
 
@@ -430,6 +434,7 @@ impl Shard {
             with_kept (kept_of self.old) (plain_key key.now) (kept_of self.new (plain_key key.now)) }
         ensures logs { logs_of self.new ≡ logs_of self.old }
         ensures queues { queues_of self.new ≡ queues_of self.old }
+        ensures rings { rings_of self.new ≡ rings_of self.old }
     {
         let present = self.version(key);
         let version = version.unwrap_or(present);
@@ -453,9 +458,10 @@ impl Shard {
             with_kept (kept_of self.old) (plain_key key.now) (kept_of self.new (plain_key key.now)) }
         ensures logs { logs_of self.new ≡ logs_of self.old }
         ensures queues { queues_of self.new ≡ queues_of self.old }
+        ensures rings { rings_of self.new ≡ rings_of self.old }
     {
-        match self.by_key.get_mut(key) {
-            Some(document) => document.snapshot_at(self.alloc, version),
+        match self.topics.get_mut(key) {
+            Some(topic) => topic.snapshot_at(self.alloc, version),
             None => Ok(None),
         }
     }
@@ -465,9 +471,10 @@ impl Shard {
         ensures kept { kept_of self.new ≡ with_kept (kept_of self.old) (plain_key key.now) [] }
         ensures logs { logs_of self.new ≡ logs_of self.old }
         ensures queues { queues_of self.new ≡ queues_of self.old }
+        ensures rings { rings_of self.new ≡ rings_of self.old }
     {
-        if let Some(document) = self.by_key.get_mut(key) {
-            document.forget();
+        if let Some(topic) = self.topics.get_mut(key) {
+            topic.forget();
         }
     }
 
@@ -529,9 +536,20 @@ impl Shard {
     fn are_used_up(&self, key: &Key) -> bool
         ensures { result ≡ nat_eq (queues_of self.now (plain_key key.now)).next 18446744073709551615 }
     {
-        match self.queues.get(key) {
-            Some(queues) => queues.given() == u64::MAX,
+        match self.topics.get(key) {
+            Some(topic) => topic.queues().given() == u64::MAX,
             None => false,
+        }
+    }
+
+    /// How many entries a queue of the key has at hand, at most 64: `None` where no open queue has the
+    /// number. It takes no memory.
+    pub fn ringed(&self, key: &Key, id: SubId) -> Option<u64>
+        ensures { result ≡ option_map length (rings_of self.now (plain_key key.now) id) }
+    {
+        match self.topics.get(key) {
+            Some(topic) => topic.queues().ringed(id),
+            None => None,
         }
     }
 
@@ -549,43 +567,13 @@ impl Shard {
         ensures logs { logs_of self.new ≡ logs_of self.old }
         ensures kept { kept_of self.new ≡ kept_of self.old }
     {
-        match self.queues.get_mut(key) {
-            Some(queues) => queues.open(start),
-            None => self.open_first(key, start),
+        if let Some(topic) = self.topics.get_mut(key) {
+            return topic.open(start);
         }
-    }
-
-    // Opens the first queue of a key.
-    fn open_first(&mut self, key: &Key, start: u64) -> Result<SubId, Code>
-        requires { no_queues ≡ queues_of self.old (plain_key key.now) }
-        ensures ok { IfOk result (λ id. id ≡ 0) }
-        ensures opened { OnOk result
-            (opened start no_queues ≡ Ok (queues_of self.new (plain_key key.now))) }
-        ensures open { IfOk result (λ id. queue_at id (queues_of self.new (plain_key key.now)).queues ≡
-            Some (record { start = start; taken = 0 })) }
-        ensures err { IfErr result (λ code. RefusedBy (opened start no_queues) code) }
-        ensures same { OnErr result (queues_of self.new ≡ queues_of self.old) }
-        ensures others { queues_of self.new ≡
-            with_queues (queues_of self.old) (plain_key key.now) (queues_of self.new (plain_key key.now)) }
-        ensures logs { logs_of self.new ≡ logs_of self.old }
-        ensures kept { kept_of self.new ≡ kept_of self.old }
-    {
-        let mut queues = Queues::new(self.alloc);
-        let id = queues.open(start)?;
-        self.keep_queues(key, queues)?;
+        let mut topic = Topic::new(self.alloc);
+        let id = topic.open(start)?;
+        self.keep(key, topic)?;
         Ok(id)
-    }
-
-    // Keeps the queues of a key.
-    fn keep_queues(&mut self, key: &Key, queues: Queues) -> Result<(), AllocError>
-        ensures ok { OnOk result
-            (queues_of self.new ≡ with_queues (queues_of self.old) (plain_key key.now) queues) }
-        ensures err { OnErr result (queues_of self.new ≡ queues_of self.old) }
-        ensures logs { logs_of self.new ≡ logs_of self.old }
-        ensures kept { kept_of self.new ≡ kept_of self.old }
-    {
-        drop(self.queues.insert(key.try_clone()?, queues)?);
-        Ok(())
     }
 
     /// The next entries of a queue, at most `max`, fewer where the log ends; `None` where no open queue
@@ -599,12 +587,9 @@ impl Shard {
         ensures logs { logs_of self.new ≡ logs_of self.old }
         ensures kept { kept_of self.new ≡ kept_of self.old }
     {
-        let Some(queues) = self.queues.get_mut(key) else {
-            return Ok(None);
-        };
-        match self.by_key.get(key) {
-            Some(document) => queues.take(document.log(), id, max),
-            None => queues.take(&Log::new(self.alloc), id, max),
+        match self.topics.get_mut(key) {
+            Some(topic) => topic.take(self.alloc, id, max),
+            None => Ok(None),
         }
     }
 
@@ -615,9 +600,8 @@ impl Shard {
         ensures logs { logs_of self.new ≡ logs_of self.old }
         ensures kept { kept_of self.new ≡ kept_of self.old }
     {
-        match self.queues.get_mut(key) {
-            Some(queues) => queues.close(id),
-            None => {}
+        if let Some(topic) = self.topics.get_mut(key) {
+            topic.close(id);
         }
     }
 }

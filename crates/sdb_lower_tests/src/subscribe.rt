@@ -1,90 +1,91 @@
-//! Queues.
-ghost use Rattle.std.specs.Prelude.{◌≡◌, IfOk};
-ghost use Rattle.sdb_oplog.specs.Plain.{delete};
-
-use sdb_oplog::{Content, Entry, Log, Submission};
+//! Queues and their rings. What a take gives is in the tests of `sdb_desk`, where the log is that of a document.
+use sdb_oplog::{Content, Entry, Submission};
 use sdb_subscribe::{Queues, SubId};
 use std::alloc::Global;
 use std::test::Fail;
 
-fn entry(alloc: Global, version: u64) -> Result<Entry, Fail>
-    ensures seq { IfOk result (λ e. e.arrived.seq ≡ version) }
-    ensures content { IfOk result (λ e. e.content ≡ delete) }
-{
+fn entry(alloc: Global, version: u64) -> Result<Entry, Fail> {
     let (src, via) = (String::from_str(alloc, "x")?, String::from_str(alloc, "b")?);
     let submission = Submission::new(alloc, src, version, None, Content::delete(), via, 0)?;
     Ok(Entry::new(version, None, submission))
-}
-
-fn two_entries(alloc: Global) -> Result<Log, Fail> {
-    let mut log = Log::new(alloc);
-    log.push(entry(alloc, 0)?)?;
-    log.push(entry(alloc, 1)?)?;
-    Ok(log)
-}
-
-// The versions that come next of a queue, at most `max`: how many, and the first.
-fn taken(
-    queues: &mut Queues,
-    log: &Log,
-    id: SubId,
-    max: u64,
-) -> Result<Option<(usize, Option<u64>)>, Fail> {
-    match queues.take(log, id, max)? {
-        Some(entries) => {
-            let first = entries.as_slice().first().map(|entry| entry.version());
-            Ok(Some((entries.len(), first)))
-        }
-        None => Ok(None),
-    }
 }
 
 fn opened(queues: &mut Queues, from: u64) -> Result<SubId, Fail> {
     Ok(queues.open(from).or(Err("open"))?)
 }
 
-fn gives_each_once(queues: &mut Queues, log: &Log) -> Result<bool, Fail> {
-    let id = opened(queues, 0)?;
-    Ok(
-        taken(queues, log, id, 1)? == Some((1, Some(0)))
-            && taken(queues, log, id, 9)? == Some((1, Some(1)))
-            && taken(queues, log, id, 9)? == Some((0, None)),
-    )
-}
-
-#[test]
-fn a_queue_gives_each_entry_once(rt: HostRuntime) -> Result<(), Fail> {
-    let log = two_entries(rt.alloc())?;
-    assert!(rt; gives_each_once(&mut Queues::new(rt.alloc()), &log)?);
+// Notes the entries from this version on, up to that one.
+fn note_all(alloc: Global, queues: &mut Queues, from: u64, to: u64) -> Result<(), Fail> {
+    for version in from..to {
+        queues.note(&entry(alloc, version)?);
+    }
     Ok(())
 }
 
-fn stand_apart(queues: &mut Queues, log: &Log) -> Result<bool, Fail> {
+fn stand_apart(queues: &mut Queues) -> Result<bool, Fail> {
     let (first, second) = (opened(queues, 1)?, opened(queues, 5)?);
-    Ok(
-        first != second
-            && queues.given() == 2
-            && taken(queues, log, second, 9)? == Some((0, None))
-            && taken(queues, log, first, 9)? == Some((1, Some(1))),
-    )
+    Ok(first != second && queues.given() == 2 && queues.len() == 2)
 }
 
 #[test]
 fn queues_stand_apart(rt: HostRuntime) -> Result<(), Fail> {
-    let log = two_entries(rt.alloc())?;
-    assert!(rt; stand_apart(&mut Queues::new(rt.alloc()), &log)?);
+    assert!(rt; stand_apart(&mut Queues::new(rt.alloc()))?);
     Ok(())
 }
 
-fn forgets_a_closed_one(queues: &mut Queues, log: &Log) -> Result<bool, Fail> {
+fn forgets_a_closed_one(queues: &mut Queues) -> Result<bool, Fail> {
     let id = opened(queues, 0)?;
     queues.close(id);
-    Ok(queues.len() == 0 && taken(queues, log, id, 9)?.is_none() && opened(queues, 0)? != id)
+    Ok(queues.len() == 0 && queues.ringed(id).is_none() && opened(queues, 0)? != id)
 }
 
 #[test]
 fn a_closed_queue_is_unknown(rt: HostRuntime) -> Result<(), Fail> {
-    let log = two_entries(rt.alloc())?;
-    assert!(rt; forgets_a_closed_one(&mut Queues::new(rt.alloc()), &log)?);
+    assert!(rt; forgets_a_closed_one(&mut Queues::new(rt.alloc()))?);
+    Ok(())
+}
+
+fn holds_the_last(alloc: Global, queues: &mut Queues) -> Result<bool, Fail> {
+    let id = opened(queues, 0)?;
+    let empty = queues.ringed(id) == Some(0);
+    note_all(alloc, queues, 0, 65)?;
+    Ok(empty && queues.ringed(id) == Some(64))
+}
+
+#[test]
+fn a_ring_holds_the_last_entries(rt: HostRuntime) -> Result<(), Fail> {
+    assert!(rt; holds_the_last(rt.alloc(), &mut Queues::new(rt.alloc()))?);
+    Ok(())
+}
+
+fn waits_beyond(alloc: Global, queues: &mut Queues) -> Result<bool, Fail> {
+    let late = opened(queues, 2)?;
+    note_all(alloc, queues, 0, 2)?;
+    let before = queues.ringed(late) == Some(0);
+    note_all(alloc, queues, 2, 3)?;
+    Ok(before && queues.ringed(late) == Some(1))
+}
+
+#[test]
+fn a_ring_takes_in_nothing_before_its_start(rt: HostRuntime) -> Result<(), Fail> {
+    assert!(rt; waits_beyond(rt.alloc(), &mut Queues::new(rt.alloc()))?);
+    Ok(())
+}
+
+// Opens a queue. Where that finds no memory nothing has changed, and it is opened with memory.
+fn opens_again(queues: &mut Queues) -> Result<bool, Fail> {
+    match queues.open(7) {
+        Ok(_) => Ok(true),
+        Err(_) => {
+            let nothing = queues.given() == 0 && queues.len() == 0;
+            let id = opened(queues, 7)?;
+            Ok(nothing && queues.ringed(id) == Some(0))
+        }
+    }
+}
+
+#[test]
+fn an_open_that_finds_no_memory_changes_nothing(rt: HostRuntime) -> Result<(), Fail> {
+    assert!(rt; opens_again(&mut Queues::new(rt.alloc()))?);
     Ok(())
 }

@@ -1,5 +1,6 @@
 -- Keys, and logs by key: the machine that takes each submission in one step.
-use Rattle.std.specs.Prelude.{ℕ, List, [], Bool, cond, string_bytes}
+use Rattle.std.specs.Prelude.{ℕ, ◌+◌, ◌%◌, List, [], Bool, cond, string_bytes}
+use Rattle.std.specs.List.{sum}
 use Rattle.std.specs.declared.cmp.Ordering.{Ordering}
 use Rattle.std.specs.Ordering.{nat_cmp, is_eq, ordering_then}
 use Rattle.std.specs.Cmp.Lexicographic.{slice_cmp}
@@ -19,6 +20,10 @@ key_cmp a b = ordering_then (slice_cmp nat_cmp a.collection b.collection) (slice
 
 abbrev pub same_key : PlainKey → PlainKey → Bool
 same_key a b = is_eq (key_cmp a b)
+
+-- the number of the shard that a key falls into, of eight
+abbrev pub shard_of : PlainKey → ℕ
+shard_of k = (sum k.collection + sum k.id) % 8
 
 -- what stands at each key, with this at k
 abbrev pub with_at : {A : Type 0} → (PlainKey → A) → PlainKey → A → PlainKey → A

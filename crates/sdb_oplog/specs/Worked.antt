@@ -6,6 +6,7 @@ use Rattle.sdb_transform.specs.Grid.{cross, cross_in}
 use Rattle.sdb_oplog.specs.Plain.{PlainContent, create, delete, edit, PlainSubmission, PlainEntry}
 use Rattle.sdb_oplog.specs.Snap.{snap, document}
 use Rattle.sdb_oplog.specs.Decide.{decide, stored, repeated, refused, deciding_takes_memory, IsMade}
+use Rattle.sdb_oplog.specs.Keys.{shard_of}
 use Rattle.sdb_oplog.specs.declared.codes.Code.TheVariants.{E4, E5, E6, E7, E8}
 
 abbrev from : List ℕ → ℕ → Option ℕ → PlainContent → PlainSubmission
@@ -103,3 +104,14 @@ row_stored_takes = refl
 
 pub row_carried_takes : deciding_takes_memory three (from (codes "z") 1 (Some 1) (edit [])) ≡ true
 row_carried_takes = refl
+
+-- ---- shards
+
+pub row_shard : shard_of (record { collection = codes "b"; id = codes "1" }) ≡ 3
+row_shard = refl
+
+pub row_next_shard : shard_of (record { collection = codes "b"; id = codes "2" }) ≡ 4
+row_next_shard = refl
+
+pub row_same_shard : shard_of (record { collection = codes "b"; id = codes "9" }) ≡ 3
+row_same_shard = refl

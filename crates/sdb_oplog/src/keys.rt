@@ -1,6 +1,7 @@
 //! The keys of documents.
-ghost use Rattle.std.specs.Prelude.{IfOk, ◌≡◌};
-ghost use Rattle.sdb_oplog.specs.Keys.{plain_key};
+ghost use Rattle.std.specs.Prelude.{IfOk, ◌≡◌, ◌<◌, ◌%◌};
+ghost use Rattle.std.specs.List.{sum};
+ghost use Rattle.sdb_oplog.specs.Keys.{plain_key, shard_of};
 
 use std::alloc::AllocError;
 
@@ -21,4 +22,24 @@ impl Key {
         let id = self.id.clone()?;
         Ok(Key { collection, id })
     }
+
+    /// The number of its shard, of eight: the sum of the bytes of the collection and of the id, modulo
+    /// 8. It takes no memory.
+    pub fn shard(&self) -> usize
+        ensures shard { result ≡ shard_of (plain_key self.now) }
+        ensures below { result < 8 }
+    {
+        (sum_of(self.collection.as_str()) + sum_of(self.id.as_str())) % 8
+    }
+}
+
+// The sum of the bytes, modulo 8.
+fn sum_of(text: &str) -> usize
+    ensures { result ≡ sum text.now % 8 }
+{
+    let mut sum = 0;
+    for byte in text.as_bytes() {
+        sum = (sum + *byte as usize) % 8;
+    }
+    sum
 }

@@ -1,5 +1,5 @@
 -- The entries of the map of queues.
-use Rattle.std.proofs.Common.{◌≡◌, ℕ, ◌+◌, ◌⊎◌, inl, inr, Bool, true, false, cond, List, [], ◌∷◌, ◌++◌, Some, nat_eq, Less, Equal, Greater, refl, sym, ap, ◌∙◌, subst, arith}
+use Rattle.std.proofs.Common.{◌≡◌, ℕ, ◌+◌, ◌⊎◌, inl, inr, Bool, true, false, cond, List, [], ◌∷◌, ◌++◌, Option, Some, option_map, nat_eq, Less, Equal, Greater, refl, sym, ap, ◌∙◌, subst, arith}
 use Rattle.std.specs.declared.cmp.Ordering.{Ordering}
 use Rattle.std.specs.Ordering.{nat_cmp, is_eq, match_ordering}
 use Rattle.std.specs.Cmp.{nat_cmp_is}
@@ -10,11 +10,12 @@ use Rattle.std.proofs.lemmas.Map.Keys.{IsDistinct-from_sorted}
 use Rattle.std.proofs.lemmas.Bool.{eqb-true}
 use Rattle.std.proofs.lemmas.Bool.Decides.{eqb_tells}
 use Rattle.std.specs.BTreeMap.{is_at, insert_entry}
-use Rattle.std.specs.Map.{lookup, remove_entry, set_value}
+use Rattle.std.specs.Map.{keys_of, lookup, remove_entry, set_value}
 use Rattle.sdb_subscribe.specs.Queue.{PlainQueue, queue_at, with_queue, without, numbers, AreGiven}
+use Rattle.sdb_subscribe.specs.Ring.{RingedQueue, bare_queues}
 
 abbrev pub Entry : Type 0
-Entry = ℕ × PlainQueue
+Entry = ℕ × RingedQueue
 
 -- ---- the test of a number
 
@@ -30,57 +31,73 @@ told n k (inr f) = apart (nat_cmp n k) n k refl f.1 ∙ sym f.0
 pub same_test : (n : ℕ) → is_at (nat_cmp n) ≡ nat_eq n
 same_test n = λ i k. told n k (eqb_tells n k) i
 
-at_entries : (n : ℕ) (es : List Entry) → lookup (nat_eq n) es ≡ queue_at n es
-at_entries n [] = refl
-at_entries n (e ∷ es) = ap (cond (nat_eq n e.0) (Some e.1)) (at_entries n es)
+pub found : (n : ℕ) (es : List Entry) → lookup (is_at (nat_cmp n)) es ≡ lookup (nat_eq n) es
+found n es = ap (λ t. lookup t es) (same_test n)
 
-pub found : (n : ℕ) (es : List Entry) → lookup (is_at (nat_cmp n)) es ≡ queue_at n es
-found n es = ap (λ t. lookup t es) (same_test n) ∙ at_entries n es
+pub written : (n : ℕ) (w : RingedQueue) (es : List Entry) → set_value (is_at (nat_cmp n)) es w ≡ set_value (nat_eq n) es w
+written n w es = ap (λ t. set_value t es w) (same_test n)
 
-set_entries : (n : ℕ) (w : PlainQueue) (es : List Entry) → set_value (nat_eq n) es w ≡ with_queue n w es
-set_entries n w [] = refl
-set_entries n w (e ∷ es) = ap (λ l. cond (nat_eq n e.0) ((e.0, w) ∷ es) (e ∷ l)) (set_entries n w es)
-
-pub written : (n : ℕ) (w : PlainQueue) (es : List Entry) → set_value (is_at (nat_cmp n)) es w ≡ with_queue n w es
-written n w es = ap (λ t. set_value t es w) (same_test n) ∙ set_entries n w es
-
-removed_entries : (n : ℕ) (es : List Entry) → remove_entry (nat_eq n) es ≡ without n es
-removed_entries n [] = refl
-removed_entries n (e ∷ es) = ap (λ l. cond (nat_eq n e.0) es (e ∷ l)) (removed_entries n es)
-
-pub removed : (n : ℕ) (es : List Entry) → remove_entry (is_at (nat_cmp n)) es ≡ without n es
-removed n es = ap (λ t. remove_entry t es) (same_test n) ∙ removed_entries n es
+pub removed : (n : ℕ) (es : List Entry) → remove_entry (is_at (nat_cmp n)) es ≡ remove_entry (nat_eq n) es
+removed n es = ap (λ t. remove_entry t es) (same_test n)
 
 -- a new number stands behind the others
-pub added : (n : ℕ) (w : PlainQueue) (es : List Entry) → AreGiven n (numbers es) → insert_entry nat_cmp es n w ≡ es ++ (n, w) ∷ []
+pub added : (n : ℕ) (w : RingedQueue) (es : List Entry) → AreGiven n (keys_of es) → insert_entry nat_cmp es n w ≡ es ++ (n, w) ∷ []
 added n w [] h = refl
 added n w (e ∷ es) h = ap (λ o. match_ordering o ((n, w) ∷ e ∷ es) ((e.0, w) ∷ es) (e ∷ insert_entry nat_cmp es n w)) (sym (nat_cmp_is n e.0 Greater h.0)) ∙ ap (λ l. e ∷ l) (added n w es h.1)
 
-pub distinct : (es : List Entry) → IsStrictlySortedBy nat_cmp (numbers es) → IsDistinct nat_eq (numbers es)
-distinct es h = let E : (ℕ → ℕ → Bool) → Type 0 = λ e. IsDistinct e (numbers es) in subst E (λ i n k. same_test n i k) (IsDistinct-from_sorted nat_cmp (numbers es) h)
+-- ---- the queues without their rings
+
+at_or : (b : Bool) (q : RingedQueue) (x : Option PlainQueue) (y : Option RingedQueue) → x ≡ option_map (λ w. w.queue) y → cond b (Some q.queue) x ≡ option_map (λ w. w.queue) (cond b (Some q) y)
+at_or true q x y h = refl
+at_or false q x y h = h
+
+pub at_bare : (n : ℕ) (es : List Entry) → queue_at n (bare_queues es) ≡ option_map (λ w. w.queue) (lookup (nat_eq n) es)
+at_bare n [] = refl
+at_bare n (e ∷ es) = at_or (nat_eq n e.0) e.1 (queue_at n (bare_queues es)) (lookup (nat_eq n) es) (at_bare n es)
+
+set_or : (b : Bool) (e : Entry) (w : RingedQueue) (es rest : List Entry) (x : List (ℕ × PlainQueue)) → bare_queues rest ≡ x → bare_queues (cond b ((e.0, w) ∷ es) (e ∷ rest)) ≡ cond b ((e.0, w.queue) ∷ bare_queues es) ((e.0, e.1.queue) ∷ x)
+set_or true e w es rest x h = refl
+set_or false e w es rest x h = ap (λ l. (e.0, e.1.queue) ∷ l) h
+
+pub set_bare : (n : ℕ) (w : RingedQueue) (es : List Entry) → bare_queues (set_value (nat_eq n) es w) ≡ with_queue n w.queue (bare_queues es)
+set_bare n w [] = refl
+set_bare n w (e ∷ es) = set_or (nat_eq n e.0) e w es (set_value (nat_eq n) es w) (with_queue n w.queue (bare_queues es)) (set_bare n w es)
+
+removed_or : (b : Bool) (e : Entry) (es rest : List Entry) (x : List (ℕ × PlainQueue)) → bare_queues rest ≡ x → bare_queues (cond b es (e ∷ rest)) ≡ cond b (bare_queues es) ((e.0, e.1.queue) ∷ x)
+removed_or true e es rest x h = refl
+removed_or false e es rest x h = ap (λ l. (e.0, e.1.queue) ∷ l) h
+
+pub removed_bare : (n : ℕ) (es : List Entry) → bare_queues (remove_entry (nat_eq n) es) ≡ without n (bare_queues es)
+removed_bare n [] = refl
+removed_bare n (e ∷ es) = removed_or (nat_eq n e.0) e es (remove_entry (nat_eq n) es) (without n (bare_queues es)) (removed_bare n es)
+
+pub added_bare : (n : ℕ) (w : RingedQueue) (es : List Entry) → bare_queues (es ++ (n, w) ∷ []) ≡ bare_queues es ++ (n, w.queue) ∷ []
+added_bare n w [] = refl
+added_bare n w (e ∷ es) = ap (λ l. (e.0, e.1.queue) ∷ l) (added_bare n w es)
 
 -- ---- the numbers
 
-pub more_given : (n : ℕ) (ns : List ℕ) → AreGiven n ns → AreGiven (n + 1) ns
-more_given n [] h = tt
-more_given n (k ∷ ns) h = let b = h.0 in (omega (arith, b), more_given n ns h.1)
+pub numbers_bare : (es : List Entry) → keys_of es ≡ numbers (bare_queues es)
+numbers_bare [] = refl
+numbers_bare (e ∷ es) = ap (λ l. e.0 ∷ l) (numbers_bare es)
 
-pub given_added : (n : ℕ) (w : PlainQueue) (es : List Entry) → AreGiven n (numbers es) → AreGiven (n + 1) (numbers (es ++ (n, w) ∷ []))
+pub given_bare : (next : ℕ) (es : List Entry) → AreGiven next (keys_of es) → AreGiven next (numbers (bare_queues es))
+given_bare next es h = subst (AreGiven next) (numbers_bare es) h
+
+pub distinct : (es : List Entry) → IsStrictlySortedBy nat_cmp (keys_of es) → IsDistinct nat_eq (numbers (bare_queues es))
+distinct es h =
+    let E : (ℕ → ℕ → Bool) → Type 0 = λ e. IsDistinct e (keys_of es) in
+    subst (IsDistinct nat_eq) (numbers_bare es) (subst E (λ i n k. same_test n i k) (IsDistinct-from_sorted nat_cmp (keys_of es) h))
+
+pub given_added : (n : ℕ) (w : RingedQueue) (es : List Entry) → AreGiven n (keys_of es) → AreGiven (n + 1) (keys_of (es ++ (n, w) ∷ []))
 given_added n w [] h = (omega arith, tt)
 given_added n w (e ∷ es) h = let b = h.0 in (omega (arith, b), given_added n w es h.1)
 
-pub given_without : (n next : ℕ) (es : List Entry) → AreGiven next (numbers es) → AreGiven next (numbers (without n es))
+pub given_without : (n next : ℕ) (es : List Entry) → AreGiven next (keys_of es) → AreGiven next (keys_of (remove_entry (nat_eq n) es))
 given_without n next [] h = tt
-given_without n next (e ∷ es) h = elim (nat_eq n e.0) as (λ b. AreGiven next (numbers (cond b es (e ∷ without n es)))) [
+given_without n next (e ∷ es) h = elim (nat_eq n e.0) as (λ b. AreGiven next (keys_of (cond b es (e ∷ remove_entry (nat_eq n) es)))) [
   | true ↦ h.1
   | false ↦ (h.0, given_without n next es h.1)
-]
-
-pub same_numbers : (n : ℕ) (w : PlainQueue) (es : List Entry) → numbers (with_queue n w es) ≡ numbers es
-same_numbers n w [] = refl
-same_numbers n w (e ∷ es) = elim (nat_eq n e.0) as (λ b. numbers (cond b ((e.0, w) ∷ es) (e ∷ with_queue n w es)) ≡ e.0 ∷ numbers es) [
-  | true ↦ refl
-  | false ↦ ap (λ l. e.0 ∷ l) (same_numbers n w es)
 ]
 
 other_or : {A : Type 0} (b : Bool) (n k : ℕ) (x y : A) → nat_eq n k ≡ b → (n ≡ k → ⊥) → cond b x y ≡ y

@@ -1,2 +1,3 @@
 pub mod Entries
+pub mod Rings
 pub mod Taking

@@ -1,4 +1,5 @@
 pub mod Coding
 pub mod Laws
 pub mod Queue
+pub mod Ring
 pub mod Worked

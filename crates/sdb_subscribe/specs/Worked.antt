@@ -4,6 +4,7 @@ use Rattle.std.specs.Result.{result_ok}
 use Rattle.sdb_oplog.specs.Plain.{delete, PlainEntry}
 use Rattle.sdb_oplog.specs.declared.codes.Code.TheVariants.{E11}
 use Rattle.sdb_subscribe.specs.Queue.{PlainQueue, PlainQueues, opened, taken_from, after_take, without}
+use Rattle.sdb_subscribe.specs.Ring.{RingedQueue, moved_ringed}
 
 abbrev entry : ℕ → PlainEntry
 entry n =
@@ -70,3 +71,13 @@ row_other = refl
 -- the numbers are used up
 pub row_used_up : opened 0 (record { next = 18446744073709551615; queues = [] }) ≡ Err E11
 row_used_up = refl
+
+-- a ring that holds versions 1 and 2 stays while version 0 is taken, and then gives its first
+abbrev ringed : RingedQueue
+ringed = record { queue = record { start = 0; taken = 0 }; ring = entry 1 ∷ entry 2 ∷ [] }
+
+pub row_before_ring : (moved_ringed (log 3) 1 ringed).ring ≡ entry 1 ∷ entry 2 ∷ []
+row_before_ring = refl
+
+pub row_out_of_ring : (moved_ringed (log 3) 2 ringed).ring ≡ entry 2 ∷ []
+row_out_of_ring = refl

@@ -1,60 +1,100 @@
-//! One queue.
-ghost use Rattle.std.specs.Prelude.{◌≡◌, ◌+◌, ◌<◌, ◌≤◌, length, IfOk, OnOk, OnErr};
-ghost use Rattle.sdb_subscribe.specs.Queue.{queue, waiting, moved};
+//! One queue, and its ring.
+ghost use Rattle.std.specs.Prelude.{◌≡◌, ◌+◌, ◌-◌, ◌<◌, ◌≤◌, [], ◌++◌, length, take, drop, vec_len, vec_capacity, IfOk, OnOk, OnErr};
+ghost use Rattle.circular_buffer.specs.Buffer.{buffer};
+ghost use Rattle.sdb_subscribe.specs.Queue.{queue, waiting};
+ghost use Rattle.sdb_subscribe.specs.Ring.{FitsLog, IsNoted, moved_ringed};
 
-use sdb_oplog::{Entry, Log, copy_entries};
+use circular_buffer::HeapCircularBuffer;
+use sdb_oplog::{Entry, Log};
 use sdb_value::MAX;
 use std::alloc::{AllocError, Global};
 use std::marker::Model;
 
-// Where a queue starts, and how many entries were taken of it.
+// How many entries a ring holds at most.
+const RING: usize = 64;
+
+// Where a queue starts, how many entries were taken of it, and those of the next ones that it has at hand.
 #[derive(Drop)]
 pub(crate) struct Queue {
     start: u64,
     taken: u64,
+    ring: HeapCircularBuffer<Entry>,
 }
 
 impl Model for Queue {
-    ghost use Rattle.std.specs.Prelude.{◌+◌, ◌^◌, ◌<◌};
-    ghost use Rattle.sdb_subscribe.specs.Queue.{PlainQueue};
-    ghost use Rattle.sdb_subscribe.specs.Coding.{queue_code};
+    ghost use Rattle.std.specs.Prelude.{◌≡◌, ◌+◌, ◌^◌, ◌<◌};
+    ghost use Rattle.sdb_subscribe.specs.Ring.{RingedQueue};
+    ghost use Rattle.sdb_subscribe.specs.Coding.{ringed_queue_code};
 
-    ghost Value = { PlainQueue };
+    ghost Value = { RingedQueue };
 
-    ghost coded = { queue_code };
+    ghost coded = { ringed_queue_code };
 
-    ghost view = { λ q. record { start = q.start; taken = q.taken } };
+    ghost view = { λ q. record { queue = record { start = q.start; taken = q.taken }; ring = q.ring.items } };
 
     // what is taken stood in a log, so the sum of both fits
-    ghost invariant = { λ q. q.start + q.taken < 2 ^ 64 };
+    ghost invariant = { λ q. (q.start + q.taken < 2 ^ 64) × (q.ring.capacity ≡ 64) };
 }
 
 impl Queue {
-    pub(crate) fn new(start: u64) -> Queue
-        ensures { result ≡ record { start = start; taken = 0 } }
+    // A queue from this version on, with nothing at hand.
+    pub(crate) fn new(alloc: Global, start: u64) -> Result<Queue, AllocError>
+        ensures { IfOk result (λ q. q ≡ record { queue = record { start = start; taken = 0 }; ring = [] }) }
     {
-        Queue { start, taken: 0 }
+        let ring = HeapCircularBuffer::with_capacity(alloc, RING)?;
+        Ok(Queue {
+            start,
+            taken: 0,
+            ring,
+        })
     }
 
-    // Takes the next entries, at most `max`. Where there are none, nothing is copied; after want of
-    // memory nothing is taken.
+    // How many entries are at hand.
+    pub(crate) fn ringed(&self) -> u64
+        ensures { result ≡ length self.now.ring }
+    {
+        self.ring.len() as u64
+    }
+
+    // Takes in the entry that was just added to the log, unless the position is beyond it. Where memory
+    // is wanting for the copy, nothing stays at hand.
+    pub(crate) fn note(&mut self, entry: &Entry)
+        ensures { IsNoted entry.now self.old self.new }
+    {
+        if entry.version() < self.start + self.taken {
+            return;
+        }
+        match entry.try_clone() {
+            Ok(copy) => drop(self.ring.push_back(copy)),
+            Err(_) => self.ring.clear(),
+        }
+    }
+
+    // Takes the next entries, at most `max`: copies of what stands in the log before the ring, then what
+    // is at hand. Where there are none it takes no memory; after want of memory nothing is taken.
     pub(crate) fn take(
         &mut self,
         alloc: Global,
         log: &Log,
         max: u64,
     ) -> Result<Vec<Entry>, AllocError>
-        ensures entries { IfOk result (λ v. v.items ≡ waiting log.now max self.old) }
-        ensures moved { OnOk result (self.new ≡ moved log.now max self.old) }
+        requires { FitsLog log.now self.old }
+        ensures entries { IfOk result (λ v. v.items ≡ waiting log.now max self.old.queue) }
+        ensures moved { OnOk result (self.new ≡ moved_ringed log.now max self.old) }
         ensures err { OnErr result (self.new ≡ self.old) }
-        ensures some { OnErr result (0 < length (waiting log.now max self.old)) }
+        ensures some { OnErr result (0 < length (waiting log.now max self.old.queue)) }
     {
-        let waiting = entries_of(log, self.start + self.taken, max);
-        if waiting.is_empty() {
+        let position = self.start + self.taken;
+        let waiting = entries_of(log, position, max);
+        let count = waiting.len();
+        if count == 0 {
             return Ok(Vec::new(alloc));
         }
-        let entries = copy_entries(alloc, waiting)?;
-        self.taken += entries.len() as u64;
+        let ring_from = log.len() - self.ring.len() as u64;
+        let before = ((ring_from - position) as usize).min(count);
+        let mut entries = copies_of(alloc, &waiting[..before], count)?;
+        move_out(&mut self.ring, &mut entries, count - before);
+        self.taken += count as u64;
         Ok(entries)
     }
 }
@@ -62,9 +102,40 @@ impl Queue {
 // The first `max` entries from this one on.
 fn entries_of(log: &Log, from: u64, max: u64) -> &[Entry]
     ensures entries { result.now ≡ queue log.now from max }
-    ensures within { 0 < length result.now → from + length result.now ≤ MAX }
+    ensures within { 0 < length result.now → from + length result.now ≤ length log.now }
+    ensures room { length log.now ≤ MAX }
 {
     let entries = log.entries_from(from.min(log.len()));
     let count = max.min(entries.len() as u64);
     &entries[..count as usize]
+}
+
+// Copies of the entries, with room for `room` entries in all.
+fn copies_of(alloc: Global, entries: &[Entry], room: usize) -> Result<Vec<Entry>, AllocError>
+    requires { length entries.now ≤ room }
+    ensures copies { IfOk result (λ v. v.items ≡ entries.now) }
+    ensures room { IfOk result (λ v. room ≤ vec_capacity v) }
+{
+    let mut copies = Vec::with_capacity(alloc, room)?;
+    for entry in entries {
+        copies.push(entry.try_clone()?)?;
+    }
+    Ok(copies)
+}
+
+// Moves the first `count` entries of the ring behind those that were taken. There is room for them.
+fn move_out(ring: &mut HeapCircularBuffer<Entry>, entries: &mut Vec<Entry>, count: usize)
+    requires held { count ≤ length ring.old.items }
+    requires room { vec_len entries.old + count ≤ vec_capacity entries.old }
+    ensures entries { entries.new.items ≡ entries.old.items ++ take count ring.old.items }
+    ensures ring { ring.new ≡ buffer (drop count ring.old.items) ring.old.capacity }
+{
+    for _moved in 0..count {
+        let Some(entry) = ring.pop_front() else {
+            unreachable!();
+        };
+        let Ok(()) = entries.push(entry) else {
+            unreachable!();
+        };
+    }
 }

@@ -1,9 +1,12 @@
 //! All queues of one document.
-ghost use Rattle.std.specs.Prelude.{◌≡◌, ◌<◌, [], length, Some, Ok, Err, IfOk, IfErr, OnOk, OnErr, option_map, unwrap_or, nat_eq};
+ghost use Rattle.std.specs.Prelude.{◌≡◌, ◌∷◌, ◌++◌, ◌<◌, ℕ, List, [], length, true, Some, Ok, Err, IfOk, IfErr, OnOk, OnErr, option_map, unwrap_or, nat_eq};
 ghost use Rattle.std.specs.List.{IsDistinct};
+ghost use Rattle.std.specs.Map.{keys_of, remove_entry};
+ghost use Rattle.sdb_oplog.specs.Plain.{PlainEntry};
 ghost use Rattle.sdb_oplog.specs.Refused.{RefusedBy};
 ghost use Rattle.sdb_oplog.specs.declared.codes.Code.TheVariants.{E11};
 ghost use Rattle.sdb_subscribe.specs.Queue.{opened, queue_at, taken_from, after_take, without, numbers, AreGiven};
+ghost use Rattle.sdb_subscribe.specs.Ring.{bare, bare_queues, ring_at, FitLog, IsNoted, AreNoted, after_take_ringed};
 
 use crate::queue::Queue;
 use sdb_oplog::{Code, Entry, Log};
@@ -27,8 +30,8 @@ impl Model for SubId {
     ghost inverse = { λ n. record { number = n } };
 }
 
-/// The queues of one document: which numbers were given, and where each open queue stands. They read
-/// the log that they are lent.
+/// The queues of one document: which numbers were given, where each open queue stands, and its ring of
+/// entries at hand, at most 64. Each call that reads the log is lent it.
 #[derive(Drop)]
 pub struct Queues {
     alloc: Global,
@@ -37,16 +40,18 @@ pub struct Queues {
 }
 
 impl Model for Queues {
-    ghost use Rattle.sdb_subscribe.specs.Queue.{PlainQueues, AreGiven, numbers};
-    ghost use Rattle.sdb_subscribe.specs.Coding.{queues_code};
+    ghost use Rattle.std.specs.Map.{keys_of};
+    ghost use Rattle.sdb_subscribe.specs.Queue.{AreGiven};
+    ghost use Rattle.sdb_subscribe.specs.Ring.{RingedQueues};
+    ghost use Rattle.sdb_subscribe.specs.Coding.{ringed_queues_code};
 
-    ghost Value = { PlainQueues };
+    ghost Value = { RingedQueues };
 
-    ghost coded = { queues_code };
+    ghost coded = { ringed_queues_code };
 
     ghost view = { λ q. record { next = q.next; queues = q.queues.entries } };
 
-    ghost invariant = { λ q. AreGiven q.next (numbers q.queues.entries) };
+    ghost invariant = { λ q. AreGiven q.next (keys_of q.queues.entries) };
 }
 
 impl Queues {
@@ -63,36 +68,52 @@ impl Queues {
 
     /// How many numbers were given: each below it, once, and no other.
     pub fn given(&self) -> u64
-        ensures given { result ≡ self.now.next }
-        ensures below { AreGiven self.now.next (numbers self.now.queues) }
+        ensures given { result ≡ (bare self.now).next }
+        ensures below { AreGiven (bare self.now).next (numbers (bare self.now).queues) }
     {
         self.next
     }
 
     /// How many queues are open.
     pub fn len(&self) -> usize
-        ensures len { result ≡ length self.now.queues }
-        ensures apart { IsDistinct nat_eq (numbers self.now.queues) }
+        ensures len { result ≡ length (bare self.now).queues }
+        ensures apart { IsDistinct nat_eq (numbers (bare self.now).queues) }
     {
         self.queues.len()
     }
 
+    /// How many entries the queue has at hand, at most 64: `None` where no open queue has the number. It
+    /// takes no memory.
+    pub fn ringed(&self, id: SubId) -> Option<u64>
+        ensures { result ≡ option_map length (ring_at id self.now.queues) }
+    {
+        match self.queues.get(&id.number) {
+            Some(queue) => Some(queue.ringed()),
+            None => None,
+        }
+    }
+
     /// Opens a queue from the version on, which may be above the length of the log: then nothing comes
-    /// before the log is as long. E11 where the numbers are used up, after 18446744073709551615 of
-    /// them, and E10 for want of memory; nothing has changed then.
+    /// before the log is as long. Its ring is empty. E11 where the numbers are used up, after
+    /// 18446744073709551615 of them, and E10 for want of memory; nothing has changed then.
     pub fn open(&mut self, from: u64) -> Result<SubId, Code>
-        ensures id { IfOk result (λ id. id ≡ self.old.next) }
-        ensures ok { OnOk result (opened from self.old ≡ Ok self.new) }
-        ensures open { IfOk result (λ id. queue_at id self.new.queues ≡ Some (record { start = from; taken = 0 })) }
-        ensures full { self.old.next ≡ 18446744073709551615 → result ≡ Err E11 }
-        ensures err { IfErr result (λ code. RefusedBy (opened from self.old) code) }
+        ensures id { IfOk result (λ id. id ≡ (bare self.old).next) }
+        ensures ok { OnOk result (opened from (bare self.old) ≡ Ok (bare self.new)) }
+        ensures open { IfOk result
+            (λ id. queue_at id (bare self.new).queues ≡ Some (record { start = from; taken = 0 })) }
+        ensures full { (bare self.old).next ≡ 18446744073709551615 → result ≡ Err E11 }
+        ensures err { IfErr result (λ code. RefusedBy (opened from (bare self.old)) code) }
         ensures same { OnErr result (self.new ≡ self.old) }
+        ensures rings { OnOk result (self.new.queues ≡ self.old.queues ++
+            (self.old.next, record { queue = record { start = from; taken = 0 }; ring = [] }) ∷ []) }
+        ensures fit { (log : List PlainEntry) → FitLog log self.old.queues → FitLog log self.new.queues }
     {
         let number = self.next;
         if number == u64::MAX {
             return Err(Code::E11);
         }
-        match self.queues.insert(number, Queue::new(from)) {
+        let queue = Queue::new(self.alloc, from)?;
+        match self.queues.insert(number, queue) {
             Ok(_) => {}
             Err(error) => return Err(Code::from(AllocError::from(error))),
         }
@@ -100,26 +121,62 @@ impl Queues {
         Ok(SubId { number })
     }
 
-    /// Takes the next entries of a queue, at most `max`, fewer where the log ends. `None` where no open
-    /// queue has the number. Where nothing waits it takes no memory; after want of memory nothing is
-    /// taken.
+    /// Puts the entry that was just added to the log into each ring, unless the position of its queue is
+    /// beyond the entry: the oldest entry leaves a full ring. A ring that the copy finds no memory for is
+    /// emptied, and its queue is served from the log.
+    pub fn note(&mut self, entry: &Entry)
+        ensures noted { AreNoted entry.now self.old.queues self.new.queues }
+        ensures bare { bare self.new ≡ bare self.old }
+        ensures fit { (log : List PlainEntry) → FitLog log self.old.queues → entry.now.version ≡ length log
+            → FitLog (log ++ entry.now ∷ []) self.new.queues }
+    {
+        self.queues.retain(
+            |_number: &u64, queue: &mut Queue| -> bool
+                ensures kept { result ≡ true }
+                ensures noted { IsNoted entry.entry.now queue.old queue.new }
+            {
+                queue.note(entry);
+                true
+            },
+        );
+    }
+
+    /// Takes the next entries of a queue, at most `max`, fewer where the log ends: those before its ring
+    /// are copied from the log, the others leave the ring. `None` where no open queue has the number.
+    /// Where nothing waits it takes no memory; after want of memory nothing is taken.
     pub fn take(&mut self, log: &Log, id: SubId, max: u64) -> Result<Option<Vec<Entry>>, AllocError>
+        requires { FitLog log.now self.old.queues }
         ensures entries { IfOk result
-            (λ v. option_map (λ es. es.items) v ≡ taken_from log.now id max self.old.queues) }
-        ensures moved { OnOk result (self.new.queues ≡ after_take log.now id max self.old.queues) }
+            (λ v. option_map (λ es. es.items) v ≡ taken_from log.now id max (bare self.old).queues) }
+        ensures moved { OnOk result ((bare self.new).queues ≡ after_take log.now id max (bare self.old).queues) }
         ensures err { OnErr result (self.new.queues ≡ self.old.queues) }
-        ensures some { OnErr result (0 < length (unwrap_or (taken_from log.now id max self.old.queues) [])) }
+        ensures some { OnErr result (0 < length (unwrap_or (taken_from log.now id max (bare self.old).queues) [])) }
         ensures next { self.new.next ≡ self.old.next }
+        ensures rings { OnOk result (self.new.queues ≡ after_take_ringed log.now id max self.old.queues) }
+        ensures fit { FitLog log.now self.new.queues }
     {
         take_from(&mut self.queues, self.alloc, log, id.number, max)
     }
 
-    /// Closes a queue. It takes no memory. A number that no open queue has does nothing.
+    /// Closes a queue. It takes no memory, and where no queue is left none is held. A number that no open
+    /// queue has does nothing.
     pub fn close(&mut self, id: SubId)
-        ensures queues { self.new.queues ≡ without id self.old.queues }
+        ensures queues { (bare self.new).queues ≡ without id (bare self.old).queues }
         ensures next { self.new.next ≡ self.old.next }
+        ensures rings { self.new.queues ≡ remove_entry (nat_eq id) self.old.queues }
+        ensures fit { (log : List PlainEntry) → FitLog log self.old.queues → FitLog log self.new.queues }
     {
         drop(self.queues.remove(&id.number));
+        free_empty(&mut self.queues);
+    }
+}
+
+// A map that was emptied keeps a block until it is cleared.
+fn free_empty(queues: &mut BTreeMap<u64, Queue>)
+    ensures { queues.new.entries ≡ queues.old.entries }
+{
+    if queues.is_empty() {
+        queues.clear();
     }
 }
 
@@ -131,12 +188,14 @@ fn take_from(
     number: u64,
     max: u64,
 ) -> Result<Option<Vec<Entry>>, AllocError>
+    requires { FitLog log.now queues.old.entries }
     ensures entries { IfOk result
-        (λ v. option_map (λ es. es.items) v ≡ taken_from log.now number max queues.old.entries) }
-    ensures moved { OnOk result (queues.new.entries ≡ after_take log.now number max queues.old.entries) }
+        (λ v. option_map (λ es. es.items) v ≡ taken_from log.now number max (bare_queues queues.old.entries)) }
+    ensures rings { OnOk result (queues.new.entries ≡ after_take_ringed log.now number max queues.old.entries) }
     ensures err { OnErr result (queues.new.entries ≡ queues.old.entries) }
-    ensures some { OnErr result (0 < length (unwrap_or (taken_from log.now number max queues.old.entries) [])) }
-    ensures numbers { numbers queues.new.entries ≡ numbers queues.old.entries }
+    ensures some { OnErr result
+        (0 < length (unwrap_or (taken_from log.now number max (bare_queues queues.old.entries)) [])) }
+    ensures numbers { keys_of queues.new.entries ≡ keys_of queues.old.entries }
 {
     match queues.get_mut(&number) {
         Some(queue) => match queue.take(alloc, log, max) {

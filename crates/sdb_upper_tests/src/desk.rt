@@ -63,13 +63,14 @@ impl Board {
     // The document is the number 0.
     fn new(alloc: Global) -> Result<Board, Fail> {
         let mut board = Board::empty(alloc)?;
-        board.put(from(
-            alloc,
-            "w",
-            None,
-            Content::create(alloc, Json::Int(whole(0)?))?,
-        )?)?;
+        board.make()?;
         Ok(board)
+    }
+
+    // Makes the document.
+    fn make(&mut self) -> Result<(), Fail> {
+        let zero = Json::Int(whole(0)?);
+        self.put(from(self.alloc, "w", None, Content::create(self.alloc, zero)?)?)
     }
 
     // Stores the submission.
@@ -539,12 +540,19 @@ fn a_queue_may_start_up_to_the_present(rt: HostRuntime) -> Result<(), Fail> {
 // A document with this many entries more.
 fn long(alloc: Global, entries: u64) -> Result<Board, Fail> {
     let mut board = Board::new(alloc)?;
-    for seq in 1..=entries {
+    count_up(&mut board, 1, entries)?;
+    Ok(board)
+}
+
+// Adds one for each number from the first to the last.
+fn count_up(board: &mut Board, first: u64, last: u64) -> Result<(), Fail> {
+    let alloc = board.alloc;
+    for seq in first..=last {
         let (src, via) = (String::from_str(alloc, "x")?, String::from_str(alloc, "b")?);
         let submission = Submission::new(alloc, src, seq, None, adding(alloc, 1)?, via, 0)?;
         board.put(submission)?;
     }
-    Ok(board)
+    Ok(())
 }
 
 #[test]
@@ -559,5 +567,65 @@ fn a_long_log_is_read(rt: HostRuntime) -> Result<(), Fail> {
     assert!(rt; after.len() == 1_100);
     let late = board.edit("y", Some(1), 1)?;
     assert!(rt; stored(&board.commit_now(late)) == Some((1_101, 1_100)));
+    Ok(())
+}
+
+fn ringed(board: &Board, id: SubId) -> Option<u64> {
+    board.shard.ringed(&board.key, id)
+}
+
+// Whether the queue's next entries are these, of which there are `count`, from the first on.
+fn takes_from(
+    board: &mut Board,
+    id: SubId,
+    max: u64,
+    first: u64,
+    count: usize,
+) -> Result<bool, Fail> {
+    let versions = taken(board, id, max)?;
+    Ok(versions.len() == count && versions.as_slice().first() == Some(&first))
+}
+
+fn is_served_from_the_ring(board: &mut Board) -> Result<bool, Fail> {
+    let id = queue_from(board, 0)?;
+    let empty = ringed(board, id) == Some(0);
+    board.make()?;
+    count_up(board, 1, 64)?;
+    let full = ringed(board, id) == Some(64);
+    let oldest = takes_from(board, id, 1, 0, 1)? && ringed(board, id) == Some(64);
+    count_up(board, 65, 128)?;
+    let rest = takes_from(board, id, 200, 1, 128)? && ringed(board, id) == Some(0);
+    Ok(empty && full && oldest && rest)
+}
+
+#[test]
+fn a_commit_fills_the_rings(rt: HostRuntime) -> Result<(), Fail> {
+    assert!(rt; is_served_from_the_ring(&mut Board::empty(rt.alloc())?)?);
+    Ok(())
+}
+
+fn forgets_a_closed_ring(board: &mut Board) -> Result<bool, Fail> {
+    let id = queue_from(board, 0)?;
+    board.shard.unsubscribe(&board.key, id);
+    Ok(ringed(board, id).is_none())
+}
+
+#[test]
+fn a_closed_queue_has_no_ring(rt: HostRuntime) -> Result<(), Fail> {
+    assert!(rt; forgets_a_closed_ring(&mut Board::empty(rt.alloc())?)?);
+    Ok(())
+}
+
+fn shard_of(alloc: Global, collection: &str, id: &str) -> Result<usize, Fail> {
+    let collection = String::from_str(alloc, collection)?;
+    let id = String::from_str(alloc, id)?;
+    Ok(Key { collection, id }.shard())
+}
+
+#[test]
+fn a_key_falls_into_a_shard(rt: HostRuntime) -> Result<(), Fail> {
+    assert!(rt; shard_of(rt.alloc(), "b", "1")? == 3);
+    assert!(rt; shard_of(rt.alloc(), "b", "2")? == 4);
+    assert!(rt; shard_of(rt.alloc(), "b", "9")? == 3);
     Ok(())
 }

@@ -8,6 +8,6 @@ use Rattle.sdb_desk.proofs.shard.Shard.documents.Goals as goal
 pub returns : goal.returns
 returns c =
     let end : c.loop-key.key-iterator ≡ [] = c.in-None.ensures.steps.0 in
-    let whole : map plain_key c.loop-key.keys.items ≡ kept c.args.self.now.by_key.entries =
+    let whole : map plain_key c.loop-key.keys.items ≡ kept c.args.self.now.topics.entries =
     sym (append-nil (map plain_key c.loop-key.keys.items)) ∙ sym (ap (λ r. map plain_key c.loop-key.keys.items ++ kept r) end) ∙ c.loop-key.invariant in
-    subst (AreStored (logs_of c.args.self.now)) (sym whole) (kept_are_stored c.args.self.now.by_key.entries c.iter-key-items.ensures.ordered)
+    subst (AreStored (logs_of c.args.self.now)) (sym whole) (kept_are_stored c.args.self.now.topics.entries c.iter-key-items.ensures.ordered)

@@ -4,4 +4,4 @@ use Rattle.sdb_desk.proofs.Listing.{kept}
 use Rattle.sdb_desk.proofs.shard.Shard.documents.Given as goal
 
 abbrev pub invariant-loop-key : goal.invariant-loop-key
-invariant-loop-key l = map plain_key l.keys.items ++ kept l.key-iterator ≡ kept l.self.by_key.entries
+invariant-loop-key l = map plain_key l.keys.items ++ kept l.key-iterator ≡ kept l.self.topics.entries

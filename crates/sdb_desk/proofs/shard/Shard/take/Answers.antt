@@ -1,22 +1,48 @@
 use Rattle.std.proofs.Common.{ap}
 use Rattle.sdb_oplog.specs.Keys.{plain_key}
+use Rattle.sdb_subscribe.specs.Ring.{bare}
 use Rattle.sdb_desk.specs.MapView.{held}
-use Rattle.sdb_desk.specs.ShardView.{queues_of}
-use Rattle.sdb_desk.specs.Machine.{no_queues}
-use Rattle.sdb_desk.specs.MapViewLaws.{same_at, write_through, others_at}
+use Rattle.sdb_desk.specs.MapViewLaws.{write_through, held_found, same_at}
+use Rattle.sdb_desk.specs.ShardView.{topics_of, queues_of}
+use Rattle.sdb_desk.specs.Topics.{no_topic}
+use Rattle.sdb_desk.proofs.Writing.{logs_left, kept_left, queues_others}
 use Rattle.sdb_desk.proofs.shard.Shard.take.Goals as goal
 
-pub returns-in_default-clause-others : goal.returns-in_default-clause-others
-returns-in_default-clause-others c = same_at (queues_of c.args.self.now) _ (plain_key c.args.key.now) (ap (λ m. held no_queues m.entries) c.get_mut.follows.holds-at-none)
-
-pub returns-in-Some-get-clause-others : goal.returns-in-Some-get-clause-others
-returns-in-Some-get-clause-others c =
-    let es = c.args.self.now.queues.entries in
+pub returns-in-Some-clause-others : goal.returns-in-Some-clause-others
+returns-in-Some-clause-others c =
+    let es = c.args.self.now.topics.entries in
+    let old = c.in-Some.topic.now in
     let new = c.take.new.self in
-    others_at (queues_of c.args.self.now) _ (plain_key c.args.key.now) new (write_through no_queues es _ c.args.key.now c.in-Some.queues.now new c.in-Some.ensures.value (c.get_mut.follows.holds new).0)
+    let k = plain_key c.args.key.now in
+    let f = topics_of c.args.self.now in
+    let g = held no_topic (c.get_mut.follows.lender new).entries in
+    let found = held_found no_topic es c.args.key.now old c.in-Some.ensures.value in
+    let wrote = write_through no_topic es _ c.args.key.now old new c.in-Some.ensures.value (c.get_mut.follows.holds new).0 in
+    queues_others f g k old new found wrote
+
+pub returns-in-Some-clause-logs : goal.returns-in-Some-clause-logs
+returns-in-Some-clause-logs c =
+    let es = c.args.self.now.topics.entries in
+    let old = c.in-Some.topic.now in
+    let new = c.take.new.self in
+    let k = plain_key c.args.key.now in
+    let f = topics_of c.args.self.now in
+    let g = held no_topic (c.get_mut.follows.lender new).entries in
+    let found = held_found no_topic es c.args.key.now old c.in-Some.ensures.value in
+    let wrote = write_through no_topic es _ c.args.key.now old new c.in-Some.ensures.value (c.get_mut.follows.holds new).0 in
+    logs_left f g k old new found wrote c.take.ensures.document
+
+pub returns-in-Some-clause-kept : goal.returns-in-Some-clause-kept
+returns-in-Some-clause-kept c =
+    let es = c.args.self.now.topics.entries in
+    let old = c.in-Some.topic.now in
+    let new = c.take.new.self in
+    let k = plain_key c.args.key.now in
+    let f = topics_of c.args.self.now in
+    let g = held no_topic (c.get_mut.follows.lender new).entries in
+    let found = held_found no_topic es c.args.key.now old c.in-Some.ensures.value in
+    let wrote = write_through no_topic es _ c.args.key.now old new c.in-Some.ensures.value (c.get_mut.follows.holds new).0 in
+    kept_left f g k old new found wrote c.take.ensures.document
 
 pub returns-in-None-clause-others : goal.returns-in-None-clause-others
-returns-in-None-clause-others c =
-    let es = c.args.self.now.queues.entries in
-    let new = c.take-in-None-2.new.self in
-    others_at (queues_of c.args.self.now) _ (plain_key c.args.key.now) new (write_through no_queues es _ c.args.key.now c.in-Some.queues.now new c.in-Some.ensures.value (c.get_mut.follows.holds new).0)
+returns-in-None-clause-others c = same_at (queues_of c.args.self.now) _ (plain_key c.args.key.now) (ap (λ m. (λ q. bare (held no_topic m.entries q).queues)) c.get_mut.follows.holds-at-none)
