@@ -1,5 +1,5 @@
 -- Laws of lists in pieces.
-use Rattle.std.specs.Prelude.{◌≡◌, ℕ, zero, suc, ◌+◌, ◌-◌, List, [], ◌∷◌, ◌++◌, map, take, drop, length, Bool, true, false, cond, nat_lt, if◌then◌else◌, Option, Some, None, slice_get, refl}
+use Rattle.std.specs.Prelude.{◌≡◌, ℕ, zero, suc, ◌-◌, List, [], ◌∷◌, ◌++◌, map, take, drop, length, Bool, true, false, cond, nat_lt, if◌then◌else◌, Some, slice_get, refl}
 use Rattle.std.proofs.Common.{ap, sym, ◌∙◌, append_assoc}
 use Rattle.std.specs.List.{flat_map}
 use Rattle.sdb_pieces.specs.Block.{items_of, is_own}
