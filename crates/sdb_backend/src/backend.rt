@@ -10,6 +10,7 @@ use crate::passes::{Host, Pass};
 use sdb_desk::Shard;
 use sdb_oplog::{Code, Key};
 use std::alloc::Global;
+use std::array;
 use std::sync::{Mutex, MutexGuard, Wait};
 
 /// All documents, behind eight locks: that of a key is the one of its shard's number. Each call of the
@@ -46,22 +47,8 @@ impl<R: Wait + Drop> Backend<R> {
     pub fn new(alloc: Global, rt: R) -> (Backend<R>, Host)
         ensures { result.1 ≡ 0 }
     {
-        let shards = [
-            Shard::new(alloc),
-            Shard::new(alloc),
-            Shard::new(alloc),
-            Shard::new(alloc),
-            Shard::new(alloc),
-            Shard::new(alloc),
-            Shard::new(alloc),
-            Shard::new(alloc),
-        ];
-        let backend = Backend {
-            alloc,
-            rt,
-            shards: locked(shards),
-        };
-        (backend, Host::new())
+        let shards = array::from_fn(|_| Mutex::new(Shard::new(alloc)));
+        (Backend { alloc, rt, shards }, Host::new())
     }
 
     /// A pass with a number of its own: 1 at first, then one higher each time. E11 comes where 2^64 - 1
@@ -93,14 +80,14 @@ impl<R: Wait + Drop> Backend<R> {
             });
         }
         let Backend { alloc, rt, shards } = self;
-        match Audit::new(alloc, unlocked(shards)) {
+        match Audit::new(alloc, shards.map(Mutex::into_inner)) {
             Ok(audit) => Ok(audit),
             Err(shards) => Err(Refused {
                 why: Why::Memory,
                 backend: Backend {
                     alloc,
                     rt,
-                    shards: locked(shards),
+                    shards: shards.map(Mutex::new),
                 },
                 host,
                 passes,
@@ -112,34 +99,4 @@ impl<R: Wait + Drop> Backend<R> {
     pub(crate) fn shard(&self, key: &Key) -> MutexGuard<'_, Shard> {
         self.shards[key.shard()].lock(&self.rt)
     }
-}
-
-// Each behind a lock of its own.
-fn locked(shards: [Shard; 8]) -> [Mutex<Shard>; 8] {
-    let [a, b, c, d, e, f, g, h] = shards;
-    [
-        Mutex::new(a),
-        Mutex::new(b),
-        Mutex::new(c),
-        Mutex::new(d),
-        Mutex::new(e),
-        Mutex::new(f),
-        Mutex::new(g),
-        Mutex::new(h),
-    ]
-}
-
-// Out of their locks.
-fn unlocked(shards: [Mutex<Shard>; 8]) -> [Shard; 8] {
-    let [a, b, c, d, e, f, g, h] = shards;
-    [
-        a.into_inner(),
-        b.into_inner(),
-        c.into_inner(),
-        d.into_inner(),
-        e.into_inner(),
-        f.into_inner(),
-        g.into_inner(),
-        h.into_inner(),
-    ]
 }
