@@ -162,7 +162,9 @@ Shard-send = search (sendable, crosses, maps.crosses, Topic-send) depth 20
 
 module _ (R : RattleType) where
   pub Backend-send : IsSend R → IsSend (Backend.the_row R)
-  Backend-send s = declared_send (Backend.the_type R) (as_row_send (row_field R) s, (search (crosses, Shard-send) depth 5, tt))
+  Backend-send s = declared_send (Backend.the_type R)
+      (search (sendable, crosses) depth 20, (as_row_send (row_field R) s, (search (sendable, crosses, Shard-send) depth 20, tt)))
 
   pub Backend-sync : IsSync R → IsSync (Backend.the_row R)
-  Backend-sync y = declared_sync (Backend.the_type R) (as_row_sync (row_field R) y, (search (crosses, Shard-send) depth 5, tt))
+  Backend-sync y = declared_sync (Backend.the_type R)
+      (search (sendable, crosses) depth 20, (as_row_sync (row_field R) y, (search (sendable, crosses, Shard-send) depth 20, tt)))

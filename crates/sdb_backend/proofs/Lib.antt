@@ -1,3 +1,4 @@
 pub mod Searches
 pub mod Crossing
+pub mod Gathering
 pub mod Handing

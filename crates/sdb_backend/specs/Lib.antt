@@ -1,3 +1,5 @@
 pub mod Audited
 pub mod Calls
+pub mod Gathered
 pub mod Passes
+pub mod Sharded

@@ -2,13 +2,14 @@
 ghost use Rattle.std.specs.Prelude.{◌≡◌, ◌≢◌, [], IfErr, IfOk, IfSome, map, option_map, unwrap_or};
 ghost use Rattle.sdb_oplog.specs.Decide.{IsMade};
 ghost use Rattle.sdb_oplog.specs.Keys.{plain_key};
-ghost use Rattle.sdb_desk.specs.ShardView.{logs_of};
 ghost use Rattle.sdb_desk.specs.Stored.{AreStored};
 ghost use Rattle.sdb_backend.specs.Audited.{audited};
+ghost use Rattle.sdb_backend.specs.Sharded.{sharded};
 
 use crate::listed::Listed;
 use sdb_desk::Shard;
 use sdb_oplog::{Key, Log};
+use std::alloc::Global;
 
 /// The logs of all documents of a backend that was closed.
 #[derive(Drop)]
@@ -17,14 +18,14 @@ pub struct Audit {
 }
 
 impl Audit {
-    // The audit of the shard. Where memory is wanting the shard comes back.
-    pub(crate) fn new(shard: Shard) -> Result<Audit, Shard>
-        ensures ok { IfOk result (λ a. audited a ≡ logs_of shard) }
-        ensures err { IfErr result (λ s. logs_of s ≡ logs_of shard) }
+    // The audit of the shards. Where memory is wanting they come back.
+    pub(crate) fn new(alloc: Global, shards: [Shard; 8]) -> Result<Audit, [Shard; 8]>
+        ensures ok { IfOk result (λ a. audited a ≡ sharded shards) }
+        ensures err { IfErr result (λ s. s ≡ shards) }
     {
-        match Listed::new(shard) {
+        match Listed::new(alloc, shards) {
             Ok(listed) => Ok(Audit { listed }),
-            Err(shard) => Err(shard),
+            Err(shards) => Err(shards),
         }
     }
 
@@ -35,7 +36,7 @@ impl Audit {
         ensures filled { IfSome result (λ l. l.now ≢ []) }
         ensures made { IsMade (audited self.now (plain_key key.now)) }
     {
-        self.listed.shard.log(key)
+        self.listed.shards[key.shard()].log(key)
     }
 
     /// The keys of all documents that something is stored of, each once, by the bytes of the collection,

@@ -8,16 +8,19 @@ ghost use Rattle.sdb_oplog.specs.declared.codes.Code.TheVariants.{E11};
 use crate::audit::Audit;
 use crate::passes::{Host, Pass};
 use sdb_desk::Shard;
-use sdb_oplog::Code;
+use sdb_oplog::{Code, Key};
 use std::alloc::Global;
+use std::array;
 use std::sync::{Mutex, MutexGuard, Wait};
 
-/// All documents, behind one lock. Each call of the desk that it is takes the lock, does one call of the
-/// documents and lets go; what is worked between two calls is worked without it.
+/// All documents, behind eight locks: that of a key is the one of its shard's number. Each call of the
+/// desk that it is takes one lock, does one call of the documents behind it and lets go; what is worked
+/// between two calls is worked without it.
 #[derive(Drop)]
 pub struct Backend<R: Wait> {
+    alloc: Global,
     rt: R,
-    shard: Mutex<Shard>,
+    shards: [Mutex<Shard>; 8],
 }
 
 /// Why a backend can't be closed.
@@ -40,12 +43,12 @@ pub struct Refused<R: Wait> {
 
 impl<R: Wait + Drop> Backend<R> {
     /// A backend in which nothing is stored, and its host, who has let nobody in. It keeps the allocator;
-    /// the handle is what waits for the lock.
+    /// the handle is what waits for a lock.
     pub fn new(alloc: Global, rt: R) -> (Backend<R>, Host)
         ensures { result.1 ≡ 0 }
     {
-        let shard = Mutex::new(Shard::new(alloc));
-        (Backend { rt, shard }, Host::new())
+        let shards = array::from_fn(|_| Mutex::new(Shard::new(alloc)));
+        (Backend { alloc, rt, shards }, Host::new())
     }
 
     /// A pass with a number of its own: 1 at first, then one higher each time. E11 comes where 2^64 - 1
@@ -76,14 +79,15 @@ impl<R: Wait + Drop> Backend<R> {
                 passes,
             });
         }
-        let Backend { rt, shard } = self;
-        match Audit::new(shard.into_inner()) {
+        let Backend { alloc, rt, shards } = self;
+        match Audit::new(alloc, shards.map(Mutex::into_inner)) {
             Ok(audit) => Ok(audit),
-            Err(shard) => Err(Refused {
+            Err(shards) => Err(Refused {
                 why: Why::Memory,
                 backend: Backend {
+                    alloc,
                     rt,
-                    shard: Mutex::new(shard),
+                    shards: shards.map(Mutex::new),
                 },
                 host,
                 passes,
@@ -91,8 +95,8 @@ impl<R: Wait + Drop> Backend<R> {
         }
     }
 
-    // The lock of the documents.
-    pub(crate) fn shard(&self) -> MutexGuard<'_, Shard> {
-        self.shard.lock(&self.rt)
+    // The lock of the key's shard.
+    pub(crate) fn shard(&self, key: &Key) -> MutexGuard<'_, Shard> {
+        self.shards[key.shard()].lock(&self.rt)
     }
 }

@@ -32,27 +32,27 @@ impl<R: Wait + Drop> Desk for Backend<R> {
         key: &Key,
         submission: &Submission,
     ) -> Result<Look, AllocError> {
-        look(&mut self.shard(), key, submission)
+        look(&mut self.shard(key), key, submission)
     }
 
     fn commit(&self, _pass: &mut Pass, key: &Key, work: &mut Work) -> Outcome {
-        commit(&mut self.shard(), key, work)
+        commit(&mut self.shard(key), key, work)
     }
 
     fn commit_now(&self, _pass: &mut Pass, key: &Key, submission: &Submission) -> Reply {
-        commit_now(&mut self.shard(), key, submission)
+        commit_now(&mut self.shard(key), key, submission)
     }
 
     fn version(&self, _pass: &mut Pass, key: &Key) -> u64 {
-        version(&mut self.shard(), key)
+        version(&mut self.shard(key), key)
     }
 
     fn fetch(&self, _pass: &mut Pass, key: &Key) -> Result<Fetched, Code> {
-        fetch(&mut self.shard(), key)
+        fetch(&mut self.shard(key), key)
     }
 
     fn ops_from(&self, _pass: &mut Pass, key: &Key, version: u64) -> Result<Vec<Entry>, Code> {
-        ops_from(&mut self.shard(), key, version)
+        ops_from(&mut self.shard(key), key, version)
     }
 
     fn snapshot_at(
@@ -61,11 +61,11 @@ impl<R: Wait + Drop> Desk for Backend<R> {
         key: &Key,
         version: Option<u64>,
     ) -> Result<Fetched, Code> {
-        snapshot_at(&mut self.shard(), key, version)
+        snapshot_at(&mut self.shard(key), key, version)
     }
 
     fn forget(&self, _pass: &mut Pass, key: &Key) {
-        forget(&mut self.shard(), key)
+        forget(&mut self.shard(key), key)
     }
 
     fn subscribe(
@@ -74,7 +74,7 @@ impl<R: Wait + Drop> Desk for Backend<R> {
         key: &Key,
         version: Option<u64>,
     ) -> Result<Subscribed, Code> {
-        subscribe(&mut self.shard(), key, version)
+        subscribe(&mut self.shard(key), key, version)
     }
 
     fn take(
@@ -84,11 +84,11 @@ impl<R: Wait + Drop> Desk for Backend<R> {
         id: SubId,
         max: u64,
     ) -> Result<Option<Vec<Entry>>, AllocError> {
-        take(&mut self.shard(), key, id, max)
+        take(&mut self.shard(key), key, id, max)
     }
 
     fn unsubscribe(&self, _pass: &mut Pass, key: &Key, id: SubId) {
-        unsubscribe(&mut self.shard(), key, id)
+        unsubscribe(&mut self.shard(key), key, id)
     }
 
     fn by(&self, pass: &Pass) -> u64 {

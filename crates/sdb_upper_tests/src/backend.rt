@@ -17,10 +17,10 @@ use std::thread;
 // How many edits each thread stores.
 const EDITS: u64 = 10;
 
-fn key(alloc: Global) -> Option<Key> {
+fn key(alloc: Global, id: &str) -> Option<Key> {
     Some(Key {
         collection: String::from_str(alloc, "b").ok()?,
-        id: String::from_str(alloc, "1").ok()?,
+        id: String::from_str(alloc, id).ok()?,
     })
 }
 
@@ -92,7 +92,7 @@ struct Room<R: Wait> {
 }
 
 fn opened<R: Wait + Drop>(alloc: Global, rt: R) -> Option<Room<R>> {
-    let key = key(alloc)?;
+    let key = key(alloc, "1")?;
     let (backend, mut host) = Backend::new(alloc, rt);
     let (first, second) = two_passes(&backend, &mut host)?;
     Some(Room {
@@ -379,4 +379,46 @@ fn closed<R: Wait + Drop>(
     }
     passes.push(first).ok()?;
     backend.close(host, passes).ok()
+}
+
+// Stores a document under each id.
+fn create_all<R: Wait + Drop>(
+    alloc: Global,
+    backend: &Backend<R>,
+    pass: &mut Pass,
+    ids: &[&str],
+) -> Option<()> {
+    for id in ids {
+        created(alloc, backend, pass, &key(alloc, id)?)?;
+    }
+    Some(())
+}
+
+// Whether the audit lists these ids, in this order, each with the log of one operation.
+fn are_listed(audit: &Audit, ids: &[&str]) -> bool {
+    let keys = audit.documents();
+    for (id, key) in ids.iter().zip(keys) {
+        if key.id.as_str() != *id || audit.log(key).map(Log::len) != Some(1) {
+            return false;
+        }
+    }
+    keys.len() == ids.len()
+}
+
+#[test]
+fn the_documents_of_all_shards_are_listed_in_order(rt: HostRuntime) -> Result<(), Fail> {
+    let alloc = rt.alloc();
+    let Room {
+        backend,
+        host,
+        mut first,
+        second,
+        ..
+    } = opened(alloc, rt).ok_or("no passes")?;
+    let ids = ["9", "2", "0", "1"];
+    create_all(alloc, &backend, &mut first, &ids).ok_or("not stored")?;
+    let audit = closed(alloc, backend, host, first, second).ok_or("not closed")?;
+    assert!(rt; are_listed(&audit, &["0", "1", "2", "9"]));
+    assert!(rt; audit.log(&key(alloc, "3").ok_or("no memory")?).is_none());
+    Ok(())
 }
