@@ -7,11 +7,14 @@
 //     own          each client edits a document of its own
 //     one          all clients edit one document
 //     subscribed   the same, and each is subscribed to it
+//     shards       each of at most 8 clients edits a long text of its own, in a shard of its own
+//     shard        the same, and all texts are in one shard
 //     fan          all clients are subscribed to one document, and the first one edits it
 //     idle         the clients are connected until standard input ends; the line is printed once they are
 //     listening    the same, each subscribed to one document
 //
-// An edit adds 1 to a number at the version that the client has seen. It ends after SECONDS, or after OPERATIONS if that is
+// An edit adds 1 to a number at the version that the client has seen; one of a long text also puts a character behind the
+// text and takes it out again, some times over. It ends after SECONDS, or after OPERATIONS if that is
 // earlier. At the end the documents must have grown by what was acknowledged.
 #define _GNU_SOURCE
 #include <arpa/inet.h>
@@ -28,10 +31,11 @@
 #include <time.h>
 #include <unistd.h>
 
-enum { MOST_CLIENTS = 1024, LONGEST_MESSAGE = 1024, INPUT_SIZE = 128 * 1024, SECOND = 1000000000 };
+enum { MOST_CLIENTS = 1024, LONGEST_MESSAGE = 60 * 1024, INPUT_SIZE = 128 * 1024, SECOND = 1000000000 };
+enum { SHARDS = 8, LONG_TEXT = 40000, PAIRS = 8 };
 
-enum Mode { ECHO, OWN, ONE, SUBSCRIBED, FAN, IDLE, LISTENING, MODES };
-static const char *const mode_names[] = {"echo", "own", "one", "subscribed", "fan", "idle", "listening"};
+enum Mode { ECHO, OWN, ONE, SUBSCRIBED, FAN, IDLE, LISTENING, OWN_SHARD, ONE_SHARD, MODES };
+static const char *const mode_names[] = {"echo", "own", "one", "subscribed", "fan", "idle", "listening", "shards", "shard"};
 
 typedef struct {
     const char *start;
@@ -94,8 +98,9 @@ static void send_bytes(Client *client, const void *bytes, size_t length) {
 
 static void send_text(Client *client, Text text) {
     static const unsigned char mask[4] = {0x5a, 0xc3, 0x17, 0x99};
-    unsigned char frame[LONGEST_MESSAGE + 8] = {0x81};
-    size_t at = 1;
+    static unsigned char frame[LONGEST_MESSAGE + 8];
+    size_t at = 0;
+    frame[at++] = 0x81;
     if (text.length < 126) {
         frame[at++] = 0x80 | text.length;
     } else {
@@ -205,13 +210,30 @@ static unsigned long long fetch(Client *client) {
     return number_after(text, "\"n\":");
 }
 
+static bool is_long(void) {
+    return mode == OWN_SHARD || mode == ONE_SHARD;
+}
+
+static bool has_own_document(void) {
+    return mode == OWN || is_long();
+}
+
+// What a document begins with.
+static const char *first_data(void) {
+    static char text[LONG_TEXT + 1], data[LONG_TEXT + 32];
+    if (!is_long()) return "{\"n\":0}";
+    memset(text, 'a', LONG_TEXT);
+    snprintf(data, sizeof data, "{\"n\":0,\"t\":\"%s\"}", text);
+    return data;
+}
+
 static void create_if_absent(Client *client) {
     fetch(client);
     if (client->version > 0) return;
     SEND(client,
          "{\"a\":\"op\",\"c\":\"b\",\"d\":\"%s\",\"v\":null,\"src\":\"%s\",\"seq\":0,"
-         "\"create\":{\"type\":\"http://sharejs.org/types/JSONv0\",\"data\":{\"n\":0}}}",
-         client->document, client->source);
+         "\"create\":{\"type\":\"http://sharejs.org/types/JSONv0\",\"data\":%s}}",
+         client->document, client->source, first_data());
     await_text(client, "{\"a\":\"op\"");
     client->version = 1;
 }
@@ -224,7 +246,10 @@ static void subscribe(Client *client) {
 static void open_client(int number) {
     Client *client = &clients[number];
     snprintf(client->source, sizeof client->source, "u%d-%d", getpid(), number);
-    if (mode == OWN)
+    // A shard's number is the sum of the bytes of both names, modulo 8.
+    if (is_long())
+        snprintf(client->document, sizeof client->document, "%s-%d%d", key, number, mode == ONE_SHARD ? SHARDS - 1 - number : 0);
+    else if (mode == OWN)
         snprintf(client->document, sizeof client->document, "%s-%d", key, number);
     else
         snprintf(client->document, sizeof client->document, "%s", key);
@@ -239,11 +264,20 @@ static void open_client(int number) {
 // What the numbers of all documents amount to.
 static unsigned long long total(void) {
     unsigned long long sum = 0;
-    for (int i = 0; i < (mode == OWN ? client_count : 1); i++) sum += fetch(&clients[i]);
+    for (int i = 0; i < (has_own_document() ? client_count : 1); i++) sum += fetch(&clients[i]);
     return sum;
 }
 
 // Operations
+
+// What an edit does behind its addition.
+static const char *more_components(void) {
+    static char text[PAIRS * 64];
+    if (is_long() && !*text)
+        for (int i = 0; i < PAIRS; i++)
+            sprintf(text + strlen(text), ",{\"p\":[\"t\",%d],\"si\":\"x\"},{\"p\":[\"t\",%d],\"sd\":\"x\"}", LONG_TEXT, LONG_TEXT);
+    return text;
+}
 
 static void submit(Client *client) {
     client->edits++;
@@ -251,8 +285,8 @@ static void submit(Client *client) {
     in_flight++;
     yet_to_hear = client_count - 1;
     client->sent = now();
-    SEND(client, "{\"a\":\"op\",\"c\":\"b\",\"d\":\"%s\",\"v\":%llu,\"src\":\"%s\",\"seq\":%llu,\"op\":[{\"p\":[\"n\"],\"na\":1}]}",
-         client->document, client->version, client->source, client->edits);
+    SEND(client, "{\"a\":\"op\",\"c\":\"b\",\"d\":\"%s\",\"v\":%llu,\"src\":\"%s\",\"seq\":%llu,\"op\":[{\"p\":[\"n\"],\"na\":1}%s]}",
+         client->document, client->version, client->source, client->edits, more_components());
 }
 
 // Keeps how long it took since the client's last edit, if that is measured.
@@ -366,7 +400,7 @@ static void read_arguments(int count, char **words) {
         else exit(2);
     }
     for (mode = ECHO; optind < count && mode < MODES && strcmp(words[optind], mode_names[mode]) != 0;) mode++;
-    if (count != optind + 2 || mode == MODES || client_count < 1 || client_count > MOST_CLIENTS) {
+    if (count != optind + 2 || mode == MODES || client_count < 1 || client_count > (is_long() ? SHARDS : MOST_CLIENTS)) {
         fprintf(stderr, "sockets MODE PORT [-c CLIENTS] [-s SECONDS] [-w SECONDS_TO_WARM_UP] [-n OPERATIONS] [-k KEY]\n");
         exit(2);
     }
