@@ -6,6 +6,7 @@ pub mod MapView
 pub mod MapViewLaws
 pub mod Read
 pub mod ReplyView
+pub mod Rings
 pub mod ShardView
 pub mod Stored
 pub mod Topics

@@ -3,7 +3,7 @@ use Rattle.std.specs.Prelude.{ℕ, List, Option}
 use Rattle.sdb_oplog.specs.Keys.{PlainKey, Logs, with_at}
 use Rattle.sdb_oplog.specs.Plain.{PlainEntry}
 use Rattle.sdb_snapcache.specs.Kept.{Snapshot}
-use Rattle.sdb_subscribe.specs.Ring.{bare, ring_at}
+use Rattle.sdb_subscribe.specs.Ring.{RingedQueue, bare, ring_at}
 use Rattle.sdb_desk.specs.Documents.{PlainDocument}
 use Rattle.sdb_desk.specs.MapView.{held}
 use Rattle.sdb_desk.specs.Machine.{Queued, Machine}
@@ -35,9 +35,19 @@ with_kept = with_at
 abbrev pub queues_of : Shard → Queued
 queues_of m k = bare (topics_of m k).queues
 
+-- the open queues of each key with their rings, by their numbers
+abbrev pub Ringed : Type 0
+Ringed = PlainKey → List (ℕ × RingedQueue)
+
+abbrev pub ringed_of : Shard → Ringed
+ringed_of m k = (topics_of m k).queues.queues
+
+abbrev pub with_ringed : Ringed → PlainKey → List (ℕ × RingedQueue) → Ringed
+with_ringed = with_at
+
 -- the rings of each key, by the numbers of their queues
 abbrev pub rings_of : Shard → PlainKey → ℕ → Option (List PlainEntry)
-rings_of m k n = ring_at n (topics_of m k).queues.queues
+rings_of m k n = ring_at n (ringed_of m k)
 
 abbrev pub machine_of : Shard → Machine
 machine_of s = record { logs = logs_of s; queues = queues_of s }

@@ -7,11 +7,14 @@ ghost use Rattle.sdb_oplog.specs.Refused.{RefusedBy};
 ghost use Rattle.sdb_oplog.specs.Snap.{becomes, document};
 ghost use Rattle.sdb_oplog.specs.declared.codes.Code.TheVariants.{E10};
 ghost use Rattle.sdb_snapcache.specs.Snaps.{AreSnapsOf};
+ghost use Rattle.std.specs.Map.{remove_entry};
 ghost use Rattle.sdb_subscribe.specs.Queue.{opened, queue_at, taken_from};
+ghost use Rattle.sdb_subscribe.specs.Ring.{after_take_ringed};
 ghost use Rattle.sdb_value.specs.View.{view};
 ghost use Rattle.sdb_desk.specs.Documents.{no_document, IsOpen, Settles, RefusedAs, IsUnstored};
 ghost use Rattle.sdb_oplog.specs.Keys.{with_at};
-ghost use Rattle.sdb_desk.specs.ShardView.{topics_of, documents_of, logs_of, kept_of, with_kept, queues_of, rings_of};
+ghost use Rattle.sdb_desk.specs.ShardView.{topics_of, documents_of, logs_of, kept_of, with_kept, queues_of, ringed_of, rings_of, with_ringed};
+ghost use Rattle.sdb_desk.specs.Rings.{Notes, opened_ringed};
 ghost use Rattle.sdb_desk.specs.Topics.{no_topic};
 ghost use Rattle.sdb_desk.specs.Read.{Leaves};
 ghost use Rattle.sdb_desk.specs.Stored.{AreStored};
@@ -71,7 +74,7 @@ impl Shard {
         ensures logs { logs_of result ≡ no_logs }
         ensures kept { kept_of result ≡ (λ k. []) }
         ensures queues { queues_of result ≡ (λ k. no_queues) }
-        ensures rings { rings_of result ≡ (λ k n. None) }
+        ensures rings { ringed_of result ≡ (λ k. []) }
     {
         Shard {
             alloc,
@@ -167,6 +170,7 @@ impl Shard {
         ensures keeps { Keeps (plain_outcome result) work.old work.new }
         ensures kept { kept_of self.new ≡ kept_of self.old }
         ensures queues { queues_of self.new ≡ queues_of self.old }
+        ensures rings { Notes (logs_of self.old) (logs_of self.new) (ringed_of self.old) (ringed_of self.new) }
     {
         if self.version(key) != work.version() {
             return match self.look(key, work.submission()) {
@@ -213,6 +217,7 @@ impl Shard {
             (logs_of self.new) }
         ensures kept { kept_of self.new ≡ kept_of self.old }
         ensures queues { queues_of self.new ≡ queues_of self.old }
+        ensures rings { Notes (logs_of self.old) (logs_of self.new) (ringed_of self.old) (ringed_of self.new) }
     {
         if let Some(reply) = self.reply_at_sight(key, submission) {
             return reply;
@@ -255,6 +260,7 @@ impl Shard {
         ensures same { OnErr result (logs_of self.new ≡ logs_of self.old) }
         ensures kept { kept_of self.new ≡ kept_of self.old }
         ensures queues { queues_of self.new ≡ queues_of self.old }
+        ensures rings { Notes (logs_of self.old) (logs_of self.new) (ringed_of self.old) (ringed_of self.new) }
     {
         let content = work.content()?;
         self.check(key, content.unwrap_or(work.submission().content()))?;
@@ -276,6 +282,7 @@ impl Shard {
         ensures same { OnErr result (logs_of self.new ≡ logs_of self.old) }
         ensures kept { kept_of self.new ≡ kept_of self.old }
         ensures queues { queues_of self.new ≡ queues_of self.old }
+        ensures rings { Notes (logs_of self.old) (logs_of self.new) (ringed_of self.old) (ringed_of self.new) }
     {
         let content = self.carried(key, submission)?;
         self.check(key, content.as_ref().unwrap_or(submission.content()))?;
@@ -345,6 +352,7 @@ impl Shard {
         ensures same { OnErr result (logs_of self.new ≡ logs_of self.old) }
         ensures kept { kept_of self.new ≡ kept_of self.old }
         ensures queues { queues_of self.new ≡ queues_of self.old }
+        ensures rings { Notes (logs_of self.old) (logs_of self.new) (ringed_of self.old) (ringed_of self.new) }
     {
         let submission = submission.try_clone()?;
         let content = copy_content(content)?;
@@ -370,6 +378,7 @@ impl Shard {
         ensures same { OnErr result (logs_of self.new ≡ logs_of self.old) }
         ensures kept { kept_of self.new ≡ kept_of self.old }
         ensures queues { queues_of self.new ≡ queues_of self.old }
+        ensures rings { Notes (logs_of self.old) (logs_of self.new) (ringed_of self.old) (ringed_of self.new) }
     {
         let mut topic = Topic::new(self.alloc);
         topic.store(self.alloc, submission, content)?;
@@ -434,7 +443,7 @@ impl Shard {
             with_kept (kept_of self.old) (plain_key key.now) (kept_of self.new (plain_key key.now)) }
         ensures logs { logs_of self.new ≡ logs_of self.old }
         ensures queues { queues_of self.new ≡ queues_of self.old }
-        ensures rings { rings_of self.new ≡ rings_of self.old }
+        ensures rings { ringed_of self.new ≡ ringed_of self.old }
     {
         let present = self.version(key);
         let version = version.unwrap_or(present);
@@ -458,7 +467,7 @@ impl Shard {
             with_kept (kept_of self.old) (plain_key key.now) (kept_of self.new (plain_key key.now)) }
         ensures logs { logs_of self.new ≡ logs_of self.old }
         ensures queues { queues_of self.new ≡ queues_of self.old }
-        ensures rings { rings_of self.new ≡ rings_of self.old }
+        ensures rings { ringed_of self.new ≡ ringed_of self.old }
     {
         match self.topics.get_mut(key) {
             Some(topic) => topic.snapshot_at(self.alloc, version),
@@ -471,7 +480,7 @@ impl Shard {
         ensures kept { kept_of self.new ≡ with_kept (kept_of self.old) (plain_key key.now) [] }
         ensures logs { logs_of self.new ≡ logs_of self.old }
         ensures queues { queues_of self.new ≡ queues_of self.old }
-        ensures rings { rings_of self.new ≡ rings_of self.old }
+        ensures rings { ringed_of self.new ≡ ringed_of self.old }
     {
         if let Some(topic) = self.topics.get_mut(key) {
             topic.forget();
@@ -492,6 +501,9 @@ impl Shard {
             with_queues (queues_of self.old) (plain_key key.now) (queues_of self.new (plain_key key.now)) }
         ensures logs { logs_of self.new ≡ logs_of self.old }
         ensures kept { kept_of self.new ≡ kept_of self.old }
+        ensures rings { IfOk result (λ s. ringed_of self.new ≡ with_ringed (ringed_of self.old) (plain_key key.now)
+            (opened_ringed s.id s.start (ringed_of self.old (plain_key key.now)))) }
+        ensures rings_left { OnErr result (ringed_of self.new ≡ ringed_of self.old) }
     {
         let start = self.start_reached(key, version)?;
         if self.are_used_up(key) {
@@ -566,6 +578,9 @@ impl Shard {
             with_queues (queues_of self.old) (plain_key key.now) (queues_of self.new (plain_key key.now)) }
         ensures logs { logs_of self.new ≡ logs_of self.old }
         ensures kept { kept_of self.new ≡ kept_of self.old }
+        ensures rings { IfOk result (λ id. ringed_of self.new ≡ with_ringed (ringed_of self.old) (plain_key key.now)
+            (opened_ringed id start (ringed_of self.old (plain_key key.now)))) }
+        ensures rings_left { OnErr result (ringed_of self.new ≡ ringed_of self.old) }
     {
         if let Some(topic) = self.topics.get_mut(key) {
             return topic.open(start);
@@ -586,6 +601,10 @@ impl Shard {
             with_queues (queues_of self.old) (plain_key key.now) (queues_of self.new (plain_key key.now)) }
         ensures logs { logs_of self.new ≡ logs_of self.old }
         ensures kept { kept_of self.new ≡ kept_of self.old }
+        ensures rings { OnOk result (ringed_of self.new ≡ with_ringed (ringed_of self.old) (plain_key key.now)
+            (after_take_ringed (logs_of self.old (plain_key key.now)) id max
+            (ringed_of self.old (plain_key key.now)))) }
+        ensures rings_left { OnErr result (ringed_of self.new ≡ ringed_of self.old) }
     {
         match self.topics.get_mut(key) {
             Some(topic) => topic.take(self.alloc, id, max),
@@ -599,6 +618,8 @@ impl Shard {
             with_queues (queues_of self.old) (plain_key key.now) (closed id (queues_of self.old (plain_key key.now))) }
         ensures logs { logs_of self.new ≡ logs_of self.old }
         ensures kept { kept_of self.new ≡ kept_of self.old }
+        ensures rings { ringed_of self.new ≡ with_ringed (ringed_of self.old) (plain_key key.now)
+            (remove_entry (nat_eq id) (ringed_of self.old (plain_key key.now))) }
     {
         if let Some(topic) = self.topics.get_mut(key) {
             topic.close(id);

@@ -8,10 +8,11 @@ ghost use Rattle.sdb_oplog.specs.Refused.{RefusedBy};
 ghost use Rattle.sdb_oplog.specs.Snap.{snap};
 ghost use Rattle.sdb_oplog.specs.declared.codes.Code.TheVariants.{E10};
 ghost use Rattle.sdb_subscribe.specs.Queue.{opened, queue_at, taken_from, after_take, without};
-ghost use Rattle.sdb_subscribe.specs.Ring.{bare, FitLog, after_take_ringed};
+ghost use Rattle.sdb_subscribe.specs.Ring.{bare, FitLog, AreNoted, after_take_ringed};
 ghost use Rattle.sdb_desk.specs.Documents.{no_document, Settles, RefusedAs};
 ghost use Rattle.sdb_desk.specs.Machine.{is_filled};
 ghost use Rattle.sdb_desk.specs.Read.{Leaves};
+ghost use Rattle.sdb_desk.specs.Rings.{IsNotedIn, opened_ringed};
 ghost use Rattle.sdb_desk.specs.Topics.{no_topic, document_in};
 
 use crate::document::Document;
@@ -92,7 +93,8 @@ impl Topic {
         ensures same { OnErr result (self.new.document.log ≡ self.old.document.log) }
         ensures kept { self.new.document.kept ≡ self.old.document.kept }
         ensures queues { bare self.new.queues ≡ bare self.old.queues }
-        ensures rings { OnErr result (self.new.queues ≡ self.old.queues) }
+        ensures rings { IsNotedIn self.old.document.log self.new.document.log
+            self.old.queues.queues self.new.queues.queues }
     {
         let version = version_of(&self.document);
         store_in(&mut self.document, alloc, submission, content)?;
@@ -136,8 +138,7 @@ impl Topic {
         ensures err { IfErr result (λ code. RefusedBy (opened start (bare self.old.queues)) code) }
         ensures same { OnErr result (self.new ≡ self.old) }
         ensures document { self.new.document ≡ self.old.document }
-        ensures rings { OnOk result (self.new.queues.queues ≡ self.old.queues.queues ++
-            (self.old.queues.next, record { queue = record { start = start; taken = 0 }; ring = [] }) ∷ []) }
+        ensures rings { IfOk result (λ id. self.new.queues.queues ≡ opened_ringed id start self.old.queues.queues) }
     {
         self.queues.open(start)
     }
@@ -231,6 +232,9 @@ fn note(queues: &mut Queues, document: &Option<Box<Document>>, version: u64)
         → (document_in document.now).log ≡ log ++ entry ∷ [] → version ≡ length log
         → entry.version ≡ length log → FitLog log queues.old.queues
         → FitLog (log ++ entry ∷ []) queues.new.queues }
+    ensures noted { (log : List PlainEntry) (entry : PlainEntry)
+        → (document_in document.now).log ≡ log ++ entry ∷ [] → version ≡ length log
+        → AreNoted entry queues.old.queues queues.new.queues }
 {
     if let Some(document) = document {
         if let Some(entry) = document.log().get(version) {

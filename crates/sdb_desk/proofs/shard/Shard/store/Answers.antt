@@ -7,7 +7,7 @@ use Rattle.sdb_desk.specs.MapView.{held}
 use Rattle.sdb_desk.specs.MapViewLaws.{write_through, held_found}
 use Rattle.sdb_desk.specs.ShardView.{topics_of, logs_of}
 use Rattle.sdb_desk.proofs.Looks.{on_ok, on_err}
-use Rattle.sdb_desk.proofs.Writing.{written, left, queues_left}
+use Rattle.sdb_desk.proofs.Writing.{written, left, queues_left, rings_noted}
 use Rattle.sdb_desk.proofs.shard.Shard.store.Goals as goal
 
 pub returns-in-Some-clause-logs : goal.returns-in-Some-clause-logs
@@ -66,3 +66,15 @@ returns-in-Some-clause-queues c =
 pub returns-in-None-clause-queues : goal.returns-in-None-clause-queues
 returns-in-None-clause-queues c =
     c.store_first.ensures.queues ∙ ap (λ m. (λ q. bare (held no_topic m.entries q).queues)) c.get_mut.follows.holds-at-none
+
+pub returns-in-Some-clause-rings : goal.returns-in-Some-clause-rings
+returns-in-Some-clause-rings c =
+    let es = c.args.self.now.topics.entries in
+    let old = c.in-Some.topic.now in
+    let new = c.store.new.self in
+    let k = plain_key c.args.key.now in
+    let f = topics_of c.args.self.now in
+    let g = held no_topic (c.get_mut.follows.lender new).entries in
+    let found = held_found no_topic es c.args.key.now old c.in-Some.ensures.value in
+    let wrote = write_through no_topic es _ c.args.key.now old new c.in-Some.ensures.value (c.get_mut.follows.holds new).0 in
+    rings_noted f g k old new found wrote c.store.ensures.rings
