@@ -1,0 +1,197 @@
+//! What is done with a lock and its seats.
+ghost use Rattle.std.specs.Prelude.{◌≡◌, ◌≢◌, ℕ, ◌+◌, ◌<◌, ◌≤◌, map, [], ◌∷◌, IfOk, IfErr};
+ghost use Rattle.sdb_growlock.specs.Rule.{Each, Took, stands, sight, holding, at_home, left_with, given_off, joined, gathered};
+ghost use Rattle.sdb_growlock.specs.Words.{IsOf, HasSeen, number, next, seats_of, HasNumber};
+
+use crate::grows::{Grows, Job};
+use crate::parts::{GrowLock, Seat};
+use crate::rule::{FreeStep, LookStep, SeatStep, TableSeat, TakeStep};
+use atomic_table::{Refused, Table};
+use std::alloc::Global;
+use std::snapshot::Snapshot;
+use std::sync::Wait;
+
+/// Why no seat was split off. A split takes no memory.
+#[derive(Debug, Drop)]
+pub enum SplitFault {
+    /// All numbers below the greatest u64 are given.
+    Last,
+}
+
+impl<T: Grows> GrowLock<T> {
+    /// A lock round the value, and its first seat. Where memory is wanting the value comes back.
+    pub fn new(alloc: Global, value: T) -> Result<(GrowLock<T>, Seat<T>), T>
+        requires clear { (k : ℕ) → 0 < k → T.blank k value }
+        ensures own { IfOk result (λ made. IsOf made.1 made.0) }
+        ensures first { IfOk result (λ made. (number made.1 ≡ 0) × (next made.1 ≡ 1)) }
+        ensures seen { IfOk result (λ made. HasSeen made.1 value) }
+        ensures err { IfErr result (λ given. given ≡ value) }
+    {
+        let mut slots = match Vec::with_capacity(alloc, 1) {
+            Ok(slots) => slots,
+            Err(_) => return Err(value),
+        };
+        let about = Snapshot::of(&value);
+        slots.push_reserved(Some(value));
+        match Table::new(alloc, &[0], slots, &about) {
+            Ok((table, inner)) => {
+                let first = Seat {
+                    number: 0,
+                    next: 1,
+                    inner,
+                };
+                Ok((GrowLock { table }, first))
+            }
+            Err(Refused { mut slots }) => {
+                let value = slots.pop().unwrap().unwrap();
+                slots.destroy_empty();
+                Err(value)
+            }
+        }
+    }
+
+    /// Runs the job once, on a value that extends what the seat has seen and holds under the seat's number just what it
+    /// has seen there. The seat has then seen what the job left. Waits until no other seat has the value.
+    pub fn with<J: Job<T>, R: Wait>(&self, rt: &R, seat: &mut Seat<T>, job: J) -> J::Answer
+        requires own { IsOf seat.old self.now }
+        requires ready { (x v : T) → HasSeen seat.old x → T.extends v x → T.same (number seat.old) x v
+            → J.ready job (number seat.old) v }
+        ensures own { IsOf seat.new self.now }
+        ensures kept { (number seat.new ≡ number seat.old) × (next seat.new ≡ next seat.old) }
+        ensures done { (x v w : T) × HasSeen seat.old x × T.extends v x × T.same (number seat.old) x v
+            × J.does job (number seat.old) v w result × T.extends w v
+            × ((k : ℕ) → k ≢ number seat.old → T.same k v w) × HasSeen seat.new w }
+    {
+        self.take(rt, &mut seat.inner);
+        let Some(mut value) = self.table.shared.exchange(&mut seat.inner, 0, None) else {
+            unreachable!()
+        };
+        let answer = job.run(seat.number, &mut value);
+        let left = self.table.shared.exchange(&mut seat.inner, 0, Some(value));
+        let None = left else { unreachable!() };
+        self.free(&mut seat.inner);
+        answer
+    }
+
+    /// By the first seat: a seat with the next number, which has seen what the first has seen. That holds nothing under
+    /// the new number.
+    pub fn split(&self, seat: &mut Seat<T>) -> Result<Seat<T>, SplitFault>
+        requires own { IsOf seat.old self.now }
+        requires first { 0 < next seat.old }
+        ensures own { IsOf seat.new self.now × (number seat.new ≡ number seat.old) }
+        ensures given { IfOk result (λ s. IsOf s self.now × (number s ≡ next seat.old) × (next s ≡ 0)) }
+        ensures next { IfOk result (λ s. next seat.new ≡ next seat.old + 1) }
+        ensures seen { IfOk result (λ s. (x : T) × HasSeen seat.old x × HasSeen seat.new x × HasSeen s x
+            × T.blank (number s) x) }
+        ensures err { IfErr result (λ _. (next seat.old ≡ u64.MAX) × (seat.new ≡ seat.old)) }
+    {
+        if seat.next == u64::MAX {
+            return Err(SplitFault::Last);
+        }
+        let number = seat.next;
+        let inner = self.cut(&mut seat.inner);
+        seat.next = number + 1;
+        Ok(Seat {
+            number,
+            next: 0,
+            inner,
+        })
+    }
+
+    /// Gives the value back, to whoever has every seat of the lock. It extends what each has seen, holds under the number
+    /// of each just what that one has seen there, and nothing under a number that no seat has.
+    pub fn close(self, mut seats: Vec<Seat<T>>) -> T
+        requires own { Each (λ s. IsOf s self) seats.items }
+        requires first { 0 < seats_of seats.items }
+        requires all { (k : ℕ) → k < seats_of seats.items → HasNumber k seats.items }
+        ensures seen { Each (λ s. (x : T) → HasSeen s x → T.extends result x × T.same (number s) x result) seats.items }
+        ensures clear { (k : ℕ) → seats_of seats.items ≤ k → T.blank k result }
+    {
+        let Some(last) = seats.pop() else {
+            unreachable!()
+        };
+        let mut place = last.into_place();
+        self.join_all(&mut place, seats);
+        let GrowLock { table } = self;
+        let mut closed = table.close_with(place);
+        let slot = closed.take(0);
+        closed.free();
+        let Some(value) = slot else { unreachable!() };
+        value
+    }
+
+    // Waits for the value. It is then in the seat's slot.
+    fn take<R: Wait>(&self, rt: &R, place: &mut TableSeat<T>)
+        requires own { place.old.table_id ≡ self.now.table.shared.table_id }
+        requires one { (n : ℕ) × (x : T) × (place.old.me.0.seen ≡ sight n x ∷ []) }
+        ensures own { (place.new.table_id ≡ place.old.table_id) × (place.new.id ≡ place.old.id) }
+        ensures took { Took T.extends T.same T.blank place.old.me place.new.me }
+    {
+        for _ in rt.forever() {
+            if self.table.shared.swap::<TakeStep>(place, 0, 1) == 0 {
+                return;
+            }
+            self.table.shared.park(rt, 0, 1);
+        }
+        unreachable!()
+    }
+
+    // Puts the value home.
+    fn free(&self, place: &mut TableSeat<T>)
+        requires own { place.old.table_id ≡ self.now.table.shared.table_id }
+        requires grown { (n k : ℕ) × (v w : T) × (place.old.me ≡ (holding n v k, (0, Some w) ∷ [])) × T.extends w v
+            × ((j : ℕ) → j ≢ n → T.same j v w) }
+        ensures own { (place.new.table_id ≡ place.old.table_id) × (place.new.id ≡ place.old.id) }
+        ensures freed { (w : T) → place.old.me.1 ≡ (0, Some w) ∷ [] → place.new.me ≡ (at_home place.old.me.0 w, []) }
+    {
+        self.table.shared.store::<FreeStep>(place, 0, 0);
+        self.table.shared.wake_one(0);
+    }
+
+    // The new one has the next number.
+    fn cut(&self, place: &mut TableSeat<T>) -> TableSeat<T>
+        requires own { place.old.table_id ≡ self.now.table.shared.table_id }
+        requires first { (n k : ℕ) × (x : T) × (place.old.me ≡ (stands n x k, [])) × (0 < k) }
+        ensures own { (place.new.table_id ≡ place.old.table_id) × (place.new.id ≡ place.old.id)
+            × (result.table_id ≡ place.old.table_id) }
+        ensures parts { (place.new.me ≡ (left_with place.old.me.0, place.old.me.1))
+            × (result.me ≡ (given_off place.old.me.0, [])) }
+        ensures blank { Each (λ p. T.blank place.old.me.0.next p.value) place.old.me.0.seen }
+    {
+        self.table.shared.load::<LookStep>(place, 0);
+        self.table.shared.split_seat::<SeatStep>(place)
+    }
+
+    // The one takes in the other.
+    fn join(&self, place: &mut TableSeat<T>, other: TableSeat<T>)
+        requires own { (place.old.table_id ≡ self.now.table.shared.table_id)
+            × (other.table_id ≡ self.now.table.shared.table_id) }
+        requires idle { (other.me.1 ≡ []) × (other.me.0.out ≡ None) }
+        ensures own { (place.new.table_id ≡ place.old.table_id) × (place.new.id ≡ place.old.id) }
+        ensures both { place.new.me ≡ (joined place.old.me.0 other.me.0, place.old.me.1) }
+    {
+        self.table.shared.join_seat::<SeatStep>(place, other);
+    }
+
+    // The one takes in all seats.
+    fn join_all(&self, place: &mut TableSeat<T>, mut seats: Vec<Seat<T>>)
+        requires own { place.old.table_id ≡ self.now.table.shared.table_id }
+        requires owns { Each (λ s. s.inner.table_id ≡ self.now.table.shared.table_id) seats.items }
+        ensures own { (place.new.table_id ≡ place.old.table_id) × (place.new.id ≡ place.old.id) }
+        ensures all { place.new.me ≡ (gathered place.old.me.0 (map (λ s. s.inner.me.0) seats.items), place.old.me.1) }
+    {
+        while let Some(seat) = seats.pop() {
+            self.join(place, seat.into_place());
+        }
+        seats.destroy_empty();
+    }
+}
+
+impl<T> Seat<T> {
+    /// The number under which the seat's jobs are run.
+    pub fn number(&self) -> u64
+        ensures { result ≡ number self.now }
+    {
+        self.number
+    }
+}
