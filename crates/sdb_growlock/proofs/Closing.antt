@@ -1,5 +1,5 @@
 -- What whoever has every seat knows of the value.
-use Rattle.std.proofs.Common.{◌≡◌, ℕ, ◌+◌, ◌<◌, ◌≤◌, ◌≢◌, ◌⊎◌, List, [], ◌∷◌, ◌++◌, map, length, get_or, sym, refl, ap, ◌∙◌, subst, ⊎_elim, arith, Option, Some, None}
+use Rattle.std.proofs.Common.{◌≡◌, ℕ, ◌+◌, ◌<◌, ◌≤◌, ◌≢◌, List, [], ◌∷◌, ◌++◌, map, get_or, sym, refl, ap, ◌∙◌, subst, ⊎_elim, arith, Option, Some, None}
 use mathlib.Core.Logic.{dite}
 use mathlib.Core.Option.{some, some-injective}
 use native.Mathlib.Decide.{ℕ_discrete}
@@ -8,7 +8,7 @@ use Rattle.atomic_table.specs.Table.{State, Final, Seen}
 use Rattle.sdb_growlock.specs.declared.view.View.{View}
 use Rattle.sdb_growlock.specs.declared.view.Sight.{Sight}
 use Rattle.sdb_growlock.specs.declared.parts.Seat.{Seat}
-use Rattle.sdb_growlock.specs.Rule.{Each, sight, number_of, Fits, Kept, Saw, joined, gathered, Among}
+use Rattle.sdb_growlock.specs.Rule.{Each, sight, Fits, Kept, Saw, gathered, Among}
 use Rattle.sdb_growlock.proofs.Hands.{M, single, not_out}
 use Rattle.sdb_growlock.specs.Rule.{added}
 

@@ -1,9 +1,9 @@
 -- What a seat has in hand, from step to step.
-use Rattle.std.proofs.Common.{◌≡◌, ℕ, Bool, true, false, List, [], ◌∷◌, map, length, sym, refl, ap, ◌∙◌, subst, arith, Option, Some, None}
+use Rattle.std.proofs.Common.{◌≡◌, ℕ, false, List, [], ◌∷◌, map, length, sym, refl, ap, ◌∙◌, subst, arith, Option, Some, None}
 use Rattle.atomic_table.specs.Table.{Me, rest}
 use Rattle.sdb_growlock.specs.declared.view.View.{View}
 use Rattle.sdb_growlock.specs.declared.view.Sight.{Sight}
-use Rattle.sdb_growlock.specs.Rule.{Each, sight, stands, holding, at_hand, at_home, number_of, is_out, Took}
+use Rattle.sdb_growlock.specs.Rule.{sight, stands, holding, at_hand, at_home, number_of, is_out}
 
 module _ {A : Type 0} where
   pub empty : (l : List A) → length l ≡ 0 → l ≡ []

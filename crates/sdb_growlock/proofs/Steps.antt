@@ -10,7 +10,7 @@ use Rattle.atomic_table.specs.Table.{State, Me, step, keeps, takes, gives, stepp
 use Rattle.atomic_table.proofs.Lists.{at_set, set_again, set_here, set_else, at_longer}
 use Rattle.sdb_growlock.specs.declared.view.View.{View}
 use Rattle.sdb_growlock.specs.declared.view.Sight.{Sight}
-use Rattle.sdb_growlock.specs.Rule.{Each, sight, stands, holding, all_seen, at_hand, at_home, Fits, Knows, Kept, Took, taken, freed, looked, left_with, given_off, joined, spent}
+use Rattle.sdb_growlock.specs.Rule.{Each, sight, stands, holding, all_seen, at_hand, Fits, Knows, Kept, taken, freed, looked, left_with, given_off, joined, spent}
 
 module _ {A : Type 0} where
   pub inside : (l : List A) (i : ℕ) (a : A) → get_elem? l i ≡ some a → i < length l

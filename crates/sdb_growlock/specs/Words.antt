@@ -1,5 +1,5 @@
 -- What is said of a lock and its seats.
-use Rattle.std.specs.Prelude.{◌≡◌, ℕ, ◌+◌, ◌<◌, List, [], ◌∷◌, map}
+use Rattle.std.specs.Prelude.{◌≡◌, ℕ, List, map}
 use Rattle.sdb_growlock.specs.Rule.{Saw, Among, added}
 use Rattle.sdb_growlock.specs.declared.parts.GrowLock.{GrowLock}
 use Rattle.sdb_growlock.specs.declared.parts.Seat.{Seat}

@@ -11,6 +11,8 @@ mod grows;
 mod lock;
 mod parts;
 mod rule;
+#[cfg(test)]
+mod tests;
 mod view;
 
 pub use grows::{Grows, Job};

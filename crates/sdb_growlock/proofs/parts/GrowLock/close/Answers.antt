@@ -1,4 +1,4 @@
-use Rattle.std.proofs.Common.{rules, ◌≡◌, ℕ, ◌≤◌, ◌∷◌, [], ◌∙◌, ap, subst, sym, Option, Some, None, map}
+use Rattle.std.proofs.Common.{ℕ, ◌≤◌, ◌∙◌, ap, subst, Option, map}
 use Rattle.atomic_table.specs.declared.shared.Seat as atomic
 use Rattle.sdb_growlock.specs.declared.view.View.{View}
 use Rattle.sdb_growlock.specs.declared.parts.Seat.{Seat}

@@ -1,6 +1,6 @@
-use Rattle.std.proofs.Common.{rules, ◌≡◌, ℕ, ◌<◌, ◌≢◌, ◌∷◌, [], ◌∙◌, ap, subst, sym, Some, None, arith}
+use Rattle.std.proofs.Common.{rules, [], ◌∙◌, ap, subst, sym, arith}
 use Rattle.atomic_table.specs.Table.{Splits}
-use Rattle.sdb_growlock.specs.Rule.{Each, Kept, stands, left_with, given_off}
+use Rattle.sdb_growlock.specs.Rule.{Kept, left_with, given_off}
 use Rattle.sdb_growlock.proofs.Hands.{M}
 use Rattle.sdb_growlock.proofs.Steps.{look, splits}
 use Rattle.sdb_growlock.proofs.parts.GrowLock.cut.Goals as goal

@@ -1,4 +1,4 @@
-use Rattle.std.proofs.Common.{rules, ◌≡◌, ℕ, List, [], ◌∷◌, subst, sym, Some}
+use Rattle.std.proofs.Common.{rules}
 use Rattle.sdb_growlock.proofs.Steps.{free}
 use Rattle.sdb_growlock.proofs.parts.GrowLock.free.Goals as goal
 

@@ -1,4 +1,4 @@
-use Rattle.std.proofs.Common.{rules, ◌≡◌, ◌∷◌, [], ◌∙◌, ap, subst, sym}
+use Rattle.std.proofs.Common.{◌≡◌, ◌∷◌, [], ◌∙◌, ap, subst}
 use Rattle.sdb_growlock.specs.Rule.{Each}
 use Rattle.sdb_growlock.specs.declared.parts.Seat.{Seat}
 use Rattle.sdb_growlock.proofs.Closing.{each_left, each_right}

@@ -1,4 +1,3 @@
-use Rattle.std.proofs.Common.{rules, ◌≡◌, ℕ, List, [], ◌∷◌, subst, sym, Some}
 use Rattle.sdb_growlock.proofs.Steps.{opens}
 use Rattle.sdb_growlock.proofs.parts.GrowLock.new.Goals as goal
 

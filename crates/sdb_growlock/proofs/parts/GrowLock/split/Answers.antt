@@ -1,5 +1,5 @@
-use Rattle.std.proofs.Common.{rules, ◌≡◌, ℕ, ◌≢◌, ◌∷◌, [], ◌∙◌, ap, subst, sym, Some, None, refl, arith}
-use Rattle.sdb_growlock.specs.Rule.{Each, sight, stands, left_with, given_off}
+use Rattle.std.proofs.Common.{[], ◌∙◌, ap, subst}
+use Rattle.sdb_growlock.specs.Rule.{Each, left_with, given_off}
 use Rattle.sdb_growlock.proofs.Hands.{M, at_rest, rests}
 use Rattle.sdb_growlock.proofs.parts.GrowLock.split.Goals as goal
 

@@ -1,5 +1,4 @@
-use Rattle.std.proofs.Common.{rules, ◌≡◌, ◌∙◌, ap, subst}
-use Rattle.atomic_table.specs.Table.{Me}
+use Rattle.std.proofs.Common.{rules, ◌∙◌, ap, subst}
 use Rattle.sdb_growlock.specs.Rule.{Took}
 use Rattle.sdb_growlock.proofs.Steps.{take}
 use Rattle.sdb_growlock.proofs.parts.GrowLock.take.Goals as goal

@@ -1,5 +1,5 @@
-use Rattle.std.proofs.Common.{rules, ◌≡◌, ℕ, ◌≢◌, ◌∷◌, [], ◌∙◌, ap, subst, sym, refl, Some, None}
-use Rattle.sdb_growlock.specs.Rule.{Each, sight, stands, holding}
+use Rattle.std.proofs.Common.{rules, ap, subst, sym, refl, Some, None}
+use Rattle.sdb_growlock.specs.Rule.{Each, holding}
 use Rattle.sdb_growlock.proofs.Hands.{M, at_rest, rests, same_value, took, shown, swapped, given}
 use Rattle.sdb_growlock.proofs.parts.GrowLock.with.Goals as goal
 

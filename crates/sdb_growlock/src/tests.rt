@@ -1,0 +1,106 @@
+//! Two threads that let one list grow.
+ghost use Rattle.std.specs.Prelude.{◌≡◌, ℕ, ◌++◌, ◌∷◌, [], true};
+ghost use Rattle.sdb_growlock.specs.Words.{IsOf, number, next};
+
+use crate::{GrowLock, Grows, Job, Seat};
+use std::sync::Wait;
+use std::test::Fail;
+use std::thread;
+
+// How often each thread adds its number.
+const TIMES: u64 = 1_000;
+
+// The numbers that were added, in order.
+#[derive(Drop)]
+struct Tally {
+    numbers: Vec<u64>,
+}
+
+impl Grows for Tally {
+    ghost use Rattle.std.specs.Prelude.{◌≡◌, []};
+    ghost use Rattle.std.proofs.Common.{◌∙◌, refl, sym};
+    ghost use Rattle.sdb_growlock.specs.Tally.{those, GoesOn, goes_on_itself, goes_on_further};
+
+    ghost extends = { λ new old. GoesOn new.numbers.items old.numbers.items };
+
+    ghost same = { λ n a b. those n a.numbers.items ≡ those n b.numbers.items };
+
+    ghost blank = { λ n a. those n a.numbers.items ≡ [] };
+
+    ghost itself = { λ a. goes_on_itself a.numbers.items };
+
+    ghost further = { λ a b c h k. goes_on_further a.numbers.items b.numbers.items c.numbers.items h k };
+
+    ghost same_itself = { λ n a. refl };
+
+    ghost same_further = { λ n a b c h k. h ∙ k };
+
+    ghost blank_same = { λ n a b h k. h ∙ sym k };
+
+    ghost same_blank = { λ n a b h k. sym h ∙ k };
+}
+
+// Adds the number under which it is run, and says whether there was memory for it.
+#[derive(Drop)]
+struct AddNumber;
+
+impl Job<Tally> for AddNumber {
+    type Answer = bool;
+
+    ghost ready = { λ _ _ _. Unit {0} };
+
+    ghost does = { λ _ n old new added. added ≡ true → new.numbers.items ≡ old.numbers.items ++ n ∷ [] };
+
+    fn run(self, number: u64, tally: &mut Tally) -> bool {
+        tally.numbers.push(number).is_ok()
+    }
+}
+
+// Adds the seat's number so many times. The seat, and how often there was memory.
+fn add_all<R: Wait>(rt: &R, lock: &GrowLock<Tally>, mut seat: Seat<Tally>) -> (Seat<Tally>, u64)
+    requires own { IsOf seat lock.now }
+    ensures own { IsOf result.0 lock.now × (number result.0 ≡ number seat) × (next result.0 ≡ next seat) }
+{
+    let mut added = 0;
+    for _ in 0..TIMES {
+        if lock.with(rt, &mut seat, AddNumber) && added < TIMES {
+            added += 1;
+        }
+    }
+    (seat, added)
+}
+
+fn count(tally: &Tally, number: u64) -> usize {
+    tally.numbers.iter().filter(|it| **it == number).count()
+}
+
+#[test]
+fn what_two_threads_add_is_all_there(rt: HostRuntime) -> Result<(), Fail> {
+    let alloc = rt.alloc();
+    let empty = Tally {
+        numbers: Vec::new(alloc),
+    };
+    let Ok((lock, mut first)) = GrowLock::new(alloc, empty) else {
+        return Err("no memory".into());
+    };
+    let Ok(one) = lock.split(&mut first) else {
+        return Err("no seat".into());
+    };
+    let Ok(two) = lock.split(&mut first) else {
+        return Err("no seat".into());
+    };
+    let mut seats = Vec::with_capacity(alloc, 3)?;
+    let (one, two) = thread::join(
+        &rt,
+        || add_all(&rt, &lock, one),
+        || add_all(&rt, &lock, two),
+    );
+    seats.push_reserved(first);
+    seats.push_reserved(one.0);
+    seats.push_reserved(two.0);
+    assert!(rt; (one.1, two.1) == (TIMES, TIMES));
+    let tally = lock.close(seats);
+    assert!(rt; tally.numbers.len() == 2_000);
+    assert!(rt; count(&tally, 1) == 1_000 && count(&tally, 2) == 1_000);
+    Ok(())
+}
