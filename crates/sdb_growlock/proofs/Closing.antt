@@ -9,7 +9,8 @@ use Rattle.sdb_growlock.specs.declared.view.View.{View}
 use Rattle.sdb_growlock.specs.declared.view.Sight.{Sight}
 use Rattle.sdb_growlock.specs.declared.parts.Seat.{Seat}
 use Rattle.sdb_growlock.specs.Rule.{Each, sight, Fits, Kept, Saw, gathered, Among}
-use Rattle.sdb_growlock.proofs.Hands.{M, single, not_out}
+use Rattle.sdb_growlock.proofs.Hands.{M, not_out}
+use Rattle.sdb_growlock.specs.Laws.{one_seen}
 use Rattle.sdb_growlock.specs.Rule.{added}
 
 module _ {A : Type 0} (P : A → Type 0) where
@@ -52,7 +53,7 @@ module _ {T : Type 0} where
   numbered : (P : Sight T → Type 0) (ss : List (Seat T)) → Each (λ (s : Seat T). Each P s.inner.me.0.seen) ss → (k : ℕ) → Among k (map (λ (s : Seat T). s.number) ss) → (p : Sight T) × (p.number ≡ k) × P p
   numbered P [] h k a = absurd a
   numbered P (s ∷ ss) h k a = ⊎_elim
-      (λ (e : s.number ≡ k). let t = single s.inner.me.0.seen s.number s.rests.1 in (sight s.number t.0, e, (subst (Each P) t.1 h.0).0))
+      (λ (e : s.number ≡ k). let t = one_seen s.inner.me.0.seen s.number s.rests.1 in (sight s.number t.0, e, (subst (Each P) t.1 h.0).0))
       (λ b. numbered P ss h.1 k b) a
 
   module _ (extends : T → T → Type 0) (same : ℕ → T → T → Type 0) (blank : ℕ → T → Type 0) where

@@ -2,8 +2,8 @@
 use Rattle.std.proofs.Common.{◌≡◌, ℕ, false, List, [], ◌∷◌, map, length, sym, refl, ap, ◌∙◌, subst, arith, Option, Some, None}
 use Rattle.atomic_table.specs.Table.{Me, rest}
 use Rattle.sdb_growlock.specs.declared.view.View.{View}
-use Rattle.sdb_growlock.specs.declared.view.Sight.{Sight}
-use Rattle.sdb_growlock.specs.Rule.{sight, stands, holding, at_hand, at_home, number_of, is_out}
+use Rattle.sdb_growlock.specs.Laws.{one_seen}
+use Rattle.sdb_growlock.specs.Rule.{stands, holding, at_hand, at_home, number_of, is_out}
 
 module _ {A : Type 0} where
   pub empty : (l : List A) → length l ≡ 0 → l ≡ []
@@ -18,18 +18,13 @@ module _ {T : Type 0} where
   held_or d [] = d
   held_or d (x ∷ xs) = elim (x.1) [ Some y ↦ y | None ↦ d ]
 
-  pub single : (l : List (Sight T)) (n : ℕ) → map number_of l ≡ n ∷ [] → (x : T) × (l ≡ sight n x ∷ [])
-  single [] n e = absurd (cc)
-  single (p ∷ []) n e = let h : p.number ≡ n = cc in (p.value, λ i. sight (h i) p.value ∷ [])
-  single (p ∷ q ∷ l) n e = absurd (omega (arith, ap length e))
-
   pub not_out : (o : Option T) → is_out o ≡ false → o ≡ None
   not_out (Some x) e = absurd (cc)
   not_out None e = refl
 
   -- what the fact of every seat says
   pub at_rest : (m : M T) (n k : ℕ) → length m.1 ≡ 0 → map number_of m.0.seen ≡ n ∷ [] → is_out m.0.out ≡ false → m.0.next ≡ k → (x : T) × (m ≡ (stands n x k, []))
-  at_rest m n k none one out next = let s = single m.0.seen n one in let o = not_out m.0.out out in let c = empty m.1 none in
+  at_rest m n k none one out next = let s = one_seen m.0.seen n one in let o = not_out m.0.out out in let c = empty m.1 none in
       (s.0, λ i. (record { seen = s.1 i; out = o i; next = next i }, c i))
 
   pub rests : (m : M T) (n k : ℕ) (x : T) → m ≡ (stands n x k, []) → (length m.1 ≡ 0) × (map number_of m.0.seen ≡ n ∷ []) × (is_out m.0.out ≡ false) × (m.0.next ≡ k)
