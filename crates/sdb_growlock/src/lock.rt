@@ -98,8 +98,8 @@ impl<T: Grows> GrowLock<T> {
         })
     }
 
-    /// Gives the value back, to whoever has every seat of the lock. It extends what each has seen, holds under the number
-    /// of each just what that one has seen there, and nothing under a number that no seat has.
+    /// Gives the value back, to whoever has every seat of the lock. It extends what each has seen, holds under the
+    /// number of each just what that one has seen there, and nothing under a number that no seat has.
     pub fn close(self, mut seats: Vec<Seat<T>>) -> T
         requires own { Each (λ s. IsOf s self) seats.items }
         requires first { 0 < seats_of seats.items }

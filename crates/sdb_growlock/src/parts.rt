@@ -12,8 +12,8 @@ pub struct GrowLock<T: Grows> {
     ghost sized: { (table.shared.table_id.words ≡ 1) × (table.shared.table_id.slots ≡ 1) },
 }
 
-/// The right to use one lock, under a number of its own: 0 of the first seat, then one higher for each that is split off.
-/// It has seen a value (`HasSeen`), which each later value under the lock extends.
+/// The right to use one lock, under a number of its own: 0 of the first seat, then one higher for each that is split
+/// off. It has seen a value (`HasSeen`), which each later value under the lock extends.
 pub struct Seat<T> {
     pub(crate) number: u64,
     pub(crate) next: u64,
