@@ -92,7 +92,7 @@ def main():
     pairs()
     snapshots()
     sys.stdout.flush()
-    for part in ("apply", "transform"):
+    for part in ("apply", "transform", "lock"):
         subprocess.run([BENCH, part], check=True)
 
 

@@ -5,6 +5,7 @@
 mod applying;
 mod echoing;
 mod json;
+mod locking;
 mod random;
 mod timing;
 mod transforming;
@@ -23,9 +24,10 @@ fn main(rt: HostRuntime) -> anyhow::Result<ExitCode> {
         ("json", None) => json::pass(&rt)?,
         ("apply", None) => applying::measure(&rt)?,
         ("transform", None) => transforming::measure(&rt)?,
+        ("lock", None) => locking::measure(&rt, &rt)?,
         ("echo", Some(address)) => echoing::serve(rt, address.as_str())?,
         _ => {
-            eprintln!(rt; "sdb_bench: json, apply, transform or echo ADDR")?;
+            eprintln!(rt; "sdb_bench: json, apply, transform, lock or echo ADDR")?;
             return Ok(ExitCode::from(2));
         }
     }
