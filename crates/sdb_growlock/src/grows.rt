@@ -10,16 +10,22 @@ pub trait Grows {
     /// The value holds nothing under the number.
     ghost blank: { ℕ → Self → Type 0 };
 
+    /// Each value extends itself.
     ghost itself: { (a : Self) → extends a a };
 
+    /// What extends a value extends what that one extends.
     ghost further: { (a b c : Self) → extends c b → extends b a → extends c a };
 
+    /// A value holds the same as itself under each number.
     ghost same_itself: { (n : ℕ) (a : Self) → same n a a };
 
+    /// Of three values, where the first and second, and the second and third hold the same, the first and third do.
     ghost same_further: { (n : ℕ) (a b c : Self) → same n a b → same n b c → same n a c };
 
+    /// Two values that hold nothing under a number hold the same there.
     ghost blank_same: { (n : ℕ) (a b : Self) → blank n a → blank n b → same n a b };
 
+    /// What holds the same as a value that holds nothing there holds nothing.
     ghost same_blank: { (n : ℕ) (a b : Self) → same n a b → blank n a → blank n b };
 }
 
