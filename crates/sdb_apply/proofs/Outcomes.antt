@@ -2,12 +2,21 @@
 use Rattle.std.proofs.Common.{◌≡◌, ℕ, List, Option, Some, None, Ok, Err, Result, Bool, true, false, refl, sym, ap, ◌∙◌, option_map}
 use Rattle.std.specs.Prelude.{⊤, if◌then◌else◌}
 use Rattle.std.specs.Option.{option_and_then}
+use Rattle.std.proofs.Common.{String, Global, cond, IsErrOf, MatchOption, subst}
+use Rattle.std.specs.Option.{IfSome}
+use Rattle.std.specs.declared.collections.BTreeMap.{BTreeMap}
+use Rattle.sdb_pieces.specs.Pieces.{is_own_list, items_in}
+use Rattle.sdb_pieces.specs.Shareable.{inside, is_own as holds_own}
+use Rattle.sdb_pieces.specs.declared.pieces.Pieces.{Pieces}
+use Rattle.sdb_pieces.specs.declared.shareable.Shareable.{Shareable}
+use Rattle.sdb_value.specs.Owns.{items_own, list_own, members_own, object_own}
+use Rattle.sdb_value.specs.declared.value.Json.{Json}
 use Rattle.sdb_value.specs.Value.{Value, Items, Members, PlainStep, null, truth, whole, text, list, object, at, with, as_text, as_list, as_object}
 use Rattle.sdb_value.specs.Change.{ChangedAt}
-use Rattle.sdb_value.specs.Edits.{Edits}
+use Rattle.sdb_text.specs.Edits.{Edits}
 use Rattle.sdb_value.specs.Law.{with_same, text_is, list_is, object_is}
 use Rattle.sdb_apply.specs.Does.{on_text, on_list, on_object}
-use Rattle.sdb_apply.specs.Outcome.{Outcome}
+use Rattle.sdb_apply.specs.Outcome.{Outcome, needs}
 use Rattle.sdb_apply.specs.declared.applying.ApplyFault.{ApplyFault}
 use Rattle.sdb_apply.specs.declared.applying.ApplyFault.TheVariants.{NotApplied, Memory}
 
@@ -70,3 +79,41 @@ not_object f (whole n) e = refl
 not_object f (text s) e = refl
 not_object f (list es) e = refl
 not_object f (object ms) e = cc
+
+-- ---- what takes memory
+
+pub needs_put : (own : Bool) → needs true own ≡ true
+needs_put true = refl
+needs_put false = refl
+
+pub needs_shared : (takes own : Bool) → own ≡ false → needs takes own ≡ true
+needs_shared takes own h = ap (needs takes) h
+
+pub list_shared : (l : Pieces Json) → is_own_list l ≡ false → list_own l ≡ false
+list_shared l h = ap (λ b. cond b (items_own (items_in l)) false) h
+
+pub object_shared : (m : Shareable (BTreeMap (String Global) Json Global)) → holds_own m ≡ false → object_own m ≡ false
+object_shared m h = ap (λ b. cond b (members_own (inside m).entries) false) h
+
+-- an outcome of which only what is shared, or put in, takes memory
+pub sparing : {A : Type 0} (r : Result ⊤ ApplyFault) (takes own : Bool) (o : Option A) (d e : A) → Outcome true r o d e
+    → (own ≡ true → IsErrOf r Memory → takes ≡ true) → Outcome (needs takes own) r o d e
+sparing (Ok x) takes own o d e h k = h
+sparing (Err NotApplied) takes own o d e h k = h
+sparing (Err Memory) takes true o d e h k = (k refl refl, h.1)
+sparing (Err Memory) takes false o d e h k = (refl, h.1)
+
+-- what is said of an option that is there, or isn't
+pub at_some : {A : Type 0} (N : Type 0) (P : A → Type 0) (o : Option A) (x : A) → o ≡ Some x → MatchOption o N P → P x
+at_some {A} N P o x e h = let Q : Option A → Type 0 = λ o. MatchOption o N P in subst Q e h
+
+pub at_none : {A : Type 0} (N : Type 0) (P : A → Type 0) (o : Option A) → o ≡ None → MatchOption o N P → N
+at_none {A} N P o e h = let Q : Option A → Type 0 = λ o. MatchOption o N P in subst Q e h
+
+pub if_some : {A : Type 0} (P : A → Type 0) (o : Option A) (x : A) → o ≡ Some x → IfSome o P → P x
+if_some {A} P o x e h = let Q : Option A → Type 0 = λ o. IfSome o P in subst Q e h
+
+-- what the later value needs, which is own where the first one was, the first one needs
+pub needed : (takes own later : Bool) → (own ≡ true → later ≡ true) → needs takes later ≡ true → needs takes own ≡ true
+needed takes false later h k = refl
+needed takes true later h k = ap (needs takes) (sym (h refl)) ∙ k

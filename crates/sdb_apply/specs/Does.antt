@@ -1,7 +1,7 @@
 -- What components make of a value (json0's README, "Summary of operations"). None is E8.
 use Rattle.std.specs.Prelude.{ℕ, ℤ, ◌+ℤ◌, List, [], ◌∷◌, Option, Some, None, option_map, option_and_then}
 use Rattle.sdb_value.specs.Value.{Value, Items, Members, whole, text, list, object, at, with, insert_item, remove_item, replace_item, put, without}
-use Rattle.sdb_value.specs.Text.{insert_text, remove_text}
+use Rattle.sdb_text.specs.Text.{insert_text, remove_text}
 use Rattle.sdb_value.specs.Profile.{in_range}
 use Rattle.sdb_component.specs.Plain.{PlainAct, na, si, sd, li, ld, lr, oi, od, or, PlainComponent}
 

@@ -1,5 +1,5 @@
 -- How a change in place ends.
-use Rattle.std.specs.Prelude.{◌≡◌, ℕ, zero, suc, List, [], ◌∷◌, Bool, true, false, Option, Some, None, Result, Ok, Err, ⊤}
+use Rattle.std.specs.Prelude.{◌≡◌, ℕ, zero, suc, List, [], ◌∷◌, Bool, true, false, if◌then◌else◌, Option, Some, None, Result, Ok, Err, ⊤}
 use Rattle.sdb_component.specs.Plain.{PlainAct, na, sd, ld, od, PlainComponent}
 use Rattle.sdb_apply.specs.declared.applying.ApplyFault.{ApplyFault}
 use Rattle.sdb_apply.specs.declared.applying.ApplyFault.TheVariants.{NotApplied, Memory}
@@ -24,6 +24,10 @@ abbrev pub Outcome : {A : Type 0} → Bool → Result ⊤ ApplyFault → Option 
 Outcome grows (Ok _) o d e = o ≡ Some e
 Outcome grows (Err NotApplied) o d e = (o ≡ None) × (e ≡ d)
 Outcome grows (Err Memory) o d e = (grows ≡ true) × (e ≡ d)
+
+-- what is its owner's own takes memory only for what is put in; what is shared may take some
+abbrev pub needs : Bool → Bool → Bool
+needs takes own = if own then takes else true
 
 -- one component takes memory where its act does; of several, the place that they share is copied
 abbrev pub whole_takes_memory : List PlainComponent → Bool

@@ -1,42 +1,45 @@
 //! What each act does at its place.
 ghost use Rattle.std.specs.Prelude.{◌≡◌, ◌+ℤ◌, false, true, if◌then◌else◌};
+ghost use Rattle.sdb_value.specs.Owns.{is_own};
 ghost use Rattle.sdb_value.specs.Profile.{in_range};
-ghost use Rattle.sdb_value.specs.Text.{insert_text, remove_text};
+ghost use Rattle.sdb_text.specs.Text.{insert_text, remove_text};
 ghost use Rattle.sdb_value.specs.Value.{insert_item, remove_item, replace_item, put, without};
 ghost use Rattle.sdb_value.specs.View.{view};
 ghost use Rattle.sdb_component.specs.View.{plain_act};
 ghost use Rattle.sdb_apply.specs.Does.{effect, on_number, on_text, on_list, on_object};
 ghost use Rattle.sdb_apply.specs.declared.applying.ApplyFault.TheVariants.{NotApplied};
-ghost use Rattle.sdb_apply.specs.Outcome.{Outcome, takes_memory};
+ghost use Rattle.sdb_apply.specs.Outcome.{Outcome, needs, takes_memory};
 
 use crate::applying::ApplyFault;
 use sdb_component::{Act, Piece};
 use sdb_value::{
-    Json, Whole, insert_item, insert_text, list_mut, object_mut, put_member, remove_item,
-    remove_member, remove_text, replace_item, text_mut,
+    Json, Whole, insert_item, list_mut, object_mut, put_member, remove_item, remove_member,
+    replace_item, text_mut,
 };
 use std::alloc::Global;
 
 pub(crate) fn act_on(alloc: Global, place: &mut Json, act: &Act) -> Result<(), ApplyFault>
-    ensures { Outcome (takes_memory (plain_act act.now)) result
+    ensures outcome { Outcome (needs (takes_memory (plain_act act.now)) (is_own place.old)) result
         (effect (plain_act act.now) (view place.old)) (view place.old) (view place.new) }
+    ensures own { is_own place.old ≡ true → is_own place.new ≡ true }
 {
     match act {
         Act::Na(amount) => add(place, *amount),
-        Act::Si(offset, piece) => insert_at(place, *offset, piece),
-        Act::Sd(offset, piece) => delete_at(place, *offset, piece),
+        Act::Si(offset, piece) => insert_at(alloc, place, *offset, piece),
+        Act::Sd(offset, piece) => delete_at(alloc, place, *offset, piece),
         Act::Li(index, value) => insert(alloc, place, *index, value),
-        Act::Ld(index, _removed) => delete(place, *index),
+        Act::Ld(index, _removed) => delete(alloc, place, *index),
         Act::Lr(index, _removed, value) => replace(alloc, place, *index, value),
         Act::Oi(key, value) => set_key(alloc, place, key.as_str(), value),
-        Act::Od(key, _removed) => remove_key(place, key.as_str()),
+        Act::Od(key, _removed) => remove_key(alloc, place, key.as_str()),
         Act::Or(key, _removed, value) => set_key(alloc, place, key.as_str(), value),
     }
 }
 
 fn add(place: &mut Json, amount: Whole) -> Result<(), ApplyFault>
-    ensures { Outcome false result
+    ensures outcome { Outcome (needs false (is_own place.old)) result
         (on_number (λ n. in_range (n +ℤ amount)) (view place.old)) (view place.old) (view place.new) }
+    ensures own { is_own place.old ≡ true → is_own place.new ≡ true }
 {
     if let Json::Int(n) = place {
         match n.plus(amount) {
@@ -50,77 +53,84 @@ fn add(place: &mut Json, amount: Whole) -> Result<(), ApplyFault>
     Err(ApplyFault::NotApplied)
 }
 
-fn insert_at(place: &mut Json, offset: u64, piece: &Piece) -> Result<(), ApplyFault>
-    ensures { Outcome true result
+fn insert_at(alloc: Global, place: &mut Json, offset: u64, piece: &Piece) -> Result<(), ApplyFault>
+    ensures outcome { Outcome (needs true (is_own place.old)) result
         (on_text (insert_text offset piece.now) (view place.old)) (view place.old) (view place.new) }
+    ensures own { is_own place.old ≡ true → is_own place.new ≡ true }
 {
     match text_mut(place) {
-        Some(text) => done_if(insert_text(text, offset, piece.as_str())?),
+        Some(text) => done_if(text.insert(alloc, offset, piece.as_str())?),
         None => Err(ApplyFault::NotApplied),
     }
 }
 
-fn delete_at(place: &mut Json, offset: u64, piece: &Piece) -> Result<(), ApplyFault>
-    ensures { Outcome false result
+fn delete_at(alloc: Global, place: &mut Json, offset: u64, piece: &Piece) -> Result<(), ApplyFault>
+    ensures outcome { Outcome (needs false (is_own place.old)) result
         (on_text (remove_text offset piece.now) (view place.old)) (view place.old) (view place.new) }
+    ensures own { is_own place.old ≡ true → is_own place.new ≡ true }
 {
     match text_mut(place) {
-        Some(text) => done_if(remove_text(text, offset, piece.as_str())),
+        Some(text) => done_if(text.remove(alloc, offset, piece.as_str())?),
         None => Err(ApplyFault::NotApplied),
     }
 }
 
 fn insert(alloc: Global, place: &mut Json, index: u64, value: &Json) -> Result<(), ApplyFault>
-    ensures { Outcome true result
+    ensures outcome { Outcome (needs true (is_own place.old)) result
         (on_list (insert_item index (view value.now)) (view place.old)) (view place.old) (view place.new) }
+    ensures own { is_own place.old ≡ true → is_own place.new ≡ true }
 {
-    let copy = value.try_clone(alloc)?;
+    let copy = value.own_copy(alloc)?;
     match list_mut(place) {
-        Some(items) => done_if(insert_item(items, index, copy)?),
+        Some(items) => done_if(insert_item(alloc, items, index, copy)?),
         None => Err(ApplyFault::NotApplied),
     }
 }
 
-fn delete(place: &mut Json, index: u64) -> Result<(), ApplyFault>
-    ensures { Outcome false result
+fn delete(alloc: Global, place: &mut Json, index: u64) -> Result<(), ApplyFault>
+    ensures outcome { Outcome (needs false (is_own place.old)) result
         (on_list (remove_item index) (view place.old)) (view place.old) (view place.new) }
+    ensures own { is_own place.old ≡ true → is_own place.new ≡ true }
 {
     match list_mut(place) {
-        Some(items) => done_if(remove_item(items, index)),
+        Some(items) => done_if(remove_item(alloc, items, index)?),
         None => Err(ApplyFault::NotApplied),
     }
 }
 
 fn replace(alloc: Global, place: &mut Json, index: u64, value: &Json) -> Result<(), ApplyFault>
-    ensures { Outcome true result
+    ensures outcome { Outcome (needs true (is_own place.old)) result
         (on_list (replace_item index (view value.now)) (view place.old)) (view place.old) (view place.new) }
+    ensures own { is_own place.old ≡ true → is_own place.new ≡ true }
 {
-    let copy = value.try_clone(alloc)?;
+    let copy = value.own_copy(alloc)?;
     match list_mut(place) {
-        Some(items) => done_if(replace_item(items, index, copy)),
+        Some(items) => done_if(replace_item(alloc, items, index, copy)?),
         None => Err(ApplyFault::NotApplied),
     }
 }
 
 fn set_key(alloc: Global, place: &mut Json, key: &str, value: &Json) -> Result<(), ApplyFault>
-    ensures { Outcome true result
+    ensures outcome { Outcome (needs true (is_own place.old)) result
         (on_object (put key.now (view value.now)) (view place.old)) (view place.old) (view place.new) }
+    ensures own { is_own place.old ≡ true → is_own place.new ≡ true }
 {
     let name = String::from_str(alloc, key)?;
-    let copy = value.try_clone(alloc)?;
+    let copy = value.own_copy(alloc)?;
     match object_mut(place) {
-        Some(members) => Ok(put_member(members, name, copy)?),
+        Some(members) => Ok(put_member(alloc, members, name, copy)?),
         None => Err(ApplyFault::NotApplied),
     }
 }
 
-fn remove_key(place: &mut Json, key: &str) -> Result<(), ApplyFault>
-    ensures { Outcome false result
+fn remove_key(alloc: Global, place: &mut Json, key: &str) -> Result<(), ApplyFault>
+    ensures outcome { Outcome (needs false (is_own place.old)) result
         (on_object (without key.now) (view place.old)) (view place.old) (view place.new) }
+    ensures own { is_own place.old ≡ true → is_own place.new ≡ true }
 {
     match object_mut(place) {
         Some(members) => {
-            remove_member(members, key);
+            remove_member(alloc, members, key)?;
             Ok(())
         }
         None => Err(ApplyFault::NotApplied),

@@ -1,9 +1,10 @@
 //! Components and operations, applied.
 ghost use Rattle.std.specs.Prelude.{◌≡◌, ◌+◌, ◌<◌, take, length, true, OnOk, OnErr, IfErr, IsErrOf, Some, None};
+ghost use Rattle.sdb_value.specs.Owns.{is_own};
 ghost use Rattle.sdb_value.specs.View.{view, plain_path};
 ghost use Rattle.sdb_component.specs.View.{plain_act};
 ghost use Rattle.sdb_apply.specs.Does.{does, applies, effect};
-ghost use Rattle.sdb_apply.specs.Outcome.{Outcome, takes_memory, takes_memory_at};
+ghost use Rattle.sdb_apply.specs.Outcome.{Outcome, needs, takes_memory, takes_memory_at};
 ghost use Rattle.sdb_apply.specs.declared.applying.ApplyFault.TheVariants.{NotApplied, Memory};
 
 use crate::acts::act_on;
@@ -49,12 +50,14 @@ pub struct Refused {
 /// `NotApplied` where its path leads nowhere, another kind of value stands there, an index is out
 /// of range, an offset (of UTF-16 units) is inside a pair or past the end, another text stands
 /// where one is to be deleted, or a sum is outside -9007199254740991 to 9007199254740991. `Memory`
-/// only where something is put in. After a refusal the value is unchanged.
+/// only where something is put in, or something of the value is shared. After a refusal the value is
+/// unchanged. A value that is its own stays so.
 pub fn apply_one(alloc: Global, value: &mut Json, component: &Component) -> Result<(), ApplyFault>
     ensures done { OnOk result (does component.now (view value.old) ≡ Some (view value.new)) }
     ensures refused { IsErrOf result NotApplied → does component.now (view value.old) ≡ None }
-    ensures memory { IsErrOf result Memory → takes_memory component.now.act ≡ true }
+    ensures memory { IsErrOf result Memory → needs (takes_memory component.now.act) (is_own value.old) ≡ true }
     ensures unchanged { OnErr result (view value.new ≡ view value.old) }
+    ensures own { is_own value.old ≡ true → is_own value.new ≡ true }
 {
     act_at(alloc, value, component)
 }
@@ -62,26 +65,29 @@ pub fn apply_one(alloc: Global, value: &mut Json, component: &Component) -> Resu
 /// Applies the act at the path, as a component of both would be, with the same refusals: for a value
 /// that lies deeper in a document than the path tells. After a refusal the value is unchanged.
 pub fn apply_at(alloc: Global, value: &mut Json, path: &[Step], act: &Act) -> Result<(), ApplyFault>
-    ensures { Outcome (takes_memory (plain_act act.now)) result
+    ensures outcome { Outcome (needs (takes_memory (plain_act act.now)) (is_own value.old)) result
         (does (record { path = plain_path path.now; act = plain_act act.now }) (view value.old))
         (view value.old) (view value.new) }
+    ensures own { is_own value.old ≡ true → is_own value.new ≡ true }
 {
-    match change_at(value, path, Turn { alloc, act }) {
+    match change_at(alloc, value, path, Turn { alloc, act })? {
         Some(done) => done,
         None => Err(ApplyFault::NotApplied),
     }
 }
 
 fn act_at(alloc: Global, value: &mut Json, component: &Component) -> Result<(), ApplyFault>
-    ensures { Outcome (takes_memory component.now.act) result
+    ensures outcome { Outcome (needs (takes_memory component.now.act) (is_own value.old)) result
         (does component.now (view value.old)) (view value.old) (view value.new) }
+    ensures own { is_own value.old ≡ true → is_own value.new ≡ true }
 {
     apply_at(alloc, value, component.path(), component.act())
 }
 
 /// Applies the components one after the other, in place, each to what the one before it made. Stops
 /// at the first that is refused, as [`apply_one`] says when: the value is then what the components
-/// before that one made of it. `Memory` only at a component that puts something in.
+/// before that one made of it. `Memory` only at a component that puts something in, or where something of
+/// the value is shared. A value that is its own stays so.
 pub fn apply(alloc: Global, value: &mut Json, op: &Op) -> Result<(), Refused>
     ensures done { OnOk result (applies op.now (view value.old) ≡ Some (view value.new)) }
     ensures before { IfErr result (λ r. applies (take r.at op.now) (view value.old) ≡ Some (view value.new)) }
@@ -89,7 +95,8 @@ pub fn apply(alloc: Global, value: &mut Json, op: &Op) -> Result<(), Refused>
     ensures refused { IfErr result (λ r. r.why ≡ NotApplied
         → applies (take (r.at + 1) op.now) (view value.old) ≡ None) }
     ensures none { IfErr result (λ r. r.why ≡ NotApplied → applies op.now (view value.old) ≡ None) }
-    ensures memory { IfErr result (λ r. r.why ≡ Memory → takes_memory_at r.at op.now ≡ true) }
+    ensures memory { IfErr result (λ r. r.why ≡ Memory → needs (takes_memory_at r.at op.now) (is_own value.old) ≡ true) }
+    ensures own { is_own value.old ≡ true → is_own value.new ≡ true }
 {
     for (at, component) in op.components().iter().enumerate() {
         match act_at(alloc, value, component) {
@@ -110,7 +117,9 @@ struct Turn<'a> {
 impl Change for Turn<'_> {
     type Output = Result<(), ApplyFault>;
 
-    ghost makes = { λ t d e r. Outcome (takes_memory (plain_act t.act.now)) r (effect (plain_act t.act.now) d) d e };
+    ghost makes = { λ t d e r. Outcome true r (effect (plain_act t.act.now) d) d e };
+
+    ghost answers_own = { λ t r. IsErrOf r Memory → takes_memory (plain_act t.act.now) ≡ true };
 
     fn change(self, place: &mut Json) -> Result<(), ApplyFault> {
         act_on(self.alloc, place, self.act)

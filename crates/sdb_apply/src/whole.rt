@@ -1,8 +1,9 @@
 //! Operations, applied whole or not at all.
-ghost use Rattle.std.specs.Prelude.{◌≡◌, ◌≤◌, ◌∷◌, [], IsTrue, length, take, drop, Some, true, OnOk, OnErr, IfErr, IsErrOf};
+ghost use Rattle.std.specs.Prelude.{◌≡◌, ◌≤◌, ◌∷◌, [], IsTrue, length, take, drop, Some, true, OnOk, OnErr, IfErr, IsErrOf, ⊤};
+ghost use Rattle.sdb_value.specs.Owns.{is_own};
 ghost use Rattle.sdb_value.specs.View.{view, plain_path, plain_step};
 ghost use Rattle.sdb_apply.specs.Does.{applies};
-ghost use Rattle.sdb_apply.specs.Outcome.{Outcome, whole_takes_memory};
+ghost use Rattle.sdb_apply.specs.Outcome.{Outcome, needs, whole_takes_memory};
 ghost use Rattle.sdb_apply.specs.Shared.{below, AllUnder};
 ghost use Rattle.sdb_apply.specs.declared.applying.ApplyFault.TheVariants.{NotApplied, Memory};
 
@@ -19,8 +20,9 @@ use std::alloc::Global;
 pub fn apply_whole(alloc: Global, value: &mut Json, op: &Op) -> Result<(), ApplyFault>
     ensures done { OnOk result (applies op.now (view value.old) ≡ Some (view value.new)) }
     ensures refused { IsErrOf result NotApplied → applies op.now (view value.old) ≡ None }
-    ensures memory { IsErrOf result Memory → whole_takes_memory op.now ≡ true }
+    ensures memory { IsErrOf result Memory → needs (whole_takes_memory op.now) (is_own value.old) ≡ true }
     ensures unchanged { OnErr result (view value.new ≡ view value.old) }
+    ensures own { is_own value.old ≡ true → is_own value.new ≡ true }
 {
     match op.components() {
         [] => Ok(()),
@@ -36,7 +38,8 @@ fn apply_several(
     first: &Component,
 ) -> Result<(), ApplyFault>
     requires { take 1 components.now ≡ first.now ∷ [] }
-    ensures { Outcome true result (applies components.now (view value.old)) (view value.old) (view value.new) }
+    ensures outcome { Outcome true result (applies components.now (view value.old)) (view value.old) (view value.new) }
+    ensures own { is_own value.old ≡ true → is_own value.new ≡ true }
 {
     let path = shared_path(first.path(), components);
     let turn = Turns {
@@ -44,7 +47,7 @@ fn apply_several(
         components,
         depth: path.len(),
     };
-    match change_at(value, path, turn) {
+    match change_at(alloc, value, path, turn)? {
         Some(done) => done,
         None => Err(ApplyFault::NotApplied),
     }
@@ -102,6 +105,8 @@ impl Change for Turns<'_> {
 
     ghost makes = { λ t d e r. Outcome true r (applies (below t.depth t.components.now) d) d e };
 
+    ghost answers_own = { λ t r. ⊤ };
+
     fn change(self, place: &mut Json) -> Result<(), ApplyFault> {
         let kept = place.try_clone(self.alloc)?;
         match apply_below(self.alloc, place, self.components, self.depth) {
@@ -123,6 +128,7 @@ fn apply_below(
 ) -> Result<(), ApplyFault>
     ensures done { OnOk result (applies (below depth components.now) (view value.old) ≡ Some (view value.new)) }
     ensures refused { IsErrOf result NotApplied → applies (below depth components.now) (view value.old) ≡ None }
+    ensures own { is_own value.old ≡ true → is_own value.new ≡ true }
 {
     for component in components {
         match apply_at(

@@ -1,6 +1,6 @@
 -- The weight of an operation: the deletion of a text weighs its UTF-16 units, any other component 1.
 use Rattle.std.specs.Prelude.{ℕ, ◌+◌, max, List, [], ◌∷◌}
-use Rattle.sdb_value.specs.Text.{units}
+use Rattle.sdb_text.specs.Text.{units}
 use Rattle.sdb_component.specs.Plain.{PlainAct, sd, PlainComponent}
 
 -- a text that is deleted isn't empty, so it has a unit at least

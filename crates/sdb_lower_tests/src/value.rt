@@ -1,17 +1,17 @@
 //! `sdb_value`: values read, measured, found, changed and printed.
-ghost use Rattle.std.specs.Prelude.{◌≡◌};
+ghost use Rattle.std.specs.Prelude.{◌≡◌, OnOk, ⊤};
 ghost use Rattle.sdb_value.specs.View.{view};
 
 use crate::texts::{extended, is_shown, json, shown};
 use json::Writer;
 use sdb_value::{
-    Change, Json, MAX, Path, Step, ValueFault, Whole, change_at, count_of, cut_at, find, find_mut,
-    from_value, insert_item, insert_text, laws, list_mut, object_mut, put_member, remove_item,
-    remove_member, remove_text, replace_item, text_mut, to_value, units, whole_of, write_value,
+    Change, Json, List, MAX, Members, Path, Step, Text, ValueFault, Whole, change_at, count_of,
+    cut_at, find, find_mut, from_value, insert_item, laws, list_mut, object_mut, put_member,
+    remove_item, remove_member, replace_item, same_value, text_mut, to_value, units, whole_of,
+    write_value,
 };
 use serde_json::Value;
-use std::alloc::Global;
-use std::collections::BTreeMap;
+use std::alloc::{AllocError, Global};
 use std::test::Fail;
 
 fn written(alloc: Global, json: &Json) -> Result<Vec<u8>, Fail> {
@@ -22,7 +22,7 @@ fn written(alloc: Global, json: &Json) -> Result<Vec<u8>, Fail> {
 
 fn step(item: Json) -> Result<Step, Fail> {
     match item {
-        Json::Text(key) => Ok(Step::Key(key)),
+        Json::Text(key) => Ok(Step::Key(key.to_string(key.allocator())?)),
         Json::Int(index) => Ok(Step::Index(index.get().unsigned_abs())),
         _ => Err("no step".into()),
     }
@@ -34,7 +34,7 @@ fn path_of(alloc: Global, steps: Json) -> Result<Path, Fail> {
     let Json::List(items) = steps else {
         return Err("no list".into());
     };
-    for item in items {
+    for item in items.into_vec(alloc)? {
         path.push(step(item)?)?;
     }
     Ok(path)
@@ -64,7 +64,7 @@ fn a_value_is_read_and_printed(rt: HostRuntime) -> Result<(), Fail> {
 fn a_copy_is_the_same(rt: HostRuntime) -> Result<(), Fail> {
     let value = json(rt.alloc(), READ)?;
     let copy = value.try_clone(rt.alloc())?;
-    assert!(rt; copy == value);
+    assert!(rt; same_value(&copy, &value));
     drop(value);
     assert!(rt; is_shown(rt.alloc(), &copy, PRINTED)?);
     Ok(())
@@ -313,26 +313,34 @@ fn a_place_is_written(rt: HostRuntime) -> Result<(), Fail> {
 
 // Puts a value in the place of another, and answers how deep that was.
 #[derive(Drop)]
-struct Replace {
-    new: Json,
+struct Replace<'a> {
+    alloc: Global,
+    new: &'a Json,
 }
 
-impl Change for Replace {
-    type Output = u64;
+impl Change for Replace<'_> {
+    type Output = Result<u64, AllocError>;
 
-    ghost makes = { λ r _ e _. e ≡ view r.new };
+    ghost makes = { λ r _ e o. OnOk o (e ≡ view r.new.now) };
 
-    fn change(self, place: &mut Json) -> u64 {
+    ghost answers_own = { λ _ _. ⊤ };
+
+    fn change(self, place: &mut Json) -> Result<u64, AllocError> {
         let depth = place.depth();
-        *place = self.new;
-        depth
+        *place = self.new.own_copy(self.alloc)?;
+        Ok(depth)
     }
 }
 
 // Puts null at the path, and answers how deep the value there was.
 fn put_null(alloc: Global, value: &mut Json, steps: &str) -> Result<Option<u64>, Fail> {
     let path = path_of(alloc, json(alloc, steps)?)?;
-    Ok(change_at(value, &path, Replace { new: Json::Null }))
+    let null = Json::Null;
+    let replace = Replace { alloc, new: &null };
+    match change_at(alloc, value, &path, replace)? {
+        Some(depth) => Ok(Some(depth?)),
+        None => Ok(None),
+    }
 }
 
 // Whether one place takes null, and places that aren't there change nothing.
@@ -438,11 +446,11 @@ fn pairs_are_measured(rt: HostRuntime) -> Result<(), Fail> {
     Ok(())
 }
 
-fn change_items(alloc: Global, items: &mut Vec<Json>) -> Result<bool, Fail> {
+fn change_items(alloc: Global, items: &mut List) -> Result<bool, Fail> {
     Ok(
-        insert_item(items, 3, json(alloc, "4")?)?
-            && remove_item(items, 0)
-            && replace_item(items, 1, json(alloc, r#""q""#)?),
+        insert_item(alloc, items, 3, json(alloc, "4")?)?
+            && remove_item(alloc, items, 0)?
+            && replace_item(alloc, items, 1, json(alloc, r#""q""#)?)?,
     )
 }
 
@@ -456,10 +464,15 @@ fn a_list_is_changed_in_place(rt: HostRuntime) -> Result<(), Fail> {
     Ok(())
 }
 
-fn change_members(alloc: Global, members: &mut BTreeMap<String, Json>) -> Result<(), Fail> {
-    put_member(members, String::from_str(alloc, "b")?, json(alloc, "2")?)?;
-    put_member(members, String::from_str(alloc, "c")?, Json::Null)?;
-    remove_member(members, "a");
+fn change_members(alloc: Global, members: &mut Members) -> Result<(), Fail> {
+    put_member(
+        alloc,
+        members,
+        String::from_str(alloc, "b")?,
+        json(alloc, "2")?,
+    )?;
+    put_member(alloc, members, String::from_str(alloc, "c")?, Json::Null)?;
+    remove_member(alloc, members, "a")?;
     Ok(())
 }
 
@@ -473,16 +486,62 @@ fn an_object_is_changed_in_place(rt: HostRuntime) -> Result<(), Fail> {
     Ok(())
 }
 
-fn change_text(inside: &mut String) -> Result<bool, Fail> {
-    Ok(insert_text(inside, 3, "xy")? && remove_text(inside, 1, "😀x"))
+fn change_text(alloc: Global, inside: &mut Text) -> Result<bool, Fail> {
+    Ok(inside.insert(alloc, 3, "xy")? && inside.remove(alloc, 1, "😀x")?)
 }
 
 #[test]
 fn a_text_is_changed_in_place(rt: HostRuntime) -> Result<(), Fail> {
     let mut text = json(rt.alloc(), r#""a😀b""#)?;
     if let Some(inside) = text_mut(&mut text) {
-        assert!(rt; change_text(inside)?);
+        assert!(rt; change_text(rt.alloc(), inside)?);
     }
     assert!(rt; is_shown(rt.alloc(), &text, r#""ayb""#)?);
+    Ok(())
+}
+
+// A value with a list of several blocks and a text of several pieces.
+fn wide(alloc: Global) -> Result<Json, Fail> {
+    let mut text = String::from_str(alloc, r#"{"l":["#)?;
+    for _ in 0..1_500 {
+        text.push_str(r#"{"n":[1]},"#)?;
+    }
+    text.push_str(r#"0],"t":""#)?;
+    for _ in 0..3_000 {
+        text.push_str("aé😀")?;
+    }
+    text.push_str(r#""}"#)?;
+    json(alloc, text.as_str())
+}
+
+// Puts null at some places.
+fn change_some(alloc: Global, value: &mut Json) -> Result<bool, Fail> {
+    Ok(
+        put_null(alloc, value, r#"["l",700,"n",0]"#)? == Some(0)
+            && put_null(alloc, value, r#"["l",1400]"#)?.is_some()
+            && put_null(alloc, value, r#"["t"]"#)? == Some(0),
+    )
+}
+
+// Whether a copy stays as it was where the other is changed, whichever is changed first.
+fn copies_apart(alloc: Global, value: &Json) -> Result<bool, Fail> {
+    let shared = value.shared_copy(alloc)?;
+    let mut first = shared.try_clone(alloc)?;
+    let second = first.try_clone(alloc)?;
+    let done = change_some(alloc, &mut first)?;
+    let mut third = first.shared_copy(alloc)?;
+    let again = change_some(alloc, &mut third)? && same_value(&first, &third);
+    Ok(
+        done && again
+            && same_value(value, &second)
+            && same_value(&shared, &second)
+            && !same_value(&first, &second),
+    )
+}
+
+#[test]
+fn copies_of_a_value_are_changed_apart(rt: HostRuntime) -> Result<(), Fail> {
+    let value = wide(rt.alloc())?;
+    assert!(rt; copies_apart(rt.alloc(), &value)?);
     Ok(())
 }

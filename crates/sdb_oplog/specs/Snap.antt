@@ -2,10 +2,12 @@
 use Rattle.std.specs.Prelude.{ℕ, ◌+◌, List, [], ◌∷◌, ◌++◌, Bool, true, false, ◌&&◌, cond, nat_eq, bytes_eq, Option, Some, None, Result, Ok, Err, option_map, option_and_then, unwrap_or}
 use Rattle.std.specs.Option.{option_map_or, is_none}
 use Rattle.std.specs.Result.{result_ok}
+use Rattle.sdb_value.specs.Owns.{is_own}
 use Rattle.sdb_value.specs.Value.{Value}
+use Rattle.sdb_value.specs.declared.value.Json.{Json}
 use Rattle.sdb_component.specs.Plain.{PlainComponent}
 use Rattle.sdb_apply.specs.Does.{applies}
-use Rattle.sdb_apply.specs.Outcome.{whole_takes_memory}
+use Rattle.sdb_apply.specs.Outcome.{needs, whole_takes_memory}
 use Rattle.sdb_oplog.specs.Plain.{PlainContent, create, delete, edit, PlainEntry}
 use Rattle.sdb_oplog.specs.Refused.{result_then}
 use Rattle.sdb_oplog.specs.declared.codes.Code.{Code}
@@ -22,13 +24,19 @@ becomes delete d = Ok None
 becomes (edit op) None = Err E7
 becomes (edit op) (Some d) = result_then (λ e. Ok (Some e)) (edited op d)
 
--- a create copies its data where there is no document, and an edit of one takes what its components take
-abbrev pub becoming_takes_memory : PlainContent → Option Value → Bool
-becoming_takes_memory (create v) None = true
-becoming_takes_memory (create v) (Some d) = false
-becoming_takes_memory delete d = false
-becoming_takes_memory (edit op) None = false
-becoming_takes_memory (edit op) (Some d) = whole_takes_memory op
+-- a create copies its data where there is no document, and an edit of one takes what its components take, by whether
+-- the document is its owner's own
+abbrev pub becoming_takes_memory : PlainContent → Option Value → Bool → Bool
+becoming_takes_memory (create v) None own = true
+becoming_takes_memory (create v) (Some d) own = false
+becoming_takes_memory delete d own = false
+becoming_takes_memory (edit op) None own = false
+becoming_takes_memory (edit op) (Some d) own = needs (whole_takes_memory op) own
+
+-- nothing of a document, which may be none, is shared
+abbrev pub document_own : Option Json → Bool
+document_own None = true
+document_own (Some d) = is_own d
 
 -- the document after these entries, from this one on, if each has an effect
 abbrev pub snap_from : Option Value → List PlainEntry → Option (Option Value)

@@ -1,11 +1,12 @@
 //! What is asked of a document.
 ghost use Rattle.std.specs.Prelude.{◌≡◌, true, IfOk, IfErr, OnOk, OnErr, IsErrOf, Ok, option_map, unwrap_or};
+ghost use Rattle.sdb_value.specs.Owns.{is_own};
 ghost use Rattle.sdb_value.specs.View.{view};
-ghost use Rattle.sdb_apply.specs.Outcome.{whole_takes_memory};
+ghost use Rattle.sdb_apply.specs.Outcome.{needs, whole_takes_memory};
 ghost use Rattle.sdb_oplog.specs.Plain.{create, delete, edit};
 ghost use Rattle.sdb_oplog.specs.Refused.{RefusedBy};
 ghost use Rattle.sdb_oplog.specs.Over.{over, over_all, edit_over, over_takes_memory, carrying_takes_memory};
-ghost use Rattle.sdb_oplog.specs.Snap.{becomes, becoming_takes_memory, edited};
+ghost use Rattle.sdb_oplog.specs.Snap.{becomes, becoming_takes_memory, document_own, edited};
 ghost use Rattle.sdb_oplog.specs.View.{plain_kind};
 ghost use Rattle.sdb_oplog.specs.declared.codes.Code.TheVariants.{E10};
 
@@ -101,11 +102,13 @@ impl Content {
     /// is then as it was.
     ///
     /// An edit copies no more of the document than the value at the longest path that all of its
-    /// components share, and nothing where it has one component.
+    /// components share, and nothing where it has one component; beside that, what is shared with copies of
+    /// the document on its way.
     pub fn apply_to(&self, alloc: Global, document: &mut Option<Json>) -> Result<(), Code>
         ensures ok { OnOk result (becomes self.now (option_map view document.old) ≡ Ok (option_map view document.new)) }
         ensures err { IfErr result (λ code. RefusedBy (becomes self.now (option_map view document.old)) code) }
-        ensures memory { IsErrOf result E10 → becoming_takes_memory self.now (option_map view document.old) ≡ true }
+        ensures memory { IsErrOf result E10 →
+            becoming_takes_memory self.now (option_map view document.old) (document_own document.old) ≡ true }
         ensures same { OnErr result (option_map view document.new ≡ option_map view document.old) }
     {
         match &self.kind {
@@ -125,7 +128,7 @@ fn create_in(alloc: Global, value: &Json, document: &mut Option<Json>) -> Result
     ensures err { IfErr result
         (λ code. RefusedBy (becomes (create (view value.now)) (option_map view document.old)) code) }
     ensures memory { IsErrOf result E10 →
-        becoming_takes_memory (create (view value.now)) (option_map view document.old) ≡ true }
+        becoming_takes_memory (create (view value.now)) (option_map view document.old) (document_own document.old) ≡ true }
     ensures same { OnErr result (option_map view document.new ≡ option_map view document.old) }
 {
     if document.is_some() {
@@ -139,7 +142,8 @@ fn edit_in(alloc: Global, op: &Op, document: &mut Option<Json>) -> Result<(), Co
     ensures ok { OnOk result
         (becomes (edit op.now) (option_map view document.old) ≡ Ok (option_map view document.new)) }
     ensures err { IfErr result (λ code. RefusedBy (becomes (edit op.now) (option_map view document.old)) code) }
-    ensures memory { IsErrOf result E10 → becoming_takes_memory (edit op.now) (option_map view document.old) ≡ true }
+    ensures memory { IsErrOf result E10 →
+        becoming_takes_memory (edit op.now) (option_map view document.old) (document_own document.old) ≡ true }
     ensures same { OnErr result (option_map view document.new ≡ option_map view document.old) }
 {
     match document {
@@ -151,7 +155,7 @@ fn edit_in(alloc: Global, op: &Op, document: &mut Option<Json>) -> Result<(), Co
 fn edit_value(alloc: Global, op: &Op, value: &mut Json) -> Result<(), Code>
     ensures ok { OnOk result (edited op.now (view value.old) ≡ Ok (view value.new)) }
     ensures err { IfErr result (λ code. RefusedBy (edited op.now (view value.old)) code) }
-    ensures memory { IsErrOf result E10 → whole_takes_memory op.now ≡ true }
+    ensures memory { IsErrOf result E10 → needs (whole_takes_memory op.now) (is_own value.old) ≡ true }
     ensures same { OnErr result (view value.new ≡ view value.old) }
 {
     apply_whole(alloc, value, op)?;

@@ -2,7 +2,7 @@
 use Rattle.std.proofs.Common.{◌≡◌, ℕ, zero, suc, ◌+◌, ◌-◌, ◌<◌, ◌≤◌, List, [], ◌∷◌, take, drop, Option, Some, None, option_map, Bool, true, false, leb, eqb, ◌⊎◌, inl, inr, refl, sym, arith}
 use Rattle.std.specs.Prelude.{if◌then◌else◌}
 use Rattle.std.proofs.lemmas.Bool.Decides.{nat_tests}
-use Rattle.sdb_value.specs.Text.{width, units, cut_at}
+use Rattle.sdb_text.specs.Text.{width, units, cut_at}
 
 -- the cut goes past the byte, or is before it
 record Past (b a : ℕ) (bs : List ℕ) (i : ℕ) : Type 0 where

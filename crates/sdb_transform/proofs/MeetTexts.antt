@@ -7,7 +7,7 @@ use Rattle.std.proofs.lemmas.Slice.Eq.{bytes_eq-Decides}
 use Rattle.std.specs.Str.{IsUtf8, IsCharBoundary}
 use Rattle.std.proofs.lemmas.Str.{IsCharBoundary-start, IsCharBoundary-from_take, IsUtf8-drop}
 use Rattle.sdb_value.specs.Value.{Value, text}
-use Rattle.sdb_value.specs.Text.{width, units, cut_at}
+use Rattle.sdb_text.specs.Text.{width, units, cut_at}
 use Rattle.sdb_component.specs.Plain.{PlainAct, na, si, sd, li, ld, lr, oi, od, or}
 use Rattle.sdb_apply.specs.Does.{effect}
 use Rattle.sdb_transform.specs.declared.side.Side.{Side}

@@ -4,7 +4,7 @@ use Rattle.std.specs.Prelude.{if◌then◌else◌, nat_le, nat_lt, nat_eq, optio
 use Rattle.std.specs.Option.{option_map_or}
 use Rattle.std.proofs.lemmas.Bool.{leb-false}
 use Rattle.sdb_value.specs.Value.{Value, PlainStep, same_text}
-use Rattle.sdb_value.specs.Text.{units, cut_at}
+use Rattle.sdb_text.specs.Text.{units, cut_at}
 use Rattle.sdb_component.specs.Plain.{PlainAct, na, si, sd, li, ld, lr, oi, od, or, PlainComponent}
 use Rattle.sdb_component.specs.Weighs.{act_weight, weigh, weight}
 use Rattle.sdb_transform.specs.declared.side.Side.{Side}

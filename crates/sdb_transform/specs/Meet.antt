@@ -2,7 +2,7 @@
 use Rattle.std.specs.Prelude.{◌≡◌, ℕ, ◌+◌, ◌<◌, ◌≤◌, length, ℤ, ◌+ℤ◌, List, [], ◌∷◌, Option, Some, None, IsSome, ◌⊎◌, ⊤}
 use Rattle.std.specs.Str.{IsUtf8}
 use Rattle.sdb_value.specs.Value.{Value, whole, object, PlainStep, index, at, member_at}
-use Rattle.sdb_value.specs.Text.{units}
+use Rattle.sdb_text.specs.Text.{units}
 use Rattle.sdb_value.specs.WellFormed.{IsWellFormed}
 use Rattle.sdb_value.specs.Profile.{in_range}
 use Rattle.sdb_component.specs.Plain.{PlainAct, na, si, sd, li, ld, lr, oi, od, or, PlainComponent}

@@ -3,7 +3,7 @@
 use Rattle.std.specs.Prelude.{ℕ, ◌+◌, ◌-◌, min, Bool, false, if◌then◌else◌, nat_lt, nat_le, nat_eq, List, [], ◌∷◌, ◌++◌, take, drop, map, Option, Some, None, option_map, option_and_then}
 use Rattle.std.specs.Option.{option_map_or}
 use Rattle.sdb_value.specs.Value.{Value, PlainStep, key, index, same_text, same_step}
-use Rattle.sdb_value.specs.Text.{units, cut_at}
+use Rattle.sdb_text.specs.Text.{units, cut_at}
 use Rattle.sdb_component.specs.Plain.{PlainAct, na, si, sd, li, ld, lr, oi, od, or, PlainComponent}
 use Rattle.sdb_apply.specs.Does.{does}
 use Rattle.sdb_transform.specs.declared.side.Side.{Side}

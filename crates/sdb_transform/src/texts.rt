@@ -1,7 +1,7 @@
 //! Texts.
 ghost use Rattle.std.specs.Prelude.{◌≡◌, ◌+◌, ◌≤◌, min, IfSome, IfNone, ◌<◌};
 ghost use Rattle.sdb_component.specs.View.{plain_act};
-ghost use Rattle.sdb_value.specs.Text.{units};
+ghost use Rattle.sdb_text.specs.Text.{units};
 ghost use Rattle.sdb_transform.specs.Acts.{Answers};
 ghost use Rattle.sdb_transform.specs.Transform.{si_over, si_over_si, si_over_sd};
 ghost use Rattle.sdb_transform.specs.Transform.{sd_over, sd_over_si, sd_over_sd, sd_split, sd_without};

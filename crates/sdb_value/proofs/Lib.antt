@@ -1,11 +1,12 @@
 pub mod Alike
 pub mod Apart
-pub mod Cuts
+pub mod Copying
 pub mod Depths
-pub mod Encoded
-pub mod Pieces
 pub mod Read
+pub mod ListEdits
+pub mod Objects
+pub mod Owned
 pub mod Steps
-pub mod Texts
 pub mod Views
+pub mod Weights
 pub mod Write

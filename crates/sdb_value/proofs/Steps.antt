@@ -1,6 +1,6 @@
 -- One step down a path, and a change below it.
-use Rattle.std.proofs.Common.{◌≡◌, ℕ, List, ◌∷◌, Option, Some, None, MatchOption, sym, ap, ◌∙◌}
-use Rattle.sdb_value.specs.Value.{Value, list, object, Items, Members, PlainStep, key, index, item_at, member_at, set_item, set_member, as_list, as_object, one, with_one}
+use Rattle.std.proofs.Common.{◌≡◌, ℕ, zero, suc, List, ◌∷◌, Option, Some, None, MatchOption, Result, Ok, Err, IfOk, OnErr, Bool, true, false, true≢false, refl, sym, ap, ◌∙◌}
+use Rattle.sdb_value.specs.Value.{Value, null, no_items, item, list, object, Items, Members, PlainStep, key, index, item_at, member_at, set_item, set_member, as_list, as_object, one, with_one}
 use Rattle.sdb_value.specs.Change.{ChangedAt, NothingAt}
 use Rattle.sdb_value.specs.Law.{list_is, object_is, set_same_item, set_same_member}
 
@@ -49,3 +49,38 @@ object_step r R d e ms ns k p q c c2 way kind put found set h =
     let is = object_is d ms kind in
     step_down r R d e (key k) p q c c2 way (ap (one (key k)) is ∙ sym found) (put ∙ ap object set ∙ ap (λ x. with_one (key k) x c2) (sym is))
     (ap (λ x. with_one (key k) x c) is ∙ ap object (set_same_member k ms c found) ∙ sym is) h
+
+-- ---- by the results of the calls
+
+-- the same change, told of the same values
+pub told_of : {O E : Type 0} (r : Result (Option O) E) (R : O → Value → Value → Type 0) (d d2 e e2 : Value) (p p2 : List PlainStep)
+    → d2 ≡ d → p2 ≡ p → e2 ≡ e
+    → IfOk r (λ o. MatchOption o (NothingAt d p e) (λ x. ChangedAt (R x) d p e)) → IfOk r (λ o. MatchOption o (NothingAt d2 p2 e2) (λ x. ChangedAt (R x) d2 p2 e2))
+told_of r R d d2 e e2 p p2 h k l done = rw (h, k, l) done
+
+pub list_told : {O E : Type 0} (r : Result (Option O) E) (R : O → Value → Value → Type 0) (ds es : Items) (i : ℕ) (p : List PlainStep) (c c2 : Value)
+    → Some c ≡ item_at i ds → es ≡ set_item i ds c2
+    → IfOk r (λ o. MatchOption o (NothingAt c p c2) (λ x. ChangedAt (R x) c p c2))
+    → IfOk r (λ o. MatchOption o (NothingAt (list ds) (index i ∷ p) (list es)) (λ x. ChangedAt (R x) (list ds) (index i ∷ p) (list es)))
+list_told (Ok o) R ds es i p c c2 found set h = list_step o R (list ds) (list es) ds es i p (index i ∷ p) c c2 refl refl refl found set h
+list_told (Err e) R ds es i p c c2 found set h = tt
+
+pub object_told : {O E : Type 0} (r : Result (Option O) E) (R : O → Value → Value → Type 0) (ms ns : Members) (k : List ℕ) (p : List PlainStep) (c c2 : Value)
+    → Some c ≡ member_at k ms → ns ≡ set_member k ms c2
+    → IfOk r (λ o. MatchOption o (NothingAt c p c2) (λ x. ChangedAt (R x) c p c2))
+    → IfOk r (λ o. MatchOption o (NothingAt (object ms) (key k ∷ p) (object ns)) (λ x. ChangedAt (R x) (object ms) (key k ∷ p) (object ns)))
+object_told (Ok o) R ms ns k p c c2 found set h = object_step o R (object ms) (object ns) ms ns k p (key k ∷ p) c c2 refl refl refl found set h
+object_told (Err e) R ms ns k p c c2 found set h = tt
+
+pub set_again : (i : ℕ) (ds : Items) (u v : Value) → set_item i (set_item i ds u) v ≡ set_item i ds v
+set_again i no_items u v = refl
+set_again zero (item d ds) u v = refl
+set_again (suc i) (item d ds) u v = ap (item d) (set_again i ds u v)
+
+-- what was taken out and put back unchanged
+pub put_same : (i : ℕ) (ds : Items) (c : Value) → Some c ≡ item_at i ds → set_item i (set_item i ds null) c ≡ ds
+put_same i ds c h = set_again i ds null c ∙ set_same_item i ds c h
+
+pub not_own : (a b : Bool) → (a ≡ true → b ≡ true) → b ≡ false → a ≡ false
+not_own true b h e = absurd (true≢false (sym (h refl) ∙ e))
+not_own false b h e = refl

@@ -1,15 +1,15 @@
 pub mod Apart
 pub mod Change
 pub mod Coding
-pub mod Edits
+pub mod Copies
 pub mod FrontLaws
 pub mod Law
+pub mod Owns
 pub mod Places
 pub mod Printed
 pub mod Profile
 pub mod Rows
 pub mod Size
-pub mod Text
 pub mod Value
 pub mod View
 pub mod WellFormed

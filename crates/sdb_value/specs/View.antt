@@ -1,6 +1,12 @@
 -- The value that a `Json` stands for.
 use Rattle.std.specs.Prelude.{List, [], ◌∷◌, map, String, string_bytes}
+use Rattle.std.specs.declared.collections.BTreeMap.{BTreeMap}
 use Rattle.std.specs.declared.alloc.Global.{Global}
+use Rattle.sdb_pieces.specs.Pieces.{seen_in, items_in}
+use Rattle.sdb_pieces.specs.Shareable.{inside}
+use Rattle.sdb_pieces.specs.declared.pieces.Pieces.{Pieces}
+use Rattle.sdb_pieces.specs.declared.shareable.Shareable.{Shareable}
+use Rattle.sdb_text.specs.Held.{bytes_in}
 use Rattle.sdb_value.specs.Value.{Value, null, truth, whole, text, list, object, Items, no_items, item, Members, no_members, member, PlainStep, key, index}
 use Rattle.sdb_value.specs.declared.value.Json.{Json, fold-Json}
 use Rattle.sdb_value.specs.declared.value.Json.TheOpen.{Json-F}
@@ -20,9 +26,9 @@ abbrev pub view_step : Json-F Value → Value
 view_step Json-F.Null = null
 view_step (Json-F.Bool b) = truth b
 view_step (Json-F.Int n) = whole n
-view_step (Json-F.Text s) = text (string_bytes s)
-view_step (Json-F.List v) = list (items_of v.items)
-view_step (Json-F.Object m) = object (members_of m.entries)
+view_step (Json-F.Text t) = text (bytes_in t)
+view_step (Json-F.List l) = list (items_of (seen_in (λ d. d) l))
+view_step (Json-F.Object m) = object (members_of (inside m).entries)
 
 abbrev pub view : Json → Value
 view = fold-Json Value view_step
@@ -32,6 +38,13 @@ items_view vs = items_of (map view vs)
 
 abbrev pub members_view : List (String Global × Json) → Members
 members_view ms = members_of (map (λ m. (m.0, view m.1)) ms)
+
+-- of a list in pieces, and of an object's members
+abbrev pub list_view : Pieces Json → Items
+list_view l = items_view (items_in l)
+
+abbrev pub object_view : Shareable (BTreeMap (String Global) Json Global) → Members
+object_view m = members_view (inside m).entries
 
 abbrev pub plain_step : Step → PlainStep
 plain_step (Key k) = key (string_bytes k)

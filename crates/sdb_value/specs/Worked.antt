@@ -3,7 +3,7 @@ use Rattle.std.specs.Prelude.{◌≡◌, ℕ, pos, true, List, [], ◌∷◌, So
 use Rattle.serde_json.specs.Data as raw
 use Rattle.serde_json.specs.Find.{of_integer}
 use Rattle.sdb_value.specs.Value.{Value, null, truth, whole, text, list, object, Items, no_items, item, Members, no_members, member, PlainStep, key, index, at, with, put, without, insert_item, remove_item, replace_item, depth}
-use Rattle.sdb_value.specs.Text.{units, cut_at, insert_text, remove_text}
+use Rattle.sdb_text.specs.Text.{units, cut_at, insert_text, remove_text}
 use Rattle.sdb_value.specs.Profile.{in_profile}
 
 abbrev int : ℕ → Value

@@ -1,9 +1,9 @@
 //! Whether values and paths are the same.
 ghost use Rattle.std.specs.Prelude.{◌≡◌, IsTrue, IsFalse};
-ghost use Rattle.sdb_value.specs.View.{view, items_view, members_view, plain_step, plain_path};
+ghost use Rattle.sdb_value.specs.View.{view, list_view, members_view, plain_step, plain_path};
 
 use crate::places::Step;
-use crate::value::Json;
+use crate::value::{Json, List};
 use std::collections::BTreeMap;
 
 /// Whether the values are the same: of one kind, with the same parts, and the members of objects under the
@@ -16,6 +16,7 @@ pub fn same_value(a: &Json, b: &Json) -> bool
 }
 
 #[cycle(same)]
+#[tactic(auto, using(crate::proofs::Views::seen_list, crate::proofs::Views::seen_object, crate::proofs::Weights::weigh_list, crate::proofs::Weights::weigh_object))]
 fn same(a: &Json, b: &Json) -> bool
     ensures same { IsTrue result → view a.now ≡ view b.now }
     ensures other { IsFalse result → view a.now ≡ view b.now → ⊥ }
@@ -34,7 +35,7 @@ fn same(a: &Json, b: &Json) -> bool
             _ => false,
         },
         Json::Text(x) => match b {
-            Json::Text(y) => x.as_str() == y.as_str(),
+            Json::Text(y) => x.same(y),
             _ => false,
         },
         Json::List(x) => match b {
@@ -42,26 +43,29 @@ fn same(a: &Json, b: &Json) -> bool
             _ => false,
         },
         Json::Object(x) => match b {
-            Json::Object(y) => same_members(x, y),
+            Json::Object(y) => same_members(x.get(), y.get()),
             _ => false,
         },
     }
 }
 
 #[cycle(same)]
-fn same_items(a: &Vec<Json>, b: &Vec<Json>) -> bool
-    ensures same { IsTrue result → items_view a.now.items ≡ items_view b.now.items }
-    ensures other { IsFalse result → items_view a.now.items ≡ items_view b.now.items → ⊥ }
+fn same_items(a: &List, b: &List) -> bool
+    ensures same { IsTrue result → list_view a.now ≡ list_view b.now }
+    ensures other { IsFalse result → list_view a.now ≡ list_view b.now → ⊥ }
 {
-    if a.len() != b.len() {
-        return false;
-    }
-    for at in 0..a.len() {
-        if !same(&a[at], &b[at]) {
-            return false;
+    let mut others = b.iter();
+    for item in a.iter() {
+        match others.next() {
+            Some(other) => {
+                if !same(item, other) {
+                    return false;
+                }
+            }
+            None => return false,
         }
     }
-    true
+    others.next().is_none()
 }
 
 #[cycle(same)]

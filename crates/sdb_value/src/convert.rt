@@ -1,14 +1,17 @@
 //! From `serde_json`'s `Value`.
-ghost use Rattle.std.specs.Prelude.{◌≡◌, ◌<◌, ◌≤◌, Some, None, IfOk, IfErr, option_map};
+ghost use Rattle.std.specs.Prelude.{◌≡◌, ◌<◌, ◌≤◌, true, Some, None, IfOk, IfErr, option_map};
 ghost use Rattle.sdb_value.specs.Value.{depth, items_depth, members_depth};
+ghost use Rattle.sdb_value.specs.Owns.{is_own, items_own, members_own};
 ghost use Rattle.sdb_value.specs.Profile.{of_data, of_items, of_members, in_profile};
 ghost use Rattle.sdb_value.specs.Profile.{Unread, Refuses, RefusesItems, RefusesMembers};
 ghost use Rattle.sdb_value.specs.View.{view, items_view, members_view};
 ghost use Rattle.serde_json.specs.View as raw;
 
+use crate::lists::push_item;
+use crate::members::put_entry;
 use crate::numbers::whole_of;
-use crate::parts::{push_item, put_member};
 use crate::value::Json;
+use sdb_text::Text;
 use serde_json::{Map, Value};
 use std::alloc::{AllocError, Global};
 use std::collections::BTreeMap;
@@ -45,6 +48,7 @@ pub fn from_value(alloc: Global, value: &Value) -> Result<Json, ValueFault>
     ensures ok { IfOk result (λ j. in_profile (raw.view value.now) ≡ Some (view j)) }
     ensures err { IfErr result (λ f. Unread (in_profile (raw.view value.now)) f) }
     ensures cause { IfErr result (λ f. Refuses 50 (raw.view value.now) f) }
+    ensures own { IfOk result (λ j. is_own j ≡ true) }
 {
     read(alloc, value, 50)
 }
@@ -53,6 +57,7 @@ pub fn from_value(alloc: Global, value: &Value) -> Result<Json, ValueFault>
 fn read(alloc: Global, value: &Value, left: u64) -> Result<Json, ValueFault>
     ensures ok { IfOk result (λ j. of_data (raw.view value.now) ≡ Some (view j)) }
     ensures low { IfOk result (λ j. depth (view j) ≤ left) }
+    ensures own { IfOk result (λ j. is_own j ≡ true) }
     ensures err { IfErr result (λ f. Refuses left (raw.view value.now) f) }
 {
     match value {
@@ -62,18 +67,18 @@ fn read(alloc: Global, value: &Value, left: u64) -> Result<Json, ValueFault>
             Some(n) => Ok(Json::Int(n)),
             None => Err(ValueFault::Number),
         },
-        Value::String(text) => Ok(Json::Text(text.clone()?)),
+        Value::String(text) => Ok(Json::Text(Text::from_str(alloc, text.as_str())?)),
         Value::Array(items) => {
             if left == 0 {
                 return Err(ValueFault::Depth);
             }
-            Ok(Json::List(read_items(alloc, items, left - 1)?))
+            Ok(Json::list(read_items(alloc, items, left - 1)?))
         }
         Value::Object(members) => {
             if left == 0 {
                 return Err(ValueFault::Depth);
             }
-            Ok(Json::Object(read_members(alloc, members, left - 1)?))
+            Ok(Json::object(read_members(alloc, members, left - 1)?))
         }
     }
 }
@@ -82,6 +87,7 @@ fn read(alloc: Global, value: &Value, left: u64) -> Result<Json, ValueFault>
 fn read_items(alloc: Global, items: &[Value], left: u64) -> Result<Vec<Json>, ValueFault>
     ensures ok { IfOk result (λ v. of_items (raw.items_view items.now) ≡ Some (items_view v.items)) }
     ensures low { IfOk result (λ v. items_depth (items_view v.items) ≤ left) }
+    ensures own { IfOk result (λ v. items_own v.items ≡ true) }
     ensures err { IfErr result (λ f. RefusesItems left (raw.items_view items.now) f) }
 {
     let mut done = Vec::new(alloc);
@@ -101,13 +107,14 @@ fn read_members(
     ensures ok { IfOk result (λ m. of_members (raw.members_view members.now.entries)
         ≡ Some (members_view m.entries)) }
     ensures low { IfOk result (λ m. members_depth (members_view m.entries) ≤ left) }
+    ensures own { IfOk result (λ m. members_own m.entries ≡ true) }
     ensures err { IfErr result (λ f. RefusesMembers left (raw.members_view members.now.entries) f) }
 {
     let mut made = BTreeMap::new(alloc);
     for (key, member) in members.iter() {
         let new = read(alloc, member, left)?;
         let name = key.clone()?;
-        put_member(&mut made, name, new)?;
+        put_entry(&mut made, name, new)?;
     }
     Ok(made)
 }

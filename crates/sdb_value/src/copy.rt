@@ -1,47 +1,185 @@
 //! Copies.
-ghost use Rattle.std.specs.Prelude.{◌≡◌, IfOk};
-ghost use Rattle.sdb_value.specs.View.{view, items_view, members_view};
+ghost use Rattle.std.specs.Prelude.{◌≡◌, true, false, IfOk, IfSome, IfNone};
+ghost use Rattle.std.specs.List.{flat_map};
+ghost use Rattle.sdb_pieces.specs.Block.{items_of, is_own as block_own, is_shared as block_shared};
+ghost use Rattle.sdb_pieces.specs.Pieces.{all_shared, blocks_in, is_shared_list};
+ghost use Rattle.sdb_pieces.specs.Shareable.{is_own as holds_own, is_shared as members_shared};
+ghost use Rattle.sdb_text.specs.Held.{bytes_in, is_own as text_own, is_shared as text_shared};
+ghost use Rattle.sdb_value.specs.Copies.{IsCopied, block_all_own, blocks_all_own};
+ghost use Rattle.sdb_value.specs.Owns.{is_own, is_pointer, items_own, list_own, members_own, object_own};
+ghost use Rattle.sdb_value.specs.View.{view, items_view, list_view, members_view, object_view};
+ghost use Rattle.sdb_value.specs.declared.copy.Manner.TheVariants.{Same};
 
-use crate::value::Json;
+use crate::value::{Json, List, Members};
+use sdb_pieces::{Block, Pieces, Share, Shareable};
+use sdb_text::Text;
 use std::alloc::{AllocError, Global};
 use std::collections::BTreeMap;
+use std::sync::Arc;
+
+/// Of whom a copy is.
+#[derive(Clone, Copy, Drop)]
+pub(crate) enum Manner {
+    /// What is shared is a pointer, all else in memory of its own.
+    Same,
+    /// All of it is in memory of its own.
+    Own,
+    /// All of it is shared: what is shared already is a pointer.
+    Shared,
+}
 
 #[cycle(copy)]
-pub(crate) fn copy(alloc: Global, value: &Json) -> Result<Json, AllocError>
-    ensures { IfOk result (λ v. view v ≡ view value.now) }
+pub(crate) fn copy(alloc: Global, value: &Json, manner: Manner) -> Result<Json, AllocError>
+    ensures value { IfOk result (λ v. view v ≡ view value.now) }
+    ensures own { IfOk result (λ v. IsCopied manner (is_own value.now) (is_own v) (is_pointer v)) }
 {
     match value {
         Json::Null => Ok(Json::Null),
         Json::Bool(b) => Ok(Json::Bool(*b)),
         Json::Int(n) => Ok(Json::Int(*n)),
-        Json::Text(text) => Ok(Json::Text(text.clone()?)),
-        Json::List(items) => Ok(Json::List(copy_items(alloc, items)?)),
-        Json::Object(members) => Ok(Json::Object(copy_members(alloc, members)?)),
+        Json::Text(text) => Ok(Json::Text(copy_text(alloc, text, manner)?)),
+        Json::List(items) => Ok(Json::List(copy_list(alloc, items, manner)?)),
+        Json::Object(members) => Ok(Json::Object(copy_object(alloc, members, manner)?)),
+    }
+}
+
+fn copy_text(alloc: Global, text: &Text, manner: Manner) -> Result<Text, AllocError>
+    ensures bytes { IfOk result (λ t. bytes_in t ≡ bytes_in text.now) }
+    ensures own { IfOk result (λ t. IsCopied manner (text_own text.now) (text_own t) (text_shared t)) }
+{
+    match manner {
+        Manner::Same => text.share(alloc),
+        Manner::Own => Text::new(alloc, text.to_string(alloc)?),
+        Manner::Shared => text.shared_copy(alloc),
     }
 }
 
 #[cycle(copy)]
-fn copy_items(alloc: Global, items: &[Json]) -> Result<Vec<Json>, AllocError>
-    ensures { IfOk result (λ v. items_view v.items ≡ items_view items.now) }
+fn copy_list(alloc: Global, items: &List, manner: Manner) -> Result<List, AllocError>
+    ensures items { IfOk result (λ l. list_view l ≡ list_view items.now) }
+    ensures own { IfOk result (λ l. IsCopied manner (list_own items.now) (list_own l) (is_shared_list l)) }
 {
-    let mut copies = Vec::with_capacity(alloc, items.len())?;
-    for item in items {
-        copies.push(copy(alloc, item)?)?;
+    if let Some(list) = list_pointer(items, manner)? {
+        return Ok(list);
+    }
+    let copies = copy_blocks(alloc, items, manner)?;
+    match manner {
+        Manner::Shared => Pieces::from_shared_blocks(alloc, copies),
+        _ => Ok(Pieces::from_blocks(copies)),
+    }
+}
+
+// A pointer to the list, where it is shared and a copy may be one.
+fn list_pointer(items: &List, manner: Manner) -> Result<Option<List>, AllocError>
+    ensures items { IfOk result (λ o. IfSome o (λ l. list_view l ≡ list_view items.now)) }
+    ensures own { IfOk result (λ o. IfSome o
+        (λ l. IsCopied manner (list_own items.now) (list_own l) (is_shared_list l))) }
+    ensures none { IfOk result (λ o. IfNone o (manner ≡ Same → is_shared_list items.now ≡ false)) }
+{
+    match manner {
+        Manner::Own => Ok(None),
+        _ => items.share_pointer(),
+    }
+}
+
+#[cycle(copy)]
+fn copy_blocks(alloc: Global, items: &List, manner: Manner) -> Result<Vec<Block<Json>>, AllocError>
+    ensures items { IfOk result (λ v. items_view (flat_map items_of v.items) ≡ list_view items.now) }
+    ensures own { IfOk result (λ v. IsCopied manner
+        (blocks_all_own (blocks_in items.now)) (blocks_all_own v.items) (all_shared v.items)) }
+{
+    let mut copies = Vec::with_capacity(alloc, items.part_count())?;
+    for at in 0..items.part_count() {
+        copies.push(copy_block(alloc, items.block(at), manner)?)?;
     }
     Ok(copies)
 }
 
 #[cycle(copy)]
-fn copy_members(
+fn copy_block(alloc: Global, block: &Block<Json>, manner: Manner) -> Result<Block<Json>, AllocError>
+    ensures items { IfOk result (λ b. items_view (items_of b) ≡ items_view (items_of block.now)) }
+    ensures own { IfOk result (λ b. IsCopied manner
+        (block_all_own block.now) (block_all_own b) (block_shared b)) }
+{
+    if let Some(block) = block_pointer(block, manner)? {
+        return Ok(block);
+    }
+    let items = copy_items(alloc, block.items(), manner)?;
+    match manner {
+        Manner::Shared => Block::Own(items).into_shared(alloc),
+        _ => Ok(Block::Own(items)),
+    }
+}
+
+// A pointer to the block, where it is shared and a copy may be one.
+fn block_pointer(block: &Block<Json>, manner: Manner) -> Result<Option<Block<Json>>, AllocError>
+    ensures items { IfOk result (λ o. IfSome o
+        (λ b. items_view (items_of b) ≡ items_view (items_of block.now))) }
+    ensures own { IfOk result (λ o. IfSome o (λ b. IsCopied manner
+        (block_all_own block.now) (block_all_own b) (block_shared b))) }
+    ensures none { IfOk result (λ o. IfNone o (manner ≡ Same → block_own block.now ≡ true)) }
+{
+    match manner {
+        Manner::Own => Ok(None),
+        _ => block.share_pointer(),
+    }
+}
+
+#[cycle(copy)]
+fn copy_items(alloc: Global, items: &[Json], manner: Manner) -> Result<Vec<Json>, AllocError>
+    ensures items { IfOk result (λ v. items_view v.items ≡ items_view items.now) }
+    ensures own { IfOk result (λ v. IsCopied manner (items_own items.now) (items_own v.items) true) }
+{
+    let mut copies = Vec::with_capacity(alloc, items.len())?;
+    for item in items {
+        copies.push(copy(alloc, item, manner)?)?;
+    }
+    Ok(copies)
+}
+
+#[cycle(copy)]
+fn copy_object(alloc: Global, members: &Members, manner: Manner) -> Result<Members, AllocError>
+    ensures members { IfOk result (λ m. object_view m ≡ object_view members.now) }
+    ensures own { IfOk result (λ m. IsCopied manner
+        (object_own members.now) (object_own m) (members_shared m)) }
+{
+    if let Some(members) = object_pointer(members, manner)? {
+        return Ok(members);
+    }
+    let copies = copy_members(alloc, members.get(), manner)?;
+    match manner {
+        Manner::Shared => Ok(Shareable::Shared(Arc::new(alloc, copies)?)),
+        _ => Ok(Shareable::Own(copies)),
+    }
+}
+
+// A pointer to the members, where they are shared and a copy may be one.
+fn object_pointer(members: &Members, manner: Manner) -> Result<Option<Members>, AllocError>
+    ensures members { IfOk result (λ o. IfSome o (λ m. object_view m ≡ object_view members.now)) }
+    ensures own { IfOk result (λ o. IfSome o (λ m. IsCopied manner
+        (object_own members.now) (object_own m) (members_shared m))) }
+    ensures none { IfOk result (λ o. IfNone o (manner ≡ Same → holds_own members.now ≡ true)) }
+{
+    match manner {
+        Manner::Own => Ok(None),
+        _ => members.share_pointer(),
+    }
+}
+
+#[cycle(copy)]
+pub(crate) fn copy_members(
     alloc: Global,
     members: &BTreeMap<String, Json>,
+    manner: Manner,
 ) -> Result<BTreeMap<String, Json>, AllocError>
-    ensures { IfOk result (λ m. members_view m.entries ≡ members_view members.now.entries) }
+    ensures members { IfOk result (λ m. members_view m.entries ≡ members_view members.now.entries) }
+    ensures own { IfOk result (λ m. IsCopied manner
+        (members_own members.now.entries) (members_own m.entries) true) }
 {
     let mut copies = BTreeMap::new(alloc);
     for (key, member) in members.iter() {
         let name = key.clone()?;
-        drop(copies.insert(name, copy(alloc, member)?)?);
+        drop(copies.insert(name, copy(alloc, member, manner)?)?);
     }
     Ok(copies)
 }

@@ -2,10 +2,11 @@
 //! functions do nothing.
 ghost use Rattle.std.specs.Str.{IsUtf8};
 ghost use Rattle.sdb_value.specs.Apart.{PlacesApart, StepsApart, TextsSame, StepsSame};
-ghost use Rattle.sdb_value.specs.View.{view, items_view, members_view};
+ghost use Rattle.sdb_value.specs.View.{view, list_view, members_view};
 ghost use Rattle.sdb_value.specs.WellFormed.{IsInRange, IsWellFormed, AreWellFormed, MembersWellFormed};
 
-use crate::value::{Json, Whole};
+use crate::value::{Json, List, Whole};
+use sdb_text::laws::text_is_utf8;
 use std::collections::BTreeMap;
 
 /// The numbers of a value are in range, its texts and keys UTF-8, and the keys of each object in it
@@ -17,23 +18,24 @@ pub fn well_formed(value: &Json)
 }
 
 #[cycle(well_formed)]
+#[tactic(auto, using(crate::proofs::Views::seen_list, crate::proofs::Views::seen_object, crate::proofs::Weights::weigh_list, crate::proofs::Weights::weigh_object))]
 fn all_well_formed(value: &Json)
     ensures { IsWellFormed (view value.now) }
 {
     match value {
         Json::Int(number) => in_range(*number),
-        Json::Text(text) => is_text(text.as_str()),
+        Json::Text(text) => text_is_utf8(text),
         Json::List(items) => items_well_formed(items),
-        Json::Object(members) => members_well_formed(members),
+        Json::Object(members) => members_well_formed(members.get()),
         _ => {}
     }
 }
 
 #[cycle(well_formed)]
-fn items_well_formed(items: &[Json])
-    ensures { AreWellFormed (items_view items.now) }
+fn items_well_formed(items: &List)
+    ensures { AreWellFormed (list_view items.now) }
 {
-    for item in items {
+    for item in items.iter() {
         all_well_formed(item);
     }
 }
@@ -43,7 +45,7 @@ fn members_well_formed(members: &BTreeMap<String, Json>)
     ensures { MembersWellFormed (members_view members.now.entries) }
 {
     for (key, member) in members.iter() {
-        is_text(key.as_str());
+        key_is_text(key.as_str());
         all_well_formed(member);
     }
 }
@@ -69,6 +71,6 @@ fn in_range(_number: Whole)
     ensures { IsInRange _number }
 {}
 
-fn is_text(_text: &str)
+fn key_is_text(_text: &str)
     ensures { IsUtf8 _text.now }
 {}

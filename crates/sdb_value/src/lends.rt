@@ -1,21 +1,28 @@
 //! The inside of a value, lent for a change.
-ghost use Rattle.std.specs.Prelude.{◌≡◌, option_map, string_bytes};
+ghost use Rattle.std.specs.Prelude.{◌≡◌, true, false, option_map, IfSome, IfNone};
 ghost use Rattle.std.specs.Option.{OnSome};
 ghost use Rattle.std.specs.Borrow.{LendsSo, sem};
-ghost use Rattle.sdb_value.specs.Rows.{json_row, list_row, map_row, text_row};
+ghost use Rattle.sdb_pieces.specs.Shareable.{is_own as holds_own};
+ghost use Rattle.sdb_text.specs.Held.{bytes_in, is_own as text_own};
+ghost use Rattle.sdb_value.specs.Owns.{is_own, list_own, members_own, object_own};
+ghost use Rattle.sdb_value.specs.Rows.{json_row, list_row, map_row, object_row, text_row};
 ghost use Rattle.sdb_value.specs.Value.{text, list, object, as_text, as_list, as_object};
-ghost use Rattle.sdb_value.specs.Value.{item_at, member_at, set_item, set_member};
-ghost use Rattle.sdb_value.specs.View.{view, items_view, members_view};
+ghost use Rattle.sdb_value.specs.Value.{member_at, set_member};
+ghost use Rattle.sdb_value.specs.View.{view, list_view, object_view, members_view};
 
-use crate::value::Json;
+use crate::value::{Json, List, Members};
+use sdb_pieces::Shareable;
+use sdb_text::Text;
 use std::collections::BTreeMap;
 
-/// The text's own buffer, or `None` where the value is no text. What is left in it is the text
-/// afterwards.
-pub fn text_mut(value: &mut Json) -> Option<&mut String>
+/// The text, or `None` where the value is no text. What is left in it is the text afterwards.
+#[tactic(auto, using(crate::proofs::Owned::owned_text))]
+pub fn text_mut(value: &mut Json) -> Option<&mut Text>
     ensures* writes_back { sem 𝓛 (LendsSo json_row text_row value.entry result
-        (λ n w. OnSome result (view n ≡ text (string_bytes w))) (λ n. view n ≡ view value.old)) }
-    ensures value { option_map (λ v. string_bytes v.now) result ≡ as_text (view value.old) }
+        (λ n w. OnSome result ((view n ≡ text (bytes_in w)) × (is_own n ≡ text_own w)))
+        (λ n. (view n ≡ view value.old) × (is_own n ≡ is_own value.old))) }
+    ensures value { option_map (λ v. bytes_in v.now) result ≡ as_text (view value.old) }
+    ensures own { IfSome result (λ v. text_own v.now ≡ is_own value.old) }
 {
     if let Json::Text(text) = value {
         Some(text)
@@ -24,12 +31,14 @@ pub fn text_mut(value: &mut Json) -> Option<&mut String>
     }
 }
 
-/// The list's own items, or `None` where the value is no list. What is left in them is the list
-/// afterwards.
-pub fn list_mut(value: &mut Json) -> Option<&mut Vec<Json>>
+/// The list, or `None` where the value is no list. What is left in it is the list afterwards.
+#[tactic(auto, using(crate::proofs::Views::seen_list, crate::proofs::Owned::owned_list))]
+pub fn list_mut(value: &mut Json) -> Option<&mut List>
     ensures* writes_back { sem 𝓛 (LendsSo json_row list_row value.entry result
-        (λ n w. OnSome result (view n ≡ list (items_view w.items))) (λ n. view n ≡ view value.old)) }
-    ensures value { option_map (λ v. items_view v.now.items) result ≡ as_list (view value.old) }
+        (λ n w. OnSome result ((view n ≡ list (list_view w)) × (is_own n ≡ list_own w)))
+        (λ n. (view n ≡ view value.old) × (is_own n ≡ is_own value.old))) }
+    ensures value { option_map (λ v. list_view v.now) result ≡ as_list (view value.old) }
+    ensures own { IfSome result (λ v. list_own v.now ≡ is_own value.old) }
 {
     if let Json::List(items) = value {
         Some(items)
@@ -38,12 +47,15 @@ pub fn list_mut(value: &mut Json) -> Option<&mut Vec<Json>>
     }
 }
 
-/// The object's own members, or `None` where the value is no object. What is left in them is the
-/// object afterwards.
-pub fn object_mut(value: &mut Json) -> Option<&mut BTreeMap<String, Json>>
-    ensures* writes_back { sem 𝓛 (LendsSo json_row map_row value.entry result
-        (λ n w. OnSome result (view n ≡ object (members_view w.entries))) (λ n. view n ≡ view value.old)) }
-    ensures value { option_map (λ v. members_view v.now.entries) result ≡ as_object (view value.old) }
+/// The members of the object, or `None` where the value is no object. What is left in them is the object
+/// afterwards.
+#[tactic(auto, using(crate::proofs::Views::seen_object, crate::proofs::Owned::owned_object))]
+pub fn object_mut(value: &mut Json) -> Option<&mut Members>
+    ensures* writes_back { sem 𝓛 (LendsSo json_row object_row value.entry result
+        (λ n w. OnSome result ((view n ≡ object (object_view w)) × (is_own n ≡ object_own w)))
+        (λ n. (view n ≡ view value.old) × (is_own n ≡ is_own value.old))) }
+    ensures value { option_map (λ v. object_view v.now) result ≡ as_object (view value.old) }
+    ensures own { IfSome result (λ v. object_own v.now ≡ is_own value.old) }
 {
     if let Json::Object(members) = value {
         Some(members)
@@ -52,13 +64,20 @@ pub fn object_mut(value: &mut Json) -> Option<&mut BTreeMap<String, Json>>
     }
 }
 
-pub(crate) fn item_mut(items: &mut Vec<Json>, index: u64) -> Option<&mut Json>
-    ensures* writes_back { sem 𝓛 (LendsSo list_row json_row items.entry result
-        (λ n w. OnSome result (items_view n.items ≡ set_item index (items_view items.old.items) (view w)))
-        (λ n. items_view n.items ≡ items_view items.old.items)) }
-    ensures value { option_map (λ v. view v.now) result ≡ item_at index (items_view items.old.items) }
+// The map of an object's members, where it is the object's own.
+pub(crate) fn map_mut(members: &mut Members) -> Option<&mut BTreeMap<String, Json>>
+    ensures* writes_back { sem 𝓛 (LendsSo object_row map_row members.entry result
+        (λ n w. OnSome result ((object_view n ≡ members_view w.entries) × (object_own n ≡ members_own w.entries)))
+        (λ n. (object_view n ≡ object_view members.old) × (object_own n ≡ object_own members.old))) }
+    ensures value { IfSome result (λ v. members_view v.now.entries ≡ object_view members.old) }
+    ensures own { IfSome result (λ v. members_own v.now.entries ≡ object_own members.old) }
+    ensures none { IfNone result (holds_own members.old ≡ false) }
 {
-    items.get_mut(index as usize)
+    if let Shareable::Own(map) = members {
+        Some(map)
+    } else {
+        None
+    }
 }
 
 pub(crate) fn member_mut<'v>(
@@ -67,9 +86,12 @@ pub(crate) fn member_mut<'v>(
 ) -> Option<&'v mut Json>
     ensures* writes_back { sem 𝓛 (LendsSo map_row json_row members.entry result
         (λ n w. OnSome result
-        (members_view n.entries ≡ set_member key.now (members_view members.old.entries) (view w)))
-        (λ n. members_view n.entries ≡ members_view members.old.entries)) }
+        ((members_view n.entries ≡ set_member key.now (members_view members.old.entries) (view w))
+        × (members_own members.old.entries ≡ true → is_own w ≡ true → members_own n.entries ≡ true)))
+        (λ n. (members_view n.entries ≡ members_view members.old.entries)
+        × (members_own n.entries ≡ members_own members.old.entries))) }
     ensures value { option_map (λ v. view v.now) result ≡ member_at key.now (members_view members.old.entries) }
+    ensures own { members_own members.old.entries ≡ true → IfSome result (λ v. is_own v.now ≡ true) }
 {
     members.get_mut(key)
 }

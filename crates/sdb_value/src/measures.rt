@@ -2,28 +2,29 @@
 ghost use Rattle.std.specs.Prelude.{◌≡◌, min};
 ghost use Rattle.sdb_value.specs.Size.{size, items_size, members_size};
 ghost use Rattle.sdb_value.specs.Value.{depth, items_depth, members_depth};
-ghost use Rattle.sdb_value.specs.View.{view, items_view, members_view};
+ghost use Rattle.sdb_value.specs.View.{view, list_view, members_view};
 
-use crate::value::Json;
+use crate::value::{Json, List};
 use std::collections::BTreeMap;
 
 #[cycle(depths)]
+#[tactic(auto, using(crate::proofs::Views::seen_list, crate::proofs::Views::seen_object, crate::proofs::Weights::weigh_list, crate::proofs::Weights::weigh_object))]
 pub(crate) fn depth_of(value: &Json) -> u64
     ensures { result ≡ min (depth (view value.now)) 18446744073709551615 }
 {
     match value {
         Json::List(items) => items_deep(items).saturating_add(1),
-        Json::Object(members) => members_deep(members).saturating_add(1),
+        Json::Object(members) => members_deep(members.get()).saturating_add(1),
         _ => 0,
     }
 }
 
 #[cycle(depths)]
-fn items_deep(items: &[Json]) -> u64
-    ensures { result ≡ min (items_depth (items_view items.now)) 18446744073709551615 }
+fn items_deep(items: &List) -> u64
+    ensures { result ≡ min (items_depth (list_view items.now)) 18446744073709551615 }
 {
     let mut deepest = 0;
-    for item in items {
+    for item in items.iter() {
         deepest = depth_of(item).max(deepest);
     }
     deepest
@@ -41,6 +42,7 @@ fn members_deep(members: &BTreeMap<String, Json>) -> u64
 }
 
 #[cycle(sizes)]
+#[tactic(auto, using(crate::proofs::Views::seen_list, crate::proofs::Views::seen_object, crate::proofs::Weights::weigh_list, crate::proofs::Weights::weigh_object))]
 pub(crate) fn size_of(value: &Json, limit: u64) -> u64
     ensures { result ≡ min limit (size (view value.now)) }
 {
@@ -48,19 +50,19 @@ pub(crate) fn size_of(value: &Json, limit: u64) -> u64
         return 0;
     }
     match value {
-        Json::Text(text) => (text.len() as u64).min(limit - 1) + 1,
+        Json::Text(text) => text.bytes_up_to(limit - 1) + 1,
         Json::List(items) => items_size(items, limit - 1) + 1,
-        Json::Object(members) => members_size(members, limit - 1) + 1,
+        Json::Object(members) => members_size(members.get(), limit - 1) + 1,
         _ => 1,
     }
 }
 
 #[cycle(sizes)]
-fn items_size(items: &[Json], limit: u64) -> u64
-    ensures { result ≡ min limit (items_size (items_view items.now)) }
+fn items_size(items: &List, limit: u64) -> u64
+    ensures { result ≡ min limit (items_size (list_view items.now)) }
 {
     let mut left = limit;
-    for item in items {
+    for item in items.iter() {
         if left == 0 {
             return limit;
         }

@@ -1,11 +1,15 @@
 //! Places in a value.
-ghost use Rattle.std.specs.Prelude.{◌≡◌, option_map, string_bytes, MatchOption};
+ghost use Rattle.std.specs.Prelude.{◌≡◌, ◌∷◌, true, false, option_map, IfOk, IfSome, OnErr, MatchOption};
 ghost use Rattle.sdb_value.specs.Change.{ChangedAt, NothingAt};
-ghost use Rattle.sdb_value.specs.Value.{Value, at, one, item_at, member_at};
-ghost use Rattle.sdb_value.specs.View.{view, plain_step, plain_path, items_view, members_view};
+ghost use Rattle.sdb_value.specs.Owns.{is_own, list_own, object_own};
+ghost use Rattle.sdb_value.specs.Value.{Value, at, one, item_at, member_at, key, index, list, object};
+ghost use Rattle.sdb_value.specs.View.{view, plain_step, plain_path, list_view, members_view, object_view};
 
-use crate::lends::{item_mut, list_mut, member_mut, object_mut};
-use crate::value::Json;
+use crate::lends::{list_mut, map_mut, member_mut, object_mut};
+use crate::lists::{put_back, take_item};
+use crate::members::own_members;
+use crate::value::{Json, List, Members};
+use std::alloc::{AllocError, Global};
 use std::collections::BTreeMap;
 
 /// One step down: into a member of an object, or an item of a list.
@@ -31,21 +35,27 @@ pub fn find<'v>(value: &'v Json, path: &[Step]) -> Option<&'v Json>
     }
 }
 
-/// The value at the path, to be changed. What a change through it makes of the whole value is
-/// promised by [`change_at`] alone.
+/// The value at the path, to be changed, where nothing on the way is shared; `None` also where something is.
+/// What a change through it makes of the whole value is promised by [`change_at`] alone.
+#[tactic(auto, using(crate::proofs::Views::seen_list, crate::proofs::Views::seen_object, crate::proofs::Owned::owned_list, crate::proofs::Owned::owned_object))]
 pub fn find_mut<'v>(value: &'v mut Json, path: &[Step]) -> Option<&'v mut Json>
-    ensures { option_map (λ v. view v.now) result ≡ at (view value.old) (plain_path path.now) }
+    ensures { is_own value.old ≡ true
+        → option_map (λ v. view v.now) result ≡ at (view value.old) (plain_path path.now) }
 {
     let Some((first, rest)) = path.split_first() else {
         return Some(value);
     };
     match first {
         Step::Index(index) => find_mut(item_mut(list_mut(value)?, *index)?, rest),
-        Step::Key(key) => find_mut(member_mut(object_mut(value)?, key.as_str())?, rest),
+        Step::Key(key) => find_mut(
+            member_mut(map_mut(object_mut(value)?)?, key.as_str())?,
+            rest,
+        ),
     }
 }
 
 // The member or the item that one step leads to.
+#[tactic(auto, using(crate::proofs::Views::seen_list, crate::proofs::Views::seen_object))]
 fn child<'v>(value: &'v Json, step: &Step) -> Option<&'v Json>
     ensures { option_map (λ v. view v.now) result ≡ one (plain_step step.now) (view value.now) }
 {
@@ -55,26 +65,35 @@ fn child<'v>(value: &'v Json, step: &Step) -> Option<&'v Json>
             Step::Key(_) => None,
         },
         Json::Object(members) => match step {
-            Step::Key(key) => member(members, key.as_str()),
+            Step::Key(key) => member(members.get(), key.as_str()),
             Step::Index(_) => None,
         },
         _ => None,
     }
 }
 
-fn item(items: &[Json], index: u64) -> Option<&Json>
-    ensures { option_map (λ v. view v.now) result ≡ item_at index (items_view items.now) }
+fn item(items: &List, number: u64) -> Option<&Json>
+    ensures { option_map (λ v. view v.now) result ≡ item_at number (list_view items.now) }
 {
-    items.get(index as usize)
+    items.get(number as usize)
 }
 
-fn member<'v>(members: &'v BTreeMap<String, Json>, key: &str) -> Option<&'v Json>
-    ensures { option_map (λ v. view v.now) result ≡ member_at key.now (members_view members.now.entries) }
+fn member<'v>(members: &'v BTreeMap<String, Json>, name: &str) -> Option<&'v Json>
+    ensures { option_map (λ v. view v.now) result ≡ member_at name.now (members_view members.now.entries) }
 {
-    members.get(key)
+    members.get(name)
 }
 
-/// What is done to the value at a place.
+// The item at an index, where it is the list's own.
+fn item_mut(items: &mut List, number: u64) -> Option<&mut Json>
+    ensures value { list_own items.old ≡ true
+        → option_map (λ v. view v.now) result ≡ item_at number (list_view items.old) }
+    ensures own { list_own items.old ≡ true → IfSome result (λ v. is_own v.now ≡ true) }
+{
+    items.get_mut(number as usize)
+}
+
+/// What is done to the value at a place. It leaves what is its owner's own so.
 pub trait Change {
     /// What the change answers.
     type Output;
@@ -82,34 +101,108 @@ pub trait Change {
     // `makes self before after output`: from the value before, the change leaves the one after.
     ghost makes: { Self → Value → Value → Self.Output → Type 0 };
 
+    // what holds of the output where the value before was its owner's own
+    ghost answers_own: { Self → Self.Output → Type 0 };
+
     /// Changes the value in place.
     fn change(self, place: &mut Json) -> Self::Output
-        ensures { makes self (view place.old) (view place.new) result };
+        ensures made { makes self (view place.old) (view place.new) result }
+        ensures own { is_own place.old ≡ true → is_own place.new ≡ true }
+        ensures answer { is_own place.old ≡ true → answers_own self result };
 }
 
-/// Does the change at the path's place, and leaves all else as it is. Nothing is copied.
+/// Does the change at the path's place, and leaves all else as it is. What is shared on the way becomes the
+/// value's own, for which its parts there are copied; where nothing is, nothing is copied, and no memory taken.
 ///
 /// `None`, with the value unchanged, where a key is missing, an index is out of range, or a step
-/// meets another kind of value.
-pub fn change_at<C: Change + Drop>(value: &mut Json, path: &[Step], change: C) -> Option<C::Output>
-    ensures { MatchOption result
+/// meets another kind of value. After want of memory the value is unchanged.
+#[cycle(change)]
+pub fn change_at<C: Change + Drop>(
+    alloc: Global,
+    value: &mut Json,
+    path: &[Step],
+    change: C,
+) -> Result<Option<C::Output>, AllocError>
+    ensures done { IfOk result (λ o. MatchOption o
         (NothingAt (view value.old) (plain_path path.now) (view value.new))
         (λ r. ChangedAt (λ u v. C.Change.makes change u v r)
-        (view value.old) (plain_path path.now) (view value.new)) }
+        (view value.old) (plain_path path.now) (view value.new))) }
+    ensures err { OnErr result (view value.new ≡ view value.old) }
+    ensures own { is_own value.old ≡ true → is_own value.new ≡ true }
+    ensures shared { OnErr result (is_own value.old ≡ false) }
+    ensures answer { is_own value.old ≡ true
+        → IfOk result (λ o. IfSome o (λ r. C.Change.answers_own change r)) }
 {
     let Some((first, rest)) = path.split_first() else {
-        return Some(change.change(value));
+        return Ok(Some(change.change(value)));
     };
     match first {
-        Step::Index(index) => {
-            let items = list_mut(value)?;
-            let place = item_mut(items, *index)?;
-            change_at(place, rest, change)
-        }
-        Step::Key(key) => {
-            let members = object_mut(value)?;
-            let place = member_mut(members, key.as_str())?;
-            change_at(place, rest, change)
-        }
+        Step::Index(index) => match list_mut(value) {
+            Some(items) => change_item(alloc, items, *index, rest, change),
+            None => Ok(None),
+        },
+        Step::Key(key) => match object_mut(value) {
+            Some(members) => change_member(alloc, members, key.as_str(), rest, change),
+            None => Ok(None),
+        },
+    }
+}
+
+// The change below an item of a list. The item is taken out for it and put back, since what a list in pieces
+// lends carries no promise.
+#[cycle(change)]
+fn change_item<C: Change + Drop>(
+    alloc: Global,
+    items: &mut List,
+    number: u64,
+    rest: &[Step],
+    change: C,
+) -> Result<Option<C::Output>, AllocError>
+    ensures done { IfOk result (λ o. MatchOption o
+        (NothingAt (list (list_view items.old)) (index number ∷ plain_path rest.now) (list (list_view items.new)))
+        (λ r. ChangedAt (λ u v. C.Change.makes change u v r)
+        (list (list_view items.old)) (index number ∷ plain_path rest.now) (list (list_view items.new)))) }
+    ensures err { OnErr result (list_view items.new ≡ list_view items.old) }
+    ensures own { list_own items.old ≡ true → list_own items.new ≡ true }
+    ensures shared { OnErr result (list_own items.old ≡ false) }
+    ensures answer { list_own items.old ≡ true
+        → IfOk result (λ o. IfSome o (λ r. C.Change.answers_own change r)) }
+{
+    let Some(mut item) = take_item(alloc, items, number)? else {
+        return Ok(None);
+    };
+    let done = change_at(alloc, &mut item, rest, change);
+    put_back(alloc, items, number, item);
+    done
+}
+
+// The change below a member of an object.
+#[cycle(change)]
+fn change_member<C: Change + Drop>(
+    alloc: Global,
+    members: &mut Members,
+    name: &str,
+    rest: &[Step],
+    change: C,
+) -> Result<Option<C::Output>, AllocError>
+    ensures done { IfOk result (λ o. MatchOption o
+        (NothingAt (object (object_view members.old)) (key name.now ∷ plain_path rest.now)
+        (object (object_view members.new)))
+        (λ r. ChangedAt (λ u v. C.Change.makes change u v r)
+        (object (object_view members.old)) (key name.now ∷ plain_path rest.now)
+        (object (object_view members.new)))) }
+    ensures err { OnErr result (object_view members.new ≡ object_view members.old) }
+    ensures own { object_own members.old ≡ true → object_own members.new ≡ true }
+    ensures shared { OnErr result (object_own members.old ≡ false) }
+    ensures answer { object_own members.old ≡ true
+        → IfOk result (λ o. IfSome o (λ r. C.Change.answers_own change r)) }
+{
+    own_members(alloc, members)?;
+    let Some(map) = map_mut(members) else {
+        unreachable!();
+    };
+    match member_mut(map, name) {
+        Some(place) => change_at(alloc, place, rest, change),
+        None => Ok(None),
     }
 }

@@ -1,10 +1,10 @@
 //! To `serde_json`'s `Value`.
 ghost use Rattle.std.specs.Prelude.{◌≡◌, IfOk};
 ghost use Rattle.sdb_value.specs.Profile.{to_data, to_items, to_members};
-ghost use Rattle.sdb_value.specs.View.{view, items_view, members_view};
+ghost use Rattle.sdb_value.specs.View.{view, list_view, members_view};
 ghost use Rattle.serde_json.specs.View as raw;
 
-use crate::value::Json;
+use crate::value::{Json, List};
 use serde_json::{Map, Number, Value};
 use std::alloc::{AllocError, Global};
 use std::collections::BTreeMap;
@@ -18,6 +18,7 @@ pub fn to_value(alloc: Global, json: &Json) -> Result<Value, AllocError>
 }
 
 #[cycle(write)]
+#[tactic(auto, using(crate::proofs::Views::seen_list, crate::proofs::Views::seen_object, crate::proofs::Weights::weigh_list, crate::proofs::Weights::weigh_object))]
 fn write(alloc: Global, json: &Json) -> Result<Value, AllocError>
     ensures { IfOk result (λ v. raw.view v ≡ to_data (view json.now)) }
 {
@@ -25,18 +26,18 @@ fn write(alloc: Global, json: &Json) -> Result<Value, AllocError>
         Json::Null => Ok(Value::Null),
         Json::Bool(b) => Ok(Value::Bool(*b)),
         Json::Int(n) => Ok(Value::Number(Number::from(n.get()))),
-        Json::Text(text) => Ok(Value::String(text.clone()?)),
+        Json::Text(text) => Ok(Value::String(text.to_string(alloc)?)),
         Json::List(items) => Ok(Value::Array(write_items(alloc, items)?)),
-        Json::Object(members) => Ok(Value::Object(write_members(alloc, members)?)),
+        Json::Object(members) => Ok(Value::Object(write_members(alloc, members.get())?)),
     }
 }
 
 #[cycle(write)]
-fn write_items(alloc: Global, items: &[Json]) -> Result<Vec<Value>, AllocError>
-    ensures { IfOk result (λ v. raw.items_view v.items ≡ to_items (items_view items.now)) }
+fn write_items(alloc: Global, items: &List) -> Result<Vec<Value>, AllocError>
+    ensures { IfOk result (λ v. raw.items_view v.items ≡ to_items (list_view items.now)) }
 {
     let mut made = Vec::new(alloc);
-    for item in items {
+    for item in items.iter() {
         made.push(write(alloc, item)?)?;
     }
     Ok(made)

@@ -1,13 +1,16 @@
 //! What a document holds.
-ghost use Rattle.std.specs.Prelude.{◌≡◌, ◌+ℤ◌, IfOk, min};
+ghost use Rattle.std.specs.Prelude.{◌≡◌, ◌+ℤ◌, IfOk, map, min, true};
+ghost use Rattle.sdb_value.specs.Owns.{all_true, is_own, is_pointer, members_own};
 ghost use Rattle.sdb_value.specs.Profile.{in_range};
 ghost use Rattle.sdb_value.specs.Size.{size};
-ghost use Rattle.sdb_value.specs.Value.{depth};
-ghost use Rattle.sdb_value.specs.View.{view};
+ghost use Rattle.sdb_value.specs.Value.{depth, list, object};
+ghost use Rattle.sdb_value.specs.View.{view, items_view, members_view};
 
-use crate::copy::copy;
+use crate::copy::{Manner, copy};
 use crate::measures::{depth_of, size_of};
 use crate::numbers::MAX;
+use sdb_pieces::{Pieces, Share, Shareable};
+use sdb_text::Text;
 use std::alloc::{AllocError, Global};
 use std::collections::BTreeMap;
 use std::marker::Model;
@@ -61,8 +64,15 @@ impl Whole {
     }
 }
 
-/// A value of a document (RFC 8259, section 3), its numbers whole.
-#[derive(PartialEq, Drop)]
+/// The items of a list, in pieces that copies share.
+pub type List = Pieces<Json>;
+
+/// The members of an object, in the order of their keys' bytes, which copies share.
+pub type Members = Shareable<BTreeMap<String, Json>>;
+
+/// A value of a document (RFC 8259, section 3), its numbers whole. Its texts, lists and objects are its own,
+/// or shared with copies: a change copies what is shared on its way, and changes what is own in place.
+#[derive(Drop)]
 pub enum Json {
     /// `null`.
     Null,
@@ -71,19 +81,54 @@ pub enum Json {
     /// A number, whole and within ±9007199254740991.
     Int(Whole),
     /// A text. Its offsets count UTF-16 units ([`crate::units`]).
-    Text(String),
+    Text(Text),
     /// A list, its items counted from 0.
-    List(Vec<Json>),
+    List(List),
     /// An object, its members in the order of their keys' bytes.
-    Object(BTreeMap<String, Json>),
+    Object(Members),
 }
 
 impl Json {
-    /// The same value again, in memory of its own. Fails only where memory is wanting.
-    pub fn try_clone(&self, alloc: Global) -> Result<Json, AllocError>
-        ensures { IfOk result (λ v. view v ≡ view self.now) }
+    /// A list of these items, in the vector's own memory.
+    pub fn list(items: Vec<Json>) -> Json
+        ensures value { view result ≡ list (items_view items.items) }
+        ensures own { all_true (map is_own items.items) ≡ true → is_own result ≡ true }
     {
-        copy(alloc, self)
+        Json::List(Pieces::from_vec(items))
+    }
+
+    /// An object of these members, in the map's own memory.
+    pub fn object(members: BTreeMap<String, Json>) -> Json
+        ensures value { view result ≡ object (members_view members.entries) }
+        ensures own { members_own members.entries ≡ true → is_own result ≡ true }
+    {
+        Json::Object(Shareable::Own(members))
+    }
+
+    /// The same value again: what is shared at the cost of a pointer, all else in memory of its own. Fails
+    /// only where memory is wanting.
+    pub fn try_clone(&self, alloc: Global) -> Result<Json, AllocError>
+        ensures value { IfOk result (λ v. view v ≡ view self.now) }
+        ensures own { IfOk result (λ v. is_own v ≡ is_own self.now) }
+    {
+        copy(alloc, self, Manner::Same)
+    }
+
+    /// The same value again, all of it in memory of its own. Fails only where memory is wanting.
+    pub fn own_copy(&self, alloc: Global) -> Result<Json, AllocError>
+        ensures value { IfOk result (λ v. view v ≡ view self.now) }
+        ensures own { IfOk result (λ v. is_own v ≡ true) }
+    {
+        copy(alloc, self, Manner::Own)
+    }
+
+    /// The same value again, all of it shared, so that the next copy of it is a pointer. It costs what isn't
+    /// shared yet. Fails only where memory is wanting.
+    pub fn shared_copy(&self, alloc: Global) -> Result<Json, AllocError>
+        ensures value { IfOk result (λ v. view v ≡ view self.now) }
+        ensures pointer { IfOk result (λ v. is_pointer v ≡ true) }
+    {
+        copy(alloc, self, Manner::Shared)
     }
 
     /// How deep lists and objects nest: 0 for a value that is neither, and for a list or an object
@@ -100,5 +145,19 @@ impl Json {
         ensures { result ≡ min limit (size (view self.now)) }
     {
         size_of(self, limit)
+    }
+}
+
+impl Share for Json {
+    ghost use Rattle.std.specs.Prelude.{Bool};
+    ghost use Rattle.sdb_value.specs.Value.{Value};
+    ghost use Rattle.sdb_value.specs.Owns.{seen};
+
+    ghost Seen = { Value × Bool };
+
+    ghost seen = { seen };
+
+    fn share(&self, alloc: Global) -> Result<Json, AllocError> {
+        copy(alloc, self, Manner::Same)
     }
 }

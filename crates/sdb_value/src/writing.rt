@@ -1,12 +1,15 @@
 //! Values as text, written token by token.
-ghost use Rattle.std.specs.Prelude.{◌≡◌, ◌++◌, OnOk, OnErr};
+ghost use Rattle.std.specs.Prelude.{◌≡◌, ◌∷◌, [], ◌++◌, OnOk, OnErr};
+ghost use Rattle.json.specs.Token.{string};
+ghost use Rattle.sdb_text.specs.Held.{bytes_in};
 ghost use Rattle.json.specs.Written.{WritesFront};
 ghost use Rattle.sdb_value.specs.Printed.{array_rest, data_tokens, object_rest};
 ghost use Rattle.sdb_value.specs.Profile.{to_data, to_items, to_members};
-ghost use Rattle.sdb_value.specs.View.{view, items_view, members_view};
+ghost use Rattle.sdb_value.specs.View.{view, list_view, members_view};
 
-use crate::value::Json;
+use crate::value::{Json, List};
 use json::Writer;
+use sdb_text::Text;
 use std::alloc::AllocError;
 use std::collections::BTreeMap;
 
@@ -21,6 +24,7 @@ pub fn write_value(value: &Json, out: &mut Writer) -> Result<(), AllocError>
 }
 
 #[cycle(write)]
+#[tactic(auto, using(crate::proofs::Views::seen_list, crate::proofs::Views::seen_object, crate::proofs::Weights::weigh_list, crate::proofs::Weights::weigh_object))]
 fn write(value: &Json, out: &mut Writer) -> Result<(), AllocError>
     ensures tokens { OnOk result (out.new.tokens ≡ out.old.tokens ++ data_tokens (to_data (view value.now))) }
     ensures before { out.new.before ≡ out.old.before }
@@ -30,26 +34,41 @@ fn write(value: &Json, out: &mut Writer) -> Result<(), AllocError>
         Json::Null => out.null(),
         Json::Bool(b) => out.boolean(*b),
         Json::Int(n) => out.i64(n.get()),
-        Json::Text(text) => out.string(text.as_str()),
+        Json::Text(text) => write_text(text, out),
         Json::List(items) => {
             out.begin_array()?;
             write_items(items, out)
         }
         Json::Object(members) => {
             out.begin_object()?;
-            write_members(members, out)
+            write_members(members.get(), out)
+        }
+    }
+}
+
+// One of several pieces is put together first.
+fn write_text(text: &Text, out: &mut Writer) -> Result<(), AllocError>
+    ensures tokens { OnOk result (out.new.tokens ≡ out.old.tokens ++ string (bytes_in text.now) ∷ []) }
+    ensures before { out.new.before ≡ out.old.before }
+    ensures err { OnErr result (out.new.tokens ≡ out.old.tokens) }
+{
+    match text.as_str() {
+        Some(whole) => out.string(whole),
+        None => {
+            let whole = text.to_string(text.allocator())?;
+            out.string(whole.as_str())
         }
     }
 }
 
 #[cycle(write)]
-fn write_items(items: &[Json], out: &mut Writer) -> Result<(), AllocError>
-    ensures tokens { OnOk result (out.new.tokens ≡ out.old.tokens ++ array_rest (to_items (items_view items.now))) }
+fn write_items(items: &List, out: &mut Writer) -> Result<(), AllocError>
+    ensures tokens { OnOk result (out.new.tokens ≡ out.old.tokens ++ array_rest (to_items (list_view items.now))) }
     ensures before { out.new.before ≡ out.old.before }
     ensures err { OnErr result (WritesFront out.old.tokens out.new.tokens
-        (array_rest (to_items (items_view items.now)))) }
+        (array_rest (to_items (list_view items.now)))) }
 {
-    for item in items {
+    for item in items.iter() {
         write(item, out)?;
     }
     out.end_array()

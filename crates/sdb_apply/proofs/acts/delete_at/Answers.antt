@@ -1,15 +1,28 @@
-use Rattle.std.proofs.Common.{List, ℕ, subst}
-use Rattle.std.specs.Prelude.{string_bytes}
-use Rattle.sdb_value.specs.Edits.{Edits}
-use Rattle.sdb_value.specs.Text.{remove_text}
+use Rattle.std.proofs.Common.{Bool, true, false, List, ℕ, refl, sym, ap, ◌∙◌, subst}
+use Rattle.std.proofs.lemmas.Result.{err_from_is_err_and}
+use Rattle.sdb_text.specs.Edits.{Edits}
+use Rattle.sdb_text.specs.Held.{bytes_in}
+use Rattle.sdb_text.specs.Text.{insert_text, remove_text}
 use Rattle.sdb_value.specs.Law.{known}
-use Rattle.sdb_apply.proofs.Outcomes.{text_edited}
+use Rattle.sdb_value.specs.Owns.{is_own}
+use Rattle.sdb_value.specs.Value.{Value, insert_item, remove_item, replace_item, put, without}
+use Rattle.sdb_value.specs.View.{view, list_view, object_view}
+use Rattle.sdb_apply.proofs.Outcomes.{needs_put, needs_shared, list_shared, object_shared, text_edited, text_stays, list_edited, list_stays, object_done, object_stays}
 use Rattle.sdb_apply.proofs.acts.delete_at.Goals as goal
 
-pub returns-in-Some : goal.returns-in-Some
-returns-in-Some c =
-    let old = string_bytes c.in-Some.text.now in
-    let new = string_bytes c.remove_text.new.text in
-    let Done : List ℕ → Type 0 = λ s. Edits c.remove_text.result (remove_text c.args.offset s old) old new in
-    text_edited _ c.remove_text.result _ (remove_text c.args.offset c.args.piece.now) old new _ _ c.in-Some.ensures.value (known _ _ c.in-Some.is (c.text_mut.follows.holds _)) c.done_if.ensures
-    (subst Done c.as_str.ensures.value c.remove_text.ensures)
+pub returns-in_err-remove-in-Some-clause-outcome : goal.returns-in_err-remove-in-Some-clause-outcome
+returns-in_err-remove-in-Some-clause-outcome c =
+    let p = err_from_is_err_and c.from_residual.result c.from_residual.ensures.1 in
+    rw (p.1, p.2) (needs_shared false (is_own c.args.place.now) (sym c.in-Some.ensures.own ∙ c.in_err-remove-in-Some.ensures.shared), text_stays _ _ _ _ c.in-Some.ensures.value (known _ _ c.in-Some.is (c.text_mut.follows.holds _)).0 c.in_err-remove-in-Some.ensures.err)
+
+pub returns-in_ok-remove-in-Some-clause-outcome : goal.returns-in_ok-remove-in-Some-clause-outcome
+returns-in_ok-remove-in-Some-clause-outcome c =
+    let old = bytes_in c.in-Some.text.now in
+    let new = bytes_in c.remove.new.self in
+    let done = c.in_ok-remove-in-Some.field-0 in
+    let Done : List ℕ → Type 0 = λ s. Edits done (remove_text c.args.offset s old) old new in
+    text_edited _ done _ (remove_text c.args.offset c.args.piece.now) old new _ _ c.in-Some.ensures.value (known _ _ c.in-Some.is (c.text_mut.follows.holds _)).0 c.done_if.ensures
+    (subst Done c.as_str.ensures.value c.in_ok-remove-in-Some.ensures.ok)
+
+pub returns-in_ok-remove-in-Some-clause-own : goal.returns-in_ok-remove-in-Some-clause-own
+returns-in_ok-remove-in-Some-clause-own c own = (known _ _ c.in-Some.is (c.text_mut.follows.holds _)).1 ∙ c.remove.ensures.own (c.in-Some.ensures.own ∙ own)

@@ -1,22 +1,31 @@
-use Rattle.std.proofs.Common.{refl, subst}
+use Rattle.std.proofs.Common.{Bool, true, false, List, ℕ, refl, sym, ap, ◌∙◌, subst}
 use Rattle.std.proofs.lemmas.Result.{err_from_is_err_and}
-use Rattle.sdb_value.specs.Edits.{Edits}
-use Rattle.sdb_value.specs.Value.{Value, insert_item}
-use Rattle.sdb_value.specs.View.{view, items_view}
+use Rattle.sdb_text.specs.Edits.{Edits}
+use Rattle.sdb_text.specs.Held.{bytes_in}
+use Rattle.sdb_text.specs.Text.{insert_text, remove_text}
 use Rattle.sdb_value.specs.Law.{known}
-use Rattle.sdb_apply.proofs.Outcomes.{list_edited, list_stays}
+use Rattle.sdb_value.specs.Owns.{is_own}
+use Rattle.sdb_value.specs.Value.{Value, insert_item, remove_item, replace_item, put, without}
+use Rattle.sdb_value.specs.View.{view, list_view, object_view}
+use Rattle.sdb_apply.proofs.Outcomes.{needs_put, needs_shared, list_shared, object_shared, text_edited, text_stays, list_edited, list_stays, object_done, object_stays}
 use Rattle.sdb_apply.proofs.acts.insert.Goals as goal
 
-pub returns-in_err-insert_item-in-Some : goal.returns-in_err-insert_item-in-Some
-returns-in_err-insert_item-in-Some c =
+pub returns-in_err-insert_item-in-Some-clause-outcome : goal.returns-in_err-insert_item-in-Some-clause-outcome
+returns-in_err-insert_item-in-Some-clause-outcome c =
     let p = err_from_is_err_and c.from_residual-in_err-insert_item-in-Some.result c.from_residual-in_err-insert_item-in-Some.ensures.1 in
-    rw (p.1, p.2) (refl, list_stays _ _ _ _ c.in-Some.ensures.value (known _ _ c.in-Some.is (c.list_mut.follows.holds _)) c.in_err-insert_item-in-Some.ensures.err)
+    rw (p.1, p.2) (needs_put (is_own c.args.place.now), list_stays _ _ _ _ c.in-Some.ensures.value (known _ _ c.in-Some.is (c.list_mut.follows.holds _)).0 c.in_err-insert_item-in-Some.ensures.err)
 
-pub returns-in_ok-insert_item-in-Some : goal.returns-in_ok-insert_item-in-Some
-returns-in_ok-insert_item-in-Some c =
-    let old = items_view c.in-Some.items.now.items in
-    let new = items_view c.insert_item.new.items.items in
+pub returns-in_ok-insert_item-in-Some-clause-outcome : goal.returns-in_ok-insert_item-in-Some-clause-outcome
+returns-in_ok-insert_item-in-Some-clause-outcome c =
+    let old = list_view c.in-Some.items.now in
+    let new = list_view c.insert_item.new.items in
     let done = c.in_ok-insert_item-in-Some.field-0 in
     let Done : Value → Type 0 = λ v. Edits done (insert_item c.args.index v old) old new in
-    list_edited _ done _ (insert_item c.args.index (view c.args.value.now)) old new _ _ c.in-Some.ensures.value (known _ _ c.in-Some.is (c.list_mut.follows.holds _)) c.done_if.ensures
-    (subst Done c.in_ok-copy.ensures c.in_ok-insert_item-in-Some.ensures.ok)
+    list_edited _ done _ (insert_item c.args.index (view c.args.value.now)) old new _ _ c.in-Some.ensures.value (known _ _ c.in-Some.is (c.list_mut.follows.holds _)).0 c.done_if.ensures
+    (subst Done c.in_ok-copy.ensures.value c.in_ok-insert_item-in-Some.ensures.ok)
+
+pub returns-in_ok-insert_item-in-Some-clause-own : goal.returns-in_ok-insert_item-in-Some-clause-own
+returns-in_ok-insert_item-in-Some-clause-own c own = (known _ _ c.in-Some.is (c.list_mut.follows.holds _)).1 ∙ c.insert_item.ensures.own (c.in-Some.ensures.own ∙ own) c.in_ok-copy.ensures.own
+
+pub returns-in_err-insert_item-in-Some-clause-own : goal.returns-in_err-insert_item-in-Some-clause-own
+returns-in_err-insert_item-in-Some-clause-own c own = (known _ _ c.in-Some.is (c.list_mut.follows.holds _)).1 ∙ c.insert_item.ensures.own (c.in-Some.ensures.own ∙ own) c.in_ok-copy.ensures.own

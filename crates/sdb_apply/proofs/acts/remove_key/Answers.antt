@@ -1,7 +1,23 @@
-use Rattle.sdb_value.specs.Value.{without}
+use Rattle.std.proofs.Common.{Bool, true, false, List, ℕ, refl, sym, ap, ◌∙◌, subst}
+use Rattle.std.proofs.lemmas.Result.{err_from_is_err_and}
+use Rattle.sdb_text.specs.Edits.{Edits}
+use Rattle.sdb_text.specs.Held.{bytes_in}
+use Rattle.sdb_text.specs.Text.{insert_text, remove_text}
 use Rattle.sdb_value.specs.Law.{known}
-use Rattle.sdb_apply.proofs.Outcomes.{object_done}
+use Rattle.sdb_value.specs.Owns.{is_own}
+use Rattle.sdb_value.specs.Value.{Value, insert_item, remove_item, replace_item, put, without}
+use Rattle.sdb_value.specs.View.{view, list_view, object_view}
+use Rattle.sdb_apply.proofs.Outcomes.{needs_put, needs_shared, list_shared, object_shared, text_edited, text_stays, list_edited, list_stays, object_done, object_stays}
 use Rattle.sdb_apply.proofs.acts.remove_key.Goals as goal
 
-pub returns-in-Some : goal.returns-in-Some
-returns-in-Some c = object_done (without c.args.key.now) _ _ _ _ c.in-Some.ensures.value (known _ _ c.in-Some.is (c.object_mut.follows.holds _)) c.remove_member.ensures
+pub returns-in_err-remove_member-in-Some-clause-outcome : goal.returns-in_err-remove_member-in-Some-clause-outcome
+returns-in_err-remove_member-in-Some-clause-outcome c =
+    let p = err_from_is_err_and c.from_residual.result c.from_residual.ensures.1 in
+    rw (p.1, p.2) (needs_shared false (is_own c.args.place.now) (sym c.in-Some.ensures.own ∙ object_shared c.in-Some.members.now c.in_err-remove_member-in-Some.ensures.shared), object_stays _ _ _ _ c.in-Some.ensures.value (known _ _ c.in-Some.is (c.object_mut.follows.holds _)).0 c.in_err-remove_member-in-Some.ensures.err)
+
+pub returns-in_ok-remove_member-in-Some-clause-outcome : goal.returns-in_ok-remove_member-in-Some-clause-outcome
+returns-in_ok-remove_member-in-Some-clause-outcome c =
+    object_done (without c.args.key.now) _ _ _ _ c.in-Some.ensures.value (known _ _ c.in-Some.is (c.object_mut.follows.holds _)).0 c.in_ok-remove_member-in-Some.ensures.ok
+
+pub returns-in_ok-remove_member-in-Some-clause-own : goal.returns-in_ok-remove_member-in-Some-clause-own
+returns-in_ok-remove_member-in-Some-clause-own c own = (known _ _ c.in-Some.is (c.object_mut.follows.holds _)).1 ∙ c.remove_member.ensures.own (c.in-Some.ensures.own ∙ own)

@@ -1,18 +1,28 @@
-use Rattle.std.proofs.Common.{refl, ap, ◌∙◌}
+use Rattle.std.proofs.Common.{Bool, true, false, List, ℕ, refl, sym, ap, ◌∙◌, subst}
 use Rattle.std.proofs.lemmas.Result.{err_from_is_err_and}
-use Rattle.sdb_value.specs.Value.{put}
-use Rattle.sdb_value.specs.View.{view, members_view}
+use Rattle.sdb_text.specs.Edits.{Edits}
+use Rattle.sdb_text.specs.Held.{bytes_in}
+use Rattle.sdb_text.specs.Text.{insert_text, remove_text}
 use Rattle.sdb_value.specs.Law.{known}
-use Rattle.sdb_apply.proofs.Outcomes.{object_done, object_stays}
+use Rattle.sdb_value.specs.Owns.{is_own}
+use Rattle.sdb_value.specs.Value.{Value, insert_item, remove_item, replace_item, put, without}
+use Rattle.sdb_value.specs.View.{view, list_view, object_view}
+use Rattle.sdb_apply.proofs.Outcomes.{needs_put, needs_shared, list_shared, object_shared, text_edited, text_stays, list_edited, list_stays, object_done, object_stays}
 use Rattle.sdb_apply.proofs.acts.set_key.Goals as goal
 
-pub returns-in_err-put_member-in-Some : goal.returns-in_err-put_member-in-Some
-returns-in_err-put_member-in-Some c =
+pub returns-in_err-put_member-in-Some-clause-outcome : goal.returns-in_err-put_member-in-Some-clause-outcome
+returns-in_err-put_member-in-Some-clause-outcome c =
     let p = err_from_is_err_and c.from_residual-in_err-put_member-in-Some.result c.from_residual-in_err-put_member-in-Some.ensures.1 in
-    rw (p.1, p.2) (refl, object_stays _ _ _ _ c.in-Some.ensures.value (known _ _ c.in-Some.is (c.object_mut.follows.holds _)) c.in_err-put_member-in-Some.ensures.err)
+    rw (p.1, p.2) (needs_put (is_own c.args.place.now), object_stays _ _ _ _ c.in-Some.ensures.value (known _ _ c.in-Some.is (c.object_mut.follows.holds _)).0 c.in_err-put_member-in-Some.ensures.err)
 
-pub returns-in_ok-put_member-in-Some : goal.returns-in_ok-put_member-in-Some
-returns-in_ok-put_member-in-Some c =
-    let ms = members_view c.in-Some.members.now.entries in
-    object_done (put c.args.key.now (view c.args.value.now)) ms _ _ _ c.in-Some.ensures.value (known _ _ c.in-Some.is (c.object_mut.follows.holds _))
-    (c.in_ok-put_member-in-Some.ensures.ok ∙ ap (λ k. put k (view c.in_ok-copy.copy) ms) c.in_ok-name.ensures.ok ∙ ap (λ v. put c.args.key.now v ms) c.in_ok-copy.ensures)
+pub returns-in_ok-put_member-in-Some-clause-outcome : goal.returns-in_ok-put_member-in-Some-clause-outcome
+returns-in_ok-put_member-in-Some-clause-outcome c =
+    let ms = object_view c.in-Some.members.now in
+    object_done (put c.args.key.now (view c.args.value.now)) ms _ _ _ c.in-Some.ensures.value (known _ _ c.in-Some.is (c.object_mut.follows.holds _)).0
+    (c.in_ok-put_member-in-Some.ensures.ok ∙ ap (λ k. put k (view c.in_ok-copy.copy) ms) c.in_ok-name.ensures.ok ∙ ap (λ v. put c.args.key.now v ms) c.in_ok-copy.ensures.value)
+
+pub returns-in_ok-put_member-in-Some-clause-own : goal.returns-in_ok-put_member-in-Some-clause-own
+returns-in_ok-put_member-in-Some-clause-own c own = (known _ _ c.in-Some.is (c.object_mut.follows.holds _)).1 ∙ c.put_member.ensures.own (c.in-Some.ensures.own ∙ own) c.in_ok-copy.ensures.own
+
+pub returns-in_err-put_member-in-Some-clause-own : goal.returns-in_err-put_member-in-Some-clause-own
+returns-in_err-put_member-in-Some-clause-own c own = (known _ _ c.in-Some.is (c.object_mut.follows.holds _)).1 ∙ c.put_member.ensures.own (c.in-Some.ensures.own ∙ own) c.in_ok-copy.ensures.own

@@ -1,11 +1,13 @@
 use Rattle.std.proofs.Common.{◌≡◌, ℕ, zero, suc, ◌+◌, ◌<◌, List, [], ◌∷◌, length, get_or, take, drop, Some, None, Err, ◌∙◌, ap, sym, subst, arith}
 use Rattle.std.proofs.lemmas.List.{take-append-drop}
 use Rattle.sdb_value.specs.Value.{Value}
+use Rattle.sdb_value.specs.Owns.{is_own}
 use Rattle.sdb_value.specs.View.{view}
 use Rattle.sdb_component.specs.Plain.{PlainComponent}
 use Rattle.sdb_apply.specs.Does.{does, applies}
-use Rattle.sdb_apply.specs.Outcome.{Outcome, takes_memory, takes_memory_at}
+use Rattle.sdb_apply.specs.Outcome.{Outcome, needs, takes_memory, takes_memory_at}
 use Rattle.sdb_apply.specs.declared.applying.ApplyFault.{ApplyFault}
+use Rattle.sdb_apply.proofs.Outcomes.{needed}
 use Rattle.sdb_apply.proofs.Lists.{more_taken, none_more}
 use Rattle.sdb_apply.proofs.applying.apply.Goals as goal
 
@@ -18,16 +20,18 @@ front_none : (op : List PlainComponent) (n : ℕ) (d : Value) → applies (take 
 front_none op n d h = ap (λ l. applies l d) (sym (take-append-drop n op)) ∙ none_more (take n op) (drop n op) d h
 
 pub loop-at-preserved : goal.loop-at-preserved
-loop-at-preserved c =
-    next_is _ c.args.op.now c.loop-at.at c.component-item.result (view c.args.value.now) (view c.loop-at.value) c.components-component-items.ensures c.loop-at-test.true c.component-item.is c.loop-at.invariant
-    ∙ c.in-Ok.ensures
+loop-at-preserved c = record {
+  applied = next_is _ c.args.op.now c.loop-at.at c.component-item.result (view c.args.value.now) (view c.loop-at.value) c.components-component-items.ensures c.loop-at-test.true c.component-item.is c.loop-at.invariant.applied
+      ∙ c.in-Ok.ensures.outcome;
+  own = λ own. c.act_at.ensures.own (c.loop-at.invariant.own own);
+}
 
 pub returns-in-Err-clause-refused : goal.returns-in-Err-clause-refused
 returns-in-Err-clause-refused c =
     let one = c.component-item.result in
-    let Says : ApplyFault → Type 0 = λ f. Outcome (takes_memory one.act) (Err f) (does one (view c.loop-at.value)) (view c.loop-at.value) (view c.act_at.new.value) in
-    λ no. next_is _ c.args.op.now c.loop-at.at one (view c.args.value.now) (view c.loop-at.value) c.components-component-items.ensures c.loop-at-test.true c.component-item.is c.loop-at.invariant
-    ∙ (subst Says no c.in-Err.ensures).0
+    let Says : ApplyFault → Type 0 = λ f. Outcome (needs (takes_memory one.act) (is_own c.loop-at.value)) (Err f) (does one (view c.loop-at.value)) (view c.loop-at.value) (view c.act_at.new.value) in
+    λ no. next_is _ c.args.op.now c.loop-at.at one (view c.args.value.now) (view c.loop-at.value) c.components-component-items.ensures c.loop-at-test.true c.component-item.is c.loop-at.invariant.applied
+    ∙ (subst Says no c.in-Err.ensures.outcome).0
 
 pub returns-in-Err-clause-none : goal.returns-in-Err-clause-none
 returns-in-Err-clause-none c = λ no. front_none c.args.op.now (c.loop-at.at + 1) (view c.args.value.now) (returns-in-Err-clause-refused c no)
@@ -41,5 +45,8 @@ at_is (x ∷ s) (suc i) c h is = at_is s i c (omega arith) is
 pub returns-in-Err-clause-memory : goal.returns-in-Err-clause-memory
 returns-in-Err-clause-memory c =
     let one = c.component-item.result in
-    let Says : ApplyFault → Type 0 = λ f. Outcome (takes_memory one.act) (Err f) (does one (view c.loop-at.value)) (view c.loop-at.value) (view c.act_at.new.value) in
-    λ wants. ap (takes_memory_at c.loop-at.at) (sym c.components-component-items.ensures) ∙ at_is _ c.loop-at.at one c.loop-at-test.true c.component-item.is ∙ (subst Says wants c.in-Err.ensures).0
+    let Says : ApplyFault → Type 0 = λ f. Outcome (needs (takes_memory one.act) (is_own c.loop-at.value)) (Err f) (does one (view c.loop-at.value)) (view c.loop-at.value) (view c.act_at.new.value) in
+    let takes : takes_memory_at c.loop-at.at c.args.op.now ≡ takes_memory one.act =
+    ap (takes_memory_at c.loop-at.at) (sym c.components-component-items.ensures) ∙ at_is _ c.loop-at.at one c.loop-at-test.true c.component-item.is in
+    λ wants. ap (λ t. needs t (is_own c.args.value.now)) takes
+    ∙ needed (takes_memory one.act) (is_own c.args.value.now) (is_own c.loop-at.value) c.loop-at.invariant.own (subst Says wants c.in-Err.ensures.outcome).0

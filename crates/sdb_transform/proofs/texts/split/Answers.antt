@@ -1,5 +1,5 @@
 use Rattle.std.proofs.Common.{◌≡◌, ℕ, ◌<◌, List, [], take, drop, Some, sym, ap, ◌∙◌, arith}
-use Rattle.sdb_value.specs.Text.{units, cut_at}
+use Rattle.sdb_text.specs.Text.{units, cut_at}
 use Rattle.sdb_transform.proofs.Cuts.{cut_front, units_split}
 use Rattle.sdb_transform.proofs.texts.split.Goals as goal
 

@@ -1,5 +1,5 @@
 use Rattle.std.proofs.Common.{sym, ap, ◌∙◌}
-use Rattle.sdb_value.specs.Text.{cut_at}
+use Rattle.sdb_text.specs.Text.{cut_at}
 use Rattle.sdb_transform.proofs.Cuts.{cut_mono}
 use Rattle.sdb_transform.proofs.texts.without.Goals as goal
 

@@ -1,9 +1,29 @@
-use Rattle.std.proofs.Common.{◌≡◌, take, map, length}
-use Rattle.sdb_value.specs.View.{view, members_view}
+use Rattle.std.proofs.Common.{◌≡◌, suc, ◌≤◌}
+use Rattle.sdb_pieces.specs.Iter.{rest}
+use Rattle.sdb_value.specs.View.{items_view, list_view, members_view}
+use Rattle.sdb_pieces.specs.Pieces.{items_in}
+use Rattle.sdb_value.proofs.Weights.{weight, weights, members_weight}
 use Rattle.sdb_value.proofs.comparing.+same.Given as goal
 
-abbrev pub invariant-same_items-loop-at : goal.invariant-same_items-loop-at
-invariant-same_items-loop-at l = record { long : length l.a.items ≡ length l.b.items; same : map view (take l.at l.a.items) ≡ map view (take l.at l.b.items) }
+abbrev pub decreases-same : goal.decreases-same
+decreases-same l = weight l.a.now
+
+abbrev pub decreases-same_items : goal.decreases-same_items
+decreases-same_items l = suc (weights (items_in l.a.now))
+
+abbrev pub decreases-same_members : goal.decreases-same_members
+decreases-same_members l = suc (members_weight l.a.now.entries)
+
+abbrev pub invariant-same_items-loop-item : goal.invariant-same_items-loop-item
+invariant-same_items-loop-item l = record {
+  same : items_view (rest l.item-iterator) ≡ items_view (rest l.others) → list_view l.a ≡ list_view l.b;
+  other : list_view l.a ≡ list_view l.b → items_view (rest l.item-iterator) ≡ items_view (rest l.others);
+  below : weights (rest l.item-iterator) ≤ weights (items_in l.a);
+}
 
 abbrev pub invariant-same_members-loop-key : goal.invariant-same_members-loop-key
-invariant-same_members-loop-key l = record { same : members_view l.key-iterator ≡ members_view l.others → members_view l.a.entries ≡ members_view l.b.entries; other : members_view l.a.entries ≡ members_view l.b.entries → members_view l.key-iterator ≡ members_view l.others }
+invariant-same_members-loop-key l = record {
+  same : members_view l.key-iterator ≡ members_view l.others → members_view l.a.entries ≡ members_view l.b.entries;
+  other : members_view l.a.entries ≡ members_view l.b.entries → members_view l.key-iterator ≡ members_view l.others;
+  below : members_weight l.key-iterator ≤ members_weight l.a.entries;
+}

@@ -12,6 +12,8 @@ use Rattle.sdb_value.specs.Profile.{of_items, Refuses, RefusesMembers}
 use Rattle.sdb_value.specs.View.{view, items_view, members_view}
 use Rattle.sdb_value.specs.declared.convert.ValueFault.{ValueFault}
 use Rattle.sdb_value.specs.declared.convert.ValueFault.TheVariants.{Number, Depth, Memory}
+use Rattle.sdb_value.specs.Owns.{items_own}
+use Rattle.sdb_value.proofs.Copying.{own_push}
 use Rattle.sdb_value.proofs.Read.{read_more, read_all, low_push, low_put, member_more, member_none, member_deep}
 use Rattle.sdb_value.proofs.convert.+read.Goals as goal
 
@@ -27,6 +29,7 @@ read_items-loop-item-preserved t c =
       reads = rw pushed (read_more c.loop-item.done.items c.in_ok-new.new (data-view.items_view s) (data-view.items_view (drop (i + 1) s)) (data-view.view x) c.in_ok-new.ensures.ok (before.reads ∙ ap (λ ds. option_map (join (items_view c.loop-item.done.items)) (of_items ds)) cut));
       low = rw pushed (low_push c.loop-item.done.items c.in_ok-new.new c.args.left before.low c.in_ok-new.ensures.low);
       rest = omega (arith, ap raw.items_depth cut, before.rest);
+      own = ap items_own pushed ∙ own_push c.loop-item.done.items c.in_ok-new.new before.own c.in_ok-new.ensures.own;
     }
 
 pub read_items-returns-clause-ok : goal.read_items-returns-clause-ok
@@ -56,10 +59,11 @@ read_members-loop-key-preserved t c =
     let left = c.next.new.self in
     let all : c.args.members.now.entries ≡ done ++ e ∷ left = l.invariant.split ∙ ap (λ es. done ++ es) c.in-Some.ensures.steps in
     let sorted = subst (λ es. IsStrictlySortedBy string_cmp (keys_of es)) all c.iter-key-items.ensures.ordered in
-    let put_in = c.in_ok-put_member.ensures.ok ∙ ap (λ k. put k (view c.in_ok-new.new) (members_view l.made.entries)) c.in_ok-name.ensures.cases in
+    let put_in = c.in_ok-put_entry.ensures.ok ∙ ap (λ k. put k (view c.in_ok-new.new) (members_view l.made.entries)) c.in_ok-name.ensures.cases in
     record {
       done = done ++ e ∷ [];
       split = all ∙ sym (append_assoc done (e ∷ []) left);
       reads = member_more done e left (members_view l.made.entries) (view c.in_ok-new.new) sorted l.invariant.reads c.in_ok-new.ensures.ok ∙ ap Some (sym put_in);
       low = rw put_in (low_put (string_bytes e.0) (view c.in_ok-new.new) (members_view l.made.entries) c.args.left l.invariant.low c.in_ok-new.ensures.low);
+      own = c.put_entry.ensures.own l.invariant.own c.in_ok-new.ensures.own;
     }

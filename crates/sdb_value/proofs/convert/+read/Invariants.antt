@@ -1,7 +1,8 @@
-use Rattle.std.proofs.Common.{◌≡◌, ◌≤◌, List, ◌++◌, drop, Some, option_map}
+use Rattle.std.proofs.Common.{◌≡◌, ◌≤◌, List, ◌++◌, drop, true, Some, option_map}
 use Rattle.serde_json.specs.Data as raw
 use Rattle.serde_json.specs.View as data-view
 use Rattle.serde_json.proofs.Views.{Entry}
+use Rattle.sdb_value.specs.Owns.{items_own, members_own}
 use Rattle.sdb_value.specs.Value.{join, items_depth, members_depth}
 use Rattle.sdb_value.specs.Profile.{of_items, of_members}
 use Rattle.sdb_value.specs.View.{items_view, members_view}
@@ -12,6 +13,7 @@ invariant-read_items-loop-item l = record {
   reads : of_items (data-view.items_view l.items) ≡ option_map (join (items_view l.done.items)) (of_items (data-view.items_view (drop l.item-index l.items)));
   low : items_depth (items_view l.done.items) ≤ l.left;
   rest : raw.items_depth (data-view.items_view (drop l.item-index l.items)) ≤ raw.items_depth (data-view.items_view l.items);
+  own : items_own l.done.items ≡ true;
 }
 
 abbrev pub invariant-read_members-loop-key : goal.invariant-read_members-loop-key
@@ -20,4 +22,5 @@ invariant-read_members-loop-key l = record {
   split : l.members.entries ≡ done ++ l.key-iterator;
   reads : of_members (data-view.members_view done) ≡ Some (members_view l.made.entries);
   low : members_depth (members_view l.made.entries) ≤ l.left;
+  own : members_own l.made.entries ≡ true;
 }

@@ -7,6 +7,7 @@ use Rattle.std.specs.String.{string_cmp}
 use Rattle.sdb_value.specs.View.{members_view}
 use Rattle.sdb_value.specs.WellFormed.{IsBelow, MembersWellFormed}
 use Rattle.sdb_value.proofs.Views.{Entry}
+use Rattle.sdb_value.proofs.Weights.{members_rest_below}
 use Rattle.sdb_value.proofs.laws.+well_formed.Goals as goal
 
 below_all : (e : Entry) (es : List Entry) → AllByRecursion (λ k. string_cmp e.0 k ≡ Less) (keys_of es) → IsBelow (string_bytes e.0) (members_view es)
@@ -29,5 +30,6 @@ members_well_formed-loop-key-preserved t c =
     record {
       sorted = split.rest;
       well_formed = λ h. before.well_formed (subst (λ es. MembersWellFormed (members_view es)) (sym c.in-Some.ensures.steps)
-          (subst IsUtf8 c.as_str.ensures.value c.is_text.ensures, c.all_well_formed.ensures, split.below, h));
+          (subst IsUtf8 c.as_str.ensures.value c.key_is_text.ensures, c.all_well_formed.ensures, split.below, h));
+      below = members_rest_below _ c.next.new.self e _ c.in-Some.ensures.steps before.below;
     }

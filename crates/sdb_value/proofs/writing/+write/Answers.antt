@@ -1,19 +1,23 @@
-use Rattle.std.proofs.Common.{◌≡◌, ◌+◌, ◌∷◌, [], ◌++◌, drop, string_bytes, sym, ap, ◌∙◌, append_assoc, arith, rules}
-use Rattle.std.proofs.lemmas.List.{drop_more}
+use Rattle.std.specs.declared.collections.BTreeMap.{BTreeMap}
+use Rattle.json.specs.Written.{WritesFront}
+use Rattle.sdb_value.specs.declared.value.Json.{Json}
+use Rattle.std.proofs.Common.{String, Global, OnOk, OnErr, subst, ◌≡◌, ◌+◌, ◌∷◌, [], ◌++◌, drop, string_bytes, sym, ap, ◌∙◌, append_assoc, arith, rules}
+use Rattle.sdb_pieces.specs.Iter.{rest}
 use Rattle.json.specs.Token.{key}
 use Rattle.sdb_value.specs.Printed.{array_rest, data_tokens, object_rest}
 use Rattle.sdb_value.specs.Profile.{to_data, to_items, to_members}
 use Rattle.sdb_value.specs.View.{view, items_view, members_view}
 use Rattle.sdb_value.specs.FrontLaws.{on_any_err, wrote_after}
+use Rattle.sdb_value.proofs.Write.{array_written, array_front, object_written, object_front}
+use Rattle.sdb_value.proofs.Weights.{members_rest_below}
 use Rattle.sdb_value.proofs.writing.+write.Goals as goal
 
 pub write_items-returns-in_err-write-clause-err : goal.write_items-returns-in_err-write-clause-err
 write_items-returns-in_err-write-clause-err t c =
     let l = c.loop-item in
-    let xs = c.args.items.now in
-    let x = c.item-item.result in
-    let later = drop (l.item-index + 1) xs in
-    let here : drop l.item-index xs ≡ x ∷ later = drop_more xs l.item-index x (omega arith) ∙ ap (λ y. y ∷ later) (sym c.item-item.is) in
+    let x = c.in-Some.item.now in
+    let later = rest c.next.new.self in
+    let here : rest l.item-iterator ≡ x ∷ later = c.in-Some.ensures.steps in
     let whole = l.invariant.split ∙ ap (λ ys. l.invariant.done ++ array_rest (to_items (items_view ys))) here in
     on_any_err _ (wrote_after _ l.out.tokens _ l.invariant.done (data_tokens (to_data (view x))) (array_rest (to_items (items_view later))) _ l.invariant.written whole c.in_err-write.ensures.err)
 
@@ -33,6 +37,7 @@ write_members-loop-key-preserved t c =
       done = done ++ key k ∷ mine;
       split = l.invariant.split ∙ ap (λ ts. done ++ ts) left ∙ sym (append_assoc done (key k ∷ mine) _);
       written = put ∙ ap (λ ts. ts ++ key k ∷ mine) l.invariant.written ∙ append_assoc _ done _;
+      below = members_rest_below _ c.next.new.self (c.in-Some.key.now, c.in-Some.member.now) _ c.in-Some.ensures.steps l.invariant.below;
     }
 
 pub write_members-returns-in_err-write-clause-err : goal.write_members-returns-in_err-write-clause-err
@@ -45,3 +50,27 @@ write_members-returns-in_err-write-clause-err t c =
     let so_far = named ∙ ap (λ ts. ts ++ key k ∷ []) l.invariant.written ∙ append_assoc _ done _ in
     let whole = l.invariant.split ∙ ap (λ ts. done ++ ts) left ∙ sym (append_assoc done (key k ∷ []) _) in
     on_any_err _ (wrote_after _ c.key.new.self.tokens _ (done ++ key k ∷ []) (data_tokens (to_data (view c.in-Some.member.now))) (object_rest (to_members (members_view c.next.new.self))) _ so_far whole c.in_err-write.ensures.err)
+
+pub write-returns-in_ok-begin_array-in-List-clause-tokens : goal.write-returns-in_ok-begin_array-in-List-clause-tokens
+write-returns-in_ok-begin_array-in-List-clause-tokens t c =
+    array_written c.write_items.result c.args.value.now c.in-List.items c.args.out.now.tokens c.begin_array.new.self.tokens c.write_items.new.out.tokens c.in-List.is
+    c.in_ok-begin_array-in-List.ensures.ok c.write_items.ensures.tokens
+
+pub write-returns-in_ok-begin_array-in-List-clause-err : goal.write-returns-in_ok-begin_array-in-List-clause-err
+write-returns-in_ok-begin_array-in-List-clause-err t c =
+    array_front c.write_items.result c.args.value.now c.in-List.items c.args.out.now.tokens c.begin_array.new.self.tokens c.write_items.new.out.tokens c.in-List.is
+    c.in_ok-begin_array-in-List.ensures.ok c.write_items.ensures.err
+
+pub write-returns-in_ok-begin_object-in-Object-clause-tokens : goal.write-returns-in_ok-begin_object-in-Object-clause-tokens
+write-returns-in_ok-begin_object-in-Object-clause-tokens t c =
+    let Wrote : BTreeMap (String Global) Json Global → Type 0 =
+    λ m. OnOk c.write_members.result (c.write_members.new.out.tokens ≡ c.begin_object.new.self.tokens ++ object_rest (to_members (members_view m.entries))) in
+    object_written c.write_members.result c.args.value.now c.in-Object.members c.args.out.now.tokens c.begin_object.new.self.tokens c.write_members.new.out.tokens c.in-Object.is
+    c.in_ok-begin_object-in-Object.ensures.ok (subst Wrote c.get-in-Object.ensures c.write_members.ensures.tokens)
+
+pub write-returns-in_ok-begin_object-in-Object-clause-err : goal.write-returns-in_ok-begin_object-in-Object-clause-err
+write-returns-in_ok-begin_object-in-Object-clause-err t c =
+    let Wrote : BTreeMap (String Global) Json Global → Type 0 =
+    λ m. OnErr c.write_members.result (WritesFront c.begin_object.new.self.tokens c.write_members.new.out.tokens (object_rest (to_members (members_view m.entries)))) in
+    object_front c.write_members.result c.args.value.now c.in-Object.members c.args.out.now.tokens c.begin_object.new.self.tokens c.write_members.new.out.tokens c.in-Object.is
+    c.in_ok-begin_object-in-Object.ensures.ok (subst Wrote c.get-in-Object.ensures c.write_members.ensures.err)

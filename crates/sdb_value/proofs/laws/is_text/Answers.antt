@@ -1,4 +1,0 @@
-use Rattle.sdb_value.proofs.laws.is_text.Goals as goal
-
-pub returns : goal.returns
-returns c = c.utf8._text
