@@ -3,7 +3,7 @@ use crate::random::Random;
 use crate::timing::report;
 use sdb_apply::apply_one;
 use sdb_component::{Act, Component, Piece};
-use sdb_value::{Json, Whole};
+use sdb_value::{Json, Text, Whole};
 use std::alloc::{AllocError, Global};
 use std::collections::BTreeMap;
 use std::time::Instant;
@@ -25,7 +25,7 @@ fn text_of(alloc: Global, length: u64) -> Result<Json, AllocError> {
     for _ in 0..length {
         text.push('a')?;
     }
-    Ok(Json::Text(text))
+    Ok(Json::Text(Text::new(alloc, text)?))
 }
 
 fn insert_character(alloc: Global, offset: u64) -> Result<Option<Component>, AllocError> {
@@ -56,7 +56,7 @@ fn small_object(alloc: Global) -> Result<Json, AllocError> {
         None => Json::Null,
     };
     drop(members.insert(key, one)?);
-    Ok(Json::Object(members))
+    Ok(Json::object(members))
 }
 
 fn list_inserts(rt: &HostRuntime, length: u64) -> anyhow::Result<()> {
@@ -65,7 +65,7 @@ fn list_inserts(rt: &HostRuntime, length: u64) -> anyhow::Result<()> {
     for _ in 0..length {
         items.push(small_object(alloc)?)?;
     }
-    let mut value = Json::List(items);
+    let mut value = Json::list(items);
     let mut random = Random::new();
     let start = Instant::now(rt)?;
     for _ in 0..INSERTS {

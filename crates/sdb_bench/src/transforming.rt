@@ -76,7 +76,7 @@ fn removal(alloc: Global) -> Result<Component, AllocError> {
         drop(members.insert(name, number())?);
     }
     let name = String::from_str(alloc, "k")?;
-    Ok(Component::new(path(alloc)?, Act::Od(name, Json::Object(members))))
+    Ok(Component::new(path(alloc)?, Act::Od(name, Json::object(members))))
 }
 
 fn edit_below(alloc: Global) -> Result<Component, AllocError> {

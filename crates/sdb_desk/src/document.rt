@@ -1,5 +1,6 @@
 //! One document: its log, and what it makes.
 ghost use Rattle.std.specs.Prelude.{◌≡◌, ◌≢◌, ◌<◌, ◌≤◌, [], ◌∷◌, true, length, take, OnOk, OnErr, IfOk, IfErr, IfSome, OnSome, IfNone, is_some, Some, Ok, Err, option_map, unwrap_or};
+ghost use Rattle.sdb_value.specs.Owns.{is_pointer};
 ghost use Rattle.sdb_value.specs.View.{view};
 ghost use Rattle.sdb_oplog.specs.Decide.{decide, stored, missed, IsMade, storing_takes_memory};
 ghost use Rattle.sdb_oplog.specs.Snap.{becomes, document, snap};
@@ -92,6 +93,16 @@ impl Document {
         self.present.as_ref()
     }
 
+    // A copy of the present document, which shares all of it.
+    pub(crate) fn share(&mut self, alloc: Global) -> Result<Option<Json>, AllocError>
+        ensures copy { IfOk result (λ d. option_map view d ≡ document self.old.log) }
+        ensures pointer { IfOk result (λ d. IfSome d (λ v. is_pointer v ≡ true)) }
+        ensures some { OnErr result (is_some (document self.old.log) ≡ true) }
+        ensures same { self.new ≡ self.old }
+    {
+        share(alloc, &mut self.present)
+    }
+
     // How many snapshots are kept.
     pub(crate) fn kept(&self) -> usize
         ensures count { result ≡ length self.now.kept }
@@ -130,7 +141,7 @@ impl Document {
         ensures kept { Leaves self.old.log version self.old.kept self.new.kept }
     {
         if version == self.log.len() {
-            return Ok(copy_of(alloc, self.present())?);
+            return Ok(self.share(alloc)?);
         }
         let (from, base) = self.nearest(alloc, version)?;
         if from == version {
@@ -162,7 +173,7 @@ impl Document {
         ensures log { self.new.log ≡ self.old.log }
         ensures kept { Offers version (option_map (λ v. view v.now) snapshot.entry) self.old.kept self.new.kept }
     {
-        if let Ok(Some(copy)) = copy_of(alloc, snapshot) {
+        if let Ok(Some(copy)) = shared_copy_of(alloc, snapshot) {
             let _ = self.cache.offer(version, copy);
         }
     }
@@ -202,15 +213,41 @@ fn base_of(found: Option<(u64, Json)>) -> (u64, Option<Json>)
     }
 }
 
-// A copy of a document, which may be none.
-pub(crate) fn copy_of(alloc: Global, document: Option<&Json>) -> Result<Option<Json>, AllocError>
+// A copy of a document, which may be none, all of it shared: the next copy of it is a pointer.
+fn shared_copy_of(alloc: Global, document: Option<&Json>) -> Result<Option<Json>, AllocError>
     ensures copy { IfOk result (λ d. option_map view d ≡ option_map (λ v. view v.now) document.entry) }
+    ensures pointer { IfOk result (λ d. IfSome d (λ v. is_pointer v ≡ true)) }
     ensures some { OnErr result (is_some document.entry ≡ true) }
 {
     match document {
-        Some(value) => Ok(Some(value.try_clone(alloc)?)),
+        Some(value) => Ok(Some(value.shared_copy(alloc)?)),
         None => Ok(None),
     }
+}
+
+// A copy of a document, which may be none. It and the document share all of it then; what they shared before
+// costs a pointer.
+fn share(alloc: Global, document: &mut Option<Json>) -> Result<Option<Json>, AllocError>
+    ensures copy { IfOk result (λ d. option_map view d ≡ option_map view document.old) }
+    ensures pointer { IfOk result (λ d. IfSome d (λ v. is_pointer v ≡ true)) }
+    ensures same { option_map view document.new ≡ option_map view document.old }
+    ensures some { OnErr result (is_some document.old ≡ true) }
+{
+    match document {
+        Some(value) => Ok(Some(share_value(alloc, value)?)),
+        None => Ok(None),
+    }
+}
+
+fn share_value(alloc: Global, value: &mut Json) -> Result<Json, AllocError>
+    ensures copy { IfOk result (λ v. view v ≡ view value.old) }
+    ensures pointer { IfOk result (λ v. is_pointer v ≡ true) }
+    ensures same { view value.new ≡ view value.old }
+{
+    let shared = value.shared_copy(alloc)?;
+    let copy = shared.shared_copy(alloc)?;
+    *value = shared;
+    Ok(copy)
 }
 
 // What a submission is answered whatever it asks, where it isn't to be carried: a repeat, a full log, a

@@ -1,5 +1,5 @@
 //! All documents and their queues, by key.
-ghost use Rattle.std.specs.Prelude.{◌≡◌, ◌≢◌, ◌≤◌, ◌<◌, [], true, length, map, take, IfOk, IfErr, IfSome, OnSome, IfNone, IsTrue, IsFalse, IsErrOf, OnOk, OnErr, Ok, Err, Some, option_map, unwrap_or, nat_eq};
+ghost use Rattle.std.specs.Prelude.{◌≡◌, ◌≢◌, ◌≤◌, ◌<◌, [], true, length, map, is_some, take, IfOk, IfErr, IfSome, OnSome, IfNone, IsTrue, IsFalse, IsErrOf, OnOk, OnErr, Ok, Err, Some, option_map, unwrap_or, nat_eq};
 ghost use Rattle.sdb_oplog.specs.Decide.{decide, stored, missed, IsMade, storing_takes_memory, deciding_takes_memory};
 ghost use Rattle.sdb_oplog.specs.Over.{over_all, carrying_takes_memory};
 ghost use Rattle.sdb_oplog.specs.Keys.{no_logs, with_log, plain_key};
@@ -10,6 +10,7 @@ ghost use Rattle.sdb_snapcache.specs.Snaps.{AreSnapsOf};
 ghost use Rattle.std.specs.Map.{remove_entry};
 ghost use Rattle.sdb_subscribe.specs.Queue.{opened, queue_at, taken_from};
 ghost use Rattle.sdb_subscribe.specs.Ring.{after_take_ringed};
+ghost use Rattle.sdb_value.specs.Owns.{is_pointer};
 ghost use Rattle.sdb_value.specs.View.{view};
 ghost use Rattle.sdb_desk.specs.Documents.{no_document, IsOpen, Settles, RefusedAs, IsUnstored};
 ghost use Rattle.sdb_oplog.specs.Keys.{with_at};
@@ -24,7 +25,7 @@ ghost use Rattle.sdb_desk.specs.ReplyView.{plain_reply};
 
 use crate::attempts::{Look, Work};
 use crate::document::{
-    Document, Reply, check_presence, copy_of, look_at, missed_of, reply_at_sight,
+    Document, Reply, check_presence, look_at, missed_of, reply_at_sight,
 };
 use crate::topic::Topic;
 use sdb_oplog::{Code, Content, Entry, Key, Log, Submission, copy_entries, over_all, same_entries};
@@ -394,19 +395,33 @@ impl Shard {
         Ok(())
     }
 
-    /// The present version, and a copy of the document there. E10 is want of memory for the copy.
-    pub fn fetch(&self, key: &Key) -> Result<Fetched, Code>
-        ensures { Reads has_document (told_fetched result) (Ok (fetched (logs_of self.now (plain_key key.now)))) }
+    /// The present version, and a copy of the document there, which shares all of it with the shard. So it
+    /// costs what has changed of the document since it was shared last, and where nothing has, a pointer. E10
+    /// is want of memory for that.
+    pub fn fetch(&mut self, key: &Key) -> Result<Fetched, Code>
+        ensures fetched { Reads has_document (told_fetched result)
+            (Ok (fetched (logs_of self.old (plain_key key.now)))) }
+        ensures pointer { IfOk result (λ f. IfSome f.snapshot (λ v. is_pointer v ≡ true)) }
+        ensures logs { logs_of self.new ≡ logs_of self.old }
+        ensures kept { kept_of self.new ≡ kept_of self.old }
+        ensures queues { queues_of self.new ≡ queues_of self.old }
+        ensures rings { ringed_of self.new ≡ ringed_of self.old }
     {
-        match self.find(key) {
-            Some(document) => Ok(Fetched {
-                version: document.log().len(),
-                snapshot: copy_of(self.alloc, document.present())?,
-            }),
-            None => Ok(Fetched {
-                version: 0,
-                snapshot: None,
-            }),
+        let version = self.version(key);
+        let snapshot = self.share(key)?;
+        Ok(Fetched { version, snapshot })
+    }
+
+    // A copy of the present document, which shares all of it.
+    fn share(&mut self, key: &Key) -> Result<Option<Json>, AllocError>
+        ensures copy { IfOk result (λ d. option_map view d ≡ document (logs_of self.old (plain_key key.now))) }
+        ensures pointer { IfOk result (λ d. IfSome d (λ v. is_pointer v ≡ true)) }
+        ensures some { OnErr result (is_some (document (logs_of self.old (plain_key key.now))) ≡ true) }
+        ensures same { topics_of self.new ≡ topics_of self.old }
+    {
+        match self.topics.get_mut(key) {
+            Some(topic) => topic.share(self.alloc),
+            None => Ok(None),
         }
     }
 
@@ -431,8 +446,9 @@ impl Shard {
     /// is above the present one, E10 is want of memory, at a version above 0.
     ///
     /// The document is made of the nearest older snapshot that is kept, and is kept itself, at most eight
-    /// of a document, those that were used last. So it costs the entries from there on, and two copies
-    /// of the document; the present one, and one that is kept, cost one copy.
+    /// of a document, those that were used last. It and the kept ones share what the entries from there on
+    /// don't touch: so it costs those entries, and a copy of what they touch; the present one costs what
+    /// [`Shard::fetch`] does, and one that is kept a pointer.
     pub fn snapshot_at(&mut self, key: &Key, version: Option<u64>) -> Result<Fetched, Code>
         ensures snapshot { Reads has_version (told_fetched result)
             (snapshot_at (logs_of self.old (plain_key key.now)) version) }

@@ -1,11 +1,12 @@
 //! What is kept of a key: a document, those who follow it, or both.
-ghost use Rattle.std.specs.Prelude.{◌≡◌, ◌≢◌, ◌≤◌, ◌<◌, ◌++◌, ◌∷◌, List, [], length, take, IfOk, IfErr, IfSome, OnOk, OnErr, Ok, Err, Some, option_map, unwrap_or, nat_eq};
+ghost use Rattle.std.specs.Prelude.{◌≡◌, ◌≢◌, ◌≤◌, ◌<◌, ◌++◌, ◌∷◌, List, [], true, length, take, is_some, IfOk, IfErr, IfSome, OnOk, OnErr, Ok, Err, Some, option_map, unwrap_or, nat_eq};
 ghost use Rattle.std.specs.Map.{remove_entry};
+ghost use Rattle.sdb_value.specs.Owns.{is_pointer};
 ghost use Rattle.sdb_value.specs.View.{view};
 ghost use Rattle.sdb_oplog.specs.Decide.{decide, stored, missed};
 ghost use Rattle.sdb_oplog.specs.Plain.{PlainEntry};
 ghost use Rattle.sdb_oplog.specs.Refused.{RefusedBy};
-ghost use Rattle.sdb_oplog.specs.Snap.{snap};
+ghost use Rattle.sdb_oplog.specs.Snap.{document, snap};
 ghost use Rattle.sdb_oplog.specs.declared.codes.Code.TheVariants.{E10};
 ghost use Rattle.sdb_subscribe.specs.Queue.{opened, queue_at, taken_from, after_take, without};
 ghost use Rattle.sdb_subscribe.specs.Ring.{bare, FitLog, AreNoted, after_take_ringed};
@@ -100,6 +101,19 @@ impl Topic {
         store_in(&mut self.document, alloc, submission, content)?;
         note(&mut self.queues, &self.document, version);
         Ok(())
+    }
+
+    // A copy of the present document, which shares all of it.
+    pub(crate) fn share(&mut self, alloc: Global) -> Result<Option<Json>, AllocError>
+        ensures copy { IfOk result (λ d. option_map view d ≡ document self.old.document.log) }
+        ensures pointer { IfOk result (λ d. IfSome d (λ v. is_pointer v ≡ true)) }
+        ensures some { OnErr result (is_some (document self.old.document.log) ≡ true) }
+        ensures same { self.new ≡ self.old }
+    {
+        match &mut self.document {
+            Some(document) => document.share(alloc),
+            None => Ok(None),
+        }
     }
 
     // The document at a version, made of the nearest snapshot that is kept.

@@ -1,6 +1,6 @@
 //! Kept snapshots.
 use sdb_snapcache::{Cache, MOST};
-use sdb_value::{Json, Whole};
+use sdb_value::{Json, Whole, same_value};
 use std::alloc::Global;
 use std::test::Fail;
 
@@ -12,7 +12,7 @@ fn number(n: i64) -> Result<Json, Fail> {
 fn found(cache: &mut Cache, v: u64, n: i64) -> Result<Option<(u64, bool)>, Fail> {
     let wanted = number(n)?;
     match cache.nearest(v) {
-        Some((version, value)) => Ok(Some((version, *value == wanted))),
+        Some((version, value)) => Ok(Some((version, same_value(value, &wanted)))),
         None => Ok(None),
     }
 }

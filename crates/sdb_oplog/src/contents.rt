@@ -52,12 +52,12 @@ impl Model for Content {
 }
 
 impl Content {
-    /// A create with these data.
+    /// A create with these data, which all documents made of it share: a copy of them costs a pointer.
     pub fn create(alloc: Global, value: Json) -> Result<Content, AllocError>
         ensures { IfOk result (λ c. c ≡ create (view value)) }
     {
         Ok(Content {
-            kind: Kind::Create(Arc::new(alloc, value)?),
+            kind: Kind::Create(Arc::new(alloc, value.shared_copy(alloc)?)?),
         })
     }
 

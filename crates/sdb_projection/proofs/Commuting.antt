@@ -8,7 +8,7 @@ use Rattle.std.specs.Prelude.{⊤}
 use Rattle.std.specs.FinMap.{nat_cmp-IsAntisymmetric, slice_cmp-IsAntisymmetric}
 use Rattle.std.specs.Option.{option_map, option_and_then, option_map_or}
 use Rattle.sdb_value.specs.Value.{Value, null, truth, whole, text, list, object, Items, Members, no_members, member, PlainStep, key, index, same_text, member_at, set_member, put, without, insert_item, remove_item, replace_item, item_at, with_one, at, with}
-use Rattle.sdb_value.specs.Text.{insert_text, remove_text}
+use Rattle.sdb_text.specs.Text.{insert_text, remove_text}
 use Rattle.sdb_value.specs.Profile.{in_range}
 use Rattle.sdb_value.specs.WellFormed.{IsWellFormed, IsBelow, MembersWellFormed}
 use Rattle.sdb_component.specs.Plain.{PlainAct, na, si, sd, li, ld, lr, oi, od, or, PlainComponent}

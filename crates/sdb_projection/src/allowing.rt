@@ -29,7 +29,7 @@ fn allowed_data(projection: &Projection, value: &Json) -> bool
 {
     match value {
         Json::Null => true,
-        Json::Object(members) => all_fields(projection, members),
+        Json::Object(members) => all_fields(projection, members.get()),
         _ => false,
     }
 }

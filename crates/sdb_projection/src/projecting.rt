@@ -1,13 +1,13 @@
 //! What a projection shows.
 ghost use Rattle.std.specs.Prelude.{◌≡◌, IfOk};
-ghost use Rattle.sdb_value.specs.View.{view, members_view};
+ghost use Rattle.sdb_value.specs.View.{view, object_view};
 ghost use Rattle.sdb_projection.specs.Projected.{proj, proj_op, proj_content, shown};
 ghost use Rattle.sdb_projection.specs.View.{fields_of};
 
 use crate::projection::Projection;
 use sdb_component::Op;
 use sdb_oplog::{Content, Kind};
-use sdb_value::{Json, put_member};
+use sdb_value::{Json, Members, put_member};
 use std::alloc::{AllocError, Global};
 use std::collections::BTreeMap;
 
@@ -30,15 +30,15 @@ pub fn project_data(
 fn shown(
     alloc: Global,
     projection: &Projection,
-    members: &BTreeMap<String, Json>,
-) -> Result<BTreeMap<String, Json>, AllocError>
+    members: &Members,
+) -> Result<Members, AllocError>
     ensures { IfOk result
-        (λ m. members_view m.entries ≡ shown (fields_of projection.now) (members_view members.now.entries)) }
+        (λ m. object_view m ≡ shown (fields_of projection.now) (object_view members.now)) }
 {
-    let mut copies = BTreeMap::new(alloc);
-    for (key, member) in members.iter() {
+    let mut copies = Members::Own(BTreeMap::new(alloc));
+    for (key, member) in members.get().iter() {
         if projection.is_field(key.as_str()) {
-            put_member(&mut copies, key.clone()?, member.try_clone(alloc)?)?;
+            put_member(alloc, &mut copies, key.clone()?, member.try_clone(alloc)?)?;
         }
     }
     Ok(copies)

@@ -14,7 +14,8 @@ use Rattle.sdb_subscribe.specs.Laws.{opened_other, after_take_at, after_take_oth
 use Rattle.sdb_oplog.specs.Keys.{with_at}
 use Rattle.sdb_desk.specs.MapViewLaws.{kept_at}
 use Rattle.sdb_desk.specs.Laws.{equal_keys, queues_kept}
-use Rattle.sdb_desk.specs.Machine.{is_filled, Queued, PlainFetched, PlainSubscribed, start_of, opening, subscribing_from, Subscribes, Takes, Reads, has_version, snapshot_at, closed, with_queues}
+use Rattle.sdb_desk.specs.Machine.{is_filled, Queued, PlainFetched, PlainSubscribed, start_of, opening, subscribing_from, Subscribes, Takes, Reads, has_document, has_version, snapshot_at, closed, with_queues}
+use Rattle.sdb_desk.specs.Machine as desk
 use Rattle.sdb_steps.specs.OneStep as machine
 use Rattle.sdb_steps.specs.OneStep.{OneStep, next, reply, started, one_given}
 use Rattle.sdb_steps.specs.Picks as plain
@@ -479,6 +480,14 @@ snapshot_refused i m n x y k v E11 h a b = snapped_or i m n x y k v E11 (λ e. c
 pub snapshot_read : (i : ℕ) (m n : OneStep) (x y : Session) (k : PlainKey) (v : Option ℕ) (f : PlainFetched) → Reads has_version (Ok f) (snapshot_at (m.logs k) v) → n ≡ m → y ≡ x → Dispatches i m x (plain.snapshot k v) (replied (machine.snapped (Ok f))) n y
 snapshot_read i m n x y k v f (inl h) a b = let x = h.0 in cc
 snapshot_read i m n x y k v f (inr h) a b = (ap (λ r. replied (machine.snapped r)) h, a, b)
+
+pub fetch_refused : (i : ℕ) (m n : OneStep) (x : Session) (k : PlainKey) (code : Code) → Reads has_document (Err code) (Ok (desk.fetched (m.logs k))) → n ≡ m → Dispatches i m x (plain.fetch k) no_memory n x
+fetch_refused i m n x k code (inl h) a = (h.1, a, refl)
+fetch_refused i m n x k code (inr h) a = cc
+
+pub fetch_read : (i : ℕ) (m n : OneStep) (x : Session) (k : PlainKey) (f : PlainFetched) → Reads has_document (Ok f) (Ok (desk.fetched (m.logs k))) → n ≡ m → Dispatches i m x (plain.fetch k) (replied (machine.fetched f)) n x
+fetch_read i m n x k f (inl h) a = let w = h.0 in cc
+fetch_read i m n x k f (inr h) a = let e : f ≡ desk.fetched (m.logs k) = cc in (ap (λ g. replied (machine.fetched g)) e, a, refl)
 
 -- ---- an attempt that is opened
 

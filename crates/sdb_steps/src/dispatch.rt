@@ -104,10 +104,10 @@ fn begin(
 }
 
 // Reads the present document.
-fn fetch(shard: &Shard, key: &Key) -> StepAnswer
-    ensures { (i : ℕ) (x : plain.Session) →
-        Dispatches i (core_of shard.now) x (plain.fetch (plain_key key.now)) (plain_answer result)
-        (core_of shard.now) x }
+fn fetch(shard: &mut Shard, key: &Key) -> StepAnswer
+    ensures dispatches { (i : ℕ) (x : plain.Session) → Dispatches i (core_of shard.old) x
+        (plain.fetch (plain_key key.now)) (plain_answer result) (core_of shard.new) x }
+    ensures queues { queues_of shard.new ≡ queues_of shard.old }
 {
     match shard.fetch(key) {
         Ok(fetched) => StepAnswer::Fetched(fetched),

@@ -31,7 +31,7 @@ fn creating(alloc: Global) -> Option<Content> {
     members
         .insert(String::from_str(alloc, "n").ok()?, zero)
         .ok()?;
-    Content::create(alloc, Json::Object(members)).ok()
+    Content::create(alloc, Json::object(members)).ok()
 }
 
 // Adds to its number.
@@ -67,7 +67,7 @@ fn number(document: Option<&Json>) -> Option<i64> {
     let Some(Json::Object(members)) = document else {
         return None;
     };
-    match members.get("n") {
+    match members.get().get("n") {
         Some(Json::Int(n)) => Some(n.get()),
         _ => None,
     }

@@ -123,7 +123,7 @@ impl Board {
     }
 
     // The version, and the number there.
-    fn present(&self) -> Result<(u64, Option<i64>), Fail> {
+    fn present(&mut self) -> Result<(u64, Option<i64>), Fail> {
         let fetched = self.shard.fetch(&self.key).or(Err("no fetch"))?;
         Ok((fetched.version, number(fetched.snapshot.as_ref())))
     }

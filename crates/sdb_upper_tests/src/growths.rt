@@ -12,7 +12,7 @@ use std::test::Fail;
 fn creating(alloc: Global, src: &str) -> Result<Submission, Fail> {
     let mut items = Vec::new(alloc);
     items.push(Json::Null)?;
-    from(alloc, src, None, Content::create(alloc, Json::List(items))?)
+    from(alloc, src, None, Content::create(alloc, Json::list(items))?)
 }
 
 // Puts one more null into that list.
@@ -37,14 +37,14 @@ fn work_on(board: &Board, submission: Submission) -> Result<Work, Fail> {
 }
 
 // The version, and how many items are there.
-fn present(board: &Board) -> Result<(u64, Option<usize>), Fail> {
+fn present(board: &mut Board) -> Result<(u64, Option<usize>), Fail> {
     let fetched = board.shard.fetch(&board.key).or(Err("no fetch"))?;
     Ok((fetched.version, count(fetched.snapshot.as_ref())))
 }
 
 fn count(document: Option<&Json>) -> Option<usize> {
     match document {
-        Some(Json::List(items)) => Some(items.len()),
+        Some(Json::List(items)) => Some(items.iter().count()),
         _ => None,
     }
 }

@@ -142,7 +142,7 @@ fn a_key(alloc: Global) -> Result<Key, Fail> {
 fn counter(alloc: Global) -> Result<Json, Fail> {
     let mut members = BTreeMap::new(alloc);
     drop(members.insert(String::from_str(alloc, "n")?, Json::Int(whole(0)?))?);
-    Ok(Json::Object(members))
+    Ok(Json::object(members))
 }
 
 // Adds to the number at `n`.
@@ -201,14 +201,14 @@ fn nine(alloc: Global) -> Result<Vec<Submission>, Fail> {
 }
 
 // The version, and the number at `n`.
-fn present(shard: &Shard, key: &Key) -> Result<(u64, Option<i64>), Fail> {
+fn present(shard: &mut Shard, key: &Key) -> Result<(u64, Option<i64>), Fail> {
     let fetched = shard.fetch(key).or(Err("no fetch"))?;
     Ok((fetched.version, counted(fetched.snapshot.as_ref())))
 }
 
 fn counted(document: Option<&Json>) -> Option<i64> {
     match document {
-        Some(Json::Object(members)) => number(members.get("n")),
+        Some(Json::Object(members)) => number(members.get().get("n")),
         _ => None,
     }
 }
@@ -244,7 +244,7 @@ fn submitted(
     let mut pass = with_others(alloc, &key)?;
     let submission = hundred(alloc)?;
     let reply = submit(alloc, &Meddling, &mut pass, &key, &submission, gate);
-    Ok((stored(&reply), present(&pass.shard, &key)?))
+    Ok((stored(&reply), present(&mut pass.shard, &key)?))
 }
 
 #[test]

@@ -2,6 +2,7 @@ use Rattle.std.proofs.Common.{◌≡◌, [], ◌∷◌, ◌++◌, true, false, s
 use Rattle.std.specs.List.Sorted.{IsStrictlySortedBy}
 use Rattle.std.specs.Map.{keys_of}
 use Rattle.std.specs.String.{string_cmp}
+use Rattle.sdb_pieces.specs.Shareable.{inside}
 use Rattle.sdb_projection.specs.Projected.{is_field}
 use Rattle.sdb_projection.specs.View.{fields_of}
 use Rattle.sdb_projection.proofs.Walks.{Entry, one_shown, one_hidden}
@@ -14,13 +15,13 @@ loop-key-preserved-in_ok-put_member c =
     let done = l.invariant.0 in
     let e : Entry = (c.in-Some.key.now, c.in-Some.member.now) in
     let left = c.next.new.self in
-    let all : c.args.members.now.entries ≡ done ++ e ∷ left = l.invariant.1 ∙ ap (λ es. done ++ es) c.in-Some.ensures.steps in
+    let all : (inside c.args.members.now).entries ≡ done ++ e ∷ left = l.invariant.1 ∙ ap (λ es. done ++ es) c.in-Some.ensures.steps in
     let is : is_field fields (string_bytes e.0) ≡ true = ap (is_field fields) (sym c.as_str.ensures.value) ∙ sym c.is_field.ensures ∙ c.if-is_field.true in
     let last = one_shown fields done e left (subst (λ es. IsStrictlySortedBy string_cmp (keys_of es)) all c.iter-key-items.ensures.ordered) is in
     let named : string_bytes c.in_ok-clone.field-0 ≡ string_bytes e.0 = c.in_ok-clone.ensures.cases in (
       done ++ e ∷ [],
       all ∙ sym (append_assoc done (e ∷ []) left),
-      c.in_ok-put_member.ensures.ok ∙ rw (named, c.in_ok-try_clone.ensures, l.invariant.2) last,
+      c.in_ok-put_member.ensures.ok ∙ rw (named, c.in_ok-try_clone.ensures.value, l.invariant.2) last,
     )
 
 pub loop-key-preserved : goal.loop-key-preserved
