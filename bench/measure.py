@@ -92,7 +92,7 @@ def main():
     pairs()
     snapshots()
     sys.stdout.flush()
-    for part in ("apply", "transform", "lock"):
+    for part in ("apply", "fetch", "transform", "lock"):
         subprocess.run([BENCH, part], check=True)
 
 

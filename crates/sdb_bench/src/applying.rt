@@ -20,7 +20,7 @@ pub(crate) fn measure(rt: &HostRuntime) -> anyhow::Result<()> {
     Ok(())
 }
 
-fn text_of(alloc: Global, length: u64) -> Result<Json, AllocError> {
+pub(crate) fn text_of(alloc: Global, length: u64) -> Result<Json, AllocError> {
     let mut text = String::with_capacity(alloc, length as usize)?;
     for _ in 0..length {
         text.push('a')?;
@@ -28,7 +28,10 @@ fn text_of(alloc: Global, length: u64) -> Result<Json, AllocError> {
     Ok(Json::Text(Text::new(alloc, text)?))
 }
 
-fn insert_character(alloc: Global, offset: u64) -> Result<Option<Component>, AllocError> {
+pub(crate) fn insert_character(
+    alloc: Global,
+    offset: u64,
+) -> Result<Option<Component>, AllocError> {
     let text = String::from_str(alloc, "b")?;
     Ok(Piece::new(text).map(|piece| Component::new(Vec::new(alloc), Act::Si(offset, piece))))
 }

@@ -4,6 +4,7 @@
 
 mod applying;
 mod echoing;
+mod fetching;
 mod json;
 mod locking;
 mod random;
@@ -23,11 +24,12 @@ fn main(rt: HostRuntime) -> anyhow::Result<ExitCode> {
     match (asked, words.get(2)) {
         ("json", None) => json::pass(&rt)?,
         ("apply", None) => applying::measure(&rt)?,
+        ("fetch", None) => fetching::measure(&rt)?,
         ("transform", None) => transforming::measure(&rt)?,
         ("lock", None) => locking::measure(&rt, &rt)?,
         ("echo", Some(address)) => echoing::serve(rt, address.as_str())?,
         _ => {
-            eprintln!(rt; "sdb_bench: json, apply, transform, lock or echo ADDR")?;
+            eprintln!(rt; "sdb_bench: json, apply, fetch, transform, lock or echo ADDR")?;
             return Ok(ExitCode::from(2));
         }
     }

@@ -24,9 +24,7 @@ ghost use Rattle.sdb_desk.specs.View.{plain_look, plain_outcome, told_fetched, t
 ghost use Rattle.sdb_desk.specs.ReplyView.{plain_reply};
 
 use crate::attempts::{Look, Work};
-use crate::document::{
-    Document, Reply, check_presence, look_at, missed_of, reply_at_sight,
-};
+use crate::document::{Document, Reply, check_presence, look_at, missed_of, reply_at_sight};
 use crate::topic::Topic;
 use sdb_oplog::{Code, Content, Entry, Key, Log, Submission, copy_entries, over_all, same_entries};
 use sdb_subscribe::SubId;

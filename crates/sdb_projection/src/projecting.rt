@@ -27,11 +27,7 @@ pub fn project_data(
 }
 
 // Copies of the members whose keys are fields.
-fn shown(
-    alloc: Global,
-    projection: &Projection,
-    members: &Members,
-) -> Result<Members, AllocError>
+fn shown(alloc: Global, projection: &Projection, members: &Members) -> Result<Members, AllocError>
     ensures { IfOk result
         (λ m. object_view m ≡ shown (fields_of projection.now) (object_view members.now)) }
 {
