@@ -2,16 +2,12 @@
 //! session on standard input and output.
 #![tactic(auto)]
 
-mod command_line;
-mod projection_option;
-#[cfg(test)]
-mod tests;
-
+use sdb_server_command::run;
 use std::env;
 use std::process::ExitCode;
 
 fn main(rt: HostRuntime) -> anyhow::Result<ExitCode> {
     let words: Vec<String> = env::args(&rt)?.collect(rt.alloc())?;
-    let status = command_line::run(rt, words.as_slice())?;
+    let status = run(rt, words.as_slice())?;
     Ok(ExitCode::from(status))
 }

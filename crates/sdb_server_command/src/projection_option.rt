@@ -5,13 +5,16 @@ use std::alloc::{AllocError, Global};
 use std::collections::BTreeSet;
 use thiserror::Error;
 
-// Why the projections of a command line are refused.
+/// Why the projections of a command line are refused.
 #[derive(Clone, Copy, Debug, PartialEq, Eq, Drop, Error)]
-pub(crate) enum Refusal {
+pub enum Refusal {
+    /// One is not of the form.
     #[error("error: a projection is NAME=COLLECTION:FIELD,..")]
     Form,
+    /// A name is empty or too long.
     #[error("error: the name of a projection and that of its collection have 1 to 200 bytes")]
     Name,
+    /// The table has no room, or not for such a name; or memory is wanting.
     #[error("error: {0}")]
     Table(#[from] TableFault),
 }
@@ -22,8 +25,9 @@ impl From<AllocError> for Refusal {
     }
 }
 
-// The table of these projections, or why the first of them that is refused is so.
-pub(crate) fn table_of(alloc: Global, texts: &[&str]) -> Result<Table, Refusal> {
+/// The table of these projections, each `NAME=COLLECTION:FIELD,..`, or why the first of them that is refused
+/// is so.
+pub fn table_of(alloc: Global, texts: &[&str]) -> Result<Table, Refusal> {
     let mut table = Table::new(alloc);
     for text in texts {
         table.add(projection_of(alloc, text)?)?;

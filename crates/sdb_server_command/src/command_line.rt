@@ -69,33 +69,41 @@ fn job_group<'a>(alloc: Global) -> Result<ArgGroup<'a>, AllocError> {
     job.arg("lines")?.arg("listen")
 }
 
-// What a command line asks for.
+/// What a command line asks for.
 #[derive(Clone, Copy, PartialEq, Eq, Drop)]
-pub(crate) enum Job {
-    // The lines of one session.
+pub enum Job {
+    /// The lines of one session.
     Lines,
-    // Clients at an address: so many, or without end.
+    /// Clients at an address.
     Listen {
+        /// Where to listen.
         address: SocketAddr,
+        /// After how many clients the run ends, from 1 to 1,000,000; `None` is without end.
         connections: Option<u64>,
     },
 }
 
-// The job, unless the address is none, and the projections.
+/// What the options of a command line are.
 #[derive(Drop)]
-pub(crate) struct Options {
+pub struct Options {
+    /// The job, or `None` where `--listen` has no address.
     pub job: Option<Job>,
+    /// The projections, or why one of them is refused.
     pub table: Result<Table, Refusal>,
 }
 
-// A run that is asked for, or the status where none is.
+/// A run that is asked for, or the status where none is.
 #[derive(Drop)]
-pub(crate) enum Asked {
+pub enum Asked {
+    /// This job, with these projections.
     Run(Job, Table),
+    /// Nothing more, and the program is to end with this status.
     Nothing(u8),
 }
 
-pub(crate) fn asked_options(alloc: Global, words: &[String]) -> Result<Options, Error> {
+/// The options of a command line, whose first word is the program's name. An error is what `clap` refuses,
+/// a call for help, or want of memory.
+pub fn asked_options(alloc: Global, words: &[String]) -> Result<Options, Error> {
     let matches = command(alloc)?.try_get_matches_from(words)?;
     Ok(Options {
         job: asked_job(&matches),
@@ -113,8 +121,10 @@ fn asked_job(matches: &ArgMatches<'_>) -> Option<Job> {
     })
 }
 
-// Does what the words ask for, and gives the status.
-pub(crate) fn run<R>(rt: R, words: &[String]) -> anyhow::Result<u8>
+/// Does what the words of a command line ask for, and gives the status: 0 for a good end and for help, 1 for
+/// a fault, 2 for words that are refused. It fails where memory is wanting before the run, or a line can't be
+/// printed.
+pub fn run<R>(rt: R, words: &[String]) -> anyhow::Result<u8>
 where
     R: AllocGlobal + Input + Print + Eprint,
     R: Net<Listener = TcpListener, Stream = TcpStream> + Threads + Wait + Clock,
@@ -126,8 +136,8 @@ where
     }
 }
 
-// What the words ask for. Words that are refused, or ask for no run, are answered.
-pub(crate) fn asked_run<R>(rt: &R, words: &[String]) -> anyhow::Result<Asked>
+/// What the words ask for. Words that are refused, or ask for no run, are answered.
+pub fn asked_run<R>(rt: &R, words: &[String]) -> anyhow::Result<Asked>
 where
     R: AllocGlobal + Print + Eprint,
 {
@@ -182,8 +192,8 @@ where
     serve_at(rt, &listener, connections, table)
 }
 
-// Serves the clients that come to the listener.
-pub(crate) fn serve_at<R>(
+/// Serves the clients that come to the listener: so many, or without end.
+pub fn serve_at<R>(
     rt: R,
     listener: &TcpListener,
     connections: Option<u64>,
@@ -202,7 +212,7 @@ where
 }
 
 // Says why the projections are refused. Want of memory is no refusal.
-pub(crate) fn refuse_projections<R>(rt: &R, refusal: Refusal) -> anyhow::Result<u8>
+fn refuse_projections<R>(rt: &R, refusal: Refusal) -> anyhow::Result<u8>
 where
     R: AllocGlobal + Eprint,
 {
@@ -213,8 +223,8 @@ where
     Ok(refuse(rt, text.as_str())?)
 }
 
-// Answers the input on standard output, and gives the status.
-pub(crate) fn answer_input<R, I>(rt: &R, input: I, table: &Table) -> u8
+/// Answers the input, lines of one session, on standard output, and gives the status.
+pub fn answer_input<R, I>(rt: &R, input: I, table: &Table) -> u8
 where
     R: AllocGlobal + Print,
     I: Read + Drop,

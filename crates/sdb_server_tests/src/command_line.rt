@@ -1,11 +1,10 @@
 //! Command lines, what they are answered, and the statuses of runs.
-use crate::command_line::{
-    Asked, Job, Options, answer_input, asked_options, asked_run, run, serve_at,
-};
-use crate::projection_option::{Refusal, table_of};
 use sdb_command_line::terminal::{Terminal, words};
 use sdb_command_line::{DONE, FAULT, REFUSED};
 use sdb_projection::{Projection, Table, TableFault};
+use sdb_server_command::{
+    Asked, Job, Options, Refusal, answer_input, asked_options, asked_run, run, serve_at, table_of,
+};
 use std::alloc::Global;
 use std::fmt::Display;
 use std::io;
