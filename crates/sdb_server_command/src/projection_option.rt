@@ -14,7 +14,7 @@ pub enum Refusal {
     /// A name is empty or too long.
     #[error("error: the name of a projection and that of its collection have 1 to 200 bytes")]
     Name,
-    /// The table has no room, or not for such a name; or memory is wanting.
+    /// The table refuses it, or memory is wanting.
     #[error("error: {0}")]
     Table(#[from] TableFault),
 }
