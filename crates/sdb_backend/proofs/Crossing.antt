@@ -5,15 +5,9 @@ use denote.Struct.Field.{row_field}
 use denote.Param.SendFields.{as_row_send, as_row_sync, declared_send, declared_sync}
 use Rattle.circular_buffer.proofs.Crosses as rings
 use Rattle.lru.proofs.Crosses as lru
-use Rattle.std.proofs.Crossing.{Vec-send, Vec-sync, crosses, frees}
+use Rattle.std.proofs.Crossing.{crosses, frees}
 use Rattle.std.proofs.MapsCrossing as maps
-use Rattle.std.specs.contracts.alloc.Global as Global
-use Rattle.std.specs.contracts.impls.GlobalAllocator.TheImpl as allocator
-use Rattle.std.specs.contracts.impls.StringOrd.TheImpl as ord
-use Rattle.std.specs.contracts.impls.StringPartialEq.TheImpl as eq
-use Rattle.std.specs.contracts.impls.StringPartialOrd.TheImpl as partial
 use Rattle.sdb_value.specs.contracts.value.Json as Json
-use Rattle.sdb_value.proofs.value.Json.TheLaws.TheKnot as knot
 use Rattle.sdb_value.specs.contracts.places.Step as Step
 use Rattle.sdb_component.specs.contracts.component.Act as Act
 use Rattle.sdb_component.specs.contracts.component.Component as Component
@@ -39,18 +33,7 @@ use Rattle.sdb_desk.specs.contracts.topic.Topic as Topic
 use Rattle.sdb_desk.specs.contracts.topic.Topic.TheInside as topic
 use Rattle.sdb_desk.specs.contracts.shard.Shard as Shard
 use Rattle.sdb_backend.specs.contracts.backend.Backend as Backend
-
-pub Json-send : IsSend (Json.the_field).row
-Json-send =
-    knot.send-Json (search sendable) (search sendable) (search (Vec-send, sendable) depth 20) (λ h s. Vec-send h s)
-    (λ h s. maps.BTreeMap-send _ h (ord.ghosts Global.the_row allocator.ghosts ord.no_dict ord.no_dict) (eq.ghosts Global.the_row allocator.ghosts eq.no_dict eq.no_dict)
-    (partial.ghosts Global.the_row allocator.ghosts partial.no_dict partial.no_dict) maps.String-send s)
-
-pub Json-sync : IsSync (Json.the_field).row
-Json-sync =
-    knot.sync-Json (search sendable) (search sendable) (search (Vec-sync, sendable) depth 20) (λ h s. Vec-sync h s)
-    (λ h s. maps.BTreeMap-sync _ h (ord.ghosts Global.the_row allocator.ghosts ord.no_dict ord.no_dict) (eq.ghosts Global.the_row allocator.ghosts eq.no_dict eq.no_dict)
-    (partial.ghosts Global.the_row allocator.ghosts partial.no_dict partial.no_dict) maps.String-sync s)
+use Rattle.sdb_backend.proofs.Values.{Json-send, Json-sync}
 
 pub Act-send : IsSend Act.the_row
 Act-send = search (sendable, crosses, maps.crosses, Json-send) depth 20

@@ -1,4 +1,5 @@
 pub mod Searches
+mod Values
 pub mod Crossing
 pub mod Gathering
 pub mod Handing
