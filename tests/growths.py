@@ -1,10 +1,19 @@
-"""Lets each allocation of a run of the programs fail in turn, and looks at what is written and at the status.
+"""Refuses each allocation of the calls of a table in turn, and looks at what comes of it: python3 tests/growths.py
 
-Where the work on a request or a step finds no memory, it is answered E10 and the others as if it had not been sent, and the
-status is 0. Where a line can't be held or its answer not written, what is written is a front of the whole answer, then
-`fault: memory`, and the status is 1. A refused allocation that the run can do without changes nothing. Before the opening
-text a refusal ends the program with an error."""
+What it tries is what `rt ci` or `rt test` and `rt run` have built: runs of the two programs, and the tests of the modules growths
+of sdb_lower_tests and sdb_upper_tests. A line for each call says how many allocations were refused, how many of them inside the
+call, and how many runs went wrong; the status is 1 where one did, or where no allocation stood inside a call.
+
+A run of a program is inside its call from end to end. Where the work on a request or a step finds no memory, it is answered E10
+and the others as if it had not been sent, and the status is 0: so a refused commit counts as no try. Where a line can't be held
+or its answer not written, what is written is a front of the whole answer, then `fault: memory`, and the status is 1. A refused
+allocation that the run can do without changes nothing. Before the opening text a refusal ends the program with an error.
+
+A test makes its call between two marks (tests/fail_nth.c) and again where it found no memory. It passes where the first answer
+was for want of memory, all was as before, and the second answer is the one that is due; outside of the marks it may also end for
+want of memory in what stands around the call."""
 import os
+import struct
 import subprocess
 import sys
 import tempfile
@@ -13,8 +22,11 @@ HERE = os.path.dirname(os.path.abspath(__file__))
 CRATES = os.path.join(HERE, "..", "crates")
 SERVER = [os.path.join(CRATES, "sdb_server_program", "out", "sdb_server_program"), "--lines", "--projection", "titles=boards:title"]
 STEPS = [os.path.join(CRATES, "sdb_steps_program", "out", "sdb_steps_program")]
+TESTS = [os.path.join(CRATES, crate, "out", f"{crate}_tests") for crate in ("sdb_lower_tests", "sdb_upper_tests")]
 FAULT = b"fault: memory\n"
 WANTING = (b"ERR_OUT_OF_MEMORY", b'{"error":"E10"}')
+# how a test ends that finds no memory around its call
+AROUND = ("AllocError", "AllocFailed", "out of memory", '"no fetch"', '"no queue"', '"no work"', '"not stored"')
 
 
 def lines_of(script, count):
@@ -60,13 +72,40 @@ INTERLEAVED = b"""{"s":0,"do":"begin","c":"b","d":"1","src":"w","seq":1,"create"
 """
 
 
-def run(program, library, given, nth, counted):
-    env = dict(os.environ, LD_PRELOAD=library, FAIL_NTH=str(nth), FAIL_COUNT=counted)
-    ended = subprocess.run(program, input=given, stdout=subprocess.PIPE, stderr=subprocess.PIPE, env=env, timeout=60)
-    return ended.returncode, ended.stdout
+# An edit that is overtaken by another one before each of its nine commits.
+def ninth():
+    lines = [
+        '{"s":0,"do":"begin","c":"b","d":"1","src":"w","seq":1,"create":{"type":"json0","data":{"n":0}}}',
+        '{"s":0,"do":"commit"}',
+        '{"s":1,"do":"begin","c":"b","d":"1","src":"x","seq":1,"v":1,"op":[{"p":["n"],"na":100}]}',
+    ]
+    for seq in range(1, 10):
+        lines.append(f'{{"s":2,"do":"begin","c":"b","d":"1","src":"y","seq":{seq},"op":[{{"p":["n"],"na":1}}]}}')
+        lines += ['{"s":2,"do":"commit"}', '{"s":1,"do":"commit"}']
+    lines.append('{"s":0,"do":"fetch","c":"b","d":"1"}')
+    return "".join(line + "\n" for line in lines).encode()
 
 
-def is_right(status, written, whole, without_one):
+class Refusals:
+    """Runs of programs with one allocation refused."""
+
+    def __init__(self, room):
+        self.library, self.counted = os.path.join(room, "fail_nth.so"), os.path.join(room, "counts")
+        made = ["cc", "-shared", "-fPIC", "-O1", "-o", self.library, os.path.join(HERE, "fail_nth.c"), "-ldl"]
+        subprocess.run(made, check=True)
+
+    def run(self, program, given=b"", nth=0):
+        env = dict(os.environ, LD_PRELOAD=self.library, FAIL_NTH=str(nth), FAIL_COUNT=self.counted)
+        return subprocess.run(program, input=given, stdout=subprocess.PIPE, stderr=subprocess.PIPE, env=env, timeout=60)
+
+    def counts(self):
+        """How many allocations the last run made, and how many of them inside its call."""
+        with open(self.counted, "rb") as file:
+            return struct.unpack("2Q", file.read(16))
+
+
+def is_right(ended, whole, without_one):
+    status, written = ended.returncode, ended.stdout
     if status == 0:
         lines = written.splitlines(keepends=True)
         others = [line for line in lines if not any(wanting in line for wanting in WANTING)]
@@ -76,35 +115,52 @@ def is_right(status, written, whole, without_one):
     return status == 1 and told and whole.startswith(front) and front[-1:] in (b"", b"\n")
 
 
-# What is answered to the input without one of its lines, for each of them.
-def answers_without_one(program, given, library, counted):
+def told(name, count, inside, wrong):
+    print(f"{name}: {count} allocations refused in turn, {inside} of them inside the call, {len(wrong)} went wrong {wrong[:10] or ''}", flush=True)
+    return not wrong and inside > 0
+
+
+def program_is_right(refusals, name, program, given):
+    whole = refusals.run(program, given)
+    assert whole.returncode == 0, name
+    count = refusals.counts()[0]
     lines = given.splitlines(keepends=True)
-    return {run(program, library, b"".join(lines[:at] + lines[at + 1 :]), 0, counted)[1] for at in range(len(lines))}
+    # what is answered to the input without one of its lines, for each of them
+    without_one = {refusals.run(program, b"".join(lines[:at] + lines[at + 1 :])).stdout for at in range(len(lines))}
+    wrong = [nth for nth in range(1, count + 1) if not is_right(refusals.run(program, given, nth), whole.stdout, without_one)]
+    return told(name, count, count, wrong)
 
 
-def sweep(name, program, given, library, counted):
-    status, whole = run(program, library, given, 0, counted)
-    assert status == 0, name
-    with open(counted) as file:
-        count = int(file.read())
-    without_one = answers_without_one(program, given, library, counted)
-    wrong = [nth for nth in range(1, count + 1) if not is_right(*run(program, library, given, nth, counted), whole, without_one)]
-    print(f"{name}: {count} allocations, each refused in turn, {len(wrong)} runs went wrong {wrong[:10] or ''}")
-    return not wrong
+def test_is_right(refusals, program, test):
+    assert refusals.run([program, test]).returncode == 0, test
+    count, inside = refusals.counts()
+    wrong = []
+    for nth in range(1, count + 1):
+        ended = refusals.run([program, test], nth=nth)
+        said = ended.stderr.decode()
+        if ended.returncode and ("assertion" in said or not any(word in said for word in AROUND)):
+            wrong.append(nth)
+    return told(test, count, inside, wrong)
+
+
+def tests_of(program):
+    listed = subprocess.run([program, "--list"], stdout=subprocess.PIPE, text=True, check=True).stdout
+    return [line.split(": test")[0] for line in listed.splitlines() if line.startswith("growths::")]
 
 
 def main():
-    with tempfile.TemporaryDirectory() as made:
-        library, counted = os.path.join(made, "fail_nth.so"), os.path.join(made, "count")
-        subprocess.run(["cc", "-shared", "-fPIC", "-O1", "-o", library, os.path.join(HERE, "fail_nth.c"), "-ldl"], check=True)
-        inputs = [
-            ("a create and a fetch", SERVER, STORED),
-            ("40 lines on new documents", SERVER, lines_of("lines.py", 40)),
-            ("40 inserts into one text", SERVER, lines_of("trace.py", 40)),
-            ("a session", SERVER, SESSION),
-            ("interleaved steps", STEPS, INTERLEAVED),
-        ]
-        right = [sweep(*given, library, counted) for given in inputs]
+    runs = [
+        ("run_lines, a create and a fetch", SERVER, STORED),
+        ("run_lines, 40 lines on new documents", SERVER, lines_of("lines.py", 40)),
+        ("run_lines, 40 inserts into one text", SERVER, lines_of("trace.py", 40)),
+        ("run_lines, a session", SERVER, SESSION),
+        ("run_steps, interleaved steps", STEPS, INTERLEAVED),
+        ("run_steps, nine commits of one edit", STEPS, ninth()),
+    ]
+    with tempfile.TemporaryDirectory() as room:
+        refusals = Refusals(room)
+        right = [program_is_right(refusals, *each) for each in runs]
+        right += [test_is_right(refusals, program, test) for program in TESTS for test in tests_of(program)]
     return 0 if all(right) else 1
 
 

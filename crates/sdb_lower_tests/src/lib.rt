@@ -8,6 +8,8 @@ mod apply;
 #[cfg(test)]
 mod component;
 #[cfg(test)]
+mod growths;
+#[cfg(test)]
 mod lines;
 #[cfg(test)]
 mod meet;

@@ -1,12 +1,21 @@
-//! Commits that find no memory: all is as before, and the same call with memory answers. Run as they stand,
-//! these tests find memory at once; `rt try --test --fail-alloc N` refuses the N-th allocation of each.
+//! Calls that find no memory: all is as before, and the same call with memory answers. Run as they stand,
+//! these tests find memory at once; `tests/growths.py` refuses each allocation of each in turn.
 use crate::desk::{Board, deleting, editing, from, stored, worked};
+use crate::projection::titles;
 use sdb_component::{Act, Component};
-use sdb_desk::{Outcome, Work};
-use sdb_oplog::{Content, Submission};
+use sdb_desk::{Outcome, Subscribed, Work};
+use sdb_oplog::{Code, Content, Submission};
+use sdb_projection::{Table, TableFault};
+use sdb_subscribe::SubId;
 use sdb_value::Json;
 use std::alloc::Global;
 use std::test::Fail;
+
+// The call that is tried stands between two of these, which that program knows by their size.
+fn mark(alloc: Global) -> Result<usize, Fail> {
+    let block: Vec<u8> = Vec::with_capacity(alloc, 7_919)?;
+    Ok(block.capacity())
+}
 
 // Makes the document a list of one null.
 fn creating(alloc: Global, src: &str) -> Result<Submission, Fail> {
@@ -68,8 +77,11 @@ fn commit_now(board: &mut Board, submission: &Submission) -> Option<(u64, usize)
 // Commits, and once more where there was no memory: what was answered, if all was as before then.
 fn commit_again(board: &mut Board, work: &mut Work) -> Result<Option<(u64, usize)>, Fail> {
     let (before, missed) = (present(board)?, work.missed().len());
-    if let Some(answer) = commit(board, work) {
-        return Ok(Some(answer));
+    mark(board.alloc)?;
+    let first = commit(board, work);
+    mark(board.alloc)?;
+    if first.is_some() {
+        return Ok(first);
     }
     if present(board)? != before || work.missed().len() != missed {
         return Ok(None);
@@ -83,8 +95,11 @@ fn commit_now_again(
     submission: &Submission,
 ) -> Result<Option<(u64, usize)>, Fail> {
     let before = present(board)?;
-    if let Some(answer) = commit_now(board, submission) {
-        return Ok(Some(answer));
+    mark(board.alloc)?;
+    let first = commit_now(board, submission);
+    mark(board.alloc)?;
+    if first.is_some() {
+        return Ok(first);
     }
     if present(board)? != before {
         return Ok(None);
@@ -196,5 +211,89 @@ fn late_is_committed_now(alloc: Global) -> Result<bool, Fail> {
 #[test]
 fn a_commit_in_one_step(rt: HostRuntime) -> Result<(), Fail> {
     assert!(rt; late_is_committed_now(rt.alloc())?);
+    Ok(())
+}
+
+// Opens a queue at version 1, at the second time where the first one finds no memory.
+fn subscribe_again(board: &mut Board) -> Result<Subscribed, Fail> {
+    mark(board.alloc)?;
+    let first = board.shard.subscribe(&board.key, Some(1));
+    mark(board.alloc)?;
+    match first {
+        Ok(opened) => Ok(opened),
+        Err(Code::E10) => Ok(
+            board
+                .shard
+                .subscribe(&board.key, Some(1))
+                .or(Err("refused"))?,
+        ),
+        Err(_) => Err("refused".into()),
+    }
+}
+
+// Takes up to ten entries, at the second time where the first one finds no memory: how many.
+fn take_again(board: &mut Board, id: SubId) -> Result<usize, Fail> {
+    mark(board.alloc)?;
+    let first = board.shard.take(&board.key, id, 10);
+    mark(board.alloc)?;
+    let entries = match first {
+        Ok(entries) => entries,
+        Err(_) => board.shard.take(&board.key, id, 10)?,
+    };
+    Ok(entries.ok_or("a queue")?.len())
+}
+
+fn all_is_subscribed_to(alloc: Global) -> Result<bool, Fail> {
+    let mut board = full(alloc)?;
+    let opened = subscribe_again(&mut board)?;
+    let is_there = opened.version == 4 && count(opened.snapshot.as_ref()) == Some(4);
+    let next = board.shard.take(&board.key, opened.id, 10)?;
+    Ok(is_there && next.ok_or("a queue")?.len() == 3)
+}
+
+#[test]
+fn a_subscribe(rt: HostRuntime) -> Result<(), Fail> {
+    assert!(rt; all_is_subscribed_to(rt.alloc())?);
+    Ok(())
+}
+
+fn all_is_taken(alloc: Global) -> Result<bool, Fail> {
+    let mut board = full(alloc)?;
+    let opened = board
+        .shard
+        .subscribe(&board.key, Some(0))
+        .or(Err("no queue"))?;
+    let is_all = take_again(&mut board, opened.id)? == 4;
+    let next = board.shard.take(&board.key, opened.id, 10)?;
+    Ok(is_all && next.ok_or("a queue")?.is_empty())
+}
+
+#[test]
+fn a_take(rt: HostRuntime) -> Result<(), Fail> {
+    assert!(rt; all_is_taken(rt.alloc())?);
+    Ok(())
+}
+
+// Adds a projection, at the second time where the first one finds no memory.
+fn add_again(alloc: Global, table: &mut Table) -> Result<bool, Fail> {
+    let (first, second) = (titles(alloc, "t", "b")?, titles(alloc, "t", "b")?);
+    mark(alloc)?;
+    let added = table.add(first);
+    mark(alloc)?;
+    match added {
+        Ok(()) => Ok(true),
+        Err(TableFault::Memory) => Ok(table.find("t").is_none() && table.add(second).is_ok()),
+        Err(_) => Ok(false),
+    }
+}
+
+fn projection_is_added(alloc: Global) -> Result<bool, Fail> {
+    let mut table = Table::new(alloc);
+    Ok(add_again(alloc, &mut table)? && table.find("t").is_some())
+}
+
+#[test]
+fn a_projection(rt: HostRuntime) -> Result<(), Fail> {
+    assert!(rt; projection_is_added(rt.alloc())?);
     Ok(())
 }

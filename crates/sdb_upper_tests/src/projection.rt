@@ -7,7 +7,7 @@ use std::collections::BTreeSet;
 use std::test::Fail;
 
 // A projection that shows `title`.
-fn titles(alloc: Global, name: &str, base: &str) -> Result<Projection, Fail> {
+pub(crate) fn titles(alloc: Global, name: &str, base: &str) -> Result<Projection, Fail> {
     let mut projection = no_fields(alloc, name, base)?;
     drop(projection.fields.insert(String::from_str(alloc, "title")?)?);
     Ok(projection)
