@@ -1,3 +1,4 @@
 pub mod Commuting
 pub mod Fields
 pub mod Walks
+mod Objects

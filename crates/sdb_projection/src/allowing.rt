@@ -24,6 +24,7 @@ pub fn allowed(projection: &Projection, content: &Content) -> bool
     }
 }
 
+#[tactic(auto, using(crate::proofs::Objects::seen_object))]
 fn allowed_data(projection: &Projection, value: &Json) -> bool
     ensures { result ≡ allowed_data (fields_of projection.now) (view value.now) }
 {

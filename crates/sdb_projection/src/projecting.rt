@@ -13,6 +13,7 @@ use std::collections::BTreeMap;
 
 /// What the projection shows of a document's data: of an object its fields alone, and null of other
 /// data. Fails only where an allocation does.
+#[tactic(auto, using(crate::proofs::Objects::seen_object))]
 pub fn project_data(
     alloc: Global,
     projection: &Projection,

@@ -17,7 +17,7 @@ loop-key-preserved-in_ok-put_member c =
     let left = c.next.new.self in
     let all : (inside c.args.members.now).entries ≡ done ++ e ∷ left = l.invariant.1 ∙ ap (λ es. done ++ es) c.in-Some.ensures.steps in
     let is : is_field fields (string_bytes e.0) ≡ true = ap (is_field fields) (sym c.as_str.ensures.value) ∙ sym c.is_field.ensures ∙ c.if-is_field.true in
-    let last = one_shown fields done e left (subst (λ es. IsStrictlySortedBy string_cmp (keys_of es)) all c.iter-key-items.ensures.ordered) is in
+    let last = one_shown fields done e left (subst (λ es. IsStrictlySortedBy string_cmp (keys_of es)) (ap (λ m. m.entries) c.get.ensures ∙ all) c.iter-key-items.ensures.ordered) is in
     let named : string_bytes c.in_ok-clone.field-0 ≡ string_bytes e.0 = c.in_ok-clone.ensures.cases in (
       done ++ e ∷ [],
       all ∙ sym (append_assoc done (e ∷ []) left),
