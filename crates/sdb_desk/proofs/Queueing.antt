@@ -1,4 +1,4 @@
--- A subscribe that opens no queue.
+-- A subscribe: that opens no queue, and that opens one.
 use Rattle.std.proofs.Common.{◌≡◌, ◌+◌, ℕ, List, [], ◌∷◌, ◌++◌, length, Bool, true, false, nat_eq, cond, nat_lt, Option, unwrap_or, Ok, Err, ◌⊎◌, inl, inr, refl, sym, ap, ◌∙◌, subst}
 use Rattle.std.specs.Result.{is_ok}
 use Rattle.sdb_oplog.specs.Plain.{PlainEntry}
@@ -7,7 +7,8 @@ use Rattle.sdb_oplog.specs.declared.codes.Code.TheVariants.{E4, E10, E11}
 use Rattle.sdb_oplog.specs.Refused.{RefusedBy}
 use Rattle.sdb_oplog.specs.Laws.{due_or_wanting}
 use Rattle.sdb_subscribe.specs.Queue.{PlainQueues, opened}
-use Rattle.sdb_desk.specs.Machine.{start_of, opening, subscribing, subscribing_from, Subscribes}
+use Rattle.sdb_value.specs.Value.{Value}
+use Rattle.sdb_desk.specs.Machine.{PlainFetched, start_of, opening, subscribing, subscribing_from, fetched, has_document, Reads, Subscribes}
 
 -- the answer is due, or memory was wanting for a queue that could be opened
 subscribes_or : (log : List PlainEntry) (v : Option ℕ) (q new : PlainQueues) (code : Code) → nat_lt (length log) (unwrap_or v (length log)) ≡ false → nat_eq q.next 18446744073709551615 ≡ false → new ≡ q → (code ≡ E10) ⊎ (opened (unwrap_or v (length log)) q ≡ Err code)
@@ -41,3 +42,26 @@ subscribe_refused log v s q new code is free h same =
     let at : s ≡ unwrap_or v (length log) = start_is log v test s refl is in
     subscribes_or log v q new code (start_seen log v test s refl is) free same
     (due_or_wanting (opened (unwrap_or v (length log)) q) code (subst (λ m. RefusedBy (opened m q) code) at h))
+
+-- memory was wanting for the document
+pub read_wanting : {A : Type 0} (takes : A → Bool) (code : Code) (x : A) → Reads takes (Err code) (Ok x) → code ≡ E10
+read_wanting takes code x (inl h) = let w = h.0 in cc
+read_wanting takes code x (inr h) = cc
+
+pub subscribe_wanting : (log : List PlainEntry) (v : Option ℕ) (s : ℕ) (q new : PlainQueues) (code : Code) → start_of log v ≡ Ok s → nat_eq q.next 18446744073709551615 ≡ false → code ≡ E10 → new ≡ q
+    → Subscribes log v q (Err code) new
+subscribe_wanting log v s q new code is free e same =
+    let test = nat_lt (length log) (unwrap_or v (length log)) in
+    subscribes_or log v q new code (start_seen log v test s refl is) free same (inl e)
+
+-- a queue is opened, and shows the document
+pub subscribe_done : (log : List PlainEntry) (v : Option ℕ) (s id n : ℕ) (q new : PlainQueues) (d : Option Value) → start_of log v ≡ Ok s → id ≡ q.next → opened s q ≡ Ok new
+    → Reads has_document (Ok (record { version = n; snapshot = d })) (Ok (fetched log)) → Subscribes log v q (Ok (record { id = id; start = s; version = n; snapshot = d })) new
+subscribe_done log v s id n q new d is at made (inl h) = let w = h.0 in cc
+subscribe_done log v s id n q new d is at made (inr h) =
+    let shown : ◌≡◌ {A = PlainFetched} (record { version = n; snapshot = d }) (fetched log) = cc in
+    let due : subscribing log v q ≡ opening log s q (Ok new) = ap (subscribing_from log q) is ∙ ap (opening log s q) made in
+    inr (
+      (λ i. Ok (record { id = at i; start = s; version = (shown i).version; snapshot = (shown i).snapshot })) ∙ sym (ap (λ x. x.answer) due),
+      sym (ap (λ x. x.queues) due),
+    )

@@ -415,7 +415,10 @@ impl Shard {
         ensures copy { IfOk result (λ d. option_map view d ≡ document (logs_of self.old (plain_key key.now))) }
         ensures pointer { IfOk result (λ d. IfSome d (λ v. is_pointer v ≡ true)) }
         ensures some { OnErr result (is_some (document (logs_of self.old (plain_key key.now))) ≡ true) }
-        ensures same { topics_of self.new ≡ topics_of self.old }
+        ensures logs { logs_of self.new ≡ logs_of self.old }
+        ensures kept { kept_of self.new ≡ kept_of self.old }
+        ensures queues { queues_of self.new ≡ queues_of self.old }
+        ensures rings { ringed_of self.new ≡ ringed_of self.old }
     {
         match self.topics.get_mut(key) {
             Some(topic) => topic.share(self.alloc),
