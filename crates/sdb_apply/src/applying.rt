@@ -95,7 +95,8 @@ pub fn apply(alloc: Global, value: &mut Json, op: &Op) -> Result<(), Refused>
     ensures refused { IfErr result (λ r. r.why ≡ NotApplied
         → applies (take (r.at + 1) op.now) (view value.old) ≡ None) }
     ensures none { IfErr result (λ r. r.why ≡ NotApplied → applies op.now (view value.old) ≡ None) }
-    ensures memory { IfErr result (λ r. r.why ≡ Memory → needs (takes_memory_at r.at op.now) (is_own value.old) ≡ true) }
+    ensures memory { IfErr result (λ r. r.why ≡ Memory
+        → needs (takes_memory_at r.at op.now) (is_own value.old) ≡ true) }
     ensures own { is_own value.old ≡ true → is_own value.new ≡ true }
 {
     for (at, component) in op.components().iter().enumerate() {

@@ -127,8 +127,8 @@ fn create_in(alloc: Global, value: &Json, document: &mut Option<Json>) -> Result
         (becomes (create (view value.now)) (option_map view document.old) ≡ Ok (option_map view document.new)) }
     ensures err { IfErr result
         (λ code. RefusedBy (becomes (create (view value.now)) (option_map view document.old)) code) }
-    ensures memory { IsErrOf result E10 →
-        becoming_takes_memory (create (view value.now)) (option_map view document.old) (document_own document.old) ≡ true }
+    ensures memory { IsErrOf result E10 → becoming_takes_memory (create (view value.now))
+        (option_map view document.old) (document_own document.old) ≡ true }
     ensures same { OnErr result (option_map view document.new ≡ option_map view document.old) }
 {
     if document.is_some() {
