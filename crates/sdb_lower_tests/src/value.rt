@@ -20,7 +20,7 @@ fn written(alloc: Global, json: &Json) -> Result<Vec<u8>, Fail> {
     Ok(out.into_inner())
 }
 
-fn step(item: Json) -> Result<Step, Fail> {
+fn step(item: &Json) -> Result<Step, Fail> {
     match item {
         Json::Text(key) => Ok(Step::Key(key.to_string(key.allocator())?)),
         Json::Int(index) => Ok(Step::Index(index.get().unsigned_abs())),
@@ -29,12 +29,12 @@ fn step(item: Json) -> Result<Step, Fail> {
 }
 
 // The steps that a list of keys and indexes names.
-fn path_of(alloc: Global, steps: Json) -> Result<Path, Fail> {
+fn path_of(alloc: Global, steps: &Json) -> Result<Path, Fail> {
     let mut path = Vec::new(alloc);
     let Json::List(items) = steps else {
         return Err("no list".into());
     };
-    for item in items.into_vec(alloc)? {
+    for item in items.iter() {
         path.push(step(item)?)?;
     }
     Ok(path)
@@ -276,7 +276,7 @@ fn is_place(alloc: Global, row: &Value) -> Result<bool, Fail> {
     let [steps, wanted] = row.as_array().ok_or("no row")?.as_slice() else {
         return Err("no row of two".into());
     };
-    let path = path_of(alloc, from_value(alloc, steps)?)?;
+    let path = path_of(alloc, &from_value(alloc, steps)?)?;
     leads_to(
         alloc,
         &mut json(alloc, PLACED)?,
@@ -304,7 +304,7 @@ fn put_truth(value: &mut Json, path: &Path) {
 #[test]
 fn a_place_is_written(rt: HostRuntime) -> Result<(), Fail> {
     let mut value = json(rt.alloc(), PLACED)?;
-    let path = path_of(rt.alloc(), json(rt.alloc(), r#"["a",1,"b"]"#)?)?;
+    let path = path_of(rt.alloc(), &json(rt.alloc(), r#"["a",1,"b"]"#)?)?;
     put_truth(&mut value, &path);
     let after = r#"{"a":[1,{"b":true}],"c":null,"d":true}"#;
     assert!(rt; is_shown(rt.alloc(), &value, after)?);
@@ -334,7 +334,7 @@ impl Change for Replace<'_> {
 
 // Puts null at the path, and answers how deep the value there was.
 fn put_null(alloc: Global, value: &mut Json, steps: &str) -> Result<Option<u64>, Fail> {
-    let path = path_of(alloc, json(alloc, steps)?)?;
+    let path = path_of(alloc, &json(alloc, steps)?)?;
     let null = Json::Null;
     let replace = Replace { alloc, new: &null };
     match change_at(alloc, value, &path, replace)? {

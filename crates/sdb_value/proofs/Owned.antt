@@ -19,7 +19,7 @@ use Rattle.sdb_text.specs.declared.text.Text.{Text}
 use Rattle.sdb_value.specs.Owns.{all_true, is_own, is_pointer, items_own, list_own, members_own, object_own}
 use Rattle.sdb_value.specs.declared.value.Json.{Json, the_lemmas}
 use Rattle.sdb_value.specs.declared.value.Json as json
-use Rattle.sdb_value.proofs.Views.{former_seen, former_entries}
+use Rattle.sdb_value.proofs.Views.{former_seen, former_entries, seen_list, seen_object}
 
 -- ---- through the fold
 
@@ -111,3 +111,6 @@ append_none (x ∷ xs) = ap (λ l. x ∷ l) (append_none xs)
 -- a list of one block
 pub of_one : {X : Type 0} (l : Pieces X) (xs : List X) → parts_in l ≡ xs ∷ [] → items_in l ≡ xs
 of_one l xs e = items_parts l ∙ ap (flat_map (λ xs. xs)) e ∙ append_none xs
+
+-- one level of a list, and of an object: what it is, and whether it is its owner's own
+pub ruleset levels = (seen_list, seen_object, owned_list, owned_object)

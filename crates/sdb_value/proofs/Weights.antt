@@ -9,7 +9,7 @@ use Rattle.sdb_pieces.specs.declared.shareable.Shareable.{Shareable}
 use Rattle.sdb_value.specs.declared.value.Json.{Json, fold-Json, the_lemmas}
 use Rattle.sdb_value.specs.declared.value.Json as json
 use Rattle.sdb_value.specs.declared.value.Json.TheOpen.{Json-F}
-use Rattle.sdb_value.proofs.Views.{Entry, former_seen, former_entries}
+use Rattle.sdb_value.proofs.Views.{Entry, former_seen, former_entries, seen_list, seen_object}
 
 abbrev total : List ℕ → ℕ
 total [] = 0
@@ -67,3 +67,6 @@ member_below es fs e n h k = let s : members_weight es ≡ weight e.1 + members_
 
 pub members_rest_below : (es fs : List Entry) (e : Entry) (n : ℕ) → es ≡ e ∷ fs → members_weight es ≤ n → members_weight fs ≤ n
 members_rest_below es fs e n h k = let s : members_weight es ≡ weight e.1 + members_weight fs = ap members_weight h in omega (arith, s, k)
+
+-- one level of a list, and of an object: what it is, and what it weighs
+pub ruleset levels = (seen_list, seen_object, weigh_list, weigh_object)

@@ -16,7 +16,7 @@ pub fn same_value(a: &Json, b: &Json) -> bool
 }
 
 #[cycle(same)]
-#[tactic(auto, using(crate::proofs::Views::seen_list, crate::proofs::Views::seen_object, crate::proofs::Weights::weigh_list, crate::proofs::Weights::weigh_object))]
+#[tactic(auto, using(crate::proofs::Weights::levels))]
 fn same(a: &Json, b: &Json) -> bool
     ensures same { IsTrue result → view a.now ≡ view b.now }
     ensures other { IsFalse result → view a.now ≡ view b.now → ⊥ }

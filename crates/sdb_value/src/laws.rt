@@ -18,7 +18,7 @@ pub fn well_formed(value: &Json)
 }
 
 #[cycle(well_formed)]
-#[tactic(auto, using(crate::proofs::Views::seen_list, crate::proofs::Views::seen_object, crate::proofs::Weights::weigh_list, crate::proofs::Weights::weigh_object))]
+#[tactic(auto, using(crate::proofs::Weights::levels))]
 fn all_well_formed(value: &Json)
     ensures { IsWellFormed (view value.now) }
 {

@@ -8,7 +8,7 @@ use crate::value::{Json, List};
 use std::collections::BTreeMap;
 
 #[cycle(depths)]
-#[tactic(auto, using(crate::proofs::Views::seen_list, crate::proofs::Views::seen_object, crate::proofs::Weights::weigh_list, crate::proofs::Weights::weigh_object))]
+#[tactic(auto, using(crate::proofs::Weights::levels))]
 pub(crate) fn depth_of(value: &Json) -> u64
     ensures { result ≡ min (depth (view value.now)) 18446744073709551615 }
 {
@@ -42,7 +42,7 @@ fn members_deep(members: &BTreeMap<String, Json>) -> u64
 }
 
 #[cycle(sizes)]
-#[tactic(auto, using(crate::proofs::Views::seen_list, crate::proofs::Views::seen_object, crate::proofs::Weights::weigh_list, crate::proofs::Weights::weigh_object))]
+#[tactic(auto, using(crate::proofs::Weights::levels))]
 pub(crate) fn size_of(value: &Json, limit: u64) -> u64
     ensures { result ≡ min limit (size (view value.now)) }
 {

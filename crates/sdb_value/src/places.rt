@@ -37,7 +37,7 @@ pub fn find<'v>(value: &'v Json, path: &[Step]) -> Option<&'v Json>
 
 /// The value at the path, to be changed, where nothing on the way is shared; `None` also where something is.
 /// What a change through it makes of the whole value is promised by [`change_at`] alone.
-#[tactic(auto, using(crate::proofs::Views::seen_list, crate::proofs::Views::seen_object, crate::proofs::Owned::owned_list, crate::proofs::Owned::owned_object))]
+#[tactic(auto, using(crate::proofs::Owned::levels))]
 pub fn find_mut<'v>(value: &'v mut Json, path: &[Step]) -> Option<&'v mut Json>
     ensures { is_own value.old ≡ true
         → option_map (λ v. view v.now) result ≡ at (view value.old) (plain_path path.now) }

@@ -18,7 +18,7 @@ pub fn to_value(alloc: Global, json: &Json) -> Result<Value, AllocError>
 }
 
 #[cycle(write)]
-#[tactic(auto, using(crate::proofs::Views::seen_list, crate::proofs::Views::seen_object, crate::proofs::Weights::weigh_list, crate::proofs::Weights::weigh_object))]
+#[tactic(auto, using(crate::proofs::Weights::levels))]
 fn write(alloc: Global, json: &Json) -> Result<Value, AllocError>
     ensures { IfOk result (λ v. raw.view v ≡ to_data (view json.now)) }
 {

@@ -72,7 +72,6 @@ pub type Members = Shareable<BTreeMap<String, Json>>;
 
 /// A value of a document (RFC 8259, section 3), its numbers whole. Its texts, lists and objects are its own,
 /// or shared with copies: a change copies what is shared on its way, and changes what is own in place.
-#[derive(Drop)]
 pub enum Json {
     /// `null`.
     Null,
@@ -86,6 +85,18 @@ pub enum Json {
     List(List),
     /// An object, its members in the order of their keys' bytes.
     Object(Members),
+}
+
+// Written out: so whoever lets a value go calls this, and no proof opens each form of each part there.
+impl Drop for Json {
+    fn drop(self) {
+        match self {
+            Json::Null | Json::Bool(_) | Json::Int(_) => {}
+            Json::Text(text) => drop(text),
+            Json::List(items) => drop(items),
+            Json::Object(members) => drop(members),
+        }
+    }
 }
 
 impl Json {

@@ -24,7 +24,7 @@ pub fn write_value(value: &Json, out: &mut Writer) -> Result<(), AllocError>
 }
 
 #[cycle(write)]
-#[tactic(auto, using(crate::proofs::Views::seen_list, crate::proofs::Views::seen_object, crate::proofs::Weights::weigh_list, crate::proofs::Weights::weigh_object))]
+#[tactic(auto, using(crate::proofs::Weights::levels))]
 fn write(value: &Json, out: &mut Writer) -> Result<(), AllocError>
     ensures tokens { OnOk result (out.new.tokens ≡ out.old.tokens ++ data_tokens (to_data (view value.now))) }
     ensures before { out.new.before ≡ out.old.before }
