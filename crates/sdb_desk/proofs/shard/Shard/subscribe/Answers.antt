@@ -24,5 +24,5 @@ returns-in_err-id-clause-subscribes c =
     let q = queues_of c.args.self.now k in
     let new = queues_of c.open.new.self k in
     let p = err_from_is_err_and c.from_residual-in_err-id.result c.from_residual-in_err-id.ensures.1 in
-    subst (λ r. Subscribes log c.args.version q (told_subscribed r) new) (sym (p.1 ∙ ap Err p.2))
-    (subscribe_refused log c.args.version c.in_ok-start.start q new c.in_err-id.field-0.0 (sym c.in_ok-start.ensures) (sym c.are_used_up.ensures ∙ c.if-are_used_up.false) c.in_err-id.ensures.err (ap (λ f. f k) c.in_err-id.ensures.same))
+    subst (λ r. Subscribes log c.args.by c.args.version q (told_subscribed r) new) (sym (p.1 ∙ ap Err p.2))
+    (subscribe_refused log c.args.by c.args.version c.in_ok-start.start q new c.in_err-id.field-0.0 (sym c.in_ok-start.ensures) (sym c.are_used_up.ensures ∙ c.if-are_used_up.false) c.in_err-id.ensures.err (ap (λ f. f k) c.in_err-id.ensures.same))

@@ -2,7 +2,7 @@ use Rattle.std.proofs.Common.{sym, ap, ◌∙◌, subst}
 use Rattle.sdb_subscribe.specs.Queue.{after_take}
 use Rattle.sdb_subscribe.specs.Ring.{bare_queues, FitLog}
 use Rattle.sdb_subscribe.proofs.Taking.{on_ok, bare_taken, fit_after}
-use Rattle.sdb_subscribe.proofs.queues.Queues.take.Goals as goal
+use Rattle.sdb_subscribe.proofs.queues.Queues.take_owned.Goals as goal
 
 pub returns-clause-moved : goal.returns-clause-moved
 returns-clause-moved c =

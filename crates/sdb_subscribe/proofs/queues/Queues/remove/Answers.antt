@@ -1,9 +1,9 @@
-use Rattle.std.proofs.Common.{ap, ◌∙◌, sym, subst}
-use Rattle.sdb_subscribe.specs.Queue.{without}
+use Rattle.std.proofs.Common.{ap, ◌∙◌, sym, subst, option_map}
+use Rattle.sdb_subscribe.specs.Queue.{without, queue_at}
 use Rattle.sdb_subscribe.specs.Ring.{bare_queues, FitLog}
-use Rattle.sdb_subscribe.proofs.Entries.{removed, removed_bare, given_without}
+use Rattle.sdb_subscribe.proofs.Entries.{found, at_bare, removed, removed_bare, given_without}
 use Rattle.sdb_subscribe.proofs.Rings.{fit_without}
-use Rattle.sdb_subscribe.proofs.queues.Queues.close.Goals as goal
+use Rattle.sdb_subscribe.proofs.queues.Queues.remove.Goals as goal
 
 pub invariant_of-self : goal.invariant_of-self
 invariant_of-self c =
@@ -22,3 +22,10 @@ returns-clause-fit c =
     let es = c.self.inside.queues.entries in
     let n = c.id.inside.number in
     λ log f. subst (FitLog log) (sym (c.free_empty.ensures ∙ c.remove.ensures.entries ∙ removed n es)) (fit_without log n es (subst (λ q. FitLog log q.queues) (sym c.self.view_is) f))
+
+pub returns-clause-gone : goal.returns-clause-gone
+returns-clause-gone c =
+    let es = c.remove.new.self.entries in
+    let n = c.id.inside.number in
+    ap (λ l. queue_at c.args.id (bare_queues l)) c.free_empty.ensures ∙ ap (λ k. queue_at k (bare_queues es)) (sym c.id.view_is)
+    ∙ at_bare n es ∙ ap (option_map (λ w. w.queue)) (sym (found n es) ∙ c.remove.ensures.updates.1)

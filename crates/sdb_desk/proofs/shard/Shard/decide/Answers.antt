@@ -3,7 +3,7 @@ use Rattle.sdb_oplog.specs.Decide.{decide}
 use Rattle.sdb_oplog.specs.Keys.{plain_key}
 use Rattle.sdb_desk.specs.ShardView.{logs_of}
 use Rattle.sdb_desk.proofs.Deciding.{leaves, commits_refused_as}
-use Rattle.sdb_desk.proofs.shard.Shard.commit.Goals as goal
+use Rattle.sdb_desk.proofs.shard.Shard.decide.Goals as goal
 
 pub returns-in-Some-clause-commits : goal.returns-in-Some-clause-commits
 returns-in-Some-clause-commits c =
