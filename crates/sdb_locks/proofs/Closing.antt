@@ -8,7 +8,7 @@ use Rattle.sdb_growlock.specs.declared.parts.GrowLock.{GrowLock}
 use Rattle.sdb_locks.specs.Closed.{IsWhole, IsClosed, KeepsAt, Gives}
 use Rattle.sdb_locks.specs.Each.{AtEach, SawAt}
 use Rattle.sdb_locks.specs.Words.{AreOf, AreFirst, IsOne, IsFirst}
-use Rattle.sdb_locks.specs.declared.locks.Locks.{Locks}
+use Rattle.sdb_locks.specs.declared.seats.Locks.{Locks}
 use Rattle.sdb_locks.specs.declared.seats.Seats.{Seats}
 use Rattle.sdb_locks.specs.declared.seats.FirstSeats.{FirstSeats}
 
@@ -68,7 +68,7 @@ module _ {T : Type 0} (extends : T → T → Type 0) (same : ℕ → T → T →
   closes l i d f cs v first own h =
       let n = total i d l f.next (slice_index_or f.seats.items i d) cs first own in
       record {
-        first = λ x saw. let k = h.0.0 x (saw d) in (k.0, subst (λ (n : ℕ). same n x v) first.1 k.1);
-        callers = kept_each l i d cs v own h.0.1;
+        first_caller = λ x saw. let k = h.0.0 x (saw d) in (k.0, subst (λ (n : ℕ). same n x v) first.1 k.1);
+        others = kept_each l i d cs v own h.0.1;
         clear = λ k le. h.1 k (omega (arith, n, le));
       }

@@ -1,5 +1,5 @@
 -- Items that are put at a place of a list, or behind the others.
-use Rattle.std.proofs.Common.{◌≡◌, ◌≢◌, ℕ, ◌+◌, ◌<◌, ◌≤◌, ◌⊎◌, inl, inr, true, false, nat_eq, List, [], ◌∷◌, ◌++◌, length, slice_index_or, slice_set, sym, ap, ◌∙◌, subst, arith}
+use Rattle.std.proofs.Common.{◌≡◌, ◌≢◌, ℕ, ◌+◌, ◌<◌, ◌≤◌, ◌⊎◌, inl, inr, true, false, nat_eq, List, [], ◌∷◌, ◌++◌, length, length-append, slice_index_or, slice_set, sym, ap, ◌∙◌, subst, arith}
 use Rattle.std.proofs.Math.Seq.{get_or-append_seam}
 use Rattle.std.proofs.lemmas.Bool.Decides.{eqb_tells}
 use Rattle.std.proofs.lemmas.List.{get_or_default, get_or-set_same, get_or-set_other, get_or_append_left}
@@ -37,3 +37,19 @@ module _ {A : Type 0} (P : ℕ → A → Type 0) where
   -- an item that is put behind the others
   pub items_pushed : (xs : List A) (m : ℕ) (t : A) → length xs ≡ m → Items xs 0 m → P m t → Items (xs ++ t ∷ []) 0 (m + 1)
   items_pushed xs m t long h here j x from lt = pushed_or xs m t j x (eqb_tells j m) lt long h here
+
+-- ---- a list whose last item was taken out, and that had the first items of another
+
+module _ {A : Type 0} (xs init orig : List A) (x : A) (e : xs ≡ init ++ x ∷ []) (same : (i : ℕ) (d : A) → i < length xs → slice_index_or xs i d ≡ slice_index_or orig i d) where
+  pub popped_length : length xs ≡ length init + 1
+  popped_length = ap length e ∙ length-append init (x ∷ [])
+
+  pub popped_is : (d : A) → slice_index_or orig (length init) d ≡ x
+  popped_is d =
+      let n = popped_length in
+      sym (same (length init) d (omega (arith, n))) ∙ ap (λ (l : List A). slice_index_or l (length init) d) e ∙ get_or-append_seam init x [] d
+
+  pub popped_left : (i : ℕ) (d : A) → i < length init → slice_index_or init i d ≡ slice_index_or orig i d
+  popped_left i d lt =
+      let n = popped_length in
+      sym (get_or_append_left init (x ∷ []) d i lt) ∙ ap (λ (l : List A). slice_index_or l i d) (sym e) ∙ same i d (omega (arith, n, lt))

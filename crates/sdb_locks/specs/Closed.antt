@@ -20,8 +20,8 @@ module _ {T : Type 0} (extends : T → T → Type 0) (same : ℕ → T → T →
   -- the value at a place extends what each caller has seen there, holds under the number of each just what that one has
   -- seen, and nothing under a number of no caller
   pub record IsClosed (first : FirstSeats T) (callers : List (Seats T)) (i : ℕ) (v : T) : Type 0 where
-    pub first : KeepsAt i 0 first.seats.items v
-    pub callers : Each (λ c. KeepsAt i c.number c.seats.items v) callers
+    pub first_caller : KeepsAt i 0 first.seats.items v
+    pub others : Each (λ c. KeepsAt i c.number c.seats.items v) callers
     pub clear : (k : ℕ) → first.next ≤ k → blank k v
 
   -- what one lock gives for its seats

@@ -1,5 +1,6 @@
 -- Room for what a close gathers.
-use Rattle.std.specs.Prelude.{◌≡◌, ℕ, ◌<◌, ◌≤◌, List, Vec, Global, length, slice_index_or, vec_len, vec_capacity}
+use Rattle.std.specs.Prelude.{◌≡◌, ℕ, ◌<◌, ◌≤◌, List, Vec, length, slice_index_or, vec_len, vec_capacity}
+use Rattle.std.specs.Global.{Global}
 use Rattle.sdb_growlock.specs.declared.parts.Seat.{Seat}
 use Rattle.sdb_locks.specs.declared.places.Places.{Places}
 

@@ -6,7 +6,7 @@ use Rattle.sdb_growlock.specs.Words as one
 use Rattle.sdb_growlock.specs.declared.parts.GrowLock.{GrowLock}
 use Rattle.sdb_growlock.specs.declared.parts.Seat.{Seat}
 use Rattle.sdb_locks.specs.Each.{AtEach, SawAt}
-use Rattle.sdb_locks.specs.declared.locks.Locks.{Locks}
+use Rattle.sdb_locks.specs.declared.seats.Locks.{Locks}
 use Rattle.sdb_locks.specs.declared.seats.Seats.{Seats}
 use Rattle.sdb_locks.specs.declared.seats.FirstSeats.{FirstSeats}
 

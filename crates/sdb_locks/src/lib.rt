@@ -8,6 +8,6 @@ mod locks;
 mod places;
 mod seats;
 
-pub use locks::{Fresh, Locks, SplitFault};
+pub use locks::{Fresh, SplitFault};
 pub use places::Places;
-pub use seats::{FirstSeats, Seats};
+pub use seats::{FirstSeats, Locks, Seats};

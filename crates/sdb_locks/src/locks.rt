@@ -1,5 +1,6 @@
 //! Eight locks.
-ghost use Rattle.std.specs.Prelude.{◌≡◌, ◌≢◌, ℕ, ◌+◌, ◌<◌, ◌≤◌, [], List, Vec, Global, IfOk, IfErr, OnErr, length, slice_index_or, vec_len, vec_capacity};
+ghost use Rattle.std.specs.Prelude.{◌≡◌, ◌≢◌, ℕ, ◌+◌, ◌<◌, ◌≤◌, [], List, Vec, IfOk, IfErr, OnErr, length, slice_index_or, vec_len, vec_capacity};
+ghost use Rattle.std.specs.Global.{Global};
 ghost use Rattle.sdb_growlock.specs.Rule.{Each};
 ghost use Rattle.sdb_growlock.specs.Words.{IsOf};
 ghost use Rattle.sdb_growlock.specs.declared.parts.Seat.{Seat as One};
@@ -10,7 +11,7 @@ ghost use Rattle.sdb_locks.specs.Words.{number, next, AreOf, AreFirst, IsOne, Is
 ghost use Rattle.sdb_locks.specs.declared.locks.SplitFault.TheVariants.{Last, Memory};
 
 use crate::places::{COUNT, Places, gather_all};
-use crate::seats::{FirstSeats, Seats};
+use crate::seats::{FirstSeats, Locks, Seats};
 use sdb_growlock::{GrowLock, Grows, Job, Seat};
 use std::alloc::{AllocError, Global};
 use std::sync::Wait;
@@ -20,13 +21,6 @@ pub trait Fresh: Grows {
     /// A value that holds nothing under any number.
     fn fresh(alloc: Global) -> Self
         ensures { (k : ℕ) → Self.blank k result };
-}
-
-/// Eight locks, each round a value that only grows.
-#[derive(Drop)]
-pub struct Locks<T: Grows> {
-    pub(crate) locks: Vec<GrowLock<T>>,
-    ghost eight: { length locks.items ≡ 8 },
 }
 
 /// Why no seats were split off.
@@ -185,4 +179,13 @@ fn close_each<T: Grows>(
     locks.destroy_empty();
     values.reverse();
     values
+}
+
+impl<T> Seats<T> {
+    /// The number under which the jobs of these seats are run.
+    pub fn number(&self) -> u64
+        ensures { result ≡ number self.now }
+    {
+        self.number
+    }
 }

@@ -1,5 +1,6 @@
 //! Room for what a close gathers.
-ghost use Rattle.std.specs.Prelude.{◌≡◌, ℕ, ◌+◌, ◌<◌, ◌≤◌, ◌++◌, ◌∷◌, [], List, Vec, Global, IfOk, length, map, slice_index_or, vec_len, vec_capacity};
+ghost use Rattle.std.specs.Prelude.{◌≡◌, ℕ, ◌+◌, ◌<◌, ◌≤◌, ◌++◌, ◌∷◌, [], List, Vec, IfOk, length, map, slice_index_or, vec_len, vec_capacity};
+ghost use Rattle.std.specs.Global.{Global};
 ghost use Rattle.sdb_growlock.specs.declared.parts.Seat.{Seat as One};
 ghost use Rattle.sdb_locks.specs.Rooms.{Rooms, HasRoom};
 

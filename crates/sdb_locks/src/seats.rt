@@ -1,8 +1,14 @@
-//! The seats of a caller.
+//! The locks, and the seats of a caller.
 ghost use Rattle.std.specs.Prelude.{◌≡◌, length};
-ghost use Rattle.sdb_locks.specs.Words.{number};
 
-use sdb_growlock::Seat;
+use sdb_growlock::{GrowLock, Grows, Seat};
+
+/// Eight locks, each round a value that only grows.
+#[derive(Drop)]
+pub struct Locks<T: Grows> {
+    pub(crate) locks: Vec<GrowLock<T>>,
+    ghost eight: { length locks.items ≡ 8 },
+}
 
 /// The seats of one caller: one of each lock, all with one number.
 #[derive(Drop)]
@@ -13,13 +19,6 @@ pub struct Seats<T> {
 }
 
 impl<T> Seats<T> {
-    /// The number under which the jobs of these seats are run.
-    pub fn number(&self) -> u64
-        ensures { result ≡ number self.now }
-    {
-        self.number
-    }
-
     // The seats, one after the other.
     pub(crate) fn into_list(self) -> Vec<Seat<T>>
         ensures { result ≡ self.seats }

@@ -2,7 +2,7 @@ use Rattle.std.proofs.Common.{◌≡◌, ℕ, ◌+◌, ◌<◌, ◌≤◌, lengt
 use Rattle.sdb_growlock.specs.declared.parts.Seat.{Seat}
 use Rattle.sdb_locks.specs.Each.{AtEach, AreFresh}
 use Rattle.sdb_locks.specs.Words.{IsOne, IsFirst}
-use Rattle.sdb_locks.proofs.locks.Locks.split_each.Given as goal
+use Rattle.sdb_locks.proofs.seats.Locks.split_each.Given as goal
 
 abbrev pub invariant-loop-place : goal.invariant-loop-place
 invariant-loop-place g l =

@@ -3,7 +3,7 @@ use Rattle.sdb_growlock.specs.Words.{HasSeen}
 use Rattle.sdb_locks.specs.Each.{AtEach}
 use Rattle.sdb_locks.specs.Words.{IsFirst}
 use Rattle.sdb_locks.proofs.Placing.{Items}
-use Rattle.sdb_locks.proofs.locks.Locks.new.Given as goal
+use Rattle.sdb_locks.proofs.seats.Locks.new.Given as goal
 
 abbrev pub invariant-loop-place : goal.invariant-loop-place
 invariant-loop-place g l =
