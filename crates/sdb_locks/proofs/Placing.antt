@@ -53,3 +53,12 @@ module _ {A : Type 0} (xs init orig : List A) (x : A) (e : xs ≡ init ++ x ∷ 
   popped_left i d lt =
       let n = popped_length in
       sym (get_or_append_left init (x ∷ []) d i lt) ∙ ap (λ (l : List A). slice_index_or l i d) (sym e) ∙ same i d (omega (arith, n, lt))
+
+-- two items that are put behind two lists of one length
+pub both_pushed : {A B : Type 0} (P : A → B → Type 0) (xs : List A) (ys : List B) (m : ℕ) (x : A) (y : B) → length xs ≡ m → length ys ≡ m → AtEach P xs ys 0 m → P x y
+    → AtEach P (xs ++ x ∷ []) (ys ++ y ∷ []) 0 (m + 1)
+both_pushed P xs ys m x y long_xs long_ys h here i s d from lt =
+    let Q : ℕ → _ → Type 0 = λ i t. (d : _) → P t (slice_index_or (ys ++ y ∷ []) i d) in
+    items_pushed Q xs m x long_xs
+    (λ i s from lt d. subst (P (slice_index_or xs i s)) (sym (get_or_append_left ys (y ∷ []) d i (omega (arith, lt, long_ys)))) (h i s d from lt))
+    (λ d. subst (P x) (sym (ap (λ (k : ℕ). slice_index_or (ys ++ y ∷ []) k d) (sym long_ys) ∙ get_or-append_seam ys y [] d)) here) i s from lt d

@@ -1,4 +1,4 @@
-use Rattle.std.proofs.Common.{◌≡◌, ℕ, ◌+◌, ◌-◌, ◌<◌, ◌≤◌, ◌++◌, ◌∷◌, [], List, length, length-append, slice_index_or, Vec, sym, ap, ◌∙◌, subst, arith}
+use Rattle.std.proofs.Common.{◌≡◌, ℕ, ◌+◌, ◌-◌, ◌<◌, ◌≤◌, ◌++◌, ◌∷◌, [], List, length, length-append, slice_index_or, Vec, vec_len, sym, ap, ◌∙◌, subst, arith}
 use Rattle.std.specs.Global.{Global}
 use Rattle.sdb_growlock.specs.Rule.{Each}
 use Rattle.sdb_growlock.specs.Words.{IsOf}
@@ -78,11 +78,13 @@ returns-clause-gives g c =
     let inv = c.loop-lock.invariant in
     let a = inv.all in
     let none = c.in_default.ensures.cases.0 in
-    let eight : length c.loop-lock.values.items ≡ 8 = omega (arith, a, none) in
+    let locks = c.loop-lock.locks.ok.0 in
+    let values = c.loop-lock.values.ok.0 in
+    let eight : length c.loop-lock.values.items ≡ 8 = omega (arith, a, none, locks) in
     let back : 7 - (7 - i) ≡ i = omega (arith, lt) in
-    let at : length c.loop-lock.values.items - 1 - i ≡ 7 - i = omega (arith, eight) in
+    let at : vec_len c.loop-lock.values - 1 - i ≡ 7 - i = omega (arith, eight, values) in
     let value : slice_index_or c.reverse.new.self.items i y ≡ slice_index_or c.loop-lock.values.items (7 - i) y =
-    c.reverse.ensures.by_index i y (omega (arith, eight, lt)) ∙ ap (λ (j : ℕ). slice_index_or c.loop-lock.values.items j y) at in
+    c.reverse.ensures.by_index i y (omega (arith, eight, values, lt)) ∙ ap (λ (j : ℕ). slice_index_or c.loop-lock.values.items j y) at in
     subst (λ (v : g.row.T.Denot). Gives r.extends r.same r.blank (slice_index_or c.args.columns.items i x).items v) (sym value)
     (subst (λ (j : ℕ). Gives r.extends r.same r.blank (slice_index_or c.args.columns.items j x).items (slice_index_or c.loop-lock.values.items (7 - i) y)) back
     (inv.gives (7 - i) x y (omega (arith, eight))))
