@@ -38,7 +38,7 @@ use Rattle.sdb_desk.specs.contracts.document.Document.TheInside as document
 use Rattle.sdb_desk.specs.contracts.topic.Topic as Topic
 use Rattle.sdb_desk.specs.contracts.topic.Topic.TheInside as topic
 use Rattle.sdb_desk.specs.contracts.shard.Shard as Shard
-use Rattle.sdb_backend.specs.contracts.backend.Backend as Backend
+use Rattle.sdb_backend.specs.contracts.held.Held as Held
 
 pub Json-send : IsSend (Json.the_field).row
 Json-send =
@@ -160,11 +160,5 @@ Topic-send = view_send _ _ _ _ _ topic-send
 pub Shard-send : IsSend Shard.the_row
 Shard-send = search (sendable, crosses, maps.crosses, Topic-send) depth 20
 
-module _ (R : RattleType) where
-  pub Backend-send : IsSend R → IsSend (Backend.the_row R)
-  Backend-send s = declared_send (Backend.the_type R)
-      (search (sendable, crosses) depth 20, (as_row_send (row_field R) s, (search (sendable, crosses, Shard-send) depth 20, tt)))
-
-  pub Backend-sync : IsSync R → IsSync (Backend.the_row R)
-  Backend-sync y = declared_sync (Backend.the_type R)
-      (search (sendable, crosses) depth 20, (as_row_sync (row_field R) y, (search (sendable, crosses, Shard-send) depth 20, tt)))
+pub Held-send : IsSend Held.the_row
+Held-send = declared_send Held.the_type (Shard-send, tt)

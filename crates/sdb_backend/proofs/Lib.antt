@@ -1,4 +1,8 @@
-pub mod Searches
 pub mod Crossing
+pub mod Ended
 pub mod Gathering
+pub mod Growth
 pub mod Handing
+pub mod Searches
+pub mod Seen
+pub mod Steps

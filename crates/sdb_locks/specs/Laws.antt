@@ -39,3 +39,6 @@ module _ {T : Type 0} where
 
   pub first_have_seen : (f : FirstSeats T) (i : ℕ) → i < 8 → (x : T) × FirstHaveSeen f i x
   first_have_seen f i lt = saw_some f.seats.items i f.eight lt
+
+  pub first_have_seen_once : (f : FirstSeats T) (i : ℕ) (x y : T) → FirstHaveSeen f i x → FirstHaveSeen f i y → x ≡ y
+  first_have_seen_once f i x y h k = saw_once f.seats.items i x y f.eight h k

@@ -189,3 +189,12 @@ impl<T> Seats<T> {
         self.number
     }
 }
+
+impl<T> FirstSeats<T> {
+    /// The number that the next caller is given.
+    pub fn next(&self) -> u64
+        ensures { result ≡ next self.now }
+    {
+        self.next
+    }
+}
