@@ -140,7 +140,7 @@ pub Document-send : IsSend Document.the_row
 Document-send = view_send _ _ _ _ _ document-send
 
 queue-send : IsSend queue.the_row
-queue-send = declared_send queue.the_type (search sendable, (search sendable, (search (sendable, crosses, rings.Cells-send, rings.Deed-send, frees, Entry-send) depth 30, tt)))
+queue-send = declared_send queue.the_type (search sendable, (search sendable, (search sendable, (search (sendable, crosses, rings.Cells-send, rings.Deed-send, frees, Entry-send) depth 30, tt))))
 
 pub Queue-send : IsSend Queue.the_row
 Queue-send = view_send _ _ _ _ _ queue-send

@@ -65,13 +65,13 @@ length_seats (p ∷ ps) = let h = length_seats ps in omega (arith, h)
 
 -- ---- the value of each shard
 
-abbrev Extends_of : Held → Held → Type 0
+abbrev pub Extends_of : Held → Held → Type 0
 Extends_of new old = Extends (machine_of new.shard) (machine_of old.shard)
 
-abbrev Same_of : ℕ → Held → Held → Type 0
+abbrev pub Same_of : ℕ → Held → Held → Type 0
 Same_of n a b = own n (machine_of a.shard) ≡ own n (machine_of b.shard)
 
-abbrev Blank_of : ℕ → Held → Type 0
+abbrev pub Blank_of : ℕ → Held → Type 0
 Blank_of n a = own n (machine_of a.shard) ≡ nothing
 
 -- what stands at a place
@@ -93,7 +93,7 @@ kept_by i v [] h = tt
 kept_by i v (p ∷ ps) h = (h.0, kept_by i v ps h.1)
 
 -- at each place, of each pass
-abbrev KeepsOf : List Held → Pass → Type 0
+abbrev pub KeepsOf : List Held → Pass → Type 0
 KeepsOf shards p = (i : ℕ) (v x : Held) → slice_get shards i ≡ Some v → HasSeenOf p i x → Extends_of v x × Same_of (number_of p) x v
 
 each_of : (shards : List Held) (ps : List Pass) → ((i : ℕ) (v : Held) → slice_get shards i ≡ Some v → Each (λ p. (x : Held) → HasSeenOf p i x → Extends_of v x × Same_of (number_of p) x v) ps)
@@ -127,3 +127,10 @@ nothing_else h l ps shards host all closed n i v is none =
     let lt = at.0 in
     let e = closed.0 in
     subst (Blank_of n) at.1 (under (nat_lt n (next_of h)) h l ps n i (slice_index_or shards i v) refl (omega (arith, lt, e)) host all (closed.1 i v (omega (arith, lt, e))) none)
+
+pub all_permuted : (next : ℕ) (ps qs : List Pass) → IsPermutation ps qs → AreAll next ps → AreAll next qs
+all_permuted next ps qs p all k some lt = Contains-permutation (map number_of ps) (map number_of qs) k (IsPermutation-map number_of ps qs p) (all k some lt)
+
+pub none_permuted : (n : ℕ) (ps qs : List Pass) → IsPermutation ps qs → (Contains (map number_of ps) n → ⊥) → Contains (map number_of qs) n → ⊥
+none_permuted n ps qs p none c =
+    none (Contains-permutation (map number_of qs) (map number_of ps) n (IsPermutation-map number_of qs ps (IsPermutation-sym ps qs p)) c)

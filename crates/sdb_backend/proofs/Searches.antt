@@ -35,26 +35,26 @@ item [] i lt = absurd (omega (arith, lt))
 item (x ∷ xs) i lt = x
 
 module _ {A : Type 0} (f : A → ℕ) (x : ℕ) (ps : List A) where
-  at_map : {P : ℕ → Type 0} (i e : ℕ) (d : A) → i < length ps → P (f (slice_index_or ps i d)) → P (slice_index_or (map f ps) i e)
-  at_map {P} i e d lt h = subst P (sym (get_or-map f ps i d e lt)) h
+  at_map : (P : ℕ → Type 0) (i e : ℕ) (d : A) → i < length ps → P (f (slice_index_or ps i d)) → P (slice_index_or (map f ps) i e)
+  at_map P i e d lt h = subst P (sym (get_or-map f ps i d e lt)) h
 
   pub mapped : (r : Result ℕ ℕ) → IsSearchInRange r (length ps) → IsBinarySearchResult (λ p. nat_cmp (f p) x) ps r → IsBinarySearchResult (λ n. nat_cmp n x) (map f ps) r
-  mapped (Ok i) b h = λ e. let d = item ps i b in at_map {P = λ n. nat_cmp n x ≡ Equal} i e d b (h d)
+  mapped (Ok i) b h = λ e. let d = item ps i b in at_map (λ n. nat_cmp n x ≡ Equal) i e d b (h d)
   mapped (Err i) b h =
       λ rise.
-      let long = length-map f ps in
+      let long = length-map ps f in
       let p = h (λ k j d le lt.
       let low = get_or-map f ps k d (f d) (omega (arith, le, lt)) in
       let high = get_or-map f ps j d (f d) lt in
       let R : ℕ → ℕ → Type 0 = λ m n. ordering_index (nat_cmp m x) ≤ ordering_index (nat_cmp n x) in
       subst (λ (n : ℕ). R (f (slice_index_or ps k d)) n) high (subst (λ (n : ℕ). R n (slice_index_or (map f ps) j (f d))) low (rise k j (f d) le (omega (arith, lt, long))))) in
-      ((λ k e from lt. let below : k < length ps = omega (arith, lt, b) in let d = item ps k below in at_map {P = λ n. nat_cmp n x ≡ Less} k e d below (p.0 k d from lt)),
-      (λ k e from lt. let below : k < length ps = omega (arith, lt, long) in let d = item ps k below in at_map {P = λ n. nat_cmp n x ≡ Greater} k e d below (p.1 k d from below)))
+      ((λ k e from lt. let below : k < length ps = omega (arith, lt, b) in let d = item ps k below in at_map (λ n. nat_cmp n x ≡ Less) k e d below (p.0 k d from lt)),
+      (λ k e from lt. let below : k < length ps = omega (arith, lt, long) in let d = item ps k below in at_map (λ n. nat_cmp n x ≡ Greater) k e d below (p.1 k d from below)))
 
   -- numbers that don't fall along the items
   pub rising : IsNonDecreasingBy f ps → IsNonDecreasing (map f ps)
   rising h i j e le lt =
-      let long = length-map f ps in
+      let long = length-map ps f in
       let below : j < length ps = omega (arith, lt, long) in
       let d = item ps j below in
       let low = get_or-map f ps i d e (omega (arith, le, below)) in

@@ -4,7 +4,8 @@ use Rattle.std.specs.Global.{Global}
 use Rattle.std.specs.declared.alloc.AllocError.{AllocError}
 use Rattle.sdb_oplog.specs.Plain.{PlainEntry, PlainSubmission}
 use Rattle.sdb_oplog.specs.Keys.{PlainKey, shard_of}
-use Rattle.sdb_oplog.specs.Decide.{PlainReply}
+use Rattle.sdb_oplog.specs.Decide.{PlainReply, refused}
+use Rattle.sdb_oplog.specs.declared.codes.Code.TheVariants.{E10}
 use Rattle.sdb_subscribe.specs.Queue.{PlainQueue, queue_at, waiting, taken_by, is_mine}
 use Rattle.sdb_desk.specs.ShardView.{machine_of}
 use Rattle.sdb_desk.specs.View.{told_taken}
@@ -66,7 +67,7 @@ module _ (k : PlainKey) (s : PlainSubmission) where
     seen = λ p o q l r h d. after (look s) (Some l) p o q r h h.6.1 d;
     moves = λ p o q l m r h d. after (commit (looked_at l)) (moved m) p o q r h (h.6.0.2, h.6.1) d;
     wanting = λ p o q l r h d.
-        after (commit (looked_at l)) _ p o q r h
+        after (commit (looked_at l)) (decided (refused E10)) p o q r h
         (wanting_unchanged (machine_of h.1.shard).logs (machine_of h.2.shard).logs k (looked_at l) h.6.0, h.6.1) d;
     at_once = λ p q l r h isnt.
         (h.0, h.1, h.2, h.3, h.4, h.5, (decided_at_commit (machine_of h.1.shard).logs (machine_of h.2.shard).logs k (looked_at l) r isnt h.6.0, h.6.1), h.7, h.8, h.9);
