@@ -12,8 +12,8 @@ returns-then-is_wanting-clause-tries c =
     let k = plain_key c.args.key in
     let said = c.in-Decided.ensures in
     let wanting = c.if-is_wanting.ensures.wanting refl in
-    tries_wanting c.args.shard.now c.commit.new.self k c.args.work (plain_reply c.in-Decided.reply) c.args.tries c.args.is_worked _ c.requires wanting said.commits said.queues
-    (c.put_back-phase.ensures k c.args.tries ∙ ap (λ (w : PlainAttempt). attempt_of k w c.args.tries c.args.is_worked) (subst (λ r. Keeps (decided r) c.args.work c.commit.new.work) wanting said.keeps))
+    tries_wanting c.args.shard.now c.commit.new.self k c.args.work (plain_reply c.in-Decided.reply) c.args.tries c.args.is_worked _ c.requires.few wanting said.commits said.queues
+    (c.put_back-phase.ensures.plain k c.args.tries ∙ ap (λ (w : PlainAttempt). attempt_of k w c.args.tries c.args.is_worked) (subst (λ r. Keeps (decided r) c.args.work c.commit.new.work) wanting said.keeps))
 
 pub returns-else-is_wanting-clause-tries : goal.returns-else-is_wanting-clause-tries
 returns-else-is_wanting-clause-tries c =
@@ -28,4 +28,4 @@ returns-in-Moved-clause-tries c =
     let n = c.args.tries + 1 in
     let v = c.in-Moved.look.version in
     let again : PlainAttempt → plain.Attempt = λ w. record { key = k; submission = w.submission; looked = v; tries = n; worked = false } in
-    tries_moved c.args.shard.now c.commit.new.self k c.args.work (plain_look c.in-Moved.look) c.args.tries c.args.is_worked _ c.requires said.commits said.queues (c.looked_again-phase.ensures k n ∙ ap again said.keeps)
+    tries_moved c.args.shard.now c.commit.new.self k c.args.work (plain_look c.in-Moved.look) c.args.tries c.args.is_worked _ c.requires.few said.commits said.queues (c.looked_again-phase.ensures.plain k n ∙ ap again said.keeps)

@@ -19,4 +19,4 @@ returns-clause-tries c =
     let t = plain_attempt c.args.self in
     let decided : (s : PlainSubmission) → s ≡ t.submission → Decides (logs_of c.args.shard.now) t.key s (plain_reply c.commit_now-reply.result) (logs_of c.commit_now-reply.new.self) → Decides (logs_of c.args.shard.now) t.key t.submission (plain_reply c.commit_now-reply.result) (logs_of c.commit_now-reply.new.self) =
     λ s e h. subst (λ x. Decides (logs_of c.args.shard.now) t.key x (plain_reply c.commit_now-reply.result) (logs_of c.commit_now-reply.new.self)) e h in
-    now_decided c.args.shard.now c.commit_now-reply.new.self t (plain_reply c.commit_now-reply.result) c.requires (c.if-is_wanting.ensures.enough refl) (decided c.submission_of.result.now c.submission_of.ensures c.commit_now-reply.ensures.decides) c.commit_now-reply.ensures.queues
+    now_decided c.args.shard.now c.commit_now-reply.new.self t (plain_reply c.commit_now-reply.result) c.requires.due (c.if-is_wanting.ensures.enough refl) (decided c.submission_of.result.now c.submission_of.ensures c.commit_now-reply.ensures.decides) c.commit_now-reply.ensures.queues
