@@ -1,4 +1,4 @@
--- The documents, and what holds them behind a lock, may go to another thread.
+-- The documents, what holds them behind locks, and a pass may go to another thread.
 use denote.RattleType.{RattleType}
 use denote.Param.Send.{IsSend, IsSync, sendable, view_send, view_sync}
 use denote.Struct.Field.{row_field}
@@ -38,7 +38,11 @@ use Rattle.sdb_desk.specs.contracts.document.Document.TheInside as document
 use Rattle.sdb_desk.specs.contracts.topic.Topic as Topic
 use Rattle.sdb_desk.specs.contracts.topic.Topic.TheInside as topic
 use Rattle.sdb_desk.specs.contracts.shard.Shard as Shard
+use Rattle.sdb_locks.specs.contracts.seats.Locks as Locks
+use Rattle.sdb_backend.specs.contracts.backend.Backend as Backend
 use Rattle.sdb_backend.specs.contracts.held.Held as Held
+use Rattle.sdb_backend.specs.contracts.held.HeldGrows.TheImpl as grows
+use Rattle.sdb_backend.specs.contracts.seats.Pass as Pass
 
 pub Json-send : IsSend (Json.the_field).row
 Json-send =
@@ -162,3 +166,19 @@ Shard-send = search (sendable, crosses, maps.crosses, Topic-send) depth 20
 
 pub Held-send : IsSend Held.the_row
 Held-send = declared_send Held.the_type (Shard-send, tt)
+
+Locks-send : IsSend (Locks.the_row Held.the_row grows.ghosts)
+Locks-send = search (sendable, crosses, Held-send) depth 40
+
+Locks-sync : IsSync (Locks.the_row Held.the_row grows.ghosts)
+Locks-sync = search (sendable, crosses, Held-send) depth 40
+
+pub Pass-send : IsSend Pass.the_row
+Pass-send = search (sendable, crosses, Held-send) depth 40
+
+module _ (R : RattleType) where
+  pub Backend-send : IsSend R → IsSend (Backend.the_row R)
+  Backend-send s = declared_send (Backend.the_type R) (search (sendable, crosses) depth 20, (as_row_send (row_field R) s, (Locks-send, tt)))
+
+  pub Backend-sync : IsSync R → IsSync (Backend.the_row R)
+  Backend-sync y = declared_sync (Backend.the_type R) (search (sendable, crosses) depth 20, (as_row_sync (row_field R) y, (Locks-sync, tt)))

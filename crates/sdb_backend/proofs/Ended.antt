@@ -12,7 +12,7 @@ use Rattle.sdb_locks.specs.Words.{AreOf, HasNumber, FirstHaveSeen}
 use Rattle.sdb_locks.specs.declared.seats.Locks.{Locks}
 use Rattle.sdb_locks.specs.declared.seats.Seats.{Seats}
 use Rattle.sdb_backend.specs.History.{Extends, own, nothing}
-use Rattle.sdb_backend.specs.Passes.{number_of, next_of, IsPass, IsHost, HasSeenOf, AreAll}
+use Rattle.sdb_backend.specs.Passes.{number_of, next_of, IsSeated, IsFirstSeated, HasSeenOf, AreAll}
 use Rattle.sdb_backend.specs.declared.held.Held.{Held}
 use Rattle.sdb_backend.specs.declared.seats.Pass.{Pass}
 use Rattle.sdb_backend.specs.declared.seats.Host.{Host}
@@ -44,7 +44,7 @@ among_at k (suc j) (x ∷ xs) lt e = inr (among_at k j xs (omega (arith, lt)) e)
 abbrev pub seats_of : List Pass → List (Seats Held)
 seats_of ps = map (λ p. p.seats) ps
 
-pub all_of : (l : Locks Held) (ps : List Pass) → Each (λ p. IsPass p l) ps → Each (λ c. AreOf c l) (seats_of ps)
+pub all_of : (l : Locks Held) (ps : List Pass) → Each (λ p. IsSeated p l) ps → Each (λ c. AreOf c l) (seats_of ps)
 all_of l [] h = tt
 all_of l (p ∷ ps) h = (h.0, all_of l ps h.1)
 
@@ -111,7 +111,7 @@ seen_by h ps shards closed =
     subst (λ (w : Held). Each (λ p. (x : Held) → HasSeenOf p i x → Extends_of w x × Same_of (number_of p) x w) ps) at.1
     (kept_by i (slice_index_or shards i v) ps (closed.1 i v (omega (arith, lt, e))).others))
 
-under : (b : Bool) (h : Host) (l : Locks Held) (ps : List Pass) (n i : ℕ) (v : Held) → nat_lt n (next_of h) ≡ b → i < 8 → IsHost h l
+under : (b : Bool) (h : Host) (l : Locks Held) (ps : List Pass) (n i : ℕ) (v : Held) → nat_lt n (next_of h) ≡ b → i < 8 → IsFirstSeated h l
     → ((k : ℕ) → 0 < k → k < next_of h → Contains (map number_of ps) k) → IsClosed Extends_of Same_of Blank_of h.seats (seats_of ps) i v
     → (Contains (map number_of ps) n → ⊥) → Blank_of n v
 under true h l ps zero i v is lt host all c none =
@@ -120,7 +120,7 @@ under true h l ps zero i v is lt host all c none =
 under true h l ps (suc n) i v is lt host all c none = absurd (none (all (suc n) (omega arith) (ltb-true (suc n) (next_of h) is)))
 under false h l ps n i v is lt host all c none = c.clear n (ltb-false n (next_of h) is)
 
-pub nothing_else : (h : Host) (l : Locks Held) (ps : List Pass) (shards : List Held) → IsHost h l → AreAll (next_of h) ps → AreClosed h ps shards
+pub nothing_else : (h : Host) (l : Locks Held) (ps : List Pass) (shards : List Held) → IsFirstSeated h l → AreAll (next_of h) ps → AreClosed h ps shards
     → (n i : ℕ) (v : Held) → slice_get shards i ≡ Some v → (Contains (map number_of ps) n → ⊥) → Blank_of n v
 nothing_else h l ps shards host all closed n i v is none =
     let at = there shards i v is in

@@ -6,6 +6,7 @@ use Rattle.sdb_locks.specs.Words.{AreOf, AreFirst, HaveSeen, FirstHaveSeen}
 use Rattle.sdb_locks.specs.Words as locks
 use Rattle.sdb_locks.specs.declared.seats.Locks.{Locks}
 use Rattle.sdb_backend.specs.History.{own, nothing}
+use Rattle.sdb_backend.specs.declared.backend.Backend.{Backend}
 use Rattle.sdb_backend.specs.declared.held.Held.{Held}
 use Rattle.sdb_backend.specs.declared.seats.Pass.{Pass}
 use Rattle.sdb_backend.specs.declared.seats.Host.{Host}
@@ -18,14 +19,22 @@ abbrev pub next_of : Host → ℕ
 next_of h = locks.next h.seats
 
 -- the pass has its seats at these locks
-abbrev pub IsPass : Pass → Locks Held → Type 0
-IsPass p l = AreOf p.seats l
+abbrev pub IsSeated : Pass → Locks Held → Type 0
+IsSeated p l = AreOf p.seats l
 
 -- so has the host, and nothing was ever stored under its own number
-abbrev pub IsHost : Host → Locks Held → Type 0
-IsHost h l =
+abbrev pub IsFirstSeated : Host → Locks Held → Type 0
+IsFirstSeated h l =
     AreFirst h.seats l
     × ((i : ℕ) → i < 8 → (x : Held) × FirstHaveSeen h.seats i x × (own 0 (machine_of x.shard) ≡ nothing))
+
+-- the pass, or the host, is of this backend
+module _ {R : Type 0} where
+  abbrev pub IsPass : Pass → Backend R → Type 0
+  IsPass p b = IsSeated p b.locks
+
+  abbrev pub IsHost : Host → Backend R → Type 0
+  IsHost h b = IsFirstSeated h b.locks
 
 -- what the pass has seen of the shard of this number, and of that of a key
 abbrev pub HasSeenOf : Pass → ℕ → Held → Type 0

@@ -55,7 +55,7 @@ impl<R: Wait + Drop> Backend<R> {
     /// A backend in which nothing is stored, and its host, who has let nobody in. It keeps the allocator;
     /// the handle is what waits for a lock.
     pub fn new(alloc: Global, rt: R) -> Result<(Backend<R>, Host), AllocError>
-        ensures host { IfOk result (λ made. IsHost made.1 made.0.locks) }
+        ensures host { IfOk result (λ made. IsHost made.1 made.0) }
         ensures next { IfOk result (λ made. next_of made.1 ≡ 1) }
     {
         let (locks, seats) = Locks::new(alloc)?;
@@ -66,9 +66,9 @@ impl<R: Wait + Drop> Backend<R> {
     /// has, and nothing is stored under its number. E11 comes where 2^64 - 2 of them were given, E10 for
     /// want of memory; nothing has changed then.
     pub fn enter(&self, host: &mut Host) -> Result<Pass, Code>
-        requires { IsHost host.old self.now.locks }
-        ensures host { IsHost host.new self.now.locks }
-        ensures pass { IfOk result (λ p. IsPass p self.now.locks × (number_of p ≡ next_of host.old)) }
+        requires { IsHost host.old self.now }
+        ensures host { IsHost host.new self.now }
+        ensures pass { IfOk result (λ p. IsPass p self.now × (number_of p ≡ next_of host.old)) }
         ensures new { IfOk result (λ p. IsNew p) }
         ensures next { OnOk result (next_of host.new ≡ next_of host.old + 1) }
         ensures full { IfErr result (λ code. code ≡ E11 → next_of host.old ≡ u64.MAX) }
@@ -86,8 +86,8 @@ impl<R: Wait + Drop> Backend<R> {
     /// be read then, and nothing be stored. It extends what each pass has seen, and its entries are those
     /// of the passes and no others. Where it is refused, all is handed back as it was.
     pub fn close(self, host: Host, mut passes: Vec<Pass>) -> Result<Audit, Refused<R>>
-        requires host { IsHost host self.locks }
-        requires passes { Each (λ p. IsPass p self.locks) passes.items }
+        requires host { IsHost host self }
+        requires passes { Each (λ p. IsPass p self) passes.items }
         ensures all { OnOk result (AreAll (next_of host) passes.items) }
         ensures ended { IfOk result (λ a. IsOfAll a passes.items) }
         ensures missing { IfErr result (λ r. r.why ≡ Missing → AreAll (next_of host) passes.items → ⊥) }
@@ -121,12 +121,12 @@ impl<R: Wait + Drop> Backend<R> {
 
     // Runs the job on the documents of the key's shard.
     pub(crate) fn run<J: Job<Held>>(&self, pass: &mut Pass, key: &Key, job: J) -> J::Answer
-        requires pass { IsPass pass.old self.now.locks }
+        requires pass { IsPass pass.old self.now }
         requires ready { (x v : Documents) → HasSeen pass.old (plain_key key.now) x
             → Extends (machine_of v.shard) (machine_of x.shard)
             → own (number_of pass.old) (machine_of x.shard) ≡ own (number_of pass.old) (machine_of v.shard)
             → J.ready job (number_of pass.old) v }
-        ensures pass { IsPass pass.new self.now.locks }
+        ensures pass { IsPass pass.new self.now }
         ensures number { number_of pass.new ≡ number_of pass.old }
         ensures others { OnlyAt (shard_of (plain_key key.now)) pass.old.seats pass.new.seats }
         ensures done { (x v w : Documents) × HasSeen pass.old (plain_key key.now) x

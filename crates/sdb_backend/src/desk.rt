@@ -24,7 +24,7 @@ use std::sync::Wait;
 impl<R: Wait + Drop> Desk for Backend<R> {
     type Pass = Pass;
 
-    ghost takes = { λ b p. IsPass p b.locks };
+    ghost takes = { λ b p. IsPass p b };
 
     ghost number = { λ b p. number_of p };
 
@@ -114,9 +114,9 @@ pub fn submit_shared<R: Wait + Drop, G: Gate>(
     submission: &Submission,
     gate: &G,
 ) -> Reply
-    requires pass { IsPass pass.old backend.now.locks }
+    requires pass { IsPass pass.old backend.now }
     requires by { submission.now.by ≡ number_of pass.old }
-    ensures pass { IsPass pass.new backend.now.locks }
+    ensures pass { IsPass pass.new backend.now }
     ensures decides { Answered (plain_key key.now) (commit_now submission.now) pass.old
         (plain_reply result) pass.new }
     ensures adds { Adds (plain_key key.now) submission.now pass.old (plain_reply result) pass.new }
@@ -133,8 +133,8 @@ pub fn take_shared<R: Wait + Drop>(
     id: SubId,
     max: u64,
 ) -> Result<Option<Vec<Entry>>, AllocError>
-    requires { IsPass pass.old backend.now.locks }
-    ensures pass { IsPass pass.new backend.now.locks }
+    requires { IsPass pass.old backend.now }
+    ensures pass { IsPass pass.new backend.now }
     ensures entries { IfOk result
         (λ v. TakesOn (plain_key key.now) id max pass.old (option_map (λ es. es.items) v) pass.new) }
 {

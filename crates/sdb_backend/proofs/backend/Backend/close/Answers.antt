@@ -5,7 +5,7 @@ use Rattle.sdb_locks.specs.Rooms.{HasRoom}
 use Rattle.sdb_locks.specs.Words.{AreOf, AreFirst, HasNumber}
 use Rattle.sdb_locks.specs.declared.seats.Seats.{Seats}
 use Rattle.sdb_locks.specs.declared.seats.FirstSeats.{FirstSeats}
-use Rattle.sdb_backend.specs.Passes.{next_of, IsPass}
+use Rattle.sdb_backend.specs.Passes.{next_of, IsSeated}
 use Rattle.sdb_backend.specs.declared.held.Held.{Held}
 use Rattle.sdb_backend.proofs.Ended.{AreClosed, KeepsOf, Extends_of, Same_of, Blank_of, each_permuted, each_back, all_of, numbers_there, length_seats, seen_by, nothing_else, seats_of, all_permuted, none_permuted}
 use Rattle.sdb_backend.proofs.backend.Backend.close.Goals as goal
@@ -19,7 +19,7 @@ close-shards-requires-clause-callers g c =
     let ps = c.args.passes.items in
     let qs = c.has_all.new.passes.items in
     subst (λ (cs : List (Seats Held)). Each (λ s. AreOf s l) cs) (sym c.seats_of.ensures)
-    (all_of l qs (each_permuted (λ p. IsPass p l) ps qs c.has_all.ensures.same c.requires.passes))
+    (all_of l qs (each_permuted (λ p. IsSeated p l) ps qs c.has_all.ensures.same c.requires.passes))
 
 pub close-shards-requires-clause-all : goal.close-shards-requires-clause-all
 close-shards-requires-clause-all g c =

@@ -3,7 +3,7 @@ use Rattle.sdb_desk.specs.ShardView.{machine_of}
 use Rattle.sdb_locks.specs.Laws.{first_have_seen_once}
 use Rattle.sdb_locks.specs.declared.seats.FirstSeats.{FirstSeats}
 use Rattle.sdb_backend.specs.History.{own, nothing}
-use Rattle.sdb_backend.specs.Passes.{IsHost}
+use Rattle.sdb_backend.specs.Passes.{IsFirstSeated}
 use Rattle.sdb_backend.specs.declared.held.Held.{Held}
 use Rattle.sdb_backend.proofs.backend.Backend.enter.Goals as goal
 
@@ -20,7 +20,7 @@ pub returns-in-Ok-clause-new : goal.returns-in-Ok-clause-new
 returns-in-Ok-clause-new g c = λ i lt. let s = c.in-Ok.ensures.seen i lt in (s.0, s.3, s.4)
 
 pub returns-in-Err-Last-clause-host : goal.returns-in-Err-Last-clause-host
-returns-in-Err-Last-clause-host g c = subst (λ (f : FirstSeats Held). IsHost (record { seats = f }) c.args.self.now.locks) (sym c.in-Err-Last.ensures.same) c.requires
+returns-in-Err-Last-clause-host g c = subst (λ (f : FirstSeats Held). IsFirstSeated (record { seats = f }) c.args.self.now.locks) (sym c.in-Err-Last.ensures.same) c.requires
 
 pub returns-in-Err-Memory-clause-host : goal.returns-in-Err-Memory-clause-host
-returns-in-Err-Memory-clause-host g c = subst (λ (f : FirstSeats Held). IsHost (record { seats = f }) c.args.self.now.locks) (sym c.in-Err-Memory.ensures.same) c.requires
+returns-in-Err-Memory-clause-host g c = subst (λ (f : FirstSeats Held). IsFirstSeated (record { seats = f }) c.args.self.now.locks) (sym c.in-Err-Memory.ensures.same) c.requires
