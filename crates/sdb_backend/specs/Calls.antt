@@ -15,8 +15,8 @@ use Rattle.sdb_backend.specs.declared.held.Held.{Held}
 use Rattle.sdb_backend.specs.declared.seats.Pass.{Pass}
 
 -- what the pass had seen of the key's shard was x; the call is answered as the machine answers it at h, a history that
--- extends x and holds under the number of the pass just what x holds there. The pass has then seen what the call made of
--- h. Of the other shards it has seen what it had
+-- extends x and holds under the number of the pass just what x holds there. The pass has then seen what the call made
+-- of h. Of the other shards it has seen what it had
 abbrev pub Answered : PlainKey → (c : PlainCall) → Pass → AnswerTo c → Pass → Type 0
 Answered k c p a q =
     (x h new : Held) × HasSeen p k x × Extends (machine_of h.shard) (machine_of x.shard)
@@ -34,8 +34,8 @@ Adds k s p r q =
     (x new : Held) × HasSeen p k x × HasSeen q k new
     × AddsTo k s r (own (number_of p) (machine_of x.shard)) (own (number_of p) (machine_of new.shard))
 
--- a take gives what comes next of the queue, from where it stood in what the pass had seen, at a history that extends it;
--- none where the pass opened no queue of this number
+-- a take gives what comes next of the queue, from where it stood in what the pass had seen, at a history that extends
+-- it; none where the pass opened no queue of this number
 abbrev pub TakesOn : PlainKey → ℕ → ℕ → Pass → Option (List PlainEntry) → Pass → Type 0
 TakesOn k id max p r q =
     (x h new : Held) × HasSeen p k x × HasSeen q k new × Extends (machine_of h.shard) (machine_of x.shard)

@@ -55,9 +55,9 @@ impl<T: Fresh + Drop> Locks<T> {
 }
 
 impl<T: Grows> Locks<T> {
-    /// Runs the job once, on the value of the lock at a place. That value extends what the seat of this lock has seen, and
-    /// holds under the number of the seats just what it has seen there. The seat has then seen what the job left, and the
-    /// other seats are as they were. Waits until no other caller has that value.
+    /// Runs the job once, on the value of the lock at a place. That value extends what the seat of this lock
+    /// has seen, and holds under the number of the seats just what it has seen there. The seat has then seen
+    /// what the job left, and the other seats are as they were. Waits until no other caller has that value.
     pub fn with<J: Job<T>, R: Wait>(
         &self,
         rt: &R,
@@ -79,8 +79,8 @@ impl<T: Grows> Locks<T> {
         self.locks[place].with(rt, &mut seats.seats[place], job)
     }
 
-    /// By the first seats: those of a new caller, with the next number. Each has seen what the first one has seen, which
-    /// holds nothing under the new number. Where there are none, nothing has changed.
+    /// By the first seats: those of a new caller, with the next number. Each has seen what the first one has
+    /// seen, which holds nothing under the new number. Where there are none, nothing has changed.
     pub fn split(&self, alloc: Global, first: &mut FirstSeats<T>) -> Result<Seats<T>, SplitFault>
         requires { AreFirst first.old self.now }
         ensures own { AreFirst first.new self.now }
@@ -130,9 +130,9 @@ impl<T: Grows> Locks<T> {
         seats
     }
 
-    /// Gives the values back, to whoever has all seats: of each lock, in order. Each extends what every caller has seen
-    /// there, holds under the number of each just what that one has seen, and nothing under a number of no caller. It takes
-    /// no memory: there is room already for what it gathers.
+    /// Gives the values back, to whoever has all seats: of each lock, in order. Each extends what every caller
+    /// has seen there, holds under the number of each just what that one has seen, and nothing under a number
+    /// of no caller. It takes no memory: there is room already for what it gathers.
     pub fn close(
         self,
         first: FirstSeats<T>,
