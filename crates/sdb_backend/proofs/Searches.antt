@@ -47,9 +47,10 @@ module _ {A : Type 0} (f : A → ℕ) (x : ℕ) (ps : List A) where
       let low = get_or-map f ps k d (f d) (omega (arith, le, lt)) in
       let high = get_or-map f ps j d (f d) lt in
       let R : ℕ → ℕ → Type 0 = λ m n. ordering_index (nat_cmp m x) ≤ ordering_index (nat_cmp n x) in
-      subst (λ (n : ℕ). R (f (slice_index_or ps k d)) n) high (subst (λ (n : ℕ). R n (slice_index_or (map f ps) j (f d))) low (rise k j (f d) le (omega (arith, lt, long))))) in
-      ((λ k e from lt. let below : k < length ps = omega (arith, lt, b) in let d = item ps k below in at_map (λ n. nat_cmp n x ≡ Less) k e d below (p.0 k d from lt)),
-      (λ k e from lt. let below : k < length ps = omega (arith, lt, long) in let d = item ps k below in at_map (λ n. nat_cmp n x ≡ Greater) k e d below (p.1 k d from below)))
+      subst (λ (n : ℕ). R (f (slice_index_or ps k d)) n) high (subst (λ (n : ℕ). R n (slice_index_or (map f ps) j (f d))) low (rise k j (f d) le (omega (arith, lt, long))))) in (
+        (λ k e from lt. let below : k < length ps = omega (arith, lt, b) in let d = item ps k below in at_map (λ n. nat_cmp n x ≡ Less) k e d below (p.0 k d from lt)),
+        (λ k e from lt. let below : k < length ps = omega (arith, lt, long) in let d = item ps k below in at_map (λ n. nat_cmp n x ≡ Greater) k e d below (p.1 k d from below)),
+      )
 
   -- numbers that don't fall along the items
   pub rising : IsNonDecreasingBy f ps → IsNonDecreasing (map f ps)

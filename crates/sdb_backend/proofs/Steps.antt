@@ -86,7 +86,7 @@ module _ (k : PlainKey) (s : PlainSubmission) where
         h.3,
         h.7,
         subst (λ (o : Part). AddsTo k s r o (own n (machine_of h.2.shard))) (sym h.5)
-        (decides_adds n (machine_of h.1.shard) (machine_of h.2.shard) k s r by h.6.1 h.6.0),
+            (decides_adds n (machine_of h.1.shard) (machine_of h.2.shard) k s r by h.6.1 h.6.0),
       )
 
 -- ---- a take

@@ -106,7 +106,11 @@ impl<R: Wait + Drop> Backend<R> {
         }
         match room_for(self.alloc, passes.len()) {
             Ok((places, seats)) => {
-                let Backend { alloc, rt: _, locks } = self;
+                let Backend {
+                    alloc,
+                    rt: _,
+                    locks,
+                } = self;
                 let shards = locks.close(host.into_seats(), seats_of(passes, seats), places);
                 Ok(Audit::new(alloc, shards))
             }
@@ -134,16 +138,12 @@ impl<R: Wait + Drop> Backend<R> {
             × (own (number_of pass.old) (machine_of x.shard) ≡ own (number_of pass.old) (machine_of v.shard))
             × J.does job (number_of pass.old) v w result × HasSeen pass.new (plain_key key.now) w }
     {
-        self.locks
-            .with(&self.rt, &mut pass.seats, key.shard(), job)
+        self.locks.with(&self.rt, &mut pass.seats, key.shard(), job)
     }
 }
 
 // Room for the seats of so many passes, in two ways: by pass, and by shard.
-fn room_for(
-    alloc: Global,
-    passes: usize,
-) -> Result<(Places<Held>, Vec<Seats<Held>>), AllocError>
+fn room_for(alloc: Global, passes: usize) -> Result<(Places<Held>, Vec<Seats<Held>>), AllocError>
     ensures places { IfOk result (λ r. HasRoom passes r.0) }
     ensures seats { IfOk result (λ r. (vec_len r.1 ≡ 0) × (passes ≤ vec_capacity r.1)) }
 {

@@ -9,8 +9,8 @@ ghost use Rattle.sdb_submit.specs.Calls.{Acts, told_look};
 ghost use Rattle.sdb_submit.specs.Calls as call;
 
 use crate::held::Held;
-use sdb_growlock::Job;
 use sdb_desk::{Decision, Fetched, Look as Shown, Reply, Subscribed, Work};
+use sdb_growlock::Job;
 use sdb_oplog::{Code, Entry, Key, Submission};
 use sdb_subscribe::SubId;
 use std::alloc::AllocError;

@@ -133,12 +133,7 @@ impl<T: Grows> Locks<T> {
     /// Gives the values back, to whoever has all seats: of each lock, in order. Each extends what every caller
     /// has seen there, holds under the number of each just what that one has seen, and nothing under a number
     /// of no caller. It takes no memory: there is room already for what it gathers.
-    pub fn close(
-        self,
-        first: FirstSeats<T>,
-        callers: Vec<Seats<T>>,
-        places: Places<T>,
-    ) -> Vec<T>
+    pub fn close(self, first: FirstSeats<T>, callers: Vec<Seats<T>>, places: Places<T>) -> Vec<T>
         requires first { AreFirst first self }
         requires callers { Each (λ c. AreOf c self) callers.items }
         requires all { (k : ℕ) → 0 < k → k < next first → HasNumber k callers.items }

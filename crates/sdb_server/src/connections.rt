@@ -264,7 +264,9 @@ impl ConnectionThreads {
         let Ok(theirs) = Arc::try_clone(state) else {
             return false;
         };
-        let run = move || requires { IfSome pass (λ p. IsPass p theirs.value.backend) } {
+        let run = move ||
+            requires { IfSome pass (λ p. IsPass p theirs.value.backend) }
+        {
             theirs.attend(&rt, alloc, stream, pass);
             theirs.slots.lock(&rt).give_back(slot);
         };

@@ -33,8 +33,8 @@ impl Model for Queue {
     ghost coded = { ringed_queue_code };
 
     ghost view = { λ q. record {
-        queue = record { start = q.start; taken = q.taken; by = q.by };
-        ring = q.ring.items;
+      queue = record { start = q.start; taken = q.taken; by = q.by };
+      ring = q.ring.items;
     } };
 
     // what is taken stood in a log, so the sum of both fits

@@ -24,6 +24,7 @@ const MANY: u64 = 100;
 
 // How many entries are taken at once there, at most, and how often.
 const AT_ONCE: u64 = 7;
+
 const TAKES: u64 = 29;
 
 fn key(alloc: Global, id: &str) -> Option<Key> {
@@ -558,12 +559,7 @@ fn take_some<R: Wait + Drop>(
 }
 
 // Whether the queue gives all versions in order.
-fn takes_all<R: Wait + Drop>(
-    backend: &Backend<R>,
-    pass: &mut Pass,
-    key: &Key,
-    id: SubId,
-) -> bool
+fn takes_all<R: Wait + Drop>(backend: &Backend<R>, pass: &mut Pass, key: &Key, id: SubId) -> bool
     requires { IsPass pass.old backend.now }
     ensures { IsPass pass.new backend.now }
 {
@@ -578,12 +574,7 @@ fn takes_all<R: Wait + Drop>(
 }
 
 // Whether the pass has no such queue.
-fn is_unknown<R: Wait + Drop>(
-    backend: &Backend<R>,
-    pass: &mut Pass,
-    key: &Key,
-    id: SubId,
-) -> bool
+fn is_unknown<R: Wait + Drop>(backend: &Backend<R>, pass: &mut Pass, key: &Key, id: SubId) -> bool
     requires { IsPass pass.old backend.now }
     ensures { IsPass pass.new backend.now }
 {

@@ -28,16 +28,16 @@ returns-else-is_some-clause-dispatches c =
     (subst (λ w. Dispatches b.number.number m x (plain.begin k (string_bytes b.src) b.seq b.version b.content) a m w) put (begin_turn b.number.number m x k (string_bytes b.src) b.seq b.version b.content a o none h))
 
 pub returns-else-is_some-clause-leaves : goal.returns-else-is_some-clause-leaves
-returns-else-is_some-clause-leaves c = let q = queues_of c.args.shard.now in leaves_all (plain_step c.args.step.now).session q q (slots_of c.args.session.now) _ c.requires.«open» refl c.begin.ensures.slots
+returns-else-is_some-clause-leaves c = let q = queues_of c.args.shard.now in leaves_all (plain_step c.args.step.now).session q q (slots_of c.args.session.now) _ c.requires.queues refl c.begin.ensures.slots
 
 pub returns-in-Work-clause-leaves : goal.returns-in-Work-clause-leaves
-returns-in-Work-clause-leaves c = let q = queues_of c.args.shard.now in leaves_all (plain_step c.args.step.now).session q q (slots_of c.args.session.now) _ c.requires.«open» refl c.work.ensures.slots
+returns-in-Work-clause-leaves c = let q = queues_of c.args.shard.now in leaves_all (plain_step c.args.step.now).session q q (slots_of c.args.session.now) _ c.requires.queues refl c.work.ensures.slots
 
 pub returns-in-Commit-clause-leaves : goal.returns-in-Commit-clause-leaves
-returns-in-Commit-clause-leaves c = leaves_all (plain_step c.args.step.now).session (queues_of c.args.shard.now) _ (slots_of c.args.session.now) _ c.requires.«open» c.commit.ensures.queues c.commit.ensures.slots
+returns-in-Commit-clause-leaves c = leaves_all (plain_step c.args.step.now).session (queues_of c.args.shard.now) _ (slots_of c.args.session.now) _ c.requires.queues c.commit.ensures.queues c.commit.ensures.slots
 
 pub returns-in-Snapshot-clause-leaves : goal.returns-in-Snapshot-clause-leaves
-returns-in-Snapshot-clause-leaves c = let s = slots_of c.args.session.now in leaves_all (plain_step c.args.step.now).session (queues_of c.args.shard.now) _ s s c.requires.«open» c.snapshot.ensures.queues refl
+returns-in-Snapshot-clause-leaves c = let s = slots_of c.args.session.now in leaves_all (plain_step c.args.step.now).session (queues_of c.args.shard.now) _ s s c.requires.queues c.snapshot.ensures.queues refl
 
 pub returns-in-Forget-clause-dispatches : goal.returns-in-Forget-clause-dispatches
 returns-in-Forget-clause-dispatches c =
@@ -52,4 +52,4 @@ returns-in-Forget-clause-dispatches c =
     (refl, same_core c.args.shard.now c.forget.new.self c.forget.ensures.logs c.forget.ensures.queues, session_kept (option_map plain_attempt c.args.session.now.attempt) q r s s c.forget.ensures.queues refl)
 
 pub returns-in-Forget-clause-leaves : goal.returns-in-Forget-clause-leaves
-returns-in-Forget-clause-leaves c = let s = slots_of c.args.session.now in leaves_all (plain_step c.args.step.now).session (queues_of c.args.shard.now) _ s s c.requires.«open» c.forget.ensures.queues refl
+returns-in-Forget-clause-leaves c = let s = slots_of c.args.session.now in leaves_all (plain_step c.args.step.now).session (queues_of c.args.shard.now) _ s s c.requires.queues c.forget.ensures.queues refl

@@ -43,12 +43,13 @@ returns-in-Ok-clause-ended g c =
     let all = c.if-not-has_all.ensures.all refl in
     let shards = c.close-shards.result.items in
     let there : c.new.result.shards.items ≡ shards = ap (λ v. v.items) c.new.ensures in
-    let closed : AreClosed host qs shards =
-    (c.close-shards.ensures.eight,
-    λ i d lt.
-    subst (λ (f : FirstSeats Held). IsClosed Extends_of Same_of Blank_of f (seats_of qs) i (slice_index_or shards i d)) c.into_seats.ensures
-    (subst (λ (cs : List (Seats Held)). IsClosed Extends_of Same_of Blank_of c.into_seats.result cs i (slice_index_or shards i d)) c.seats_of.ensures
-    (c.close-shards.ensures.closed i d lt))) in
+    let closed : AreClosed host qs shards = (
+      c.close-shards.ensures.eight,
+      λ i d lt.
+          subst (λ (f : FirstSeats Held). IsClosed Extends_of Same_of Blank_of f (seats_of qs) i (slice_index_or shards i d)) c.into_seats.ensures
+          (subst (λ (cs : List (Seats Held)). IsClosed Extends_of Same_of Blank_of c.into_seats.result cs i (slice_index_or shards i d)) c.seats_of.ensures
+          (c.close-shards.ensures.closed i d lt)),
+    ) in
     record {
       seen = subst (λ (vs : List Held). Each (KeepsOf vs) ps) (sym there) (each_back (KeepsOf shards) ps qs perm (seen_by host qs shards closed));
       others = λ n i v is none.

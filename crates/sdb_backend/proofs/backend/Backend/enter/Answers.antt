@@ -8,13 +8,14 @@ use Rattle.sdb_backend.specs.declared.held.Held.{Held}
 use Rattle.sdb_backend.proofs.backend.Backend.enter.Goals as goal
 
 pub returns-in-Ok-clause-host : goal.returns-in-Ok-clause-host
-returns-in-Ok-clause-host g c =
-    (c.in-Ok.ensures.own,
-    λ i lt.
-    let s = c.in-Ok.ensures.seen i lt in
-    let y = c.requires.1 i lt in
-    let e : s.0 ≡ y.0 = first_have_seen_once c.args.host.now.seats i s.0 y.0 s.1 y.1 in
-    (s.0, s.2, subst (λ (h : Held). own 0 (machine_of h.shard) ≡ nothing) (sym e) y.2))
+returns-in-Ok-clause-host g c = (
+  c.in-Ok.ensures.own,
+  λ i lt.
+      let s = c.in-Ok.ensures.seen i lt in
+      let y = c.requires.1 i lt in
+      let e : s.0 ≡ y.0 = first_have_seen_once c.args.host.now.seats i s.0 y.0 s.1 y.1 in
+      (s.0, s.2, subst (λ (h : Held). own 0 (machine_of h.shard) ≡ nothing) (sym e) y.2),
+)
 
 pub returns-in-Ok-clause-new : goal.returns-in-Ok-clause-new
 returns-in-Ok-clause-new g c = λ i lt. let s = c.in-Ok.ensures.seen i lt in (s.0, s.3, s.4)

@@ -1,4 +1,5 @@
 use Rattle.std.proofs.Common.{◌≡◌, ◌+◌, ◌∷◌, [], ◌++◌, List, length, length-append, arith, ap, sym, subst, ◌∙◌}
+use Rattle.sdb_desk.specs.ShardView.{logs_of}
 use Rattle.sdb_steps.specs.Looking.{AllLooked}
 use Rattle.sdb_steps.specs.StateView.{plain_sessions, slots_at}
 use Rattle.sdb_steps.specs.declared.session_state.Session.{Session}
@@ -11,7 +12,7 @@ invariant_of-result c = record {
   all = omega (arith, c.loop.invariant.count, c.loop-test.false, c.loop.auto.counter-end);
   «open» = λ i k n at. let e = c.loop.invariant.empty i k in cc;
   apart = λ i j k n at by. let e = c.loop.invariant.empty i k in cc;
-  looked = c.loop.invariant.looked _;
+  looked = c.loop.invariant.looked (logs_of c.new-2.result);
 }
 
 pub loop-preserved : goal.loop-preserved

@@ -10,8 +10,8 @@ use Rattle.sdb_steps.proofs.Lookings.{looked_read, looked_set, grows_dispatched}
 use Rattle.sdb_steps.proofs.Worlds.{turn_step, slots_read, session_read, sessions_set, open_set, apart_set}
 use Rattle.sdb_steps.proofs.world_parts.Parts.step.Goals as goal
 
-pub dispatch-requires-clause-«open» : goal.dispatch-requires-clause-«open»
-dispatch-requires-clause-«open» c =
+pub dispatch-requires-clause-queues : goal.dispatch-requires-clause-queues
+dispatch-requires-clause-queues c =
     let xs = c.args.self.now.sessions.items in
     let i = c.session-number.result.number in
     let q = queues_of c.args.self.now.shard in
