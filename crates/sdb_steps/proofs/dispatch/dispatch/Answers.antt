@@ -1,9 +1,10 @@
 use Rattle.std.proofs.Common.{◌≡◌, option_map, None, refl, sym, ap, subst, string_bytes}
 use Rattle.sdb_oplog.specs.Keys.{plain_key}
-use Rattle.sdb_desk.specs.ShardView.{queues_of}
+use Rattle.sdb_desk.specs.ShardView.{logs_of, queues_of}
 use Rattle.sdb_steps.specs.Picks as plain
 use Rattle.sdb_steps.specs.Dispatch.{Dispatches, Follows}
 use Rattle.sdb_steps.specs.StateView.{core_of, plain_session, plain_attempt, slots_of}
+use Rattle.sdb_steps.specs.Slots.{AreOpen}
 use Rattle.sdb_steps.specs.View.{plain_step, plain_answer}
 use Rattle.sdb_steps.specs.declared.step.Step.{Step}
 use Rattle.sdb_steps.proofs.Commits.{same_core, none_of}
@@ -53,3 +54,15 @@ returns-in-Forget-clause-dispatches c =
 
 pub returns-in-Forget-clause-leaves : goal.returns-in-Forget-clause-leaves
 returns-in-Forget-clause-leaves c = let s = slots_of c.args.session.now in leaves_all (plain_step c.args.step.now).session (queues_of c.args.shard.now) _ s s c.requires.queues c.forget.ensures.queues refl
+
+pub subscribe-requires : goal.subscribe-requires
+subscribe-requires c = subst (λ (z : Step). AreOpen (plain_step z).session (queues_of c.args.shard.now) (slots_of c.args.session.now)) c.in-Subscribe.is c.requires.queues
+
+pub take-requires : goal.take-requires
+take-requires c = subst (λ (z : Step). AreOpen (plain_step z).session (queues_of c.args.shard.now) (slots_of c.args.session.now)) c.in-Take.is c.requires.queues
+
+pub unsubscribe-requires : goal.unsubscribe-requires
+unsubscribe-requires c = subst (λ (z : Step). AreOpen (plain_step z).session (queues_of c.args.shard.now) (slots_of c.args.session.now)) c.in-Unsubscribe.is c.requires.queues
+
+pub returns-in-Work-clause-looked : goal.returns-in-Work-clause-looked
+returns-in-Work-clause-looked c = c.work.ensures.looked (logs_of c.args.shard.now) c.requires.looked

@@ -33,6 +33,7 @@ invariant_of-self c =
     let r = queues_of c.dispatch.new.shard in
     let i = c.session-number.result.number in
     let y = c.dispatch.new.session in
+    let s = plain_step c.args.step.now in
     let within : i < length xs = omega (arith, c.session-number.result.small, c.args.self.now.all) in
     let leaves =
     subst (λ (s : Slots). Leaves i q s r (slots_of y)) (slots_read xs i _ within c.index_mut.ensures.value)
@@ -41,7 +42,7 @@ invariant_of-self c =
       all = length-set xs i y ∙ c.args.self.now.all;
       «open» = open_set q r xs i y within c.args.self.now.«open» c.args.self.now.apart leaves;
       apart = apart_set q r xs i y within c.args.self.now.«open» c.args.self.now.apart leaves;
-      looked = looked_set (logs_of c.args.self.now.shard) (logs_of c.dispatch.new.shard) xs i y (grows_dispatched _ _ _ _ _ _ _ c.dispatch.ensures.dispatches) c.args.self.now.looked c.dispatch.ensures.looked;
+      looked = looked_set (logs_of c.args.self.now.shard) (logs_of c.dispatch.new.shard) xs i y (grows_dispatched s.session (core_of c.args.self.now.shard) (core_of c.dispatch.new.shard) (plain_session q c.index_mut.result.now) (plain_session r y) s.act (plain_answer c.dispatch.result) c.dispatch.ensures.dispatches) c.args.self.now.looked c.dispatch.ensures.looked;
     }
 
 pub returns : goal.returns
