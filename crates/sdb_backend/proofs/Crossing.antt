@@ -39,6 +39,8 @@ use Rattle.sdb_desk.specs.contracts.topic.Topic as Topic
 use Rattle.sdb_desk.specs.contracts.topic.Topic.TheInside as topic
 use Rattle.sdb_desk.specs.contracts.shard.Shard as Shard
 use Rattle.sdb_locks.specs.contracts.seats.Locks as Locks
+use Rattle.sdb_locks.proofs.seats.Locks.TheSendSync as locks
+use Rattle.sdb_locks.proofs.seats.Seats.TheSendSync as seats
 use Rattle.sdb_backend.specs.contracts.backend.Backend as Backend
 use Rattle.sdb_backend.specs.contracts.held.Held as Held
 use Rattle.sdb_backend.specs.contracts.held.HeldGrows.TheImpl as grows
@@ -168,13 +170,13 @@ pub Held-send : IsSend Held.the_row
 Held-send = declared_send Held.the_type (Shard-send, tt)
 
 Locks-send : IsSend (Locks.the_row Held.the_row grows.ghosts)
-Locks-send = search (sendable, crosses, Held-send) depth 40
+Locks-send = search (locks.the_send, Held-send) depth 20
 
 Locks-sync : IsSync (Locks.the_row Held.the_row grows.ghosts)
-Locks-sync = search (sendable, crosses, Held-send) depth 40
+Locks-sync = search (locks.the_sync, Held-send) depth 20
 
 pub Pass-send : IsSend Pass.the_row
-Pass-send = search (sendable, crosses, Held-send) depth 40
+Pass-send = declared_send Pass.the_type (search (sendable, seats.the_send, Held-send) depth 20, tt)
 
 module _ (R : RattleType) where
   pub Backend-send : IsSend R → IsSend (Backend.the_row R)
