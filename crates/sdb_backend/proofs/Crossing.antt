@@ -1,4 +1,4 @@
--- The documents, and what holds them behind a lock, may go to another thread.
+-- The documents, what holds them behind locks, and a pass may go to another thread.
 use denote.RattleType.{RattleType}
 use denote.Param.Send.{IsSend, IsSync, sendable, view_send, view_sync}
 use denote.Struct.Field.{row_field}
@@ -32,8 +32,14 @@ use Rattle.sdb_desk.specs.contracts.document.Document.TheInside as document
 use Rattle.sdb_desk.specs.contracts.topic.Topic as Topic
 use Rattle.sdb_desk.specs.contracts.topic.Topic.TheInside as topic
 use Rattle.sdb_desk.specs.contracts.shard.Shard as Shard
+use Rattle.sdb_locks.specs.contracts.seats.Locks as Locks
+use Rattle.sdb_locks.proofs.seats.Locks.TheSendSync as locks
+use Rattle.sdb_locks.proofs.seats.Seats.TheSendSync as seats
 use Rattle.sdb_backend.specs.contracts.backend.Backend as Backend
 use Rattle.sdb_backend.proofs.Values.{Json-send, Json-sync}
+use Rattle.sdb_backend.specs.contracts.held.Held as Held
+use Rattle.sdb_backend.specs.contracts.held.HeldGrows.TheImpl as grows
+use Rattle.sdb_backend.specs.contracts.seats.Pass as Pass
 
 pub Act-send : IsSend Act.the_row
 Act-send = search (sendable, crosses, maps.crosses, Json-send) depth 20
@@ -123,7 +129,7 @@ pub Document-send : IsSend Document.the_row
 Document-send = view_send _ _ _ _ _ document-send
 
 queue-send : IsSend queue.the_row
-queue-send = declared_send queue.the_type (search sendable, (search sendable, (search (sendable, crosses, rings.Cells-send, rings.Deed-send, frees, Entry-send) depth 30, tt)))
+queue-send = declared_send queue.the_type (search sendable, (search sendable, (search sendable, (search (sendable, crosses, rings.Cells-send, rings.Deed-send, frees, Entry-send) depth 30, tt))))
 
 pub Queue-send : IsSend Queue.the_row
 Queue-send = view_send _ _ _ _ _ queue-send
@@ -143,11 +149,21 @@ Topic-send = view_send _ _ _ _ _ topic-send
 pub Shard-send : IsSend Shard.the_row
 Shard-send = search (sendable, crosses, maps.crosses, Topic-send) depth 20
 
+pub Held-send : IsSend Held.the_row
+Held-send = declared_send Held.the_type (Shard-send, tt)
+
+Locks-send : IsSend (Locks.the_row Held.the_row grows.ghosts)
+Locks-send = search (locks.the_send, Held-send) depth 20
+
+Locks-sync : IsSync (Locks.the_row Held.the_row grows.ghosts)
+Locks-sync = search (locks.the_sync, Held-send) depth 20
+
+pub Pass-send : IsSend Pass.the_row
+Pass-send = declared_send Pass.the_type (search (sendable, seats.the_send, Held-send) depth 20, tt)
+
 module _ (R : RattleType) where
   pub Backend-send : IsSend R → IsSend (Backend.the_row R)
-  Backend-send s = declared_send (Backend.the_type R)
-      (search (sendable, crosses) depth 20, (as_row_send (row_field R) s, (search (sendable, crosses, Shard-send) depth 20, tt)))
+  Backend-send s = declared_send (Backend.the_type R) (search (sendable, crosses) depth 20, (as_row_send (row_field R) s, (Locks-send, tt)))
 
   pub Backend-sync : IsSync R → IsSync (Backend.the_row R)
-  Backend-sync y = declared_sync (Backend.the_type R)
-      (search (sendable, crosses) depth 20, (as_row_sync (row_field R) y, (search (sendable, crosses, Shard-send) depth 20, tt)))
+  Backend-sync y = declared_sync (Backend.the_type R) (search (sendable, crosses) depth 20, (as_row_sync (row_field R) y, (Locks-sync, tt)))

@@ -1,10 +1,10 @@
 -- What a search for a number in numbers that rise has found.
-use Rattle.std.proofs.Common.{◌≡◌, ℕ, ◌<◌, List, Contains, Result, Ok, Err, Bool, true, false, nat_lt, ◌+◌, refl, subst, ◌∙◌, arith}
-use Rattle.std.specs.Ordering.{nat_cmp}
-use Rattle.std.specs.List.Sorted.{IsBinarySearchResult, IsNonDecreasing}
+use Rattle.std.proofs.Common.{◌≡◌, ℕ, ◌<◌, ◌≤◌, List, [], ◌∷◌, length, map, slice_index_or, Contains, Result, Ok, Err, Bool, true, false, Less, Equal, Greater, nat_lt, ◌+◌, refl, sym, subst, ◌∙◌, arith}
+use Rattle.std.specs.Ordering.{nat_cmp, ordering_index}
+use Rattle.std.specs.List.Sorted.{IsBinarySearchResult, IsSearchInRange, IsNonDecreasing, IsNonDecreasingBy}
 use Rattle.std.specs.Result.{is_ok}
 use Rattle.std.proofs.lemmas.Grind.{common_steps}
-use Rattle.std.proofs.lemmas.List.{get_or_default}
+use Rattle.std.proofs.lemmas.List.{get_or_default, get_or-map, length-map}
 use Rattle.std.proofs.lemmas.List.Sorted.{searched}
 
 pub found : (xs : List ℕ) (x : ℕ) (r : Result ℕ ℕ) → IsNonDecreasing xs → IsBinarySearchResult (λ y. nat_cmp y x) xs r → is_ok r ≡ true → Contains xs x
@@ -27,3 +27,38 @@ more_or false n k xs is below at near = let e : n ≡ k = grind (arith, common_s
 -- all up to n, where all below it and n itself are among these
 pub one_more : (n : ℕ) (xs : List ℕ) → ((k : ℕ) → 0 < k → k < n → Contains xs k) → Contains xs n → (k : ℕ) → 0 < k → k < n + 1 → Contains xs k
 one_more n xs below at k some near = more_or (nat_lt k n) n k xs refl (below k some) at near
+
+-- ---- what was found by a key
+
+item : {A : Type 0} (xs : List A) (i : ℕ) → i < length xs → A
+item [] i lt = absurd (omega (arith, lt))
+item (x ∷ xs) i lt = x
+
+module _ {A : Type 0} (f : A → ℕ) (x : ℕ) (ps : List A) where
+  at_map : (P : ℕ → Type 0) (i e : ℕ) (d : A) → i < length ps → P (f (slice_index_or ps i d)) → P (slice_index_or (map f ps) i e)
+  at_map P i e d lt h = subst P (sym (get_or-map f ps i d e lt)) h
+
+  pub mapped : (r : Result ℕ ℕ) → IsSearchInRange r (length ps) → IsBinarySearchResult (λ p. nat_cmp (f p) x) ps r → IsBinarySearchResult (λ n. nat_cmp n x) (map f ps) r
+  mapped (Ok i) b h = λ e. let d = item ps i b in at_map (λ n. nat_cmp n x ≡ Equal) i e d b (h d)
+  mapped (Err i) b h =
+      λ rise.
+      let long = length-map ps f in
+      let p = h (λ k j d le lt.
+      let low = get_or-map f ps k d (f d) (omega (arith, le, lt)) in
+      let high = get_or-map f ps j d (f d) lt in
+      let R : ℕ → ℕ → Type 0 = λ m n. ordering_index (nat_cmp m x) ≤ ordering_index (nat_cmp n x) in
+      subst (λ (n : ℕ). R (f (slice_index_or ps k d)) n) high (subst (λ (n : ℕ). R n (slice_index_or (map f ps) j (f d))) low (rise k j (f d) le (omega (arith, lt, long))))) in (
+        (λ k e from lt. let below : k < length ps = omega (arith, lt, b) in let d = item ps k below in at_map (λ n. nat_cmp n x ≡ Less) k e d below (p.0 k d from lt)),
+        (λ k e from lt. let below : k < length ps = omega (arith, lt, long) in let d = item ps k below in at_map (λ n. nat_cmp n x ≡ Greater) k e d below (p.1 k d from below)),
+      )
+
+  -- numbers that don't fall along the items
+  pub rising : IsNonDecreasingBy f ps → IsNonDecreasing (map f ps)
+  rising h i j e le lt =
+      let long = length-map ps f in
+      let below : j < length ps = omega (arith, lt, long) in
+      let d = item ps j below in
+      let low = get_or-map f ps i d e (omega (arith, le, below)) in
+      let high = get_or-map f ps j d e below in
+      let same = h i j d le below in
+      omega (arith, low, high, same)

@@ -1,9 +1,42 @@
--- What a call of a backend answers.
-use Rattle.sdb_oplog.specs.Keys.{PlainKey}
-use Rattle.sdb_desk.specs.Machine.{Machine}
+-- What a call by a pass is answered.
+use Rattle.std.specs.Prelude.{◌≡◌, ℕ, List, Option, option_map}
+use Rattle.sdb_oplog.specs.Plain.{PlainEntry, PlainSubmission}
+use Rattle.sdb_oplog.specs.Keys.{PlainKey, shard_of}
+use Rattle.sdb_oplog.specs.Decide.{PlainReply}
+use Rattle.sdb_subscribe.specs.Queue.{waiting}
+use Rattle.sdb_desk.specs.Looked.{IsLook}
+use Rattle.sdb_desk.specs.Machine.{PlainAttempt}
+use Rattle.sdb_desk.specs.ShardView.{machine_of, logs_of}
 use Rattle.sdb_submit.specs.Calls.{PlainCall, AnswerTo, Acts}
+use Rattle.sdb_locks.specs.Words.{OnlyAt}
+use Rattle.sdb_backend.specs.History.{Extends, own, AddsTo}
+use Rattle.sdb_backend.specs.Passes.{number_of, HasSeen}
+use Rattle.sdb_backend.specs.declared.held.Held.{Held}
+use Rattle.sdb_backend.specs.declared.seats.Pass.{Pass}
 
--- some state of the documents answers the call so. Which one it is isn't said: between two calls other threads may have
--- theirs
-abbrev pub Answered : PlainKey → (c : PlainCall) → AnswerTo c → Type 0
-Answered k c a = (m : Machine) × ((n : Machine) × Acts m k c a n)
+-- what the pass had seen of the key's shard was x; the call is answered as the machine answers it at h, a history that
+-- extends x and holds under the number of the pass just what x holds there. The pass has then seen what the call made
+-- of h. Of the other shards it has seen what it had
+abbrev pub Answered : PlainKey → (c : PlainCall) → Pass → AnswerTo c → Pass → Type 0
+Answered k c p a q =
+    (x h new : Held) × HasSeen p k x × Extends (machine_of h.shard) (machine_of x.shard)
+    × (own (number_of p) (machine_of x.shard) ≡ own (number_of p) (machine_of h.shard))
+    × Acts (number_of p) (machine_of h.shard) k c a (machine_of new.shard) × HasSeen q k new
+    × (number_of q ≡ number_of p) × OnlyAt (shard_of k) p.seats q.seats
+
+-- the look of the attempt is one at the log that the pass has seen
+abbrev pub IsLookOf : Pass → PlainKey → PlainAttempt → Type 0
+IsLookOf p k a = (x : Held) × HasSeen p k x × IsLook (logs_of x.shard k) a
+
+-- a reply that it is stored adds the one entry to what stands under the number of the pass, and any other adds none
+abbrev pub Adds : PlainKey → PlainSubmission → Pass → PlainReply → Pass → Type 0
+Adds k s p r q =
+    (x new : Held) × HasSeen p k x × HasSeen q k new
+    × AddsTo k s r (own (number_of p) (machine_of x.shard)) (own (number_of p) (machine_of new.shard))
+
+-- a take gives what comes next of the queue, from where it stood in what the pass had seen, at a history that extends
+-- it; none where the pass opened no queue of this number
+abbrev pub TakesOn : PlainKey → ℕ → ℕ → Pass → Option (List PlainEntry) → Pass → Type 0
+TakesOn k id max p r q =
+    (x h new : Held) × HasSeen p k x × HasSeen q k new × Extends (machine_of h.shard) (machine_of x.shard)
+    × (r ≡ option_map (waiting (logs_of h.shard k) max) ((own (number_of p) (machine_of x.shard)).queues k id))

@@ -1,5 +1,6 @@
 pub mod Audited
 pub mod Calls
 pub mod Gathered
+pub mod History
+pub mod HistoryLaws
 pub mod Passes
-pub mod Sharded

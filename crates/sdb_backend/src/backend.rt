@@ -1,26 +1,36 @@
 //! The documents that many threads share.
-ghost use Rattle.std.specs.Prelude.{◌≡◌, ◌+◌, ◌-◌, ◌^◌, IfErr, IfOk, OnErr, OnOk};
+ghost use Rattle.std.specs.Prelude.{◌≡◌, ◌≢◌, ◌+◌, ◌≤◌, length, vec_len, vec_capacity, IfErr, IfOk, OnErr, OnOk};
 ghost use Rattle.std.specs.List.Sorted.{IsPermutation};
-ghost use Rattle.sdb_backend.specs.Passes.{AreAll};
+ghost use Rattle.sdb_growlock.specs.Rule.{Each};
+ghost use Rattle.sdb_locks.specs.Rooms.{HasRoom};
+ghost use Rattle.sdb_locks.specs.Words.{OnlyAt};
+ghost use Rattle.sdb_oplog.specs.Keys.{plain_key, shard_of};
+ghost use Rattle.sdb_oplog.specs.declared.codes.Code.TheVariants.{E10, E11};
+ghost use Rattle.sdb_desk.specs.ShardView.{machine_of};
+ghost use Rattle.sdb_backend.specs.Audited.{IsOfAll};
+ghost use Rattle.sdb_backend.specs.History.{Extends, own};
+ghost use Rattle.sdb_backend.specs.Passes.{number_of, next_of, IsPass, IsHost, IsNew, HasSeen, AreAll};
+ghost use Rattle.sdb_backend.specs.declared.held.Held.{Held as Documents};
 ghost use Rattle.sdb_backend.specs.declared.backend.Why.TheVariants.{Memory, Missing};
-ghost use Rattle.sdb_oplog.specs.declared.codes.Code.TheVariants.{E11};
 
 use crate::audit::Audit;
-use crate::passes::{Host, Pass};
-use sdb_desk::Shard;
+use crate::held::Held;
+use crate::passes::seats_of;
+use crate::seats::{Host, Pass};
+use sdb_growlock::Job;
+use sdb_locks::{Locks, Places, Seats, SplitFault};
 use sdb_oplog::{Code, Key};
-use std::alloc::Global;
-use std::array;
-use std::sync::{Mutex, MutexGuard, Wait};
+use std::alloc::{AllocError, Global};
+use std::sync::Wait;
 
 /// All documents, behind eight locks: that of a key is the one of its shard's number. Each call of the
 /// desk that it is takes one lock, does one call of the documents behind it and lets go; what is worked
 /// between two calls is worked without it.
 #[derive(Drop)]
 pub struct Backend<R: Wait> {
-    alloc: Global,
-    rt: R,
-    shards: [Mutex<Shard>; 8],
+    pub(crate) alloc: Global,
+    pub(crate) rt: R,
+    pub(crate) locks: Locks<Held>,
 }
 
 /// Why a backend can't be closed.
@@ -28,7 +38,7 @@ pub struct Backend<R: Wait> {
 pub enum Why {
     /// A pass that was given isn't among those handed in: somebody may still store.
     Missing,
-    /// Memory was wanting to list the documents.
+    /// Memory was wanting for the list of seats.
     Memory,
 }
 
@@ -44,30 +54,45 @@ pub struct Refused<R: Wait> {
 impl<R: Wait + Drop> Backend<R> {
     /// A backend in which nothing is stored, and its host, who has let nobody in. It keeps the allocator;
     /// the handle is what waits for a lock.
-    pub fn new(alloc: Global, rt: R) -> (Backend<R>, Host)
-        ensures { result.1 ≡ 0 }
+    pub fn new(alloc: Global, rt: R) -> Result<(Backend<R>, Host), AllocError>
+        ensures host { IfOk result (λ made. IsHost made.1 made.0) }
+        ensures next { IfOk result (λ made. next_of made.1 ≡ 1) }
     {
-        let shards = array::from_fn(|_| Mutex::new(Shard::new(alloc)));
-        (Backend { alloc, rt, shards }, Host::new())
+        let (locks, seats) = Locks::new(alloc)?;
+        Ok((Backend { alloc, rt, locks }, Host { seats }))
     }
 
-    /// A pass with a number of its own: 1 at first, then one higher each time. E11 comes where 2^64 - 1
-    /// of them were given.
+    /// A pass with a number of its own: 1 at first, then one higher each time. It has seen what its host
+    /// has, and nothing is stored under its number. E11 comes where 2^64 - 2 of them were given, E10 for
+    /// want of memory; nothing has changed then.
     pub fn enter(&self, host: &mut Host) -> Result<Pass, Code>
-        ensures pass { IfOk result (λ pass. pass ≡ host.old + 1) }
-        ensures entered { OnOk result (host.new ≡ host.old + 1) }
-        ensures full { IfErr result (λ code. (code ≡ E11) × (host.old ≡ 2 ^ 64 - 1)) }
+        requires { IsHost host.old self.now }
+        ensures host { IsHost host.new self.now }
+        ensures pass { IfOk result (λ p. IsPass p self.now × (number_of p ≡ next_of host.old)) }
+        ensures new { IfOk result (λ p. IsNew p) }
+        ensures next { OnOk result (next_of host.new ≡ next_of host.old + 1) }
+        ensures full { IfErr result (λ code. code ≡ E11 → next_of host.old ≡ u64.MAX) }
+        ensures memory { IfErr result (λ code. code ≢ E11 → (code ≡ E10) × (next_of host.old ≢ u64.MAX)) }
         ensures same { OnErr result (host.new ≡ host.old) }
     {
-        host.give()
+        match self.locks.split(self.alloc, &mut host.seats) {
+            Ok(seats) => Ok(Pass { seats }),
+            Err(SplitFault::Last) => Err(Code::E11),
+            Err(SplitFault::Memory) => Err(Code::E10),
+        }
     }
 
     /// Ends the backend, once its host and all passes that he gave are handed back: what was stored can
-    /// be read then, and nothing be stored.
+    /// be read then, and nothing be stored. It extends what each pass has seen, and its entries are those
+    /// of the passes and no others. Where it is refused, all is handed back as it was.
     pub fn close(self, host: Host, mut passes: Vec<Pass>) -> Result<Audit, Refused<R>>
-        ensures all { OnOk result (AreAll host passes.items) }
-        ensures missing { IfErr result (λ r. r.why ≡ Missing → AreAll host passes.items → ⊥) }
-        ensures memory { IfErr result (λ r. r.why ≡ Memory → AreAll host passes.items) }
+        requires host { IsHost host self }
+        requires passes { Each (λ p. IsPass p self) passes.items }
+        ensures all { OnOk result (AreAll (next_of host) passes.items) }
+        ensures ended { IfOk result (λ a. IsOfAll a passes.items) }
+        ensures missing { IfErr result (λ r. r.why ≡ Missing → AreAll (next_of host) passes.items → ⊥) }
+        ensures memory { IfErr result (λ r. r.why ≡ Memory → AreAll (next_of host) passes.items) }
+        ensures backend { IfErr result (λ r. r.backend ≡ self) }
         ensures host { IfErr result (λ r. r.host ≡ host) }
         ensures passes { IfErr result (λ r. IsPermutation passes.items r.passes.items) }
     {
@@ -79,24 +104,50 @@ impl<R: Wait + Drop> Backend<R> {
                 passes,
             });
         }
-        let Backend { alloc, rt, shards } = self;
-        match Audit::new(alloc, shards.map(Mutex::into_inner)) {
-            Ok(audit) => Ok(audit),
-            Err(shards) => Err(Refused {
-                why: Why::Memory,
-                backend: Backend {
+        match room_for(self.alloc, passes.len()) {
+            Ok((places, seats)) => {
+                let Backend {
                     alloc,
-                    rt,
-                    shards: shards.map(Mutex::new),
-                },
+                    rt: _,
+                    locks,
+                } = self;
+                let shards = locks.close(host.into_seats(), seats_of(passes, seats), places);
+                Ok(Audit::new(alloc, shards))
+            }
+            Err(_) => Err(Refused {
+                why: Why::Memory,
+                backend: self,
                 host,
                 passes,
             }),
         }
     }
 
-    // The lock of the key's shard.
-    pub(crate) fn shard(&self, key: &Key) -> MutexGuard<'_, Shard> {
-        self.shards[key.shard()].lock(&self.rt)
+    // Runs the job on the documents of the key's shard.
+    pub(crate) fn run<J: Job<Held>>(&self, pass: &mut Pass, key: &Key, job: J) -> J::Answer
+        requires pass { IsPass pass.old self.now }
+        requires ready { (x v : Documents) → HasSeen pass.old (plain_key key.now) x
+            → Extends (machine_of v.shard) (machine_of x.shard)
+            → own (number_of pass.old) (machine_of x.shard) ≡ own (number_of pass.old) (machine_of v.shard)
+            → J.ready job (number_of pass.old) v }
+        ensures pass { IsPass pass.new self.now }
+        ensures number { number_of pass.new ≡ number_of pass.old }
+        ensures others { OnlyAt (shard_of (plain_key key.now)) pass.old.seats pass.new.seats }
+        ensures done { (x v w : Documents) × HasSeen pass.old (plain_key key.now) x
+            × Extends (machine_of v.shard) (machine_of x.shard)
+            × (own (number_of pass.old) (machine_of x.shard) ≡ own (number_of pass.old) (machine_of v.shard))
+            × J.does job (number_of pass.old) v w result × HasSeen pass.new (plain_key key.now) w }
+    {
+        self.locks.with(&self.rt, &mut pass.seats, key.shard(), job)
     }
+}
+
+// Room for the seats of so many passes, in two ways: by pass, and by shard.
+fn room_for(alloc: Global, passes: usize) -> Result<(Places<Held>, Vec<Seats<Held>>), AllocError>
+    ensures places { IfOk result (λ r. HasRoom passes r.0) }
+    ensures seats { IfOk result (λ r. (vec_len r.1 ≡ 0) × (passes ≤ vec_capacity r.1)) }
+{
+    let places = Places::new(alloc, passes)?;
+    let seats = Vec::with_capacity(alloc, passes)?;
+    Ok((places, seats))
 }

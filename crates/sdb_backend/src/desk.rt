@@ -1,97 +1,142 @@
 //! A backend as a desk.
-ghost use Rattle.std.specs.Prelude.{◌≡◌, ⊤};
-ghost use Rattle.sdb_backend.specs.Calls.{Answered};
+ghost use Rattle.std.specs.Prelude.{◌≡◌, IfOk, option_map};
+ghost use Rattle.sdb_oplog.specs.Keys.{plain_key};
+ghost use Rattle.sdb_desk.specs.ReplyView.{plain_reply};
+ghost use Rattle.sdb_submit.specs.Calls.{commit_now};
+ghost use Rattle.sdb_backend.specs.Calls.{Answered, IsLookOf, Adds, TakesOn};
+ghost use Rattle.sdb_backend.specs.Passes.{number_of, IsPass};
 
 use crate::backend::Backend;
-use crate::calls::{
-    commit, commit_now, fetch, forget, look, ops_from, snapshot_at, subscribe, take, unsubscribe,
-    version,
+use crate::jobs::{
+    Commit, CommitNow, Fetch, Forget, Look as Looking, OpsFrom, SnapshotAt, Subscribe, Take,
+    Unsubscribe, Version,
 };
-use crate::passes::Pass;
+use crate::seats::Pass;
 use sdb_desk::{Fetched, Look, Outcome, Reply, Subscribed, Work};
 use sdb_oplog::{Code, Entry, Key, Submission};
-use sdb_submit::Desk;
+use sdb_submit::{Desk, Gate, submit};
 use sdb_subscribe::SubId;
-use std::alloc::AllocError;
+use std::alloc::{AllocError, Global};
 use std::sync::Wait;
 
-/// Each call is answered as some state of the documents answers it, and leaves the pass. A call that is
-/// no deciding one holds the lock only while it copies what it shows.
+/// Each call is answered as the machine answers it at one history of the key's shard, which extends what
+/// the pass had seen. A call that is no deciding one holds the lock only while it copies what it shows.
 impl<R: Wait + Drop> Desk for Backend<R> {
     type Pass = Pass;
 
-    ghost takes = { λ b p. ⊤ };
+    ghost takes = { λ b p. IsPass p b };
 
-    ghost number = { λ b p. p };
+    ghost number = { λ b p. number_of p };
 
-    ghost acts = { λ b k c p a q. Answered k c a × (q ≡ p) };
+    ghost acts = { λ b k c p a q. Answered k c p a q };
+
+    ghost looked = { λ b k a p. IsLookOf p k a };
 
     fn look(
         &self,
-        _pass: &mut Pass,
+        pass: &mut Pass,
         key: &Key,
         submission: &Submission,
     ) -> Result<Look, AllocError> {
-        look(&mut self.shard(key), key, submission)
+        self.run(pass, key, Looking { key, submission })
     }
 
-    fn commit(&self, _pass: &mut Pass, key: &Key, work: &mut Work) -> Outcome {
-        commit(&mut self.shard(key), key, work)
+    fn commit(&self, pass: &mut Pass, key: &Key, work: &mut Work) -> Outcome {
+        let decision = self.run(pass, key, Commit { key, work: &*work });
+        work.conclude(self.alloc, decision)
     }
 
-    fn commit_now(&self, _pass: &mut Pass, key: &Key, submission: &Submission) -> Reply {
-        commit_now(&mut self.shard(key), key, submission)
+    fn commit_now(&self, pass: &mut Pass, key: &Key, submission: &Submission) -> Reply {
+        self.run(pass, key, CommitNow { key, submission })
     }
 
-    fn version(&self, _pass: &mut Pass, key: &Key) -> u64 {
-        version(&mut self.shard(key), key)
+    fn version(&self, pass: &mut Pass, key: &Key) -> u64 {
+        self.run(pass, key, Version { key })
     }
 
-    fn fetch(&self, _pass: &mut Pass, key: &Key) -> Result<Fetched, Code> {
-        fetch(&mut self.shard(key), key)
+    fn fetch(&self, pass: &mut Pass, key: &Key) -> Result<Fetched, Code> {
+        self.run(pass, key, Fetch { key })
     }
 
-    fn ops_from(&self, _pass: &mut Pass, key: &Key, version: u64) -> Result<Vec<Entry>, Code> {
-        ops_from(&mut self.shard(key), key, version)
+    fn ops_from(&self, pass: &mut Pass, key: &Key, version: u64) -> Result<Vec<Entry>, Code> {
+        self.run(pass, key, OpsFrom { key, version })
     }
 
     fn snapshot_at(
         &self,
-        _pass: &mut Pass,
+        pass: &mut Pass,
         key: &Key,
         version: Option<u64>,
     ) -> Result<Fetched, Code> {
-        snapshot_at(&mut self.shard(key), key, version)
+        self.run(pass, key, SnapshotAt { key, version })
     }
 
-    fn forget(&self, _pass: &mut Pass, key: &Key) {
-        forget(&mut self.shard(key), key)
+    fn forget(&self, pass: &mut Pass, key: &Key) {
+        self.run(pass, key, Forget { key })
     }
 
     fn subscribe(
         &self,
-        _pass: &mut Pass,
+        pass: &mut Pass,
         key: &Key,
         version: Option<u64>,
     ) -> Result<Subscribed, Code> {
-        subscribe(&mut self.shard(key), key, version)
+        self.run(pass, key, Subscribe { key, version })
     }
 
     fn take(
         &self,
-        _pass: &mut Pass,
+        pass: &mut Pass,
         key: &Key,
         id: SubId,
         max: u64,
     ) -> Result<Option<Vec<Entry>>, AllocError> {
-        take(&mut self.shard(key), key, id, max)
+        self.run(pass, key, Take { key, id, max })
     }
 
-    fn unsubscribe(&self, _pass: &mut Pass, key: &Key, id: SubId) {
-        unsubscribe(&mut self.shard(key), key, id)
+    fn unsubscribe(&self, pass: &mut Pass, key: &Key, id: SubId) {
+        self.run(pass, key, Unsubscribe { key, id })
     }
 
     fn by(&self, pass: &Pass) -> u64 {
         pass.number()
     }
+}
+
+/// Submits: the submission is decided in one step, at a history that extends all that the pass has seen.
+/// A reply that it is stored adds the one entry to what stands under the number of the pass, and any
+/// other adds none.
+pub fn submit_shared<R: Wait + Drop, G: Gate>(
+    alloc: Global,
+    backend: &Backend<R>,
+    pass: &mut Pass,
+    key: &Key,
+    submission: &Submission,
+    gate: &G,
+) -> Reply
+    requires pass { IsPass pass.old backend.now }
+    requires by { submission.now.by ≡ number_of pass.old }
+    ensures pass { IsPass pass.new backend.now }
+    ensures decides { Answered (plain_key key.now) (commit_now submission.now) pass.old
+        (plain_reply result) pass.new }
+    ensures adds { Adds (plain_key key.now) submission.now pass.old (plain_reply result) pass.new }
+{
+    submit(alloc, backend, pass, key, submission, gate)
+}
+
+/// The next entries of a queue of the pass, at most `max`, from where its last take ended; `None` where
+/// the pass has no open queue of this number.
+pub fn take_shared<R: Wait + Drop>(
+    backend: &Backend<R>,
+    pass: &mut Pass,
+    key: &Key,
+    id: SubId,
+    max: u64,
+) -> Result<Option<Vec<Entry>>, AllocError>
+    requires { IsPass pass.old backend.now }
+    ensures pass { IsPass pass.new backend.now }
+    ensures entries { IfOk result
+        (λ v. TakesOn (plain_key key.now) id max pass.old (option_map (λ es. es.items) v) pass.new) }
+{
+    backend.take(pass, key, id, max)
 }

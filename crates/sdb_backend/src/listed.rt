@@ -1,48 +1,41 @@
-//! Documents whose keys are listed.
-ghost use Rattle.std.specs.Prelude.{◌≡◌, ◌||◌, ◌&&◌, IfErr, IfOk, OnOk, map, nat_eq};
-ghost use Rattle.std.proofs.Props.{props};
+//! The documents of an audit.
+ghost use Rattle.std.specs.Prelude.{◌≡◌, ◌≢◌, ◌||◌, ◌&&◌, [], IfOk, IfSome, OnOk, map, nat_eq, option_map, unwrap_or};
+ghost use Rattle.sdb_oplog.specs.Decide.{IsMade};
 ghost use Rattle.sdb_oplog.specs.Keys.{PlainKey, plain_key, shard_of};
 ghost use Rattle.sdb_desk.specs.Machine.{is_filled};
 ghost use Rattle.sdb_desk.specs.ShardView.{logs_of};
 ghost use Rattle.sdb_desk.specs.Stored.{AreStored};
-ghost use Rattle.sdb_backend.specs.Sharded.{sharded};
+ghost use Rattle.sdb_backend.specs.Audited.{audited};
 ghost use Rattle.sdb_backend.specs.Gathered.{is_gathered};
 
+use crate::audit::Audit;
 use sdb_desk::Shard;
-use sdb_oplog::Key;
-use std::alloc::{AllocError, Global};
+use sdb_oplog::{Key, Log};
+use std::alloc::AllocError;
 use std::collections::BTreeSet;
 
-// The shards, and the keys of all their documents.
-#[derive(Drop)]
-pub(crate) struct Listed {
-    pub(crate) shards: [Shard; 8],
-    pub(crate) keys: Vec<Key>,
-    ghost listed: { AreStored (sharded shards) (map plain_key keys.items) } by { Prim.hlevel props },
-}
-
-impl Listed {
-    // Lists the keys. Where memory is wanting the shards come back.
-    pub(crate) fn new(alloc: Global, shards: [Shard; 8]) -> Result<Listed, [Shard; 8]>
-        ensures ok { IfOk result (λ l. l.shards ≡ shards) }
-        ensures err { IfErr result (λ s. s ≡ shards) }
+impl Audit {
+    /// The log of the document, if something is stored of it. Each log is made: its entries are those
+    /// that were decided, one after the other.
+    pub fn log(&self, key: &Key) -> Option<&Log>
+        ensures log { unwrap_or (option_map (λ l. l.now) result) [] ≡ audited self.now (plain_key key.now) }
+        ensures filled { IfSome result (λ l. l.now ≢ []) }
+        ensures made { IsMade (audited self.now (plain_key key.now)) }
     {
-        match keys_of(alloc, &shards) {
-            Ok(keys) => Ok(Listed { shards, keys }),
-            Err(_) => Err(shards),
-        }
+        self.shards[key.shard()].shard.log(key)
     }
-}
 
-// The keys of all documents, each from the shard of its number.
-fn keys_of(alloc: Global, shards: &[Shard; 8]) -> Result<Vec<Key>, AllocError>
-    ensures { IfOk result (λ keys. AreStored (sharded shards.now) (map plain_key keys.items)) }
-{
-    let mut all = BTreeSet::new(alloc);
-    for (number, shard) in shards.iter().enumerate() {
-        gather(&mut all, shard, number)?;
+    /// The keys of all documents that something is stored of, each once, by the bytes of the collection,
+    /// then of the id. It fails only for want of memory.
+    pub fn documents(&self) -> Result<Vec<Key>, AllocError>
+        ensures { IfOk result (λ keys. AreStored (audited self.now) (map plain_key keys.items)) }
+    {
+        let mut all = BTreeSet::new(self.alloc);
+        for (number, held) in self.shards.iter().enumerate() {
+            gather(&mut all, &held.shard, number)?;
+        }
+        all.into_iter().collect(self.alloc)
     }
-    all.into_iter().collect(alloc)
 }
 
 // Adds the keys of the shard's documents that are of its number.

@@ -11,16 +11,16 @@ use Rattle.sdb_value.specs.Value.{Value}
 use Rattle.sdb_desk.specs.Machine.{PlainFetched, start_of, opening, subscribing, subscribing_from, fetched, has_document, Reads, Subscribes}
 
 -- the answer is due, or memory was wanting for a queue that could be opened
-subscribes_or : (log : List PlainEntry) (v : Option ℕ) (q new : PlainQueues) (code : Code) → nat_lt (length log) (unwrap_or v (length log)) ≡ false → nat_eq q.next 18446744073709551615 ≡ false → new ≡ q → (code ≡ E10) ⊎ (opened (unwrap_or v (length log)) q ≡ Err code)
-    → Subscribes log v q (Err code) new
-subscribes_or log v q new code seen free same (inl e) =
+subscribes_or : (log : List PlainEntry) (by : ℕ) (v : Option ℕ) (q new : PlainQueues) (code : Code) → nat_lt (length log) (unwrap_or v (length log)) ≡ false → nat_eq q.next 18446744073709551615 ≡ false → new ≡ q → (code ≡ E10) ⊎ (opened by (unwrap_or v (length log)) q ≡ Err code)
+    → Subscribes log by v q (Err code) new
+subscribes_or log by v q new code seen free same (inl e) =
     let s = unwrap_or v (length log) in
-    let due : is_ok (subscribing log v q).answer ≡ true =
-    ap (λ b. is_ok (subscribing_from log q (cond b (Err E4) (Ok s))).answer) seen ∙ ap (λ b. is_ok (opening log s q (cond b (Err E11) (Ok (record { next = q.next + 1; queues = q.queues ++ (q.next, record { start = s; taken = 0 }) ∷ [] })))).answer) free in
+    let due : is_ok (subscribing log by v q).answer ≡ true =
+    ap (λ b. is_ok (subscribing_from log by q (cond b (Err E4) (Ok s))).answer) seen ∙ ap (λ b. is_ok (opening log s q (cond b (Err E11) (Ok (record { next = q.next + 1; queues = q.queues ++ (q.next, record { start = s; taken = 0; by = by }) ∷ [] })))).answer) free in
     inl (ap Err e, same, due)
-subscribes_or log v q new code seen free same (inr e) =
+subscribes_or log by v q new code seen free same (inr e) =
     let s = unwrap_or v (length log) in
-    let due : subscribing log v q ≡ record { answer = Err code; queues = q } = ap (λ b. subscribing_from log q (cond b (Err E4) (Ok s))) seen ∙ ap (opening log s q) e in
+    let due : subscribing log by v q ≡ record { answer = Err code; queues = q } = ap (λ b. subscribing_from log by q (cond b (Err E4) (Ok s))) seen ∙ ap (opening log s q) e in
     inr (sym (ap (λ x. x.answer) due), same ∙ sym (ap (λ x. x.queues) due))
 
 start_seen : (log : List PlainEntry) (v : Option ℕ) (b : Bool) (s : ℕ) → nat_lt (length log) (unwrap_or v (length log)) ≡ b → start_of log v ≡ Ok s → b ≡ false
@@ -35,32 +35,32 @@ start_is log v false s e is =
     cc
 
 -- a queue that may be opened: the numbers aren't used up, and its start is reached
-pub subscribe_refused : (log : List PlainEntry) (v : Option ℕ) (s : ℕ) (q new : PlainQueues) (code : Code) → start_of log v ≡ Ok s → nat_eq q.next 18446744073709551615 ≡ false
-    → RefusedBy (opened s q) code → new ≡ q → Subscribes log v q (Err code) new
-subscribe_refused log v s q new code is free h same =
+pub subscribe_refused : (log : List PlainEntry) (by : ℕ) (v : Option ℕ) (s : ℕ) (q new : PlainQueues) (code : Code) → start_of log v ≡ Ok s → nat_eq q.next 18446744073709551615 ≡ false
+    → RefusedBy (opened by s q) code → new ≡ q → Subscribes log by v q (Err code) new
+subscribe_refused log by v s q new code is free h same =
     let test = nat_lt (length log) (unwrap_or v (length log)) in
     let at : s ≡ unwrap_or v (length log) = start_is log v test s refl is in
-    subscribes_or log v q new code (start_seen log v test s refl is) free same
-    (due_or_wanting (opened (unwrap_or v (length log)) q) code (subst (λ m. RefusedBy (opened m q) code) at h))
+    subscribes_or log by v q new code (start_seen log v test s refl is) free same
+    (due_or_wanting (opened by (unwrap_or v (length log)) q) code (subst (λ m. RefusedBy (opened by m q) code) at h))
 
 -- memory was wanting for the document
 pub read_wanting : {A : Type 0} (takes : A → Bool) (code : Code) (x : A) → Reads takes (Err code) (Ok x) → code ≡ E10
 read_wanting takes code x (inl h) = let w = h.0 in cc
 read_wanting takes code x (inr h) = cc
 
-pub subscribe_wanting : (log : List PlainEntry) (v : Option ℕ) (s : ℕ) (q new : PlainQueues) (code : Code) → start_of log v ≡ Ok s → nat_eq q.next 18446744073709551615 ≡ false → code ≡ E10 → new ≡ q
-    → Subscribes log v q (Err code) new
-subscribe_wanting log v s q new code is free e same =
+pub subscribe_wanting : (log : List PlainEntry) (by : ℕ) (v : Option ℕ) (s : ℕ) (q new : PlainQueues) (code : Code) → start_of log v ≡ Ok s → nat_eq q.next 18446744073709551615 ≡ false → code ≡ E10 → new ≡ q
+    → Subscribes log by v q (Err code) new
+subscribe_wanting log by v s q new code is free e same =
     let test = nat_lt (length log) (unwrap_or v (length log)) in
-    subscribes_or log v q new code (start_seen log v test s refl is) free same (inl e)
+    subscribes_or log by v q new code (start_seen log v test s refl is) free same (inl e)
 
 -- a queue is opened, and shows the document
-pub subscribe_done : (log : List PlainEntry) (v : Option ℕ) (s id n : ℕ) (q new : PlainQueues) (d : Option Value) → start_of log v ≡ Ok s → id ≡ q.next → opened s q ≡ Ok new
-    → Reads has_document (Ok (record { version = n; snapshot = d })) (Ok (fetched log)) → Subscribes log v q (Ok (record { id = id; start = s; version = n; snapshot = d })) new
-subscribe_done log v s id n q new d is at made (inl h) = let w = h.0 in cc
-subscribe_done log v s id n q new d is at made (inr h) =
+pub subscribe_done : (log : List PlainEntry) (by : ℕ) (v : Option ℕ) (s id n : ℕ) (q new : PlainQueues) (d : Option Value) → start_of log v ≡ Ok s → id ≡ q.next → opened by s q ≡ Ok new
+    → Reads has_document (Ok (record { version = n; snapshot = d })) (Ok (fetched log)) → Subscribes log by v q (Ok (record { id = id; start = s; version = n; snapshot = d })) new
+subscribe_done log by v s id n q new d is at made (inl h) = let w = h.0 in cc
+subscribe_done log by v s id n q new d is at made (inr h) =
     let shown : ◌≡◌ {A = PlainFetched} (record { version = n; snapshot = d }) (fetched log) = cc in
-    let due : subscribing log v q ≡ opening log s q (Ok new) = ap (subscribing_from log q) is ∙ ap (opening log s q) made in
+    let due : subscribing log by v q ≡ opening log s q (Ok new) = ap (subscribing_from log by q) is ∙ ap (opening log s q) made in
     inr (
       (λ i. Ok (record { id = at i; start = s; version = (shown i).version; snapshot = (shown i).snapshot })) ∙ sym (ap (λ x. x.answer) due),
       sym (ap (λ x. x.queues) due),

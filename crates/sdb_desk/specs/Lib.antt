@@ -1,6 +1,7 @@
 pub mod Coding
 pub mod Documents
 pub mod Laws
+pub mod Looked
 pub mod Machine
 pub mod MapView
 pub mod MapViewLaws

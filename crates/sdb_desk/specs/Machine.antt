@@ -8,7 +8,7 @@ use Rattle.sdb_oplog.specs.Refused.{result_then}
 use Rattle.sdb_oplog.specs.Over.{over_all}
 use Rattle.sdb_oplog.specs.Decide.{PlainReply, stored, repeated, refused, decide, missed, deciding_takes_memory}
 use Rattle.sdb_oplog.specs.Keys.{PlainKey, Logs, with_at, with_log}
-use Rattle.sdb_subscribe.specs.Queue.{PlainQueues, opened, taken_from, after_take, without}
+use Rattle.sdb_subscribe.specs.Queue.{PlainQueues, opened, taken_by, after_take_by, without_by}
 use Rattle.sdb_oplog.specs.Snap.{document, stored_at}
 use Rattle.sdb_oplog.specs.declared.codes.Code.{Code}
 use Rattle.sdb_oplog.specs.declared.codes.Code.TheVariants.{E4, E10, E11}
@@ -143,28 +143,29 @@ opening log v q (Ok new) =
       queues = new;
     }
 
-abbrev pub subscribing_from : List PlainEntry → PlainQueues → Result ℕ Code → Subscribing
-subscribing_from log q (Err code) = record { answer = Err code; queues = q }
-subscribing_from log q (Ok v) = opening log v q (opened v q)
+abbrev pub subscribing_from : List PlainEntry → ℕ → PlainQueues → Result ℕ Code → Subscribing
+subscribing_from log by q (Err code) = record { answer = Err code; queues = q }
+subscribing_from log by q (Ok v) = opening log v q (opened by v q)
 
-abbrev pub subscribing : List PlainEntry → Option ℕ → PlainQueues → Subscribing
-subscribing log v q = subscribing_from log q (start_of log v)
+abbrev pub subscribing : List PlainEntry → ℕ → Option ℕ → PlainQueues → Subscribing
+subscribing log by v q = subscribing_from log by q (start_of log v)
 
--- a subscribe opens a queue, or memory was wanting to open it and nothing has changed
-abbrev pub Subscribes : List PlainEntry → Option ℕ → PlainQueues → Result PlainSubscribed Code → PlainQueues → Type 0
-Subscribes log v q r new =
-    ((r ≡ Err E10) × (new ≡ q) × (is_ok (subscribing log v q).answer ≡ true))
-    ⊎ ((r ≡ (subscribing log v q).answer) × (new ≡ (subscribing log v q).queues))
+-- a subscribe opens a queue of a number, or memory was wanting to open it and nothing has changed
+abbrev pub Subscribes : List PlainEntry → ℕ → Option ℕ → PlainQueues → Result PlainSubscribed Code → PlainQueues → Type 0
+Subscribes log by v q r new =
+    ((r ≡ Err E10) × (new ≡ q) × (is_ok (subscribing log by v q).answer ≡ true))
+    ⊎ ((r ≡ (subscribing log by v q).answer) × (new ≡ (subscribing log by v q).queues))
 
--- a take gives what comes next of that queue and moves it, or memory was wanting for it (none) and nothing has changed
-abbrev pub Takes : List PlainEntry → ℕ → ℕ → PlainQueues → Option (Option (List PlainEntry)) → PlainQueues → Type 0
-Takes log n max q None new = (new ≡ q) × (is_filled (unwrap_or (taken_from log n max q.queues) []) ≡ true)
-Takes log n max q (Some r) new =
-    (r ≡ taken_from log n max q.queues) × (new ≡ record { next = q.next; queues = after_take log n max q.queues })
+-- a take gives what comes next of that queue and moves it, or memory was wanting for it (none) and nothing has changed.
+-- Under another number than the one that it was opened under, a queue is unknown
+abbrev pub Takes : List PlainEntry → ℕ → ℕ → ℕ → PlainQueues → Option (Option (List PlainEntry)) → PlainQueues → Type 0
+Takes log by n max q None new = (new ≡ q) × (is_filled (unwrap_or (taken_by log by n max q.queues) []) ≡ true)
+Takes log by n max q (Some r) new =
+    (r ≡ taken_by log by n max q.queues) × (new ≡ record { next = q.next; queues = after_take_by log by n max q.queues })
 
--- a queue is closed
-abbrev pub closed : ℕ → PlainQueues → PlainQueues
-closed n q = record { next = q.next; queues = without n q.queues }
+-- a queue is closed, if it was opened under this number
+abbrev pub closed : ℕ → ℕ → PlainQueues → PlainQueues
+closed by n q = record { next = q.next; queues = without_by by n q.queues }
 
 -- ---- reads
 

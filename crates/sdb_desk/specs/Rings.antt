@@ -14,6 +14,7 @@ pub record IsNotedIn (log new : List PlainEntry) (qs after : List (ℕ × Ringed
 abbrev pub Notes : Logs → Logs → Ringed → Ringed → Type 0
 Notes logs new qs after = (k : PlainKey) → IsNotedIn (logs k) (new k) (qs k) (after k)
 
--- one more queue, with nothing at hand
-abbrev pub opened_ringed : ℕ → ℕ → List (ℕ × RingedQueue) → List (ℕ × RingedQueue)
-opened_ringed number start qs = qs ++ (number, record { queue = record { start = start; taken = 0 }; ring = [] }) ∷ []
+-- one more queue of a number, with nothing at hand
+abbrev pub opened_ringed : ℕ → ℕ → ℕ → List (ℕ × RingedQueue) → List (ℕ × RingedQueue)
+opened_ringed id by start qs =
+    qs ++ (id, record { queue = record { start = start; taken = 0; by = by }; ring = [] }) ∷ []

@@ -3,6 +3,7 @@ use Rattle.std.specs.Prelude.{List, Option, Some, None, option_map, Result, Ok, 
 use Rattle.std.specs.declared.alloc.AllocError.{AllocError}
 use Rattle.std.specs.declared.alloc.Global.{Global}
 use Rattle.sdb_value.specs.View.{view}
+use Rattle.sdb_oplog.specs.Decide.{stored}
 use Rattle.sdb_oplog.specs.Plain.{PlainContent, PlainEntry}
 use Rattle.sdb_oplog.specs.declared.codes.Code.{Code}
 use Rattle.sdb_desk.specs.Machine.{PlainLook, PlainAttempt, PlainOutcome, decided, moved, PlainFetched, PlainSubscribed}
@@ -13,6 +14,8 @@ use Rattle.sdb_desk.specs.declared.attempts.WorkedContent.{WorkedContent}
 use Rattle.sdb_desk.specs.declared.attempts.WorkedContent.TheVariants.{AsArrived, Became, Refused}
 use Rattle.sdb_desk.specs.declared.shard.Outcome.{Outcome}
 use Rattle.sdb_desk.specs.declared.shard.Outcome.TheVariants.{Decided, Moved}
+use Rattle.sdb_desk.specs.declared.shard.Decision.{Decision}
+use Rattle.sdb_desk.specs.declared.shard.Decision.TheVariants.{Stores, Answers}
 use Rattle.sdb_desk.specs.declared.shard.Fetched.{Fetched}
 use Rattle.sdb_desk.specs.declared.shard.Subscribed.{Subscribed}
 
@@ -31,6 +34,11 @@ content_of arrived (Refused code) = Err code
 abbrev pub plain_outcome : Outcome → PlainOutcome
 plain_outcome (Decided r) = decided (plain_reply r)
 plain_outcome (Moved l) = moved (plain_look l)
+
+-- what a commit of the attempt answers: where it is stored, with the entries that the attempt shows as missed
+abbrev pub outcome_of : PlainAttempt → Decision → PlainOutcome
+outcome_of a (Stores v) = decided (stored v a.look.missed)
+outcome_of a (Answers o) = plain_outcome o
 
 abbrev pub told_fetched : Result Fetched Code → Result PlainFetched Code
 told_fetched (Ok f) = Ok (record { version = f.version; snapshot = option_map view f.snapshot })

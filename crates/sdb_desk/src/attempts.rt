@@ -1,8 +1,11 @@
 //! Looks, attempts, and the work on them.
 ghost use Rattle.std.specs.Prelude.{◌≡◌, [], true, IfOk, IfErr, Ok, Err, OnErr, option_map, unwrap_or};
 ghost use Rattle.sdb_oplog.specs.Over.{over_all, carrying_takes_memory};
-ghost use Rattle.sdb_desk.specs.View.{content_of, plain_attempt};
+ghost use Rattle.sdb_desk.specs.Machine.{Keeps};
+ghost use Rattle.sdb_desk.specs.View.{content_of, plain_attempt, plain_outcome, outcome_of};
 
+use crate::document::Reply;
+use crate::shard::{Decision, Outcome};
 use sdb_oplog::{Code, Content, Entry, Submission, over_all};
 use std::alloc::Global;
 use std::marker::Model;
@@ -164,8 +167,24 @@ impl Work {
         Work { attempt, worked }
     }
 
+    /// Tells the work what was decided of it, and gives the answer: where it is stored, the entries that
+    /// the look showed as missed go into the answer, and the work keeps its submission. In all other
+    /// cases it stays as it is.
+    pub fn conclude(&mut self, alloc: Global, decision: Decision) -> Outcome
+        ensures outcome { plain_outcome result ≡ outcome_of self.old decision }
+        ensures keeps { Keeps (plain_outcome result) self.old self.new }
+    {
+        match decision {
+            Decision::Stores { v } => Outcome::Decided(Reply::Stored {
+                v,
+                missed: self.take_missed(alloc),
+            }),
+            Decision::Answers(outcome) => outcome,
+        }
+    }
+
     // Takes the missed entries out. The submission stays, on a look that shows none missed.
-    pub(crate) fn take_missed(&mut self, alloc: Global) -> Vec<Entry>
+    fn take_missed(&mut self, alloc: Global) -> Vec<Entry>
         ensures missed { result.items ≡ self.old.look.missed }
         ensures submission { self.new.submission ≡ self.old.submission }
     {

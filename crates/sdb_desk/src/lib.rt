@@ -8,4 +8,4 @@ mod topic;
 
 pub use attempts::{Attempt, Look, Work, WorkedContent};
 pub use document::Reply;
-pub use shard::{Fetched, Outcome, Shard, Subscribed};
+pub use shard::{Decision, Fetched, Outcome, Shard, Subscribed};

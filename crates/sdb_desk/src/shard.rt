@@ -1,5 +1,5 @@
 //! All documents and their queues, by key.
-ghost use Rattle.std.specs.Prelude.{◌≡◌, ◌≢◌, ◌≤◌, ◌<◌, [], true, length, map, is_some, take, IfOk, IfErr, IfSome, OnSome, IfNone, IsTrue, IsFalse, IsErrOf, OnOk, OnErr, Ok, Err, Some, option_map, unwrap_or, nat_eq};
+ghost use Rattle.std.specs.Prelude.{◌≡◌, ◌≢◌, ◌≤◌, ◌<◌, [], true, length, map, is_some, take, IfOk, IfErr, IfSome, OnSome, IfNone, IsErrOf, OnOk, OnErr, Ok, Err, Some, None, option_map, unwrap_or, nat_eq};
 ghost use Rattle.sdb_oplog.specs.Decide.{decide, stored, missed, IsMade, storing_takes_memory, deciding_takes_memory};
 ghost use Rattle.sdb_oplog.specs.Over.{over_all, carrying_takes_memory};
 ghost use Rattle.sdb_oplog.specs.Keys.{no_logs, with_log, plain_key};
@@ -7,9 +7,8 @@ ghost use Rattle.sdb_oplog.specs.Refused.{RefusedBy};
 ghost use Rattle.sdb_oplog.specs.Snap.{becomes, document};
 ghost use Rattle.sdb_oplog.specs.declared.codes.Code.TheVariants.{E10};
 ghost use Rattle.sdb_snapcache.specs.Snaps.{AreSnapsOf};
-ghost use Rattle.std.specs.Map.{remove_entry};
-ghost use Rattle.sdb_subscribe.specs.Queue.{opened, queue_at, taken_from};
-ghost use Rattle.sdb_subscribe.specs.Ring.{after_take_ringed};
+ghost use Rattle.sdb_subscribe.specs.Queue.{opened, queue_at, is_owned};
+ghost use Rattle.sdb_subscribe.specs.Ring.{after_take_ringed_by, without_ringed_by};
 ghost use Rattle.sdb_value.specs.Owns.{is_pointer};
 ghost use Rattle.sdb_value.specs.View.{view};
 ghost use Rattle.sdb_desk.specs.Documents.{no_document, IsOpen, Settles, RefusedAs, IsUnstored};
@@ -19,14 +18,15 @@ ghost use Rattle.sdb_desk.specs.Rings.{Notes, opened_ringed};
 ghost use Rattle.sdb_desk.specs.Topics.{no_topic};
 ghost use Rattle.sdb_desk.specs.Read.{Leaves};
 ghost use Rattle.sdb_desk.specs.Stored.{AreStored};
+ghost use Rattle.sdb_desk.specs.Looked.{IsLook};
 ghost use Rattle.sdb_desk.specs.Machine.{IsFoundRefused, look_at, looking_takes_memory, fetched, operations, snapshot_at, start_of, start_free, is_filled, has_document, has_version, no_queues, with_queues, closed, Decides, Commits, Keeps, Reads, Subscribes, Takes};
-ghost use Rattle.sdb_desk.specs.View.{plain_look, plain_outcome, told_fetched, told_entries, told_subscribed, told_taken};
+ghost use Rattle.sdb_desk.specs.View.{plain_look, plain_outcome, outcome_of, told_fetched, told_entries, told_subscribed, told_taken};
 ghost use Rattle.sdb_desk.specs.ReplyView.{plain_reply};
 
 use crate::attempts::{Look, Work};
 use crate::document::{Document, Reply, check_presence, look_at, missed_of, reply_at_sight};
 use crate::topic::Topic;
-use sdb_oplog::{Code, Content, Entry, Key, Log, Submission, copy_entries, over_all, same_entries};
+use sdb_oplog::{Code, Content, Entry, Key, Log, Submission, copy_entries, over_all};
 use sdb_subscribe::SubId;
 use sdb_value::Json;
 use std::alloc::{AllocError, Global};
@@ -39,6 +39,16 @@ pub enum Outcome {
     Decided(Reply),
     /// The log is not as long as it was looked at: it is shown afresh.
     Moved(Look),
+}
+
+/// What was decided of a work, which isn't told yet.
+#[derive(Drop)]
+pub enum Decision {
+    /// The submission is stored at this version. The entries that it had not seen are those that the
+    /// look of its work shows as missed.
+    Stores { v: u64 },
+    /// The commit answers this, and the work stays as it is.
+    Answers(Outcome),
 }
 
 /// A version, and the document there.
@@ -155,15 +165,15 @@ impl Shard {
     }
 
     /// Decides the submission of a work, where the log is as long as it was looked at; elsewhere it
-    /// shows the log afresh. What was worked is used only where each entry that the look showed as
-    /// missed stands in the log; elsewhere the submission is worked afresh.
+    /// shows the log afresh. The look is one at this log, as it is or when it was shorter.
     ///
     /// Where it is stored, the entries that the look showed as missed are in the answer, and the work
-    /// keeps its submission: a second commit finds it stored. In all other cases the work stays as it is.
+    /// keeps its submission. In all other cases the work stays as it is.
     ///
     /// `Refused(E10)` is want of memory, and nothing has changed then. A repeat, a full log, a version
     /// above the present one and what the work found refused take none.
     pub fn commit(&mut self, key: &Key, work: &mut Work) -> Outcome
+        requires { IsLook (logs_of self.old (plain_key key.now)) work.old }
         ensures commits { Commits (logs_of self.old) (plain_key key.now) work.old (plain_outcome result)
             (logs_of self.new) }
         ensures keeps { Keeps (plain_outcome result) work.old work.new }
@@ -171,40 +181,32 @@ impl Shard {
         ensures queues { queues_of self.new ≡ queues_of self.old }
         ensures rings { Notes (logs_of self.old) (logs_of self.new) (ringed_of self.old) (ringed_of self.new) }
     {
-        if self.version(key) != work.version() {
-            return match self.look(key, work.submission()) {
-                Ok(look) => Outcome::Moved(look),
-                Err(error) => Outcome::Decided(Reply::Refused(Code::from(error))),
-            };
-        }
-        if !self.agrees(key, work) {
-            return Outcome::Decided(self.commit_now(key, work.submission()));
-        }
-        if let Some(reply) = self.reply_at_sight(key, work.submission()) {
-            return Outcome::Decided(reply);
-        }
-        let v = work.version();
-        match self.store_work(key, work) {
-            Ok(()) => Outcome::Decided(Reply::Stored {
-                v,
-                missed: work.take_missed(self.alloc),
-            }),
-            Err(code) => Outcome::Decided(Reply::Refused(code)),
-        }
+        let decision = self.decide(key, work);
+        work.conclude(self.alloc, decision)
     }
 
-    // Whether the entries that the work rests on are those that its submission missed.
-    fn agrees(&self, key: &Key, work: &Work) -> bool
-        ensures same { IsTrue result → work.now.look.missed ≡
-            missed (logs_of self.now (plain_key key.now)) work.now.submission }
-        ensures other { IsFalse result → work.now.look.missed ≡
-            missed (logs_of self.now (plain_key key.now)) work.now.submission → ⊥ }
+    /// Decides a work as [`commit`](Shard::commit) does, and leaves it to the caller to tell the work, by
+    /// [`Work::conclude`].
+    pub fn decide(&mut self, key: &Key, work: &Work) -> Decision
+        requires { IsLook (logs_of self.old (plain_key key.now)) work.now }
+        ensures commits { Commits (logs_of self.old) (plain_key key.now) work.now (outcome_of work.now result)
+            (logs_of self.new) }
+        ensures kept { kept_of self.new ≡ kept_of self.old }
+        ensures queues { queues_of self.new ≡ queues_of self.old }
+        ensures rings { Notes (logs_of self.old) (logs_of self.new) (ringed_of self.old) (ringed_of self.new) }
     {
-        match self.find(key) {
-            Some(document) => {
-                same_entries(work.missed(), missed_of(document.log(), work.submission()))
-            }
-            None => work.missed().is_empty(),
+        if self.version(key) != work.version() {
+            return Decision::Answers(match self.look(key, work.submission()) {
+                Ok(look) => Outcome::Moved(look),
+                Err(error) => Outcome::Decided(Reply::Refused(Code::from(error))),
+            });
+        }
+        if let Some(reply) = self.reply_at_sight(key, work.submission()) {
+            return Decision::Answers(Outcome::Decided(reply));
+        }
+        match self.store_work(key, work) {
+            Ok(()) => Decision::Stores { v: work.version() },
+            Err(code) => Decision::Answers(Outcome::Decided(Reply::Refused(code))),
         }
     }
 
@@ -504,22 +506,27 @@ impl Shard {
         }
     }
 
-    /// Opens a queue that takes all stored operations from the version on, or from the present one, and
-    /// shows the document there. E4 where the version is above the present one; E11 where the numbers of
+    /// Opens a queue of a number that takes all stored operations from the version on, or from the present
+    /// one, and shows the document there. E4 where the version is above the present one; E11 where the numbers of
     /// this key are used up, after 18446744073709551615 of them; E10 is want of memory for a queue that
     /// was to be opened. Nothing has changed then.
-    pub fn subscribe(&mut self, key: &Key, version: Option<u64>) -> Result<Subscribed, Code>
-        ensures subscribes { Subscribes (logs_of self.old (plain_key key.now)) version
+    pub fn subscribe(
+        &mut self,
+        key: &Key,
+        by: u64,
+        version: Option<u64>,
+    ) -> Result<Subscribed, Code>
+        ensures subscribes { Subscribes (logs_of self.old (plain_key key.now)) by version
             (queues_of self.old (plain_key key.now)) (told_subscribed result) (queues_of self.new (plain_key key.now)) }
         // The queue stands at its start, and nothing was taken.
         ensures open { IfOk result (λ s. queue_at s.id (queues_of self.new (plain_key key.now)).queues ≡
-            Some (record { start = s.start; taken = 0 })) }
+            Some (record { start = s.start; taken = 0; by = by })) }
         ensures others { queues_of self.new ≡
             with_queues (queues_of self.old) (plain_key key.now) (queues_of self.new (plain_key key.now)) }
         ensures logs { logs_of self.new ≡ logs_of self.old }
         ensures kept { kept_of self.new ≡ kept_of self.old }
         ensures rings { IfOk result (λ s. ringed_of self.new ≡ with_ringed (ringed_of self.old) (plain_key key.now)
-            (opened_ringed s.id s.start (ringed_of self.old (plain_key key.now)))) }
+            (opened_ringed s.id by s.start (ringed_of self.old (plain_key key.now)))) }
         ensures rings_left { OnErr result (ringed_of self.new ≡ ringed_of self.old) }
     {
         let start = self.start_reached(key, version)?;
@@ -527,7 +534,7 @@ impl Shard {
             return Err(Code::E11);
         }
         let Fetched { version, snapshot } = self.fetch(key)?;
-        let id = self.open(key, start)?;
+        let id = self.open(key, by, start)?;
         Ok(Subscribed {
             id,
             start,
@@ -582,64 +589,74 @@ impl Shard {
         }
     }
 
-    // Opens a queue at a version.
-    fn open(&mut self, key: &Key, start: u64) -> Result<SubId, Code>
+    // Opens a queue of a number at a version.
+    fn open(&mut self, key: &Key, by: u64, start: u64) -> Result<SubId, Code>
         ensures ok { IfOk result (λ id. id ≡ (queues_of self.old (plain_key key.now)).next) }
         ensures opened { OnOk result
-            (opened start (queues_of self.old (plain_key key.now)) ≡ Ok (queues_of self.new (plain_key key.now))) }
+            (opened by start (queues_of self.old (plain_key key.now)) ≡ Ok (queues_of self.new (plain_key key.now))) }
         ensures open { IfOk result (λ id. queue_at id (queues_of self.new (plain_key key.now)).queues ≡
-            Some (record { start = start; taken = 0 })) }
-        ensures err { IfErr result (λ code. RefusedBy (opened start (queues_of self.old (plain_key key.now))) code) }
+            Some (record { start = start; taken = 0; by = by })) }
+        ensures err { IfErr result
+            (λ code. RefusedBy (opened by start (queues_of self.old (plain_key key.now))) code) }
         ensures same { OnErr result (queues_of self.new ≡ queues_of self.old) }
         ensures others { queues_of self.new ≡
             with_queues (queues_of self.old) (plain_key key.now) (queues_of self.new (plain_key key.now)) }
         ensures logs { logs_of self.new ≡ logs_of self.old }
         ensures kept { kept_of self.new ≡ kept_of self.old }
         ensures rings { IfOk result (λ id. ringed_of self.new ≡ with_ringed (ringed_of self.old) (plain_key key.now)
-            (opened_ringed id start (ringed_of self.old (plain_key key.now)))) }
+            (opened_ringed id by start (ringed_of self.old (plain_key key.now)))) }
         ensures rings_left { OnErr result (ringed_of self.new ≡ ringed_of self.old) }
     {
         if let Some(topic) = self.topics.get_mut(key) {
-            return topic.open(start);
+            return topic.open(by, start);
         }
         let mut topic = Topic::new(self.alloc);
-        let id = topic.open(start)?;
+        let id = topic.open(by, start)?;
         self.keep(key, topic)?;
         Ok(id)
     }
 
     /// The next entries of a queue, at most `max`, fewer where the log ends; `None` where no open queue
-    /// of the key has the number. Where nothing waits it takes no memory; after want of memory nothing is
-    /// taken.
-    pub fn take(&mut self, key: &Key, id: SubId, max: u64) -> Result<Option<Vec<Entry>>, AllocError>
-        ensures takes { Takes (logs_of self.old (plain_key key.now)) id max (queues_of self.old (plain_key key.now))
-            (told_taken result) (queues_of self.new (plain_key key.now)) }
+    /// of the key has the number `id`, or where it was opened under another number than `by`. Where
+    /// nothing waits it takes no memory; after want of memory nothing is taken.
+    pub fn take(
+        &mut self,
+        key: &Key,
+        by: u64,
+        id: SubId,
+        max: u64,
+    ) -> Result<Option<Vec<Entry>>, AllocError>
+        ensures takes { Takes (logs_of self.old (plain_key key.now)) by id max
+            (queues_of self.old (plain_key key.now)) (told_taken result) (queues_of self.new (plain_key key.now)) }
         ensures others { queues_of self.new ≡
             with_queues (queues_of self.old) (plain_key key.now) (queues_of self.new (plain_key key.now)) }
         ensures logs { logs_of self.new ≡ logs_of self.old }
         ensures kept { kept_of self.new ≡ kept_of self.old }
         ensures rings { OnOk result (ringed_of self.new ≡ with_ringed (ringed_of self.old) (plain_key key.now)
-            (after_take_ringed (logs_of self.old (plain_key key.now)) id max
+            (after_take_ringed_by (logs_of self.old (plain_key key.now)) by id max
             (ringed_of self.old (plain_key key.now)))) }
         ensures rings_left { OnErr result (ringed_of self.new ≡ ringed_of self.old) }
     {
         match self.topics.get_mut(key) {
-            Some(topic) => topic.take(self.alloc, id, max),
+            Some(topic) => topic.take(self.alloc, by, id, max),
             None => Ok(None),
         }
     }
 
-    /// Closes a queue of the key. It takes no memory. A number that no open queue has does nothing.
-    pub fn unsubscribe(&mut self, key: &Key, id: SubId)
-        ensures queues { queues_of self.new ≡
-            with_queues (queues_of self.old) (plain_key key.now) (closed id (queues_of self.old (plain_key key.now))) }
+    /// Closes a queue of the key, which isn't found afterwards. It takes no memory. A number that no open
+    /// queue has, or one that was opened under another number than `by`, does nothing.
+    pub fn unsubscribe(&mut self, key: &Key, by: u64, id: SubId)
+        ensures queues { queues_of self.new ≡ with_queues (queues_of self.old) (plain_key key.now)
+            (closed by id (queues_of self.old (plain_key key.now))) }
+        ensures gone { is_owned by id (queues_of self.old (plain_key key.now)).queues ≡ true →
+            queue_at id (queues_of self.new (plain_key key.now)).queues ≡ None }
         ensures logs { logs_of self.new ≡ logs_of self.old }
         ensures kept { kept_of self.new ≡ kept_of self.old }
         ensures rings { ringed_of self.new ≡ with_ringed (ringed_of self.old) (plain_key key.now)
-            (remove_entry (nat_eq id) (ringed_of self.old (plain_key key.now))) }
+            (without_ringed_by by id (ringed_of self.old (plain_key key.now))) }
     {
         if let Some(topic) = self.topics.get_mut(key) {
-            topic.close(id);
+            topic.close(by, id);
         }
     }
 }

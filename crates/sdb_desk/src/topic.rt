@@ -1,6 +1,5 @@
 //! What is kept of a key: a document, those who follow it, or both.
-ghost use Rattle.std.specs.Prelude.{◌≡◌, ◌≢◌, ◌≤◌, ◌<◌, ◌++◌, ◌∷◌, List, [], true, length, take, is_some, IfOk, IfErr, IfSome, OnOk, OnErr, Ok, Err, Some, option_map, unwrap_or, nat_eq};
-ghost use Rattle.std.specs.Map.{remove_entry};
+ghost use Rattle.std.specs.Prelude.{◌≡◌, ◌≢◌, ◌≤◌, ◌<◌, ◌++◌, ◌∷◌, List, [], length, take, is_some, true, IfOk, IfErr, IfSome, OnOk, OnErr, Ok, Err, Some, None, option_map, unwrap_or};
 ghost use Rattle.sdb_value.specs.Owns.{is_pointer};
 ghost use Rattle.sdb_value.specs.View.{view};
 ghost use Rattle.sdb_oplog.specs.Decide.{decide, stored, missed};
@@ -8,8 +7,8 @@ ghost use Rattle.sdb_oplog.specs.Plain.{PlainEntry};
 ghost use Rattle.sdb_oplog.specs.Refused.{RefusedBy};
 ghost use Rattle.sdb_oplog.specs.Snap.{document, snap};
 ghost use Rattle.sdb_oplog.specs.declared.codes.Code.TheVariants.{E10};
-ghost use Rattle.sdb_subscribe.specs.Queue.{opened, queue_at, taken_from, after_take, without};
-ghost use Rattle.sdb_subscribe.specs.Ring.{bare, FitLog, AreNoted, after_take_ringed};
+ghost use Rattle.sdb_subscribe.specs.Queue.{opened, queue_at, taken_by, after_take_by, without_by, is_owned};
+ghost use Rattle.sdb_subscribe.specs.Ring.{bare, FitLog, AreNoted, after_take_ringed_by, without_ringed_by};
 ghost use Rattle.sdb_desk.specs.Documents.{no_document, Settles, RefusedAs};
 ghost use Rattle.sdb_desk.specs.Machine.{is_filled};
 ghost use Rattle.sdb_desk.specs.Read.{Leaves};
@@ -143,53 +142,59 @@ impl Topic {
         }
     }
 
-    // Opens a queue.
-    pub(crate) fn open(&mut self, start: u64) -> Result<SubId, Code>
+    // Opens a queue of a number.
+    pub(crate) fn open(&mut self, by: u64, start: u64) -> Result<SubId, Code>
         ensures id { IfOk result (λ id. id ≡ (bare self.old.queues).next) }
-        ensures ok { OnOk result (opened start (bare self.old.queues) ≡ Ok (bare self.new.queues)) }
+        ensures ok { OnOk result (opened by start (bare self.old.queues) ≡ Ok (bare self.new.queues)) }
         ensures open { IfOk result
-            (λ id. queue_at id (bare self.new.queues).queues ≡ Some (record { start = start; taken = 0 })) }
-        ensures err { IfErr result (λ code. RefusedBy (opened start (bare self.old.queues)) code) }
+            (λ id. queue_at id (bare self.new.queues).queues ≡
+            Some (record { start = start; taken = 0; by = by })) }
+        ensures err { IfErr result (λ code. RefusedBy (opened by start (bare self.old.queues)) code) }
         ensures same { OnErr result (self.new ≡ self.old) }
         ensures document { self.new.document ≡ self.old.document }
-        ensures rings { IfOk result (λ id. self.new.queues.queues ≡ opened_ringed id start self.old.queues.queues) }
+        ensures rings { IfOk result
+            (λ id. self.new.queues.queues ≡ opened_ringed id by start self.old.queues.queues) }
     {
-        self.queues.open(start)
+        self.queues.open(by, start)
     }
 
-    // Takes the next entries of a queue.
+    // Takes the next entries of a queue of a number.
     pub(crate) fn take(
         &mut self,
         alloc: Global,
+        by: u64,
         id: SubId,
         max: u64,
     ) -> Result<Option<Vec<Entry>>, AllocError>
         ensures entries { IfOk result (λ v. option_map (λ es. es.items) v ≡
-            taken_from self.old.document.log id max (bare self.old.queues).queues) }
+            taken_by self.old.document.log by id max (bare self.old.queues).queues) }
         ensures moved { OnOk result ((bare self.new.queues).queues ≡
-            after_take self.old.document.log id max (bare self.old.queues).queues) }
+            after_take_by self.old.document.log by id max (bare self.old.queues).queues) }
         ensures err { OnErr result (self.new ≡ self.old) }
         ensures some { OnErr result
-            (0 < length (unwrap_or (taken_from self.old.document.log id max (bare self.old.queues).queues) [])) }
+            (0 < length (unwrap_or
+            (taken_by self.old.document.log by id max (bare self.old.queues).queues) [])) }
         ensures next { self.new.queues.next ≡ self.old.queues.next }
         ensures document { self.new.document ≡ self.old.document }
         ensures rings { OnOk result (self.new.queues.queues ≡
-            after_take_ringed self.old.document.log id max self.old.queues.queues) }
+            after_take_ringed_by self.old.document.log by id max self.old.queues.queues) }
     {
         match &self.document {
-            Some(document) => self.queues.take(document.log(), id, max),
-            None => self.queues.take(&Log::new(alloc), id, max),
+            Some(document) => self.queues.take(by, document.log(), id, max),
+            None => self.queues.take(by, &Log::new(alloc), id, max),
         }
     }
 
-    // Closes a queue.
-    pub(crate) fn close(&mut self, id: SubId)
-        ensures queues { (bare self.new.queues).queues ≡ without id (bare self.old.queues).queues }
+    // Closes a queue of a number.
+    pub(crate) fn close(&mut self, by: u64, id: SubId)
+        ensures queues { (bare self.new.queues).queues ≡ without_by by id (bare self.old.queues).queues }
+        ensures gone { is_owned by id (bare self.old.queues).queues ≡ true →
+            queue_at id (bare self.new.queues).queues ≡ None }
         ensures next { self.new.queues.next ≡ self.old.queues.next }
-        ensures rings { self.new.queues.queues ≡ remove_entry (nat_eq id) self.old.queues.queues }
+        ensures rings { self.new.queues.queues ≡ without_ringed_by by id self.old.queues.queues }
         ensures document { self.new.document ≡ self.old.document }
     {
-        self.queues.close(id)
+        self.queues.close(by, id)
     }
 }
 

@@ -15,7 +15,7 @@ fn main(rt: HostRuntime) -> anyhow::Result<()> {
     let listener = TcpListener::bind(&rt, "127.0.0.1:0")?;
     let address = listener.local_addr()?;
     let visitor = thread::spawn(&rt, move || visitor::visit(rt, address))?;
-    let (backend, mut host) = Backend::new(alloc, rt);
+    let (backend, mut host) = Backend::new(alloc, rt)?;
     let state = ServerState::new(alloc, backend, Table::new(alloc))?;
     let state = Arc::new(alloc, state)?;
     listen(rt, alloc, &listener, &state, &mut host, Some(1))?;

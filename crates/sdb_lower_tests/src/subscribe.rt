@@ -11,7 +11,7 @@ fn entry(alloc: Global, version: u64) -> Result<Entry, Fail> {
 }
 
 fn opened(queues: &mut Queues, from: u64) -> Result<SubId, Fail> {
-    Ok(queues.open(from).or(Err("open"))?)
+    Ok(queues.open(0, from).or(Err("open"))?)
 }
 
 // Notes the entries from this version on, up to that one.
@@ -35,13 +35,27 @@ fn queues_stand_apart(rt: HostRuntime) -> Result<(), Fail> {
 
 fn forgets_a_closed_one(queues: &mut Queues) -> Result<bool, Fail> {
     let id = opened(queues, 0)?;
-    queues.close(id);
+    queues.close(0, id);
     Ok(queues.len() == 0 && queues.ringed(id).is_none() && opened(queues, 0)? != id)
 }
 
 #[test]
 fn a_closed_queue_is_unknown(rt: HostRuntime) -> Result<(), Fail> {
     assert!(rt; forgets_a_closed_one(&mut Queues::new(rt.alloc()))?);
+    Ok(())
+}
+
+fn is_closed_by_its_opener(queues: &mut Queues) -> Result<bool, Fail> {
+    let id = opened(queues, 0)?;
+    queues.close(1, id);
+    let stays = queues.owner(id) == Some(0);
+    queues.close(0, id);
+    Ok(stays && queues.owner(id).is_none())
+}
+
+#[test]
+fn a_queue_is_closed_under_its_number(rt: HostRuntime) -> Result<(), Fail> {
+    assert!(rt; is_closed_by_its_opener(&mut Queues::new(rt.alloc()))?);
     Ok(())
 }
 
@@ -74,7 +88,7 @@ fn a_ring_takes_in_nothing_before_its_start(rt: HostRuntime) -> Result<(), Fail>
 
 // Opens a queue. Where that finds no memory nothing has changed, and it is opened with memory.
 fn opens_again(queues: &mut Queues) -> Result<bool, Fail> {
-    match queues.open(7) {
+    match queues.open(0, 7) {
         Ok(_) => Ok(true),
         Err(_) => {
             let nothing = queues.given() == 0 && queues.len() == 0;

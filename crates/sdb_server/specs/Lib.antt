@@ -1,3 +1,4 @@
-pub mod State
 pub mod Runs
+pub mod Served
 pub mod Source
+pub mod State

@@ -1,5 +1,8 @@
 //! Connections: what they share, and the loop that lets clients in, each on a thread of its own.
-ghost use Rattle.std.specs.Prelude.{◌≡◌, ◌+◌, ◌≤◌, IfOk, IsSomeAnd, OnErr, OnOk};
+ghost use Rattle.std.specs.Prelude.{◌≡◌, ◌+◌, ◌≤◌, IfOk, IfSome, IsSomeAnd, OnErr, OnOk};
+ghost use Rattle.sdb_backend.specs.Passes.{next_of, IsPass, IsHost};
+ghost use Rattle.sdb_backend.specs.declared.seats.Host.{Host as Hosting};
+ghost use Rattle.sdb_server.specs.Served.{IsHostOf};
 
 use crate::websocket_session::{close_and_drain, serve};
 use sdb_backend::{Backend, Host, Pass};
@@ -109,7 +112,9 @@ impl<R: Wait + Drop> ServerState<R> {
         alloc: Global,
         backend: Backend<R>,
         table: Table,
-    ) -> Result<ServerState<R>, AllocError> {
+    ) -> Result<ServerState<R>, AllocError>
+        ensures { IfOk result (λ s. (h : Hosting) → IsHost h backend → IsHostOf h s) }
+    {
         let slots = Mutex::new(Slots::new(alloc)?);
         Ok(ServerState {
             backend,
@@ -120,7 +125,9 @@ impl<R: Wait + Drop> ServerState<R> {
 
     // Attends to one connection, from its handshake to its end: serves it with the pass, or tells it to
     // come again where there is none.
-    fn attend(&self, rt: &R, alloc: Global, stream: TcpStream, pass: Option<Pass>) {
+    fn attend(&self, rt: &R, alloc: Global, stream: TcpStream, pass: Option<Pass>)
+        requires { IfSome pass (λ p. IsPass p self.now.backend) }
+    {
         if set_socket_options(&stream).is_err() {
             return;
         }
@@ -195,8 +202,10 @@ impl ConnectionThreads {
         state: &Arc<ServerState<R>, Global>,
         host: &mut Host,
     ) -> bool
-        requires { self.old.entered ≤ host.old }
-        ensures counted { self.new.entered + host.old ≡ self.old.entered + host.new }
+        requires few { self.old.entered ≤ next_of host.old }
+        requires host { IsHostOf host.old state.now.value }
+        ensures host { IsHostOf host.new state.now.value }
+        ensures counted { self.new.entered + next_of host.old ≡ self.old.entered + next_of host.new }
         ensures let_in { self.old.entered ≤ self.new.entered }
     {
         let Some(slot) = state.slots.lock(&rt).take() else {
@@ -218,8 +227,11 @@ impl ConnectionThreads {
 
     // A pass for one client more, where the backend has one.
     fn admit<R: Wait + Drop>(&mut self, backend: &Backend<R>, host: &mut Host) -> Option<Pass>
-        requires { self.old.entered ≤ host.old }
-        ensures counted { self.new.entered + host.old ≡ self.old.entered + host.new }
+        requires few { self.old.entered ≤ next_of host.old }
+        requires host { IsHost host.old backend.now }
+        ensures host { IsHost host.new backend.now }
+        ensures pass { IfSome result (λ p. IsPass p backend.now) }
+        ensures counted { self.new.entered + next_of host.old ≡ self.old.entered + next_of host.new }
         ensures let_in { self.old.entered ≤ self.new.entered }
     {
         let Ok(pass) = backend.enter(host) else {
@@ -239,6 +251,7 @@ impl ConnectionThreads {
         stream: TcpStream,
         pass: Option<Pass>,
     ) -> bool
+        requires { IfSome pass (λ p. IsPass p state.now.value.backend) }
         ensures { self.new.entered ≡ self.old.entered }
     {
         let Some(handle) = self.handles.get_mut(slot.index()) else {
@@ -251,7 +264,9 @@ impl ConnectionThreads {
         let Ok(theirs) = Arc::try_clone(state) else {
             return false;
         };
-        let run = move || {
+        let run = move ||
+            requires { IfSome pass (λ p. IsPass p theirs.value.backend) }
+        {
             theirs.attend(&rt, alloc, stream, pass);
             theirs.slots.lock(&rt).give_back(slot);
         };
@@ -292,7 +307,9 @@ pub fn listen<R: Threads + Wait + Clock + Drop + Copy + Send + Sync + 'static>(
     host: &mut Host,
     connections: Option<u64>,
 ) -> io::Result<()>
-    ensures counted { OnOk result (IsSomeAnd connections (λ count. host.new ≡ host.old + count)) }
+    requires { IsHostOf host.old state.now.value }
+    ensures host { IsHostOf host.new state.now.value }
+    ensures counted { OnOk result (IsSomeAnd connections (λ count. next_of host.new ≡ next_of host.old + count)) }
     ensures nobody { OnErr result (host.new ≡ host.old) }
 {
     listener.set_nonblocking(true)?;

@@ -1,5 +1,7 @@
 //! One session over a WebSocket.
 ghost use Rattle.std.specs.Prelude.{◌≡◌};
+ghost use Rattle.sdb_backend.specs.Passes.{number_of, IsPass};
+ghost use Rattle.sdb_server.specs.Served.{KeepsPass};
 
 use crate::TAKE_LIMIT;
 use sdb_backend::{Backend, Pass};
@@ -105,7 +107,9 @@ pub fn serve<R: Wait + Drop, S: Read + Write + Drop>(
     pass: Pass,
     table: &Table,
 ) -> Pass
-    ensures number { result ≡ pass }
+    requires { IsPass pass backend.now }
+    ensures pass { IsPass result backend.now }
+    ensures number { number_of result ≡ number_of pass }
 {
     let number = pass.number();
     let Ok(source) = format!(in alloc; "s{number}") else {
@@ -129,7 +133,8 @@ pub fn serve<R: Wait + Drop, S: Read + Write + Drop>(
 impl<R: Wait + Drop, S: Read + Write + Drop> Client<'_, R, S> {
     // Answers the client until the session ends.
     fn converse(&mut self, rt: &R) -> SessionEnd
-        ensures { self.new.pass ≡ self.old.pass }
+        requires { IsPass self.old.pass self.old.backend.now }
+        ensures { KeepsPass self.old.backend.now self.old.pass self.new.backend.now self.new.pass }
     {
         if let Err(end) = self.open() {
             return end;
@@ -143,7 +148,8 @@ impl<R: Wait + Drop, S: Read + Write + Drop> Client<'_, R, S> {
     }
 
     fn open(&mut self) -> Result<(), SessionEnd>
-        ensures { self.new.pass ≡ self.old.pass }
+        requires { IsPass self.old.pass self.old.backend.now }
+        ensures { KeepsPass self.old.backend.now self.old.pass self.new.backend.now self.new.pass }
     {
         let opening = self.session.opening()?;
         self.say(opening)?;
@@ -153,7 +159,8 @@ impl<R: Wait + Drop, S: Read + Write + Drop> Client<'_, R, S> {
 
     // One read, its answers, and what was stored meanwhile. They go out together.
     fn turn(&mut self) -> Result<(), SessionEnd>
-        ensures { self.new.pass ≡ self.old.pass }
+        requires { IsPass self.old.pass self.old.backend.now }
+        ensures { KeepsPass self.old.backend.now self.old.pass self.new.backend.now self.new.pass }
     {
         let incoming = next_incoming(self.socket)?;
         self.answer(&incoming)?;
@@ -164,7 +171,8 @@ impl<R: Wait + Drop, S: Read + Write + Drop> Client<'_, R, S> {
     }
 
     fn answer(&mut self, incoming: &Incoming) -> Result<(), SessionEnd>
-        ensures { self.new.pass ≡ self.old.pass }
+        requires { IsPass self.old.pass self.old.backend.now }
+        ensures { KeepsPass self.old.backend.now self.old.pass self.new.backend.now self.new.pass }
     {
         let mut texts = Vec::new(self.alloc);
         match incoming {
@@ -181,7 +189,8 @@ impl<R: Wait + Drop, S: Read + Write + Drop> Client<'_, R, S> {
 
     // Sends what was stored meanwhile.
     fn pump(&mut self) -> Result<(), SessionEnd>
-        ensures { self.new.pass ≡ self.old.pass }
+        requires { IsPass self.old.pass self.old.backend.now }
+        ensures { KeepsPass self.old.backend.now self.old.pass self.new.backend.now self.new.pass }
     {
         for _ in 0..PUMP_LIMIT {
             let pumped = self
@@ -197,7 +206,8 @@ impl<R: Wait + Drop, S: Read + Write + Drop> Client<'_, R, S> {
 
     // Asks a client that is silent for a sign of life, and ends with one that gives none.
     fn watch(&mut self, incoming: &Incoming) -> Result<(), SessionEnd>
-        ensures { self.new.pass ≡ self.old.pass }
+        requires { IsPass self.old.pass self.old.backend.now }
+        ensures { KeepsPass self.old.backend.now self.old.pass self.new.backend.now self.new.pass }
     {
         self.silent_reads = match incoming {
             Incoming::Silence => self.silent_reads.saturating_add(1),
@@ -213,7 +223,8 @@ impl<R: Wait + Drop, S: Read + Write + Drop> Client<'_, R, S> {
     }
 
     fn say_all(&mut self, texts: Vec<String>) -> Result<(), SessionEnd>
-        ensures { self.new.pass ≡ self.old.pass }
+        requires { IsPass self.old.pass self.old.backend.now }
+        ensures { KeepsPass self.old.backend.now self.old.pass self.new.backend.now self.new.pass }
     {
         for text in texts {
             self.say(text)?;
@@ -222,7 +233,8 @@ impl<R: Wait + Drop, S: Read + Write + Drop> Client<'_, R, S> {
     }
 
     fn say(&mut self, text: String) -> Result<(), SessionEnd>
-        ensures { self.new.pass ≡ self.old.pass }
+        requires { IsPass self.old.pass self.old.backend.now }
+        ensures { KeepsPass self.old.backend.now self.old.pass self.new.backend.now self.new.pass }
     {
         let text = Utf8Bytes::from_string(text)?;
         self.socket.write(Message::Text(text))?;
@@ -231,7 +243,8 @@ impl<R: Wait + Drop, S: Read + Write + Drop> Client<'_, R, S> {
 
     // Closes the connection as the session has ended.
     fn close(&mut self, end: SessionEnd)
-        ensures { self.new.pass ≡ self.old.pass }
+        requires { IsPass self.old.pass self.old.backend.now }
+        ensures { KeepsPass self.old.backend.now self.old.pass self.new.backend.now self.new.pass }
     {
         match end {
             SessionEnd::Gone => {}
@@ -243,7 +256,8 @@ impl<R: Wait + Drop, S: Read + Write + Drop> Client<'_, R, S> {
     // Answers a message that is too long, and closes. The socket takes no text any more, so the answer
     // goes out over a fresh one on the same stream.
     fn refuse_too_long(&mut self)
-        ensures { self.new.pass ≡ self.old.pass }
+        requires { IsPass self.old.pass self.old.backend.now }
+        ensures { KeepsPass self.old.backend.now self.old.pass self.new.backend.now self.new.pass }
     {
         let stream = self.socket.get_mut();
         let mut socket = WebSocket::from_raw_socket(self.alloc, stream, NoMask, Role::Server, None);
@@ -261,7 +275,9 @@ impl<R: Wait + Drop, S: Read + Write + Drop> Client<'_, R, S> {
 
     // Closes the queues of the session, and gives the pass back.
     fn leave(self) -> Pass
-        ensures { result ≡ self.entry.pass }
+        requires { IsPass self.entry.pass self.entry.backend.now }
+        ensures pass { IsPass result self.entry.backend.now }
+        ensures number { number_of result ≡ number_of self.entry.pass }
     {
         let Client {
             backend,

@@ -204,7 +204,7 @@ where
     R: Copy + Drop + Send + Sync + 'static,
 {
     let alloc = rt.alloc();
-    let (backend, mut host) = Backend::new(alloc, rt);
+    let (backend, mut host) = Backend::new(alloc, rt)?;
     let state = Arc::new(alloc, ServerState::new(alloc, backend, table)?)?;
     println!(rt; "listening {}", listener.local_addr()?)?;
     listen(rt, alloc, listener, &state, &mut host, connections)?;

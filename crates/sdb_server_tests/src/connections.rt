@@ -37,7 +37,7 @@ where
     R: AllocGlobal + Threads + Wait + Clock + Drop + Copy + Send + Sync + 'static,
 {
     let alloc = rt.alloc();
-    let (backend, mut host) = Backend::new(alloc, rt);
+    let (backend, mut host) = Backend::new(alloc, rt)?;
     let state = Arc::new(alloc, ServerState::new(alloc, backend, Table::new(alloc))?)?;
     listen(rt, alloc, listener, &state, &mut host, Some(connections))?;
     Ok(())

@@ -1,4 +1,6 @@
 //! Sessions whose clients are no sockets.
+ghost use Rattle.sdb_backend.specs.Passes.{IsPass};
+
 use sdb_backend::{Backend, Pass};
 use sdb_oplog::Key;
 use sdb_projection::Table;
@@ -114,7 +116,10 @@ fn attend<R: Wait + Drop>(
     backend: &Backend<R>,
     pass: Pass,
     peer: Peer<'_>,
-) -> (Pass, Vec<u8>) {
+) -> (Pass, Vec<u8>)
+    requires { IsPass pass backend.now }
+    ensures { IsPass result.0 backend.now }
+{
     let mut socket = WebSocket::from_raw_socket(alloc, peer, NoMask, Role::Server, None);
     let table = Table::new(alloc);
     let pass = serve(rt, alloc, &mut socket, backend, pass, &table);
@@ -123,7 +128,7 @@ fn attend<R: Wait + Drop>(
 
 // What the first client of a server is told.
 fn told<R: AllocGlobal + Wait + Drop + Copy>(rt: R, peer: Peer<'_>) -> Result<Vec<u8>, Fail> {
-    let (backend, mut host) = Backend::new(rt.alloc(), rt);
+    let (backend, mut host) = Backend::new(rt.alloc(), rt)?;
     let pass = backend.enter(&mut host)?;
     let (_, told) = attend(&rt, rt.alloc(), &backend, pass, peer);
     Ok(told)
@@ -200,7 +205,7 @@ fn document(alloc: Global) -> Result<Key, AllocError> {
 
 // The number of the first queue of a document, which is the same at every backend.
 fn first_queue<R: AllocGlobal + Wait + Drop>(rt: R, key: &Key) -> Result<SubId, Fail> {
-    let (backend, mut host) = Backend::new(rt.alloc(), rt);
+    let (backend, mut host) = Backend::new(rt.alloc(), rt)?;
     let mut pass = backend.enter(&mut host)?;
     Ok(backend.subscribe(&mut pass, key, None)?.id)
 }
@@ -217,7 +222,9 @@ fn is_gone<R: Wait + Drop>(
     pass: &mut Pass,
     key: &Key,
     first: SubId,
-) -> Result<bool, Fail> {
+) -> Result<bool, Fail>
+    requires { IsPass pass.old backend.now }
+{
     let is_gone = backend.take(pass, key, first, 1)?.is_none();
     let second = backend.subscribe(pass, key, None)?.id;
     Ok(is_gone && second != first && backend.take(pass, key, second, 1)?.is_some())
@@ -227,7 +234,7 @@ fn is_gone<R: Wait + Drop>(
 fn a_session_that_has_ended_has_no_queue(rt: HostRuntime) -> Result<(), Fail> {
     let (key, sent) = (document(rt.alloc())?, one_subscribe(rt.alloc())?);
     let first = first_queue(rt, &key)?;
-    let (backend, mut host) = Backend::new(rt.alloc(), rt);
+    let (backend, mut host) = Backend::new(rt.alloc(), rt)?;
     let pass = backend.enter(&mut host)?;
     let peer = Peer::new(rt.alloc(), 0, sent.as_slice(), 1);
     let (mut pass, _) = attend(&rt, rt.alloc(), &backend, pass, peer);

@@ -8,7 +8,7 @@ use Rattle.sdb_oplog.specs.declared.codes.Code.TheVariants.{E1, E9, E10, E11}
 use Rattle.sdb_oplog.specs.Plain.{PlainEntry, PlainSubmission}
 use Rattle.sdb_oplog.specs.Keys.{PlainKey, with_log, no_logs}
 use Rattle.sdb_oplog.specs.Decide.{PlainReply, refused, decide, deciding_takes_memory}
-use Rattle.sdb_subscribe.specs.Queue.{taken_from, after_take}
+use Rattle.sdb_subscribe.specs.Queue.{taken_by, after_take_by}
 use Rattle.sdb_desk.specs.Machine.{Machine, PlainSubscribed, Subscribing, subscribing, start_of, fetched, operations, snapshot_at, has_document, is_filled, has_version, Queued, no_queues, with_queues, closed}
 use Rattle.sdb_projection.specs.Table.{PlainProjection}
 use Rattle.sdb_wire.specs.Wire.{PlainEcho, nothing_said, parse_message, PlainRequest, hello, fetch, subscribe, unsubscribe, submit, snapshot}
@@ -37,21 +37,24 @@ pub data Memory : Type 0 where
   -- none any more when its queue was open: the number of that queue is given, and the queue closed
   none_after : Memory
 
--- ---- the calls of the machine
+-- ---- the calls of the machine, under the number of a session that is alone with it
+
+abbrev pub alone : ℕ
+alone = 0
 
 abbrev pub with_machine_queues : Machine → Queued → Machine
 with_machine_queues m qs = record { logs = m.logs; queues = qs }
 
 -- a queue of the document, from a version on, or from the present one
 abbrev pub opening_at : Machine → PlainKey → Option ℕ → Subscribing
-opening_at m b v = subscribing (m.logs b) v (m.queues b)
+opening_at m b v = subscribing (m.logs b) alone v (m.queues b)
 
 abbrev pub opened_machine : Machine → PlainKey → Option ℕ → Machine
 opened_machine m b v = with_machine_queues m (with_queues m.queues b (opening_at m b v).queues)
 
 -- the next entries of a queue
 abbrev pub next_of : Machine → QueueId → ℕ → List PlainEntry
-next_of m q max = unwrap_or (taken_from (m.logs q.base) q.id max (m.queues q.base).queues) []
+next_of m q max = unwrap_or (taken_by (m.logs q.base) alone q.id max (m.queues q.base).queues) []
 
 abbrev pub after_next : Machine → QueueId → ℕ → Machine
 after_next m q max =
@@ -59,13 +62,13 @@ after_next m q max =
     (with_queues m.queues q.base
     (record {
       next = (m.queues q.base).next;
-      queues = after_take (m.logs q.base) q.id max (m.queues q.base).queues;
+      queues = after_take_by (m.logs q.base) alone q.id max (m.queues q.base).queues;
     }))
 
 -- the queue is closed, if there is one
 abbrev pub closed_machine : Option QueueId → Machine → Machine
 closed_machine None m = m
-closed_machine (Some q) m = with_machine_queues m (with_queues m.queues q.base (closed q.id (m.queues q.base)))
+closed_machine (Some q) m = with_machine_queues m (with_queues m.queues q.base (closed alone q.id (m.queues q.base)))
 
 -- ---- one message
 

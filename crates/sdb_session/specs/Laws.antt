@@ -22,7 +22,7 @@ use Rattle.sdb_session.specs.Sessions.{QueueId, PlainSub, PlainSession, queue_of
 use Rattle.sdb_session.specs.Written.{pieces_of}
 use Rattle.sdb_session.specs.Handling.{ReadOf, ReplyTo, PlainJoined, respond, submission_of, behind, came, full_code, found_says, listed_says, read_says, reply_says, snapshot_says, joined_response, Fetches, Sends, Refuses, Closes, Begins, Joins, Subscribes, Replies, Responds, Answers}
 use Rattle.sdb_session.specs.Pumps.{PlainTaking, Takes, Pumps, pump_says}
-use Rattle.sdb_session.specs.Dialogue.{State, Transition, Memory, enough, none_before, none_after, opening_at, opened_machine, next_of, after_next, closed_machine, decided_at, joined_at, refused_at, subscribed_at, replied, request_answered, opens, takes_memory, opened_and_closed, memory_wanting, answered_with, message_answered, answered, takings, after_takings, pushed}
+use Rattle.sdb_session.specs.Dialogue.{alone, State, Transition, Memory, enough, none_before, none_after, opening_at, opened_machine, next_of, after_next, closed_machine, decided_at, joined_at, refused_at, subscribed_at, replied, request_answered, opens, takes_memory, opened_and_closed, memory_wanting, answered_with, message_answered, answered, takings, after_takings, pushed}
 
 -- ---- pieces
 
@@ -68,16 +68,16 @@ next_if false log v q w o h =
     ap (λ x. x.id) (sym e)
 
 started_if : (b : Bool) (log : List PlainEntry) (v : ℕ) (q : PlainQueues) (o : PlainSubscribed)
-    → (subscribing_from log q (cond b (Err E4) (Ok v))).answer ≡ Ok o → (opening_of log v q (opened v q)).answer ≡ Ok o
+    → (subscribing_from log alone q (cond b (Err E4) (Ok v))).answer ≡ Ok o → (opening_of log v q (opened alone v q)).answer ≡ Ok o
 started_if true log v q o h = cc
 started_if false log v q o h = h
 
 next_number : (log : List PlainEntry) (v : Option ℕ) (q : PlainQueues) (o : PlainSubscribed)
-    → (subscribing log v q).answer ≡ Ok o → o.id ≡ q.next
+    → (subscribing log alone v q).answer ≡ Ok o → o.id ≡ q.next
 next_number log v q o h =
     let n = unwrap_or v (length log) in
     let w : PlainQueues =
-    record { next = q.next + 1; queues = q.queues ++ (q.next, record { start = n; taken = 0 }) ∷ [] } in
+    record { next = q.next + 1; queues = q.queues ++ (q.next, record { start = n; taken = 0; by = alone }) ∷ [] } in
     next_if (nat_eq q.next 18446744073709551615) log n q w o (started_if (nat_lt (length log) n) log n q o h)
 
 -- one that is refused leaves the queues
@@ -87,12 +87,12 @@ open_keeps (Ok w) log v q code h = cc
 open_keeps (Err c) log v q code h = refl
 
 start_keeps : (r : Result ℕ Code) (log : List PlainEntry) (q : PlainQueues) (code : Code)
-    → (subscribing_from log q r).answer ≡ Err code → (subscribing_from log q r).queues ≡ q
-start_keeps (Ok v) log q code h = open_keeps (opened v q) log v q code h
+    → (subscribing_from log alone q r).answer ≡ Err code → (subscribing_from log alone q r).queues ≡ q
+start_keeps (Ok v) log q code h = open_keeps (opened alone v q) log v q code h
 start_keeps (Err c) log q code h = refl
 
 abbrev Opens : Machine → PlainKey → Option ℕ → Result PlainSubscribed Code → Machine → Type 0
-Opens m b v r n = Acts m b (subscribe_call v) r n
+Opens m b v r n = Acts alone m b (subscribe_call v) r n
 
 opens_ok : (m n : Machine) (b : PlainKey) (v : Option ℕ) (o : PlainSubscribed) → Opens m b v (Ok o) n
     → ((opening_at m b v).answer ≡ Ok o) × (n ≡ opened_machine m b v)
@@ -124,7 +124,7 @@ came_none (Some None) is = cc
 
 -- a take gives what comes next
 takes_some : (m n : Machine) (q : QueueId) (max : ℕ) (a : Option (Option (List PlainEntry))) (es : List PlainEntry)
-    → Acts m q.base (take_next q.id max) a n → came a ≡ Some es → (es ≡ next_of m q max) × (n ≡ after_next m q max)
+    → Acts alone m q.base (take_next q.id max) a n → came a ≡ Some es → (es ≡ next_of m q max) × (n ≡ after_next m q max)
 takes_some m n q max None es h is = cc
 takes_some m n q max (Some r) es (h, others, logs) is =
     let due : next_of m q max ≡ unwrap_or r [] = ap (λ x. unwrap_or x []) (sym h.0) in
@@ -133,12 +133,12 @@ takes_some m n q max (Some r) es (h, others, logs) is =
     (f ∙ sym due, same_machine (after_next m q max) n logs (written m.queues n.queues q.base _ others h.1))
 
 -- and nothing where memory is wanting
-takes_none : (m n : Machine) (b : PlainKey) (id max : ℕ) → Acts m b (take_next id max) None n → n ≡ m
+takes_none : (m n : Machine) (b : PlainKey) (id max : ℕ) → Acts alone m b (take_next id max) None n → n ≡ m
 takes_none m n b id max (h, others, logs) =
     same_machine m n logs (written m.queues n.queues b (m.queues b) others h.0 ∙ queues_kept m.queues b)
 
-closes_one : (m n : Machine) (q : QueueId) → Acts m q.base (unsubscribe_call q.id) tt n → n ≡ closed_machine (Some q) m
-closes_one m n q (h, logs) = same_machine (closed_machine (Some q) m) n logs h
+closes_one : (m n : Machine) (q : QueueId) → Acts alone m q.base (unsubscribe_call q.id) tt n → n ≡ closed_machine (Some q) m
+closes_one m n q (h, gone, logs) = same_machine (closed_machine (Some q) m) n logs h
 
 -- the present version is not above itself
 present_code : (log : List PlainEntry) → refused_at (start_of log None) ≡ E11
@@ -156,7 +156,7 @@ code_if false v = refl
 module _ {P : Type 0} (machine : P → Machine) where
   -- the calls of the machine, at passes that show one
   abbrev pub MachineActs : PlainKey → Calls P
-  MachineActs k c p a q = Acts (machine p) k c a (machine q)
+  MachineActs k c p a q = Acts alone (machine p) k c a (machine q)
 
   abbrev pub state_at : P → PlainSession → State
   state_at p s = record { machine = machine p; session = s }
@@ -233,7 +233,7 @@ module _ {P : Type 0} (machine : P → Machine) where
     fetch_said k (Some v) r (inr h, (l, z)) is said = replies (fetch k (Some v)) r h (same_at l z) is said
 
     snapshot_said : (k : PlainKey) (v : Option ℕ) (n : ℕ) (r : Result PlainFetched Code)
-        → Acts (machine p) (base_in t k) (snapshot_call v) r (machine q) → new ≡ s
+        → Acts alone (machine p) (base_in t k) (snapshot_call v) r (machine q) → new ≡ s
         → says (snapshot_says e (through t k) n r)
         → Finds t e (snapshot k v n) s p says new q
     snapshot_said k v n r (inl h, (l, z)) is said =
@@ -256,7 +256,7 @@ module _ {P : Type 0} (machine : P → Machine) where
 
     decides : (b : Bool) (k : PlainKey) (u : PlainSubmission) (r : PlainReply) → Sends (MachineActs k) b u p r q
         → Decided b k u r
-    decides true k u r h = in_one_step k u r (submits_in_one_step machine k u p q r h)
+    decides true k u r h = in_one_step k u r (submits_in_one_step machine alone k u p q r h)
     decides false k u r h = inr (h.0, pass_same h.1)
 
     abbrev sent : PlainKey → Option ℕ → ℕ → Option (List ℕ) → PlainContent → PlainSubmission

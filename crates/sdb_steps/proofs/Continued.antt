@@ -9,7 +9,8 @@ use Rattle.sdb_oplog.specs.Keys.{PlainKey, Logs, same_key}
 use Rattle.sdb_oplog.specs.Refused.{result_then}
 use Rattle.sdb_oplog.specs.declared.codes.Code.{Code}
 use Rattle.sdb_oplog.specs.declared.codes.Code.TheVariants.{E1, E2, E3, E4, E5, E6, E7, E8, E9, E10, E11}
-use Rattle.sdb_subscribe.specs.Queue.{PlainQueue, queue, waiting}
+use Rattle.sdb_subscribe.specs.Queue.{queue}
+use Rattle.sdb_steps.specs.Reading.{Reading, waiting}
 use Rattle.sdb_desk.specs.Laws.{equal_keys}
 use Rattle.sdb_steps.specs.OneStep as machine
 use Rattle.sdb_steps.specs.OneStep.{OneStep, Event, Legal, empty, started, subscribed}
@@ -38,7 +39,7 @@ still_by false old more from max is =
     let few : length (queue old from max) ≤ length (drop from old) = omega (arith, length-take max (drop from old)) in
     ap (take (length (queue old from max))) (drop-append-le from old more begin) ∙ take-append-le (length (queue old from max)) (drop from old) more few ∙ take_taken max (drop from old)
 
-next_is : (old end : List PlainEntry) (q : PlainQueue) (max : ℕ) → Grows old end → IsNext end (Some q) max (waiting old max q)
+next_is : (old end : List PlainEntry) (q : Reading) (max : ℕ) → Grows old end → IsNext end (Some q) max (waiting old max q)
 next_is old end q max g =
     let es = waiting old max q in
     let same : queue end (q.start + q.taken) (length es) ≡ es =
@@ -48,57 +49,57 @@ next_is old end q max g =
 -- ---- one step of a session
 
 -- what is followed of a session is what its queues are
-abbrev Tracks : (PlainKey → Option PlainQueue) → Session → Type 0
+abbrev Tracks : (PlainKey → Option Reading) → Session → Type 0
 Tracks f x = (j : PlainKey) → f j ≡ x.queues j
 
 abbrev Grow : OneStep → Logs → Type 0
 Grow m end = (k : PlainKey) → Grows (m.logs k) (end k)
 
-record Kept (f : PlainKey → Option PlainQueue) (act : Act) (a : Answer) (y : Session) (end : Logs) : Type 0 where
+record Kept (f : PlainKey → Option Reading) (act : Act) (a : Answer) (y : Session) (end : Logs) : Type 0 where
   pub tracks : (j : PlainKey) → read_after j act a (f j) ≡ y.queues j
   pub continued : IsContinued end f act a
 
 -- of what comes of an effect
-abbrev Keeps : OneStep → (PlainKey → Option PlainQueue) → Act → Effect → Logs → Type 0
+abbrev Keeps : OneStep → (PlainKey → Option Reading) → Act → Effect → Logs → Type 0
 Keeps m f act (event e y) end = Kept f act (replied (machine.reply m e)) y end
 Keeps m f act (notice n y) end = Kept f act (said n) y end
 
-kept_follows : (m n : OneStep) (f : PlainKey → Option PlainQueue) (act : Act) (d : Effect) (a : Answer) (y : Session) (end : Logs) → Keeps m f act d end → Follows m d a n y → Kept f act a y end
+kept_follows : (m n : OneStep) (f : PlainKey → Option Reading) (act : Act) (d : Effect) (a : Answer) (y : Session) (end : Logs) → Keeps m f act d end → Follows m d a n y → Kept f act a y end
 kept_follows m n f act (event e z) a y end k h =
     subst (λ (c : Answer). Kept f act c y end) (sym h.0) (subst (λ (x : Session). Kept f act (replied (machine.reply m e)) x end) (sym h.2) k)
 kept_follows m n f act (notice c z) a y end k h =
     subst (λ (c : Answer). Kept f act c y end) (sym h.0) (subst (λ (x : Session). Kept f act (said c) x end) (sym h.2) k)
 
-keeps_begin : (m : OneStep) (f : PlainKey → Option PlainQueue) (i : ℕ) (x : Session) (k : PlainKey) (src : List ℕ) (seq : ℕ) (v : Option ℕ) (content : PlainContent) (o : Option Attempt) (end : Logs) → Tracks f x
+keeps_begin : (m : OneStep) (f : PlainKey → Option Reading) (i : ℕ) (x : Session) (k : PlainKey) (src : List ℕ) (seq : ℕ) (v : Option ℕ) (content : PlainContent) (o : Option Attempt) (end : Logs) → Tracks f x
     → Keeps m f (plain.begin k src seq v content) (option_map_or (λ a. notice plain.idle x) o (notice plain.began (with_attempt x (Some (plain.opened m k (plain.submission_of i k src seq v content)))))) end
 keeps_begin m f i x k src seq v content None end t = record { tracks = t; continued = tt }
 keeps_begin m f i x k src seq v content (Some a) end t = record { tracks = t; continued = tt }
 
-keeps_worked : (m : OneStep) (f : PlainKey → Option PlainQueue) (x : Session) (a : Attempt) (c : Bool) (end : Logs) → Tracks f x
+keeps_worked : (m : OneStep) (f : PlainKey → Option Reading) (x : Session) (a : Attempt) (c : Bool) (end : Logs) → Tracks f x
     → Keeps m f plain.work (cond c (notice plain.idle x) (notice plain.worked (with_attempt x (Some (plain.worked_on a))))) end
 keeps_worked m f x a true end t = record { tracks = t; continued = tt }
 keeps_worked m f x a false end t = record { tracks = t; continued = tt }
 
-keeps_work : (m : OneStep) (f : PlainKey → Option PlainQueue) (x : Session) (o : Option Attempt) (end : Logs) → Tracks f x
+keeps_work : (m : OneStep) (f : PlainKey → Option Reading) (x : Session) (o : Option Attempt) (end : Logs) → Tracks f x
     → Keeps m f plain.work (option_map_or (λ a. cond a.worked (notice plain.idle x) (notice plain.worked (with_attempt x (Some (plain.worked_on a))))) o (notice plain.idle x)) end
 keeps_work m f x None end t = record { tracks = t; continued = tt }
 keeps_work m f x (Some a) end t = keeps_worked m f x a a.worked end t
 
-keeps_tried : (m : OneStep) (f : PlainKey → Option PlainQueue) (x : Session) (a : Attempt) (c : Bool) (end : Logs) → Tracks f x
+keeps_tried : (m : OneStep) (f : PlainKey → Option Reading) (x : Session) (a : Attempt) (c : Bool) (end : Logs) → Tracks f x
     → Keeps m f plain.commit (cond c (event (machine.submission a.key a.submission) (with_attempt x None)) (notice plain.moved (with_attempt x (Some (plain.moved_on m a))))) end
 keeps_tried m f x a true end t = record { tracks = t; continued = tt }
 keeps_tried m f x a false end t = record { tracks = t; continued = tt }
 
-keeps_commit : (m : OneStep) (f : PlainKey → Option PlainQueue) (x : Session) (o : Option Attempt) (end : Logs) → Tracks f x → Keeps m f plain.commit (option_map_or (plain.commits m x) o (notice plain.idle x)) end
+keeps_commit : (m : OneStep) (f : PlainKey → Option Reading) (x : Session) (o : Option Attempt) (end : Logs) → Tracks f x → Keeps m f plain.commit (option_map_or (plain.commits m x) o (notice plain.idle x)) end
 keeps_commit m f x None end t = record { tracks = t; continued = tt }
 keeps_commit m f x (Some a) end t = keeps_tried m f x a (plain.decides m a) end t
 
 -- of k, or of another key
-put_same : (b : Bool) (p o u : Option PlainQueue) → o ≡ u → cond b p o ≡ cond b p u
+put_same : (b : Bool) (p o u : Option Reading) → o ≡ u → cond b p o ≡ cond b p u
 put_same true p o u e = refl
 put_same false p o u e = e
 
-kept_refused : (f : PlainKey → Option PlainQueue) (x : Session) (k : PlainKey) (v : Option ℕ) (c : Code) (r : Result ℕ Code) (end : Logs) → r ≡ Err c → Tracks f x
+kept_refused : (f : PlainKey → Option Reading) (x : Session) (k : PlainKey) (v : Option ℕ) (c : Code) (r : Result ℕ Code) (end : Logs) → r ≡ Err c → Tracks f x
     → Kept f (plain.subscribe k v) (replied (subscribed r)) x end
 kept_refused f x k v c r end is t = subst (λ (u : Result ℕ Code). Kept f (plain.subscribe k v) (replied (subscribed u)) x end) (sym is) (record { tracks = t; continued = tt })
 
@@ -115,7 +116,7 @@ start_is m k v start end is g =
     let long : length (end k) ≡ length (m.logs k) + length g.more = ap length g.is ∙ length-append (m.logs k) g.more in
     (omega (arith, within, long), named v (length (m.logs k)) start _ _ is)
 
-keeps_subscribe : (m : OneStep) (f : PlainKey → Option PlainQueue) (x : Session) (k : PlainKey) (v : Option ℕ) (r : Result ℕ Code) (end : Logs) → started m k v ≡ r → Grow m end → Tracks f x → Keeps m f (plain.subscribe k v) (plain.subscribes x k v r) end
+keeps_subscribe : (m : OneStep) (f : PlainKey → Option Reading) (x : Session) (k : PlainKey) (v : Option ℕ) (r : Result ℕ Code) (end : Logs) → started m k v ≡ r → Grow m end → Tracks f x → Keeps m f (plain.subscribe k v) (plain.subscribes x k v r) end
 keeps_subscribe m f x k v (Ok start) end is g t =
     subst (λ (u : Result ℕ Code). Kept f (plain.subscribe k v) (replied (subscribed u)) (with_queue x k (Some (record { start = start; taken = 0 }))) end) (sym is)
     (record { tracks = λ j. put_same (same_key k j) (Some (record { start = start; taken = 0 })) (f j) (x.queues j) (t j); continued = start_is m k v start end is (g k) })
@@ -132,27 +133,27 @@ keeps_subscribe m f x k v (Err E10) end is g t = kept_refused f x k v E10 (start
 keeps_subscribe m f x k v (Err E11) end is g t = record { tracks = t; continued = tt }
 
 -- what was read of k goes on, and of another key is as it was
-read_same : (f : PlainKey → Option PlainQueue) (x : Session) (k j : PlainKey) (es : List PlainEntry) (q : PlainQueue) (b : Bool) → same_key k j ≡ b → x.queues k ≡ Some q → Tracks f x
+read_same : (f : PlainKey → Option Reading) (x : Session) (k j : PlainKey) (es : List PlainEntry) (q : Reading) (b : Bool) → same_key k j ≡ b → x.queues k ≡ Some q → Tracks f x
     → cond b (option_map (read_on es) (f j)) (f j) ≡ cond b (Some (read_on es q)) (x.queues j)
 read_same f x k j es q true is has t = ap (option_map (read_on es)) (t j ∙ ap x.queues (sym (equal_keys k j is)) ∙ has)
 read_same f x k j es q false is has t = t j
 
-keeps_take : (m : OneStep) (f : PlainKey → Option PlainQueue) (x : Session) (k : PlainKey) (max : ℕ) (o : Option PlainQueue) (end : Logs) → x.queues k ≡ o → Grow m end → Tracks f x
+keeps_take : (m : OneStep) (f : PlainKey → Option Reading) (x : Session) (k : PlainKey) (max : ℕ) (o : Option Reading) (end : Logs) → x.queues k ≡ o → Grow m end → Tracks f x
     → Keeps m f (plain.take k max) (option_map_or (plain.takes m x k max) o (notice plain.idle x)) end
 keeps_take m f x k max None end has g t = record { tracks = t; continued = tt }
 keeps_take m f x k max (Some q) end has g t =
     let es = waiting (m.logs k) max q in
     record {
       tracks = λ j. read_same f x k j es q (same_key k j) refl has t;
-      continued = subst (λ (r : Option PlainQueue). IsNext (end k) r max es) (sym (t k ∙ has)) (next_is (m.logs k) (end k) q max (g k));
+      continued = subst (λ (r : Option Reading). IsNext (end k) r max es) (sym (t k ∙ has)) (next_is (m.logs k) (end k) q max (g k));
     }
 
-keeps_close : (m : OneStep) (f : PlainKey → Option PlainQueue) (x : Session) (k : PlainKey) (o : Option PlainQueue) (end : Logs) → Tracks f x
+keeps_close : (m : OneStep) (f : PlainKey → Option Reading) (x : Session) (k : PlainKey) (o : Option Reading) (end : Logs) → Tracks f x
     → Keeps m f (plain.unsubscribe k) (option_map_or (λ q. notice plain.unsubscribed (with_queue x k None)) o (notice plain.idle x)) end
 keeps_close m f x k None end t = record { tracks = t; continued = tt }
 keeps_close m f x k (Some q) end t = record { tracks = λ j. put_same (same_key k j) None (f j) (x.queues j) (t j); continued = tt }
 
-keeps_deed : (m : OneStep) (f : PlainKey → Option PlainQueue) (i : ℕ) (x : Session) (act : Act) (end : Logs) → Grow m end → Tracks f x → Keeps m f act (effect m i x act) end
+keeps_deed : (m : OneStep) (f : PlainKey → Option Reading) (i : ℕ) (x : Session) (act : Act) (end : Logs) → Grow m end → Tracks f x → Keeps m f act (effect m i x act) end
 keeps_deed m f i x (plain.begin k src seq v content) end g t = keeps_begin m f i x k src seq v content x.attempt end t
 keeps_deed m f i x plain.work end g t = keeps_work m f x x.attempt end t
 keeps_deed m f i x plain.commit end g t = keeps_commit m f x x.attempt end t
@@ -164,7 +165,7 @@ keeps_deed m f i x (plain.unsubscribe k) end g t = keeps_close m f x k (x.queues
 keeps_deed m f i x (plain.forget k) end g t = record { tracks = t; continued = tt }
 
 -- where memory is wanting nothing is read
-kept_none : (f : PlainKey → Option PlainQueue) (act : Act) (end : Logs) → ((j : PlainKey) → read_after j act no_memory (f j) ≡ f j) × IsContinued end f act no_memory
+kept_none : (f : PlainKey → Option Reading) (act : Act) (end : Logs) → ((j : PlainKey) → read_after j act no_memory (f j) ≡ f j) × IsContinued end f act no_memory
 kept_none f (plain.begin k src seq v content) end = ((λ j. refl), tt)
 kept_none f plain.work end = ((λ j. refl), tt)
 kept_none f plain.commit end = ((λ j. refl), tt)
@@ -177,21 +178,21 @@ kept_none f (plain.forget k) end = ((λ j. refl), tt)
 
 -- ---- one step of all sessions, and runs
 
-abbrev TrackAll : (ℕ → PlainKey → Option PlainQueue) → Sessions → Type 0
+abbrev TrackAll : (ℕ → PlainKey → Option Reading) → Sessions → Type 0
 TrackAll f w = (n : ℕ) → Tracks (f n) (w n)
 
 -- the sessions after a step
-record Goes (f : ℕ → PlainKey → Option PlainQueue) (s : PlainStep) (a : Answer) (v : Sessions) (end : Logs) : Type 0 where
+record Goes (f : ℕ → PlainKey → Option Reading) (s : PlainStep) (a : Answer) (v : Sessions) (end : Logs) : Type 0 where
   pub tracks : TrackAll (all_read f s a) v
   pub continued : IsContinued end (f s.session) s.act a
 
 -- the session of the step, or another one
-track_at : (c : Bool) (i n : ℕ) (f : ℕ → PlainKey → Option PlainQueue) (act : Act) (a : Answer) (y x : Session) (j : PlainKey) → nat_eq i n ≡ c → ((j : PlainKey) → read_after j act a (f i j) ≡ y.queues j) → Tracks (f n) x
+track_at : (c : Bool) (i n : ℕ) (f : ℕ → PlainKey → Option Reading) (act : Act) (a : Answer) (y x : Session) (j : PlainKey) → nat_eq i n ≡ c → ((j : PlainKey) → read_after j act a (f i j) ≡ y.queues j) → Tracks (f n) x
     → cond c (read_after j act a (f n j)) (f n j) ≡ (cond c y x).queues j
 track_at true i n f act a y x j is h t = subst (λ (l : ℕ). read_after j act a (f l j) ≡ y.queues j) (eqb-true i n is) (h j)
 track_at false i n f act a y x j is h t = t j
 
-goes_with : (m n : OneStep) (f : ℕ → PlainKey → Option PlainQueue) (s : PlainStep) (a : Answer) (w v : Sessions) (y : Session) (end : Logs) → TrackAll f w → Follows m (effect m s.session (w s.session) s.act) a n y → v ≡ with_session w s.session y
+goes_with : (m n : OneStep) (f : ℕ → PlainKey → Option Reading) (s : PlainStep) (a : Answer) (w v : Sessions) (y : Session) (end : Logs) → TrackAll f w → Follows m (effect m s.session (w s.session) s.act) a n y → v ≡ with_session w s.session y
     → Grow m end → Goes f s a v end
 goes_with m n f s a w v y end t h put g =
     let d = effect m s.session (w s.session) s.act in
@@ -199,18 +200,18 @@ goes_with m n f s a w v y end t h put g =
     let all : TrackAll (all_read f s a) (with_session w s.session y) = λ i j. track_at (nat_eq s.session i) s.session i f s.act a y (w i) j refl k.tracks (t i) in
     record { tracks = subst (λ (u : Sessions). TrackAll (all_read f s a) u) (sym put) all; continued = k.continued }
 
-same_cond : (b : Bool) (o u : Option PlainQueue) → o ≡ u → cond b o u ≡ u
+same_cond : (b : Bool) (o u : Option Reading) → o ≡ u → cond b o u ≡ u
 same_cond true o u e = e
 same_cond false o u e = refl
 
-goes : (m n : OneStep) (f : ℕ → PlainKey → Option PlainQueue) (s : PlainStep) (a : Answer) (w v : Sessions) (end : Logs) → TrackAll f w → Comes m w s a n v → Grow m end → Goes f s a v end
+goes : (m n : OneStep) (f : ℕ → PlainKey → Option Reading) (s : PlainStep) (a : Answer) (w v : Sessions) (end : Logs) → TrackAll f w → Comes m w s a n v → Grow m end → Goes f s a v end
 goes m n f s (replied r) w v end t h g = goes_with m n f s (replied r) w v h.0 end t h.1 h.2 g
 goes m n f s (said c) w v end t h g = goes_with m n f s (said c) w v h.0 end t h.1 h.2 g
 goes m n f s no_memory w v end t h g =
     let all : TrackAll (all_read f s no_memory) w = λ i j. same_cond (nat_eq s.session i) (read_after j s.act no_memory (f i j)) (f i j) ((kept_none (f i) s.act end).0 j) ∙ t i j in
     record { tracks = subst (λ (u : Sessions). TrackAll (all_read f s no_memory) u) (sym h.1) all; continued = (kept_none (f s.session) s.act end).1 }
 
-continued_steps : (m n : OneStep) (f : ℕ → PlainKey → Option PlainQueue) (w v : Sessions) (steps : List PlainStep) (answers : List Answer) → TrackAll f w → IsSteps m w steps answers n v → ContinuedFrom f steps answers n.logs
+continued_steps : (m n : OneStep) (f : ℕ → PlainKey → Option Reading) (w v : Sessions) (steps : List PlainStep) (answers : List Answer) → TrackAll f w → IsSteps m w steps answers n v → ContinuedFrom f steps answers n.logs
 continued_steps m n f w v [] answers t h = tt
 continued_steps m n f w v (s ∷ steps) [] t h = tt
 continued_steps m n f w v (s ∷ steps) (a ∷ answers) t (o, mid, one, rest) =

@@ -11,3 +11,4 @@ pub mod Taken
 pub mod Tries
 pub mod Worlds
 pub mod Written
+pub mod Lookings

@@ -9,7 +9,7 @@ use Rattle.sdb_oplog.specs.Decide.{decide, settled, store, PlainReply, stored, r
 use Rattle.sdb_oplog.specs.Laws.{decides_repeat}
 use Rattle.sdb_oplog.specs.declared.codes.Code.{Code}
 use Rattle.sdb_oplog.specs.declared.codes.Code.TheVariants.{E1, E2, E3, E4, E5, E6, E7, E8, E9, E10, E11}
-use Rattle.sdb_subscribe.specs.Queue.{PlainQueue}
+use Rattle.sdb_steps.specs.Reading.{Reading}
 use Rattle.sdb_desk.specs.Laws.{same_itself}
 use Rattle.sdb_steps.specs.OneStep as machine
 use Rattle.sdb_steps.specs.OneStep.{OneStep, Event, Legal, empty, decided, started, next}
@@ -132,11 +132,11 @@ keeps_subscribe m b x k v (Err E9) end t = λ g. record { tracks = t; placed = t
 keeps_subscribe m b x k v (Err E10) end t = λ g. record { tracks = t; placed = tt }
 keeps_subscribe m b x k v (Err E11) end t = record { tracks = t; placed = tt }
 
-keeps_take : (m : OneStep) (b : Option Begun) (x : Session) (k : PlainKey) (max : ℕ) (o : Option PlainQueue) (end : Logs) → Tracks b x → Keeps m b (plain.take k max) (option_map_or (plain.takes m x k max) o (notice plain.idle x)) end
+keeps_take : (m : OneStep) (b : Option Begun) (x : Session) (k : PlainKey) (max : ℕ) (o : Option Reading) (end : Logs) → Tracks b x → Keeps m b (plain.take k max) (option_map_or (plain.takes m x k max) o (notice plain.idle x)) end
 keeps_take m b x k max None end t = record { tracks = t; placed = tt }
 keeps_take m b x k max (Some q) end t = λ g. record { tracks = t; placed = tt }
 
-keeps_close : (m : OneStep) (b : Option Begun) (x : Session) (k : PlainKey) (o : Option PlainQueue) (end : Logs) → Tracks b x
+keeps_close : (m : OneStep) (b : Option Begun) (x : Session) (k : PlainKey) (o : Option Reading) (end : Logs) → Tracks b x
     → Keeps m b (plain.unsubscribe k) (option_map_or (λ q. notice plain.unsubscribed (plain.with_queue x k None)) o (notice plain.idle x)) end
 keeps_close m b x k None end t = record { tracks = t; placed = tt }
 keeps_close m b x k (Some q) end t = record { tracks = t; placed = tt }

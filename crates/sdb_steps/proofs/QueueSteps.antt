@@ -1,6 +1,7 @@
 -- What a step does to the session's queue of one key, and leaves of the others.
 use Rattle.std.proofs.Common.{◌≡◌, ℕ, ◌+◌, ◌<◌, ◌≤◌, List, [], ◌∷◌, ◌++◌, length, Bool, true, false, cond, nat_eq, nat_lt, Option, Some, None, Result, Ok, Err, ◌⊎◌, inl, inr, refl, sym, ap, ◌∙◌, subst, unwrap_or, option_map, IfOk, OnErr, arith}
-use Rattle.std.specs.Option.{is_some, option_map_or}
+use Rattle.std.proofs.lemmas.Bool.{eq-eqb}
+use Rattle.std.specs.Option.{option_map_or}
 use Rattle.std.specs.Result.{is_ok}
 use Rattle.sdb_oplog.specs.declared.codes.Code.{Code}
 use Rattle.sdb_oplog.specs.declared.codes.Code.TheVariants.{E1, E2, E3, E4, E5, E6, E7, E8, E9, E10, E11}
@@ -9,7 +10,7 @@ use Rattle.sdb_oplog.specs.Keys.{PlainKey, same_key}
 use Rattle.sdb_oplog.specs.Snap.{document}
 use Rattle.sdb_oplog.specs.Refused.{result_then}
 use Rattle.sdb_oplog.specs.Decide.{deciding_takes_memory}
-use Rattle.sdb_subscribe.specs.Queue.{PlainQueue, PlainQueues, queue_at, waiting, moved as moved_by}
+use Rattle.sdb_subscribe.specs.Queue.{PlainQueue, PlainQueues, queue_at, is_mine, is_owned, waiting, moved as moved_by, after_take, after_take_by, taken_from, taken_by, without, without_by}
 use Rattle.sdb_subscribe.specs.Laws.{opened_other, after_take_at, after_take_other, without_other}
 use Rattle.sdb_oplog.specs.Keys.{with_at}
 use Rattle.sdb_desk.specs.MapViewLaws.{kept_at}
@@ -22,6 +23,7 @@ use Rattle.sdb_steps.specs.Picks as plain
 use Rattle.sdb_steps.specs.Picks.{Session, Answer, replied, said, no_memory, subscribes, takes, effect, may_want, with_queue}
 use Rattle.sdb_steps.specs.Dispatch.{Follows, Dispatches, Tries, Begins}
 use Rattle.sdb_steps.specs.StateView.{queue_seen}
+use Rattle.sdb_steps.specs.Reading.{Reading, reading_of, moved as read_on}
 use Rattle.sdb_steps.specs.Slots.{Slots, AreOpen, Leaves, closed_of}
 use Rattle.sdb_steps.specs.View.{plain_start, told_start, told_snapshot}
 
@@ -33,16 +35,16 @@ at_key f g k w j e is = ap (λ h. h j) e ∙ ap (λ b. cond b w (f j)) is
 past_key : {A : Type 0} (f g : PlainKey → A) (k : PlainKey) (w : A) (j : PlainKey) → g ≡ with_at f k w → same_key k j ≡ false → g j ≡ f j
 past_key f g k w j e is = ap (λ h. h j) e ∙ ap (λ b. cond b w (f j)) is
 
-seen_if : (b : Bool) (w x : PlainQueues) (o y : Option ℕ) (p : Option PlainQueue) → queue_seen w o ≡ p → queue_seen (cond b w x) (cond b o y) ≡ cond b p (queue_seen x y)
+seen_if : (b : Bool) (w x : PlainQueues) (o y : Option ℕ) (p : Option Reading) → queue_seen w o ≡ p → queue_seen (cond b w x) (cond b o y) ≡ cond b p (queue_seen x y)
 seen_if true w x o y p h = h
 seen_if false w x o y p h = refl
 
 -- the queues that the session sees
-pub seen_at : (q r : Queued) (s t : Slots) (k : PlainKey) (w : PlainQueues) (o : Option ℕ) (p : Option PlainQueue) → r ≡ with_queues q k w → t ≡ with_at s k o → queue_seen w o ≡ p
-    → ◌≡◌ {A = PlainKey → Option PlainQueue} (λ j. queue_seen (r j) (t j)) (λ j. cond (same_key k j) p (queue_seen (q j) (s j)))
+pub seen_at : (q r : Queued) (s t : Slots) (k : PlainKey) (w : PlainQueues) (o : Option ℕ) (p : Option Reading) → r ≡ with_queues q k w → t ≡ with_at s k o → queue_seen w o ≡ p
+    → ◌≡◌ {A = PlainKey → Option Reading} (λ j. queue_seen (r j) (t j)) (λ j. cond (same_key k j) p (queue_seen (q j) (s j)))
 seen_at q r s t k w o p hr ht h = λ i j. (ap (λ (f : Queued). queue_seen (f j) (t j)) hr ∙ ap (λ (f : Slots). queue_seen (with_queues q k w j) (f j)) ht ∙ seen_if (same_key k j) w (q j) o (s j) p h) i
 
-module _ (q r : Queued) (s t : Slots) (k : PlainKey) (w : PlainQueues) (o : Option ℕ) (opens : AreOpen q s) (hr : r ≡ with_queues q k w) (ht : t ≡ with_at s k o) where
+module _ (i : ℕ) (q r : Queued) (s t : Slots) (k : PlainKey) (w : PlainQueues) (o : Option ℕ) (opens : AreOpen i q s) (hr : r ≡ with_queues q k w) (ht : t ≡ with_at s k o) where
   abbrev Grows : Type 0
   Grows = (q k).next ≤ w.next
 
@@ -53,7 +55,7 @@ module _ (q r : Queued) (s t : Slots) (k : PlainKey) (w : PlainQueues) (o : Opti
   Own = (n : ℕ) → o ≡ Some n → (s k ≡ Some n) ⊎ ((q k).next ≤ n)
 
   abbrev Now : Type 0
-  Now = (n : ℕ) → o ≡ Some n → (n < w.next) × (is_some (queue_at n w.queues) ≡ true)
+  Now = (n : ℕ) → o ≡ Some n → (n < w.next) × (is_owned i n w.queues ≡ true)
 
   here : (j : PlainKey) → same_key k j ≡ true → r j ≡ w
   here j is = at_key q r k w j hr is
@@ -86,12 +88,12 @@ module _ (q r : Queued) (s t : Slots) (k : PlainKey) (w : PlainQueues) (o : Opti
   own_if h j n true is at = own_here j n is (h n (sym (at_key s t k o j ht is) ∙ at))
   own_if h j n false is at = inl (sym (past_key s t k o j ht is) ∙ at)
 
-  now_if : Now → (j : PlainKey) (n : ℕ) (b : Bool) → same_key k j ≡ b → t j ≡ Some n → (n < (r j).next) × (is_some (queue_at n (r j).queues) ≡ true)
-  now_if h j n true is at = subst (λ (z : PlainQueues). (n < z.next) × (is_some (queue_at n z.queues) ≡ true)) (sym (here j is)) (h n (sym (at_key s t k o j ht is) ∙ at))
-  now_if h j n false is at = subst (λ (z : PlainQueues). (n < z.next) × (is_some (queue_at n z.queues) ≡ true)) (sym (away j is)) (opens j n (sym (past_key s t k o j ht is) ∙ at))
+  now_if : Now → (j : PlainKey) (n : ℕ) (b : Bool) → same_key k j ≡ b → t j ≡ Some n → (n < (r j).next) × (is_owned i n (r j).queues ≡ true)
+  now_if h j n true is at = subst (λ (z : PlainQueues). (n < z.next) × (is_owned i n z.queues ≡ true)) (sym (here j is)) (h n (sym (at_key s t k o j ht is) ∙ at))
+  now_if h j n false is at = subst (λ (z : PlainQueues). (n < z.next) × (is_owned i n z.queues ≡ true)) (sym (away j is)) (opens j n (sym (past_key s t k o j ht is) ∙ at))
 
   -- what is left to the others
-  pub leaves_at : Grows → Others → Own → Now → Leaves q s r t
+  pub leaves_at : Grows → Others → Own → Now → Leaves i q s r t
   leaves_at grows others own now = record {
     grows = λ j. grow_if grows j (same_key k j) refl;
     others = λ j n. others_if others j n (same_key k j) refl;
@@ -100,12 +102,12 @@ module _ (q r : Queued) (s t : Slots) (k : PlainKey) (w : PlainQueues) (o : Opti
   }
 
 -- where nothing changes
-pub leaves_all : (q r : Queued) (s t : Slots) → AreOpen q s → r ≡ q → t ≡ s → Leaves q s r t
-leaves_all q r s t opens hr ht = record {
+pub leaves_all : (i : ℕ) (q r : Queued) (s t : Slots) → AreOpen i q s → r ≡ q → t ≡ s → Leaves i q s r t
+leaves_all i q r s t opens hr ht = record {
   grows = λ k. let x = ap (λ (f : Queued). (f k).next) hr in omega (arith, x);
   others = λ k n low apart. ap (λ (f : Queued). queue_at n (f k).queues) hr;
   own = λ k n at. inl (ap (λ (f : Slots). f k) (sym ht) ∙ at);
-  now = λ k n at. subst (λ (f : Queued). (n < (f k).next) × (is_some (queue_at n (f k).queues) ≡ true)) (sym hr) (opens k n (ap (λ (f : Slots). f k) (sym ht) ∙ at));
+  now = λ k n at. subst (λ (f : Queued). (n < (f k).next) × (is_owned i n (f k).queues ≡ true)) (sym hr) (opens k n (ap (λ (f : Slots). f k) (sym ht) ∙ at));
 }
 
 -- queues that are written at k as they were
@@ -115,43 +117,43 @@ kept_queues q r k others here = others ∙ ap (with_queues q k) here ∙ queues_
 -- ---- a queue that is opened
 
 -- the queue that was opened is the next one, and the machine gives its start
-record Opens (log : List PlainEntry) (v : Option ℕ) (q : PlainQueues) (o : PlainSubscribed) (w : PlainQueues) : Type 0 where
+record Opens (log : List PlainEntry) (by : ℕ) (v : Option ℕ) (q : PlainQueues) (o : PlainSubscribed) (w : PlainQueues) : Type 0 where
   pub start : start_of log v ≡ Ok o.start
   pub room : nat_eq q.next 18446744073709551615 ≡ false
   pub number : o.id ≡ q.next
   pub next : w.next ≡ q.next + 1
-  pub queues : w.queues ≡ q.queues ++ (q.next, record { start = o.start; taken = 0 }) ∷ []
+  pub queues : w.queues ≡ q.queues ++ (q.next, record { start = o.start; taken = 0; by = by }) ∷ []
 
 ok_is : {A : Type 0} (x y : A) → ◌≡◌ {A = Result A Code} (Ok x) (Ok y) → x ≡ y
 ok_is x y h = cc
 
-abbrev more_of : PlainQueues → ℕ → PlainQueues
-more_of q n = record { next = q.next + 1; queues = q.queues ++ (q.next, record { start = n; taken = 0 }) ∷ [] }
+abbrev more_of : ℕ → PlainQueues → ℕ → PlainQueues
+more_of by q n = record { next = q.next + 1; queues = q.queues ++ (q.next, record { start = n; taken = 0; by = by }) ∷ [] }
 
-opened_if : (c : Bool) (log : List PlainEntry) (v : Option ℕ) (q : PlainQueues) (o : PlainSubscribed) (w more : PlainQueues) → nat_lt (length log) (unwrap_or v (length log)) ≡ false → nat_eq q.next 18446744073709551615 ≡ c → more ≡ more_of q (unwrap_or v (length log))
-    → Ok o ≡ (opening log (unwrap_or v (length log)) q (cond c (Err E11) (Ok more))).answer → w ≡ (opening log (unwrap_or v (length log)) q (cond c (Err E11) (Ok more))).queues → Opens log v q o w
-opened_if true log v q o w more is room makes h at = cc
-opened_if false log v q o w more is room makes h at =
+opened_if : (c : Bool) (log : List PlainEntry) (by : ℕ) (v : Option ℕ) (q : PlainQueues) (o : PlainSubscribed) (w more : PlainQueues) → nat_lt (length log) (unwrap_or v (length log)) ≡ false → nat_eq q.next 18446744073709551615 ≡ c → more ≡ more_of by q (unwrap_or v (length log))
+    → Ok o ≡ (opening log (unwrap_or v (length log)) q (cond c (Err E11) (Ok more))).answer → w ≡ (opening log (unwrap_or v (length log)) q (cond c (Err E11) (Ok more))).queues → Opens log by v q o w
+opened_if true log by v q o w more is room makes h at = cc
+opened_if false log by v q o w more is room makes h at =
     let n = unwrap_or v (length log) in
     let e : o ≡ record { id = q.next; start = n; version = length log; snapshot = document log } = ok_is o _ h in
     let begins : o.start ≡ n = ap (λ x. x.start) e in
-    let is_more : w ≡ more_of q n = at ∙ makes in
+    let is_more : w ≡ more_of by q n = at ∙ makes in
     record {
       start = ap (λ b. cond b (Err E4) (Ok n)) is ∙ ap Ok (sym begins);
       room = room;
       number = ap (λ x. x.id) e;
       next = ap (λ x. x.next) is_more;
-      queues = ap (λ x. x.queues) is_more ∙ ap (λ m. q.queues ++ (q.next, record { start = m; taken = 0 }) ∷ []) (sym begins);
+      queues = ap (λ x. x.queues) is_more ∙ ap (λ m. q.queues ++ (q.next, record { start = m; taken = 0; by = by }) ∷ []) (sym begins);
     }
 
-start_if : (b : Bool) (log : List PlainEntry) (v : Option ℕ) (q : PlainQueues) (o : PlainSubscribed) (w : PlainQueues) → nat_lt (length log) (unwrap_or v (length log)) ≡ b → Ok o ≡ (subscribing_from log q (cond b (Err E4) (Ok (unwrap_or v (length log))))).answer
-    → w ≡ (subscribing_from log q (cond b (Err E4) (Ok (unwrap_or v (length log))))).queues → Opens log v q o w
-start_if true log v q o w is h at = cc
-start_if false log v q o w is h at = opened_if (nat_eq q.next 18446744073709551615) log v q o w (more_of q (unwrap_or v (length log))) is refl refl h at
+start_if : (b : Bool) (log : List PlainEntry) (by : ℕ) (v : Option ℕ) (q : PlainQueues) (o : PlainSubscribed) (w : PlainQueues) → nat_lt (length log) (unwrap_or v (length log)) ≡ b → Ok o ≡ (subscribing_from log by q (cond b (Err E4) (Ok (unwrap_or v (length log))))).answer
+    → w ≡ (subscribing_from log by q (cond b (Err E4) (Ok (unwrap_or v (length log))))).queues → Opens log by v q o w
+start_if true log by v q o w is h at = cc
+start_if false log by v q o w is h at = opened_if (nat_eq q.next 18446744073709551615) log by v q o w (more_of by q (unwrap_or v (length log))) is refl refl h at
 
-opens : (log : List PlainEntry) (v : Option ℕ) (q : PlainQueues) (o : PlainSubscribed) (w : PlainQueues) → Subscribes log v q (Ok o) w → Opens log v q o w
-opens log v q o w (inl h) = let x = h.0 in cc
-opens log v q o w (inr h) = start_if (nat_lt (length log) (unwrap_or v (length log))) log v q o w refl h.0 h.1
+opens : (log : List PlainEntry) (by : ℕ) (v : Option ℕ) (q : PlainQueues) (o : PlainSubscribed) (w : PlainQueues) → Subscribes log by v q (Ok o) w → Opens log by v q o w
+opens log by v q o w (inl h) = let x = h.0 in cc
+opens log by v q o w (inr h) = start_if (nat_lt (length log) (unwrap_or v (length log))) log by v q o w refl h.0 h.1
 
 -- ---- a queue that is refused
 
@@ -166,21 +168,21 @@ record Refuses (log : List PlainEntry) (v : Option ℕ) (q : PlainQueues) (code 
   pub due : (code ≡ E4) ⊎ (code ≡ E11)
   pub is : result_then (λ start. cond (nat_eq q.next 18446744073709551615) (Err E11) (Ok start)) (start_of log v) ≡ Err code
 
-start_refused : (b : Bool) (log : List PlainEntry) (v : Option ℕ) (q w : PlainQueues) (code : Code) → nat_lt (length log) (unwrap_or v (length log)) ≡ b → Err code ≡ (subscribing_from log q (cond b (Err E4) (Ok (unwrap_or v (length log))))).answer
-    → w ≡ (subscribing_from log q (cond b (Err E4) (Ok (unwrap_or v (length log))))).queues → Refuses log v q code w
-start_refused true log v q w code is h at =
+start_refused : (b : Bool) (log : List PlainEntry) (by : ℕ) (v : Option ℕ) (q w : PlainQueues) (code : Code) → nat_lt (length log) (unwrap_or v (length log)) ≡ b → Err code ≡ (subscribing_from log by q (cond b (Err E4) (Ok (unwrap_or v (length log))))).answer
+    → w ≡ (subscribing_from log by q (cond b (Err E4) (Ok (unwrap_or v (length log))))).queues → Refuses log v q code w
+start_refused true log by v q w code is h at =
     let e : code ≡ E4 = cc in
     let f : ℕ → Result ℕ Code = λ start. cond (nat_eq q.next 18446744073709551615) (Err E11) (Ok start) in
     record { same = at; due = inl e; is = ap (λ b. result_then f (cond b (Err E4) (Ok (unwrap_or v (length log))))) is ∙ ap Err (sym e) }
-start_refused false log v q w code is h at =
+start_refused false log by v q w code is h at =
     let n = unwrap_or v (length log) in
     let f : ℕ → Result ℕ Code = λ start. cond (nat_eq q.next 18446744073709551615) (Err E11) (Ok start) in
-    let r : (w ≡ q) × (code ≡ E11) × (nat_eq q.next 18446744073709551615 ≡ true) = open_refused (nat_eq q.next 18446744073709551615) log n q w (more_of q n) code h at in
+    let r : (w ≡ q) × (code ≡ E11) × (nat_eq q.next 18446744073709551615 ≡ true) = open_refused (nat_eq q.next 18446744073709551615) log n q w (more_of by q n) code h at in
     record { same = r.0; due = inr r.1; is = ap (λ b. result_then f (cond b (Err E4) (Ok n))) is ∙ ap (λ c. cond c (Err E11) (Ok n)) r.2 ∙ ap Err (sym r.1) }
 
-refuses : (log : List PlainEntry) (v : Option ℕ) (q w : PlainQueues) (code : Code) → Subscribes log v q (Err code) w → ((code ≡ E10) × (w ≡ q)) ⊎ Refuses log v q code w
-refuses log v q w code (inl h) = inl (let e : code ≡ E10 = (let x = h.0 in cc) in e, h.1)
-refuses log v q w code (inr h) = inr (start_refused (nat_lt (length log) (unwrap_or v (length log))) log v q w code refl h.0 h.1)
+refuses : (log : List PlainEntry) (by : ℕ) (v : Option ℕ) (q w : PlainQueues) (code : Code) → Subscribes log by v q (Err code) w → ((code ≡ E10) × (w ≡ q)) ⊎ Refuses log v q code w
+refuses log by v q w code (inl h) = inl (let e : code ≡ E10 = (let x = h.0 in cc) in e, h.1)
+refuses log by v q w code (inr h) = inr (start_refused (nat_lt (length log) (unwrap_or v (length log))) log by v q w code refl h.0 h.1)
 
 -- ---- the machine
 
@@ -231,16 +233,16 @@ refused_or i m n q w x y k v code start ok given keeps (inr h) =
     let e : started m k v ≡ Err code = ap (λ g. result_then (λ start. cond (nat_eq g 18446744073709551615) (Err E11) (Ok start)) (start_of (m.logs k) v)) (sym given) ∙ h.is in
     (h.same, told_turn i m n x y k v code e h.due same.0 same.1)
 
-pub subscribe_refused : (i : ℕ) (m n : OneStep) (q w : PlainQueues) (x y : Session) (k : PlainKey) (v : Option ℕ) (code : Code) (start : ℕ) → started m k v ≡ Ok start → q.next ≡ m.given k → Subscribes (m.logs k) v q (Err code) w → n.logs ≡ m.logs → (w ≡ q → (n ≡ m) × (y ≡ x))
+pub subscribe_refused : (i : ℕ) (m n : OneStep) (q w : PlainQueues) (x y : Session) (k : PlainKey) (v : Option ℕ) (code : Code) (start : ℕ) → started m k v ≡ Ok start → q.next ≡ m.given k → Subscribes (m.logs k) i v q (Err code) w → n.logs ≡ m.logs → (w ≡ q → (n ≡ m) × (y ≡ x))
     → (w ≡ q) × Dispatches i m x (plain.subscribe k v) (told_start code) n y
-subscribe_refused i m n q w x y k v code start ok given h logs keeps = refused_or i m n q w x y k v code start ok given keeps (refuses (m.logs k) v q w code h)
+subscribe_refused i m n q w x y k v code start ok given h logs keeps = refused_or i m n q w x y k v code start ok given keeps (refuses (m.logs k) i v q w code h)
 
 refused_keeps : (log : List PlainEntry) (v : Option ℕ) (q w : PlainQueues) (code : Code) → ((code ≡ E10) × (w ≡ q)) ⊎ Refuses log v q code w → w ≡ q
 refused_keeps log v q w code (inl h) = h.1
 refused_keeps log v q w code (inr h) = h.same
 
-pub refused_same : (log : List PlainEntry) (v : Option ℕ) (q w : PlainQueues) (code : Code) → Subscribes log v q (Err code) w → w ≡ q
-refused_same log v q w code h = refused_keeps log v q w code (refuses log v q w code h)
+pub refused_same : (log : List PlainEntry) (by : ℕ) (v : Option ℕ) (q w : PlainQueues) (code : Code) → Subscribes log by v q (Err code) w → w ≡ q
+refused_same log by v q w code h = refused_keeps log v q w code (refuses log by v q w code h)
 
 -- a session that sees the same queues
 pub session_kept : (a : Option plain.Attempt) (q r : Queued) (s t : Slots) → r ≡ q → t ≡ s → ◌≡◌ {A = Session} (record { attempt = a; queues = λ j. queue_seen (r j) (t j) }) (record { attempt = a; queues = λ j. queue_seen (q j) (s j) })
@@ -255,13 +257,22 @@ cond_over false x y z = refl
 written_twice : (f : Queued) (k : PlainKey) (v w : PlainQueues) → with_queues (with_queues f k v) k w ≡ with_queues f k w
 written_twice f k v w = λ i q. cond_over (same_key k q) w v (f q) i
 
-closed_next : (o : Option ℕ) (q : PlainQueues) → (closed_of o q).next ≡ q.next
-closed_next None q = refl
-closed_next (Some n) q = refl
+closed_next : (i : ℕ) (o : Option ℕ) (q : PlainQueues) → (closed_of i o q).next ≡ q.next
+closed_next i None q = refl
+closed_next i (Some n) q = refl
 
-closed_other : (o : Option ℕ) (q : PlainQueues) (k : ℕ) → (o ≡ Some k → ⊥) → queue_at k (closed_of o q).queues ≡ queue_at k q.queues
-closed_other None q k h = refl
-closed_other (Some n) q k h = without_other k n q.queues (λ e. h (ap Some (sym e)))
+-- under a number a call leaves all queues but one
+shut_other : (b : Bool) (k n : ℕ) (qs : List (ℕ × PlainQueue)) → (k ≡ n → ⊥) → queue_at k (cond b (without n qs) qs) ≡ queue_at k qs
+shut_other true k n qs h = without_other k n qs h
+shut_other false k n qs h = refl
+
+taken_other : (b : Bool) (log : List PlainEntry) (k n max : ℕ) (qs : List (ℕ × PlainQueue)) → (k ≡ n → ⊥) → queue_at k (cond b (after_take log n max qs) qs) ≡ queue_at k qs
+taken_other true log k n max qs h = after_take_other log k n max qs h
+taken_other false log k n max qs h = refl
+
+closed_other : (i : ℕ) (o : Option ℕ) (q : PlainQueues) (k : ℕ) → (o ≡ Some k → ⊥) → queue_at k (closed_of i o q).queues ≡ queue_at k q.queues
+closed_other i None q k h = refl
+closed_other i (Some n) q k h = shut_other (is_owned i n q.queues) k n q.queues (λ e. h (ap Some (sym e)))
 
 given_if : (b : Bool) (w x : PlainQueues) (g h : ℕ) → w.next ≡ g → x.next ≡ h → (cond b w x).next ≡ cond b g h
 given_if true w x g h a c = a
@@ -276,85 +287,85 @@ seen_by a q s = record { attempt = a; queues = λ j. queue_seen (q j) (s j) }
 abbrev pub core_at : (PlainKey → List PlainEntry) → Queued → OneStep
 core_at l q = record { logs = l; given = λ j. (q j).next }
 
-module _ (q0 q1 q2 : Queued) (l0 l2 : PlainKey → List PlainEntry) (s0 s2 : Slots) (k : PlainKey) (v : Option ℕ) (o : PlainSubscribed) (a : Option plain.Attempt) where
+module _ (i : ℕ) (q0 q1 q2 : Queued) (l0 l2 : PlainKey → List PlainEntry) (s0 s2 : Slots) (k : PlainKey) (v : Option ℕ) (o : PlainSubscribed) (a : Option plain.Attempt) where
   -- what the calls of the shard and of the slots say
   pub record Joins : Type 0 where
-    pub given : AreOpen q0 s0
-    pub opened : Subscribes (l0 k) v (q0 k) (Ok o) (q1 k)
-    pub stands : queue_at o.id (q1 k).queues ≡ Some (record { start = o.start; taken = 0 })
+    pub given : AreOpen i q0 s0
+    pub opened : Subscribes (l0 k) i v (q0 k) (Ok o) (q1 k)
+    pub stands : queue_at o.id (q1 k).queues ≡ Some (record { start = o.start; taken = 0; by = i })
     pub others : q1 ≡ with_queues q0 k (q1 k)
     pub slots : s2 ≡ with_at s0 k (Some o.id)
-    pub closed : q2 ≡ with_queues q1 k (closed_of (s0 k) (q1 k))
+    pub closed : q2 ≡ with_queues q1 k (closed_of i (s0 k) (q1 k))
     pub logs : l2 ≡ l0
 
   module _ (h : Joins) where
     abbrev w : PlainQueues
-    w = closed_of (s0 k) (q1 k)
+    w = closed_of i (s0 k) (q1 k)
 
-    is : Opens (l0 k) v (q0 k) o (q1 k)
-    is = opens (l0 k) v (q0 k) o (q1 k) h.opened
+    is : Opens (l0 k) i v (q0 k) o (q1 k)
+    is = opens (l0 k) i v (q0 k) o (q1 k) h.opened
 
     wrote : q2 ≡ with_queues q0 k w
     wrote = h.closed ∙ ap (λ (f : Queued). with_queues f k w) h.others ∙ written_twice q0 k (q1 k) w
 
     w_next : w.next ≡ (q0 k).next + 1
-    w_next = closed_next (s0 k) (q1 k) ∙ is.next
+    w_next = closed_next i (s0 k) (q1 k) ∙ is.next
 
     -- a queue of the session is older than the new one
     older : (n : ℕ) → s0 k ≡ Some n → n < o.id
     older n at = let below = (h.given k n at).0 in let new = is.number in omega (arith, below, new)
 
-    stays : queue_at o.id w.queues ≡ Some (record { start = o.start; taken = 0 })
-    stays = closed_other (s0 k) (q1 k) o.id (λ at. let low = older o.id at in omega (arith, low)) ∙ h.stands
+    stays : queue_at o.id w.queues ≡ Some (record { start = o.start; taken = 0; by = i })
+    stays = closed_other i (s0 k) (q1 k) o.id (λ at. let low = older o.id at in omega (arith, low)) ∙ h.stands
 
     kept : (n : ℕ) → n < (q0 k).next → (s0 k ≡ Some n → ⊥) → queue_at n w.queues ≡ queue_at n (q0 k).queues
     kept n below apart =
-        closed_other (s0 k) (q1 k) n apart
+        closed_other i (s0 k) (q1 k) n apart
         ∙ ap (queue_at n) is.queues
-        ∙ opened_other n (q0 k).next (record { start = o.start; taken = 0 }) (q0 k).queues (λ e. omega (arith, below, e))
+        ∙ opened_other n (q0 k).next (record { start = o.start; taken = 0; by = i }) (q0 k).queues (λ e. omega (arith, below, e))
 
     new_number : (n : ℕ) → Some o.id ≡ Some n → (q0 k).next ≡ n
     new_number n at = sym is.number ∙ some_is o.id n at
 
-    now_at : (n : ℕ) → Some o.id ≡ Some n → (n < w.next) × (is_some (queue_at n w.queues) ≡ true)
+    now_at : (n : ℕ) → Some o.id ≡ Some n → (n < w.next) × (is_owned i n w.queues ≡ true)
     now_at n at =
         let e = new_number n at in
         let f = w_next in
-        (omega (arith, e, f), ap (λ i. is_some (queue_at i w.queues)) (sym (some_is o.id n at)) ∙ ap is_some stays)
+        (omega (arith, e, f), ap (λ (j : ℕ). is_owned i j w.queues) (sym (some_is o.id n at)) ∙ ap (is_mine i) stays ∙ eq-eqb i i refl)
 
-    pub joined_leaves : Leaves q0 s0 q2 s2
+    pub joined_leaves : Leaves i q0 s0 q2 s2
     joined_leaves =
         let f = w_next in
-        leaves_at q0 q2 s0 s2 k w (Some o.id) h.given wrote h.slots (omega (arith, f)) kept (λ n at. inr (let e = new_number n at in omega (arith, e))) now_at
+        leaves_at i q0 q2 s0 s2 k w (Some o.id) h.given wrote h.slots (omega (arith, f)) kept (λ n at. inr (let e = new_number n at in omega (arith, e))) now_at
 
     given : (λ j. (q2 j).next) ≡ one_given (λ j. (q0 j).next) k
-    given = λ i j. (ap (λ (f : Queued). (f j).next) wrote ∙ given_if (same_key k j) w (q0 j) ((q0 k).next + 1) (q0 j).next w_next refl) i
+    given = λ d j. (ap (λ (f : Queued). (f j).next) wrote ∙ given_if (same_key k j) w (q0 j) ((q0 k).next + 1) (q0 j).next w_next refl) d
 
     starts : started (core_at l0 q0) k v ≡ Ok o.start
     starts = ap (result_then (λ start. cond (nat_eq (q0 k).next 18446744073709551615) (Err E11) (Ok start))) is.start ∙ ap (λ b. cond b (Err E11) (Ok o.start)) is.room
 
-    pub joined_turn : (i : ℕ) → Dispatches i (core_at l0 q0) (seen_by a q0 s0) (plain.subscribe k v) (replied (machine.subscribed (Ok o.start))) (core_at l2 q2) (seen_by a q2 s2)
-    joined_turn i =
+    pub joined_turn : Dispatches i (core_at l0 q0) (seen_by a q0 s0) (plain.subscribe k v) (replied (machine.subscribed (Ok o.start))) (core_at l2 q2) (seen_by a q2 s2)
+    joined_turn =
         let m = core_at l0 q0 in
         let x = seen_by a q0 s0 in
-        let put : seen_by a q2 s2 ≡ with_queue x k (Some (record { start = o.start; taken = 0 })) = λ j. record { attempt = a; queues = seen_at q0 q2 s0 s2 k w (Some o.id) (Some (record { start = o.start; taken = 0 })) wrote h.slots stays j } in
+        let put : seen_by a q2 s2 ≡ with_queue x k (Some (record { start = o.start; taken = 0 })) = λ j. record { attempt = a; queues = seen_at q0 q2 s0 s2 k w (Some o.id) (Some (record { start = o.start; taken = 0 })) wrote h.slots (ap (option_map reading_of) stays) j } in
         let goes : core_at l2 q2 ≡ next m (machine.subscribe k v) = (λ j. record { logs = h.logs j; given = given j }) ∙ sym (ap (λ (r : Result ℕ Code). cond (is_ok r) (record { logs = l0; given = one_given m.given k }) m) starts) in
         let D : Result ℕ Code → Type 0 = λ r. Follows m (subscribes x k v r) (replied (machine.subscribed (Ok o.start))) (core_at l2 q2) (seen_by a q2 s2) in
         subst D (sym starts) (ap (λ (r : Result ℕ Code). replied (machine.subscribed r)) (sym starts), goes, put)
 
 -- ---- a queue that is taken of, and one that is closed
 
-pub stands_of : (o : Option PlainQueue) → is_some o ≡ true → (w : PlainQueue) × (o ≡ Some w)
-stands_of None h = cc
-stands_of (Some w) h = (w, refl)
+pub stands_of : (i : ℕ) (o : Option PlainQueue) → is_mine i o ≡ true → (w : PlainQueue) × (o ≡ Some w)
+stands_of i None h = cc
+stands_of i (Some w) h = (w, refl)
 
 entries_are : (es fs : List PlainEntry) → ◌≡◌ {A = Option (List PlainEntry)} (Some es) (Some fs) → es ≡ fs
 entries_are es fs h = cc
 
-module _ (q0 q1 : Queued) (l0 l1 : PlainKey → List PlainEntry) (s0 s1 : Slots) (k : PlainKey) (n : ℕ) (w : PlainQueue) (a : Option plain.Attempt) where
+module _ (i : ℕ) (q0 q1 : Queued) (l0 l1 : PlainKey → List PlainEntry) (s0 s1 : Slots) (k : PlainKey) (n : ℕ) (w : PlainQueue) (a : Option plain.Attempt) where
   -- the session's queue of k, and what the others call theirs
   pub record Holds : Type 0 where
-    pub all : AreOpen q0 s0
+    pub all : AreOpen i q0 s0
     pub at : s0 k ≡ Some n
     pub stands : queue_at n (q0 k).queues ≡ Some w
     pub others : q1 ≡ with_queues q0 k (q1 k)
@@ -362,15 +373,18 @@ module _ (q0 q1 : Queued) (l0 l1 : PlainKey → List PlainEntry) (s0 s1 : Slots)
     pub logs : l1 ≡ l0
 
   module _ (h : Holds) where
-    seen_is : (seen_by a q0 s0).queues k ≡ Some w
-    seen_is = ap (queue_seen (q0 k)) h.at ∙ h.stands
+    owned : is_owned i n (q0 k).queues ≡ true
+    owned = (h.all k n h.at).1
+
+    seen_is : (seen_by a q0 s0).queues k ≡ Some (reading_of w)
+    seen_is = ap (queue_seen (q0 k)) h.at ∙ ap (option_map reading_of) h.stands
 
     next_if : (j : PlainKey) (b : Bool) → same_key k j ≡ b → (q1 j).next ≡ (q0 j).next
     next_if j true is = ap (λ (z : PlainQueues). z.next) (at_key q0 q1 k (q1 k) j h.others is) ∙ h.next ∙ ap (λ z. (q0 z).next) (equal_keys k j is)
     next_if j false is = ap (λ (z : PlainQueues). z.next) (past_key q0 q1 k (q1 k) j h.others is)
 
     core_kept : core_at l1 q1 ≡ core_at l0 q0
-    core_kept = λ i. record { logs = h.logs i; given = λ j. next_if j (same_key k j) refl i }
+    core_kept = λ d. record { logs = h.logs d; given = λ j. next_if j (same_key k j) refl d }
 
     apart_of : (j : ℕ) → (s0 k ≡ Some j → ⊥) → (j ≡ n → ⊥)
     apart_of j f e = f (h.at ∙ ap Some (sym e))
@@ -381,48 +395,48 @@ module _ (q0 q1 : Queued) (l0 l1 : PlainKey → List PlainEntry) (s0 s1 : Slots)
     slot_kept : s1 ≡ s0 → s1 ≡ with_at s0 k (Some n)
     slot_kept e = e ∙ kept_at s0 k (Some n) (sym h.at)
 
-    take_deed : (i max : ℕ) (m : OneStep) → effect m i (seen_by a q0 s0) (plain.take k max) ≡ takes m (seen_by a q0 s0) k max w
-    take_deed i max m = ap (λ (o : Option PlainQueue). option_map_or (takes m (seen_by a q0 s0) k max) o (plain.notice plain.idle (seen_by a q0 s0))) seen_is
+    take_deed : (max : ℕ) (m : OneStep) → effect m i (seen_by a q0 s0) (plain.take k max) ≡ takes m (seen_by a q0 s0) k max (reading_of w)
+    take_deed max m = ap (λ (o : Option Reading). option_map_or (takes m (seen_by a q0 s0) k max) o (plain.notice plain.idle (seen_by a q0 s0))) seen_is
 
-    pub take_wanting : (i max : ℕ) → is_filled (waiting (l0 k) max w) ≡ true → s1 ≡ s0 → q1 ≡ q0 → Dispatches i (core_at l0 q0) (seen_by a q0 s0) (plain.take k max) no_memory (core_at l1 q1) (seen_by a q1 s1)
-    take_wanting i max some e q = (
-      ap (may_want (core_at l0 q0)) (take_deed i max (core_at l0 q0)) ∙ some,
+    pub take_wanting : (max : ℕ) → is_filled (waiting (l0 k) max w) ≡ true → s1 ≡ s0 → q1 ≡ q0 → Dispatches i (core_at l0 q0) (seen_by a q0 s0) (plain.take k max) no_memory (core_at l1 q1) (seen_by a q1 s1)
+    take_wanting max some e q = (
+      ap (may_want (core_at l0 q0)) (take_deed max (core_at l0 q0)) ∙ some,
       core_kept,
       (λ j. record { attempt = a; queues = λ b. queue_seen (q j b) (e j b) }),
     )
 
-    module _ (max : ℕ) (es : List PlainEntry) (takes_is : Takes (l0 k) n max (q0 k) (Some (Some es)) (q1 k)) (same : s1 ≡ s0) where
+    module _ (max : ℕ) (es : List PlainEntry) (takes_is : Takes (l0 k) i n max (q0 k) (Some (Some es)) (q1 k)) (same : s1 ≡ s0) where
       came : es ≡ waiting (l0 k) max w
-      came = entries_are es (waiting (l0 k) max w) (takes_is.0 ∙ ap (option_map (waiting (l0 k) max)) h.stands)
+      came = entries_are es (waiting (l0 k) max w) (takes_is.0 ∙ ap (λ b. cond b (taken_from (l0 k) n max (q0 k).queues) None) owned ∙ ap (option_map (waiting (l0 k) max)) h.stands)
 
       moves : queue_at n (q1 k).queues ≡ Some (moved_by (l0 k) max w)
-      moves = ap (λ (z : PlainQueues). queue_at n z.queues) takes_is.1 ∙ after_take_at (l0 k) n max w (q0 k).queues h.stands
+      moves = ap (λ (z : PlainQueues). queue_at n z.queues) takes_is.1 ∙ ap (λ b. queue_at n (cond b (after_take (l0 k) n max (q0 k).queues) (q0 k).queues)) owned ∙ after_take_at (l0 k) n max w (q0 k).queues h.stands
 
-      pub taken_turn : (i : ℕ) → Dispatches i (core_at l0 q0) (seen_by a q0 s0) (plain.take k max) (replied (machine.taken es)) (core_at l1 q1) (seen_by a q1 s1)
-      taken_turn i =
-          let put : seen_by a q1 s1 ≡ with_queue (seen_by a q0 s0) k (Some (moved_by (l0 k) max w)) = λ j. record { attempt = a; queues = seen_at q0 q1 s0 s1 k (q1 k) (Some n) (Some (moved_by (l0 k) max w)) h.others (slot_kept same) moves j } in
-          subst (λ d. Follows (core_at l0 q0) d (replied (machine.taken es)) (core_at l1 q1) (seen_by a q1 s1)) (sym (take_deed i max (core_at l0 q0))) (ap (λ l. replied (machine.taken l)) came, core_kept, put)
+      pub taken_turn : Dispatches i (core_at l0 q0) (seen_by a q0 s0) (plain.take k max) (replied (machine.taken es)) (core_at l1 q1) (seen_by a q1 s1)
+      taken_turn =
+          let put : seen_by a q1 s1 ≡ with_queue (seen_by a q0 s0) k (Some (read_on (l0 k) max (reading_of w))) = λ j. record { attempt = a; queues = seen_at q0 q1 s0 s1 k (q1 k) (Some n) (Some (read_on (l0 k) max (reading_of w))) h.others (slot_kept same) (ap (option_map reading_of) moves) j } in
+          subst (λ d. Follows (core_at l0 q0) d (replied (machine.taken es)) (core_at l1 q1) (seen_by a q1 s1)) (sym (take_deed max (core_at l0 q0))) (ap (λ l. replied (machine.taken l)) came, core_kept, put)
 
-      pub taken_leaves : Leaves q0 s0 q1 s1
+      pub taken_leaves : Leaves i q0 s0 q1 s1
       taken_leaves =
           let f = h.next in
-          leaves_at q0 q1 s0 s1 k (q1 k) (Some n) h.all h.others (slot_kept same) (omega (arith, f))
-          (λ j below apart. ap (λ (z : PlainQueues). queue_at j z.queues) takes_is.1 ∙ after_take_other (l0 k) j n max (q0 k).queues (apart_of j apart)) (λ j e. inl (own_number j e))
-          (λ j e. let low = (h.all k n h.at).0 in let is = some_is n j e in (omega (arith, low, f, is), ap (λ i. is_some (queue_at i (q1 k).queues)) (sym is) ∙ ap is_some moves))
+          leaves_at i q0 q1 s0 s1 k (q1 k) (Some n) h.all h.others (slot_kept same) (omega (arith, f))
+          (λ j below apart. ap (λ (z : PlainQueues). queue_at j z.queues) takes_is.1 ∙ taken_other (is_owned i n (q0 k).queues) (l0 k) j n max (q0 k).queues (apart_of j apart)) (λ j e. inl (own_number j e))
+          (λ j e. let low = (h.all k n h.at).0 in let is = some_is n j e in (omega (arith, low, f, is), ap (λ (d : ℕ). is_owned i d (q1 k).queues) (sym is) ∙ ap (is_mine i) moves ∙ ap (is_mine i) (sym h.stands) ∙ owned))
 
-    module _ (shut : q1 k ≡ closed n (q0 k)) (empty : s1 ≡ with_at s0 k None) where
-      pub closed_turn : (i : ℕ) → Dispatches i (core_at l0 q0) (seen_by a q0 s0) (plain.unsubscribe k) (said plain.unsubscribed) (core_at l1 q1) (seen_by a q1 s1)
-      closed_turn i =
+    module _ (shut : q1 k ≡ closed i n (q0 k)) (empty : s1 ≡ with_at s0 k None) where
+      pub closed_turn : Dispatches i (core_at l0 q0) (seen_by a q0 s0) (plain.unsubscribe k) (said plain.unsubscribed) (core_at l1 q1) (seen_by a q1 s1)
+      closed_turn =
           let x = seen_by a q0 s0 in
           let put : seen_by a q1 s1 ≡ with_queue x k None = λ j. record { attempt = a; queues = seen_at q0 q1 s0 s1 k (q1 k) None None h.others empty refl j } in
-          let is : effect (core_at l0 q0) i x (plain.unsubscribe k) ≡ plain.notice plain.unsubscribed (with_queue x k None) = ap (λ (o : Option PlainQueue). option_map_or (λ q. plain.notice plain.unsubscribed (with_queue x k None)) o (plain.notice plain.idle x)) seen_is in
+          let is : effect (core_at l0 q0) i x (plain.unsubscribe k) ≡ plain.notice plain.unsubscribed (with_queue x k None) = ap (λ (o : Option Reading). option_map_or (λ q. plain.notice plain.unsubscribed (with_queue x k None)) o (plain.notice plain.idle x)) seen_is in
           subst (λ d. Follows (core_at l0 q0) d (said plain.unsubscribed) (core_at l1 q1) (seen_by a q1 s1)) (sym is) (refl, core_kept, put)
 
-      pub closed_leaves : Leaves q0 s0 q1 s1
+      pub closed_leaves : Leaves i q0 s0 q1 s1
       closed_leaves =
           let f = h.next in
-          leaves_at q0 q1 s0 s1 k (q1 k) None h.all h.others empty (omega (arith, f))
-          (λ j below apart. ap (λ (z : PlainQueues). queue_at j z.queues) shut ∙ without_other j n (q0 k).queues (apart_of j apart)) (λ j e. cc) (λ j e. cc)
+          leaves_at i q0 q1 s0 s1 k (q1 k) None h.all h.others empty (omega (arith, f))
+          (λ j below apart. ap (λ (z : PlainQueues). queue_at j z.queues) shut ∙ shut_other (is_owned i n (q0 k).queues) j n (q0 k).queues (apart_of j apart)) (λ j e. cc) (λ j e. cc)
 
 -- ---- a commit
 

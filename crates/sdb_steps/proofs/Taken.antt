@@ -10,7 +10,8 @@ use Rattle.sdb_oplog.specs.Keys.{PlainKey, Logs, same_key}
 use Rattle.sdb_oplog.specs.Refused.{result_then}
 use Rattle.sdb_oplog.specs.declared.codes.Code.{Code}
 use Rattle.sdb_oplog.specs.declared.codes.Code.TheVariants.{E1, E2, E3, E4, E5, E6, E7, E8, E9, E10, E11}
-use Rattle.sdb_subscribe.specs.Queue.{PlainQueue, queue, waiting, moved}
+use Rattle.sdb_subscribe.specs.Queue.{queue}
+use Rattle.sdb_steps.specs.Reading.{Reading, waiting, moved}
 use Rattle.sdb_desk.specs.Laws.{equal_keys}
 use Rattle.sdb_steps.specs.OneStep as machine
 use Rattle.sdb_steps.specs.OneStep.{OneStep, Event, Reply, subscribed, started, reply, next}
@@ -24,11 +25,11 @@ use Rattle.sdb_steps.proofs.Growing.{Grows, grows_next}
 -- ---- lists
 
 -- the queue took these entries of the log
-record IsOn (log : List PlainEntry) (q : PlainQueue) (es : List PlainEntry) : Type 0 where
+record IsOn (log : List PlainEntry) (q : Reading) (es : List PlainEntry) : Type 0 where
   pub within : q.start + q.taken ≤ length log
   pub same : es ≡ queue log q.start q.taken
 
-on_grown : (old new : List PlainEntry) (q : PlainQueue) (es : List PlainEntry) → Grows old new → IsOn old q es → IsOn new q es
+on_grown : (old new : List PlainEntry) (q : Reading) (es : List PlainEntry) → Grows old new → IsOn old q es → IsOn new q es
 on_grown old new q es g h =
     let long : length new ≡ length old + length g.more = ap length g.is ∙ length-append old g.more in
     let begin : q.start ≤ length old = omega (arith, h.within) in
@@ -46,7 +47,7 @@ take_both t n xs h =
     let front : length (take t xs) ≡ t = length-take-le t xs h in
     ap (take (t + n)) (sym (take-append-drop t xs)) ∙ ap (λ (k : ℕ). take (k + n) (take t xs ++ drop t xs)) (sym front) ∙ take-append-add (take t xs) (drop t xs) n
 
-on_taken : (log : List PlainEntry) (q : PlainQueue) (es : List PlainEntry) (max : ℕ) → IsOn log q es → IsOn log (moved log max q) (es ++ waiting log max q)
+on_taken : (log : List PlainEntry) (q : Reading) (es : List PlainEntry) (max : ℕ) → IsOn log q es → IsOn log (moved log max q) (es ++ waiting log max q)
 on_taken log q es max h =
     let new = waiting log max q in
     let rest : q.taken ≤ length (drop q.start log) = omega (arith, h.within, length-drop q.start log) in
@@ -63,14 +64,14 @@ on_taken log q es max h =
 
 -- what was taken of k by the session x, where the machine stands at m
 abbrev HasTaken : OneStep → Session → PlainKey → List PlainEntry → Type 0
-HasTaken m x k es = (q : PlainQueue) → x.queues k ≡ Some q → IsOn (m.logs k) q es
+HasTaken m x k es = (q : Reading) → x.queues k ≡ Some q → IsOn (m.logs k) q es
 
 grown : (m : OneStep) (e : Event) (x : Session) (k : PlainKey) (es : List PlainEntry) → HasTaken m x k es → HasTaken (next m e) x k es
 grown m e x k es h q is = on_grown (m.logs k) ((next m e).logs k) q es (grows_next m e k) (h q is)
 
 -- an effect that opens and moves no queue
 abbrev Sub : Session → Session → Type 0
-Sub x y = (k : PlainKey) (q : PlainQueue) → y.queues k ≡ Some q → x.queues k ≡ Some q
+Sub x y = (k : PlainKey) (q : Reading) → y.queues k ≡ Some q → x.queues k ≡ Some q
 
 abbrev DeedSub : Session → Effect → Type 0
 DeedSub x (event e y) = Sub x y
@@ -102,17 +103,17 @@ sub_commit : (m : OneStep) (x : Session) (o : Option plain.Attempt) → DeedSub 
 sub_commit m x None = λ j q is. is
 sub_commit m x (Some a) = sub_commits m x a (plain.decides m a)
 
-shut : (b : Bool) (o : Option PlainQueue) (q : PlainQueue) → cond b None o ≡ Some q → o ≡ Some q
+shut : (b : Bool) (o : Option Reading) (q : Reading) → cond b None o ≡ Some q → o ≡ Some q
 shut true o q h = cc
 shut false o q h = h
 
-sub_unsubscribe : (x : Session) (k : PlainKey) (o : Option PlainQueue) → DeedSub x (option_map_or (λ q. notice plain.unsubscribed (with_queue x k None)) o (notice plain.idle x))
+sub_unsubscribe : (x : Session) (k : PlainKey) (o : Option Reading) → DeedSub x (option_map_or (λ q. notice plain.unsubscribed (with_queue x k None)) o (notice plain.idle x))
 sub_unsubscribe x k None = λ j q is. is
 sub_unsubscribe x k (Some p) = λ j q is. shut (same_key k j) (x.queues j) q is
 
 -- a queue at k', or the one that stood
-set_taken : (b : Bool) (log es new : List PlainEntry) (p q : PlainQueue) (o : Option PlainQueue) → (b ≡ true → IsOn log p new) → ((r : PlainQueue) → o ≡ Some r → IsOn log r es) → cond b (Some p) o ≡ Some q → IsOn log q (cond b new es)
-set_taken true log es new p q o f g h = let e : p ≡ q = cc in subst (λ (r : PlainQueue). IsOn log r new) e (f refl)
+set_taken : (b : Bool) (log es new : List PlainEntry) (p q : Reading) (o : Option Reading) → (b ≡ true → IsOn log p new) → ((r : Reading) → o ≡ Some r → IsOn log r es) → cond b (Some p) o ≡ Some q → IsOn log q (cond b new es)
+set_taken true log es new p q o f g h = let e : p ≡ q = cc in subst (λ (r : Reading). IsOn log r new) e (f refl)
 set_taken false log es new p q o f g h = g q h
 
 -- a start is no later than the present version
@@ -158,7 +159,7 @@ subscribe_step m n x y k j v (Ok start) a es is h t =
     subst (λ (b : Answer). HasTaken n y j (adds j (plain.subscribe k v) b es)) (sym told)
     (subst (λ (o : OneStep). HasTaken o y j (cond (same_key k j) [] es)) (sym h.1) (subst (λ (w : Session). HasTaken (next m e) w j (cond (same_key k j) [] es)) (sym h.2) now))
 
-take_step : (m n : OneStep) (x y : Session) (k j : PlainKey) (max : ℕ) (o : Option PlainQueue) (a : Answer) (es : List PlainEntry) → x.queues k ≡ o → Follows m (option_map_or (plain.takes m x k max) o (notice plain.idle x)) a n y
+take_step : (m n : OneStep) (x y : Session) (k j : PlainKey) (max : ℕ) (o : Option Reading) (a : Answer) (es : List PlainEntry) → x.queues k ≡ o → Follows m (option_map_or (plain.takes m x k max) o (notice plain.idle x)) a n y
     → HasTaken m x j es → HasTaken n y j (adds j (plain.take k max) a es)
 take_step m n x y k j max None a es is h t =
     subst (λ (b : Answer). HasTaken n y j (adds j (plain.take k max) b es)) (sym h.0)

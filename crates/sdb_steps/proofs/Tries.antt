@@ -4,7 +4,7 @@ use Rattle.std.proofs.lemmas.Bool.Decides.{nat_tests}
 use Rattle.std.specs.Option.{option_map_or}
 use Rattle.sdb_oplog.specs.declared.codes.Code.{Code}
 use Rattle.sdb_oplog.specs.declared.codes.Code.TheVariants.{E1, E2, E3, E4, E5, E6, E7, E8, E9, E10, E11}
-use Rattle.sdb_subscribe.specs.Queue.{PlainQueue}
+use Rattle.sdb_steps.specs.Reading.{Reading}
 use Rattle.sdb_oplog.specs.Keys.{PlainKey}
 use Rattle.sdb_steps.specs.OneStep as machine
 use Rattle.sdb_steps.specs.OneStep.{OneStep, Event, empty, after, started}
@@ -68,11 +68,11 @@ subscribes x k v (Err E9) h = h
 subscribes x k v (Err E10) h = h
 subscribes x k v (Err E11) h = h
 
-takes : (m : OneStep) (x : Session) (k : PlainKey) (max : ℕ) (o : Option PlainQueue) → Few x.attempt → After (option_map_or (plain.takes m x k max) o (notice plain.idle x))
+takes : (m : OneStep) (x : Session) (k : PlainKey) (max : ℕ) (o : Option Reading) → Few x.attempt → After (option_map_or (plain.takes m x k max) o (notice plain.idle x))
 takes m x k max None h = h
 takes m x k max (Some q) h = h
 
-closes : (x : Session) (k : PlainKey) (o : Option PlainQueue) → Few x.attempt → After (option_map_or (λ q. notice plain.unsubscribed (plain.with_queue x k None)) o (notice plain.idle x))
+closes : (x : Session) (k : PlainKey) (o : Option Reading) → Few x.attempt → After (option_map_or (λ q. notice plain.unsubscribed (plain.with_queue x k None)) o (notice plain.idle x))
 closes x k None h = h
 closes x k (Some q) h = h
 

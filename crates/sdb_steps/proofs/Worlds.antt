@@ -1,12 +1,12 @@
 -- One turn of one session is one step of the world.
-use Rattle.std.proofs.Common.{◌≡◌, ℕ, zero, suc, ◌<◌, ◌≤◌, List, [], ◌∷◌, ◌++◌, length, get_or, Bool, true, false, cond, Option, Some, None, option_map, unwrap_or, nat_eq, ◌⊎◌, inl, inr, refl, sym, ap, ◌∙◌, slice_get, arith}
+use Rattle.std.proofs.Common.{◌≡◌, ℕ, zero, suc, ◌<◌, ◌≤◌, List, [], ◌∷◌, ◌++◌, length, get_or, Bool, true, false, cond, Option, Some, None, option_map, unwrap_or, nat_eq, ◌⊎◌, inl, inr, refl, sym, ap, ◌∙◌, subst, slice_get, arith}
 use Rattle.std.specs.List.{slice_set}
-use Rattle.std.specs.Option.{is_some, option_and_then}
+use Rattle.std.specs.Option.{option_and_then}
 use Rattle.std.proofs.lemmas.Option.{slice_get_read}
 use Rattle.std.proofs.lemmas.Bool.{eqb-true, eq-eqb}
 use Rattle.std.proofs.Math.Dec.{eqb-suc-zero, eqb-zero-suc, eqb-suc-suc}
 use Rattle.sdb_oplog.specs.Keys.{PlainKey}
-use Rattle.sdb_subscribe.specs.Queue.{PlainQueues, queue_at}
+use Rattle.sdb_subscribe.specs.Queue.{PlainQueues, queue_at, is_mine, is_owned}
 use Rattle.sdb_desk.specs.Machine.{Queued}
 use Rattle.sdb_steps.specs.OneStep.{OneStep, Event, reply, replies, after}
 use Rattle.sdb_steps.specs.Picks as plain
@@ -14,6 +14,7 @@ use Rattle.sdb_steps.specs.Picks.{Sessions, Act, PlainStep, Answer, replied, sai
 use Rattle.sdb_steps.specs.Runs.{IsStep}
 use Rattle.sdb_steps.specs.Dispatch.{Follows, Dispatches}
 use Rattle.sdb_steps.specs.StateView.{queue_seen, plain_attempt, plain_session, plain_sessions, slots_of, slots_at}
+use Rattle.sdb_steps.specs.Reading.{reading_of}
 use Rattle.sdb_steps.specs.Slots.{Slots, AreOpen, AreApart, Leaves}
 use Rattle.sdb_steps.specs.declared.session_state.Session.{Session}
 
@@ -73,7 +74,7 @@ session_read q xs i x h is = sym (ap (λ (o : Option Session). unwrap_or (option
 
 seen_same : (w v : PlainQueues) (o : Option ℕ) → ((n : ℕ) → o ≡ Some n → queue_at n w.queues ≡ queue_at n v.queues) → queue_seen w o ≡ queue_seen v o
 seen_same w v None h = refl
-seen_same w v (Some n) h = h n refl
+seen_same w v (Some n) h = ap (option_map reading_of) (h n refl)
 
 session_same : (q r : Queued) (x : Session) → ((k : PlainKey) (n : ℕ) → slots_of x k ≡ Some n → queue_at n (r k).queues ≡ queue_at n (q k).queues) → plain_session r x ≡ plain_session q x
 session_same q r x h = let view = plain_session q x in λ i. record { attempt = view.attempt; queues = λ k. seen_same (r k) (q k) (slots_of x k) (h k) i }
@@ -86,7 +87,7 @@ view_same q r (Some x) h = session_same q r x h
 apart_is : (i j : ℕ) → nat_eq i j ≡ false → i ≡ j → ⊥
 apart_is i j is e = let t : nat_eq i j ≡ true = eq-eqb i j e in let x : true ≡ false = sym t ∙ is in cc
 
-module _ (q r : Queued) (xs : List Session) (i : ℕ) (y : Session) (within : i < length xs) (open_all : (j : ℕ) → AreOpen q (slots_at xs j)) (apart : AreApart (slots_at xs)) (leaves : Leaves q (slots_at xs i) r (slots_of y)) where
+module _ (q r : Queued) (xs : List Session) (i : ℕ) (y : Session) (within : i < length xs) (open_all : (j : ℕ) → AreOpen j q (slots_at xs j)) (apart : AreApart (slots_at xs)) (leaves : Leaves i q (slots_at xs i) r (slots_of y)) where
   -- the queue of another session stays
   stays : (j : ℕ) (k : PlainKey) (n : ℕ) → nat_eq i j ≡ false → slots_at xs j k ≡ Some n → queue_at n (r k).queues ≡ queue_at n (q k).queues
   stays j k n is at = leaves.others k n (open_all j k n at).0 (λ own. apart_is i j is (apart i j k n own at))
@@ -101,15 +102,15 @@ module _ (q r : Queued) (xs : List Session) (i : ℕ) (y : Session) (within : i 
   abbrev slot_at : ℕ → Slots
   slot_at j k = cond (nat_eq i j) (slots_of y k) (slots_at xs j k)
 
-  open_if : (b : Bool) (j : ℕ) (k : PlainKey) (n : ℕ) → nat_eq i j ≡ b → cond b (slots_of y k) (slots_at xs j k) ≡ Some n → (n < (r k).next) × (is_some (queue_at n (r k).queues) ≡ true)
-  open_if true j k n is at = leaves.now k n at
+  open_if : (b : Bool) (j : ℕ) (k : PlainKey) (n : ℕ) → nat_eq i j ≡ b → cond b (slots_of y k) (slots_at xs j k) ≡ Some n → (n < (r k).next) × (is_owned j n (r k).queues ≡ true)
+  open_if true j k n is at = subst (λ (l : ℕ). (n < (r k).next) × (is_owned l n (r k).queues ≡ true)) (eqb-true i j is) (leaves.now k n at)
   open_if false j k n is at =
       let o = open_all j k n at in
       let low = o.0 in
       let more = leaves.grows k in
-      (omega (arith, low, more), ap is_some (stays j k n is at) ∙ o.1)
+      (omega (arith, low, more), ap (is_mine j) (stays j k n is at) ∙ o.1)
 
-  pub open_set : (j : ℕ) → AreOpen r (slots_at (slice_set xs i y) j)
+  pub open_set : (j : ℕ) → AreOpen j r (slots_at (slice_set xs i y) j)
   open_set j k n at = open_if (nat_eq i j) j k n refl (sym (slots_set xs i j y k within) ∙ at)
 
   own_other : (j : ℕ) (k : PlainKey) (n : ℕ) → (slots_at xs i k ≡ Some n) ⊎ ((q k).next ≤ n) → slots_at xs j k ≡ Some n → i ≡ j

@@ -1,9 +1,12 @@
 pub mod Continued
 pub mod Dispatch
 pub mod Lines
+pub mod Looking
+pub mod LookingLaws
 pub mod OneStep
 pub mod Picks
 pub mod Placed
+pub mod Reading
 pub mod Replays
 pub mod Runs
 pub mod Slots

@@ -7,7 +7,8 @@ use Rattle.sdb_oplog.specs.declared.codes.Code.TheVariants.{E11}
 use Rattle.sdb_oplog.specs.Plain.{PlainSubmission, PlainContent}
 use Rattle.sdb_oplog.specs.Keys.{PlainKey, same_key}
 use Rattle.sdb_oplog.specs.Decide.{deciding_takes_memory}
-use Rattle.sdb_subscribe.specs.Queue.{PlainQueue, queue, moved as moved_by}
+use Rattle.sdb_subscribe.specs.Queue.{queue}
+use Rattle.sdb_steps.specs.Reading.{Reading, moved as moved_by}
 use Rattle.sdb_desk.specs.Machine.{fetched, snapshot_at, has_document, has_version, is_filled}
 use Rattle.sdb_steps.specs.OneStep as machine
 use Rattle.sdb_steps.specs.OneStep.{OneStep, Event, Reply, started, after}
@@ -27,7 +28,7 @@ pub record Attempt : Type 0 where
 -- at most one attempt, and at most one queue for each key
 pub record Session : Type 0 where
   pub attempt : Option Attempt
-  pub queues : PlainKey → Option PlainQueue
+  pub queues : PlainKey → Option Reading
 
 abbrev pub fresh : Session
 fresh = record { attempt = None; queues = λ k. None }
@@ -35,7 +36,7 @@ fresh = record { attempt = None; queues = λ k. None }
 abbrev pub with_attempt : Session → Option Attempt → Session
 with_attempt x a = record { attempt = a; queues = x.queues }
 
-abbrev pub with_queue : Session → PlainKey → Option PlainQueue → Session
+abbrev pub with_queue : Session → PlainKey → Option Reading → Session
 with_queue x k o = record { attempt = x.attempt; queues = λ q. cond (same_key k q) o (x.queues q) }
 
 -- by their numbers
@@ -142,7 +143,7 @@ subscribes x k v (Err E11) = notice full x
 subscribes x k v (Err code) = event (machine.subscribe k v) x
 
 -- on from what was taken
-abbrev pub takes : OneStep → Session → PlainKey → ℕ → PlainQueue → Effect
+abbrev pub takes : OneStep → Session → PlainKey → ℕ → Reading → Effect
 takes m x k max q =
     event (machine.take_from k (q.start + q.taken) max) (with_queue x k (Some (moved_by (m.logs k) max q)))
 

@@ -1,31 +1,31 @@
 -- Slots: the number of a session's queue of each key. What one step of one session does to those of the others.
 use Rattle.std.specs.Prelude.{◌≡◌, ℕ, ◌<◌, ◌≤◌, ◌⊎◌, true, Option, Some}
-use Rattle.std.specs.Option.{is_some, option_map_or}
+use Rattle.std.specs.Option.{option_map_or}
 use Rattle.sdb_oplog.specs.Keys.{PlainKey}
-use Rattle.sdb_subscribe.specs.Queue.{PlainQueues, queue_at}
+use Rattle.sdb_subscribe.specs.Queue.{PlainQueues, queue_at, is_owned}
 use Rattle.sdb_desk.specs.Machine.{Queued, closed}
 
 -- none, or the number of the session's queue of the key
 abbrev pub Slots : Type 0
 Slots = PlainKey → Option ℕ
 
--- each queue in a slot is open, and its number was given
-abbrev pub AreOpen : Queued → Slots → Type 0
-AreOpen q s = (k : PlainKey) (n : ℕ) → s k ≡ Some n → (n < (q k).next) × (is_some (queue_at n (q k).queues) ≡ true)
+-- each queue in a slot of session i is open and was opened under the number i, and its own number was given
+abbrev pub AreOpen : ℕ → Queued → Slots → Type 0
+AreOpen i q s = (k : PlainKey) (n : ℕ) → s k ≡ Some n → (n < (q k).next) × (is_owned i n (q k).queues ≡ true)
 
 -- no queue stands in the slots of two sessions
 abbrev pub AreApart : (ℕ → Slots) → Type 0
 AreApart all = (i j : ℕ) (k : PlainKey) (n : ℕ) → all i k ≡ Some n → all j k ≡ Some n → i ≡ j
 
--- from the queues q and the slots s to r and t: no number is taken back, the queues that were given to others stay,
+-- from the queues q and the slots s of session i to r and t: no number is taken back, the queues that were given to others stay,
 -- and what is new in a slot was not given before
-pub record Leaves (q : Queued) (s : Slots) (r : Queued) (t : Slots) : Type 0 where
+pub record Leaves (i : ℕ) (q : Queued) (s : Slots) (r : Queued) (t : Slots) : Type 0 where
   pub grows : (k : PlainKey) → (q k).next ≤ (r k).next
   pub others : (k : PlainKey) (n : ℕ) → n < (q k).next → (s k ≡ Some n → ⊥)
       → queue_at n (r k).queues ≡ queue_at n (q k).queues
   pub own : (k : PlainKey) (n : ℕ) → t k ≡ Some n → (s k ≡ Some n) ⊎ ((q k).next ≤ n)
-  pub now : AreOpen r t
+  pub now : AreOpen i r t
 
--- the queues without the one of this number, if there is one
-abbrev pub closed_of : Option ℕ → PlainQueues → PlainQueues
-closed_of o q = option_map_or (λ n. closed n q) o q
+-- the queues after session i has closed the one of this number, if there is one
+abbrev pub closed_of : ℕ → Option ℕ → PlainQueues → PlainQueues
+closed_of i o q = option_map_or (λ n. closed i n q) o q

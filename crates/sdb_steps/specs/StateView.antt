@@ -4,13 +4,14 @@ use Rattle.std.specs.Option.{option_and_then}
 use Rattle.sdb_oplog.specs.Plain.{PlainSubmission}
 use Rattle.sdb_oplog.specs.Keys.{PlainKey, plain_key}
 use Rattle.sdb_oplog.specs.declared.keys.Key.{Key}
-use Rattle.sdb_subscribe.specs.Queue.{PlainQueue, PlainQueues, queue_at}
+use Rattle.sdb_subscribe.specs.Queue.{PlainQueues, queue_at}
 use Rattle.sdb_desk.specs.MapView.{held}
 use Rattle.sdb_desk.specs.ShardView.{logs_of, queues_of}
 use Rattle.sdb_desk.specs.Machine.{Queued}
 use Rattle.sdb_desk.specs.declared.shard.Shard.{Shard}
 use Rattle.sdb_steps.specs.OneStep.{OneStep}
 use Rattle.sdb_steps.specs.Picks as plain
+use Rattle.sdb_steps.specs.Reading.{Reading, reading_of}
 use Rattle.sdb_steps.specs.Slots.{Slots}
 use Rattle.sdb_steps.specs.declared.session_state.Phase.{Phase}
 use Rattle.sdb_steps.specs.declared.session_state.Phase.TheVariants.{Looked, Moved, Worked}
@@ -49,9 +50,9 @@ slots_in es = held None es
 abbrev pub slots_of : Session → Slots
 slots_of x = slots_in x.slots.entries
 
--- the queue of this number
-abbrev pub queue_seen : PlainQueues → Option ℕ → Option PlainQueue
-queue_seen q o = option_and_then (λ n. queue_at n q.queues) o
+-- what is known of the queue of this number
+abbrev pub queue_seen : PlainQueues → Option ℕ → Option Reading
+queue_seen q o = option_map reading_of (option_and_then (λ n. queue_at n q.queues) o)
 
 abbrev pub plain_session : Queued → Session → plain.Session
 plain_session q x =

@@ -1,10 +1,13 @@
 //! Attempts: a submission that is looked at, worked and committed.
-ghost use Rattle.std.specs.Prelude.{◌≡◌, ◌<◌, ℕ, true, IfOk, IfErr, IsTrue, IsFalse, option_map, false};
+ghost use Rattle.std.specs.Prelude.{◌≡◌, ◌<◌, ℕ, true, Some, IfOk, IfErr, IsTrue, IsFalse, option_map, false};
 ghost use Rattle.sdb_oplog.specs.Decide.{refused};
 ghost use Rattle.sdb_oplog.specs.declared.codes.Code.TheVariants.{E10};
 ghost use Rattle.sdb_desk.specs.ReplyView.{plain_reply};
 ghost use Rattle.sdb_oplog.specs.Keys.{PlainKey, plain_key};
-ghost use Rattle.sdb_desk.specs.ShardView.{queues_of};
+ghost use Rattle.sdb_desk.specs.ShardView.{logs_of, queues_of};
+ghost use Rattle.sdb_desk.specs.Looked.{IsLook};
+ghost use Rattle.sdb_desk.specs.View.{plain_look};
+ghost use Rattle.sdb_steps.specs.Looking.{attempt_in, IsLooked};
 ghost use Rattle.sdb_steps.specs.Picks.{opened, decides};
 ghost use Rattle.sdb_steps.specs.Dispatch.{Tries, Works};
 ghost use Rattle.sdb_steps.specs.StateView.{core_of, submitted, looked_at, is_worked, plain_attempt, attempt_at};
@@ -30,7 +33,9 @@ impl OpenAttempt {
         key: &Key,
         submission: Submission,
     ) -> Result<OpenAttempt, AllocError>
-        ensures { IfOk result (λ t. plain_attempt t ≡ opened (core_of shard.now) (plain_key key.now) submission) }
+        ensures opened { IfOk result
+            (λ t. plain_attempt t ≡ opened (core_of shard.now) (plain_key key.now) submission) }
+        ensures looked { IfOk result (λ t. IsLooked (logs_of shard.now) (Some t)) }
     {
         let look = shard.look(key, &submission)?;
         Ok(OpenAttempt {
@@ -42,6 +47,8 @@ impl OpenAttempt {
 
     // Commits: one try, or, after eight, at once.
     pub(crate) fn commit(self, alloc: Global, shard: &mut Shard) -> Committed
+        requires { IsLooked (logs_of shard.old) (Some self) }
+        ensures looked { IsLooked (logs_of shard.new) result.1 }
         ensures tries { Tries (core_of shard.old) (plain_attempt self) (plain_answer result.0)
             (core_of shard.new) (option_map plain_attempt result.1) }
         ensures queues { queues_of shard.new ≡ queues_of shard.old }
@@ -60,7 +67,9 @@ impl OpenAttempt {
     // A try of an attempt that no memory was found to work: it decides where the log is as long as it was
     // looked at.
     fn commit_unworked(self, shard: &mut Shard) -> Committed
-        requires { self.tries < 8 }
+        requires few { self.tries < 8 }
+        requires looked { IsLooked (logs_of shard.old) (Some self) }
+        ensures looked { IsLooked (logs_of shard.new) result.1 }
         ensures tries { Tries (core_of shard.old) (plain_attempt self) (plain_answer result.0)
             (core_of shard.new) (option_map plain_attempt result.1) }
         ensures queues { queues_of shard.new ≡ queues_of shard.old }
@@ -73,7 +82,9 @@ impl OpenAttempt {
 
     // Decides the attempt, whatever the log has come to.
     fn commit_now(self, shard: &mut Shard) -> Committed
-        requires { decides (core_of shard.old) (plain_attempt self) ≡ true }
+        requires due { decides (core_of shard.old) (plain_attempt self) ≡ true }
+        requires looked { IsLooked (logs_of shard.old) (Some self) }
+        ensures looked { IsLooked (logs_of shard.new) result.1 }
         ensures tries { Tries (core_of shard.old) (plain_attempt self) (plain_answer result.0)
             (core_of shard.new) (option_map plain_attempt result.1) }
         ensures queues { queues_of shard.new ≡ queues_of shard.old }
@@ -87,7 +98,9 @@ impl OpenAttempt {
 
     // Works the attempt: whether it was worked just now. Where memory is wanting it is as it was.
     pub(crate) fn work(self, alloc: Global) -> (StepAnswer, OpenAttempt)
-        ensures { Works (plain_attempt self) (plain_answer result.0) (plain_attempt result.1) }
+        ensures works { Works (plain_attempt self) (plain_answer result.0) (plain_attempt result.1) }
+        ensures attempt { attempt_in result.1.phase ≡ attempt_in self.phase }
+        ensures key { plain_key result.1.key ≡ plain_key self.key }
     {
         let OpenAttempt { key, phase, tries } = self;
         let (answer, phase) = work_phase(alloc, phase);
@@ -130,6 +143,8 @@ fn is_worked(phase: &Phase) -> bool
 fn worked(alloc: Global, phase: Phase) -> Result<Work, Phase>
     ensures submission { IfOk result (λ w. w.submission ≡ submitted phase) }
     ensures version { IfOk result (λ w. w.look.version ≡ looked_at phase) }
+    ensures attempt { IfOk result (λ w. w ≡ attempt_in phase) }
+    ensures kept { IfErr result (λ s. attempt_in s ≡ attempt_in phase) }
     ensures err { IfErr result (λ s. (k : PlainKey) (n : ℕ) → attempt_at k s n ≡ attempt_at k phase n) }
 {
     let made = match phase {
@@ -144,7 +159,9 @@ fn worked(alloc: Global, phase: Phase) -> Result<Work, Phase>
 }
 
 fn work_phase(alloc: Global, phase: Phase) -> (StepAnswer, Phase)
-    ensures { (k : PlainKey) (n : ℕ) → Works (attempt_at k phase n) (plain_answer result.0) (attempt_at k result.1 n) }
+    ensures works { (k : PlainKey) (n : ℕ) →
+        Works (attempt_at k phase n) (plain_answer result.0) (attempt_at k result.1 n) }
+    ensures attempt { attempt_in result.1 ≡ attempt_in phase }
 {
     if is_worked(&phase) {
         return (StepAnswer::Idle, phase);
@@ -157,7 +174,9 @@ fn work_phase(alloc: Global, phase: Phase) -> (StepAnswer, Phase)
 
 // One try of a work. Where memory is wanting the attempt is as it was, worked or not.
 fn commit_work(shard: &mut Shard, key: Key, work: Work, tries: u64, is_worked: bool) -> Committed
-    requires { tries < 8 }
+    requires few { tries < 8 }
+    requires looked { IsLook (logs_of shard.old (plain_key key)) work }
+    ensures looked { IsLooked (logs_of shard.new) result.1 }
     ensures tries { Tries (core_of shard.old)
         (record {
           key = plain_key key;
@@ -202,7 +221,8 @@ fn is_wanting(reply: &Reply) -> bool
 
 // A work, put back as it was before the commit: worked, or looked at alone.
 fn put_back(work: Work, is_worked: bool) -> Phase
-    ensures { (k : PlainKey) (n : ℕ) → attempt_at k result n ≡ record {
+    ensures attempt { attempt_in result ≡ work }
+    ensures plain { (k : PlainKey) (n : ℕ) → attempt_at k result n ≡ record {
       key = k;
       submission = work.submission;
       looked = work.look.version;
@@ -219,7 +239,8 @@ fn put_back(work: Work, is_worked: bool) -> Phase
 
 // The submission of a work, by a fresh look.
 fn looked_again(work: Work, look: Look) -> Phase
-    ensures { (k : PlainKey) (n : ℕ) → attempt_at k result n ≡ record {
+    ensures attempt { attempt_in result ≡ record { submission = work.submission; look = plain_look look } }
+    ensures plain { (k : PlainKey) (n : ℕ) → attempt_at k result n ≡ record {
       key = k;
       submission = work.submission;
       looked = look.version;

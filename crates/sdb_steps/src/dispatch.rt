@@ -1,7 +1,8 @@
 //! Each step goes to its session and to the documents.
 ghost use Rattle.std.specs.Prelude.{◌≡◌, ℕ, None, IfOk, OnErr, option_map, string_bytes};
 ghost use Rattle.sdb_oplog.specs.Keys.{plain_key};
-ghost use Rattle.sdb_desk.specs.ShardView.{queues_of};
+ghost use Rattle.sdb_desk.specs.ShardView.{logs_of, queues_of};
+ghost use Rattle.sdb_steps.specs.Looking.{IsLooked};
 ghost use Rattle.sdb_steps.specs.Picks as plain;
 ghost use Rattle.sdb_steps.specs.Dispatch.{Dispatches, Begins};
 ghost use Rattle.sdb_steps.specs.StateView.{core_of, plain_session, plain_attempt, slots_of};
@@ -22,11 +23,13 @@ pub(crate) fn dispatch(
     session: &mut Session,
     step: &Step,
 ) -> StepAnswer
-    requires { AreOpen (queues_of shard.old) (slots_of session.old) }
+    requires queues { AreOpen (plain_step step.now).session (queues_of shard.old) (slots_of session.old) }
+    requires looked { IsLooked (logs_of shard.old) session.old.attempt }
+    ensures looked { IsLooked (logs_of shard.new) session.new.attempt }
     ensures dispatches { Dispatches (plain_step step.now).session (core_of shard.old)
         (plain_session (queues_of shard.old) session.old) (plain_step step.now).act (plain_answer result)
         (core_of shard.new) (plain_session (queues_of shard.new) session.new) }
-    ensures leaves { Leaves (queues_of shard.old) (slots_of session.old)
+    ensures leaves { Leaves (plain_step step.now).session (queues_of shard.old) (slots_of session.old)
         (queues_of shard.new) (slots_of session.new) }
 {
     match step {
@@ -48,9 +51,20 @@ pub(crate) fn dispatch(
         Step::Commit { .. } => session.commit(alloc, shard),
         Step::Fetch { key, .. } => fetch(shard, key),
         Step::Snapshot { key, version, .. } => snapshot(shard, key, *version),
-        Step::Subscribe { key, version, .. } => session.subscribe(shard, key, *version),
-        Step::Take { key, max, .. } => session.take(shard, key, *max),
-        Step::Unsubscribe { key, .. } => session.unsubscribe(shard, key),
+        Step::Subscribe {
+            session: number,
+            key,
+            version,
+        } => session.subscribe(number.number, shard, key, *version),
+        Step::Take {
+            session: number,
+            key,
+            max,
+        } => session.take(number.number, shard, key, *max),
+        Step::Unsubscribe {
+            session: number,
+            key,
+        } => session.unsubscribe(number.number, shard, key),
         Step::Forget { key, .. } => {
             shard.forget(key);
             StepAnswer::Forgotten
@@ -86,6 +100,7 @@ fn begin(
 ) -> StepAnswer
     requires { session.old.attempt ≡ None }
     ensures slots { slots_of session.new ≡ slots_of session.old }
+    ensures looked { IsLooked (logs_of shard.now) session.new.attempt }
     ensures begun { IfOk submission (λ s. Begins (core_of shard.now) (plain_key key.now) s
         (plain_answer result) (option_map plain_attempt session.new.attempt)) }
     ensures wanting { OnErr submission
@@ -119,6 +134,7 @@ fn fetch(shard: &mut Shard, key: &Key) -> StepAnswer
 fn snapshot(shard: &mut Shard, key: &Key, version: Option<u64>) -> StepAnswer
     ensures dispatches { (i : ℕ) (x : plain.Session) → Dispatches i (core_of shard.old) x
         (plain.snapshot (plain_key key.now) version) (plain_answer result) (core_of shard.new) x }
+    ensures logs { logs_of shard.new ≡ logs_of shard.old }
     ensures queues { queues_of shard.new ≡ queues_of shard.old }
 {
     match shard.snapshot_at(key, version) {

@@ -7,6 +7,8 @@ ghost use Rattle.sdb_steps.specs.Picks.{all_fresh};
 ghost use Rattle.sdb_steps.specs.Runs.{IsStep};
 ghost use Rattle.sdb_steps.specs.StateView.{core_of, plain_sessions, slots_at};
 ghost use Rattle.sdb_steps.specs.Slots.{AreOpen, AreApart};
+ghost use Rattle.sdb_steps.specs.Looking.{AllLooked};
+ghost use Rattle.sdb_steps.specs.LookingLaws.{AllLooked-prop};
 ghost use Rattle.sdb_steps.specs.View.{plain_step, plain_answer};
 
 use crate::dispatch::dispatch;
@@ -16,16 +18,17 @@ use crate::step::{Step, StepAnswer};
 use sdb_desk::Shard;
 use std::alloc::{AllocError, Global};
 
-// All documents, and what each session keeps. Each queue in a slot is open, and no two sessions have
-// one queue.
+// All documents, and what each session keeps. Each queue in a slot is open under the number of its session,
+// no two sessions have one queue, and each attempt rests on a look at the log of its key.
 #[derive(Drop)]
 pub(crate) struct Parts {
     alloc: Global,
     pub shard: Shard,
     pub sessions: Vec<Session>,
     ghost all: { length sessions.items ≡ 64 },
-    ghost open: { (i : ℕ) → AreOpen (queues_of shard) (slots_at sessions.items i) },
+    ghost open: { (i : ℕ) → AreOpen i (queues_of shard) (slots_at sessions.items i) },
     ghost apart: { AreApart (slots_at sessions.items) },
+    ghost looked: { AllLooked (logs_of shard) sessions.items } by { AllLooked-prop (logs_of shard) sessions.items },
 }
 
 impl Parts {

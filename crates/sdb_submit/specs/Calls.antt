@@ -5,7 +5,8 @@ use Rattle.sdb_oplog.specs.Plain.{PlainEntry, PlainSubmission}
 use Rattle.sdb_oplog.specs.Decide.{PlainReply}
 use Rattle.sdb_oplog.specs.Keys.{PlainKey}
 use Rattle.sdb_oplog.specs.declared.codes.Code.{Code}
-use Rattle.sdb_desk.specs.Machine.{PlainLook, PlainAttempt, PlainOutcome, PlainFetched, PlainSubscribed, Machine, Same, look_at, looking_takes_memory, is_filled, has_document, has_version, fetched, operations, snapshot_at, with_queues, closed, Commits, Decides, Reads, Subscribes, Takes}
+use Rattle.sdb_subscribe.specs.Queue.{queue_at, is_owned}
+use Rattle.sdb_desk.specs.Machine.{PlainLook, PlainAttempt, PlainOutcome, decided, moved, PlainFetched, PlainSubscribed, Machine, Same, look_at, looking_takes_memory, is_filled, has_document, has_version, fetched, operations, snapshot_at, with_queues, closed, Commits, Decides, Reads, Subscribes, Takes}
 use Rattle.sdb_desk.specs.View.{plain_look}
 use Rattle.sdb_desk.specs.declared.attempts.Look.{Look}
 
@@ -47,25 +48,33 @@ abbrev pub told_look : Result Look AllocError → Option PlainLook
 told_look (Ok l) = Some (plain_look l)
 told_look (Err e) = None
 
+-- the look that is answered where the log has moved
+abbrev pub IfMoved : PlainOutcome → (PlainLook → Type 0) → Type 0
+IfMoved (decided r) P = Unit {0}
+IfMoved (moved l) P = P l
+
 -- a look shows the log as it is, or memory was wanting for what it shows
 abbrev pub Looks : List PlainEntry → PlainSubmission → Option PlainLook → Type 0
 Looks log s None = looking_takes_memory log s ≡ true
 Looks log s (Some l) = l ≡ look_at log s
 
--- one call of the machine. Only what is decided changes a log, and only a call of queues changes those of its key
-abbrev pub Acts : Machine → PlainKey → (c : PlainCall) → AnswerTo c → Machine → Type 0
-Acts m k (look s) o new = Looks (m.logs k) s o × Same m new
-Acts m k (commit a) o new = Commits m.logs k a o new.logs × (new.queues ≡ m.queues)
-Acts m k (commit_now s) r new = Decides m.logs k s r new.logs × (new.queues ≡ m.queues)
-Acts m k present v new = (v ≡ length (m.logs k)) × Same m new
-Acts m k fetch r new = Reads has_document r (Ok (fetched (m.logs k))) × Same m new
-Acts m k (ops_from v) r new = Reads is_filled r (operations (m.logs k) v) × Same m new
-Acts m k (snapshot v) r new = Reads has_version r (snapshot_at (m.logs k) v) × Same m new
-Acts m k forget u new = Same m new
-Acts m k (subscribe v) r new =
-    Subscribes (m.logs k) v (m.queues k) r (new.queues k) × (new.queues ≡ with_queues m.queues k (new.queues k))
-    × (new.logs ≡ m.logs)
-Acts m k (take_next n max) r new =
-    Takes (m.logs k) n max (m.queues k) r (new.queues k) × (new.queues ≡ with_queues m.queues k (new.queues k))
-    × (new.logs ≡ m.logs)
-Acts m k (unsubscribe n) u new = (new.queues ≡ with_queues m.queues k (closed n (m.queues k))) × (new.logs ≡ m.logs)
+-- one call of the machine, under the number of who calls. Only what is decided changes a log, and only a call of queues
+-- changes those of its key
+abbrev pub Acts : ℕ → Machine → PlainKey → (c : PlainCall) → AnswerTo c → Machine → Type 0
+Acts by m k (look s) o new = Looks (m.logs k) s o × Same m new
+Acts by m k (commit a) o new = Commits m.logs k a o new.logs × (new.queues ≡ m.queues)
+Acts by m k (commit_now s) r new = Decides m.logs k s r new.logs × (new.queues ≡ m.queues)
+Acts by m k present v new = (v ≡ length (m.logs k)) × Same m new
+Acts by m k fetch r new = Reads has_document r (Ok (fetched (m.logs k))) × Same m new
+Acts by m k (ops_from v) r new = Reads is_filled r (operations (m.logs k) v) × Same m new
+Acts by m k (snapshot v) r new = Reads has_version r (snapshot_at (m.logs k) v) × Same m new
+Acts by m k forget u new = Same m new
+Acts by m k (subscribe v) r new =
+    Subscribes (m.logs k) by v (m.queues k) r (new.queues k)
+    × (new.queues ≡ with_queues m.queues k (new.queues k)) × (new.logs ≡ m.logs)
+Acts by m k (take_next n max) r new =
+    Takes (m.logs k) by n max (m.queues k) r (new.queues k)
+    × (new.queues ≡ with_queues m.queues k (new.queues k)) × (new.logs ≡ m.logs)
+Acts by m k (unsubscribe n) u new =
+    (new.queues ≡ with_queues m.queues k (closed by n (m.queues k)))
+    × (is_owned by n (m.queues k).queues ≡ true → queue_at n (new.queues k).queues ≡ None) × (new.logs ≡ m.logs)

@@ -3,10 +3,11 @@ use Rattle.std.proofs.Common.{◌≡◌, ◌≢◌, ℕ, zero, suc, sym, ◌∙�
 use Rattle.sdb_oplog.specs.Plain.{PlainSubmission}
 use Rattle.sdb_oplog.specs.Decide.{PlainReply, refused}
 use Rattle.sdb_oplog.specs.Laws.{decides_never_wanting}
-use Rattle.sdb_oplog.specs.Keys.{PlainKey}
+use Rattle.sdb_oplog.specs.Keys.{PlainKey, Logs}
 use Rattle.sdb_oplog.specs.declared.codes.Code.TheVariants.{E10}
-use Rattle.sdb_desk.specs.Machine.{PlainLook, decided, moved, Machine, Commits, Decides}
-use Rattle.sdb_submit.specs.Calls.{look, commit, commit_now, Acts}
+use Rattle.sdb_desk.specs.Looked.{IsLook, look_now}
+use Rattle.sdb_desk.specs.Machine.{PlainLook, PlainAttempt, PlainOutcome, decided, moved, Machine, Commits, Decides}
+use Rattle.sdb_submit.specs.Calls.{look, commit, commit_now, Acts, IfMoved}
 use Rattle.sdb_submit.specs.Chain.{Calls, Tries, Submits}
 
 -- ---- what each call of a chain keeps, the chain keeps
@@ -49,12 +50,35 @@ module _ {P : Type 0} (acts : Calls P) (s : PlainSubmission) (D : P → PlainRep
   submits_kept k p r q (inl h) = k.unseen p h.0 q r h.1.0 (k.at_last h.0 q r h.1.1)
   submits_kept k p r q (inr h) = k.seen p h.1.0 q h.0 r h.1.1.0 (tries_kept k 8 h.0 h.1.0 r q h.1.1.1)
 
+-- ---- a commit
+
+-- one that decides does what a submission in one step does
+pub decided_at_commit : (logs new : Logs) (k : PlainKey) (a : PlainAttempt) (r : PlainReply) → r ≢ refused E10
+    → Commits logs k a (decided r) new → Decides logs k a.submission r new
+decided_at_commit logs new k a r isnt (inl h) = absurd (isnt h.0)
+decided_at_commit logs new k a r isnt (inr h) = inr (h.1, h.2)
+
+-- one that finds no memory changes nothing
+pub wanting_unchanged : (logs new : Logs) (k : PlainKey) (a : PlainAttempt) → Commits logs k a (decided (refused E10)) new
+    → new ≡ logs
+wanting_unchanged logs new k a (inl h) = h.1
+wanting_unchanged logs new k a (inr h) = absurd (decides_never_wanting (logs k) a.submission (sym h.1))
+
+-- what one shows that finds the log moved is a look at the log
+pub moved_looked : (logs new : Logs) (k : PlainKey) (a : PlainAttempt) (o : PlainOutcome) → Commits logs k a o new
+    → IfMoved o (λ l. IsLook (new k) (record { submission = a.submission; look = l }))
+moved_looked logs new k a (decided r) h = tt
+moved_looked logs new k a (moved l) h =
+    subst (λ (f : Logs). IsLook (f k) (record { submission = a.submission; look = l })) (sym h.2)
+    (subst (λ (x : PlainLook). IsLook (logs k) (record { submission = a.submission; look = x })) (sym h.1)
+    (look_now (logs k) a.submission))
+
 -- ---- a submission to the machine
 
-module _ {P : Type 0} (machine : P → Machine) (k : PlainKey) (s : PlainSubmission) where
+module _ {P : Type 0} (machine : P → Machine) (by : ℕ) (k : PlainKey) (s : PlainSubmission) where
   -- each call acts on the machine
   abbrev OfMachine : Calls P
-  OfMachine c p a q = Acts (machine p) k c a (machine q)
+  OfMachine c p a q = Acts by (machine p) k c a (machine q)
 
   -- the submission is decided, and the queues are as they were
   abbrev InOneStep : P → PlainReply → P → Type 0
@@ -64,31 +88,24 @@ module _ {P : Type 0} (machine : P → Machine) (k : PlainKey) (s : PlainSubmiss
       → InOneStep o r q → InOneStep p r q
   later p o q r logs queues h = (subst (λ l. Decides l k s r (machine q).logs) logs h.0, h.1 ∙ queues)
 
-  at_commit : (p q : P) (l : PlainLook) (r : PlainReply) → r ≢ refused E10
-      → Commits (machine p).logs k (record { submission = s; look = l }) (decided r) (machine q).logs
-      → Decides (machine p).logs k s r (machine q).logs
-  at_commit p q l r isnt (inl h) = absurd (isnt h.0)
-  at_commit p q l r isnt (inr h) = inr (h.1, h.2)
-
-  unchanged : (p o : P) (l : PlainLook)
-      → Commits (machine p).logs k (record { submission = s; look = l }) (decided (refused E10)) (machine o).logs
-      → (machine o).logs ≡ (machine p).logs
-  unchanged p o l (inl h) = h.1
-  unchanged p o l (inr h) = absurd (decides_never_wanting ((machine p).logs k) s (sym h.1))
+  abbrev looked_at : PlainLook → PlainAttempt
+  looked_at l = record { submission = s; look = l }
 
   one_step_kept : IsKept OfMachine s InOneStep
   one_step_kept = record {
     unseen = λ p o q r h d. later p o q r h.1.0 h.1.1 d;
     seen = λ p o q l r h d. later p o q r h.1.0 h.1.1 d;
     moves = λ p o q l m r h d. later p o q r h.0.2 h.1 d;
-    wanting = λ p o q l r h d. later p o q r (unchanged p o l h.0) h.1 d;
-    at_once = λ p q l r h isnt. (at_commit p q l r isnt h.0, h.1);
+    wanting = λ p o q l r h d.
+        later p o q r (wanting_unchanged (machine p).logs (machine o).logs k (looked_at l) h.0) h.1 d;
+    at_once = λ p q l r h isnt.
+        (decided_at_commit (machine p).logs (machine q).logs k (looked_at l) r isnt h.0, h.1);
     at_last = λ p q r h. h;
   }
 
 -- a submission whose calls all act on the machine is decided in one step, and leaves the queues
-pub submits_in_one_step : {P : Type 0} (machine : P → Machine) (k : PlainKey) (s : PlainSubmission) (p q : P)
-    (r : PlainReply) → Submits (λ c p a q. Acts (machine p) k c a (machine q)) s p r q
+pub submits_in_one_step : {P : Type 0} (machine : P → Machine) (by : ℕ) (k : PlainKey) (s : PlainSubmission) (p q : P)
+    (r : PlainReply) → Submits (λ c p a q. Acts by (machine p) k c a (machine q)) s p r q
     → Decides (machine p).logs k s r (machine q).logs × ((machine q).queues ≡ (machine p).queues)
-submits_in_one_step machine k s p q r h =
-    submits_kept (OfMachine machine k s) s (InOneStep machine k s) (one_step_kept machine k s) p r q h
+submits_in_one_step machine by k s p q r h =
+    submits_kept (OfMachine machine by k s) s (InOneStep machine by k s) (one_step_kept machine by k s) p r q h

@@ -1,10 +1,10 @@
 //! Desks: where documents are looked at, submissions committed, documents read and queues taken.
-ghost use Rattle.std.specs.Prelude.{◌≡◌, ℕ};
+ghost use Rattle.std.specs.Prelude.{◌≡◌, ℕ, IfOk};
 ghost use Rattle.sdb_oplog.specs.Keys.{PlainKey, plain_key};
-ghost use Rattle.sdb_desk.specs.Machine.{Keeps};
-ghost use Rattle.sdb_desk.specs.View.{plain_outcome, told_fetched, told_entries, told_subscribed, told_taken};
+ghost use Rattle.sdb_desk.specs.Machine.{Keeps, PlainAttempt};
+ghost use Rattle.sdb_desk.specs.View.{plain_look, plain_outcome, told_fetched, told_entries, told_subscribed, told_taken};
 ghost use Rattle.sdb_desk.specs.ReplyView.{plain_reply};
-ghost use Rattle.sdb_submit.specs.Calls.{PlainCall, look, commit, commit_now, present, fetch, ops_from, snapshot, forget, subscribe, take_next, unsubscribe, AnswerTo, told_look};
+ghost use Rattle.sdb_submit.specs.Calls.{PlainCall, look, commit, commit_now, present, fetch, ops_from, snapshot, forget, subscribe, take_next, unsubscribe, AnswerTo, IfMoved, told_look};
 
 use sdb_desk::{Fetched, Look, Outcome, Reply, Subscribed, Work};
 use sdb_oplog::{Code, Entry, Key, Submission};
@@ -27,6 +27,9 @@ pub trait Desk {
     // How a call at a key relates the pass before, what is answered and the pass after.
     ghost acts: { Self → PlainKey → (c : PlainCall) → Self.Pass → AnswerTo c → Self.Pass → Type 0 };
 
+    // The look of an attempt at a key is one that the pass has seen.
+    ghost looked: { Self → PlainKey → PlainAttempt → Self.Pass → Type 0 };
+
     /// What a look at the document shows for a submission. It fails only for want of memory.
     fn look(
         &self,
@@ -38,15 +41,21 @@ pub trait Desk {
         requires by { submission.now.by ≡ number self.now pass.old }
         ensures takes { takes self.now pass.new }
         ensures number { number self.now pass.new ≡ number self.now pass.old }
+        ensures looked { IfOk result (λ l. looked self.now (plain_key key.now)
+            (record { submission = submission.now; look = plain_look l }) pass.new) }
         ensures acts { acts self.now (plain_key key.now) (look submission.now) pass.old (told_look result) pass.new };
 
-    /// Decides the submission of the work, if the log stands as it was looked at.
+    /// Decides the submission of the work, if the log stands as it was looked at. The look is one that the
+    /// pass has seen, as is the one that is shown where the log has moved.
     fn commit(&self, pass: &mut Self::Pass, key: &Key, work: &mut Work) -> Outcome
         requires takes { takes self.now pass.old }
         requires by { work.old.submission.by ≡ number self.now pass.old }
+        requires looked { looked self.now (plain_key key.now) work.old pass.old }
         ensures takes { takes self.now pass.new }
         ensures number { number self.now pass.new ≡ number self.now pass.old }
         ensures keeps { Keeps (plain_outcome result) work.old work.new }
+        ensures looked { IfMoved (plain_outcome result) (λ l. looked self.now (plain_key key.now)
+            (record { submission = work.old.submission; look = l }) pass.new) }
         ensures acts { acts self.now (plain_key key.now) (commit work.old) pass.old (plain_outcome result) pass.new };
 
     /// Decides a submission.
@@ -101,7 +110,7 @@ pub trait Desk {
 
     /// Opens a queue that takes all stored operations from the version on, or from the present one, and
     /// shows the document there; E4 where the version is above the present one; E11 where the numbers of
-    /// the key are used up; or E10.
+    /// the key are used up; or E10. The queue is known under the number of the pass alone.
     fn subscribe(
         &self,
         pass: &mut Self::Pass,
@@ -114,8 +123,8 @@ pub trait Desk {
         ensures acts { acts self.now (plain_key key.now) (subscribe version) pass.old
             (told_subscribed result) pass.new };
 
-    /// The next entries of a queue, at most `max`; `None` where no open queue of the key has the number.
-    /// It fails only for want of memory.
+    /// The next entries of a queue, at most `max`; `None` where no open queue of the key has the number
+    /// `id`, or where a pass of another number opened it. It fails only for want of memory.
     fn take(
         &self,
         pass: &mut Self::Pass,
@@ -128,7 +137,8 @@ pub trait Desk {
         ensures number { number self.now pass.new ≡ number self.now pass.old }
         ensures acts { acts self.now (plain_key key.now) (take_next id max) pass.old (told_taken result) pass.new };
 
-    /// Closes a queue of the key. It takes no memory. A number that no open queue has does nothing.
+    /// Closes a queue of the key. It takes no memory. A number that no open queue has, or one that a pass
+    /// of another number opened, does nothing.
     fn unsubscribe(&self, pass: &mut Self::Pass, key: &Key, id: SubId)
         requires { takes self.now pass.old }
         ensures takes { takes self.now pass.new }

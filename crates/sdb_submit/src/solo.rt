@@ -1,7 +1,8 @@
 //! A desk for one caller, who holds the documents.
 ghost use Rattle.std.specs.Prelude.{◌≡◌, ℕ, [], ⊤};
 ghost use Rattle.sdb_oplog.specs.Keys.{plain_key};
-ghost use Rattle.sdb_desk.specs.ShardView.{machine_of, kept_of, with_kept};
+ghost use Rattle.sdb_desk.specs.ShardView.{machine_of, logs_of, kept_of, with_kept};
+ghost use Rattle.sdb_desk.specs.Looked.{IsLook};
 ghost use Rattle.sdb_submit.specs.Calls.{Acts, forget};
 
 use crate::desk::Desk;
@@ -21,7 +22,9 @@ impl Desk for Solo {
 
     ghost number = { λ d p. 0 };
 
-    ghost acts = { λ d k c p a q. Acts (machine_of p) k c a (machine_of q) };
+    ghost acts = { λ d k c p a q. Acts 0 (machine_of p) k c a (machine_of q) };
+
+    ghost looked = { λ d k a p. IsLook (logs_of p k) a };
 
     fn look(
         &self,
@@ -64,7 +67,7 @@ impl Desk for Solo {
     fn forget(&self, pass: &mut Shard, key: &Key)
         ensures takes { ⊤ }
         ensures number { ◌≡◌ {A = ℕ} 0 0 }
-        ensures acts { Acts (machine_of pass.old) (plain_key key.now) forget tt (machine_of pass.new) }
+        ensures acts { Acts 0 (machine_of pass.old) (plain_key key.now) forget tt (machine_of pass.new) }
         ensures kept { kept_of pass.new ≡ with_kept (kept_of pass.old) (plain_key key.now) [] }
     {
         pass.forget(key)
@@ -76,7 +79,7 @@ impl Desk for Solo {
         key: &Key,
         version: Option<u64>,
     ) -> Result<Subscribed, Code> {
-        pass.subscribe(key, version)
+        pass.subscribe(key, 0, version)
     }
 
     fn take(
@@ -86,11 +89,11 @@ impl Desk for Solo {
         id: SubId,
         max: u64,
     ) -> Result<Option<Vec<Entry>>, AllocError> {
-        pass.take(key, id, max)
+        pass.take(key, 0, id, max)
     }
 
     fn unsubscribe(&self, pass: &mut Shard, key: &Key, id: SubId) {
-        pass.unsubscribe(key, id)
+        pass.unsubscribe(key, 0, id)
     }
 
     fn by(&self, _pass: &Shard) -> u64 {

@@ -243,4 +243,4 @@ kept_in log max q f none =
     let r = n - position (moved log max q.queue) in
     let same : q.queue.taken ≡ q.queue.taken + length (waiting log max q.queue) = omega (arith, none) in
     let zero : k - r ≡ 0 = none_or k p n r (ahead_or k p n f.ahead) (omega (arith, none)) in
-    λ i. record { queue = record { start = q.queue.start; taken = same i }; ring = (sym (ap (λ j. drop j q.ring) zero)) i }
+    λ i. record { queue = record { start = q.queue.start; taken = same i; by = q.queue.by }; ring = (sym (ap (λ j. drop j q.ring) zero)) i }

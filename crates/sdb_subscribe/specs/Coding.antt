@@ -8,8 +8,8 @@ use Rattle.sdb_subscribe.specs.Ring.{RingedQueue, RingedQueues}
 
 abbrev pub queue_code : Coded PlainQueue
 queue_code =
-    code_by (ℕ × ℕ) (coded× coded_ℕ coded_ℕ) (λ q. (q.start, q.taken)) (λ p. record { start = p.0; taken = p.1 })
-    (λ _. refl)
+    code_by (ℕ × (ℕ × ℕ)) (coded× coded_ℕ (coded× coded_ℕ coded_ℕ)) (λ q. (q.start, (q.taken, q.by)))
+    (λ p. record { start = p.0; taken = p.1.0; by = p.1.1 }) (λ _. refl)
 
 abbrev pub ringed_queue_code : Coded RingedQueue
 ringed_queue_code =

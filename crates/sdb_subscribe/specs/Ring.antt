@@ -1,11 +1,11 @@
 -- The rings of queues: the entries that each has at hand, and what an entry that is added makes of them.
-use Rattle.std.specs.Prelude.{◌≡◌, ℕ, ◌+◌, ◌-◌, ◌<◌, ◌≤◌, ◌⊎◌, List, [], ◌∷◌, ◌++◌, map, drop, length, nat_eq, Option, option_map}
+use Rattle.std.specs.Prelude.{◌≡◌, ℕ, ◌+◌, ◌-◌, ◌<◌, ◌≤◌, ◌⊎◌, List, [], ◌∷◌, ◌++◌, map, drop, length, cond, nat_eq, Option, option_map}
 use Rattle.std.specs.List.{AllByRecursion}
-use Rattle.std.specs.Map.{lookup, set_value}
+use Rattle.std.specs.Map.{lookup, set_value, remove_entry}
 use Rattle.std.specs.Option.{option_map_or}
 use Rattle.circular_buffer.specs.Buffer.{keep_last}
 use Rattle.sdb_oplog.specs.Plain.{PlainEntry}
-use Rattle.sdb_subscribe.specs.Queue.{PlainQueue, PlainQueues, moved}
+use Rattle.sdb_subscribe.specs.Queue.{PlainQueue, PlainQueues, moved, is_owned}
 
 -- a queue, and the entries that it has at hand
 pub record RingedQueue : Type 0 where
@@ -70,3 +70,10 @@ moved_ringed log max q =
 abbrev pub after_take_ringed : List PlainEntry → ℕ → ℕ → List (ℕ × RingedQueue) → List (ℕ × RingedQueue)
 after_take_ringed log n max qs =
     option_map_or (λ q. set_value (nat_eq n) qs (moved_ringed log max q)) (lookup (nat_eq n) qs) qs
+
+-- under another number a queue is unknown, and stays as it is
+abbrev pub after_take_ringed_by : List PlainEntry → ℕ → ℕ → ℕ → List (ℕ × RingedQueue) → List (ℕ × RingedQueue)
+after_take_ringed_by log by n max qs = cond (is_owned by n (bare_queues qs)) (after_take_ringed log n max qs) qs
+
+abbrev pub without_ringed_by : ℕ → ℕ → List (ℕ × RingedQueue) → List (ℕ × RingedQueue)
+without_ringed_by by n qs = cond (is_owned by n (bare_queues qs)) (remove_entry (nat_eq n) qs) qs

@@ -3,7 +3,7 @@ use Rattle.std.specs.Prelude.{◌≡◌, ℕ, List, [], ◌∷◌, map, take, Op
 use Rattle.std.specs.Result.{result_ok}
 use Rattle.sdb_oplog.specs.Plain.{delete, PlainEntry}
 use Rattle.sdb_oplog.specs.declared.codes.Code.TheVariants.{E11}
-use Rattle.sdb_subscribe.specs.Queue.{PlainQueue, PlainQueues, opened, taken_from, after_take, without}
+use Rattle.sdb_subscribe.specs.Queue.{PlainQueue, PlainQueues, opened, taken_from, after_take, without, taken_by, after_take_by, without_by}
 use Rattle.sdb_subscribe.specs.Ring.{RingedQueue, moved_ringed}
 
 abbrev entry : ℕ → PlainEntry
@@ -21,15 +21,15 @@ log n = take n (entry 0 ∷ entry 1 ∷ entry 2 ∷ [])
 abbrev versions : Option (List PlainEntry) → Option (List ℕ)
 versions = option_map (map (λ e. e.version))
 
--- two queues: from version 1 on, and from version 5 on
+-- two queues: of the number 3 from version 1 on, and of the number 4 from version 5 on
 abbrev none_open : PlainQueues
 none_open = record { next = 0; queues = [] }
 
 abbrev one_open : PlainQueues
-one_open = unwrap_or (result_ok (opened 1 none_open)) none_open
+one_open = unwrap_or (result_ok (opened 3 1 none_open)) none_open
 
 abbrev two_open : PlainQueues
-two_open = unwrap_or (result_ok (opened 5 one_open)) none_open
+two_open = unwrap_or (result_ok (opened 4 5 one_open)) none_open
 
 abbrev start : List (ℕ × PlainQueue)
 start = two_open.queues
@@ -68,13 +68,26 @@ row_closed = refl
 pub row_other : versions (taken_from (log 3) 1 10 (without 0 start)) ≡ Some []
 row_other = refl
 
+-- the number 4 doesn't know the first: it takes nothing of it, and doesn't close it
+pub row_of_another : versions (taken_by (log 3) 4 0 10 start) ≡ None
+row_of_another = refl
+
+pub row_own : versions (taken_by (log 2) 3 0 10 start) ≡ Some (1 ∷ [])
+row_own = refl
+
+pub row_stands : after_take_by (log 3) 4 0 10 start ≡ start
+row_stands = refl
+
+pub row_left_open : without_by 4 0 start ≡ start
+row_left_open = refl
+
 -- the numbers are used up
-pub row_used_up : opened 0 (record { next = 18446744073709551615; queues = [] }) ≡ Err E11
+pub row_used_up : opened 3 0 (record { next = 18446744073709551615; queues = [] }) ≡ Err E11
 row_used_up = refl
 
 -- a ring that holds versions 1 and 2 stays while version 0 is taken, and then gives its first
 abbrev ringed : RingedQueue
-ringed = record { queue = record { start = 0; taken = 0 }; ring = entry 1 ∷ entry 2 ∷ [] }
+ringed = record { queue = record { start = 0; taken = 0; by = 3 }; ring = entry 1 ∷ entry 2 ∷ [] }
 
 pub row_before_ring : (moved_ringed (log 3) 1 ringed).ring ≡ entry 1 ∷ entry 2 ∷ []
 row_before_ring = refl

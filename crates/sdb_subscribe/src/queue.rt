@@ -13,11 +13,13 @@ use std::marker::Model;
 // How many entries a ring holds at most.
 const RING: usize = 64;
 
-// Where a queue starts, how many entries were taken of it, and those of the next ones that it has at hand.
+// Where a queue starts, how many entries were taken of it, the number that it was opened under, and those
+// of the next entries that it has at hand.
 #[derive(Drop)]
 pub(crate) struct Queue {
     start: u64,
     taken: u64,
+    by: u64,
     ring: HeapCircularBuffer<Entry>,
 }
 
@@ -30,23 +32,35 @@ impl Model for Queue {
 
     ghost coded = { ringed_queue_code };
 
-    ghost view = { λ q. record { queue = record { start = q.start; taken = q.taken }; ring = q.ring.items } };
+    ghost view = { λ q. record {
+      queue = record { start = q.start; taken = q.taken; by = q.by };
+      ring = q.ring.items;
+    } };
 
     // what is taken stood in a log, so the sum of both fits
     ghost invariant = { λ q. (q.start + q.taken < 2 ^ 64) × (q.ring.capacity ≡ 64) };
 }
 
 impl Queue {
-    // A queue from this version on, with nothing at hand.
-    pub(crate) fn new(alloc: Global, start: u64) -> Result<Queue, AllocError>
-        ensures { IfOk result (λ q. q ≡ record { queue = record { start = start; taken = 0 }; ring = [] }) }
+    // A queue of this number from this version on, with nothing at hand.
+    pub(crate) fn new(alloc: Global, by: u64, start: u64) -> Result<Queue, AllocError>
+        ensures { IfOk result
+            (λ q. q ≡ record { queue = record { start = start; taken = 0; by = by }; ring = [] }) }
     {
         let ring = HeapCircularBuffer::with_capacity(alloc, RING)?;
         Ok(Queue {
             start,
             taken: 0,
+            by,
             ring,
         })
+    }
+
+    // The number that it was opened under.
+    pub(crate) fn by(&self) -> u64
+        ensures { result ≡ self.now.queue.by }
+    {
+        self.by
     }
 
     // How many entries are at hand.

@@ -1,12 +1,12 @@
 //! All queues of one document.
-ghost use Rattle.std.specs.Prelude.{◌≡◌, ◌∷◌, ◌++◌, ◌<◌, ℕ, List, [], length, true, Some, Ok, Err, IfOk, IfErr, OnOk, OnErr, option_map, unwrap_or, nat_eq};
+ghost use Rattle.std.specs.Prelude.{◌≡◌, ◌∷◌, ◌++◌, ◌<◌, ℕ, List, [], length, true, Some, None, Ok, Err, IfOk, IfErr, OnOk, OnErr, option_map, unwrap_or, nat_eq};
 ghost use Rattle.std.specs.List.{IsDistinct};
 ghost use Rattle.std.specs.Map.{keys_of, remove_entry};
 ghost use Rattle.sdb_oplog.specs.Plain.{PlainEntry};
 ghost use Rattle.sdb_oplog.specs.Refused.{RefusedBy};
 ghost use Rattle.sdb_oplog.specs.declared.codes.Code.TheVariants.{E11};
-ghost use Rattle.sdb_subscribe.specs.Queue.{opened, queue_at, taken_from, after_take, without, numbers, AreGiven};
-ghost use Rattle.sdb_subscribe.specs.Ring.{bare, bare_queues, ring_at, FitLog, IsNoted, AreNoted, after_take_ringed};
+ghost use Rattle.sdb_subscribe.specs.Queue.{opened, queue_at, taken_from, after_take, taken_by, after_take_by, without, without_by, is_owned, numbers, AreGiven};
+ghost use Rattle.sdb_subscribe.specs.Ring.{bare, bare_queues, ring_at, FitLog, IsNoted, AreNoted, after_take_ringed, after_take_ringed_by, without_ringed_by};
 
 use crate::queue::Queue;
 use sdb_oplog::{Code, Entry, Log};
@@ -93,26 +93,26 @@ impl Queues {
         }
     }
 
-    /// Opens a queue from the version on, which may be above the length of the log: then nothing comes
-    /// before the log is as long. Its ring is empty. E11 where the numbers are used up, after
-    /// 18446744073709551615 of them, and E10 for want of memory; nothing has changed then.
-    pub fn open(&mut self, from: u64) -> Result<SubId, Code>
+    /// Opens a queue of a number from the version on, which may be above the length of the log: then
+    /// nothing comes before the log is as long. Its ring is empty. E11 where the numbers of queues are
+    /// used up, after 18446744073709551615 of them, and E10 for want of memory; nothing has changed then.
+    pub fn open(&mut self, by: u64, from: u64) -> Result<SubId, Code>
         ensures id { IfOk result (λ id. id ≡ (bare self.old).next) }
-        ensures ok { OnOk result (opened from (bare self.old) ≡ Ok (bare self.new)) }
+        ensures ok { OnOk result (opened by from (bare self.old) ≡ Ok (bare self.new)) }
         ensures open { IfOk result
-            (λ id. queue_at id (bare self.new).queues ≡ Some (record { start = from; taken = 0 })) }
+            (λ id. queue_at id (bare self.new).queues ≡ Some (record { start = from; taken = 0; by = by })) }
         ensures full { (bare self.old).next ≡ 18446744073709551615 → result ≡ Err E11 }
-        ensures err { IfErr result (λ code. RefusedBy (opened from (bare self.old)) code) }
+        ensures err { IfErr result (λ code. RefusedBy (opened by from (bare self.old)) code) }
         ensures same { OnErr result (self.new ≡ self.old) }
         ensures rings { OnOk result (self.new.queues ≡ self.old.queues ++
-            (self.old.next, record { queue = record { start = from; taken = 0 }; ring = [] }) ∷ []) }
+            (self.old.next, record { queue = record { start = from; taken = 0; by = by }; ring = [] }) ∷ []) }
         ensures fit { (log : List PlainEntry) → FitLog log self.old.queues → FitLog log self.new.queues }
     {
         let number = self.next;
         if number == u64::MAX {
             return Err(Code::E11);
         }
-        let queue = Queue::new(self.alloc, from)?;
+        let queue = Queue::new(self.alloc, by, from)?;
         match self.queues.insert(number, queue) {
             Ok(_) => {}
             Err(error) => return Err(Code::from(AllocError::from(error))),
@@ -142,9 +142,41 @@ impl Queues {
     }
 
     /// Takes the next entries of a queue, at most `max`, fewer where the log ends: those before its ring
-    /// are copied from the log, the others leave the ring. `None` where no open queue has the number.
-    /// Where nothing waits it takes no memory; after want of memory nothing is taken.
-    pub fn take(&mut self, log: &Log, id: SubId, max: u64) -> Result<Option<Vec<Entry>>, AllocError>
+    /// are copied from the log, the others leave the ring. `None` where no open queue has the number `id`,
+    /// or where it was opened under another number than `by`. Where nothing waits it takes no memory;
+    /// after want of memory nothing is taken.
+    pub fn take(
+        &mut self,
+        by: u64,
+        log: &Log,
+        id: SubId,
+        max: u64,
+    ) -> Result<Option<Vec<Entry>>, AllocError>
+        requires { FitLog log.now self.old.queues }
+        ensures entries { IfOk result
+            (λ v. option_map (λ es. es.items) v ≡ taken_by log.now by id max (bare self.old).queues) }
+        ensures moved { OnOk result
+            ((bare self.new).queues ≡ after_take_by log.now by id max (bare self.old).queues) }
+        ensures err { OnErr result (self.new.queues ≡ self.old.queues) }
+        ensures some { OnErr result
+            (0 < length (unwrap_or (taken_by log.now by id max (bare self.old).queues) [])) }
+        ensures next { self.new.next ≡ self.old.next }
+        ensures rings { OnOk result (self.new.queues ≡ after_take_ringed_by log.now by id max self.old.queues) }
+        ensures fit { FitLog log.now self.new.queues }
+    {
+        if !self.owns(by, id) {
+            return Ok(None);
+        }
+        self.take_owned(log, id, max)
+    }
+
+    // Takes the next entries of a queue, whoever opened it.
+    fn take_owned(
+        &mut self,
+        log: &Log,
+        id: SubId,
+        max: u64,
+    ) -> Result<Option<Vec<Entry>>, AllocError>
         requires { FitLog log.now self.old.queues }
         ensures entries { IfOk result
             (λ v. option_map (λ es. es.items) v ≡ taken_from log.now id max (bare self.old).queues) }
@@ -158,9 +190,44 @@ impl Queues {
         take_from(&mut self.queues, self.alloc, log, id.number, max)
     }
 
-    /// Closes a queue. It takes no memory, and where no queue is left none is held. A number that no open
-    /// queue has does nothing.
-    pub fn close(&mut self, id: SubId)
+    /// Closes a queue, which isn't found afterwards. It takes no memory, and where no queue is left none is
+    /// held. A number that no open queue has, or one that was opened under another number, does nothing.
+    pub fn close(&mut self, by: u64, id: SubId)
+        ensures queues { (bare self.new).queues ≡ without_by by id (bare self.old).queues }
+        ensures gone { is_owned by id (bare self.old).queues ≡ true → queue_at id (bare self.new).queues ≡ None }
+        ensures next { self.new.next ≡ self.old.next }
+        ensures rings { self.new.queues ≡ without_ringed_by by id self.old.queues }
+        ensures fit { (log : List PlainEntry) → FitLog log self.old.queues → FitLog log self.new.queues }
+    {
+        if self.owns(by, id) {
+            self.remove(id);
+        }
+    }
+
+    /// The number that an open queue was opened under: `None` where no open queue has the number `id`. It
+    /// takes no memory.
+    pub fn owner(&self, id: SubId) -> Option<u64>
+        ensures { result ≡ option_map (λ w. w.by) (queue_at id (bare self.now).queues) }
+    {
+        match self.queues.get(&id.number) {
+            Some(queue) => Some(queue.by()),
+            None => None,
+        }
+    }
+
+    // Whether the queue is open, and was opened under the number.
+    fn owns(&self, by: u64, id: SubId) -> bool
+        ensures { result ≡ is_owned by id (bare self.now).queues }
+    {
+        match self.owner(id) {
+            Some(owner) => owner == by,
+            None => false,
+        }
+    }
+
+    // Closes a queue, whoever opened it.
+    fn remove(&mut self, id: SubId)
+        ensures gone { queue_at id (bare self.new).queues ≡ None }
         ensures queues { (bare self.new).queues ≡ without id (bare self.old).queues }
         ensures next { self.new.next ≡ self.old.next }
         ensures rings { self.new.queues ≡ remove_entry (nat_eq id) self.old.queues }

@@ -1,5 +1,7 @@
 //! `sdb_desk`: looks, works, commits and reads.
-ghost use Rattle.std.specs.Prelude.{◌≡◌, IfOk};
+ghost use Rattle.std.specs.Prelude.{◌≡◌, IfOk, OnOk};
+ghost use Rattle.sdb_desk.specs.View.{plain_attempt};
+ghost use Rattle.sdb_upper_tests.specs.Boards.{IsSeen, StaySeen};
 
 use sdb_component::{Act, Component, Op};
 use sdb_desk::{Attempt, Look, Outcome, Reply, Shard, Subscribed, Work};
@@ -74,7 +76,9 @@ impl Board {
     }
 
     // Stores the submission.
-    pub(crate) fn put(&mut self, submission: Submission) -> Result<(), Fail> {
+    pub(crate) fn put(&mut self, submission: Submission) -> Result<(), Fail>
+        ensures { StaySeen self.old self.new }
+    {
         match stored(&self.commit_now(submission)) {
             Some(_) => Ok(()),
             None => Err("not stored".into()),
@@ -87,7 +91,9 @@ impl Board {
     }
 
     // Stores an edit by the source, made at what is there now.
-    fn put_edit(&mut self, src: &str, amount: i64) -> Result<(), Fail> {
+    fn put_edit(&mut self, src: &str, amount: i64) -> Result<(), Fail>
+        ensures { OnOk result (StaySeen self.old self.new) }
+    {
         self.put(self.edit(src, None, amount)?)
     }
 
@@ -99,26 +105,37 @@ impl Board {
     }
 
     // The submission, with a look at the document.
-    pub(crate) fn attempt(&self, submission: Submission) -> Result<Attempt, Fail> {
+    pub(crate) fn attempt(&self, submission: Submission) -> Result<Attempt, Fail>
+        ensures seen { IfOk result (λ a. IsSeen self.now (plain_attempt a)) }
+        ensures submission { IfOk result (λ a. a.submission ≡ submission) }
+    {
         let look = self.shard.look(&self.key, &submission)?;
         Ok(Attempt { submission, look })
     }
 
     // An edit by the source, made at the version, with a look at what is there now.
-    fn attempt_edit(&self, src: &str, version: u64, amount: i64) -> Result<Attempt, Fail> {
+    fn attempt_edit(&self, src: &str, version: u64, amount: i64) -> Result<Attempt, Fail>
+        ensures { IfOk result (λ a. IsSeen self.now (plain_attempt a)) }
+    {
         self.attempt(self.edit(src, Some(version), amount)?)
     }
 
     // The same, worked.
-    fn work(&self, src: &str, version: u64, amount: i64) -> Result<Work, Fail> {
+    fn work(&self, src: &str, version: u64, amount: i64) -> Result<Work, Fail>
+        ensures { IfOk result (λ w. IsSeen self.now w) }
+    {
         worked(self.alloc, self.attempt_edit(src, version, amount)?)
     }
 
-    fn commit_now(&mut self, submission: Submission) -> Reply {
+    fn commit_now(&mut self, submission: Submission) -> Reply
+        ensures { StaySeen self.old self.new }
+    {
         self.shard.commit_now(&self.key, &submission)
     }
 
-    fn commit(&mut self, mut work: Work) -> Outcome {
+    fn commit(&mut self, mut work: Work) -> Outcome
+        requires { IsSeen self.old work }
+    {
         self.shard.commit(&self.key, &mut work)
     }
 
@@ -136,7 +153,9 @@ pub(crate) fn number(document: Option<&Json>) -> Option<i64> {
     }
 }
 
-pub(crate) fn worked(alloc: Global, attempt: Attempt) -> Result<Work, Fail> {
+pub(crate) fn worked(alloc: Global, attempt: Attempt) -> Result<Work, Fail>
+    ensures { IfOk result (λ w. w ≡ plain_attempt attempt) }
+{
     match Work::of(alloc, attempt) {
         Ok(work) => Ok(work),
         Err(_) => Err("no work".into()),
@@ -218,40 +237,26 @@ fn an_attempt_is_worked_and_given_back(rt: HostRuntime) -> Result<(), Fail> {
     Ok(())
 }
 
-// A delete made at the version, worked as if nothing were missed.
-pub(crate) fn deleting(alloc: Global, made_at: u64, version: u64) -> Result<Work, Fail> {
-    let submission = from(alloc, "x", Some(made_at), Content::delete())?;
-    let look = Look {
-        version,
-        repeat: None,
-        missed: Vec::new(alloc),
-    };
-    Ok(Work::new(Attempt { submission, look }, Ok(Content::delete())))
-}
-
-// What a commit of such a delete decides.
-fn delete_decided(board: &mut Board, made_at: u64) -> Result<Option<(u64, usize)>, Fail> {
-    let work = deleting(board.alloc, made_at, 1)?;
-    Ok(decided(&board.commit(work)))
+// A delete made at version 1, where nothing is missed.
+fn deleting(board: &Board) -> Result<Work, Fail>
+    ensures { IfOk result (λ w. IsSeen board.now w) }
+{
+    let submission = from(board.alloc, "x", Some(1), Content::delete())?;
+    let attempt = board.attempt(submission)?;
+    if !attempt.look.missed.is_empty() {
+        return Err("something is missed".into());
+    }
+    Ok(Work::new(attempt, Ok(Content::delete())))
 }
 
 fn own_work_is_committed(board: &mut Board) -> Result<bool, Fail> {
-    Ok(delete_decided(board, 1)? == Some((1, 0)) && board.present()? == (2, None))
+    let work = deleting(board)?;
+    Ok(decided(&board.commit(work)) == Some((1, 0)) && board.present()? == (2, None))
 }
 
 #[test]
 fn a_work_of_ones_own_is_committed(rt: HostRuntime) -> Result<(), Fail> {
     assert!(rt; own_work_is_committed(&mut Board::new(rt.alloc())?)?);
-    Ok(())
-}
-
-fn other_work_is_made_afresh(board: &mut Board) -> Result<bool, Fail> {
-    Ok(delete_decided(board, 0)?.is_none() && board.present()? == (1, Some(0)))
-}
-
-#[test]
-fn a_work_of_other_entries_is_made_afresh(rt: HostRuntime) -> Result<(), Fail> {
-    assert!(rt; other_work_is_made_afresh(&mut Board::new(rt.alloc())?)?);
     Ok(())
 }
 
@@ -402,7 +407,7 @@ fn no_document_before_the_first_version(rt: HostRuntime) -> Result<(), Fail> {
 
 // The versions of the entries that are taken.
 fn taken(board: &mut Board, id: SubId, max: u64) -> Result<Vec<u64>, Fail> {
-    let entries = board.shard.take(&board.key, id, max)?.ok_or("a queue")?;
+    let entries = board.shard.take(&board.key, 0, id, max)?.ok_or("a queue")?;
     let mut versions = Vec::new(board.alloc);
     for entry in entries.as_slice() {
         versions.push(entry.version())?;
@@ -422,7 +427,7 @@ fn subscribed(board: &mut Board, version: Option<u64>) -> Result<Subscribed, Fai
     Ok(
         board
             .shard
-            .subscribe(&board.key, version)
+            .subscribe(&board.key, 0, version)
             .or(Err("no queue"))?,
     )
 }
@@ -462,19 +467,33 @@ fn opens_now(board: &mut Board) -> Result<bool, Fail> {
 fn a_queue_is_opened_at_a_version(rt: HostRuntime) -> Result<(), Fail> {
     let mut board = edited_twice(rt.alloc())?;
     assert!(rt; opens_now(&mut board)?);
-    assert!(rt; matches!(board.shard.subscribe(&board.key, Some(4)), Err(Code::E4)));
+    assert!(rt; matches!(board.shard.subscribe(&board.key, 0, Some(4)), Err(Code::E4)));
     Ok(())
 }
 
 fn forgets_a_closed_queue(board: &mut Board) -> Result<bool, Fail> {
     let id = queue_from(board, 1)?;
-    board.shard.unsubscribe(&board.key, id);
-    Ok(board.shard.take(&board.key, id, 1)?.is_none())
+    board.shard.unsubscribe(&board.key, 0, id);
+    Ok(board.shard.take(&board.key, 0, id, 1)?.is_none())
 }
 
 #[test]
 fn a_queue_that_is_closed_is_unknown(rt: HostRuntime) -> Result<(), Fail> {
     assert!(rt; forgets_a_closed_queue(&mut edited_twice(rt.alloc())?)?);
+    Ok(())
+}
+
+// Whether the queue is unknown under another number than its own, and stays open.
+fn is_known_under_its_number(board: &mut Board) -> Result<bool, Fail> {
+    let id = queue_from(board, 1)?;
+    board.shard.unsubscribe(&board.key, 1, id);
+    let other = board.shard.take(&board.key, 1, id, 1)?;
+    Ok(other.is_none() && takes(board, id, 10, &[1, 2])?)
+}
+
+#[test]
+fn a_queue_is_known_under_its_number(rt: HostRuntime) -> Result<(), Fail> {
+    assert!(rt; is_known_under_its_number(&mut edited_twice(rt.alloc())?)?);
     Ok(())
 }
 
@@ -606,7 +625,7 @@ fn a_commit_fills_the_rings(rt: HostRuntime) -> Result<(), Fail> {
 
 fn forgets_a_closed_ring(board: &mut Board) -> Result<bool, Fail> {
     let id = queue_from(board, 0)?;
-    board.shard.unsubscribe(&board.key, id);
+    board.shard.unsubscribe(&board.key, 0, id);
     Ok(ringed(board, id).is_none())
 }
 

@@ -1,9 +1,12 @@
 //! Calls that find no memory: all is as before, and the same call with memory answers. Run as they stand,
 //! these tests find memory at once; `tests/growths.py` refuses each allocation of each in turn.
-use crate::desk::{Board, deleting, editing, from, stored, worked};
+ghost use Rattle.std.specs.Prelude.{IfNone, IfOk, OnOk};
+ghost use Rattle.sdb_upper_tests.specs.Boards.{IsSeen, StaySeen};
+
+use crate::desk::{Board, editing, from, stored, worked};
 use crate::projection::titles;
 use sdb_component::{Act, Component};
-use sdb_desk::{Outcome, Subscribed, Work};
+use sdb_desk::{Outcome, Reply, Subscribed, Work};
 use sdb_oplog::{Code, Content, Submission};
 use sdb_projection::{Table, TableFault};
 use sdb_subscribe::SubId;
@@ -41,7 +44,9 @@ fn full(alloc: Global) -> Result<Board, Fail> {
 }
 
 // The submission, worked on what is there now.
-fn work_on(board: &Board, submission: Submission) -> Result<Work, Fail> {
+fn work_on(board: &Board, submission: Submission) -> Result<Work, Fail>
+    ensures { IfOk result (λ w. IsSeen board.now w) }
+{
     worked(board.alloc, board.attempt(submission)?)
 }
 
@@ -59,15 +64,15 @@ fn count(document: Option<&Json>) -> Option<usize> {
 }
 
 // The version that is stored at or shown, and how many entries were missed. None for want of memory.
-fn told(outcome: &Outcome) -> Option<(u64, usize)> {
-    match outcome {
-        Outcome::Decided(reply) => stored(reply),
+fn commit(board: &mut Board, work: &mut Work) -> Option<(u64, usize)>
+    requires { IsSeen board.old work.old }
+    ensures { IfNone result (IsSeen board.new work.new) }
+{
+    match board.shard.commit(&board.key, work) {
+        Outcome::Decided(Reply::Stored { v, missed }) => Some((v, missed.len())),
+        Outcome::Decided(Reply::Repeat { .. } | Reply::Refused(_)) => None,
         Outcome::Moved(look) => Some((look.version, look.missed.len())),
     }
-}
-
-fn commit(board: &mut Board, work: &mut Work) -> Option<(u64, usize)> {
-    told(&board.shard.commit(&board.key, work))
 }
 
 fn commit_now(board: &mut Board, submission: &Submission) -> Option<(u64, usize)> {
@@ -75,7 +80,9 @@ fn commit_now(board: &mut Board, submission: &Submission) -> Option<(u64, usize)
 }
 
 // Commits, and once more where there was no memory: what was answered, if all was as before then.
-fn commit_again(board: &mut Board, work: &mut Work) -> Result<Option<(u64, usize)>, Fail> {
+fn commit_again(board: &mut Board, work: &mut Work) -> Result<Option<(u64, usize)>, Fail>
+    requires { IsSeen board.old work.old }
+{
     let (before, missed) = (present(board)?, work.missed().len());
     mark(board.alloc)?;
     let first = commit(board, work);
@@ -111,7 +118,9 @@ fn commit_now_again(
 type Ending = ((u64, usize), (u64, Option<usize>));
 
 // Whether a commit of the work ends so.
-fn commits(board: &mut Board, work: &mut Work, ending: Ending) -> Result<bool, Fail> {
+fn commits(board: &mut Board, work: &mut Work, ending: Ending) -> Result<bool, Fail>
+    requires { IsSeen board.old work.old }
+{
     Ok(commit_again(board, work)? == Some(ending.0) && present(board)? == ending.1)
 }
 
@@ -121,22 +130,30 @@ fn commits_now(board: &mut Board, submission: &Submission, ending: Ending) -> Re
 }
 
 // Makes the document, worked on what is there now.
-fn first_work(board: &Board) -> Result<Work, Fail> {
+fn first_work(board: &Board) -> Result<Work, Fail>
+    ensures { IfOk result (λ w. IsSeen board.now w) }
+{
     work_on(board, creating(board.alloc, "x")?)
 }
 
 // An edit made one version ago, worked on what is there now.
-fn late_work(board: &Board) -> Result<Work, Fail> {
+fn late_work(board: &Board) -> Result<Work, Fail>
+    ensures { IfOk result (λ w. IsSeen board.now w) }
+{
     work_on(board, adding(board.alloc, "x", Some(3))?)
 }
 
 // Stores one more edit.
-fn put_another(board: &mut Board) -> Result<(), Fail> {
+fn put_another(board: &mut Board) -> Result<(), Fail>
+    ensures { OnOk result (StaySeen board.old board.new) }
+{
     board.put(adding(board.alloc, "y", None)?)
 }
 
 // The same late edit, after which another is stored.
-fn overtaken_work(board: &mut Board) -> Result<Work, Fail> {
+fn overtaken_work(board: &mut Board) -> Result<Work, Fail>
+    ensures { IfOk result (λ w. IsSeen board.new w) }
+{
     let work = late_work(board)?;
     put_another(board)?;
     Ok(work)
@@ -163,18 +180,6 @@ fn late_is_committed(alloc: Global) -> Result<bool, Fail> {
 #[test]
 fn a_commit(rt: HostRuntime) -> Result<(), Fail> {
     assert!(rt; late_is_committed(rt.alloc())?);
-    Ok(())
-}
-
-fn other_entries_are_committed(alloc: Global) -> Result<bool, Fail> {
-    let mut board = full(alloc)?;
-    let mut work = deleting(alloc, 3, 4)?;
-    commits(&mut board, &mut work, ((4, 1), (5, None)))
-}
-
-#[test]
-fn a_commit_of_other_entries(rt: HostRuntime) -> Result<(), Fail> {
-    assert!(rt; other_entries_are_committed(rt.alloc())?);
     Ok(())
 }
 
@@ -217,14 +222,14 @@ fn a_commit_in_one_step(rt: HostRuntime) -> Result<(), Fail> {
 // Opens a queue at version 1, at the second time where the first one finds no memory.
 fn subscribe_again(board: &mut Board) -> Result<Subscribed, Fail> {
     mark(board.alloc)?;
-    let first = board.shard.subscribe(&board.key, Some(1));
+    let first = board.shard.subscribe(&board.key, 0, Some(1));
     mark(board.alloc)?;
     match first {
         Ok(opened) => Ok(opened),
         Err(Code::E10) => Ok(
             board
                 .shard
-                .subscribe(&board.key, Some(1))
+                .subscribe(&board.key, 0, Some(1))
                 .or(Err("refused"))?,
         ),
         Err(_) => Err("refused".into()),
@@ -234,11 +239,11 @@ fn subscribe_again(board: &mut Board) -> Result<Subscribed, Fail> {
 // Takes up to ten entries, at the second time where the first one finds no memory: how many.
 fn take_again(board: &mut Board, id: SubId) -> Result<usize, Fail> {
     mark(board.alloc)?;
-    let first = board.shard.take(&board.key, id, 10);
+    let first = board.shard.take(&board.key, 0, id, 10);
     mark(board.alloc)?;
     let entries = match first {
         Ok(entries) => entries,
-        Err(_) => board.shard.take(&board.key, id, 10)?,
+        Err(_) => board.shard.take(&board.key, 0, id, 10)?,
     };
     Ok(entries.ok_or("a queue")?.len())
 }
@@ -247,7 +252,7 @@ fn all_is_subscribed_to(alloc: Global) -> Result<bool, Fail> {
     let mut board = full(alloc)?;
     let opened = subscribe_again(&mut board)?;
     let is_there = opened.version == 4 && count(opened.snapshot.as_ref()) == Some(4);
-    let next = board.shard.take(&board.key, opened.id, 10)?;
+    let next = board.shard.take(&board.key, 0, opened.id, 10)?;
     Ok(is_there && next.ok_or("a queue")?.len() == 3)
 }
 
@@ -261,10 +266,10 @@ fn all_is_taken(alloc: Global) -> Result<bool, Fail> {
     let mut board = full(alloc)?;
     let opened = board
         .shard
-        .subscribe(&board.key, Some(0))
+        .subscribe(&board.key, 0, Some(0))
         .or(Err("no queue"))?;
     let is_all = take_again(&mut board, opened.id)? == 4;
-    let next = board.shard.take(&board.key, opened.id, 10)?;
+    let next = board.shard.take(&board.key, 0, opened.id, 10)?;
     Ok(is_all && next.ok_or("a queue")?.is_empty())
 }
 

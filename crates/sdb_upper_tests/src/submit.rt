@@ -1,7 +1,8 @@
 //! `sdb_submit`: tries that are counted, and a desk at which others store too.
 ghost use Rattle.std.specs.Prelude.{◌≡◌, ℕ, ⊤, IfOk};
 ghost use Rattle.sdb_oplog.specs.Keys.{Logs};
-ghost use Rattle.sdb_desk.specs.ShardView.{machine_of};
+ghost use Rattle.sdb_desk.specs.Looked.{IsLook};
+ghost use Rattle.sdb_desk.specs.ShardView.{machine_of, logs_of};
 ghost use Rattle.sdb_desk.specs.Machine.{Queued};
 ghost use Rattle.sdb_submit.specs.Calls.{Acts};
 
@@ -58,7 +59,9 @@ impl Desk for Meddling {
 
     // as the machine, at some logs and queues
     ghost acts = { λ d k c p a q.
-        (l : Logs) × ((n : Queued) × Acts (record { logs = l; queues = n }) k c a (machine_of q.shard)) };
+        (l : Logs) × ((n : Queued) × Acts 0 (record { logs = l; queues = n }) k c a (machine_of q.shard)) };
+
+    ghost looked = { λ d k a p. IsLook (logs_of p.shard k) a };
 
     fn look(
         &self,
@@ -111,7 +114,7 @@ impl Desk for Meddling {
         key: &Key,
         version: Option<u64>,
     ) -> Result<Subscribed, Code> {
-        pass.shard.subscribe(key, version)
+        pass.shard.subscribe(key, 0, version)
     }
 
     fn take(
@@ -121,11 +124,11 @@ impl Desk for Meddling {
         id: SubId,
         max: u64,
     ) -> Result<Option<Vec<Entry>>, AllocError> {
-        pass.shard.take(key, id, max)
+        pass.shard.take(key, 0, id, max)
     }
 
     fn unsubscribe(&self, pass: &mut Shared, key: &Key, id: SubId) {
-        pass.shard.unsubscribe(key, id)
+        pass.shard.unsubscribe(key, 0, id)
     }
 
     fn by(&self, _pass: &Shared) -> u64 {

@@ -1,9 +1,10 @@
 use Rattle.std.proofs.Common.{◌≡◌, option_map, None, refl, sym, ap, subst, string_bytes}
 use Rattle.sdb_oplog.specs.Keys.{plain_key}
-use Rattle.sdb_desk.specs.ShardView.{queues_of}
+use Rattle.sdb_desk.specs.ShardView.{logs_of, queues_of}
 use Rattle.sdb_steps.specs.Picks as plain
 use Rattle.sdb_steps.specs.Dispatch.{Dispatches, Follows}
 use Rattle.sdb_steps.specs.StateView.{core_of, plain_session, plain_attempt, slots_of}
+use Rattle.sdb_steps.specs.Slots.{AreOpen}
 use Rattle.sdb_steps.specs.View.{plain_step, plain_answer}
 use Rattle.sdb_steps.specs.declared.step.Step.{Step}
 use Rattle.sdb_steps.proofs.Commits.{same_core, none_of}
@@ -28,19 +29,19 @@ returns-else-is_some-clause-dispatches c =
     (subst (λ w. Dispatches b.number.number m x (plain.begin k (string_bytes b.src) b.seq b.version b.content) a m w) put (begin_turn b.number.number m x k (string_bytes b.src) b.seq b.version b.content a o none h))
 
 pub returns-else-is_some-clause-leaves : goal.returns-else-is_some-clause-leaves
-returns-else-is_some-clause-leaves c = let q = queues_of c.args.shard.now in leaves_all q q (slots_of c.args.session.now) _ c.requires refl c.begin.ensures.slots
+returns-else-is_some-clause-leaves c = let q = queues_of c.args.shard.now in leaves_all (plain_step c.args.step.now).session q q (slots_of c.args.session.now) _ c.requires.queues refl c.begin.ensures.slots
 
 pub returns-in-Work-clause-leaves : goal.returns-in-Work-clause-leaves
-returns-in-Work-clause-leaves c = let q = queues_of c.args.shard.now in leaves_all q q (slots_of c.args.session.now) _ c.requires refl c.work.ensures.slots
+returns-in-Work-clause-leaves c = let q = queues_of c.args.shard.now in leaves_all (plain_step c.args.step.now).session q q (slots_of c.args.session.now) _ c.requires.queues refl c.work.ensures.slots
 
 pub returns-in-Commit-clause-leaves : goal.returns-in-Commit-clause-leaves
-returns-in-Commit-clause-leaves c = leaves_all (queues_of c.args.shard.now) _ (slots_of c.args.session.now) _ c.requires c.commit.ensures.queues c.commit.ensures.slots
+returns-in-Commit-clause-leaves c = leaves_all (plain_step c.args.step.now).session (queues_of c.args.shard.now) _ (slots_of c.args.session.now) _ c.requires.queues c.commit.ensures.queues c.commit.ensures.slots
 
 pub returns-in-Fetch-clause-leaves : goal.returns-in-Fetch-clause-leaves
 returns-in-Fetch-clause-leaves c = let s = slots_of c.args.session.now in leaves_all (queues_of c.args.shard.now) _ s s c.requires c.fetch.ensures.queues refl
 
 pub returns-in-Snapshot-clause-leaves : goal.returns-in-Snapshot-clause-leaves
-returns-in-Snapshot-clause-leaves c = let s = slots_of c.args.session.now in leaves_all (queues_of c.args.shard.now) _ s s c.requires c.snapshot.ensures.queues refl
+returns-in-Snapshot-clause-leaves c = let s = slots_of c.args.session.now in leaves_all (plain_step c.args.step.now).session (queues_of c.args.shard.now) _ s s c.requires.queues c.snapshot.ensures.queues refl
 
 pub returns-in-Forget-clause-dispatches : goal.returns-in-Forget-clause-dispatches
 returns-in-Forget-clause-dispatches c =
@@ -55,4 +56,16 @@ returns-in-Forget-clause-dispatches c =
     (refl, same_core c.args.shard.now c.forget.new.self c.forget.ensures.logs c.forget.ensures.queues, session_kept (option_map plain_attempt c.args.session.now.attempt) q r s s c.forget.ensures.queues refl)
 
 pub returns-in-Forget-clause-leaves : goal.returns-in-Forget-clause-leaves
-returns-in-Forget-clause-leaves c = let s = slots_of c.args.session.now in leaves_all (queues_of c.args.shard.now) _ s s c.requires c.forget.ensures.queues refl
+returns-in-Forget-clause-leaves c = let s = slots_of c.args.session.now in leaves_all (plain_step c.args.step.now).session (queues_of c.args.shard.now) _ s s c.requires.queues c.forget.ensures.queues refl
+
+pub subscribe-requires : goal.subscribe-requires
+subscribe-requires c = subst (λ (z : Step). AreOpen (plain_step z).session (queues_of c.args.shard.now) (slots_of c.args.session.now)) c.in-Subscribe.is c.requires.queues
+
+pub take-requires : goal.take-requires
+take-requires c = subst (λ (z : Step). AreOpen (plain_step z).session (queues_of c.args.shard.now) (slots_of c.args.session.now)) c.in-Take.is c.requires.queues
+
+pub unsubscribe-requires : goal.unsubscribe-requires
+unsubscribe-requires c = subst (λ (z : Step). AreOpen (plain_step z).session (queues_of c.args.shard.now) (slots_of c.args.session.now)) c.in-Unsubscribe.is c.requires.queues
+
+pub returns-in-Work-clause-looked : goal.returns-in-Work-clause-looked
+returns-in-Work-clause-looked c = c.work.ensures.looked (logs_of c.args.shard.now) c.requires.looked

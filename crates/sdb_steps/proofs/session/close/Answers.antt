@@ -10,4 +10,4 @@ pub returns-in-None-clause-queues : goal.returns-in-None-clause-queues
 returns-in-None-clause-queues c =
     let f = queues_of c.args.shard.now in
     let k = plain_key c.args.key.now in
-    sym (queues_kept f k) ∙ ap (λ o. with_queues f k (closed_of o (f k))) (sym c.in-None.is)
+    sym (queues_kept f k) ∙ ap (λ o. with_queues f k (closed_of c.args.by o (f k))) (sym c.in-None.is)

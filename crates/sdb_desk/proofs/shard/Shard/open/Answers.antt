@@ -21,7 +21,7 @@ returns-in-Some-clause-opened c =
     let g = held no_topic (c.get_mut.follows.lender new).entries in
     let found = held_found no_topic es c.args.key.now old c.in-Some.ensures.value in
     let wrote = write_through no_topic es _ c.args.key.now old new c.in-Some.ensures.value (c.get_mut.follows.holds new).0 in
-    on_ok c.open.result (λ e. ap (λ t. opened c.args.start (bare t.queues)) (sym found) ∙ e ∙ ap Ok (sym (queues_there f g k old new found wrote))) c.open.ensures.ok
+    on_ok c.open.result (λ e. ap (λ t. opened c.args.by c.args.start (bare t.queues)) (sym found) ∙ e ∙ ap Ok (sym (queues_there f g k old new found wrote))) c.open.ensures.ok
 
 pub returns-in-Some-clause-same : goal.returns-in-Some-clause-same
 returns-in-Some-clause-same c =
@@ -111,7 +111,7 @@ returns-clause-opened c =
     let g = topics_of c.keep.new.self in
     let found = c.new-topic.ensures ∙ held_none no_topic es c.args.key.now c.in_default.ensures.value in
     let wrote : g ≡ with_at f k w = c.in_ok-keep.ensures.ok ∙ ap (λ m. with_at (held no_topic m.entries) k w) c.get_mut.follows.holds-at-none in
-    ap (λ t. opened c.args.start (bare t.queues)) (sym found) ∙ c.in_ok-id.ensures.ok ∙ ap Ok (sym (queues_there f g k c.new-topic.result w found wrote))
+    ap (λ t. opened c.args.by c.args.start (bare t.queues)) (sym found) ∙ c.in_ok-id.ensures.ok ∙ ap Ok (sym (queues_there f g k c.new-topic.result w found wrote))
 
 pub returns-clause-open : goal.returns-clause-open
 returns-clause-open c =
@@ -167,7 +167,7 @@ returns-in-Some-clause-rings c =
     let g = held no_topic (c.get_mut.follows.lender new).entries in
     let found = held_found no_topic es c.args.key.now old c.in-Some.ensures.value in
     let wrote = write_through no_topic es _ c.args.key.now old new c.in-Some.ensures.value (c.get_mut.follows.holds new).0 in
-    if_ok c.open.result (λ id e. rings_written f g k old new found wrote ∙ ap (with_at (ringed_of c.args.self.now) k) (e ∙ ap (λ t. opened_ringed id c.args.start t.queues.queues) found)) c.open.ensures.rings
+    if_ok c.open.result (λ id e. rings_written f g k old new found wrote ∙ ap (with_at (ringed_of c.args.self.now) k) (e ∙ ap (λ t. opened_ringed id c.args.by c.args.start t.queues.queues) found)) c.open.ensures.rings
 
 pub returns-in-Some-clause-rings_left : goal.returns-in-Some-clause-rings_left
 returns-in-Some-clause-rings_left c =
@@ -197,4 +197,4 @@ returns-clause-rings c =
     let g = topics_of c.keep.new.self in
     let found = c.new-topic.ensures ∙ held_none no_topic es c.args.key.now c.in_default.ensures.value in
     let wrote : g ≡ with_at f k w = c.in_ok-keep.ensures.ok ∙ ap (λ m. with_at (held no_topic m.entries) k w) c.get_mut.follows.holds-at-none in
-    rings_written f g k c.new-topic.result w found wrote ∙ ap (with_at (ringed_of c.args.self.now) k) (c.in_ok-id.ensures.rings ∙ ap (λ t. opened_ringed c.in_ok-id.id c.args.start t.queues.queues) found)
+    rings_written f g k c.new-topic.result w found wrote ∙ ap (with_at (ringed_of c.args.self.now) k) (c.in_ok-id.ensures.rings ∙ ap (λ t. opened_ringed c.in_ok-id.id c.args.by c.args.start t.queues.queues) found)

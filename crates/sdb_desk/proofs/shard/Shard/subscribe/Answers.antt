@@ -29,8 +29,8 @@ returns-in_err-version-clause-subscribes c =
     let new = queues_of c.fetch.new.self k in
     let p = err_from_is_err_and c.from_residual-in_err-version.result c.from_residual-in_err-version.ensures.1 in
     let wanting = read_wanting has_document c.in_err-version.field-0.0 (fetched log) c.in_err-version.ensures.fetched in
-    subst (λ r. Subscribes log c.args.version q (told_subscribed r) new) (sym (p.1 ∙ ap Err p.2))
-    (subscribe_wanting log c.args.version c.in_ok-start.start q new c.in_err-version.field-0.0 (sym c.in_ok-start.ensures) (sym c.are_used_up.ensures ∙ c.if-are_used_up.false) wanting (ap (λ f. f k) c.fetch.ensures.queues))
+    subst (λ r. Subscribes log c.args.by c.args.version q (told_subscribed r) new) (sym (p.1 ∙ ap Err p.2))
+    (subscribe_wanting log c.args.by c.args.version c.in_ok-start.start q new c.in_err-version.field-0.0 (sym c.in_ok-start.ensures) (sym c.are_used_up.ensures ∙ c.if-are_used_up.false) wanting (ap (λ f. f k) c.fetch.ensures.queues))
 
 pub returns-in_err-id-clause-subscribes : goal.returns-in_err-id-clause-subscribes
 returns-in_err-id-clause-subscribes c =
@@ -40,9 +40,9 @@ returns-in_err-id-clause-subscribes c =
     let new = queues_of c.open.new.self k in
     let is = ap (λ f. f k) c.fetch.ensures.queues in
     let p = err_from_is_err_and c.from_residual-in_err-id.result c.from_residual-in_err-id.ensures.1 in
-    subst (λ r. Subscribes log c.args.version q (told_subscribed r) new) (sym (p.1 ∙ ap Err p.2))
-    (subscribe_refused log c.args.version c.in_ok-start.start q new c.in_err-id.field-0.0 (sym c.in_ok-start.ensures) (sym c.are_used_up.ensures ∙ c.if-are_used_up.false)
-    (subst (λ w. RefusedBy (opened c.in_ok-start.start w) c.in_err-id.field-0.0) is c.in_err-id.ensures.err) (ap (λ f. f k) c.in_err-id.ensures.same ∙ is))
+    subst (λ r. Subscribes log c.args.by c.args.version q (told_subscribed r) new) (sym (p.1 ∙ ap Err p.2))
+    (subscribe_refused log c.args.by c.args.version c.in_ok-start.start q new c.in_err-id.field-0.0 (sym c.in_ok-start.ensures) (sym c.are_used_up.ensures ∙ c.if-are_used_up.false)
+    (subst (λ w. RefusedBy (opened c.args.by c.in_ok-start.start w) c.in_err-id.field-0.0) is c.in_err-id.ensures.err) (ap (λ f. f k) c.in_err-id.ensures.same ∙ is))
 
 pub returns-clause-subscribes : goal.returns-clause-subscribes
 returns-clause-subscribes c =
@@ -51,10 +51,10 @@ returns-clause-subscribes c =
     let q = queues_of c.args.self.now k in
     let is = ap (λ f. f k) c.fetch.ensures.queues in
     let told = c.in_ok-version.field-0 in
-    subscribe_done log c.args.version c.in_ok-start.start c.in_ok-id.id told.version q (queues_of c.open.new.self k) (option_map view told.snapshot) (sym c.in_ok-start.ensures)
-    (c.in_ok-id.ensures.ok ∙ ap (λ w. w.next) is) (subst (λ w. opened c.in_ok-start.start w ≡ Ok (queues_of c.open.new.self k)) is c.in_ok-id.ensures.opened) c.in_ok-version.ensures.fetched
+    subscribe_done log c.args.by c.args.version c.in_ok-start.start c.in_ok-id.id told.version q (queues_of c.open.new.self k) (option_map view told.snapshot) (sym c.in_ok-start.ensures)
+    (c.in_ok-id.ensures.ok ∙ ap (λ w. w.next) is) (subst (λ w. opened c.args.by c.in_ok-start.start w ≡ Ok (queues_of c.open.new.self k)) is c.in_ok-id.ensures.opened) c.in_ok-version.ensures.fetched
 
 pub returns-clause-rings : goal.returns-clause-rings
 returns-clause-rings c =
     let k = plain_key c.args.key.now in
-    subst (λ f. ringed_of c.open.new.self ≡ with_ringed f k (opened_ringed c.in_ok-id.id c.in_ok-start.start (f k))) c.fetch.ensures.rings c.in_ok-id.ensures.rings
+    subst (λ f. ringed_of c.open.new.self ≡ with_ringed f k (opened_ringed c.in_ok-id.id c.args.by c.in_ok-start.start (f k))) c.fetch.ensures.rings c.in_ok-id.ensures.rings

@@ -1,7 +1,7 @@
 use Rattle.sdb_desk.proofs.Looks.{on_ok, on_err}
 use Rattle.std.proofs.Common.{ap, ◌∙◌, sym}
 use Rattle.sdb_oplog.specs.Keys.{plain_key, with_at}
-use Rattle.sdb_subscribe.specs.Ring.{bare, after_take_ringed}
+use Rattle.sdb_subscribe.specs.Ring.{bare, after_take_ringed_by}
 use Rattle.sdb_desk.specs.MapView.{held}
 use Rattle.sdb_desk.specs.MapViewLaws.{write_through, held_found, same_at, held_none, kept_at}
 use Rattle.sdb_desk.specs.ShardView.{topics_of, queues_of, ringed_of}
@@ -58,7 +58,7 @@ returns-in-Some-clause-rings c =
     let g = held no_topic (c.get_mut.follows.lender new).entries in
     let found = held_found no_topic es c.args.key.now old c.in-Some.ensures.value in
     let wrote = write_through no_topic es _ c.args.key.now old new c.in-Some.ensures.value (c.get_mut.follows.holds new).0 in
-    on_ok c.take.result (λ e. rings_written f g k old new found wrote ∙ ap (with_at (ringed_of c.args.self.now) k) (e ∙ ap (λ t. after_take_ringed t.document.log c.args.id c.args.max t.queues.queues) found)) c.take.ensures.rings
+    on_ok c.take.result (λ e. rings_written f g k old new found wrote ∙ ap (with_at (ringed_of c.args.self.now) k) (e ∙ ap (λ t. after_take_ringed_by t.document.log c.args.by c.args.id c.args.max t.queues.queues) found)) c.take.ensures.rings
 
 pub returns-in-Some-clause-rings_left : goal.returns-in-Some-clause-rings_left
 returns-in-Some-clause-rings_left c =
@@ -77,4 +77,4 @@ returns-in-None-clause-rings c =
     let es = c.args.self.now.topics.entries in
     let k = plain_key c.args.key.now in
     let none = held_none no_topic es c.args.key.now c.in-None.ensures.value in
-    ap (λ m. (λ q. (held no_topic m.entries q).queues.queues)) c.get_mut.follows.holds-at-none ∙ kept_at (ringed_of c.args.self.now) k _ (ap (λ t. after_take_ringed t.document.log c.args.id c.args.max t.queues.queues) (sym none) ∙ ap (λ t. t.queues.queues) none)
+    ap (λ m. (λ q. (held no_topic m.entries q).queues.queues)) c.get_mut.follows.holds-at-none ∙ kept_at (ringed_of c.args.self.now) k _ (ap (λ t. after_take_ringed_by t.document.log c.args.by c.args.id c.args.max t.queues.queues) (sym none) ∙ ap (λ t. t.queues.queues) none)

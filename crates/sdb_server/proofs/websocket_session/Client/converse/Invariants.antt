@@ -1,7 +1,7 @@
-use Rattle.std.proofs.Common.{◌≡◌}
+use Rattle.sdb_server.specs.Served.{KeepsPass}
 use Rattle.sdb_server.proofs.websocket_session.Client.converse.Given as goal
 
 abbrev pub invariant-loop : goal.invariant-loop
 invariant-loop g l =
     (goal.iterator-loop g).can_next l.iterator' × (goal.iterator-loop g).is_finite l.iterator'
-    × (l.self.pass ≡ l.fn.self.pass)
+    × (KeepsPass l.fn.self.backend l.fn.self.pass l.self.backend l.self.pass)

@@ -1,5 +1,5 @@
-use Rattle.std.proofs.Common.{◌≡◌}
+use Rattle.sdb_server.specs.Served.{KeepsPass}
 use Rattle.sdb_server.proofs.websocket_session.Client.pump.Given as goal
 
 abbrev pub invariant-loop : goal.invariant-loop
-invariant-loop g l = l.self.pass ≡ l.fn.self.pass
+invariant-loop g l = KeepsPass l.fn.self.backend l.fn.self.pass l.self.backend l.self.pass

@@ -1,5 +1,5 @@
-use Rattle.std.proofs.Common.{◌≡◌}
+use Rattle.sdb_server.specs.Served.{KeepsPass}
 use Rattle.sdb_server.proofs.websocket_session.Client.say_all.Given as goal
 
 abbrev pub invariant-loop-text : goal.invariant-loop-text
-invariant-loop-text g l = l.self.pass ≡ l.fn.self.pass
+invariant-loop-text g l = KeepsPass l.fn.self.backend l.fn.self.pass l.self.backend l.self.pass

@@ -5,8 +5,8 @@ use Rattle.sdb_steps.proofs.session_state.OpenAttempt.commit_unworked.Goals as g
 
 pub returns-then-version-looked_at-clause-tries : goal.returns-then-version-looked_at-clause-tries
 returns-then-version-looked_at-clause-tries c =
-    unworked_wanting c.args.shard.now (plain_attempt c.args.self) (plain_attempt c.args.self) c.requires (λ e. c.if-version-looked_at.true (c.version.ensures ∙ e ∙ sym c.looked_at.ensures)) refl
+    unworked_wanting c.args.shard.now (plain_attempt c.args.self) (plain_attempt c.args.self) c.requires.few (λ e. c.if-version-looked_at.true (c.version.ensures ∙ e ∙ sym c.looked_at.ensures)) refl
 
-pub commit_now-requires : goal.commit_now-requires
-commit_now-requires c =
+pub commit_now-requires-clause-due : goal.commit_now-requires-clause-due
+commit_now-requires-clause-due c =
     same_decides c.args.shard.now (plain_attempt c.args.self) (sym c.version.ensures ∙ c.if-version-looked_at.false ∙ c.looked_at.ensures)

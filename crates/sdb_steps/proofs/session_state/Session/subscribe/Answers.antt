@@ -18,23 +18,23 @@ returns-in-Err-clause-dispatches c =
     let x = plain_session (queues_of c.args.shard.now) c.args.self.now in
     let k = plain_key c.args.key.now in
     let e = sym c.in-Err.ensures in
-    λ i. subst (λ (z : Answer). Dispatches i m x (subscribe k c.args.version) z m x) (sym c.refused_start.ensures)
-    (told_turn i m m x x k c.args.version c.in-Err.code e (started_code m k c.args.version c.in-Err.code e) refl refl)
+    subst (λ (z : Answer). Dispatches c.args.by m x (subscribe k c.args.version) z m x) (sym c.refused_start.ensures)
+    (told_turn c.args.by m m x x k c.args.version c.in-Err.code e (started_code m k c.args.version c.in-Err.code e) refl refl)
 
 pub returns-in-Err-clause-leaves : goal.returns-in-Err-clause-leaves
 returns-in-Err-clause-leaves c =
     let q = queues_of c.args.shard.now in
     let s = slots_of c.args.self.now in
-    leaves_all q q s s c.requires refl refl
+    leaves_all c.args.by q q s s c.requires refl refl
 
 pub returns-in_default-make_slot-clause-dispatches : goal.returns-in_default-make_slot-clause-dispatches
 returns-in_default-make_slot-clause-dispatches c =
     let q = queues_of c.args.shard.now in
     let m = core_of c.args.shard.now in
-    λ i. subscribe_wanting i m m (plain_session q c.args.self.now) _ (plain_key c.args.key.now) c.args.version c.in_default.field-0 (sym c.in_default.ensures) refl (session_kept (option_map plain_attempt c.args.self.now.attempt) q q _ _ refl c.in_default-make_slot.ensures.same)
+    subscribe_wanting c.args.by m m (plain_session q c.args.self.now) _ (plain_key c.args.key.now) c.args.version c.in_default.field-0 (sym c.in_default.ensures) refl (session_kept (option_map plain_attempt c.args.self.now.attempt) q q _ _ refl c.in_default-make_slot.ensures.same)
 
 pub returns-in_default-make_slot-clause-leaves : goal.returns-in_default-make_slot-clause-leaves
-returns-in_default-make_slot-clause-leaves c = let q = queues_of c.args.shard.now in leaves_all q q (slots_of c.args.self.now) _ c.requires refl c.in_default-make_slot.ensures.same
+returns-in_default-make_slot-clause-leaves c = let q = queues_of c.args.shard.now in leaves_all c.args.by q q (slots_of c.args.self.now) _ c.requires refl c.in_default-make_slot.ensures.same
 
 pub returns-in-Ok-subscribe-clause-dispatches : goal.returns-in-Ok-subscribe-clause-dispatches
 returns-in-Ok-subscribe-clause-dispatches c =
@@ -50,16 +50,16 @@ returns-in-Ok-subscribe-clause-dispatches c =
     let f = c.in-Ok-subscribe.subscribed in
     let o : PlainSubscribed = record { id = f.id; start = f.start; version = f.version; snapshot = option_map view f.snapshot } in
     let told = c.in-Ok-subscribe.ensures in
-    let h : Joins q0 q1 q2 l0 l2 s0 s2 k c.args.version o a = record {
+    let h : Joins c.args.by q0 q1 q2 l0 l2 s0 s2 k c.args.version o a = record {
       given = c.requires;
       opened = told.subscribes;
       stands = told.open;
       others = told.others;
       slots = c.fill_slot.ensures ∙ ap (λ (g : Slots). with_at g k (Some f.id)) c.in-Ok.ensures.same;
-      closed = c.close.ensures.queues ∙ ap (λ p. with_queues q1 k (closed_of p (q1 k))) c.in-Ok.ensures.number;
+      closed = c.close.ensures.queues ∙ ap (λ p. with_queues q1 k (closed_of c.args.by p (q1 k))) c.in-Ok.ensures.number;
       logs = c.close.ensures.logs ∙ told.logs;
     } in
-    λ i. joined_turn q0 q1 q2 l0 l2 s0 s2 k c.args.version o a h i
+    joined_turn c.args.by q0 q1 q2 l0 l2 s0 s2 k c.args.version o a h
 
 pub returns-in-Ok-subscribe-clause-leaves : goal.returns-in-Ok-subscribe-clause-leaves
 returns-in-Ok-subscribe-clause-leaves c =
@@ -75,16 +75,16 @@ returns-in-Ok-subscribe-clause-leaves c =
     let f = c.in-Ok-subscribe.subscribed in
     let o : PlainSubscribed = record { id = f.id; start = f.start; version = f.version; snapshot = option_map view f.snapshot } in
     let told = c.in-Ok-subscribe.ensures in
-    let h : Joins q0 q1 q2 l0 l2 s0 s2 k c.args.version o a = record {
+    let h : Joins c.args.by q0 q1 q2 l0 l2 s0 s2 k c.args.version o a = record {
       given = c.requires;
       opened = told.subscribes;
       stands = told.open;
       others = told.others;
       slots = c.fill_slot.ensures ∙ ap (λ (g : Slots). with_at g k (Some f.id)) c.in-Ok.ensures.same;
-      closed = c.close.ensures.queues ∙ ap (λ p. with_queues q1 k (closed_of p (q1 k))) c.in-Ok.ensures.number;
+      closed = c.close.ensures.queues ∙ ap (λ p. with_queues q1 k (closed_of c.args.by p (q1 k))) c.in-Ok.ensures.number;
       logs = c.close.ensures.logs ∙ told.logs;
     } in
-    joined_leaves q0 q1 q2 l0 l2 s0 s2 k c.args.version o a h
+    joined_leaves c.args.by q0 q1 q2 l0 l2 s0 s2 k c.args.version o a h
 
 pub returns-in-Err-subscribe-clause-dispatches : goal.returns-in-Err-subscribe-clause-dispatches
 returns-in-Err-subscribe-clause-dispatches c =
@@ -100,8 +100,8 @@ returns-in-Err-subscribe-clause-dispatches c =
     let a = option_map plain_attempt c.args.self.now.attempt in
     let t = slots_in c.drop_empty_slot.new.slots.entries in
     let y : Session = record { attempt = a; queues = λ j. queue_seen (q1 j) (t j) } in
-    λ i. subst (λ (z : Answer). Dispatches i m x (subscribe k v) z n y) (sym c.refused_start-in-Err-subscribe.ensures)
-    (subscribe_refused i m n (q0 k) (q1 k) x y k v c.in-Err-subscribe.code c.in_default.field-0 (sym c.in_default.ensures) refl told.subscribes told.logs
+    subst (λ (z : Answer). Dispatches c.args.by m x (subscribe k v) z n y) (sym c.refused_start-in-Err-subscribe.ensures)
+    (subscribe_refused c.args.by m n (q0 k) (q1 k) x y k v c.in-Err-subscribe.code c.in_default.field-0 (sym c.in_default.ensures) refl told.subscribes told.logs
     (λ e. (same_core c.args.shard.now c.subscribe.new.self told.logs (kept_queues q0 q1 k told.others e), session_kept a q0 q1 (slots_of c.args.self.now) t (kept_queues q0 q1 k told.others e) slots))).1
 
 pub returns-in-Err-subscribe-clause-leaves : goal.returns-in-Err-subscribe-clause-leaves
@@ -111,4 +111,4 @@ returns-in-Err-subscribe-clause-leaves c =
     let k = plain_key c.args.key.now in
     let told = c.in-Err-subscribe.ensures in
     let slots = c.drop_empty_slot.ensures ∙ c.in-Ok.ensures.same in
-    leaves_all q0 q1 (slots_of c.args.self.now) _ c.requires (kept_queues q0 q1 k told.others (refused_same (logs_of c.args.shard.now k) c.args.version (q0 k) (q1 k) c.in-Err-subscribe.code told.subscribes)) slots
+    leaves_all c.args.by q0 q1 (slots_of c.args.self.now) _ c.requires (kept_queues q0 q1 k told.others (refused_same (logs_of c.args.shard.now k) c.args.by c.args.version (q0 k) (q1 k) c.in-Err-subscribe.code told.subscribes)) slots

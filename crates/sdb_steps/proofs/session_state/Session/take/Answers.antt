@@ -1,7 +1,7 @@
-use Rattle.std.proofs.Common.{◌≡◌, [], Some, option_map, unwrap_or, refl, ap, sym, ◌∙◌}
+use Rattle.std.proofs.Common.{◌≡◌, [], cond, Some, None, option_map, unwrap_or, refl, ap, sym, ◌∙◌}
 use Rattle.sdb_oplog.specs.Keys.{plain_key}
 use Rattle.sdb_desk.specs.ShardView.{logs_of, queues_of}
-use Rattle.sdb_subscribe.specs.Queue.{waiting}
+use Rattle.sdb_subscribe.specs.Queue.{waiting, taken_from}
 use Rattle.sdb_desk.specs.Machine.{Takes, is_filled}
 use Rattle.sdb_steps.specs.StateView.{plain_attempt, slots_of}
 use Rattle.sdb_steps.proofs.QueueSteps.{Holds, stands_of, taken_turn, taken_leaves, take_wanting, leaves_all, kept_queues}
@@ -18,11 +18,11 @@ returns-in-Ok-Some-clause-dispatches c =
     let n = c.in-Some.id in
     let a = option_map plain_attempt c.args.self.now.attempt in
     let at : s k ≡ Some n = sym c.queue_of.ensures ∙ c.in-Some.is in
-    let w = stands_of _ (c.requires k n at).1 in
+    let w = stands_of c.args.by _ (c.requires k n at).1 in
     let told = c.in-Ok-Some.ensures in
-    let takes : Takes (l0 k) n c.args.max (q0 k) (Some (Some c.in-Ok-Some.entries.items)) (q1 k) = (ap (option_map (λ v. v.items)) (sym c.in-Ok-Some.field-0-is) ∙ told.takes.0, told.takes.1) in
-    let h : Holds q0 q1 l0 l1 s s k n w.0 a = record { all = c.requires; at = at; stands = w.1; others = told.others; next = ap (λ z. z.next) told.takes.1; logs = told.logs } in
-    λ i. taken_turn q0 q1 l0 l1 s s k n w.0 a h c.args.max c.in-Ok-Some.entries.items takes refl i
+    let takes : Takes (l0 k) c.args.by n c.args.max (q0 k) (Some (Some c.in-Ok-Some.entries.items)) (q1 k) = (ap (option_map (λ v. v.items)) (sym c.in-Ok-Some.field-0-is) ∙ told.takes.0, told.takes.1) in
+    let h : Holds c.args.by q0 q1 l0 l1 s s k n w.0 a = record { all = c.requires; at = at; stands = w.1; others = told.others; next = ap (λ z. z.next) told.takes.1; logs = told.logs } in
+    taken_turn c.args.by q0 q1 l0 l1 s s k n w.0 a h c.args.max c.in-Ok-Some.entries.items takes refl
 
 pub returns-in-Ok-Some-clause-leaves : goal.returns-in-Ok-Some-clause-leaves
 returns-in-Ok-Some-clause-leaves c =
@@ -35,11 +35,11 @@ returns-in-Ok-Some-clause-leaves c =
     let n = c.in-Some.id in
     let a = option_map plain_attempt c.args.self.now.attempt in
     let at : s k ≡ Some n = sym c.queue_of.ensures ∙ c.in-Some.is in
-    let w = stands_of _ (c.requires k n at).1 in
+    let w = stands_of c.args.by _ (c.requires k n at).1 in
     let told = c.in-Ok-Some.ensures in
-    let takes : Takes (l0 k) n c.args.max (q0 k) (Some (Some c.in-Ok-Some.entries.items)) (q1 k) = (ap (option_map (λ v. v.items)) (sym c.in-Ok-Some.field-0-is) ∙ told.takes.0, told.takes.1) in
-    let h : Holds q0 q1 l0 l1 s s k n w.0 a = record { all = c.requires; at = at; stands = w.1; others = told.others; next = ap (λ z. z.next) told.takes.1; logs = told.logs } in
-    taken_leaves q0 q1 l0 l1 s s k n w.0 a h c.args.max c.in-Ok-Some.entries.items takes refl
+    let takes : Takes (l0 k) c.args.by n c.args.max (q0 k) (Some (Some c.in-Ok-Some.entries.items)) (q1 k) = (ap (option_map (λ v. v.items)) (sym c.in-Ok-Some.field-0-is) ∙ told.takes.0, told.takes.1) in
+    let h : Holds c.args.by q0 q1 l0 l1 s s k n w.0 a = record { all = c.requires; at = at; stands = w.1; others = told.others; next = ap (λ z. z.next) told.takes.1; logs = told.logs } in
+    taken_leaves c.args.by q0 q1 l0 l1 s s k n w.0 a h c.args.max c.in-Ok-Some.entries.items takes refl
 
 pub returns-in-Err-clause-dispatches : goal.returns-in-Err-clause-dispatches
 returns-in-Err-clause-dispatches c =
@@ -52,11 +52,13 @@ returns-in-Err-clause-dispatches c =
     let n = c.in-Some.id in
     let a = option_map plain_attempt c.args.self.now.attempt in
     let at : s k ≡ Some n = sym c.queue_of.ensures ∙ c.in-Some.is in
-    let w = stands_of _ (c.requires k n at).1 in
+    let w = stands_of c.args.by _ (c.requires k n at).1 in
     let told = c.in-Err.ensures in
-    let h : Holds q0 q1 l0 l1 s s k n w.0 a = record { all = c.requires; at = at; stands = w.1; others = told.others; next = ap (λ z. z.next) told.takes.0; logs = told.logs } in
-    let some = sym (ap (λ o. is_filled (unwrap_or (option_map (waiting (l0 k) c.args.max) o) [])) w.1) ∙ told.takes.1 in
-    λ i. take_wanting q0 q1 l0 l1 s s k n w.0 a h i c.args.max some refl (kept_queues q0 q1 k told.others told.takes.0)
+    let h : Holds c.args.by q0 q1 l0 l1 s s k n w.0 a = record { all = c.requires; at = at; stands = w.1; others = told.others; next = ap (λ z. z.next) told.takes.0; logs = told.logs } in
+    let some =
+    sym (ap (λ b. is_filled (unwrap_or (cond b (taken_from (l0 k) n c.args.max (q0 k).queues) None) [])) (c.requires k n at).1 ∙ ap (λ o. is_filled (unwrap_or (option_map (waiting (l0 k) c.args.max) o) [])) w.1)
+    ∙ told.takes.1 in
+    take_wanting c.args.by q0 q1 l0 l1 s s k n w.0 a h c.args.max some refl (kept_queues q0 q1 k told.others told.takes.0)
 
 pub returns-in-Err-clause-leaves : goal.returns-in-Err-clause-leaves
 returns-in-Err-clause-leaves c =
@@ -65,4 +67,4 @@ returns-in-Err-clause-leaves c =
     let k = plain_key c.args.key.now in
     let s = slots_of c.args.self.now in
     let told = c.in-Err.ensures in
-    leaves_all q0 q1 s s c.requires (kept_queues q0 q1 k told.others told.takes.0) refl
+    leaves_all c.args.by q0 q1 s s c.requires (kept_queues q0 q1 k told.others told.takes.0) refl

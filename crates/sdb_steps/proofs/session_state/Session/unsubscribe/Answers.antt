@@ -19,11 +19,11 @@ returns-clause-dispatches c =
     let n = c.in-Some.id in
     let a = option_map plain_attempt c.args.self.now.attempt in
     let at : s k ≡ Some n = sym c.queue_of.ensures ∙ c.in-Some.is in
-    let w = stands_of _ (c.requires k n at).1 in
+    let w = stands_of c.args.by _ (c.requires k n at).1 in
     let told = c.unsubscribe.ensures in
-    let shut = wrote_at q0 q1 k (closed n (q0 k)) told.queues in
-    let h : Holds q0 q1 l0 l1 s t k n w.0 a = record { all = c.requires; at = at; stands = w.1; others = others_at q0 q1 k (closed n (q0 k)) told.queues; next = ap (λ z. z.next) shut; logs = told.logs } in
-    λ i. closed_turn q0 q1 l0 l1 s t k n w.0 a h shut c.drop_slot.ensures i
+    let shut = wrote_at q0 q1 k (closed c.args.by n (q0 k)) told.queues in
+    let h : Holds c.args.by q0 q1 l0 l1 s t k n w.0 a = record { all = c.requires; at = at; stands = w.1; others = others_at q0 q1 k (closed c.args.by n (q0 k)) told.queues; next = ap (λ z. z.next) shut; logs = told.logs } in
+    closed_turn c.args.by q0 q1 l0 l1 s t k n w.0 a h shut c.drop_slot.ensures
 
 pub returns-clause-leaves : goal.returns-clause-leaves
 returns-clause-leaves c =
@@ -37,8 +37,8 @@ returns-clause-leaves c =
     let n = c.in-Some.id in
     let a = option_map plain_attempt c.args.self.now.attempt in
     let at : s k ≡ Some n = sym c.queue_of.ensures ∙ c.in-Some.is in
-    let w = stands_of _ (c.requires k n at).1 in
+    let w = stands_of c.args.by _ (c.requires k n at).1 in
     let told = c.unsubscribe.ensures in
-    let shut = wrote_at q0 q1 k (closed n (q0 k)) told.queues in
-    let h : Holds q0 q1 l0 l1 s t k n w.0 a = record { all = c.requires; at = at; stands = w.1; others = others_at q0 q1 k (closed n (q0 k)) told.queues; next = ap (λ z. z.next) shut; logs = told.logs } in
-    closed_leaves q0 q1 l0 l1 s t k n w.0 a h shut c.drop_slot.ensures
+    let shut = wrote_at q0 q1 k (closed c.args.by n (q0 k)) told.queues in
+    let h : Holds c.args.by q0 q1 l0 l1 s t k n w.0 a = record { all = c.requires; at = at; stands = w.1; others = others_at q0 q1 k (closed c.args.by n (q0 k)) told.queues; next = ap (λ z. z.next) shut; logs = told.logs } in
+    closed_leaves c.args.by q0 q1 l0 l1 s t k n w.0 a h shut c.drop_slot.ensures

@@ -1,6 +1,9 @@
-use Rattle.std.proofs.Common.{◌≡◌, ◌+◌, ◌∷◌, [], ◌++◌, List, length, length-append, arith, ap, ◌∙◌}
+use Rattle.std.proofs.Common.{◌≡◌, ◌+◌, ◌∷◌, [], ◌++◌, List, length, length-append, arith, ap, sym, subst, ◌∙◌}
+use Rattle.sdb_desk.specs.ShardView.{logs_of}
+use Rattle.sdb_steps.specs.Looking.{AllLooked}
 use Rattle.sdb_steps.specs.StateView.{plain_sessions, slots_at}
 use Rattle.sdb_steps.specs.declared.session_state.Session.{Session}
+use Rattle.sdb_steps.proofs.Lookings.{looked_more, looked_none}
 use Rattle.sdb_steps.proofs.Worlds.{none_more, fresh_more, fresh_session}
 use Rattle.sdb_steps.proofs.world_parts.Parts.new.Goals as goal
 
@@ -9,6 +12,7 @@ invariant_of-result c = record {
   all = omega (arith, c.loop.invariant.count, c.loop-test.false, c.loop.auto.counter-end);
   «open» = λ i k n at. let e = c.loop.invariant.empty i k in cc;
   apart = λ i j k n at by. let e = c.loop.invariant.empty i k in cc;
+  looked = c.loop.invariant.looked (logs_of c.new-2.result);
 }
 
 pub loop-preserved : goal.loop-preserved
@@ -20,5 +24,6 @@ loop-preserved c =
     record {
       count = ap length pushed ∙ more ∙ ap (λ n. n + 1) c.loop.invariant.count;
       unused = λ q n. ap (λ (ys : List Session). plain_sessions q ys n) pushed ∙ fresh_more q xs x (fresh_session q x c.new.ensures.attempt c.new.ensures.slots) (c.loop.invariant.unused q) n;
+      looked = λ logs. subst (λ (ys : List Session). AllLooked logs ys) (sym pushed) (looked_more logs xs x (looked_none logs x.attempt c.new.ensures.attempt) (c.loop.invariant.looked logs));
       empty = λ n k. ap (λ (ys : List Session). slots_at ys n k) pushed ∙ none_more xs x c.new.ensures.slots c.loop.invariant.empty n k;
     }

@@ -8,7 +8,7 @@ pub returns-clause-entries : goal.returns-clause-entries
 returns-clause-entries c =
     let log = c.args.log.now in
     let max = c.args.max in
-    let q : RingedQueue = record { queue = record { start = c.self.inside.start; taken = c.self.inside.taken }; ring = c.self.inside.ring.items } in
+    let q : RingedQueue = record { queue = record { start = c.self.inside.start; taken = c.self.inside.taken; by = c.self.inside.by }; ring = c.self.inside.ring.items } in
     let fits : FitsLog log q = subst (FitsLog log) (sym c.self.view_is) c.requires in
     let b = c.min-before.result in
     let w : c.entries_of-waiting.result.now ≡ waiting log max q.queue = c.entries_of-waiting.ensures.entries in

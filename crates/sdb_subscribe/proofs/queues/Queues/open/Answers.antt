@@ -19,8 +19,8 @@ returns-clause-ok c =
     let es = c.self.inside.queues.entries in
     let n = c.self.inside.next in
     let w = c.in_ok-queue.queue in
-    ap (λ q. opened c.args.from (bare q)) (sym c.self.view_is)
-    ∙ other_than n 18446744073709551615 (Err E11) (Ok (record { next = n + 1; queues = bare_queues es ++ (n, record { start = c.args.from; taken = 0 }) ∷ [] })) c.if-number.false
+    ap (λ q. opened c.args.by c.args.from (bare q)) (sym c.self.view_is)
+    ∙ other_than n 18446744073709551615 (Err E11) (Ok (record { next = n + 1; queues = bare_queues es ++ (n, record { start = c.args.from; taken = 0; by = c.args.by }) ∷ [] })) c.if-number.false
     ∙ ap (λ v. Ok (record { next = n + 1; queues = bare_queues es ++ (n, v.queue) ∷ [] })) (sym c.in_ok-queue.ensures)
     ∙ ap (λ l. Ok (record { next = n + 1; queues = l })) (sym (ap bare_queues (c.in-Ok.ensures.entries ∙ added n w es c.self.invariant) ∙ added_bare n w es))
 
@@ -38,7 +38,7 @@ returns-clause-rings c =
     let n = c.self.inside.next in
     let w = c.in_ok-queue.queue in
     c.in-Ok.ensures.entries ∙ added n w es c.self.invariant ∙ ap (λ v. es ++ (n, v) ∷ []) c.in_ok-queue.ensures
-    ∙ ap (λ q. q.queues ++ (q.next, record { queue = record { start = c.args.from; taken = 0 }; ring = [] }) ∷ []) c.self.view_is
+    ∙ ap (λ q. q.queues ++ (q.next, record { queue = record { start = c.args.from; taken = 0; by = c.args.by }; ring = [] }) ∷ []) c.self.view_is
 
 pub returns-clause-fit : goal.returns-clause-fit
 returns-clause-fit c =

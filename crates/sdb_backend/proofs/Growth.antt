@@ -1,0 +1,338 @@
+-- Each call of the machine extends it, and changes what stands under the caller's number alone.
+use Rattle.std.proofs.Common.{◌≡◌, ◌≢◌, ℕ, ◌+◌, ◌<◌, ◌≤◌, ◌⊎◌, inl, inr, Bool, true, false, cond, List, [], ◌∷◌, ◌++◌, length, nat_eq, nat_lt, Option, Some, None, unwrap_or, Result, Ok, Err, refl, sym, ap, ◌∙◌, subst, arith, append_assoc, append-nil}
+use Rattle.std.proofs.lemmas.Bool.Decides.{eqb_tells}
+use Rattle.std.proofs.lemmas.Bool.{eqb-true, eq-eqb}
+use Rattle.sdb_oplog.specs.Plain.{PlainEntry, PlainSubmission, PlainContent}
+use Rattle.sdb_oplog.specs.Keys.{PlainKey, Logs, with_log, same_key}
+use Rattle.sdb_oplog.specs.Decide.{PlainReply, stored, repeated, refused, Decided, decide, store, settled, missed, entry_of}
+use Rattle.sdb_oplog.specs.Laws.{decides_repeat, decides_settled}
+use Rattle.sdb_oplog.specs.Snap.{stored_at}
+use Rattle.sdb_oplog.specs.declared.codes.Code.{Code}
+use Rattle.sdb_oplog.specs.declared.codes.Code.TheVariants.{E4, E11}
+use Rattle.sdb_subscribe.specs.Queue.{PlainQueue, PlainQueues, queue_at, opened, with_queue, waiting, moved, after_take, after_take_by, without, without_by, is_mine, is_owned}
+use Rattle.sdb_subscribe.specs.Laws.{opened_other, after_take_at, after_take_other, without_other}
+use Rattle.std.specs.Option.{option_map_or}
+use Rattle.sdb_desk.specs.Laws.{equal_keys}
+use Rattle.sdb_desk.specs.MapViewLaws.{wrote_at}
+use Rattle.std.specs.Result.{result_ok}
+use Rattle.sdb_desk.specs.Machine.{Machine, PlainAttempt, PlainOutcome, decided, moved as moved_on, Queued, with_queues, closed, start_of, opening, subscribing, subscribing_from, Decides, Commits, Subscribes, Takes, Same, PlainSubscribed}
+use Rattle.sdb_submit.specs.Calls.{PlainCall, look, commit, commit_now, present, fetch, ops_from, snapshot, forget, subscribe, take_next, unsubscribe, AnswerTo, Acts}
+use Rattle.sdb_backend.specs.History.{IsLonger, GoesOn, GoOn, Extends, stored_by, mine, own, AddsTo, Part}
+use Rattle.sdb_backend.specs.HistoryLaws.{longer_itself, goes_itself, go_itself}
+
+-- ---- what stands under a number in logs
+
+-- the log stays and no version is answered as stored, or one entry is added, and its version is answered
+abbrev pub IsStored : PlainReply → Type 0
+IsStored (stored v es) = Unit {0}
+IsStored (repeated v) = ⊥
+IsStored (refused code) = ⊥
+
+abbrev pub AddsOne : List PlainEntry → PlainSubmission → PlainReply → List PlainEntry → Type 0
+AddsOne log s r new =
+    ((IsStored r → ⊥) × (new ≡ log))
+    ⊎ ((m : PlainContent) × (r ≡ stored (length log) (missed log s)) × (new ≡ log ++ entry_of log s m ∷ []))
+
+store_adds : (log : List PlainEntry) (s : PlainSubmission) (r : Result PlainContent Code) → AddsOne log s (store log s r).reply (store log s r).log
+store_adds log s (Err c) = inl (λ x. x, refl)
+store_adds log s (Ok m) = inr (m, refl, refl)
+
+adds_by : (log : List PlainEntry) (s : PlainSubmission) (o : Option ℕ) → stored_at s.src s.seq log ≡ o
+    → AddsOne log s (decide log s).reply (decide log s).log
+adds_by log s (Some i) e =
+    let P : Decided → Type 0 = λ d. AddsOne log s d.reply d.log in
+    subst P (sym (decides_repeat log s i e)) (inl (λ x. x, refl))
+adds_by log s None e =
+    let P : Decided → Type 0 = λ d. AddsOne log s d.reply d.log in
+    subst P (sym (decides_settled log s (settled log s) e refl)) (store_adds log s (settled log s))
+
+pub decide_adds : (log : List PlainEntry) (s : PlainSubmission) → AddsOne log s (decide log s).reply (decide log s).log
+decide_adds log s = adds_by log s (stored_at s.src s.seq log) refl
+
+longer_added : (log : List PlainEntry) (s : PlainSubmission) (r : PlainReply) (new : List PlainEntry) → AddsOne log s r new → IsLonger new log
+longer_added log s r new (inl h) = ([], h.1 ∙ sym (append-nil log))
+longer_added log s r new (inr h) = (entry_of log s h.0 ∷ [], h.2)
+
+-- an entry under another number
+past_entry : (b : Bool) (n : ℕ) (e : PlainEntry) (l : List PlainEntry) → nat_eq e.arrived.by n ≡ b → (e.arrived.by ≡ n → ⊥) → cond b (e ∷ l) l ≡ l
+past_entry true n e l is ne = absurd (ne (eqb-true e.arrived.by n is))
+past_entry false n e l is ne = refl
+
+pub stored_other : (n : ℕ) (es : List PlainEntry) (e : PlainEntry) → (e.arrived.by ≡ n → ⊥) → stored_by n (es ++ e ∷ []) ≡ stored_by n es
+stored_other n [] e ne = past_entry (nat_eq e.arrived.by n) n e [] refl ne
+stored_other n (x ∷ es) e ne = ap (λ l. cond (nat_eq x.arrived.by n) (x ∷ l) l) (stored_other n es e ne)
+
+others_added : (j : ℕ) (log : List PlainEntry) (s : PlainSubmission) (r : PlainReply) (new : List PlainEntry) → (s.by ≡ j → ⊥) → AddsOne log s r new → stored_by j log ≡ stored_by j new
+others_added j log s r new ne (inl h) = ap (stored_by j) (sym h.1)
+others_added j log s r new ne (inr h) = sym (stored_other j log (entry_of log s h.0) ne) ∙ ap (stored_by j) (sym h.2)
+
+-- ---- what holds of the key that is written and of what stays, holds of each key
+
+wrote_or : {A : Type 0} (b : Bool) (R : A → A → Type 0) (f : PlainKey → A) (k q : PlainKey) (w : A) → same_key k q ≡ b → R (f q) (f q) → R w (f k) → R (cond b w (f q)) (f q)
+wrote_or true R f k q w is stays writes = subst (λ x. R w (f x)) (equal_keys k q is) writes
+wrote_or false R f k q w is stays writes = stays
+
+at_each : {A : Type 0} (R : A → A → Type 0) (f g : PlainKey → A) (k : PlainKey) (w : A) → ((a : A) → R a a) → R w (f k)
+    → g ≡ (λ q. cond (same_key k q) w (f q)) → (q : PlainKey) → R (g q) (f q)
+at_each R f g k w itself writes e q =
+    subst (λ x. R (x q) (f q)) (sym e) (wrote_or (same_key k q) R f k q w refl (itself (f q)) writes)
+
+-- ---- each call
+
+abbrev pub Under : ℕ → PlainCall → Type 0
+Under n (look s) = s.by ≡ n
+Under n (commit a) = a.submission.by ≡ n
+Under n (commit_now s) = s.by ≡ n
+Under n present = Unit {0}
+Under n fetch = Unit {0}
+Under n (ops_from v) = Unit {0}
+Under n (snapshot v) = Unit {0}
+Under n forget = Unit {0}
+Under n (subscribe v) = Unit {0}
+Under n (take_next i max) = Unit {0}
+Under n (unsubscribe i) = Unit {0}
+
+-- of the machine before and after: it is longer, and what stands under other numbers is the same
+pub record Grown (n : ℕ) (m new : Machine) : Type 0 where
+  pub extends : Extends new m
+  pub others : (j : ℕ) → j ≢ n → own j m ≡ own j new
+
+-- what stands under j in the queues of one key
+abbrev Others : ℕ → PlainQueues → PlainQueues → Type 0
+Others j new old = (i : ℕ) → mine j (queue_at i old.queues) ≡ mine j (queue_at i new.queues)
+
+parts : (j : ℕ) (m new : Machine) → ((k : PlainKey) → stored_by j (m.logs k) ≡ stored_by j (new.logs k)) → ((k : PlainKey) → Others j (new.queues k) (m.queues k))
+    → own j m ≡ own j new
+parts j m new entries queues = λ x. record { entries = λ k. entries k x; queues = λ k i. queues k i x }
+
+pub logs_same : (n : ℕ) (m new : Machine) → ((k : PlainKey) → GoOn (new.queues k) (m.queues k)) → ((j : ℕ) → j ≢ n → (k : PlainKey) → Others j (new.queues k) (m.queues k))
+    → new.logs ≡ m.logs → Grown n m new
+logs_same n m new queues others e = record {
+  extends = record { logs = λ k. ([], ap (λ l. l k) e ∙ sym (append-nil (m.logs k))); queues = queues };
+  others = λ j ne. parts j m new (λ k. ap (λ l. stored_by j (l k)) (sym e)) (others j ne);
+}
+
+pub queues_same : (m new : Machine) → new.queues ≡ m.queues → (k : PlainKey) → GoOn (new.queues k) (m.queues k)
+queues_same m new e k = subst (λ f. GoOn (f k) (m.queues k)) (sym e) (go_itself (m.queues k))
+
+others_same : (j : ℕ) (m new : Machine) → new.queues ≡ m.queues → (k : PlainKey) → Others j (new.queues k) (m.queues k)
+others_same j m new e k i = ap (λ f. mine j (queue_at i (f k).queues)) (sym e)
+
+pub same_grown : (n : ℕ) (m new : Machine) → Same m new → Grown n m new
+same_grown n m new h = logs_same n m new (queues_same m new h.1) (λ j ne. others_same j m new h.1) h.0
+
+decided_grown : (n : ℕ) (m new : Machine) (k : PlainKey) (s : PlainSubmission) → s.by ≡ n → new.queues ≡ m.queues
+    → new.logs ≡ with_log m.logs k (decide (m.logs k) s).log → Grown n m new
+decided_grown n m new k s by queues e =
+    let d = decide (m.logs k) s in
+    record {
+      extends = record {
+        logs = at_each IsLonger m.logs new.logs k d.log longer_itself (longer_added (m.logs k) s d.reply d.log (decide_adds (m.logs k) s)) e;
+        queues = queues_same m new queues;
+      };
+      others = λ j ne. parts j m new
+          (λ q. at_each (λ a b. stored_by j b ≡ stored_by j a) m.logs new.logs k d.log (λ a. refl)
+          (others_added j (m.logs k) s d.reply d.log (λ x. ne (sym x ∙ by)) (decide_adds (m.logs k) s)) e q)
+          (others_same j m new queues);
+    }
+
+decides_grown : (n : ℕ) (m new : Machine) (k : PlainKey) (s : PlainSubmission) (r : PlainReply) → s.by ≡ n → new.queues ≡ m.queues
+    → Decides m.logs k s r new.logs → Grown n m new
+decides_grown n m new k s r by queues (inl h) = same_grown n m new (h.1, queues)
+decides_grown n m new k s r by queues (inr h) = decided_grown n m new k s by queues h.1
+
+commits_grown : (n : ℕ) (m new : Machine) (k : PlainKey) (a : PlainAttempt) (o : PlainOutcome) → a.submission.by ≡ n → new.queues ≡ m.queues
+    → Commits m.logs k a o new.logs → Grown n m new
+commits_grown n m new k a (decided r) by queues (inl h) = same_grown n m new (h.1, queues)
+commits_grown n m new k a (decided r) by queues (inr h) = decided_grown n m new k a.submission by queues h.2
+commits_grown n m new k a (moved_on l) by queues h = same_grown n m new (h.2, queues)
+
+-- ---- calls of queues: each goes on, and what stands under other numbers is the same
+
+pub record Moves (n : ℕ) (new old : PlainQueues) : Type 0 where
+  pub goes : GoOn new old
+  pub others : (j : ℕ) → j ≢ n → Others j new old
+
+moves_itself : (n : ℕ) (q : PlainQueues) → Moves n q q
+moves_itself n q = record { goes = go_itself q; others = λ j ne i. refl }
+
+-- a queue under another number
+mine_other : (b : Bool) (j : ℕ) (w : PlainQueue) → nat_eq w.by j ≡ b → (w.by ≡ j → ⊥) → cond b (Some w) None ≡ None
+mine_other true j w is ne = absurd (ne (eqb-true w.by j is))
+mine_other false j w is ne = refl
+
+not_mine : (j : ℕ) (w : PlainQueue) → (w.by ≡ j → ⊥) → mine j (Some w) ≡ None
+not_mine j w ne = mine_other (nat_eq w.by j) j w refl ne
+
+-- the queue that a test of its owner found
+owned_by : (n : ℕ) (o : Option PlainQueue) → is_mine n o ≡ true → (w : PlainQueue) × ((o ≡ Some w) × (w.by ≡ n))
+owned_by n None e = cc
+owned_by n (Some w) e = (w, (refl, eqb-true w.by n e))
+
+opened_past : (b : Bool) (j : ℕ) (o p q : Option PlainQueue) → mine j p ≡ mine j q → mine j (cond b o p) ≡ mine j (cond b o q)
+opened_past true j o p q h = refl
+opened_past false j o p q h = h
+
+opened_mine : (j i n : ℕ) (w : PlainQueue) (qs : List (ℕ × PlainQueue)) → (w.by ≡ j → ⊥) → mine j (queue_at i qs) ≡ mine j (queue_at i (qs ++ (n, w) ∷ []))
+opened_mine j i n w [] ne = sym (one (nat_eq i n)) where
+  one : (b : Bool) → mine j (cond b (Some w) None) ≡ None
+  one true = not_mine j w ne
+  one false = refl
+opened_mine j i n w (q ∷ qs) ne = opened_past (nat_eq i q.0) j (Some q.1) (queue_at i qs) (queue_at i (qs ++ (n, w) ∷ [])) (opened_mine j i n w qs ne)
+
+moves_opened : (from by : ℕ) (q : PlainQueues) → Moves by (record { next = q.next + 1; queues = q.queues ++ (q.next, record { start = from; taken = 0; by = by }) ∷ [] }) q
+moves_opened from by q = record {
+  goes = record {
+    given = omega arith;
+    each = λ n l. subst (λ o. GoesOn o (queue_at n q.queues))
+        (sym (opened_other n q.next (record { start = from; taken = 0; by = by }) q.queues (λ e. omega (arith, l, e)))) (goes_itself (queue_at n q.queues));
+  };
+  others = λ j ne i. opened_mine j i q.next (record { start = from; taken = 0; by = by }) q.queues (λ e. ne (sym e));
+}
+
+opened_or : (b : Bool) (from by : ℕ) (q new : PlainQueues)
+    → cond b (Err E11) (Ok (record { next = q.next + 1; queues = q.queues ++ (q.next, record { start = from; taken = 0; by = by }) ∷ [] })) ≡ Ok new → Moves by new q
+opened_or true from by q new e = cc
+opened_or false from by q new e = subst (λ x. Moves by x q) (ap (λ (r : Result PlainQueues Code). unwrap_or (result_ok r) q) e) (moves_opened from by q)
+
+moves_opening : (log : List PlainEntry) (by v : ℕ) (q : PlainQueues) (r : Result PlainQueues Code) → opened by v q ≡ r → Moves by (opening log v q r).queues q
+moves_opening log by v q (Err c) e = moves_itself by q
+moves_opening log by v q (Ok new) e = opened_or (nat_eq q.next 18446744073709551615) v by q new e
+
+moves_subscribing : (log : List PlainEntry) (by : ℕ) (q : PlainQueues) (r : Result ℕ Code) → Moves by (subscribing_from log by q r).queues q
+moves_subscribing log by q (Err c) = moves_itself by q
+moves_subscribing log by q (Ok v) = moves_opening log by v q (opened by v q) refl
+
+moves_subscribes : (log : List PlainEntry) (by : ℕ) (v : Option ℕ) (q : PlainQueues) (r : Result PlainSubscribed Code) (new : PlainQueues) → Subscribes log by v q r new → Moves by new q
+moves_subscribes log by v q r new (inl h) = subst (λ x. Moves by x q) (sym h.1) (moves_itself by q)
+moves_subscribes log by v q r new (inr h) = subst (λ x. Moves by x q) (sym h.1) (moves_subscribing log by q (start_of log v))
+
+-- one queue is another, or closed; it was and is under n
+abbrev At : ℕ → List (ℕ × PlainQueue) → List (ℕ × PlainQueue) → ℕ → Type 0
+At by new old k = GoesOn (queue_at k new) (queue_at k old) × ((j : ℕ) → j ≢ by → mine j (queue_at k old) ≡ mine j (queue_at k new))
+
+at_same : (by k : ℕ) (new old : List (ℕ × PlainQueue)) → queue_at k new ≡ queue_at k old → At by new old k
+at_same by k new old e = (subst (λ o. GoesOn o (queue_at k old)) (sym e) (goes_itself (queue_at k old)), λ j ne. ap (mine j) (sym e))
+
+at_moved : (by k : ℕ) (new old : List (ℕ × PlainQueue)) (w v : PlainQueue) → queue_at k old ≡ Some w → queue_at k new ≡ Some v → w.by ≡ by
+    → v.start ≡ w.start → w.taken ≤ v.taken → v.by ≡ w.by → At by new old k
+at_moved by k new old w v was is of start taken same = (
+  subst (λ o. GoesOn o (queue_at k old)) (sym is) (subst (λ o. GoesOn (Some v) o) (sym was) (start, taken, same)),
+  λ j ne. ap (mine j) was ∙ not_mine j w (λ e. ne (sym e ∙ of)) ∙ sym (not_mine j v (λ e. ne (sym e ∙ (same ∙ of)))) ∙ ap (mine j) (sym is),
+)
+
+at_closed : (by k : ℕ) (new old : List (ℕ × PlainQueue)) (w : PlainQueue) → queue_at k old ≡ Some w → queue_at k new ≡ None → w.by ≡ by → At by new old k
+at_closed by k new old w was is of =
+    (subst (λ o. GoesOn o (queue_at k old)) (sym is) tt, λ j ne. ap (mine j) was ∙ not_mine j w (λ e. ne (sym e ∙ of)) ∙ ap (mine j) (sym is))
+
+taken_or : (log : List PlainEntry) (by k n max : ℕ) (qs : List (ℕ × PlainQueue)) → is_owned by n qs ≡ true → ((nat_eq k n ≡ true) × (k ≡ n)) ⊎ ((nat_eq k n ≡ false) × (k ≡ n → ⊥)) → At by (after_take log n max qs) qs k
+taken_or log by k n max qs owned (inl t) =
+    let o = owned_by by (queue_at n qs) owned in
+    subst (λ x. At by (after_take log n max qs) qs x) (sym t.1)
+    (at_moved by n (after_take log n max qs) qs o.0 (moved log max o.0) o.1.0 (after_take_at log n max o.0 qs o.1.0) o.1.1 refl (omega arith) refl)
+taken_or log by k n max qs owned (inr f) = at_same by k (after_take log n max qs) qs (after_take_other log k n max qs f.1)
+
+after_or : (b : Bool) (log : List PlainEntry) (by k n max : ℕ) (qs : List (ℕ × PlainQueue)) → is_owned by n qs ≡ b → At by (cond b (after_take log n max qs) qs) qs k
+after_or true log by k n max qs owned = taken_or log by k n max qs owned (eqb_tells k n)
+after_or false log by k n max qs owned = at_same by k qs qs refl
+
+moves_takes : (log : List PlainEntry) (by n max : ℕ) (q : PlainQueues) (o : Option (Option (List PlainEntry))) (new : PlainQueues) → Takes log by n max q o new → Moves by new q
+moves_takes log by n max q None new h = subst (λ x. Moves by x q) (sym h.0) (moves_itself by q)
+moves_takes log by n max q (Some r) new h =
+    let at : (k : ℕ) → At by (after_take_by log by n max q.queues) q.queues k = λ k. after_or (is_owned by n q.queues) log by k n max q.queues refl in
+    subst (λ x. Moves by x q) (sym h.1) (record { goes = record { given = omega arith; each = λ k l. (at k).0 }; others = λ j ne i. (at i).1 j ne })
+
+closed_or : (by k n : ℕ) (qs : List (ℕ × PlainQueue)) → is_owned by n qs ≡ true → queue_at n (without n qs) ≡ None
+    → ((nat_eq k n ≡ true) × (k ≡ n)) ⊎ ((nat_eq k n ≡ false) × (k ≡ n → ⊥)) → At by (without n qs) qs k
+closed_or by k n qs owned gone (inl t) =
+    let o = owned_by by (queue_at n qs) owned in
+    subst (λ x. At by (without n qs) qs x) (sym t.1) (at_closed by n (without n qs) qs o.0 o.1.0 gone o.1.1)
+closed_or by k n qs owned gone (inr f) = at_same by k (without n qs) qs (without_other k n qs f.1)
+
+without_or : (b : Bool) (by k n : ℕ) (qs : List (ℕ × PlainQueue)) → is_owned by n qs ≡ b → (is_owned by n qs ≡ true → queue_at n (cond b (without n qs) qs) ≡ None) → At by (cond b (without n qs) qs) qs k
+without_or true by k n qs owned gone = closed_or by k n qs owned (gone owned) (eqb_tells k n)
+without_or false by k n qs owned gone = at_same by k qs qs refl
+
+moves_closed : (by n : ℕ) (q new : PlainQueues) → (is_owned by n q.queues ≡ true → queue_at n new.queues ≡ None) → new ≡ closed by n q → Moves by new q
+moves_closed by n q new gone e =
+    let at : (k : ℕ) → At by (without_by by n q.queues) q.queues k =
+    λ k. without_or (is_owned by n q.queues) by k n q.queues refl (λ o. ap (λ x. queue_at n x.queues) (sym e) ∙ gone o) in
+    subst (λ x. Moves by x q) (sym e) (record { goes = record { given = omega arith; each = λ k l. (at k).0 }; others = λ j ne i. (at i).1 j ne })
+
+queues_grown : (n : ℕ) (m new : Machine) (k : PlainKey) (w : PlainQueues) → Moves n w (m.queues k) → new.queues ≡ with_queues m.queues k w → new.logs ≡ m.logs → Grown n m new
+queues_grown n m new k w moves queues logs =
+    let each : (q : PlainKey) → Moves n (new.queues q) (m.queues q) = at_each (Moves n) m.queues new.queues k w (moves_itself n) moves queues in
+    logs_same n m new (λ q. (each q).goes) (λ j ne q. (each q).others j ne) logs
+
+-- ---- every call
+
+pub acts_grown : (n : ℕ) (m : Machine) (k : PlainKey) (c : PlainCall) (a : AnswerTo c) (new : Machine) → Under n c → Acts n m k c a new → Grown n m new
+acts_grown n m k (look s) a new by h = same_grown n m new h.1
+acts_grown n m k (commit w) a new by h = commits_grown n m new k w a by h.1 h.0
+acts_grown n m k (commit_now s) a new by h = decides_grown n m new k s a by h.1 h.0
+acts_grown n m k present a new by h = same_grown n m new h.1
+acts_grown n m k fetch a new by h = same_grown n m new h.1
+acts_grown n m k (ops_from v) a new by h = same_grown n m new h.1
+acts_grown n m k (snapshot v) a new by h = same_grown n m new h.1
+acts_grown n m k forget a new by h = same_grown n m new h
+acts_grown n m k (subscribe v) a new by h =
+    queues_grown n m new k (new.queues k) (moves_subscribes (m.logs k) n v (m.queues k) a (new.queues k) h.0) h.1 h.2
+acts_grown n m k (take_next i max) a new by h =
+    queues_grown n m new k (new.queues k) (moves_takes (m.logs k) n i max (m.queues k) a (new.queues k) h.0) h.1 h.2
+acts_grown n m k (unsubscribe i) a new by h =
+    let here : new.queues k ≡ closed n i (m.queues k) = wrote_at m.queues new.queues k (closed n i (m.queues k)) h.0 in
+    queues_grown n m new k (closed n i (m.queues k))
+    (subst (λ x. Moves n x (m.queues k)) here (moves_closed n i (m.queues k) (new.queues k) h.1 here)) h.0 h.2
+
+-- ---- what a decision adds to what stands under its number
+
+mine_or : (b : Bool) (n : ℕ) (e : PlainEntry) (l : List PlainEntry) → nat_eq e.arrived.by n ≡ b → e.arrived.by ≡ n → cond b (e ∷ l) l ≡ e ∷ l
+mine_or true n e l is by = refl
+mine_or false n e l is by = let x : nat_eq e.arrived.by n ≡ true = eq-eqb e.arrived.by n by in cc
+
+pub stored_mine : (n : ℕ) (es : List PlainEntry) (e : PlainEntry) → e.arrived.by ≡ n → stored_by n (es ++ e ∷ []) ≡ stored_by n es ++ e ∷ []
+stored_mine n [] e by = mine_or (nat_eq e.arrived.by n) n e [] refl by
+stored_mine n (x ∷ es) e by = before (nat_eq x.arrived.by n) x (stored_mine n es e by) where
+  before : (b : Bool) (x : PlainEntry) → stored_by n (es ++ e ∷ []) ≡ stored_by n es ++ e ∷ []
+      → cond b (x ∷ stored_by n (es ++ e ∷ [])) (stored_by n (es ++ e ∷ [])) ≡ cond b (x ∷ stored_by n es) (stored_by n es) ++ e ∷ []
+  before true x h = ap (λ l. x ∷ l) h
+  before false x h = h
+
+cond_map : {A B : Type 0} (f : A → B) (b : Bool) (x y : A) (z : B) → f x ≡ z → f (cond b x y) ≡ cond b z (f y)
+cond_map f true x y z e = e
+cond_map f false x y z e = refl
+
+isnt_stored : (k : PlainKey) (s : PlainSubmission) (r : PlainReply) (old new : Part) → (IsStored r → ⊥) → new ≡ old → AddsTo k s r old new
+isnt_stored k s (stored v es) old new isnt e = absurd (isnt tt)
+isnt_stored k s (repeated v) old new isnt e = e
+isnt_stored k s (refused code) old new isnt e = e
+
+-- the entries that a decision leaves under its number, and no queue is another
+own_adds : (n : ℕ) (m new : Machine) (k : PlainKey) (s : PlainSubmission) (d : Decided) → s.by ≡ n → new.queues ≡ m.queues → new.logs ≡ with_log m.logs k d.log
+    → AddsOne (m.logs k) s d.reply d.log → AddsTo k s d.reply (own n m) (own n new)
+own_adds n m new k s d by queues logs (inl h) =
+    isnt_stored k s d.reply (own n m) (own n new) h.0
+    (sym (parts n m new
+    (λ q. sym (ap (λ f. stored_by n (f q)) logs ∙ cond_map (stored_by n) (same_key k q) d.log (m.logs q) (stored_by n (m.logs k)) (ap (stored_by n) h.1) ∙ back (same_key k q) q refl))
+    (others_same n m new queues))) where
+      back : (b : Bool) (q : PlainKey) → same_key k q ≡ b → cond b (stored_by n (m.logs k)) (stored_by n (m.logs q)) ≡ stored_by n (m.logs q)
+      back true q e = ap (λ x. stored_by n (m.logs x)) (equal_keys k q e)
+      back false q e = refl
+own_adds n m new k s d by queues logs (inr h) =
+    let e = entry_of (m.logs k) s h.0 in
+    subst (λ r. AddsTo k s r (own n m) (own n new)) (sym h.1) (
+      h.0,
+      λ x. record {
+        entries = λ q. (ap (λ f. stored_by n (f q)) logs
+            ∙ cond_map (stored_by n) (same_key k q) d.log (m.logs q) (stored_by n (m.logs k) ++ e ∷ []) (ap (stored_by n) h.2 ∙ stored_mine n (m.logs k) e by)) x;
+        queues = λ q i. mine n (queue_at i (queues x q).queues);
+      },
+    )
+
+pub decides_adds : (n : ℕ) (m new : Machine) (k : PlainKey) (s : PlainSubmission) (r : PlainReply) → s.by ≡ n → new.queues ≡ m.queues → Decides m.logs k s r new.logs
+    → AddsTo k s r (own n m) (own n new)
+decides_adds n m new k s r by queues (inl h) =
+    subst (λ r. AddsTo k s r (own n m) (own n new)) (sym h.0) (λ x. own n (record { logs = h.1 x; queues = queues x }))
+decides_adds n m new k s r by queues (inr h) =
+    subst (λ r. AddsTo k s r (own n m) (own n new)) (sym h.0)
+    (own_adds n m new k s (decide (m.logs k) s) by queues h.1 (decide_adds (m.logs k) s))

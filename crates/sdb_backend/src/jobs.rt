@@ -1,0 +1,224 @@
+//! The calls of the documents, as jobs under a lock. What each does is what the machine does at this call.
+ghost use Rattle.std.specs.Prelude.{◌≡◌};
+ghost use Rattle.sdb_oplog.specs.Keys.{plain_key};
+ghost use Rattle.sdb_desk.specs.ShardView.{machine_of, logs_of};
+ghost use Rattle.sdb_desk.specs.Looked.{IsLook};
+ghost use Rattle.sdb_desk.specs.View.{outcome_of, told_fetched, told_entries, told_subscribed, told_taken};
+ghost use Rattle.sdb_desk.specs.ReplyView.{plain_reply};
+ghost use Rattle.sdb_submit.specs.Calls.{Acts, told_look};
+ghost use Rattle.sdb_submit.specs.Calls as call;
+
+use crate::held::Held;
+use sdb_desk::{Decision, Fetched, Look as Shown, Reply, Subscribed, Work};
+use sdb_growlock::Job;
+use sdb_oplog::{Code, Entry, Key, Submission};
+use sdb_subscribe::SubId;
+use std::alloc::AllocError;
+
+pub(crate) struct Look<'a> {
+    pub(crate) key: &'a Key,
+    pub(crate) submission: &'a Submission,
+}
+
+impl<'a> Job<Held> for Look<'a> {
+    type Answer = Result<Shown, AllocError>;
+
+    ghost ready = { λ j n a. j.submission.now.by ≡ n };
+
+    ghost does = { λ j n a b r. Acts n (machine_of a.shard) (plain_key j.key.now)
+        (call.look j.submission.now) (told_look r) (machine_of b.shard) };
+
+    fn run(self, _number: u64, held: &mut Held) -> Result<Shown, AllocError> {
+        let Self { key, submission } = self;
+        held.shard.look(key, submission)
+    }
+}
+
+pub(crate) struct CommitNow<'a> {
+    pub(crate) key: &'a Key,
+    pub(crate) submission: &'a Submission,
+}
+
+impl<'a> Job<Held> for CommitNow<'a> {
+    type Answer = Reply;
+
+    ghost ready = { λ j n a. j.submission.now.by ≡ n };
+
+    ghost does = { λ j n a b r. Acts n (machine_of a.shard) (plain_key j.key.now)
+        (call.commit_now j.submission.now) (plain_reply r) (machine_of b.shard) };
+
+    fn run(self, _number: u64, held: &mut Held) -> Reply {
+        let Self { key, submission } = self;
+        held.shard.commit_now(key, submission)
+    }
+}
+
+pub(crate) struct Fetch<'a> {
+    pub(crate) key: &'a Key,
+}
+
+impl<'a> Job<Held> for Fetch<'a> {
+    type Answer = Result<Fetched, Code>;
+
+    ghost ready = { λ j n a. Unit {0} };
+
+    ghost does = { λ j n a b r. Acts n (machine_of a.shard) (plain_key j.key.now)
+        call.fetch (told_fetched r) (machine_of b.shard) };
+
+    fn run(self, _number: u64, held: &mut Held) -> Result<Fetched, Code> {
+        let Self { key } = self;
+        held.shard.fetch(key)
+    }
+}
+
+pub(crate) struct OpsFrom<'a> {
+    pub(crate) key: &'a Key,
+    pub(crate) version: u64,
+}
+
+impl<'a> Job<Held> for OpsFrom<'a> {
+    type Answer = Result<Vec<Entry>, Code>;
+
+    ghost ready = { λ j n a. Unit {0} };
+
+    ghost does = { λ j n a b r. Acts n (machine_of a.shard) (plain_key j.key.now)
+        (call.ops_from j.version) (told_entries r) (machine_of b.shard) };
+
+    fn run(self, _number: u64, held: &mut Held) -> Result<Vec<Entry>, Code> {
+        let Self { key, version } = self;
+        held.shard.ops_from(key, version)
+    }
+}
+
+pub(crate) struct SnapshotAt<'a> {
+    pub(crate) key: &'a Key,
+    pub(crate) version: Option<u64>,
+}
+
+impl<'a> Job<Held> for SnapshotAt<'a> {
+    type Answer = Result<Fetched, Code>;
+
+    ghost ready = { λ j n a. Unit {0} };
+
+    ghost does = { λ j n a b r. Acts n (machine_of a.shard) (plain_key j.key.now)
+        (call.snapshot j.version) (told_fetched r) (machine_of b.shard) };
+
+    fn run(self, _number: u64, held: &mut Held) -> Result<Fetched, Code> {
+        let Self { key, version } = self;
+        held.shard.snapshot_at(key, version)
+    }
+}
+
+pub(crate) struct Forget<'a> {
+    pub(crate) key: &'a Key,
+}
+
+impl<'a> Job<Held> for Forget<'a> {
+    type Answer = ();
+
+    ghost ready = { λ j n a. Unit {0} };
+
+    ghost does = { λ j n a b r. Acts n (machine_of a.shard) (plain_key j.key.now)
+        call.forget tt (machine_of b.shard) };
+
+    fn run(self, _number: u64, held: &mut Held) {
+        let Self { key } = self;
+        held.shard.forget(key)
+    }
+}
+
+pub(crate) struct Subscribe<'a> {
+    pub(crate) key: &'a Key,
+    pub(crate) version: Option<u64>,
+}
+
+impl<'a> Job<Held> for Subscribe<'a> {
+    type Answer = Result<Subscribed, Code>;
+
+    ghost ready = { λ j n a. Unit {0} };
+
+    ghost does = { λ j n a b r. Acts n (machine_of a.shard) (plain_key j.key.now)
+        (call.subscribe j.version) (told_subscribed r) (machine_of b.shard) };
+
+    fn run(self, number: u64, held: &mut Held) -> Result<Subscribed, Code> {
+        let Self { key, version } = self;
+        held.shard.subscribe(key, number, version)
+    }
+}
+
+pub(crate) struct Take<'a> {
+    pub(crate) key: &'a Key,
+    pub(crate) id: SubId,
+    pub(crate) max: u64,
+}
+
+impl<'a> Job<Held> for Take<'a> {
+    type Answer = Result<Option<Vec<Entry>>, AllocError>;
+
+    ghost ready = { λ j n a. Unit {0} };
+
+    ghost does = { λ j n a b r. Acts n (machine_of a.shard) (plain_key j.key.now)
+        (call.take_next j.id j.max) (told_taken r) (machine_of b.shard) };
+
+    fn run(self, number: u64, held: &mut Held) -> Result<Option<Vec<Entry>>, AllocError> {
+        let Self { key, id, max } = self;
+        held.shard.take(key, number, id, max)
+    }
+}
+
+pub(crate) struct Unsubscribe<'a> {
+    pub(crate) key: &'a Key,
+    pub(crate) id: SubId,
+}
+
+impl<'a> Job<Held> for Unsubscribe<'a> {
+    type Answer = ();
+
+    ghost ready = { λ j n a. Unit {0} };
+
+    ghost does = { λ j n a b r. Acts n (machine_of a.shard) (plain_key j.key.now)
+        (call.unsubscribe j.id) tt (machine_of b.shard) };
+
+    fn run(self, number: u64, held: &mut Held) {
+        let Self { key, id } = self;
+        held.shard.unsubscribe(key, number, id)
+    }
+}
+
+pub(crate) struct Commit<'a> {
+    pub(crate) key: &'a Key,
+    pub(crate) work: &'a Work,
+}
+
+impl<'a> Job<Held> for Commit<'a> {
+    type Answer = Decision;
+
+    ghost ready = { λ j n a. (j.work.now.submission.by ≡ n)
+        × IsLook (logs_of a.shard (plain_key j.key.now)) j.work.now };
+
+    ghost does = { λ j n a b r. Acts n (machine_of a.shard) (plain_key j.key.now)
+        (call.commit j.work.now) (outcome_of j.work.now r) (machine_of b.shard) };
+
+    fn run(self, _number: u64, held: &mut Held) -> Decision {
+        let Self { key, work } = self;
+        held.shard.decide(key, work)
+    }
+}
+
+pub(crate) struct Version<'a> {
+    pub(crate) key: &'a Key,
+}
+
+impl<'a> Job<Held> for Version<'a> {
+    type Answer = u64;
+
+    ghost ready = { λ j n a. Unit {0} };
+
+    ghost does = { λ j n a b r. Acts n (machine_of a.shard) (plain_key j.key.now)
+        call.present r (machine_of b.shard) };
+
+    fn run(self, _number: u64, held: &mut Held) -> u64 {
+        let Self { key } = self;
+        held.shard.version(key)
+    }
+}

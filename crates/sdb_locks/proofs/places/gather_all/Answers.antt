@@ -1,0 +1,52 @@
+use Rattle.std.proofs.Common.{◌≡◌, ℕ, ◌+◌, ◌<◌, ◌≤◌, ◌++◌, ◌∷◌, [], List, length, length-append, map, slice_index_or, Vec, vec_len, sym, ap, ◌∙◌, subst, arith}
+use Rattle.std.specs.Global.{Global}
+use Rattle.std.proofs.lemmas.List.{nil_from_length, map-append}
+use Rattle.sdb_growlock.specs.declared.parts.Seat.{Seat}
+use Rattle.sdb_locks.specs.declared.seats.Seats.{Seats}
+use Rattle.sdb_locks.specs.Laws.{some_of}
+use Rattle.sdb_locks.proofs.places.gather_all.Goals as goal
+
+pub loop-caller-init : goal.loop-caller-init
+loop-caller-init g c =
+    let old = c.args.columns.now.items in
+    let new = c.gather.new.columns.items in
+    let seats = c.args.first.seats.items in
+    let s = some_of seats 8 c.args.first.eight (omega arith) in
+    let one : (i : ℕ) (d : Vec (Seat g.row.T.Denot) Global) (s : Seat g.row.T.Denot) → i < 8 → (slice_index_or new i d).items ≡ slice_index_or seats i s ∷ [] = λ i d s lt.
+    c.gather.ensures.each i d s lt ∙ ap (λ (l : List (Seat g.row.T.Denot)). l ++ slice_index_or c.into_list.result.items i s ∷ []) (nil_from_length (slice_index_or old i d).items (sym (slice_index_or old i d).ok.0 ∙ (c.requires.room.1 i d lt).0))
+    ∙ ap (λ (v : Vec (Seat g.row.T.Denot) Global). slice_index_or v.items i s ∷ []) c.into_list.ensures in
+    record {
+      eight = c.gather.ensures.eight;
+      room = λ i d lt.
+          let long : vec_len (slice_index_or new i d) ≡ 1 = (slice_index_or new i d).ok.0 ∙ ap length (one i d s lt) in
+          let some = (c.requires.room.1 i d lt).1 in
+          let same = c.gather.ensures.capacity i d lt in
+          (long, omega (arith, some, same));
+      each = one;
+    }
+
+pub loop-caller-preserved : goal.loop-caller-preserved
+loop-caller-preserved g c =
+    let inv = c.loop-caller.invariant in
+    let old = c.loop-caller.columns.items in
+    let new = c.gather-in-loop-caller.new.columns.items in
+    let seats = c.in-Some.caller.seats.items in
+    let done = c.loop-caller.yielded in
+    let s = some_of seats 8 c.in-Some.caller.eight (omega arith) in
+    let more : (i : ℕ) (d : Vec (Seat g.row.T.Denot) Global) (s : Seat g.row.T.Denot) → i < 8 → (slice_index_or new i d).items ≡ (slice_index_or old i d).items ++ slice_index_or seats i s ∷ [] = λ i d s lt.
+    c.gather-in-loop-caller.ensures.each i d s lt ∙ ap (λ (v : Vec (Seat g.row.T.Denot) Global). (slice_index_or old i d).items ++ slice_index_or v.items i s ∷ []) c.into_list-in-loop-caller.ensures in
+    record {
+      eight = c.gather-in-loop-caller.ensures.eight;
+      room = λ i d lt.
+          let long : vec_len (slice_index_or new i d) ≡ vec_len (slice_index_or old i d) + 1 =
+          (slice_index_or new i d).ok.0 ∙ ap length (more i d s lt) ∙ length-append (slice_index_or old i d).items (slice_index_or seats i s ∷ []) ∙ ap (λ (n : ℕ). n + 1) (sym (slice_index_or old i d).ok.0) in
+          let h = (inv.room i d lt).0 in
+          let some = (inv.room i d lt).1 in
+          let same = c.gather-in-loop-caller.ensures.capacity i d lt in
+          let yielded : length (done ++ c.in-Some.caller ∷ []) ≡ length done + 1 = length-append done (c.in-Some.caller ∷ []) in
+          (omega (arith, long, h, yielded), omega (arith, some, same));
+      each = λ i d s lt.
+          let f : Seats g.row.T.Denot → Seat g.row.T.Denot = λ c. slice_index_or c.seats.items i s in
+          more i d s lt ∙ ap (λ (l : List (Seat g.row.T.Denot)). l ++ slice_index_or seats i s ∷ []) (inv.each i d s lt)
+          ∙ ap (λ (l : List (Seat g.row.T.Denot)). slice_index_or c.args.first.seats.items i s ∷ l) (sym (map-append f done (c.in-Some.caller ∷ [])));
+    }

@@ -1,0 +1,5 @@
+pub mod Closed
+pub mod Each
+pub mod Laws
+pub mod Rooms
+pub mod Words

@@ -1,0 +1,94 @@
+-- Looks that stay looks while logs grow.
+use Rattle.std.proofs.Common.{◌≡◌, ℕ, zero, suc, ◌<◌, ◌++◌, List, [], ◌∷◌, length, get_or, slice_get, Option, Some, None, inl, inr, refl, sym, ap, ◌∙◌, subst}
+use Rattle.std.specs.List.{slice_set}
+use Rattle.std.proofs.lemmas.Option.{slice_get_read}
+use Rattle.sdb_oplog.specs.declared.codes.Code.TheVariants.{E10}
+use Rattle.sdb_oplog.specs.Plain.{PlainEntry, PlainSubmission}
+use Rattle.sdb_oplog.specs.Keys.{PlainKey, Logs}
+use Rattle.sdb_oplog.specs.Decide.{PlainReply, refused}
+use Rattle.sdb_oplog.specs.Laws.{decides_never_wanting}
+use Rattle.sdb_desk.specs.Looked.{IsLook, look_now, look_later}
+use Rattle.sdb_desk.specs.Machine.{PlainAttempt, PlainLook, look_at, decided, moved, Commits, Decides}
+use Rattle.sdb_submit.specs.Laws.{moved_looked, wanting_unchanged}
+use Rattle.sdb_steps.specs.OneStep.{OneStep, next}
+use Rattle.sdb_steps.specs.Picks as plain
+use Rattle.sdb_steps.specs.Picks.{Act, Answer, Effect, event, notice, replied, said, no_memory, effect}
+use Rattle.sdb_steps.specs.Dispatch.{Follows, Dispatches}
+use Rattle.sdb_steps.specs.Looking.{IsLooked, IsLookedIn, AllLooked}
+use Rattle.sdb_steps.specs.declared.session_state.OpenAttempt.{OpenAttempt}
+use Rattle.sdb_steps.specs.declared.session_state.Session.{Session}
+use Rattle.sdb_steps.proofs.Growing.{Grows, grows_next, same_log}
+
+-- ---- one attempt
+
+pub looked_opened : (logs : Logs) (k j : PlainKey) (s : PlainSubmission) (l : PlainLook) → j ≡ k → l ≡ look_at (logs k) s → IsLook (logs j) (record { submission = s; look = l })
+looked_opened logs k j s l e is =
+    subst (λ (x : PlainKey). IsLook (logs x) (record { submission = s; look = l })) (sym e)
+    (subst (λ (x : PlainLook). IsLook (logs k) (record { submission = s; look = x })) (sym is) (look_now (logs k) s))
+
+stays : (logs new : Logs) (k : PlainKey) (a w : PlainAttempt) → new ≡ logs → a ≡ w → IsLook (logs k) w → IsLook (new k) a
+stays logs new k a w same is h = subst (λ (f : Logs). IsLook (f k) a) (sym same) (subst (λ (x : PlainAttempt). IsLook (logs k) x) (sym is) h)
+
+pub looked_wanting : (logs new : Logs) (k : PlainKey) (a w : PlainAttempt) (r : PlainReply) → r ≡ refused E10 → Commits logs k w (decided r) new → a ≡ w → IsLook (logs k) w → IsLook (new k) a
+looked_wanting logs new k a w r e h is look =
+    stays logs new k a w (wanting_unchanged logs new k w (subst (λ (x : PlainReply). Commits logs k w (decided x) new) e h)) is look
+
+pub looked_moved : (logs new : Logs) (k : PlainKey) (a w : PlainAttempt) (l : PlainLook) → Commits logs k w (moved l) new → a ≡ record { submission = w.submission; look = l } → IsLook (new k) a
+looked_moved logs new k a w l h is = subst (λ (x : PlainAttempt). IsLook (new k) x) (sym is) (moved_looked logs new k w (moved l) h)
+
+now_unchanged : (logs new : Logs) (k : PlainKey) (s : PlainSubmission) (r : PlainReply) → r ≡ refused E10 → Decides logs k s r new → new ≡ logs
+now_unchanged logs new k s r e (inl h) = h.1
+now_unchanged logs new k s r e (inr h) = absurd (decides_never_wanting (logs k) s (sym h.0 ∙ e))
+
+pub looked_now_wanting : (logs new : Logs) (k : PlainKey) (a : PlainAttempt) (s : PlainSubmission) (r : PlainReply) → r ≡ refused E10 → Decides logs k s r new → IsLook (logs k) a → IsLook (new k) a
+looked_now_wanting logs new k a s r e h look = stays logs new k a a (now_unchanged logs new k s r e h) refl look
+
+-- ---- all sessions
+
+abbrev Grow : Logs → Logs → Type 0
+Grow logs new = (k : PlainKey) → Grows (logs k) (new k)
+
+grown_look : (log new : List PlainEntry) (a : PlainAttempt) → Grows log new → IsLook log a → IsLook new a
+grown_look log new a g h = subst (λ (l : List PlainEntry). IsLook l a) (sym g.is) (look_later log g.more a h)
+
+grown_attempt : (logs new : Logs) (o : Option OpenAttempt) → Grow logs new → IsLooked logs o → IsLooked new o
+grown_attempt logs new None g h = tt
+grown_attempt logs new (Some t) g h = grown_look _ _ _ (g _) h
+
+grown_in : (logs new : Logs) (o : Option Session) → Grow logs new → IsLookedIn logs o → IsLookedIn new o
+grown_in logs new None g h = tt
+grown_in logs new (Some x) g h = grown_attempt logs new x.attempt g h
+
+put_in : (logs : Logs) (xs : List Session) (i j : ℕ) (y : Session) → IsLooked logs y.attempt → AllLooked logs xs → IsLookedIn logs (slice_get (slice_set xs i y) j)
+put_in logs [] i j y h all = all j
+put_in logs (x ∷ xs) zero zero y h all = h
+put_in logs (x ∷ xs) zero (suc j) y h all = all (suc j)
+put_in logs (x ∷ xs) (suc i) zero y h all = all zero
+put_in logs (x ∷ xs) (suc i) (suc j) y h all = put_in logs xs i j y h (λ k. all (suc k))
+
+-- one session takes a step, and the others stay
+pub looked_set : (logs new : Logs) (xs : List Session) (i : ℕ) (y : Session) → Grow logs new → AllLooked logs xs → IsLooked new y.attempt → AllLooked new (slice_set xs i y)
+looked_set logs new xs i y g all h j = put_in new xs i j y h (λ k. grown_in logs new (slice_get xs k) g (all k))
+
+pub looked_read : (logs : Logs) (xs : List Session) (i : ℕ) (x : Session) → i < length xs → x ≡ get_or xs i x → AllLooked logs xs → IsLooked logs x.attempt
+looked_read logs xs i x within is all = subst (λ (o : Option Session). IsLookedIn logs o) (slice_get_read xs (length xs) i x refl within is) (all i)
+
+pub looked_none : (logs : Logs) (o : Option OpenAttempt) → o ≡ None → IsLooked logs o
+looked_none logs o e = subst (λ (p : Option OpenAttempt). IsLooked logs p) (sym e) tt
+
+pub looked_more : (logs : Logs) (xs : List Session) (x : Session) → IsLooked logs x.attempt → AllLooked logs xs → AllLooked logs (xs ++ x ∷ [])
+looked_more logs [] x h all zero = h
+looked_more logs [] x h all (suc n) = tt
+looked_more logs (y ∷ xs) x h all zero = all zero
+looked_more logs (y ∷ xs) x h all (suc n) = looked_more logs xs x h (λ m. all (suc m)) n
+
+-- ---- a step lets logs grow
+
+grows_effect : (m n : OneStep) (d : Effect) (a : Answer) (x : plain.Session) (k : PlainKey) → Follows m d a n x → Grows (m.logs k) (n.logs k)
+grows_effect m n (event e y) a x k h = subst (λ (o : OneStep). Grows (m.logs k) (o.logs k)) (sym h.1) (grows_next m e k)
+grows_effect m n (notice b y) a x k h = subst (λ (o : OneStep). Grows (m.logs k) (o.logs k)) (sym h.1) (same_log (m.logs k))
+
+pub grows_dispatched : (i : ℕ) (m n : OneStep) (x y : plain.Session) (act : Act) (a : Answer) → Dispatches i m x act a n y → (k : PlainKey) → Grows (m.logs k) (n.logs k)
+grows_dispatched i m n x y act (replied r) h k = grows_effect m n (effect m i x act) (replied r) y k h
+grows_dispatched i m n x y act (said b) h k = grows_effect m n (effect m i x act) (said b) y k h
+grows_dispatched i m n x y act no_memory h k = subst (λ (o : OneStep). Grows (m.logs k) (o.logs k)) (sym h.1) (same_log (m.logs k))

@@ -1,0 +1,34 @@
+-- What is said of looks has one proof.
+use Rattle.std.specs.Prelude.{◌≡◌, ℕ, List, Option, Some, None, slice_get, refl}
+use Rattle.std.specs.Coded.{Coded, Coded-set, code_by, coded×, coded_ℕ, coded_option, Π_prop, Unit-prop, le_prop}
+use Rattle.sdb_oplog.specs.Coding.{log_code}
+use Rattle.sdb_oplog.specs.Keys.{Logs, plain_key}
+use Rattle.sdb_oplog.specs.Plain.{PlainEntry}
+use Rattle.sdb_desk.specs.Looked.{IsLook}
+use Rattle.sdb_desk.specs.Machine.{PlainAttempt, PlainLook}
+use Rattle.sdb_steps.specs.Looking.{attempt_in, IsLooked, IsLookedIn, AllLooked}
+use Rattle.sdb_steps.specs.declared.session_state.OpenAttempt.{OpenAttempt}
+use Rattle.sdb_steps.specs.declared.session_state.Session.{Session}
+
+look_code : Coded PlainLook
+look_code =
+    code_by ((ℕ × Option ℕ) × List PlainEntry) (coded× (coded× coded_ℕ (coded_option coded_ℕ)) log_code)
+    (λ l. ((l.version, l.repeat), l.missed))
+    (λ p. record { version = p.0.0; repeat = p.0.1; missed = p.1 }) (λ _. refl)
+
+IsLook-prop : (log : List PlainEntry) (a : PlainAttempt) → IsProp (IsLook log a)
+IsLook-prop log a x y = λ i. record {
+  within = le_prop x.within y.within i;
+  is = Coded-set look_code _ _ x.is y.is i;
+}
+
+IsLooked-prop : (logs : Logs) (o : Option OpenAttempt) → IsProp (IsLooked logs o)
+IsLooked-prop logs None = Unit-prop
+IsLooked-prop logs (Some t) = IsLook-prop (logs (plain_key t.key)) (attempt_in t.phase)
+
+IsLookedIn-prop : (logs : Logs) (o : Option Session) → IsProp (IsLookedIn logs o)
+IsLookedIn-prop logs None = Unit-prop
+IsLookedIn-prop logs (Some x) = IsLooked-prop logs x.attempt
+
+pub AllLooked-prop : (logs : Logs) (sessions : List Session) → IsProp (AllLooked logs sessions)
+AllLooked-prop logs sessions = Π_prop λ i. IsLookedIn-prop logs (slice_get sessions i)
