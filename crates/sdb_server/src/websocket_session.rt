@@ -275,7 +275,7 @@ impl<R: Wait + Drop, S: Read + Write + Drop> Client<'_, R, S> {
 
     // Closes the queues of the session, and gives the pass back.
     fn leave(self) -> Pass
-        requires { IsPass self.entry.pass self.entry.backend.now }
+        requires { IsPass self.pass self.backend.now }
         ensures pass { IsPass result self.entry.backend.now }
         ensures number { number_of result ≡ number_of self.entry.pass }
     {
