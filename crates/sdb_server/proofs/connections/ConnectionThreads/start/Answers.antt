@@ -1,5 +1,6 @@
 use denote.Param.Send.{sendable}
 use Rattle.std.proofs.Crossing.{crosses}
+use Rattle.sdb_backend.proofs.Crossing.{Pass-send}
 use Rattle.sdb_server.proofs.Crossing.{ServerState-send, ServerState-sync}
 use Rattle.sdb_server.proofs.connections.ConnectionThreads.start.Goals as goal
 
@@ -7,4 +8,4 @@ pub spawn-requires-send-F : goal.spawn-requires-send-F
 spawn-requires-send-F g c κs within =
     let send = c.type_bounds.send-R in
     let sync = c.type_bounds.sync-R in
-    search (ServerState-send, ServerState-sync, sendable, crosses) depth 40
+    search (ServerState-send, ServerState-sync, Pass-send, sendable, crosses) depth 40
