@@ -1,5 +1,5 @@
 //! The documents that many threads share.
-ghost use Rattle.std.specs.Prelude.{◌≡◌, ◌≢◌, ◌+◌, ◌≤◌, length, vec_len, vec_capacity, IfErr, IfOk, OnErr, OnOk};
+ghost use Rattle.std.specs.Prelude.{◌≡◌, ◌≢◌, ◌+◌, ◌<◌, ◌≤◌, length, vec_len, vec_capacity, IfErr, IfOk, OnErr, OnOk};
 ghost use Rattle.std.specs.List.Sorted.{IsPermutation};
 ghost use Rattle.sdb_growlock.specs.Rule.{Each};
 ghost use Rattle.sdb_locks.specs.Rooms.{HasRoom};
@@ -71,6 +71,7 @@ impl<R: Wait + Drop> Backend<R> {
         ensures pass { IfOk result (λ p. IsPass p self.now × (number_of p ≡ next_of host.old)) }
         ensures new { IfOk result (λ p. IsNew p) }
         ensures next { OnOk result (next_of host.new ≡ next_of host.old + 1) }
+        ensures few { OnOk result (next_of host.old < u64.MAX) }
         ensures full { IfErr result (λ code. code ≡ E11 → next_of host.old ≡ u64.MAX) }
         ensures memory { IfErr result (λ code. code ≢ E11 → (code ≡ E10) × (next_of host.old ≢ u64.MAX)) }
         ensures same { OnErr result (host.new ≡ host.old) }

@@ -86,6 +86,7 @@ impl<T: Grows> Locks<T> {
         ensures own { AreFirst first.new self.now }
         ensures given { IfOk result (λ s. AreOf s self.now × (number s ≡ next first.old)) }
         ensures next { IfOk result (λ s. next first.new ≡ next first.old + 1) }
+        ensures few { IfOk result (λ s. next first.old < u64.MAX) }
         ensures seen { IfOk result (λ s. (i : ℕ) → i < 8 → (x : T) × FirstHaveSeen first.old i x
             × FirstHaveSeen first.new i x × HaveSeen s i x × T.blank (number s) x) }
         ensures same { OnErr result (first.new ≡ first.old) }

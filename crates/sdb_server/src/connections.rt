@@ -215,26 +215,31 @@ impl ConnectionThreads {
             state.slots.lock(&rt).give_back(slot);
             return false;
         };
-        let pass = match slot {
-            Slot::Client(_) => self.admit(&state.backend, host),
-            Slot::Rejected => None,
-        };
+        let pass = self.admit(state, slot, host);
         if !self.start(rt, alloc, state, slot, stream, pass) {
             state.slots.lock(&rt).give_back(slot);
         }
         true
     }
 
-    // A pass for one client more, where the backend has one.
-    fn admit<R: Wait + Drop>(&mut self, backend: &Backend<R>, host: &mut Host) -> Option<Pass>
+    // A pass for one client more, where the slot is a client's and the backend has one.
+    fn admit<R: Wait + Drop>(
+        &mut self,
+        state: &ServerState<R>,
+        slot: Slot,
+        host: &mut Host,
+    ) -> Option<Pass>
         requires few { self.old.entered ≤ next_of host.old }
-        requires host { IsHost host.old backend.now }
-        ensures host { IsHost host.new backend.now }
-        ensures pass { IfSome result (λ p. IsPass p backend.now) }
+        requires host { IsHostOf host.old state.now }
+        ensures host { IsHostOf host.new state.now }
+        ensures pass { IfSome result (λ p. IsPass p state.now.backend) }
         ensures counted { self.new.entered + next_of host.old ≡ self.old.entered + next_of host.new }
         ensures let_in { self.old.entered ≤ self.new.entered }
     {
-        let Ok(pass) = backend.enter(host) else {
+        let Slot::Client(_) = slot else {
+            return None;
+        };
+        let Ok(pass) = state.backend.enter(host) else {
             return None;
         };
         self.entered += 1;

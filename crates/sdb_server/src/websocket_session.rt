@@ -174,17 +174,20 @@ impl<R: Wait + Drop, S: Read + Write + Drop> Client<'_, R, S> {
         requires { IsPass self.old.pass self.old.backend.now }
         ensures { KeepsPass self.old.backend.now self.old.pass self.new.backend.now self.new.pass }
     {
-        let mut texts = Vec::new(self.alloc);
         match incoming {
             Incoming::Text(text) => {
-                texts = self
+                let texts = self
                     .session
                     .handle(self.backend, &mut self.pass, self.table, text.as_str())?;
+                self.say_all(texts)
             }
-            Incoming::Binary => self.session.refuse_to(&mut texts)?,
-            Incoming::Control | Incoming::Silence => {}
+            Incoming::Binary => {
+                let mut texts = Vec::new(self.alloc);
+                self.session.refuse_to(&mut texts)?;
+                self.say_all(texts)
+            }
+            Incoming::Control | Incoming::Silence => Ok(()),
         }
-        self.say_all(texts)
     }
 
     // Sends what was stored meanwhile.
@@ -275,7 +278,7 @@ impl<R: Wait + Drop, S: Read + Write + Drop> Client<'_, R, S> {
 
     // Closes the queues of the session, and gives the pass back.
     fn leave(self) -> Pass
-        requires { IsPass self.entry.pass self.entry.backend.now }
+        requires { IsPass self.pass self.backend.now }
         ensures pass { IsPass result self.entry.backend.now }
         ensures number { number_of result ≡ number_of self.entry.pass }
     {

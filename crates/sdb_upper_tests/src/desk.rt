@@ -1,7 +1,8 @@
 //! `sdb_desk`: looks, works, commits and reads.
 ghost use Rattle.std.specs.Prelude.{◌≡◌, IfOk, OnOk};
+ghost use Rattle.sdb_oplog.specs.Keys.{plain_key};
 ghost use Rattle.sdb_desk.specs.View.{plain_attempt};
-ghost use Rattle.sdb_upper_tests.specs.Boards.{IsSeen, StaySeen};
+ghost use Rattle.sdb_upper_tests.specs.Seen.{IsSeen, StaySeen};
 
 use sdb_component::{Act, Component, Op};
 use sdb_desk::{Attempt, Look, Outcome, Reply, Shard, Subscribed, Work};
@@ -77,7 +78,7 @@ impl Board {
 
     // Stores the submission.
     pub(crate) fn put(&mut self, submission: Submission) -> Result<(), Fail>
-        ensures { StaySeen self.old self.new }
+        ensures { StaySeen (plain_key self.old.key) self.old.shard (plain_key self.new.key) self.new.shard }
     {
         match stored(&self.commit_now(submission)) {
             Some(_) => Ok(()),
@@ -92,7 +93,7 @@ impl Board {
 
     // Stores an edit by the source, made at what is there now.
     fn put_edit(&mut self, src: &str, amount: i64) -> Result<(), Fail>
-        ensures { OnOk result (StaySeen self.old self.new) }
+        ensures { OnOk result (StaySeen (plain_key self.old.key) self.old.shard (plain_key self.new.key) self.new.shard) }
     {
         self.put(self.edit(src, None, amount)?)
     }
@@ -106,7 +107,7 @@ impl Board {
 
     // The submission, with a look at the document.
     pub(crate) fn attempt(&self, submission: Submission) -> Result<Attempt, Fail>
-        ensures seen { IfOk result (λ a. IsSeen self.now (plain_attempt a)) }
+        ensures seen { IfOk result (λ a. IsSeen (plain_key self.now.key) self.now.shard (plain_attempt a)) }
         ensures submission { IfOk result (λ a. a.submission ≡ submission) }
     {
         let look = self.shard.look(&self.key, &submission)?;
@@ -115,26 +116,26 @@ impl Board {
 
     // An edit by the source, made at the version, with a look at what is there now.
     fn attempt_edit(&self, src: &str, version: u64, amount: i64) -> Result<Attempt, Fail>
-        ensures { IfOk result (λ a. IsSeen self.now (plain_attempt a)) }
+        ensures { IfOk result (λ a. IsSeen (plain_key self.now.key) self.now.shard (plain_attempt a)) }
     {
         self.attempt(self.edit(src, Some(version), amount)?)
     }
 
     // The same, worked.
     fn work(&self, src: &str, version: u64, amount: i64) -> Result<Work, Fail>
-        ensures { IfOk result (λ w. IsSeen self.now w) }
+        ensures { IfOk result (λ w. IsSeen (plain_key self.now.key) self.now.shard w) }
     {
         worked(self.alloc, self.attempt_edit(src, version, amount)?)
     }
 
     fn commit_now(&mut self, submission: Submission) -> Reply
-        ensures { StaySeen self.old self.new }
+        ensures { StaySeen (plain_key self.old.key) self.old.shard (plain_key self.new.key) self.new.shard }
     {
         self.shard.commit_now(&self.key, &submission)
     }
 
     fn commit(&mut self, mut work: Work) -> Outcome
-        requires { IsSeen self.old work }
+        requires { IsSeen (plain_key self.old.key) self.old.shard work }
     {
         self.shard.commit(&self.key, &mut work)
     }
@@ -239,7 +240,7 @@ fn an_attempt_is_worked_and_given_back(rt: HostRuntime) -> Result<(), Fail> {
 
 // A delete made at version 1, where nothing is missed.
 fn deleting(board: &Board) -> Result<Work, Fail>
-    ensures { IfOk result (λ w. IsSeen board.now w) }
+    ensures { IfOk result (λ w. IsSeen (plain_key board.now.key) board.now.shard w) }
 {
     let submission = from(board.alloc, "x", Some(1), Content::delete())?;
     let attempt = board.attempt(submission)?;

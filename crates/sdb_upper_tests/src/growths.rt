@@ -1,7 +1,8 @@
 //! Calls that find no memory: all is as before, and the same call with memory answers. Run as they stand,
 //! these tests find memory at once; `tests/growths.py` refuses each allocation of each in turn.
 ghost use Rattle.std.specs.Prelude.{IfNone, IfOk, OnOk};
-ghost use Rattle.sdb_upper_tests.specs.Boards.{IsSeen, StaySeen};
+ghost use Rattle.sdb_oplog.specs.Keys.{plain_key};
+ghost use Rattle.sdb_upper_tests.specs.Seen.{IsSeen, StaySeen};
 
 use crate::desk::{Board, editing, from, stored, worked};
 use crate::projection::titles;
@@ -45,7 +46,7 @@ fn full(alloc: Global) -> Result<Board, Fail> {
 
 // The submission, worked on what is there now.
 fn work_on(board: &Board, submission: Submission) -> Result<Work, Fail>
-    ensures { IfOk result (λ w. IsSeen board.now w) }
+    ensures { IfOk result (λ w. IsSeen (plain_key board.now.key) board.now.shard w) }
 {
     worked(board.alloc, board.attempt(submission)?)
 }
@@ -65,8 +66,8 @@ fn count(document: Option<&Json>) -> Option<usize> {
 
 // The version that is stored at or shown, and how many entries were missed. None for want of memory.
 fn commit(board: &mut Board, work: &mut Work) -> Option<(u64, usize)>
-    requires { IsSeen board.old work.old }
-    ensures { IfNone result (IsSeen board.new work.new) }
+    requires { IsSeen (plain_key board.old.key) board.old.shard work.old }
+    ensures { IfNone result (IsSeen (plain_key board.new.key) board.new.shard work.new) }
 {
     match board.shard.commit(&board.key, work) {
         Outcome::Decided(Reply::Stored { v, missed }) => Some((v, missed.len())),
@@ -81,7 +82,7 @@ fn commit_now(board: &mut Board, submission: &Submission) -> Option<(u64, usize)
 
 // Commits, and once more where there was no memory: what was answered, if all was as before then.
 fn commit_again(board: &mut Board, work: &mut Work) -> Result<Option<(u64, usize)>, Fail>
-    requires { IsSeen board.old work.old }
+    requires { IsSeen (plain_key board.old.key) board.old.shard work.old }
 {
     let (before, missed) = (present(board)?, work.missed().len());
     mark(board.alloc)?;
@@ -119,7 +120,7 @@ type Ending = ((u64, usize), (u64, Option<usize>));
 
 // Whether a commit of the work ends so.
 fn commits(board: &mut Board, work: &mut Work, ending: Ending) -> Result<bool, Fail>
-    requires { IsSeen board.old work.old }
+    requires { IsSeen (plain_key board.old.key) board.old.shard work.old }
 {
     Ok(commit_again(board, work)? == Some(ending.0) && present(board)? == ending.1)
 }
@@ -131,28 +132,28 @@ fn commits_now(board: &mut Board, submission: &Submission, ending: Ending) -> Re
 
 // Makes the document, worked on what is there now.
 fn first_work(board: &Board) -> Result<Work, Fail>
-    ensures { IfOk result (λ w. IsSeen board.now w) }
+    ensures { IfOk result (λ w. IsSeen (plain_key board.now.key) board.now.shard w) }
 {
     work_on(board, creating(board.alloc, "x")?)
 }
 
 // An edit made one version ago, worked on what is there now.
 fn late_work(board: &Board) -> Result<Work, Fail>
-    ensures { IfOk result (λ w. IsSeen board.now w) }
+    ensures { IfOk result (λ w. IsSeen (plain_key board.now.key) board.now.shard w) }
 {
     work_on(board, adding(board.alloc, "x", Some(3))?)
 }
 
 // Stores one more edit.
 fn put_another(board: &mut Board) -> Result<(), Fail>
-    ensures { OnOk result (StaySeen board.old board.new) }
+    ensures { OnOk result (StaySeen (plain_key board.old.key) board.old.shard (plain_key board.new.key) board.new.shard) }
 {
     board.put(adding(board.alloc, "y", None)?)
 }
 
 // The same late edit, after which another is stored.
 fn overtaken_work(board: &mut Board) -> Result<Work, Fail>
-    ensures { IfOk result (λ w. IsSeen board.new w) }
+    ensures { IfOk result (λ w. IsSeen (plain_key board.new.key) board.new.shard w) }
 {
     let work = late_work(board)?;
     put_another(board)?;

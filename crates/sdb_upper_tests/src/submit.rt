@@ -5,6 +5,8 @@ ghost use Rattle.sdb_desk.specs.Looked.{IsLook};
 ghost use Rattle.sdb_desk.specs.ShardView.{machine_of, logs_of};
 ghost use Rattle.sdb_desk.specs.Machine.{Queued};
 ghost use Rattle.sdb_submit.specs.Calls.{Acts};
+ghost use Rattle.sdb_oplog.specs.Keys.{plain_key};
+ghost use Rattle.sdb_upper_tests.specs.Seen.{StaySeen};
 
 use crate::desk::{editing, number, stored, whole};
 use sdb_component::{Act, Component};
@@ -50,6 +52,17 @@ struct Shared {
 #[derive(Drop)]
 struct Meddling;
 
+impl Shared {
+    // What another one stores.
+    fn meddle(&mut self, key: &Key)
+        ensures { StaySeen (plain_key key.now) self.old.shard (plain_key key.now) self.new.shard }
+    {
+        if let Some(other) = self.others.pop() {
+            let _ = self.shard.commit_now(key, &other);
+        }
+    }
+}
+
 impl Desk for Meddling {
     type Pass = Shared;
 
@@ -73,9 +86,7 @@ impl Desk for Meddling {
     }
 
     fn commit(&self, pass: &mut Shared, key: &Key, work: &mut Work) -> Outcome {
-        if let Some(other) = pass.others.pop() {
-            let _ = pass.shard.commit_now(key, &other);
-        }
+        pass.meddle(key);
         pass.shard.commit(key, work)
     }
 

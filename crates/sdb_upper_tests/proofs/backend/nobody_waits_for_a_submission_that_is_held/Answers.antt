@@ -1,12 +1,12 @@
 use denote.Param.Send.{sendable}
 use Rattle.std.proofs.Crossing.{crosses}
 use Rattle.std.proofs.MapsCrossing as maps
-use Rattle.sdb_backend.proofs.Crossing.{Backend-sync, Submission-sync}
+use Rattle.sdb_backend.proofs.Crossing.{Pass-send, Backend-sync, Submission-sync}
 use Rattle.sdb_backend.proofs.Handing.{Key-sync, Reply-send}
 use Rattle.sdb_upper_tests.proofs.backend.nobody_waits_for_a_submission_that_is_held.Goals as goal
 
 pub join-late-requires-send-F : goal.join-late-requires-send-F
-join-late-requires-send-F g c κs within = search (sendable, crosses, maps.crosses, Backend-sync, Key-sync, Submission-sync) depth 30
+join-late-requires-send-F g c κs within = search (sendable, crosses, maps.crosses, Pass-send, Backend-sync, Key-sync, Submission-sync) depth 30
 
 pub join-late-requires-send-A : goal.join-late-requires-send-A
-join-late-requires-send-A g c κs within = search (sendable, Reply-send) depth 20
+join-late-requires-send-A g c κs within = search (sendable, crosses, Pass-send, Reply-send) depth 20
