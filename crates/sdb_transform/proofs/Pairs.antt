@@ -1,5 +1,5 @@
 -- Operations of one component each.
-use Rattle.std.proofs.Common.{◌≡◌, List, [], ◌∷◌, Some, None, ap, ◌∙◌}
+use Rattle.std.proofs.Common.{◌≡◌, List, [], ◌∷◌, Some, None, inl, inr, ap, ◌∙◌}
 use Rattle.std.proofs.lemmas.List.{append-nil}
 use Rattle.sdb_component.specs.Plain.{PlainComponent}
 use Rattle.sdb_transform.specs.Acts.{IsFaultOf}
@@ -7,6 +7,7 @@ use Rattle.sdb_transform.specs.declared.side.Fault.{Fault}
 use Rattle.sdb_transform.specs.declared.side.Fault.TheVariants.{Memory, NotTransformed}
 use Rattle.sdb_transform.specs.declared.side.Side.TheVariants.{Left, Right}
 use Rattle.sdb_transform.specs.Grid.{Crossings, and_then, crossing, joined}
+use Rattle.sdb_transform.specs.Stack.{IsRefusal}
 use Rattle.sdb_transform.specs.Transform.{transform}
 use Rattle.sdb_transform.proofs.Grid.{cross_left_empty, cross_right_empty, cross_pair, and_then_none}
 use Rattle.sdb_transform.proofs.Weights.{weighs}
@@ -42,3 +43,12 @@ module _ (l r : PlainComponent) where
   pub right_fault : (f : Fault) → IsFaultOf f (transform Right r l) → IsFaultOf f (crossing (l ∷ []) (r ∷ []))
   right_fault NotTransformed h = right_refused h
   right_fault Memory h = tt
+
+  -- a fault of one of them is a refusal of both
+  pub refused_left : (f : Fault) → IsFaultOf f (transform Left l r) → IsRefusal l r f
+  refused_left NotTransformed h = inl h
+  refused_left Memory h = tt
+
+  pub refused_right : (f : Fault) → IsFaultOf f (transform Right r l) → IsRefusal l r f
+  refused_right NotTransformed h = inr h
+  refused_right Memory h = tt

@@ -59,7 +59,7 @@ fn present(board: &mut Board) -> Result<(u64, Option<usize>), Fail> {
 
 fn count(document: Option<&Json>) -> Option<usize> {
     match document {
-        Some(Json::List(items)) => Some(items.iter().count()),
+        Some(Json::List(items)) if items.part_count() == 1 => Some(items.part(0).len()),
         _ => None,
     }
 }
