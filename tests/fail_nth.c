@@ -1,6 +1,6 @@
-/* Preloaded: the allocation that FAIL_NTH counts, from 1, finds no memory. FAIL_COUNT names a file for two counts of eight
-   bytes each: the allocations so far, and of these the ones inside the call that is tried. A call stands between two blocks of
-   MARK bytes, which are neither counted nor refused; without them everything is outside. The file is mapped, so that a program
+/* Preloaded: the allocation that FAIL_NTH counts, from 1, finds no memory. FAIL_COUNT names a file for three counts of eight
+   bytes each: the allocations so far, of these the ones inside the call that is tried, and of those the ones that were refused.
+   A call stands between two blocks of MARK bytes, which are neither counted nor refused; without them everything is outside. The file is mapped, so that a program
    that is ended leaves its counts too. */
 #define _GNU_SOURCE
 #include <dlfcn.h>
@@ -13,7 +13,7 @@
 
 #define MARK 7919
 
-static unsigned long unseen[2], *counts = unseen, nth, inside;
+static unsigned long unseen[3], *counts = unseen, nth, inside;
 
 __attribute__((constructor)) static void begin(void) {
     const char *text = getenv("FAIL_NTH"), *path = getenv("FAIL_COUNT");
@@ -23,7 +23,7 @@ __attribute__((constructor)) static void begin(void) {
         shown = mmap(NULL, sizeof unseen, PROT_READ | PROT_WRITE, MAP_SHARED, file, 0);
         if (shown != MAP_FAILED) counts = shown;
     }
-    counts[0] = counts[1] = 0;
+    counts[0] = counts[1] = counts[2] = 0;
     nth = text ? strtoul(text, NULL, 10) : 0;
 }
 
@@ -35,6 +35,7 @@ static int fails(size_t size) {
     counts[0] += 1;
     counts[1] += inside;
     if (nth == 0 || counts[0] != nth) return 0;
+    counts[2] += inside;
     errno = ENOMEM;
     return 1;
 }

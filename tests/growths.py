@@ -26,7 +26,7 @@ TESTS = [os.path.join(CRATES, crate, "out", f"{crate}_tests") for crate in ("sdb
 FAULT = b"fault: memory\n"
 WANTING = (b"ERR_OUT_OF_MEMORY", b'{"error":"E10"}')
 # how a test ends that finds no memory around its call
-AROUND = ("AllocError", "AllocFailed", "out of memory", '"no fetch"', '"no queue"', '"no work"', '"not stored"')
+AROUND = ("AllocError", "AllocFailed", "error: Memory", "out of memory", '"no fetch"', '"no queue"', '"no work"', '"not stored"')
 
 
 def lines_of(script, count):
@@ -99,9 +99,9 @@ class Refusals:
         return subprocess.run(program, input=given, stdout=subprocess.PIPE, stderr=subprocess.PIPE, env=env, timeout=60)
 
     def counts(self):
-        """How many allocations the last run made, and how many of them inside its call."""
+        """How many allocations the last run made, how many of them inside its call, and how many of those were refused."""
         with open(self.counted, "rb") as file:
-            return struct.unpack("2Q", file.read(16))
+            return struct.unpack("3Q", file.read(24))
 
 
 def is_right(ended, whole, without_one):
@@ -133,14 +133,15 @@ def program_is_right(refusals, name, program, given):
 
 def test_is_right(refusals, program, test):
     assert refusals.run([program, test]).returncode == 0, test
-    count, inside = refusals.counts()
-    wrong = []
-    for nth in range(1, count + 1):
-        ended = refusals.run([program, test], nth=nth)
-        said = ended.stderr.decode()
-        if ended.returncode and ("assertion" in said or not any(word in said for word in AROUND)):
-            wrong.append(nth)
+    count, inside, _ = refusals.counts()
+    wrong = [nth for nth in range(1, count + 1) if not test_ends_well(refusals, program, test, nth)]
     return told(test, count, inside, wrong)
+
+
+def test_ends_well(refusals, program, test, nth):
+    ended = refusals.run([program, test], nth=nth)
+    said, is_inside = ended.stderr.decode(), refusals.counts()[2] > 0
+    return ended.returncode == 0 or (not is_inside and "assertion" not in said and any(word in said for word in AROUND))
 
 
 def tests_of(program):
