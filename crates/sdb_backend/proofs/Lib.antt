@@ -7,3 +7,4 @@ pub mod Handing
 pub mod Searches
 pub mod Seen
 pub mod Steps
+pub mod Leaving

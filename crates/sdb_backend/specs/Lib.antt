@@ -3,4 +3,5 @@ pub mod Calls
 pub mod Gathered
 pub mod History
 pub mod HistoryLaws
+pub mod Left
 pub mod Passes

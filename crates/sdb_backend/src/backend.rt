@@ -96,6 +96,7 @@ impl<R: Wait + Drop> Backend<R> {
         ensures backend { IfErr result (λ r. r.backend ≡ self) }
         ensures host { IfErr result (λ r. r.host ≡ host) }
         ensures passes { IfErr result (λ r. IsPermutation passes.items r.passes.items) }
+        ensures seated { IfErr result (λ r. Each (λ p. IsPass p r.backend) r.passes.items) }
     {
         if !host.has_all(&mut passes) {
             return Err(Refused {

@@ -7,6 +7,7 @@ ghost use Rattle.sdb_desk.specs.ShardView.{logs_of};
 ghost use Rattle.sdb_desk.specs.Stored.{AreStored};
 ghost use Rattle.sdb_backend.specs.Audited.{audited};
 ghost use Rattle.sdb_backend.specs.Gathered.{is_gathered};
+ghost use Rattle.sdb_backend.specs.Left.{AreLeft};
 
 use crate::audit::Audit;
 use sdb_desk::Shard;
@@ -35,6 +36,18 @@ impl Audit {
             gather(&mut all, &held.shard, number)?;
         }
         all.into_iter().collect(self.alloc)
+    }
+
+    /// How many queues were left open, over all shards; the greatest u64 where they are more. It takes no
+    /// memory.
+    pub fn queues(&self) -> u64
+        ensures { AreLeft self.now result }
+    {
+        let mut count: u64 = 0;
+        for held in self.shards.iter() {
+            count = count.saturating_add(held.shard.queues());
+        }
+        count
     }
 }
 

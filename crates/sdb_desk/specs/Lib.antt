@@ -5,6 +5,7 @@ pub mod Looked
 pub mod Machine
 pub mod MapView
 pub mod MapViewLaws
+pub mod Open
 pub mod Read
 pub mod ReplyView
 pub mod Rings

@@ -20,7 +20,7 @@ one_way false true f g = g refl
 turn_keys : (a b : PlainKey) → same_key a b ≡ true → same_key b a ≡ true
 turn_keys a b e = ap (same_key b) (equal_keys a b e) ∙ same_itself b
 
-same_turned : (a b : PlainKey) → same_key a b ≡ same_key b a
+pub same_turned : (a b : PlainKey) → same_key a b ≡ same_key b a
 same_turned a b = one_way (same_key a b) (same_key b a) (turn_keys a b) (turn_keys b a)
 
 module _ {A : Type 0} (none : A) where

@@ -19,6 +19,7 @@ ghost use Rattle.sdb_desk.specs.Topics.{no_topic};
 ghost use Rattle.sdb_desk.specs.Read.{Leaves};
 ghost use Rattle.sdb_desk.specs.Stored.{AreStored};
 ghost use Rattle.sdb_desk.specs.Looked.{IsLook};
+ghost use Rattle.sdb_desk.specs.Open.{AreOpen};
 ghost use Rattle.sdb_desk.specs.Machine.{IsFoundRefused, look_at, looking_takes_memory, fetched, operations, snapshot_at, start_of, start_free, is_filled, has_document, has_version, no_queues, with_queues, closed, Decides, Commits, Keeps, Reads, Subscribes, Takes};
 ghost use Rattle.sdb_desk.specs.View.{plain_look, plain_outcome, outcome_of, told_fetched, told_entries, told_subscribed, told_taken};
 ghost use Rattle.sdb_desk.specs.ReplyView.{plain_reply};
@@ -126,6 +127,18 @@ impl Shard {
             }
         }
         Ok(keys)
+    }
+
+    /// How many queues are open, of all keys together; the greatest u64 where they are more. It takes no
+    /// memory.
+    pub fn queues(&self) -> u64
+        ensures { AreOpen (queues_of self.now) result }
+    {
+        let mut count: u64 = 0;
+        for topic in self.topics.values() {
+            count = count.saturating_add(topic.queues().count());
+        }
+        count
     }
 
     /// How many older snapshots are kept of the document, at most eight. Each is the document at its

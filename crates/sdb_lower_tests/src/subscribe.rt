@@ -24,7 +24,7 @@ fn note_all(alloc: Global, queues: &mut Queues, from: u64, to: u64) -> Result<()
 
 fn stand_apart(queues: &mut Queues) -> Result<bool, Fail> {
     let (first, second) = (opened(queues, 1)?, opened(queues, 5)?);
-    Ok(first != second && queues.given() == 2 && queues.len() == 2)
+    Ok(first != second && queues.given() == 2 && queues.count() == 2)
 }
 
 #[test]
@@ -36,7 +36,7 @@ fn queues_stand_apart(rt: HostRuntime) -> Result<(), Fail> {
 fn forgets_a_closed_one(queues: &mut Queues) -> Result<bool, Fail> {
     let id = opened(queues, 0)?;
     queues.close(0, id);
-    Ok(queues.len() == 0 && queues.ringed(id).is_none() && opened(queues, 0)? != id)
+    Ok(queues.count() == 0 && queues.ringed(id).is_none() && opened(queues, 0)? != id)
 }
 
 #[test]
@@ -91,7 +91,7 @@ fn opens_again(queues: &mut Queues) -> Result<bool, Fail> {
     match queues.open(0, 7) {
         Ok(_) => Ok(true),
         Err(_) => {
-            let nothing = queues.given() == 0 && queues.len() == 0;
+            let nothing = queues.given() == 0 && queues.count() == 0;
             let id = opened(queues, 7)?;
             Ok(nothing && queues.ringed(id) == Some(0))
         }

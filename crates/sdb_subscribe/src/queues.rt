@@ -74,12 +74,12 @@ impl Queues {
         self.next
     }
 
-    /// How many queues are open.
-    pub fn len(&self) -> usize
-        ensures len { result ≡ length (bare self.now).queues }
+    /// How many queues are open. It takes no memory.
+    pub fn count(&self) -> u64
+        ensures count { result ≡ length (bare self.now).queues }
         ensures apart { IsDistinct nat_eq (numbers (bare self.now).queues) }
     {
-        self.queues.len()
+        self.queues.len() as u64
     }
 
     /// How many entries the queue has at hand, at most 64: `None` where no open queue has the number. It

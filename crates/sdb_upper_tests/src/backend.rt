@@ -626,6 +626,7 @@ fn what_threads_store_is_taken_in_order(rt: HostRuntime) -> Result<(), Fail> {
     assert!(rt; takes_all(&backend, &mut third, &key, id));
     let audit = ended(alloc, backend, host, first, second, third).ok_or("not closed")?;
     assert!(rt; has_both(&audit, &key));
+    assert!(rt; audit.queues() == 1);
     Ok(())
 }
 

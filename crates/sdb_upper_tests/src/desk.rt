@@ -141,7 +141,9 @@ impl Board {
     }
 
     // The version, and the number there.
-    fn present(&mut self) -> Result<(u64, Option<i64>), Fail> {
+    fn present(&mut self) -> Result<(u64, Option<i64>), Fail>
+        ensures { StaySeen (plain_key self.old.key) self.old.shard (plain_key self.new.key) self.new.shard }
+    {
         let fetched = self.shard.fetch(&self.key).or(Err("no fetch"))?;
         Ok((fetched.version, number(fetched.snapshot.as_ref())))
     }
@@ -474,8 +476,10 @@ fn a_queue_is_opened_at_a_version(rt: HostRuntime) -> Result<(), Fail> {
 
 fn forgets_a_closed_queue(board: &mut Board) -> Result<bool, Fail> {
     let id = queue_from(board, 1)?;
+    let before = board.shard.queues();
     board.shard.unsubscribe(&board.key, 0, id);
-    Ok(board.shard.take(&board.key, 0, id, 1)?.is_none())
+    let is_known = board.shard.take(&board.key, 0, id, 1)?.is_some();
+    Ok(!is_known && before == 1 && board.shard.queues() == 0)
 }
 
 #[test]

@@ -52,7 +52,9 @@ fn work_on(board: &Board, submission: Submission) -> Result<Work, Fail>
 }
 
 // The version, and how many items are there.
-fn present(board: &mut Board) -> Result<(u64, Option<usize>), Fail> {
+fn present(board: &mut Board) -> Result<(u64, Option<usize>), Fail>
+    ensures { StaySeen (plain_key board.old.key) board.old.shard (plain_key board.new.key) board.new.shard }
+{
     let fetched = board.shard.fetch(&board.key).or(Err("no fetch"))?;
     Ok((fetched.version, count(fetched.snapshot.as_ref())))
 }
