@@ -93,7 +93,8 @@ impl Board {
 
     // Stores an edit by the source, made at what is there now.
     fn put_edit(&mut self, src: &str, amount: i64) -> Result<(), Fail>
-        ensures { OnOk result (StaySeen (plain_key self.old.key) self.old.shard (plain_key self.new.key) self.new.shard) }
+        ensures { OnOk result
+            (StaySeen (plain_key self.old.key) self.old.shard (plain_key self.new.key) self.new.shard) }
     {
         self.put(self.edit(src, None, amount)?)
     }

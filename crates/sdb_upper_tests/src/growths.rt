@@ -148,7 +148,8 @@ fn late_work(board: &Board) -> Result<Work, Fail>
 
 // Stores one more edit.
 fn put_another(board: &mut Board) -> Result<(), Fail>
-    ensures { OnOk result (StaySeen (plain_key board.old.key) board.old.shard (plain_key board.new.key) board.new.shard) }
+    ensures { OnOk result
+        (StaySeen (plain_key board.old.key) board.old.shard (plain_key board.new.key) board.new.shard) }
 {
     board.put(adding(board.alloc, "y", None)?)
 }
