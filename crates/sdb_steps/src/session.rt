@@ -101,13 +101,7 @@ impl Session {
     }
 
     // Takes the next entries of the queue.
-    pub(crate) fn take(
-        &mut self,
-        by: u64,
-        shard: &mut Shard,
-        key: &Key,
-        max: u64,
-    ) -> StepAnswer
+    pub(crate) fn take(&mut self, by: u64, shard: &mut Shard, key: &Key, max: u64) -> StepAnswer
         requires { AreOpen by (queues_of shard.old) (slots_of self.old) }
         ensures dispatches { Dispatches by (core_of shard.old) (plain_session (queues_of shard.old) self.old)
             (take (plain_key key.now) max)
