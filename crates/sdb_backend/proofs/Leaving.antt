@@ -39,12 +39,12 @@ pub none_yet : (all : List Held) → IsSoFar all all 0
 none_yet all = record { small = refl; whole = λ b h. subst (AreOpenIn all) (sym (small_sum all b h)) h }
 
 pub one_more : (all hs : List Held) (h : Held) (count a new : ℕ) → IsSoFar all (h ∷ hs) count → AreOpen (queues_of h.shard) a → new ≡ min (count + a) 18446744073709551615 → IsSoFar all hs new
-one_more all hs h count a new so open e =
+one_more all hs h count a new so are e =
     record {
       small = rw e (bounded 18446744073709551615 (count + a));
       whole = λ b rest.
           subst (AreOpenIn all) (regrouped 18446744073709551615 count a b ∙ ap (λ y. min (y + b) 18446744073709551615) (sym e))
-          (so.whole (min (a + b) 18446744073709551615) (a, b, open, rest, refl));
+          (so.whole (min (a + b) 18446744073709551615) (a, b, are, rest, refl));
     }
 
 pub all_there : (all : List Held) (count : ℕ) → IsSoFar all [] count → AreOpenIn all count
