@@ -36,7 +36,13 @@ small_sum [] b h = rw h refl
 small_sum (h ∷ hs) b o = rw (o.4) (bounded 18446744073709551615 (o.0 + o.1))
 
 pub none_yet : (all : List Held) → IsSoFar all all 0
-none_yet all = record { small = refl; whole = λ b h. subst (AreOpenIn all) (sym (small_sum all b h)) h }
+none_yet all =
+    record {
+      small = refl;
+      whole = λ b h.
+          let plain : b ≡ 0 + b = omega arith in
+          subst (AreOpenIn all) (sym (small_sum all b h) ∙ ap (λ n. min n 18446744073709551615) plain) h;
+    }
 
 pub one_more : (all hs : List Held) (h : Held) (count a new : ℕ) → IsSoFar all (h ∷ hs) count → AreOpen (queues_of h.shard) a → new ≡ min (count + a) 18446744073709551615 → IsSoFar all hs new
 one_more all hs h count a new so are e =
