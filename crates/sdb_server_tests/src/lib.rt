@@ -9,6 +9,8 @@ mod command_line;
 #[cfg(test)]
 mod connections;
 #[cfg(test)]
+mod failing_streams;
+#[cfg(test)]
 mod line_session;
 #[cfg(test)]
 mod websocket_session;

@@ -63,18 +63,18 @@ impl Write for Peer<'_> {
     }
 }
 
-const OPENING: &str =
+pub(crate) const OPENING: &str =
     r#"{"a":"init","id":"s1","protocol":1,"protocolMinor":1,"type":"http://sharejs.org/types/JSONv0"}"#;
 
-const SUBSCRIBE: &str = r#"{"a":"s","c":"b","d":"1","v":null}"#;
+pub(crate) const SUBSCRIBE: &str = r#"{"a":"s","c":"b","d":"1","v":null}"#;
 
-const SUBSCRIBED: &str = r#"{"a":"s","c":"b","d":"1","data":{"type":null,"v":0}}"#;
+pub(crate) const SUBSCRIBED: &str = r#"{"a":"s","c":"b","d":"1","data":{"type":null,"v":0}}"#;
 
 const BADLY_FORMED: &str =
     r#"{"error":{"code":"ERR_MESSAGE_BADLY_FORMED","message":"message is badly formed"}}"#;
 
 // The first byte of a frame that is a whole message.
-const TEXT: u8 = 0x81;
+pub(crate) const TEXT: u8 = 0x81;
 
 const BINARY: u8 = 0x82;
 
@@ -86,12 +86,12 @@ const PING_FRAME: &[u8] = &[0x89, 0];
 const AWAY_FRAME: &[u8] = &[0x88, 2, 0x03, 0xE9];
 
 // Adds a frame as a client sends it, with the mask 0.
-fn send(frames: &mut Vec<u8>, head: u8, payload: &str) -> Result<(), Fail> {
+pub(crate) fn send(frames: &mut Vec<u8>, head: u8, payload: &str) -> Result<(), Fail> {
     add_frame(frames, head, 0x80, &[0; 4], payload)
 }
 
 // Adds a text as a server sends it.
-fn tell(frames: &mut Vec<u8>, text: &str) -> Result<(), Fail> {
+pub(crate) fn tell(frames: &mut Vec<u8>, text: &str) -> Result<(), Fail> {
     add_frame(frames, TEXT, 0, &[], text)
 }
 
@@ -109,29 +109,29 @@ fn add_frame(
     Ok(())
 }
 
-// Serves a client with the pass, and gives back the pass and what the client was told.
-fn attend<R: Wait + Drop>(
+// Serves a client with the pass, and gives back the pass and the client's stream.
+pub(crate) fn attend<R: Wait + Drop, S: Read + Write + Drop>(
     rt: &R,
     alloc: Global,
     backend: &Backend<R>,
     pass: Pass,
-    peer: Peer<'_>,
-) -> (Pass, Vec<u8>)
+    stream: S,
+) -> (Pass, S)
     requires { IsPass pass backend.now }
     ensures { IsPass result.0 backend.now }
 {
-    let mut socket = WebSocket::from_raw_socket(alloc, peer, NoMask, Role::Server, None);
+    let mut socket = WebSocket::from_raw_socket(alloc, stream, NoMask, Role::Server, None);
     let table = Table::new(alloc);
     let pass = serve(rt, alloc, &mut socket, backend, pass, &table);
-    (pass, socket.into_inner().told)
+    (pass, socket.into_inner())
 }
 
 // What the first client of a server is told.
 fn told<R: AllocGlobal + Wait + Drop + Copy>(rt: R, peer: Peer<'_>) -> Result<Vec<u8>, Fail> {
     let (backend, mut host) = Backend::new(rt.alloc(), rt)?;
     let pass = backend.enter(&mut host)?;
-    let (_, told) = attend(&rt, rt.alloc(), &backend, pass, peer);
-    Ok(told)
+    let (_, peer) = attend(&rt, rt.alloc(), &backend, pass, peer);
+    Ok(peer.told)
 }
 
 // What a silent client is told.
@@ -196,7 +196,7 @@ fn a_binary_message(rt: HostRuntime) -> Result<(), Fail> {
     Ok(())
 }
 
-fn document(alloc: Global) -> Result<Key, AllocError> {
+pub(crate) fn document(alloc: Global) -> Result<Key, AllocError> {
     Ok(Key {
         collection: String::from_str(alloc, "b")?,
         id: String::from_str(alloc, "1")?,

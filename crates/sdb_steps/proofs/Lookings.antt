@@ -1,5 +1,5 @@
 -- Looks that stay looks while logs grow.
-use Rattle.std.proofs.Common.{◌≡◌, ℕ, zero, suc, ◌<◌, ◌++◌, List, [], ◌∷◌, length, get_or, slice_get, Option, Some, None, inl, inr, refl, sym, ap, ◌∙◌, subst}
+use Rattle.std.proofs.Common.{◌≡◌, ℕ, zero, suc, ◌<◌, ◌++◌, List, [], ◌∷◌, length, get_or, slice_get, Option, Some, None, inl, inr, refl, sym, ◌∙◌, subst}
 use Rattle.std.specs.List.{slice_set}
 use Rattle.std.proofs.lemmas.Option.{slice_get_read}
 use Rattle.sdb_oplog.specs.declared.codes.Code.TheVariants.{E10}
@@ -10,7 +10,7 @@ use Rattle.sdb_oplog.specs.Laws.{decides_never_wanting}
 use Rattle.sdb_desk.specs.Looked.{IsLook, look_now, look_later}
 use Rattle.sdb_desk.specs.Machine.{PlainAttempt, PlainLook, look_at, decided, moved, Commits, Decides}
 use Rattle.sdb_submit.specs.Laws.{moved_looked, wanting_unchanged}
-use Rattle.sdb_steps.specs.OneStep.{OneStep, next}
+use Rattle.sdb_steps.specs.OneStep.{OneStep}
 use Rattle.sdb_steps.specs.Picks as plain
 use Rattle.sdb_steps.specs.Picks.{Act, Answer, Effect, event, notice, replied, said, no_memory, effect}
 use Rattle.sdb_steps.specs.Dispatch.{Follows, Dispatches}

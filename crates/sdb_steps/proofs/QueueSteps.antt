@@ -10,7 +10,7 @@ use Rattle.sdb_oplog.specs.Keys.{PlainKey, same_key}
 use Rattle.sdb_oplog.specs.Snap.{document}
 use Rattle.sdb_oplog.specs.Refused.{result_then}
 use Rattle.sdb_oplog.specs.Decide.{deciding_takes_memory}
-use Rattle.sdb_subscribe.specs.Queue.{PlainQueue, PlainQueues, queue_at, is_mine, is_owned, waiting, moved as moved_by, after_take, after_take_by, taken_from, taken_by, without, without_by}
+use Rattle.sdb_subscribe.specs.Queue.{PlainQueue, PlainQueues, queue_at, is_mine, is_owned, waiting, moved as moved_by, after_take, taken_from, without}
 use Rattle.sdb_subscribe.specs.Laws.{opened_other, after_take_at, after_take_other, without_other}
 use Rattle.sdb_oplog.specs.Keys.{with_at}
 use Rattle.sdb_desk.specs.MapViewLaws.{kept_at}

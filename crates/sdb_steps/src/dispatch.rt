@@ -122,6 +122,7 @@ fn begin(
 fn fetch(shard: &mut Shard, key: &Key) -> StepAnswer
     ensures dispatches { (i : ℕ) (x : plain.Session) → Dispatches i (core_of shard.old) x
         (plain.fetch (plain_key key.now)) (plain_answer result) (core_of shard.new) x }
+    ensures logs { logs_of shard.new ≡ logs_of shard.old }
     ensures queues { queues_of shard.new ≡ queues_of shard.old }
 {
     match shard.fetch(key) {

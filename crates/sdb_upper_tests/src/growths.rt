@@ -6,10 +6,12 @@ ghost use Rattle.sdb_upper_tests.specs.Seen.{IsSeen, StaySeen};
 
 use crate::desk::{Board, editing, from, stored, worked};
 use crate::projection::titles;
+use crate::session::{FETCH, Room, SUBSCRIBE, named};
 use sdb_component::{Act, Component};
 use sdb_desk::{Outcome, Reply, Subscribed, Work};
 use sdb_oplog::{Code, Content, Submission};
 use sdb_projection::{Table, TableFault};
+use sdb_submit::Solo;
 use sdb_subscribe::SubId;
 use sdb_value::Json;
 use std::alloc::Global;
@@ -304,5 +306,26 @@ fn projection_is_added(alloc: Global) -> Result<bool, Fail> {
 #[test]
 fn a_projection(rt: HostRuntime) -> Result<(), Fail> {
     assert!(rt; projection_is_added(rt.alloc())?);
+    Ok(())
+}
+
+// Whether a session that finds no memory for a message has ended in each later call too, and leaves no queue.
+fn ends_once(alloc: Global) -> Result<bool, Fail> {
+    let Room { table, mut shard } = Room::new(alloc);
+    let mut session = named(alloc, "s1")?;
+    drop(session.handle(&Solo, &mut shard, &table, SUBSCRIBE));
+    mark(alloc)?;
+    let has_ended = session.handle(&Solo, &mut shard, &table, FETCH).is_err();
+    mark(alloc)?;
+    let has_then = session.handle(&Solo, &mut shard, &table, FETCH).is_err();
+    let is_same = has_then == has_ended
+        && session.pump(&Solo, &mut shard, &table, 1).is_err() == has_ended;
+    session.end(&Solo, &mut shard);
+    Ok(is_same && shard.queues() == 0)
+}
+
+#[test]
+fn a_message(rt: HostRuntime) -> Result<(), Fail> {
+    assert!(rt; ends_once(rt.alloc())?);
     Ok(())
 }

@@ -7,7 +7,7 @@ use sdb_submit::Solo;
 use std::alloc::Global;
 use std::test::Fail;
 
-fn named(alloc: Global, source: &str) -> Result<Session, Fail> {
+pub(crate) fn named(alloc: Global, source: &str) -> Result<Session, Fail> {
     Ok(Session::new(alloc, String::from_str(alloc, source)?))
 }
 
@@ -21,13 +21,13 @@ fn is_only(texts: &[String], wanted: &str) -> bool {
 
 // A shard, and no projections.
 #[derive(Drop)]
-struct Room {
-    table: Table,
-    shard: Shard,
+pub(crate) struct Room {
+    pub(crate) table: Table,
+    pub(crate) shard: Shard,
 }
 
 impl Room {
-    fn new(alloc: Global) -> Room {
+    pub(crate) fn new(alloc: Global) -> Room {
         Room {
             table: Table::new(alloc),
             shard: Shard::new(alloc),
@@ -52,11 +52,11 @@ impl Room {
 const OPENING: &str =
     r#"{"a":"init","id":"s1","protocol":1,"protocolMinor":1,"type":"http://sharejs.org/types/JSONv0"}"#;
 
-const SUBSCRIBE: &str = r#"{"a":"s","c":"b","d":"1"}"#;
+pub(crate) const SUBSCRIBE: &str = r#"{"a":"s","c":"b","d":"1"}"#;
 
 const SUBSCRIBED: &str = r#"{"a":"s","c":"b","d":"1","data":{"type":null,"v":0}}"#;
 
-const FETCH: &str = r#"{"a":"f","c":"b","d":"1"}"#;
+pub(crate) const FETCH: &str = r#"{"a":"f","c":"b","d":"1"}"#;
 
 // The front, 100,000 letters, and the back.
 fn long(alloc: Global, front: &str, back: &str) -> Result<String, Fail> {

@@ -38,7 +38,7 @@ pub returns-in-Commit-clause-leaves : goal.returns-in-Commit-clause-leaves
 returns-in-Commit-clause-leaves c = leaves_all (plain_step c.args.step.now).session (queues_of c.args.shard.now) _ (slots_of c.args.session.now) _ c.requires.queues c.commit.ensures.queues c.commit.ensures.slots
 
 pub returns-in-Fetch-clause-leaves : goal.returns-in-Fetch-clause-leaves
-returns-in-Fetch-clause-leaves c = let s = slots_of c.args.session.now in leaves_all (queues_of c.args.shard.now) _ s s c.requires c.fetch.ensures.queues refl
+returns-in-Fetch-clause-leaves c = let s = slots_of c.args.session.now in leaves_all (plain_step c.args.step.now).session (queues_of c.args.shard.now) _ s s c.requires.queues c.fetch.ensures.queues refl
 
 pub returns-in-Snapshot-clause-leaves : goal.returns-in-Snapshot-clause-leaves
 returns-in-Snapshot-clause-leaves c = let s = slots_of c.args.session.now in leaves_all (plain_step c.args.step.now).session (queues_of c.args.shard.now) _ s s c.requires.queues c.snapshot.ensures.queues refl
