@@ -8,10 +8,10 @@ use Rattle.sdb_desk.specs.Looked.{IsLook, look_now, look_later}
 use Rattle.sdb_desk.specs.Machine.{PlainAttempt, PlainLook, look_at, decided, Commits, Decides}
 use Rattle.sdb_desk.specs.MapViewLaws.{wrote_at}
 
-same_stays : (logs new : Logs) (k : PlainKey) (a : PlainAttempt) → new ≡ logs → IsLook (logs k) a → IsLook (new k) a
+pub same_stays : (logs new : Logs) (k : PlainKey) (a : PlainAttempt) → new ≡ logs → IsLook (logs k) a → IsLook (new k) a
 same_stays logs new k a e h = subst (λ (f : Logs). IsLook (f k) a) (sym e) h
 
-grown_stays : (logs new : Logs) (k : PlainKey) (s : PlainSubmission) (a : PlainAttempt)
+pub grown_stays : (logs new : Logs) (k : PlainKey) (s : PlainSubmission) (a : PlainAttempt)
     → new ≡ with_log logs k (decide (logs k) s).log → IsLook (logs k) a → IsLook (new k) a
 grown_stays logs new k s a e h =
     let g = decide_grows (logs k) s in

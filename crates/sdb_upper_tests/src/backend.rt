@@ -107,7 +107,9 @@ fn opened<R: Wait + Drop>(alloc: Global, rt: R) -> Option<Room<R>>
     ensures second { IfSome result (λ r. IsPass r.second r.backend) }
 {
     let key = key(alloc, "1")?;
-    let (backend, mut host) = Backend::new(alloc, rt).ok()?;
+    let Ok((backend, mut host)) = Backend::new(alloc, rt) else {
+        return None;
+    };
     let (first, second) = two_passes(&backend, &mut host)?;
     Some(Room {
         backend,
@@ -124,8 +126,13 @@ fn two_passes<R: Wait + Drop>(backend: &Backend<R>, host: &mut Host) -> Option<(
     ensures first { IfSome result (λ p. IsPass p.0 backend.now) }
     ensures second { IfSome result (λ p. IsPass p.1 backend.now) }
 {
-    let first = backend.enter(host).ok()?;
-    Some((first, backend.enter(host).ok()?))
+    let Ok(first) = backend.enter(host) else {
+        return None;
+    };
+    let Ok(second) = backend.enter(host) else {
+        return None;
+    };
+    Some((first, second))
 }
 
 // Stores the document, as the first submission of the pass: where it is stored.
@@ -433,7 +440,9 @@ fn closed<R: Wait + Drop>(
     if why != Why::Missing {
         return None;
     }
-    passes.push(first).ok()?;
+    let Ok(()) = passes.push(first) else {
+        return None;
+    };
     backend.close(host, passes).ok()
 }
 

@@ -75,7 +75,8 @@ fn commit(board: &mut Board, work: &mut Work) -> Option<(u64, usize)>
 {
     match board.shard.commit(&board.key, work) {
         Outcome::Decided(Reply::Stored { v, missed }) => Some((v, missed.len())),
-        Outcome::Decided(Reply::Repeat { .. } | Reply::Refused(_)) => None,
+        Outcome::Decided(Reply::Repeat { .. }) => None,
+        Outcome::Decided(Reply::Refused(_)) => None,
         Outcome::Moved(look) => Some((look.version, look.missed.len())),
     }
 }
