@@ -247,8 +247,16 @@ fn nobody_waits_for_a_submission_that_is_held(rt: HostRuntime) -> Result<(), Fai
     let (answered, last) = (AtomicU64::new(0), AtomicU64::new(0));
     let ((mut slow, late), (_quick, early)) = thread::join(
         &rt,
-        || submit_held(alloc, &backend, slow, &key, &first, &answered, &last),
-        || submit_quick(alloc, &backend, quick, &key, &second, &answered, &last),
+        || -> (Pass, Option<(u64, usize)>)
+            requires pass { IsPass slow backend }
+            requires by { first.by ≡ number_of slow }
+            ensures { IsPass result.0 backend }
+        { submit_held(alloc, &backend, slow, &key, &first, &answered, &last) },
+        || -> (Pass, Option<(u64, usize)>)
+            requires pass { IsPass quick backend }
+            requires by { second.by ≡ number_of quick }
+            ensures { IsPass result.0 backend }
+        { submit_quick(alloc, &backend, quick, &key, &second, &answered, &last) },
     );
     assert!(rt; early == Some((1, 0)));
     assert!(rt; last.load(Ordering::SeqCst) == 2);
@@ -405,8 +413,14 @@ fn what_threads_store_is_read_back(rt: HostRuntime) -> Result<(), Fail> {
     assert!(rt; created(alloc, &backend, &mut first, &key) == Some((0, 0)));
     let ((first, ones), (second, twos)) = thread::join(
         &rt,
-        || edit_all(alloc, &backend, first, &key),
-        || edit_all(alloc, &backend, second, &key),
+        || -> (Pass, Option<Vec<Reply>>)
+            requires { IsPass first backend }
+            ensures { IsPass result.0 backend }
+        { edit_all(alloc, &backend, first, &key) },
+        || -> (Pass, Option<Vec<Reply>>)
+            requires { IsPass second backend }
+            ensures { IsPass result.0 backend }
+        { edit_all(alloc, &backend, second, &key) },
     );
     let audit = closed(alloc, backend, host, first, second).ok_or("not closed")?;
     let (ones, twos) = (ones.ok_or("not read back")?, twos.ok_or("not read back")?);
@@ -622,13 +636,21 @@ fn what_threads_store_is_taken_in_order(rt: HostRuntime) -> Result<(), Fail> {
         first,
         second,
     } = opened(alloc, rt).ok_or("no passes")?;
-    let mut third = backend.enter(&mut host).or(Err("no pass"))?;
+    let Ok(mut third) = backend.enter(&mut host) else {
+        return Err("no pass".into());
+    };
     assert!(rt; created(alloc, &backend, &mut third, &key) == Some((0, 0)));
     let id = subscribed(&backend, &mut third, &key).ok_or("no queue")?;
     let ((mut first, ones), (second, twos)) = thread::join(
         &rt,
-        || store_many(alloc, &backend, first, &key),
-        || store_many(alloc, &backend, second, &key),
+        || -> (Pass, u64)
+            requires { IsPass first backend }
+            ensures { IsPass result.0 backend }
+        { store_many(alloc, &backend, first, &key) },
+        || -> (Pass, u64)
+            requires { IsPass second backend }
+            ensures { IsPass result.0 backend }
+        { store_many(alloc, &backend, second, &key) },
     );
     assert!(rt; (ones, twos) == (MANY, MANY));
     assert!(rt; is_unknown(&backend, &mut first, &key, id));
