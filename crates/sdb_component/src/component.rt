@@ -60,10 +60,18 @@ impl Act {
 }
 
 /// A change of one place.
-#[derive(Drop)]
 pub struct Component {
     path: Vec<Step>,
     act: Act,
+}
+
+// Written out: so whoever lets a component go calls this, and no proof opens each form of its act there.
+impl Drop for Component {
+    fn drop(self) {
+        let Component { act, path } = self;
+        drop(act);
+        drop(path);
+    }
 }
 
 impl Model for Component {
@@ -85,7 +93,7 @@ impl Component {
     pub fn new(path: Vec<Step>, act: Act) -> Component
         ensures { result ≡ record { path = plain_path path.items; act = plain_act act } }
     {
-        Component { path, act }
+        Self { path, act }
     }
 
     /// The container's path: the path as sent for `Na`, and else that path without its last step.
@@ -107,7 +115,8 @@ impl Component {
         ensures path { plain_path result.0.items ≡ self.path }
         ensures act { plain_act result.1 ≡ self.act }
     {
-        (self.path, self.act)
+        let Component { path, act } = self;
+        (path, act)
     }
 
     /// A copy, its path and act copied too. Fails only where an allocation does.
