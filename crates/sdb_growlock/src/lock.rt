@@ -10,6 +10,8 @@ use atomic_table::{Refused, Table};
 use std::alloc::Global;
 use std::snapshot::Snapshot;
 use std::sync::Wait;
+use std::sync::atomic::AtomicU64;
+use std::sync::atomic::Ordering::SeqCst;
 
 /// Why no seat was split off. A split takes no memory.
 #[derive(Debug, Drop)]
@@ -40,7 +42,8 @@ impl<T: Grows> GrowLock<T> {
                     next: 1,
                     inner,
                 };
-                Ok((GrowLock { table }, first))
+                let waiting = AtomicU64::new(0);
+                Ok((GrowLock { table, waiting }, first))
             }
             Err(Refused { mut slots }) => {
                 let value = slots.pop().unwrap().unwrap();
@@ -112,7 +115,7 @@ impl<T: Grows> GrowLock<T> {
         };
         let mut place = last.into_place();
         self.join_all(&mut place, seats);
-        let GrowLock { table } = self;
+        let GrowLock { table, waiting: _ } = self;
         let mut closed = table.close_with(place);
         let slot = closed.take(0);
         closed.free();
@@ -131,12 +134,15 @@ impl<T: Grows> GrowLock<T> {
             if self.table.shared.swap::<TakeStep>(place, 0, 1) == 0 {
                 return;
             }
+            self.waiting.fetch_add(1, SeqCst);
             self.table.shared.park(rt, 0, 1);
+            self.waiting.fetch_sub(1, SeqCst);
         }
         unreachable!()
     }
 
-    // Puts the value home.
+    // Puts the value home. Who parks has counted itself before, and parks only while the value is out: so
+    // where nobody is counted here, nobody parks that this would have to wake.
     fn free(&self, place: &mut TableSeat<T>)
         requires own { place.old.table_id ≡ self.now.table.shared.table_id }
         requires grown { (n k : ℕ) × (v w : T) × (place.old.me ≡ (holding n v k, (0, Some w) ∷ [])) × T.extends w v
@@ -145,7 +151,9 @@ impl<T: Grows> GrowLock<T> {
         ensures freed { (w : T) → place.old.me.1 ≡ (0, Some w) ∷ [] → place.new.me ≡ (at_home place.old.me.0 w, []) }
     {
         self.table.shared.store::<FreeStep>(place, 0, 0);
-        self.table.shared.wake_one(0);
+        if self.waiting.load(SeqCst) > 0 {
+            self.table.shared.wake_one(0);
+        }
     }
 
     // The new one has the next number.

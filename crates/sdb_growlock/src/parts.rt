@@ -4,11 +4,14 @@ ghost use Rattle.sdb_growlock.specs.Rule.{number_of, is_out};
 
 use crate::grows::Grows;
 use crate::rule::{LockTable, TableSeat};
+use std::sync::atomic::AtomicU64;
 
 /// A lock round a value that only grows. It is made with its first seat, and each thread needs a seat of its own.
 #[derive(Drop)]
 pub struct GrowLock<T: Grows> {
     pub(crate) table: LockTable<T>,
+    // how many threads wait for the value, or are about to
+    pub(crate) waiting: AtomicU64,
     ghost sized: { (table.shared.table_id.words ≡ 1) × (table.shared.table_id.slots ≡ 1) },
 }
 
