@@ -60,7 +60,7 @@ const STEPS: &str = r#"[
 ]"#;
 
 // Which component was not applied.
-fn refused(rt: &impl Abort, applied: Result<(), Refused>) -> Option<u64> {
+pub(crate) fn refused(rt: &impl Abort, applied: Result<(), Refused>) -> Option<u64> {
     match applied {
         Ok(()) => None,
         Err(refusal) => {

@@ -1,10 +1,10 @@
 //! `sdb_transform` and `sdb_apply`: two components that meet. One and then what stands for the other give
 //! the same both ways.
+use crate::apply::refused;
 use crate::texts::{component, each_row, is_value, json_of, op_of};
-use sdb_apply::{ApplyFault, apply};
+use sdb_apply::apply;
 use sdb_component::Op;
 use sdb_transform::{Side, transform_one};
-use sdb_value::Json;
 use serde_json::Value;
 use std::alloc::Global;
 use std::process::Abort;
@@ -28,16 +28,6 @@ fn after(rt: &impl Abort, alloc: Global, second: &Value, first: &Value, side: Si
     Op::new(transform_one(alloc, second, &first, side).expect(rt, "transformed"))
 }
 
-fn is_applied(rt: &impl Abort, alloc: Global, value: &mut Json, op: &Op) -> bool {
-    match apply(alloc, value, op) {
-        Ok(()) => true,
-        Err(refusal) => {
-            assert!(rt; refusal.why == ApplyFault::NotApplied);
-            false
-        }
-    }
-}
-
 // Whether the first, which is made for the value, and then what stands for the second, which has this side,
 // give what is wanted.
 fn gives(
@@ -49,13 +39,10 @@ fn gives(
     wanted: &Value,
 ) -> bool {
     let mut value = json_of(rt, alloc, before);
-    assert!(rt; is_applied(rt, alloc, &mut value, &op_of(rt, alloc, first)));
-    if is_applied(
-        rt,
-        alloc,
-        &mut value,
-        &after(rt, alloc, second, first, side),
-    ) {
+    let made = apply(alloc, &mut value, &op_of(rt, alloc, first));
+    assert!(rt; refused(rt, made).is_none());
+    let then = apply(alloc, &mut value, &after(rt, alloc, second, first, side));
+    if refused(rt, then).is_none() {
         return is_value(rt, alloc, &value, wanted);
     }
     wanted.as_str() == Some("E8")

@@ -43,49 +43,51 @@ fn place(step: u64, len: usize) -> usize {
     (step.wrapping_mul(7919) % (len as u64).saturating_add(1)) as usize
 }
 
-// The same number put in both.
-fn put(rt: &impl Abort, alloc: Global, list: &mut Pieces<Number>, plain: &mut Vec<u64>, step: u64) {
+// Whether the same number was put in both.
+fn put(
+    rt: &impl Abort,
+    alloc: Global,
+    list: &mut Pieces<Number>,
+    plain: &mut Vec<u64>,
+    step: u64,
+) -> bool {
     let at = place(step, plain.len());
     if at <= plain.len() {
         plain.insert(at, step).expect(rt, "out of memory");
     }
-    assert!(rt;
-        list.insert(alloc, at, Number(step))
-            .expect(rt, "out of memory"),
-        "{step}"
-    );
+    list.insert(alloc, at, Number(step))
+        .expect(rt, "out of memory")
 }
 
 fn put_all(rt: &impl Abort, alloc: Global, list: &mut Pieces<Number>, plain: &mut Vec<u64>) {
     for step in 0..2_000 {
-        put(rt, alloc, list, plain, step);
+        assert!(rt; put(rt, alloc, list, plain, step), "{step}");
     }
 }
 
-// A number taken out of both, or of neither.
+fn taken(plain: &mut Vec<u64>, at: usize) -> Option<u64> {
+    if at < plain.len() {
+        return Some(plain.remove(at));
+    }
+    None
+}
+
+// Whether the same number was taken out of both, or none.
 fn take(
     rt: &impl Abort,
     alloc: Global,
     list: &mut Pieces<Number>,
     plain: &mut Vec<u64>,
     step: u64,
-) {
+) -> bool {
     let at = place(step, plain.len());
-    let taken = list
-        .remove(alloc, at)
-        .expect(rt, "out of memory")
-        .map(|item| item.0);
-    let wanted = if at < plain.len() {
-        Some(plain.remove(at))
-    } else {
-        None
-    };
-    assert!(rt; taken == wanted, "{step}");
+    let item = list.remove(alloc, at).expect(rt, "out of memory");
+    item.map(|item| item.0) == taken(plain, at)
 }
 
 fn take_all(rt: &impl Abort, alloc: Global, list: &mut Pieces<Number>, plain: &mut Vec<u64>) {
     for step in 0..3_000 {
-        take(rt, alloc, list, plain, step);
+        assert!(rt; take(rt, alloc, list, plain, step), "{step}");
     }
 }
 
@@ -115,8 +117,8 @@ fn shared(rt: &impl Abort, alloc: Global, list: Pieces<Number>) -> Pieces<Number
 fn change_apart(rt: &impl Abort, alloc: Global, list: &mut Pieces<Number>, plain: &mut Vec<u64>) {
     let copy = list.share(alloc).expect(rt, "out of memory");
     let before = numbers(rt, alloc, &copy);
-    take(rt, alloc, list, plain, 5);
-    put(rt, alloc, list, plain, 77);
+    assert!(rt; take(rt, alloc, list, plain, 5));
+    assert!(rt; put(rt, alloc, list, plain, 77));
     drop(
         list.replace(alloc, 1_500, Number(1))
             .expect(rt, "out of memory"),

@@ -8,11 +8,12 @@ fn number(rt: &impl Abort, n: i64) -> Json {
     Json::Int(Whole::new(n).expect(rt, "a number"))
 }
 
-// The version that is found, and whether the snapshot is this number.
-fn found(rt: &impl Abort, cache: &mut Cache, v: u64, n: i64) -> Option<(u64, bool)> {
-    let wanted = number(rt, n);
-    let (version, value) = cache.nearest(v)?;
-    Some((version, same_value(value, &wanted)))
+// Whether this version is found, and its snapshot is this number.
+fn is_found(rt: &impl Abort, cache: &mut Cache, v: u64, version: u64, n: i64) -> bool {
+    match cache.nearest(v) {
+        Some((found, value)) => found == version && same_value(value, &number(rt, n)),
+        None => false,
+    }
 }
 
 // A cache that was offered the numbers 1 to 9, each at its version.
@@ -31,7 +32,7 @@ fn nine(rt: &impl Abort, alloc: Global) -> Cache {
 fn a_new_cache_has_nothing(rt: HostRuntime) {
     let mut cache = Cache::new(rt.alloc());
     assert!(rt; cache.len() == 0);
-    assert!(rt; found(&rt, &mut cache, 9, 9).is_none());
+    assert!(rt; cache.nearest(9).is_none());
 }
 
 // Of nine the last eight are there.
@@ -39,21 +40,21 @@ fn a_new_cache_has_nothing(rt: HostRuntime) {
 fn eight_are_kept(rt: HostRuntime) {
     let mut cache = nine(&rt, rt.alloc());
     assert!(rt; cache.len() == MOST);
-    assert!(rt; found(&rt, &mut cache, 1, 1).is_none());
-    assert!(rt; found(&rt, &mut cache, 2, 2) == Some((2, true)));
-    assert!(rt; found(&rt, &mut cache, 100, 9) == Some((9, true)));
+    assert!(rt; cache.nearest(1).is_none());
+    assert!(rt; is_found(&rt, &mut cache, 2, 2, 2));
+    assert!(rt; is_found(&rt, &mut cache, 100, 9, 9));
 }
 
 // The one that was found stays, and the next goes.
 #[test]
 fn the_least_recently_used_goes(rt: HostRuntime) {
     let mut cache = nine(&rt, rt.alloc());
-    assert!(rt; found(&rt, &mut cache, 2, 2) == Some((2, true)));
+    assert!(rt; is_found(&rt, &mut cache, 2, 2, 2));
     cache
         .offer(10, number(&rt, 10))
         .expect(&rt, "out of memory");
     assert!(rt; cache.len() == MOST);
-    assert!(rt; found(&rt, &mut cache, 3, 2) == Some((2, true)));
+    assert!(rt; is_found(&rt, &mut cache, 3, 2, 2));
 }
 
 #[test]
@@ -61,5 +62,5 @@ fn a_cache_forgets(rt: HostRuntime) {
     let mut cache = nine(&rt, rt.alloc());
     cache.forget();
     assert!(rt; cache.len() == 0);
-    assert!(rt; found(&rt, &mut cache, 9, 9).is_none());
+    assert!(rt; cache.nearest(9).is_none());
 }

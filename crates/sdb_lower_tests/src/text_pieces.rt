@@ -25,26 +25,26 @@ fn pieces_of(rt: &impl Abort, alloc: Global, plain: &str) -> Text {
     Text::new(alloc, plain).expect(rt, "out of memory")
 }
 
-// The same text put in both, or in neither.
-fn put(rt: &impl Abort, alloc: Global, text: &mut Text, plain: &mut String, step: u64) {
+// Whether the same text was put in both, or in neither.
+fn put(rt: &impl Abort, alloc: Global, text: &mut Text, plain: &mut String, step: u64) -> bool {
     let new = repeated(rt, alloc, if step % 7 == 3 { 700 } else { 2 });
     let at = offset(step, plain.as_str());
     let done = text
         .insert(alloc, at, new.as_str())
         .expect(rt, "out of memory");
-    let byte = cut_at(plain.as_str(), at);
-    assert!(rt; done == byte.is_some(), "{step}");
-    if let Some(byte) = byte {
-        plain
-            .insert_str(byte, new.as_str())
-            .expect(rt, "out of memory");
-    }
+    let Some(byte) = cut_at(plain.as_str(), at) else {
+        return !done;
+    };
+    plain
+        .insert_str(byte, new.as_str())
+        .expect(rt, "out of memory");
+    done
 }
 
 // What stands from an offset on, as many units of it as are asked for, or none.
-fn standing(plain: &str, at: u64, count: u64) -> &str {
+fn standing<'a>(rt: &impl Abort, plain: &'a str, at: u64, count: u64) -> &'a str {
     match (cut_at(plain, at), cut_at(plain, at.saturating_add(count))) {
-        (Some(from), Some(to)) => plain.get(from..to).unwrap_or(""),
+        (Some(from), Some(to)) => plain.get(from..to).expect(rt, "in order"),
         _ => "",
     }
 }
@@ -56,16 +56,21 @@ fn without(rt: &impl Abort, alloc: Global, plain: &str, from: usize, len: usize)
     extended(rt, alloc, front, rest, 1)
 }
 
-// A text taken out of both, or of neither.
-fn take(rt: &impl Abort, alloc: Global, text: &mut Text, plain: &mut String, step: u64) {
+// Whether the same text was taken out of both, or of neither.
+fn take(rt: &impl Abort, alloc: Global, text: &mut Text, plain: &mut String, step: u64) -> bool {
     let at = offset(step, plain.as_str());
-    let old = standing(plain.as_str(), at, if step % 5 == 2 { 6_001 } else { 3 });
+    let old = standing(
+        rt,
+        plain.as_str(),
+        at,
+        if step % 5 == 2 { 6_001 } else { 3 },
+    );
     let done = text.remove(alloc, at, old).expect(rt, "out of memory");
-    let byte = cut_at(plain.as_str(), at);
-    assert!(rt; done == byte.is_some(), "{step}");
-    if let Some(byte) = byte {
-        *plain = without(rt, alloc, plain.as_str(), byte, old.len());
-    }
+    let Some(byte) = cut_at(plain.as_str(), at) else {
+        return !done;
+    };
+    *plain = without(rt, alloc, plain.as_str(), byte, old.len());
+    done
 }
 
 fn is(rt: &impl Abort, alloc: Global, text: &Text, plain: &str) -> bool {
@@ -76,12 +81,12 @@ fn is(rt: &impl Abort, alloc: Global, text: &Text, plain: &str) -> bool {
 
 fn go_along(rt: &impl Abort, alloc: Global, text: &mut Text, plain: &mut String) {
     for step in 0..60 {
-        if step % 3 == 2 {
-            take(rt, alloc, text, plain, step);
+        let done = if step % 3 == 2 {
+            take(rt, alloc, text, plain, step)
         } else {
-            put(rt, alloc, text, plain, step);
-        }
-        assert!(rt; is(rt, alloc, text, plain.as_str()), "{step}");
+            put(rt, alloc, text, plain, step)
+        };
+        assert!(rt; done && is(rt, alloc, text, plain.as_str()), "{step}");
     }
 }
 

@@ -268,50 +268,22 @@ fn one_refusal_refuses_all(rt: HostRuntime) {
     assert!(rt; transformed.err() == Some(Fault::NotTransformed));
 }
 
-// The components, each but the first after a comma.
-fn joined(rt: &impl Abort, alloc: Global, parts: &[String]) -> String {
-    let mut text = String::from_str(alloc, "[").expect(rt, "out of memory");
-    for part in parts {
-        if text.len() > 1 {
-            text.push(',').expect(rt, "out of memory");
-        }
-        text.push_str(part.as_str()).expect(rt, "out of memory");
+// The component, and 99 with this member behind it, at 1, 2 and so on or at 197, 195 and so on.
+fn followed(rt: &impl Abort, alloc: Global, first: &str, member: &str, is_falling: bool) -> String {
+    let mut text = String::from_str(alloc, first).expect(rt, "out of memory");
+    for i in 1..100_u64 {
+        let at = if is_falling { 199 - 2 * i } else { i };
+        let next = format!(in alloc; ",{{\"p\":[{at}],{member}}}").expect(rt, "out of memory");
+        text.push_str(next.as_str()).expect(rt, "out of memory");
     }
-    text.push(']').expect(rt, "out of memory");
     text
 }
 
-// An insert into each place between the letters of the delete, the last one first.
-fn inserts(rt: &impl Abort, alloc: Global) -> String {
-    let mut parts = Vec::new(alloc);
-    for i in 0..100_u64 {
-        let at = 199 - 2 * i;
-        let part = format!(in alloc; "{{\"p\":[{at}],\"si\":\"x\"}}");
-        parts
-            .push(part.expect(rt, "out of memory"))
-            .expect(rt, "out of memory");
-    }
-    joined(rt, alloc, parts.as_slice())
-}
-
-// The deletes that the one is cut into.
-fn pieces(rt: &impl Abort, alloc: Global) -> String {
-    let mut parts = Vec::new(alloc);
-    for at in 0..101 {
-        let text = if at == 0 || at == 100 { "a" } else { "aa" };
-        let part = format!(in alloc; "{{\"p\":[{at}],\"sd\":\"{text}\"}}");
-        parts
-            .push(part.expect(rt, "out of memory"))
-            .expect(rt, "out of memory");
-    }
-    joined(rt, alloc, parts.as_slice())
-}
-
-// A row of a delete that inserts cut.
+// A row of a delete of 200 letters that inserts cut, the last one first.
 fn cuts(rt: &impl Abort, alloc: Global) -> String {
     let letters = extended(rt, alloc, "", "a", 200);
-    let left_after = pieces(rt, alloc);
-    let right = inserts(rt, alloc);
+    let right = followed(rt, alloc, r#"{"p":[199],"si":"x"}"#, r#""si":"x""#, true);
+    let left_after = followed(rt, alloc, r#"{"p":[0],"sd":"a"}"#, r#""sd":"aa""#, false);
     let right_after = extended(
         rt,
         alloc,
@@ -319,9 +291,15 @@ fn cuts(rt: &impl Abort, alloc: Global) -> String {
         r#",{"p":[0],"si":"x"}"#,
         99,
     );
-    format!(in alloc;
-        "[[[{{\"p\":[0],\"sd\":\"{letters}\"}}],{right},{left_after},[{right_after}],5050]]"
-    ).expect(rt, "out of memory")
+    let left = format!(in alloc; "[{{\"p\":[0],\"sd\":\"{letters}\"}}]").expect(
+        rt,
+        "out of memory",
+    );
+    let last = r#"{"p":[100],"sd":"a"}"#;
+    format!(in alloc; "[[{left},[{right}],[{left_after},{last}],[{right_after}],5050]]").expect(
+        rt,
+        "out of memory",
+    )
 }
 
 #[test]

@@ -5,9 +5,9 @@ ghost use Rattle.sdb_value.specs.View.{view};
 use crate::texts::{each_row, extended, is_shown, json, json_of, parsed, says, shown, text_of};
 use json::Writer;
 use sdb_value::{
-    Change, Json, List, MAX, Members, Path, Step, Text, ValueFault, Whole, change_at, count_of,
-    cut_at, find, find_mut, from_value, insert_item, laws, list_mut, object_mut, put_member,
-    remove_item, remove_member, replace_item, same_value, text_mut, units, whole_of, write_value,
+    Change, Json, MAX, Members, Path, Step, ValueFault, Whole, change_at, count_of, cut_at, find,
+    find_mut, from_value, insert_item, laws, list_mut, object_mut, put_member, remove_item,
+    remove_member, replace_item, same_value, text_mut, units, whole_of, write_value,
 };
 use serde_json::Value;
 use std::alloc::{AllocError, Global};
@@ -19,22 +19,18 @@ fn written(rt: &impl Abort, alloc: Global, json: &Json) -> Vec<u8> {
     out.into_inner()
 }
 
-fn step(rt: &impl Abort, item: &Json) -> Step {
-    match item {
-        Json::Text(key) => Step::Key(key.to_string(key.allocator()).expect(rt, "out of memory")),
-        Json::Int(index) => Step::Index(index.get().unsigned_abs()),
-        _ => panic!(rt; "no step"),
+fn step(rt: &impl Abort, alloc: Global, item: &Value) -> Step {
+    match item.as_u64() {
+        Some(index) => Step::Index(index),
+        None => Step::Key(text_of(rt, alloc, &item.as_str().expect(rt, "a step"))),
     }
 }
 
 // The steps that a list of keys and indexes names.
-fn path_of(rt: &impl Abort, alloc: Global, steps: &Json) -> Path {
+fn path_of(rt: &impl Abort, alloc: Global, steps: &Value) -> Path {
     let mut path = Vec::new(alloc);
-    let Json::List(items) = steps else {
-        panic!(rt; "no list");
-    };
-    for item in items.iter() {
-        path.push(step(rt, item)).expect(rt, "out of memory");
+    for item in steps.as_array().expect(rt, "a list") {
+        path.push(step(rt, alloc, item)).expect(rt, "out of memory");
     }
     path
 }
@@ -67,12 +63,9 @@ fn a_copy_is_the_same(rt: HostRuntime) {
     assert!(rt; is_shown(&rt, rt.alloc(), &copy, PRINTED));
 }
 
-// Whether the text is refused for a number in it.
-fn is_no_number(rt: &impl Abort, alloc: Global, text: &str) -> bool {
-    matches!(
-        from_value(alloc, &parsed(rt, alloc, text)),
-        Err(ValueFault::Number)
-    )
+// Why the text is refused.
+fn fault(rt: &impl Abort, alloc: Global, text: &str) -> Option<ValueFault> {
+    from_value(alloc, &parsed(rt, alloc, text)).err()
 }
 
 #[test]
@@ -85,7 +78,10 @@ fn other_numbers_are_refused(rt: HostRuntime) {
         "-9007199254740992",
         r#"{"k":[0,1.5]}"#,
     ] {
-        assert!(rt; is_no_number(&rt, rt.alloc(), text), "{text}");
+        assert!(rt;
+            matches!(fault(&rt, rt.alloc(), text), Some(ValueFault::Number)),
+            "{text}"
+        );
     }
 }
 
@@ -100,8 +96,13 @@ fn depth_is_counted(rt: HostRuntime) {
 
 #[test]
 fn depth_is_limited(rt: HostRuntime) {
-    let deeper = parsed(&rt, rt.alloc(), deep(&rt, rt.alloc(), 51).as_str());
-    assert!(rt; matches!(from_value(rt.alloc(), &deeper), Err(ValueFault::Depth)));
+    let deeper = deep(&rt, rt.alloc(), 51);
+    assert!(rt;
+        matches!(
+            fault(&rt, rt.alloc(), deeper.as_str()),
+            Some(ValueFault::Depth)
+        )
+    );
 }
 
 // Rows of a JSON number, and what it is as a whole number and as a count.
@@ -251,7 +252,7 @@ fn is_place(rt: &impl Abort, alloc: Global, row: &[Value]) -> bool {
     let [steps, wanted] = row else {
         return false;
     };
-    let path = path_of(rt, alloc, &json_of(rt, alloc, steps));
+    let path = path_of(rt, alloc, steps);
     let wanted = text_of(rt, alloc, wanted);
     let mut value = json(rt, alloc, PLACED);
     shown_or_nothing(rt, alloc, find(&value, &path)).as_str() == wanted.as_str()
@@ -274,7 +275,7 @@ fn put_truth(value: &mut Json, path: &Path) {
 #[test]
 fn a_place_is_written(rt: HostRuntime) {
     let mut value = json(&rt, rt.alloc(), PLACED);
-    let path = path_of(&rt, rt.alloc(), &json(&rt, rt.alloc(), r#"["a",1,"b"]"#));
+    let path = path_of(&rt, rt.alloc(), &parsed(&rt, rt.alloc(), r#"["a",1,"b"]"#));
     put_truth(&mut value, &path);
     let after = r#"{"a":[1,{"b":true}],"c":null,"d":true}"#;
     assert!(rt; is_shown(&rt, rt.alloc(), &value, after));
@@ -303,7 +304,7 @@ impl Change for Replace<'_> {
 
 // Puts null at the path, and answers how deep the value there was.
 fn put_null(rt: &impl Abort, alloc: Global, value: &mut Json, steps: &str) -> Option<u64> {
-    let path = path_of(rt, alloc, &json(rt, alloc, steps));
+    let path = path_of(rt, alloc, &parsed(rt, alloc, steps));
     let null = Json::Null;
     let replace = Replace { alloc, new: &null };
     let depth = change_at(alloc, value, &path, replace).expect(rt, "out of memory")?;
@@ -399,20 +400,14 @@ fn pairs_are_measured(rt: HostRuntime) {
     }
 }
 
-fn change_items(rt: &impl Abort, alloc: Global, items: &mut List) {
-    let inserted = insert_item(alloc, items, 3, json(rt, alloc, "4"));
-    assert!(rt; inserted.expect(rt, "out of memory"));
-    assert!(rt; remove_item(alloc, items, 0).expect(rt, "out of memory"));
-    let replaced = replace_item(alloc, items, 1, json(rt, alloc, r#""q""#));
-    assert!(rt; replaced.expect(rt, "out of memory"));
-}
-
 #[test]
 fn a_list_is_changed_in_place(rt: HostRuntime) {
+    let (four, q) = (json(&rt, rt.alloc(), "4"), json(&rt, rt.alloc(), r#""q""#));
     let mut list = json(&rt, rt.alloc(), "[1,2,3]");
-    if let Some(items) = list_mut(&mut list) {
-        change_items(&rt, rt.alloc(), items);
-    }
+    let items = list_mut(&mut list).expect(&rt, "a list");
+    assert!(rt; insert_item(rt.alloc(), items, 3, four).expect(&rt, "out of memory"));
+    assert!(rt; remove_item(rt.alloc(), items, 0).expect(&rt, "out of memory"));
+    assert!(rt; replace_item(rt.alloc(), items, 1, q).expect(&rt, "out of memory"));
     assert!(rt; is_shown(&rt, rt.alloc(), &list, r#"[2,"q",4]"#));
 }
 
@@ -420,32 +415,30 @@ fn put(rt: &impl Abort, alloc: Global, members: &mut Members, key: &str, value: 
     put_member(alloc, members, text_of(rt, alloc, &key), value).expect(rt, "out of memory");
 }
 
-fn change_members(rt: &impl Abort, alloc: Global, members: &mut Members) {
-    put(rt, alloc, members, "b", json(rt, alloc, "2"));
-    put(rt, alloc, members, "c", Json::Null);
-    remove_member(alloc, members, "a").expect(rt, "out of memory");
-}
-
 #[test]
 fn an_object_is_changed_in_place(rt: HostRuntime) {
     let mut object = json(&rt, rt.alloc(), r#"{"a":1,"c":3}"#);
-    if let Some(members) = object_mut(&mut object) {
-        change_members(&rt, rt.alloc(), members);
-    }
+    let members = object_mut(&mut object).expect(&rt, "an object");
+    put(&rt, rt.alloc(), members, "b", json(&rt, rt.alloc(), "2"));
+    put(&rt, rt.alloc(), members, "c", Json::Null);
+    remove_member(rt.alloc(), members, "a").expect(&rt, "out of memory");
     assert!(rt; is_shown(&rt, rt.alloc(), &object, r#"{"b":2,"c":null}"#));
-}
-
-fn change_text(rt: &impl Abort, alloc: Global, inside: &mut Text) {
-    assert!(rt; inside.insert(alloc, 3, "xy").expect(rt, "out of memory"));
-    assert!(rt; inside.remove(alloc, 1, "😀x").expect(rt, "out of memory"));
 }
 
 #[test]
 fn a_text_is_changed_in_place(rt: HostRuntime) {
     let mut text = json(&rt, rt.alloc(), r#""a😀b""#);
-    if let Some(inside) = text_mut(&mut text) {
-        change_text(&rt, rt.alloc(), inside);
-    }
+    let inside = text_mut(&mut text).expect(&rt, "a text");
+    assert!(rt;
+        inside
+            .insert(rt.alloc(), 3, "xy")
+            .expect(&rt, "out of memory")
+    );
+    assert!(rt;
+        inside
+            .remove(rt.alloc(), 1, "😀x")
+            .expect(&rt, "out of memory")
+    );
     assert!(rt; is_shown(&rt, rt.alloc(), &text, r#""ayb""#));
 }
 
