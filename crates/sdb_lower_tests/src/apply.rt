@@ -2,7 +2,7 @@
 //! server.
 use crate::texts::{component, each_row, is_shown, is_value, json, json_of, op_of, parsed, says};
 use sdb_apply::{ApplyFault, Refused, apply, apply_one};
-use sdb_value::Json;
+use sdb_component::Component;
 use serde_json::Value;
 use std::alloc::Global;
 use std::process::Abort;
@@ -85,23 +85,20 @@ fn operations_are_applied_or_refused(rt: HostRuntime) {
     assert!(rt; each_row(&rt, rt.alloc(), STEPS, holds) == 48);
 }
 
-// Applies the one component that the text names.
-fn applied_one(rt: &impl Abort, alloc: Global, value: &mut Json, text: &str) -> bool {
-    apply_one(
-        alloc,
-        value,
-        &component(rt, alloc, &parsed(rt, alloc, text)),
-    )
-    .is_ok()
+// The one component that the text names.
+fn one(rt: &impl Abort, alloc: Global, text: &str) -> Component {
+    component(rt, alloc, &parsed(rt, alloc, text))
 }
 
 // An insert is applied, and one past the end refused.
 #[test]
 fn one_component_is_applied(rt: HostRuntime) {
+    let insert = one(&rt, rt.alloc(), r#"[{"p":["l",1],"li":2}]"#);
+    let past = one(&rt, rt.alloc(), r#"[{"p":["l",3],"li":4}]"#);
     let mut value = json(&rt, rt.alloc(), r#"{"l":[1]}"#);
-    assert!(rt; applied_one(&rt, rt.alloc(), &mut value, r#"[{"p":["l",1],"li":2}]"#));
+    assert!(rt; apply_one(rt.alloc(), &mut value, &insert).is_ok());
     assert!(rt; is_shown(&rt, rt.alloc(), &value, r#"{"l":[1,2]}"#));
-    assert!(rt; !applied_one(&rt, rt.alloc(), &mut value, r#"[{"p":["l",3],"li":4}]"#));
+    assert!(rt; apply_one(rt.alloc(), &mut value, &past).is_err());
     assert!(rt; is_shown(&rt, rt.alloc(), &value, r#"{"l":[1,2]}"#));
 }
 

@@ -111,10 +111,8 @@ fn has_size(rt: &impl Abort, alloc: Global, row: &[Value]) -> bool {
     let [sent, size] = row else {
         return false;
     };
-    is_sized(
-        &component(rt, alloc, sent),
-        size.as_u64().expect(rt, "a size"),
-    )
+    let size = size.as_u64().expect(rt, "a size");
+    is_sized(&component(rt, alloc, sent), size)
 }
 
 #[test]

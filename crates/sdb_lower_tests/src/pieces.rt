@@ -127,12 +127,17 @@ fn change_apart(rt: &impl Abort, alloc: Global, list: &mut Pieces<Number>, plain
     assert!(rt; !is(rt, alloc, list, &before));
 }
 
+// A list in one block, which was made beside the vector.
+fn one_block(rt: &impl Abort, alloc: Global, plain: &mut Vec<u64>) -> Pieces<Number> {
+    let mut list = Pieces::from_vec(Vec::new(alloc));
+    put_all(rt, alloc, &mut list, plain);
+    shared(rt, alloc, list)
+}
+
 #[test]
 fn copies_are_changed_apart(rt: HostRuntime) {
     let mut plain = Vec::new(rt.alloc());
-    let mut list = Pieces::from_vec(Vec::new(rt.alloc()));
-    put_all(&rt, rt.alloc(), &mut list, &mut plain);
-    let mut list = shared(&rt, rt.alloc(), list);
+    let mut list = one_block(&rt, rt.alloc(), &mut plain);
     assert!(rt; list.part_count() == 1);
     assert!(rt; is(&rt, rt.alloc(), &list, &plain));
     change_apart(&rt, rt.alloc(), &mut list, &mut plain);

@@ -99,18 +99,24 @@ fn a_text_in_pieces_is_that_of_a_string(rt: HostRuntime) {
     assert!(rt; text.part_count() > 3 && text.as_str().is_none());
 }
 
+fn shared(rt: &impl Abort, alloc: Global) -> Text {
+    let plain = repeated(rt, alloc, 2_000);
+    let text = pieces_of(rt, alloc, plain.as_str());
+    text.shared_copy(alloc).expect(rt, "out of memory")
+}
+
+// The copy stays as it was where the text is changed.
+fn change_apart(rt: &impl Abort, alloc: Global, text: &mut Text, copy: &Text) {
+    let before = copy.to_string(alloc).expect(rt, "out of memory");
+    assert!(rt; text.insert(alloc, 3_000, "x").expect(rt, "out of memory"));
+    assert!(rt; text.remove(alloc, 0, "a").expect(rt, "out of memory"));
+    assert!(rt; is(rt, alloc, copy, before.as_str()));
+    assert!(rt; !text.same(copy));
+}
+
 #[test]
 fn copies_of_a_text_are_changed_apart(rt: HostRuntime) {
-    let plain = repeated(&rt, rt.alloc(), 2_000);
-    let text = pieces_of(&rt, rt.alloc(), plain.as_str());
-    let mut text = text.shared_copy(rt.alloc()).expect(&rt, "out of memory");
+    let mut text = shared(&rt, rt.alloc());
     let copy = text.share(rt.alloc()).expect(&rt, "out of memory");
-    let before = copy.to_string(rt.alloc()).expect(&rt, "out of memory");
-    assert!(rt;
-        text.insert(rt.alloc(), 3_000, "x")
-            .expect(&rt, "out of memory")
-    );
-    assert!(rt; text.remove(rt.alloc(), 0, "a").expect(&rt, "out of memory"));
-    assert!(rt; is(&rt, rt.alloc(), &copy, before.as_str()));
-    assert!(rt; !text.same(&copy));
+    change_apart(&rt, rt.alloc(), &mut text, &copy);
 }

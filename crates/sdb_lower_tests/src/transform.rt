@@ -1,6 +1,6 @@
 //! `sdb_transform`: components and operations carried past one another.
 use crate::texts::{component, each_row, extended, is_op, is_printed, op, op_of, says};
-use sdb_component::Op;
+use sdb_component::{Component, Op};
 use sdb_transform::{Fault, Side, cross, transform, transform_one};
 use serde_json::Value;
 use std::alloc::Global;
@@ -192,6 +192,19 @@ const OTHERS: &str = r#"[
   [[{"oi":1,"p":["a","k"]}], [{"oi":2,"p":["b","k"]}], "either", [{"oi":1,"p":["a","k"]}]]
 ]"#;
 
+// Whether it was transformed into this, or E8.
+fn is_outcome(
+    rt: &impl Abort,
+    alloc: Global,
+    transformed: Result<Vec<Component>, Fault>,
+    wanted: &Value,
+) -> bool {
+    match transformed {
+        Ok(components) => is_op(rt, alloc, &Op::new(components), wanted),
+        Err(fault) => fault == Fault::NotTransformed && wanted.as_str() == Some("E8"),
+    }
+}
+
 // Whether this stands for the component after the other one, or E8.
 fn is_transformed(
     rt: &impl Abort,
@@ -201,10 +214,7 @@ fn is_transformed(
     wanted: &Value,
 ) -> bool {
     let (value, other) = (component(rt, alloc, value), component(rt, alloc, other));
-    match transform_one(alloc, value, &other, side) {
-        Ok(components) => is_op(rt, alloc, &Op::new(components), wanted),
-        Err(fault) => fault == Fault::NotTransformed && wanted.as_str() == Some("E8"),
-    }
+    is_outcome(rt, alloc, transform_one(alloc, value, &other, side), wanted)
 }
 
 // Whether the row holds as each side that it is for.
@@ -212,9 +222,9 @@ fn holds(rt: &impl Abort, alloc: Global, row: &[Value]) -> bool {
     let [value, other, side, wanted] = row else {
         return false;
     };
-    let side = side.as_str();
-    (side == Some("right") || is_transformed(rt, alloc, (value, other), Side::Left, wanted))
-        && (side == Some("left") || is_transformed(rt, alloc, (value, other), Side::Right, wanted))
+    let side = side.as_str().expect(rt, "a side");
+    (side == "right" || is_transformed(rt, alloc, (value, other), Side::Left, wanted))
+        && (side == "left" || is_transformed(rt, alloc, (value, other), Side::Right, wanted))
 }
 
 #[test]
@@ -279,27 +289,38 @@ fn followed(rt: &impl Abort, alloc: Global, first: &str, member: &str, is_fallin
     text
 }
 
+// The front, so many letters, and the end.
+fn around(rt: &impl Abort, alloc: Global, front: &str, letters: u64, end: &str) -> String {
+    let text = extended(rt, alloc, front, "x", letters);
+    extended(rt, alloc, text.as_str(), end, 1)
+}
+
+// The front, and the parts behind it.
+fn joined(rt: &impl Abort, alloc: Global, front: &str, parts: &[&str]) -> String {
+    let mut text = String::from_str(alloc, front).expect(rt, "out of memory");
+    for part in parts {
+        text.push_str(part).expect(rt, "out of memory");
+    }
+    text
+}
+
 // A row of a delete of 200 letters that inserts cut, the last one first.
 fn cuts(rt: &impl Abort, alloc: Global) -> String {
-    let letters = extended(rt, alloc, "", "a", 200);
+    let left = extended(rt, alloc, r#"[[[{"p":[0],"sd":""#, "a", 200);
     let right = followed(rt, alloc, r#"{"p":[199],"si":"x"}"#, r#""si":"x""#, true);
     let left_after = followed(rt, alloc, r#"{"p":[0],"sd":"a"}"#, r#""sd":"aa""#, false);
-    let right_after = extended(
-        rt,
-        alloc,
-        r#"{"p":[0],"si":"x"}"#,
-        r#",{"p":[0],"si":"x"}"#,
-        99,
-    );
-    let left = format!(in alloc; "[{{\"p\":[0],\"sd\":\"{letters}\"}}]").expect(
-        rt,
-        "out of memory",
-    );
-    let last = r#"{"p":[100],"sd":"a"}"#;
-    format!(in alloc; "[[{left},[{right}],[{left_after},{last}],[{right_after}],5050]]").expect(
-        rt,
-        "out of memory",
-    )
+    let insert = r#"{"p":[0],"si":"x"}"#;
+    let right_after = extended(rt, alloc, insert, r#",{"p":[0],"si":"x"}"#, 99);
+    let parts = [
+        r#""}],["#,
+        right.as_str(),
+        "],[",
+        left_after.as_str(),
+        r#",{"p":[100],"sd":"a"}],["#,
+        right_after.as_str(),
+        "],5050]]",
+    ];
+    joined(rt, alloc, left.as_str(), &parts)
 }
 
 #[test]
@@ -325,14 +346,19 @@ const BELOW: &str = r#"[{"p":[3,0,0],"si":"yy"},{"li":1,"p":[3,1]},{"li":2,"p":[
 
 // Two rows, of the removal of a text of so many letters that meets edits below it, from either side.
 fn removals(rt: &impl Abort, alloc: Global, letters: u64) -> String {
-    let text = extended(rt, alloc, "", "x", letters);
-    let removal = format!(in alloc; "[{{\"ld\":[\"{text}\",null],\"p\":[3]}}]");
-    let removal = removal.expect(rt, "out of memory");
-    let after = format!(in alloc; "[{{\"ld\":[\"yy{text}\",1,null],\"p\":[4]}}]");
-    let (after, other) = (after.expect(rt, "out of memory"), r#"[{"li":2,"p":[0]}]"#);
-    format!(in alloc;
-        "[[{removal},{BELOW},{after},{other},3],[{BELOW},{removal},{other},{after},3]]"
-    ).expect(rt, "out of memory")
+    let removal = around(rt, alloc, r#"[{"ld":[""#, letters, r#"",null],"p":[3]}]"#);
+    let after = around(
+        rt,
+        alloc,
+        r#"[{"ld":["yy"#,
+        letters,
+        r#"",1,null],"p":[4]}]"#,
+    );
+    let (removal, after, other) = (removal.as_str(), after.as_str(), r#"[{"li":2,"p":[0]}]"#);
+    let left = [removal, ",", BELOW, ",", after, ",", other, ",3],["];
+    let left = joined(rt, alloc, "[[", &left);
+    let right = [BELOW, ",", removal, ",", other, ",", after, ",3]]"];
+    joined(rt, alloc, left.as_str(), &right)
 }
 
 #[test]

@@ -5,8 +5,8 @@ ghost use Rattle.sdb_value.specs.View.{view};
 use crate::texts::{each_row, extended, is_shown, json, json_of, parsed, says, shown, text_of};
 use json::Writer;
 use sdb_value::{
-    Change, Json, MAX, Members, Path, Step, ValueFault, Whole, change_at, count_of, cut_at, find,
-    find_mut, from_value, insert_item, laws, list_mut, object_mut, put_member, remove_item,
+    Change, Json, List, MAX, Members, Path, Step, ValueFault, Whole, change_at, count_of, cut_at,
+    find, find_mut, from_value, insert_item, laws, list_mut, object_mut, put_member, remove_item,
     remove_member, replace_item, same_value, text_mut, units, whole_of, write_value,
 };
 use serde_json::Value;
@@ -183,10 +183,8 @@ fn has_size(rt: &impl Abort, alloc: Global, row: &[Value]) -> bool {
     let [value, size] = row else {
         return false;
     };
-    is_sized(
-        &json_of(rt, alloc, value),
-        size.as_u64().expect(rt, "a size"),
-    )
+    let size = size.as_u64().expect(rt, "a size");
+    is_sized(&json_of(rt, alloc, value), size)
 }
 
 #[test]
@@ -302,13 +300,17 @@ impl Change for Replace<'_> {
     }
 }
 
+fn depth_of(rt: &impl Abort, changed: Option<Result<u64, AllocError>>) -> Option<u64> {
+    Some(changed?.expect(rt, "out of memory"))
+}
+
 // Puts null at the path, and answers how deep the value there was.
 fn put_null(rt: &impl Abort, alloc: Global, value: &mut Json, steps: &str) -> Option<u64> {
     let path = path_of(rt, alloc, &parsed(rt, alloc, steps));
     let null = Json::Null;
     let replace = Replace { alloc, new: &null };
-    let depth = change_at(alloc, value, &path, replace).expect(rt, "out of memory")?;
-    Some(depth.expect(rt, "out of memory"))
+    let changed = change_at(alloc, value, &path, replace);
+    depth_of(rt, changed.expect(rt, "out of memory"))
 }
 
 // One place takes null, and places that aren't there change nothing.
@@ -330,21 +332,27 @@ fn the_whole_value_is_changed(rt: HostRuntime) {
     assert!(rt; is_shown(&rt, rt.alloc(), &value, "null"));
 }
 
+// Asserts where the text is cut at each offset.
+fn assert_cuts(rt: &impl Abort, text: &str, cuts: &[(u64, Option<usize>)]) {
+    for (offset, wanted) in cuts {
+        assert!(rt; cut_at(text, *offset) == *wanted, "{offset}");
+    }
+}
+
 #[test]
 fn texts_are_measured(rt: HostRuntime) {
     assert!(rt; units("") == 0);
     assert!(rt; units("a😀b") == 4);
     assert!(rt; units("aé€") == 3);
-    for (offset, want) in [
+    let cuts = [
         (0, Some(0)),
         (1, Some(1)),
         (2, None),
         (3, Some(5)),
         (4, Some(6)),
         (5, None),
-    ] {
-        assert!(rt; cut_at("a😀b", offset) == want, "{offset}");
-    }
+    ];
+    assert_cuts(&rt, "a😀b", &cuts);
 }
 
 // A pair over the end of the first 4096 bytes, and one more behind the second.
@@ -359,7 +367,7 @@ fn long(rt: &impl Abort, alloc: Global) -> String {
 fn long_texts_are_measured(rt: HostRuntime) {
     let text = long(&rt, rt.alloc());
     assert!(rt; units(text.as_str()) == 9099);
-    for (offset, want) in [
+    let cuts = [
         (4094, Some(4094)),
         (4095, Some(4095)),
         (4096, None),
@@ -372,9 +380,8 @@ fn long_texts_are_measured(rt: HostRuntime) {
         (9098, None),
         (9099, Some(9103)),
         (9100, None),
-    ] {
-        assert!(rt; cut_at(text.as_str(), offset) == want, "{offset}");
-    }
+    ];
+    assert_cuts(&rt, text.as_str(), &cuts);
 }
 
 // Pairs alone, from the end of the first 4096 bytes to that of the third.
@@ -387,7 +394,7 @@ fn pairs(rt: &impl Abort, alloc: Global) -> String {
 fn pairs_are_measured(rt: HostRuntime) {
     let text = pairs(&rt, rt.alloc());
     assert!(rt; units(text.as_str()) == 8192);
-    for (offset, want) in [
+    let cuts = [
         (4096, Some(4096)),
         (4097, None),
         (4098, Some(4100)),
@@ -395,19 +402,22 @@ fn pairs_are_measured(rt: HostRuntime) {
         (6145, None),
         (8192, Some(12288)),
         (8193, None),
-    ] {
-        assert!(rt; cut_at(text.as_str(), offset) == want, "{offset}");
-    }
+    ];
+    assert_cuts(&rt, text.as_str(), &cuts);
+}
+
+fn change_items(rt: &impl Abort, alloc: Global, items: &mut List) {
+    let inserted = insert_item(alloc, items, 3, json(rt, alloc, "4"));
+    assert!(rt; inserted.expect(rt, "out of memory"));
+    assert!(rt; remove_item(alloc, items, 0).expect(rt, "out of memory"));
+    let replaced = replace_item(alloc, items, 1, json(rt, alloc, r#""q""#));
+    assert!(rt; replaced.expect(rt, "out of memory"));
 }
 
 #[test]
 fn a_list_is_changed_in_place(rt: HostRuntime) {
-    let (four, q) = (json(&rt, rt.alloc(), "4"), json(&rt, rt.alloc(), r#""q""#));
     let mut list = json(&rt, rt.alloc(), "[1,2,3]");
-    let items = list_mut(&mut list).expect(&rt, "a list");
-    assert!(rt; insert_item(rt.alloc(), items, 3, four).expect(&rt, "out of memory"));
-    assert!(rt; remove_item(rt.alloc(), items, 0).expect(&rt, "out of memory"));
-    assert!(rt; replace_item(rt.alloc(), items, 1, q).expect(&rt, "out of memory"));
+    change_items(&rt, rt.alloc(), list_mut(&mut list).expect(&rt, "a list"));
     assert!(rt; is_shown(&rt, rt.alloc(), &list, r#"[2,"q",4]"#));
 }
 
@@ -415,13 +425,20 @@ fn put(rt: &impl Abort, alloc: Global, members: &mut Members, key: &str, value: 
     put_member(alloc, members, text_of(rt, alloc, &key), value).expect(rt, "out of memory");
 }
 
+fn change_members(rt: &impl Abort, alloc: Global, members: &mut Members) {
+    put(rt, alloc, members, "b", json(rt, alloc, "2"));
+    put(rt, alloc, members, "c", Json::Null);
+    remove_member(alloc, members, "a").expect(rt, "out of memory");
+}
+
 #[test]
 fn an_object_is_changed_in_place(rt: HostRuntime) {
     let mut object = json(&rt, rt.alloc(), r#"{"a":1,"c":3}"#);
-    let members = object_mut(&mut object).expect(&rt, "an object");
-    put(&rt, rt.alloc(), members, "b", json(&rt, rt.alloc(), "2"));
-    put(&rt, rt.alloc(), members, "c", Json::Null);
-    remove_member(rt.alloc(), members, "a").expect(&rt, "out of memory");
+    change_members(
+        &rt,
+        rt.alloc(),
+        object_mut(&mut object).expect(&rt, "an object"),
+    );
     assert!(rt; is_shown(&rt, rt.alloc(), &object, r#"{"b":2,"c":null}"#));
 }
 
@@ -458,6 +475,13 @@ fn change_some(rt: &impl Abort, alloc: Global, value: &mut Json) {
     assert!(rt; put_null(rt, alloc, value, r#"["t"]"#) == Some(0));
 }
 
+// Whether a copy takes the same changes once more.
+fn is_changed_again(rt: &impl Abort, alloc: Global, first: &Json) -> bool {
+    let mut third = first.shared_copy(alloc).expect(rt, "out of memory");
+    change_some(rt, alloc, &mut third);
+    same_value(first, &third)
+}
+
 // A copy stays as it was where the other is changed, whichever is changed first.
 #[test]
 fn copies_of_a_value_are_changed_apart(rt: HostRuntime) {
@@ -466,9 +490,7 @@ fn copies_of_a_value_are_changed_apart(rt: HostRuntime) {
     let mut first = shared.try_clone(rt.alloc()).expect(&rt, "out of memory");
     let second = first.try_clone(rt.alloc()).expect(&rt, "out of memory");
     change_some(&rt, rt.alloc(), &mut first);
-    let mut third = first.shared_copy(rt.alloc()).expect(&rt, "out of memory");
-    change_some(&rt, rt.alloc(), &mut third);
-    assert!(rt; same_value(&first, &third));
+    assert!(rt; is_changed_again(&rt, rt.alloc(), &first));
     assert!(rt; same_value(&value, &second));
     assert!(rt; same_value(&shared, &second));
     assert!(rt; !same_value(&first, &second));
