@@ -1,12 +1,11 @@
 //! `sdb_apply`: components and operations applied. That a refused edit changes nothing is in the lines of the
 //! server.
-use crate::texts::{is_shown, json, op};
+use crate::texts::{component, each_row, is_shown, is_value, json, json_of, op_of, parsed, says};
 use sdb_apply::{ApplyFault, Refused, apply, apply_one};
-use sdb_component::read_op;
-use sdb_value::{Json, from_value};
+use sdb_component::Component;
 use serde_json::Value;
 use std::alloc::Global;
-use std::test::Fail;
+use std::process::Abort;
 
 // Rows of a value, an operation, which of its components can't be applied, and the value afterwards.
 const STEPS: &str = r#"[
@@ -61,84 +60,51 @@ const STEPS: &str = r#"[
 ]"#;
 
 // Which component was not applied.
-fn refused(applied: Result<(), Refused>) -> Result<Option<u64>, Fail> {
+pub(crate) fn refused(rt: &impl Abort, applied: Result<(), Refused>) -> Option<u64> {
     match applied {
-        Ok(()) => Ok(None),
-        Err(refusal) => match refusal.why {
-            ApplyFault::NotApplied => Ok(Some(refusal.at as u64)),
-            ApplyFault::Memory => Err("no memory".into()),
-        },
+        Ok(()) => None,
+        Err(refusal) => {
+            assert!(rt; refusal.why == ApplyFault::NotApplied);
+            Some(refusal.at as u64)
+        }
     }
-}
-
-fn why_not(alloc: Global, value: &mut Json, steps: &Value) -> Result<Option<u64>, Fail> {
-    let op = read_op(alloc, steps)?;
-    refused(apply(alloc, value, &op))
-}
-
-fn is_value(alloc: Global, value: &Json, wanted: &Value) -> Result<bool, Fail> {
-    is_shown(alloc, value, wanted.to_string(alloc)?.as_str())
 }
 
 // Whether the operation is applied or refused so, and leaves this.
-fn becomes(
-    alloc: Global,
-    value: &mut Json,
-    steps: &Value,
-    at: Option<u64>,
-    after: &Value,
-) -> Result<bool, Fail> {
-    Ok(why_not(alloc, value, steps)? == at && is_value(alloc, value, after)?)
-}
-
-fn holds(alloc: Global, row: &Value) -> Result<bool, Fail> {
-    let [before, steps, at, after] = row.as_array().ok_or("no row")?.as_slice() else {
-        return Err("no row of four".into());
+fn holds(rt: &impl Abort, alloc: Global, row: &[Value]) -> bool {
+    let [before, steps, at, after] = row else {
+        return false;
     };
-    let mut value = from_value(alloc, before)?;
-    becomes(alloc, &mut value, steps, at.as_u64(), after)
+    let mut value = json_of(rt, alloc, before);
+    let applied = apply(alloc, &mut value, &op_of(rt, alloc, steps));
+    refused(rt, applied) == at.as_u64() && is_value(rt, alloc, &value, after)
 }
 
 #[test]
-fn operations_are_applied_or_refused(rt: HostRuntime) -> Result<(), Fail> {
-    let rows = Value::from_str(rt.alloc(), STEPS)?;
-    let rows = rows.as_array().ok_or("no rows")?;
-    assert!(rt; rows.len() == 48);
-    for row in rows {
-        assert!(rt; holds(rt.alloc(), row)?, "{row}");
-    }
-    Ok(())
+fn operations_are_applied_or_refused(rt: HostRuntime) {
+    assert!(rt; each_row(&rt, rt.alloc(), STEPS, holds) == 48);
 }
 
-// Applies the one component that the text names.
-fn applied_one(alloc: Global, value: &mut Json, text: &str) -> Result<bool, Fail> {
-    match op(alloc, text)?.components() {
-        [component] => Ok(apply_one(alloc, value, component).is_ok()),
-        _ => Err("no component".into()),
-    }
+// The one component that the text names.
+fn one(rt: &impl Abort, alloc: Global, text: &str) -> Component {
+    component(rt, alloc, &parsed(rt, alloc, text))
 }
 
-// Whether an insert is applied, and one past the end refused.
-fn takes_one_insert(alloc: Global, value: &mut Json) -> Result<bool, Fail> {
-    Ok(
-        applied_one(alloc, value, r#"[{"p":["l",1],"li":2}]"#)?
-            && is_shown(alloc, value, r#"{"l":[1,2]}"#)?
-            && !applied_one(alloc, value, r#"[{"p":["l",3],"li":4}]"#)?
-            && is_shown(alloc, value, r#"{"l":[1,2]}"#)?,
-    )
+// An insert is applied, and one past the end refused.
+#[test]
+fn one_component_is_applied(rt: HostRuntime) {
+    let insert = one(&rt, rt.alloc(), r#"[{"p":["l",1],"li":2}]"#);
+    let past = one(&rt, rt.alloc(), r#"[{"p":["l",3],"li":4}]"#);
+    let mut value = json(&rt, rt.alloc(), r#"{"l":[1]}"#);
+    assert!(rt; apply_one(rt.alloc(), &mut value, &insert).is_ok());
+    assert!(rt; is_shown(&rt, rt.alloc(), &value, r#"{"l":[1,2]}"#));
+    assert!(rt; apply_one(rt.alloc(), &mut value, &past).is_err());
+    assert!(rt; is_shown(&rt, rt.alloc(), &value, r#"{"l":[1,2]}"#));
 }
 
 #[test]
-fn one_component_is_applied(rt: HostRuntime) -> Result<(), Fail> {
-    let mut value = json(rt.alloc(), r#"{"l":[1]}"#)?;
-    assert!(rt; takes_one_insert(rt.alloc(), &mut value)?);
-    Ok(())
-}
-
-#[test]
-fn faults_are_named(rt: HostRuntime) -> Result<(), Fail> {
-    let refused = ApplyFault::NotApplied.to_string(rt.alloc())?;
-    assert!(rt; refused.as_str() == "operation can not be applied");
-    assert!(rt; ApplyFault::Memory.to_string(rt.alloc())?.as_str() == "out of memory");
-    Ok(())
+fn faults_are_named(rt: HostRuntime) {
+    let refused = "operation can not be applied";
+    assert!(rt; says(&rt, rt.alloc(), &ApplyFault::NotApplied, refused));
+    assert!(rt; says(&rt, rt.alloc(), &ApplyFault::Memory, "out of memory"));
 }

@@ -1,10 +1,10 @@
 //! `sdb_component`: operations read, copied, weighed and printed. What is refused is in the lines of the server.
-use crate::texts::{op, printed};
+use crate::texts::{component, each_row, is_printed, op, op_of, parsed, says, text_of};
 use json::Writer;
-use sdb_component::{Component, Op, OpFault, op_value, read_op, weight, write_op};
+use sdb_component::{Component, Op, OpFault, weight, write_op};
 use serde_json::Value;
 use std::alloc::Global;
-use std::test::Fail;
+use std::process::Abort;
 
 // Rows of an operation, and what it reads as, printed again.
 const SHAPES: &str = r#"[
@@ -26,36 +26,29 @@ const SHAPES: &str = r#"[
 ]"#;
 
 // The operation, written without a JSON value between.
-fn written(alloc: Global, op: &Op) -> Result<Vec<u8>, Fail> {
+fn written(rt: &impl Abort, alloc: Global, op: &Op) -> Vec<u8> {
     let mut out = Writer::new(Vec::new(alloc));
-    write_op(op, &mut out)?;
-    Ok(out.into_inner())
+    write_op(op, &mut out).expect(rt, "out of memory");
+    out.into_inner()
 }
 
-fn is_spelled(alloc: Global, op: &Op, wanted: &str) -> Result<bool, Fail> {
-    let shown = printed(alloc, op)?;
-    Ok(shown.as_str() == wanted && written(alloc, op)?.as_slice() == wanted.as_bytes())
+// Whether the operation is printed and written as this value is.
+fn is_spelled(rt: &impl Abort, alloc: Global, op: &Op, wanted: &Value) -> bool {
+    let wanted = text_of(rt, alloc, wanted);
+    is_printed(rt, alloc, op, wanted.as_str())
+        && written(rt, alloc, op).as_slice() == wanted.as_bytes()
 }
 
-// Whether the value is read, and printed again as this text.
-fn is_read_as(alloc: Global, sent: &Value, wanted: &str) -> Result<bool, Fail> {
-    is_spelled(alloc, &read_op(alloc, sent)?, wanted)
-}
-
-fn holds(alloc: Global, row: &Value) -> Result<bool, Fail> {
-    let [sent, wanted] = row.as_array().ok_or("no row")?.as_slice() else {
-        return Err("no row of two".into());
+fn holds(rt: &impl Abort, alloc: Global, row: &[Value]) -> bool {
+    let [sent, wanted] = row else {
+        return false;
     };
-    is_read_as(alloc, sent, wanted.to_string(alloc)?.as_str())
+    is_spelled(rt, alloc, &op_of(rt, alloc, sent), wanted)
 }
 
 #[test]
-fn each_shape_is_read_and_printed(rt: HostRuntime) -> Result<(), Fail> {
-    let rows = Value::from_str(rt.alloc(), SHAPES)?;
-    for row in rows.as_array().ok_or("no rows")? {
-        assert!(rt; holds(rt.alloc(), row)?, "{row}");
-    }
-    Ok(())
+fn each_shape_is_read_and_printed(rt: HostRuntime) {
+    each_row(&rt, rt.alloc(), SHAPES, holds);
 }
 
 // An operation of all nine shapes, each in containers of containers.
@@ -71,29 +64,19 @@ const NINE: &str = r#"[
     {"od":["q",{"r":1}],"oi":{"s":[2,[3]]},"p":[6,"g"]}
 ]"#;
 
-fn copy_of_nine(alloc: Global) -> Result<Op, Fail> {
-    Ok(op(alloc, NINE)?.try_clone(alloc)?)
-}
-
-fn is_nine(alloc: Global, copy: &Op) -> Result<bool, Fail> {
-    let sent = Value::from_str(alloc, NINE)?.to_string(alloc)?;
-    is_spelled(alloc, copy, sent.as_str())
-}
-
 #[test]
-fn a_copy_is_the_same(rt: HostRuntime) -> Result<(), Fail> {
-    let copy = copy_of_nine(rt.alloc())?;
-    assert!(rt; is_nine(rt.alloc(), &copy)?);
+fn a_copy_is_the_same(rt: HostRuntime) {
+    let copy = op(&rt, rt.alloc(), NINE)
+        .try_clone(rt.alloc())
+        .expect(&rt, "out of memory");
+    assert!(rt; is_spelled(&rt, rt.alloc(), &copy, &parsed(&rt, rt.alloc(), NINE)));
     assert!(rt; copy.components().len() == 9 && weight(&copy) == 11);
-    Ok(())
 }
 
 #[test]
-fn faults_are_named(rt: HostRuntime) -> Result<(), Fail> {
-    let form = OpFault::Form.to_string(rt.alloc())?;
-    assert!(rt; form.as_str() == "operation is badly formed");
-    assert!(rt; OpFault::Memory.to_string(rt.alloc())?.as_str() == "out of memory");
-    Ok(())
+fn faults_are_named(rt: HostRuntime) {
+    assert!(rt; says(&rt, rt.alloc(), &OpFault::Form, "operation is badly formed"));
+    assert!(rt; says(&rt, rt.alloc(), &OpFault::Memory, "out of memory"));
 }
 
 // Rows of an operation of one component, and how much there is to copy of it.
@@ -124,21 +107,15 @@ fn is_sized(component: &Component, wanted: u64) -> bool {
     is_sized_to(component, 18446744073709551615, wanted)
 }
 
-fn has_size(alloc: Global, row: &Value) -> Result<bool, Fail> {
-    let [sent, size] = row.as_array().ok_or("no row")?.as_slice() else {
-        return Err("no row of two".into());
+fn has_size(rt: &impl Abort, alloc: Global, row: &[Value]) -> bool {
+    let [sent, size] = row else {
+        return false;
     };
-    match read_op(alloc, sent)?.components() {
-        [component] => Ok(is_sized(component, size.as_u64().ok_or("a size")?)),
-        _ => Err("no component".into()),
-    }
+    let size = size.as_u64().expect(rt, "a size");
+    is_sized(&component(rt, alloc, sent), size)
 }
 
 #[test]
-fn sizes_are_counted_up_to_a_limit(rt: HostRuntime) -> Result<(), Fail> {
-    let rows = Value::from_str(rt.alloc(), SIZES)?;
-    for row in rows.as_array().ok_or("no rows")? {
-        assert!(rt; has_size(rt.alloc(), row)?, "{row}");
-    }
-    Ok(())
+fn sizes_are_counted_up_to_a_limit(rt: HostRuntime) {
+    each_row(&rt, rt.alloc(), SIZES, has_size);
 }

@@ -5,12 +5,12 @@ use sdb_apply::{ApplyFault, apply};
 use sdb_component::Op;
 use sdb_transform::{Crossed, Fault, cross};
 use std::alloc::Global;
-use std::test::Fail;
+use std::process::Abort;
 
 // The call that is tried stands between two of these, which that program knows by their size.
-fn mark(alloc: Global) -> Result<usize, Fail> {
-    let block: Vec<u8> = Vec::with_capacity(alloc, 7_919)?;
-    Ok(block.capacity())
+fn mark(rt: &impl Abort, alloc: Global) -> usize {
+    let block: Vec<u8> = Vec::with_capacity(alloc, 7_919).expect(rt, "out of memory");
+    block.capacity()
 }
 
 const OPERATION: &str = r#"[{"p":["n"],"na":1},{"p":["l",1],"li":[2]},{"p":["m"],"oi":"x"}]"#;
@@ -24,67 +24,58 @@ const VALUES: [&str; 4] = [
 ];
 
 // How many components are applied to the value, whose text is as it is due then.
-fn applied(alloc: Global, op: &Op) -> Result<usize, Fail> {
-    let mut value = json(alloc, VALUES[0])?;
-    mark(alloc)?;
+fn applied(rt: &impl Abort, alloc: Global, op: &Op) -> usize {
+    let mut value = json(rt, alloc, VALUES[0]);
+    mark(rt, alloc);
     let outcome = apply(alloc, &mut value, op);
-    mark(alloc)?;
+    mark(rt, alloc);
     let count = match outcome {
         Ok(()) => 3,
-        Err(refused) => match refused.why {
-            ApplyFault::Memory => refused.at,
-            ApplyFault::NotApplied => return Err("not applied".into()),
-        },
+        Err(refused) => {
+            assert!(rt; refused.why == ApplyFault::Memory);
+            refused.at
+        }
     };
-    let wanted = VALUES.get(count).ok_or("a value")?;
-    match is_shown(alloc, &value, wanted)? {
-        true => Ok(count),
-        false => Err("another value".into()),
-    }
-}
-
-fn is_applied(alloc: Global) -> Result<bool, Fail> {
-    let op = op(alloc, OPERATION)?;
-    Ok(applied(alloc, &op)? == 3 || applied(alloc, &op)? == 3)
+    assert!(rt; is_shown(rt, alloc, &value, VALUES.get(count).expect(rt, "a value")));
+    count
 }
 
 #[test]
-fn an_apply(rt: HostRuntime) -> Result<(), Fail> {
-    assert!(rt; is_applied(rt.alloc())?);
-    Ok(())
+fn an_apply(rt: HostRuntime) {
+    let op = op(&rt, rt.alloc(), OPERATION);
+    assert!(rt; applied(&rt, rt.alloc(), &op) == 3 || applied(&rt, rt.alloc(), &op) == 3);
 }
 
 // Carries them past one another, once more where there was no memory.
-fn crossed(alloc: Global, left: &Op, right: &Op) -> Result<Crossed, Fail> {
-    mark(alloc)?;
+fn crossed(rt: &impl Abort, alloc: Global, left: &Op, right: &Op) -> Crossed {
+    mark(rt, alloc);
     let outcome = cross(alloc, left, right);
-    mark(alloc)?;
+    mark(rt, alloc);
     match outcome {
-        Ok(crossed) => Ok(crossed),
-        Err(Fault::Memory) => Ok(cross(alloc, left, right)?),
-        Err(Fault::NotTransformed) => Err("not transformed".into()),
+        Ok(crossed) => crossed,
+        Err(fault) => {
+            assert!(rt; fault == Fault::Memory);
+            cross(alloc, left, right).expect(rt, "out of memory")
+        }
     }
 }
 
-fn are_crossed(alloc: Global) -> Result<bool, Fail> {
-    let left = op(alloc, r#"[{"p":["l",0],"li":1},{"p":["t",0],"si":"ab"}]"#)?;
-    let right = op(alloc, r#"[{"p":["l",0],"li":2},{"p":["t",0],"si":"c"}]"#)?;
-    let crossed = crossed(alloc, &left, &right)?;
-    Ok(
-        is_printed(
-            alloc,
-            &crossed.left,
-            r#"[{"li":1,"p":["l",0]},{"p":["t",0],"si":"ab"}]"#,
-        )? && is_printed(
-            alloc,
-            &crossed.right,
-            r#"[{"li":2,"p":["l",1]},{"p":["t",2],"si":"c"}]"#,
-        )? && crossed.pairs == 4,
-    )
-}
-
 #[test]
-fn a_cross(rt: HostRuntime) -> Result<(), Fail> {
-    assert!(rt; are_crossed(rt.alloc())?);
-    Ok(())
+fn a_cross(rt: HostRuntime) {
+    let left = op(
+        &rt,
+        rt.alloc(),
+        r#"[{"p":["l",0],"li":1},{"p":["t",0],"si":"ab"}]"#,
+    );
+    let right = op(
+        &rt,
+        rt.alloc(),
+        r#"[{"p":["l",0],"li":2},{"p":["t",0],"si":"c"}]"#,
+    );
+    let crossed = crossed(&rt, rt.alloc(), &left, &right);
+    let after = r#"[{"li":1,"p":["l",0]},{"p":["t",0],"si":"ab"}]"#;
+    assert!(rt; is_printed(&rt, rt.alloc(), &crossed.left, after));
+    let after = r#"[{"li":2,"p":["l",1]},{"p":["t",2],"si":"c"}]"#;
+    assert!(rt; is_printed(&rt, rt.alloc(), &crossed.right, after));
+    assert!(rt; crossed.pairs == 4);
 }

@@ -2,12 +2,12 @@
 ghost use Rattle.std.specs.Prelude.{◌≡◌, ◌∷◌, [], ◌++◌, decimal, OnOk};
 ghost use Rattle.sdb_lower_tests.specs.LongestLine.{TakesLine, has_bytes};
 
+use crate::texts::says;
 use sdb_lines::{Counts, Replier, RunFault, WatchedReader, WatchedWriter, run_lines};
 use std::alloc::{AllocError, Global};
 use std::cell::Cell;
 use std::io;
 use std::io::{ErrorKind, Read, Write};
-use std::test::Fail;
 
 // Answers a line with the length of the longest line so far, and `bad` to one that can't be read.
 #[derive(Drop)]
@@ -320,25 +320,23 @@ fn run_widely(alloc: Global, input: &[u8], flow: &Flow) -> (Result<Counts, RunFa
 }
 
 #[test]
-fn writes_before_much_is_pending(rt: HostRuntime) -> Result<(), AllocError> {
+fn writes_before_much_is_pending(rt: HostRuntime) {
     let flow = Flow {
         written: Cell::new(0),
         flushed: Cell::new(0),
     };
     // One read gives all these lines, each with an answer of two bytes.
-    let input = vec![in rt.alloc(); b'\n'; 50_000]?;
+    let input = vec![in rt.alloc(); b'\n'; 50_000].expect(&rt, "out of memory");
     let (ended, most) = run_widely(rt.alloc(), input.as_slice(), &flow);
     assert!(rt; ended.is_ok());
     assert!(rt; (flow.written.get(), most) == (100_002, 65_536));
-    Ok(())
 }
 
 #[test]
-fn prints_faults(rt: HostRuntime) -> Result<(), AllocError> {
-    let read = RunFault::Read.to_string(rt.alloc())?;
-    assert!(rt; read.as_str() == "the input could not be read to its end");
-    let write = RunFault::Write.to_string(rt.alloc())?;
-    assert!(rt; write.as_str() == "an answer could not be written");
-    assert!(rt; RunFault::Memory.to_string(rt.alloc())?.as_str() == "out of memory");
-    Ok(())
+fn prints_faults(rt: HostRuntime) {
+    let read = "the input could not be read to its end";
+    assert!(rt; says(&rt, rt.alloc(), &RunFault::Read, read));
+    let write = "an answer could not be written";
+    assert!(rt; says(&rt, rt.alloc(), &RunFault::Write, write));
+    assert!(rt; says(&rt, rt.alloc(), &RunFault::Memory, "out of memory"));
 }

@@ -2,7 +2,7 @@
 
 use sdb_pieces::{Block, Pieces, Share};
 use std::alloc::{AllocError, Global};
-use std::test::Fail;
+use std::process::Abort;
 
 #[derive(Drop)]
 struct Number(u64);
@@ -19,24 +19,23 @@ impl Share for Number {
     }
 }
 
-fn push_all(found: &mut Vec<u64>, items: &[Number]) -> Result<(), Fail> {
+fn push_all(rt: &impl Abort, found: &mut Vec<u64>, items: &[Number]) {
     for item in items {
-        found.push(item.0)?;
+        found.push(item.0).expect(rt, "out of memory");
     }
-    Ok(())
 }
 
 // The numbers of all blocks.
-fn numbers(alloc: Global, list: &Pieces<Number>) -> Result<Vec<u64>, Fail> {
+fn numbers(rt: &impl Abort, alloc: Global, list: &Pieces<Number>) -> Vec<u64> {
     let mut found = Vec::new(alloc);
     for at in 0..list.part_count() {
-        push_all(&mut found, list.part(at))?;
+        push_all(rt, &mut found, list.part(at));
     }
-    Ok(found)
+    found
 }
 
-fn is(alloc: Global, list: &Pieces<Number>, plain: &Vec<u64>) -> Result<bool, Fail> {
-    Ok(numbers(alloc, list)?.as_slice() == plain.as_slice())
+fn is(rt: &impl Abort, alloc: Global, list: &Pieces<Number>, plain: &Vec<u64>) -> bool {
+    numbers(rt, alloc, list).as_slice() == plain.as_slice()
 }
 
 // Places that go up and down in a list of this length.
@@ -44,98 +43,111 @@ fn place(step: u64, len: usize) -> usize {
     (step.wrapping_mul(7919) % (len as u64).saturating_add(1)) as usize
 }
 
+// Whether the same number was put in both.
 fn put(
+    rt: &impl Abort,
     alloc: Global,
     list: &mut Pieces<Number>,
     plain: &mut Vec<u64>,
     step: u64,
-) -> Result<bool, Fail> {
+) -> bool {
     let at = place(step, plain.len());
     if at <= plain.len() {
-        plain.insert(at, step)?;
+        plain.insert(at, step).expect(rt, "out of memory");
     }
-    Ok(list.insert(alloc, at, Number(step))?)
+    list.insert(alloc, at, Number(step))
+        .expect(rt, "out of memory")
 }
 
-fn put_all(alloc: Global, list: &mut Pieces<Number>, plain: &mut Vec<u64>) -> Result<bool, Fail> {
+fn put_all(rt: &impl Abort, alloc: Global, list: &mut Pieces<Number>, plain: &mut Vec<u64>) {
     for step in 0..2_000 {
-        if !put(alloc, list, plain, step)? {
-            return Ok(false);
-        }
+        assert!(rt; put(rt, alloc, list, plain, step), "{step}");
     }
-    Ok(true)
 }
 
+fn taken(plain: &mut Vec<u64>, at: usize) -> Option<u64> {
+    if at < plain.len() {
+        return Some(plain.remove(at));
+    }
+    None
+}
+
+// Whether the same number was taken out of both, or none.
 fn take(
+    rt: &impl Abort,
     alloc: Global,
     list: &mut Pieces<Number>,
     plain: &mut Vec<u64>,
     step: u64,
-) -> Result<bool, Fail> {
+) -> bool {
     let at = place(step, plain.len());
-    let taken = list.remove(alloc, at)?.map(|item| item.0);
-    if at < plain.len() {
-        return Ok(taken == Some(plain.remove(at)));
-    }
-    Ok(taken.is_none())
+    let item = list.remove(alloc, at).expect(rt, "out of memory");
+    item.map(|item| item.0) == taken(plain, at)
 }
 
-fn take_all(alloc: Global, list: &mut Pieces<Number>, plain: &mut Vec<u64>) -> Result<bool, Fail> {
+fn take_all(rt: &impl Abort, alloc: Global, list: &mut Pieces<Number>, plain: &mut Vec<u64>) {
     for step in 0..3_000 {
-        if !take(alloc, list, plain, step)? {
-            return Ok(false);
-        }
+        assert!(rt; take(rt, alloc, list, plain, step), "{step}");
     }
-    Ok(true)
 }
 
 #[test]
-fn a_list_of_many_blocks_is_that_of_a_vector(rt: HostRuntime) -> Result<(), Fail> {
-    let alloc = rt.alloc();
-    let mut plain = Vec::new(alloc);
-    let mut list = Pieces::from_vec(Vec::new(alloc));
-    assert!(rt; put_all(alloc, &mut list, &mut plain)?);
-    assert!(rt; list.part_count() > 3 && is(alloc, &list, &plain)?);
-    assert!(rt; take_all(alloc, &mut list, &mut plain)?);
-    assert!(rt; is(alloc, &list, &plain)?);
-    Ok(())
+fn a_list_of_many_blocks_is_that_of_a_vector(rt: HostRuntime) {
+    let mut plain = Vec::new(rt.alloc());
+    let mut list = Pieces::from_vec(Vec::new(rt.alloc()));
+    put_all(&rt, rt.alloc(), &mut list, &mut plain);
+    assert!(rt; list.part_count() > 3);
+    assert!(rt; is(&rt, rt.alloc(), &list, &plain));
+    take_all(&rt, rt.alloc(), &mut list, &mut plain);
+    assert!(rt; is(&rt, rt.alloc(), &list, &plain));
 }
 
-// A list of these items, of which a copy is a pointer.
-fn shared(alloc: Global, items: Vec<Number>) -> Result<Pieces<Number>, Fail> {
+// The same list in one block, of which a copy is a pointer.
+fn shared(rt: &impl Abort, alloc: Global, list: Pieces<Number>) -> Pieces<Number> {
+    let items = list.into_vec(alloc).expect(rt, "out of memory");
     let mut blocks = Vec::new(alloc);
-    blocks.push(Block::Own(items).into_shared(alloc)?)?;
-    Ok(Pieces::from_shared_blocks(alloc, blocks)?)
+    let block = Block::Own(items)
+        .into_shared(alloc)
+        .expect(rt, "out of memory");
+    blocks.push(block).expect(rt, "out of memory");
+    Pieces::from_shared_blocks(alloc, blocks).expect(rt, "out of memory")
 }
 
 // What a copy has after its original was changed, and the original after the copy was.
-fn apart(alloc: Global, list: &mut Pieces<Number>, plain: &mut Vec<u64>) -> Result<bool, Fail> {
-    let copy = list.share(alloc)?;
-    let before = numbers(alloc, &copy)?;
-    if !take(alloc, list, plain, 5)? || !put(alloc, list, plain, 77)? {
-        return Ok(false);
-    }
-    drop(list.replace(alloc, 1_500, Number(1))?);
-    Ok(is(alloc, &copy, &before)? && !is(alloc, list, &before)?)
+fn change_apart(rt: &impl Abort, alloc: Global, list: &mut Pieces<Number>, plain: &mut Vec<u64>) {
+    let copy = list.share(alloc).expect(rt, "out of memory");
+    let before = numbers(rt, alloc, &copy);
+    assert!(rt; take(rt, alloc, list, plain, 5));
+    assert!(rt; put(rt, alloc, list, plain, 77));
+    drop(
+        list.replace(alloc, 1_500, Number(1))
+            .expect(rt, "out of memory"),
+    );
+    assert!(rt; is(rt, alloc, &copy, &before));
+    assert!(rt; !is(rt, alloc, list, &before));
+}
+
+// A list in one block, which was made beside the vector.
+fn one_block(rt: &impl Abort, alloc: Global, plain: &mut Vec<u64>) -> Pieces<Number> {
+    let mut list = Pieces::from_vec(Vec::new(alloc));
+    put_all(rt, alloc, &mut list, plain);
+    shared(rt, alloc, list)
 }
 
 #[test]
-fn copies_are_changed_apart(rt: HostRuntime) -> Result<(), Fail> {
-    let alloc = rt.alloc();
-    let mut plain = Vec::new(alloc);
-    let mut list = Pieces::from_vec(Vec::new(alloc));
-    assert!(rt; put_all(alloc, &mut list, &mut plain)?);
-    let mut list = shared(alloc, list.into_vec(alloc)?)?;
-    assert!(rt; is(alloc, &list, &plain)? && list.part_count() == 1);
-    assert!(rt; apart(alloc, &mut list, &mut plain)?);
-    Ok(())
+fn copies_are_changed_apart(rt: HostRuntime) {
+    let mut plain = Vec::new(rt.alloc());
+    let mut list = one_block(&rt, rt.alloc(), &mut plain);
+    assert!(rt; list.part_count() == 1);
+    assert!(rt; is(&rt, rt.alloc(), &list, &plain));
+    change_apart(&rt, rt.alloc(), &mut list, &mut plain);
 }
 
-fn short(alloc: Global) -> Result<Pieces<Number>, Fail> {
+fn short(rt: &impl Abort, alloc: Global) -> Pieces<Number> {
     let mut items = Vec::new(alloc);
-    items.push(Number(3))?;
-    items.push(Number(4))?;
-    Ok(Pieces::from_vec(items))
+    items.push(Number(3)).expect(rt, "out of memory");
+    items.push(Number(4)).expect(rt, "out of memory");
+    Pieces::from_vec(items)
 }
 
 fn changed(list: &mut Pieces<Number>, index: usize) -> bool {
@@ -149,11 +161,10 @@ fn changed(list: &mut Pieces<Number>, index: usize) -> bool {
 }
 
 #[test]
-fn an_item_is_changed_in_place(rt: HostRuntime) -> Result<(), Fail> {
-    let mut list = short(rt.alloc())?;
+fn an_item_is_changed_in_place(rt: HostRuntime) {
+    let mut list = short(&rt, rt.alloc());
     assert!(rt; changed(&mut list, 1) && !changed(&mut list, 2));
     assert!(rt; list.get(1).map(|item| item.0) == Some(9) && list.get(2).is_none());
-    let mut list = shared(rt.alloc(), list.into_vec(rt.alloc())?)?;
+    let mut list = shared(&rt, rt.alloc(), list);
     assert!(rt; !changed(&mut list, 1));
-    Ok(())
 }

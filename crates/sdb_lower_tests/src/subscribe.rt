@@ -2,104 +2,78 @@
 use sdb_oplog::{Content, Entry, Submission};
 use sdb_subscribe::{Queues, SubId};
 use std::alloc::Global;
-use std::test::Fail;
+use std::process::Abort;
 
-fn entry(alloc: Global, version: u64) -> Result<Entry, Fail> {
-    let (src, via) = (String::from_str(alloc, "x")?, String::from_str(alloc, "b")?);
-    let submission = Submission::new(alloc, src, version, None, Content::delete(), via, 0)?;
-    Ok(Entry::new(version, None, submission))
+fn entry(rt: &impl Abort, alloc: Global, version: u64) -> Entry {
+    let src = String::from_str(alloc, "x").expect(rt, "out of memory");
+    let via = String::from_str(alloc, "b").expect(rt, "out of memory");
+    let submission = Submission::new(alloc, src, version, None, Content::delete(), via, 0);
+    Entry::new(version, None, submission.expect(rt, "out of memory"))
 }
 
-fn opened(queues: &mut Queues, from: u64) -> Result<SubId, Fail> {
-    Ok(queues.open(0, from).or(Err("open"))?)
+fn opened(rt: &impl Abort, queues: &mut Queues, from: u64) -> SubId {
+    queues.open(0, from).expect(rt, "open")
 }
 
 // Notes the entries from this version on, up to that one.
-fn note_all(alloc: Global, queues: &mut Queues, from: u64, to: u64) -> Result<(), Fail> {
+fn note_all(rt: &impl Abort, alloc: Global, queues: &mut Queues, from: u64, to: u64) {
     for version in from..to {
-        queues.note(&entry(alloc, version)?);
+        queues.note(&entry(rt, alloc, version));
     }
-    Ok(())
-}
-
-fn stand_apart(queues: &mut Queues) -> Result<bool, Fail> {
-    let (first, second) = (opened(queues, 1)?, opened(queues, 5)?);
-    Ok(first != second && queues.given() == 2 && queues.count() == 2)
 }
 
 #[test]
-fn queues_stand_apart(rt: HostRuntime) -> Result<(), Fail> {
-    assert!(rt; stand_apart(&mut Queues::new(rt.alloc()))?);
-    Ok(())
+fn queues_stand_apart(rt: HostRuntime) {
+    let mut queues = Queues::new(rt.alloc());
+    let (first, second) = (opened(&rt, &mut queues, 1), opened(&rt, &mut queues, 5));
+    assert!(rt; first != second && queues.given() == 2 && queues.count() == 2);
 }
 
-fn forgets_a_closed_one(queues: &mut Queues) -> Result<bool, Fail> {
-    let id = opened(queues, 0)?;
+#[test]
+fn a_closed_queue_is_unknown(rt: HostRuntime) {
+    let mut queues = Queues::new(rt.alloc());
+    let id = opened(&rt, &mut queues, 0);
     queues.close(0, id);
-    Ok(queues.count() == 0 && queues.ringed(id).is_none() && opened(queues, 0)? != id)
+    assert!(rt; queues.count() == 0 && queues.ringed(id).is_none());
+    assert!(rt; opened(&rt, &mut queues, 0) != id);
 }
 
 #[test]
-fn a_closed_queue_is_unknown(rt: HostRuntime) -> Result<(), Fail> {
-    assert!(rt; forgets_a_closed_one(&mut Queues::new(rt.alloc()))?);
-    Ok(())
-}
-
-fn is_closed_by_its_opener(queues: &mut Queues) -> Result<bool, Fail> {
-    let id = opened(queues, 0)?;
+fn a_queue_is_closed_under_its_number(rt: HostRuntime) {
+    let mut queues = Queues::new(rt.alloc());
+    let id = opened(&rt, &mut queues, 0);
     queues.close(1, id);
-    let stays = queues.owner(id) == Some(0);
+    assert!(rt; queues.owner(id) == Some(0));
     queues.close(0, id);
-    Ok(stays && queues.owner(id).is_none())
+    assert!(rt; queues.owner(id).is_none());
 }
 
 #[test]
-fn a_queue_is_closed_under_its_number(rt: HostRuntime) -> Result<(), Fail> {
-    assert!(rt; is_closed_by_its_opener(&mut Queues::new(rt.alloc()))?);
-    Ok(())
-}
-
-fn holds_the_last(alloc: Global, queues: &mut Queues) -> Result<bool, Fail> {
-    let id = opened(queues, 0)?;
-    let empty = queues.ringed(id) == Some(0);
-    note_all(alloc, queues, 0, 65)?;
-    Ok(empty && queues.ringed(id) == Some(64))
+fn a_ring_holds_the_last_entries(rt: HostRuntime) {
+    let mut queues = Queues::new(rt.alloc());
+    let id = opened(&rt, &mut queues, 0);
+    assert!(rt; queues.ringed(id) == Some(0));
+    note_all(&rt, rt.alloc(), &mut queues, 0, 65);
+    assert!(rt; queues.ringed(id) == Some(64));
 }
 
 #[test]
-fn a_ring_holds_the_last_entries(rt: HostRuntime) -> Result<(), Fail> {
-    assert!(rt; holds_the_last(rt.alloc(), &mut Queues::new(rt.alloc()))?);
-    Ok(())
+fn a_ring_takes_in_nothing_before_its_start(rt: HostRuntime) {
+    let mut queues = Queues::new(rt.alloc());
+    let late = opened(&rt, &mut queues, 2);
+    note_all(&rt, rt.alloc(), &mut queues, 0, 2);
+    assert!(rt; queues.ringed(late) == Some(0));
+    note_all(&rt, rt.alloc(), &mut queues, 2, 3);
+    assert!(rt; queues.ringed(late) == Some(1));
 }
 
-fn waits_beyond(alloc: Global, queues: &mut Queues) -> Result<bool, Fail> {
-    let late = opened(queues, 2)?;
-    note_all(alloc, queues, 0, 2)?;
-    let before = queues.ringed(late) == Some(0);
-    note_all(alloc, queues, 2, 3)?;
-    Ok(before && queues.ringed(late) == Some(1))
-}
-
+// Where an open finds no memory nothing has changed, and the queue is opened with memory.
 #[test]
-fn a_ring_takes_in_nothing_before_its_start(rt: HostRuntime) -> Result<(), Fail> {
-    assert!(rt; waits_beyond(rt.alloc(), &mut Queues::new(rt.alloc()))?);
-    Ok(())
-}
-
-// Opens a queue. Where that finds no memory nothing has changed, and it is opened with memory.
-fn opens_again(queues: &mut Queues) -> Result<bool, Fail> {
-    match queues.open(0, 7) {
-        Ok(_) => Ok(true),
-        Err(_) => {
-            let nothing = queues.given() == 0 && queues.count() == 0;
-            let id = opened(queues, 7)?;
-            Ok(nothing && queues.ringed(id) == Some(0))
-        }
+fn an_open_that_finds_no_memory_changes_nothing(rt: HostRuntime) {
+    let mut queues = Queues::new(rt.alloc());
+    if queues.open(0, 7).is_err() {
+        assert!(rt; queues.given() == 0 && queues.count() == 0);
+        let id = opened(&rt, &mut queues, 7);
+        assert!(rt; queues.ringed(id) == Some(0));
     }
-}
-
-#[test]
-fn an_open_that_finds_no_memory_changes_nothing(rt: HostRuntime) -> Result<(), Fail> {
-    assert!(rt; opens_again(&mut Queues::new(rt.alloc()))?);
-    Ok(())
 }

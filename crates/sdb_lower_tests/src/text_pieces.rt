@@ -1,21 +1,18 @@
 //! Texts in pieces, beside strings.
 
+use crate::texts::extended;
 use sdb_pieces::Share;
 use sdb_text::Text;
 use sdb_text::units::{cut_at, units};
 use std::alloc::Global;
-use std::test::Fail;
+use std::process::Abort;
 
 // Characters of one, two, three and four bytes, the last two units wide.
 const SOME: &str = "aß…😀";
 
 // As many of them one after the other.
-fn repeated(alloc: Global, times: usize) -> Result<String, Fail> {
-    let mut text = String::new(alloc);
-    for _ in 0..times {
-        text.push_str(SOME)?;
-    }
-    Ok(text)
+fn repeated(rt: &impl Abort, alloc: Global, times: u64) -> String {
+    extended(rt, alloc, "", SOME, times)
 }
 
 // An offset that goes up and down in a text, now and then inside a pair or past the end.
@@ -23,97 +20,103 @@ fn offset(step: u64, text: &str) -> u64 {
     step.wrapping_mul(7919) % units(text).saturating_add(3)
 }
 
-// The same text put in both, or in neither.
-fn put(alloc: Global, text: &mut Text, plain: &mut String, step: u64) -> Result<bool, Fail> {
-    let new = repeated(alloc, if step % 7 == 3 { 700 } else { 2 })?;
+fn pieces_of(rt: &impl Abort, alloc: Global, plain: &str) -> Text {
+    let plain = String::from_str(alloc, plain).expect(rt, "out of memory");
+    Text::new(alloc, plain).expect(rt, "out of memory")
+}
+
+// Whether the same text was put in both, or in neither.
+fn put(rt: &impl Abort, alloc: Global, text: &mut Text, plain: &mut String, step: u64) -> bool {
+    let new = repeated(rt, alloc, if step % 7 == 3 { 700 } else { 2 });
     let at = offset(step, plain.as_str());
-    let done = text.insert(alloc, at, new.as_str())?;
-    match cut_at(plain.as_str(), at) {
-        Some(byte) => {
-            plain.insert_str(byte, new.as_str())?;
-            Ok(done)
-        }
-        None => Ok(!done),
-    }
+    let done = text
+        .insert(alloc, at, new.as_str())
+        .expect(rt, "out of memory");
+    let Some(byte) = cut_at(plain.as_str(), at) else {
+        return !done;
+    };
+    plain
+        .insert_str(byte, new.as_str())
+        .expect(rt, "out of memory");
+    done
 }
 
 // What stands from an offset on, as many units of it as are asked for, or none.
-fn standing(alloc: Global, plain: &str, at: u64, count: u64) -> Result<String, Fail> {
-    let (Some(from), Some(to)) = (cut_at(plain, at), cut_at(plain, at.saturating_add(count))) else {
-        return Ok(String::new(alloc));
-    };
-    let (front, _) = plain.split_at(to);
-    Ok(String::from_str(alloc, front.get(from..).ok_or("in order")?)?)
+fn standing<'a>(rt: &impl Abort, plain: &'a str, at: u64, count: u64) -> &'a str {
+    match (cut_at(plain, at), cut_at(plain, at.saturating_add(count))) {
+        (Some(from), Some(to)) => plain.get(from..to).expect(rt, "in order"),
+        _ => "",
+    }
 }
 
 // The text without as many bytes from one on.
-fn without(alloc: Global, plain: &str, from: usize, len: usize) -> Result<String, Fail> {
-    let mut left = String::from_str(alloc, plain.get(..from).ok_or("a cut")?)?;
-    left.push_str(plain.get(from.saturating_add(len)..).ok_or("a cut")?)?;
-    Ok(left)
+fn without(rt: &impl Abort, alloc: Global, plain: &str, from: usize, len: usize) -> String {
+    let front = plain.get(..from).expect(rt, "a cut");
+    let rest = plain.get(from.saturating_add(len)..).expect(rt, "a cut");
+    extended(rt, alloc, front, rest, 1)
 }
 
-// A text taken out of both, or of neither.
-fn take(alloc: Global, text: &mut Text, plain: &mut String, step: u64) -> Result<bool, Fail> {
+// Whether the same text was taken out of both, or of neither.
+fn take(rt: &impl Abort, alloc: Global, text: &mut Text, plain: &mut String, step: u64) -> bool {
     let at = offset(step, plain.as_str());
     let old = standing(
-        alloc,
+        rt,
         plain.as_str(),
         at,
         if step % 5 == 2 { 6_001 } else { 3 },
-    )?;
-    let done = text.remove(alloc, at, old.as_str())?;
-    match cut_at(plain.as_str(), at) {
-        Some(byte) => {
-            *plain = without(alloc, plain.as_str(), byte, old.len())?;
-            Ok(done)
-        }
-        None => Ok(!done),
-    }
+    );
+    let done = text.remove(alloc, at, old).expect(rt, "out of memory");
+    let Some(byte) = cut_at(plain.as_str(), at) else {
+        return !done;
+    };
+    *plain = without(rt, alloc, plain.as_str(), byte, old.len());
+    done
 }
 
-fn is(alloc: Global, text: &Text, plain: &str) -> Result<bool, Fail> {
-    let other = Text::new(alloc, String::from_str(alloc, plain)?)?;
-    Ok(text.to_string(alloc)?.as_str() == plain && text.same(&other) && other.same(text))
+fn is(rt: &impl Abort, alloc: Global, text: &Text, plain: &str) -> bool {
+    let other = pieces_of(rt, alloc, plain);
+    let shown = text.to_string(alloc).expect(rt, "out of memory");
+    shown.as_str() == plain && text.same(&other) && other.same(text)
 }
 
-fn goes_along(alloc: Global, text: &mut Text, plain: &mut String) -> Result<bool, Fail> {
+fn go_along(rt: &impl Abort, alloc: Global, text: &mut Text, plain: &mut String) {
     for step in 0..60 {
         let done = if step % 3 == 2 {
-            take(alloc, text, plain, step)?
+            take(rt, alloc, text, plain, step)
         } else {
-            put(alloc, text, plain, step)?
+            put(rt, alloc, text, plain, step)
         };
-        if !done || !is(alloc, text, plain.as_str())? {
-            return Ok(false);
-        }
+        assert!(rt; done && is(rt, alloc, text, plain.as_str()), "{step}");
     }
-    Ok(true)
 }
 
 #[test]
-fn a_text_in_pieces_is_that_of_a_string(rt: HostRuntime) -> Result<(), Fail> {
-    let alloc = rt.alloc();
-    let mut plain = repeated(alloc, 50)?;
-    let mut text = Text::new(alloc, String::from_str(alloc, plain.as_str())?)?;
+fn a_text_in_pieces_is_that_of_a_string(rt: HostRuntime) {
+    let mut plain = repeated(&rt, rt.alloc(), 50);
+    let mut text = pieces_of(&rt, rt.alloc(), plain.as_str());
     assert!(rt; text.part_count() == 1 && text.as_str() == Some(plain.as_str()));
-    assert!(rt; goes_along(alloc, &mut text, &mut plain)?);
+    go_along(&rt, rt.alloc(), &mut text, &mut plain);
     assert!(rt; text.part_count() > 3 && text.as_str().is_none());
-    Ok(())
 }
 
-fn apart(alloc: Global, text: &mut Text) -> Result<bool, Fail> {
-    *text = text.shared_copy(alloc)?;
-    let copy = text.share(alloc)?;
-    let before = copy.to_string(alloc)?;
-    let done = text.insert(alloc, 3_000, "x")? && text.remove(alloc, 0, "a")?;
-    Ok(done && is(alloc, &copy, before.as_str())? && !text.same(&copy))
+fn shared(rt: &impl Abort, alloc: Global) -> Text {
+    let plain = repeated(rt, alloc, 2_000);
+    let text = pieces_of(rt, alloc, plain.as_str());
+    text.shared_copy(alloc).expect(rt, "out of memory")
+}
+
+// The copy stays as it was where the text is changed.
+fn change_apart(rt: &impl Abort, alloc: Global, text: &mut Text, copy: &Text) {
+    let before = copy.to_string(alloc).expect(rt, "out of memory");
+    assert!(rt; text.insert(alloc, 3_000, "x").expect(rt, "out of memory"));
+    assert!(rt; text.remove(alloc, 0, "a").expect(rt, "out of memory"));
+    assert!(rt; is(rt, alloc, copy, before.as_str()));
+    assert!(rt; !text.same(copy));
 }
 
 #[test]
-fn copies_of_a_text_are_changed_apart(rt: HostRuntime) -> Result<(), Fail> {
-    let alloc = rt.alloc();
-    let mut text = Text::new(alloc, repeated(alloc, 2_000)?)?;
-    assert!(rt; apart(alloc, &mut text)?);
-    Ok(())
+fn copies_of_a_text_are_changed_apart(rt: HostRuntime) {
+    let mut text = shared(&rt, rt.alloc());
+    let copy = text.share(rt.alloc()).expect(&rt, "out of memory");
+    change_apart(&rt, rt.alloc(), &mut text, &copy);
 }

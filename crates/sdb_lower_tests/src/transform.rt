@@ -1,11 +1,10 @@
 //! `sdb_transform`: components and operations carried past one another.
-use crate::texts::{extended, is_printed, op};
-use sdb_component::{Component, Op, read_op};
+use crate::texts::{component, each_row, extended, is_op, is_printed, op, op_of, says};
+use sdb_component::{Component, Op};
 use sdb_transform::{Fault, Side, cross, transform, transform_one};
 use serde_json::Value;
-use std::alloc::{AllocError, Global};
+use std::alloc::Global;
 use std::process::Abort;
-use std::test::Fail;
 
 // The rows of the table, each a JSON array: a component, another one, the side, and what stands for the
 // first after the second, or E8.
@@ -193,67 +192,50 @@ const OTHERS: &str = r#"[
   [[{"oi":1,"p":["a","k"]}], [{"oi":2,"p":["b","k"]}], "either", [{"oi":1,"p":["a","k"]}]]
 ]"#;
 
-fn component(alloc: Global, value: &Value) -> Result<Component, Fail> {
-    let mut components = read_op(alloc, value)?.into_components();
-    Ok(components.pop().ok_or("no component")?)
+// Whether it was transformed into this, or E8.
+fn is_outcome(
+    rt: &impl Abort,
+    alloc: Global,
+    transformed: Result<Vec<Component>, Fault>,
+    wanted: &Value,
+) -> bool {
+    match transformed {
+        Ok(components) => is_op(rt, alloc, &Op::new(components), wanted),
+        Err(fault) => fault == Fault::NotTransformed && wanted.as_str() == Some("E8"),
+    }
 }
 
 // Whether this stands for the component after the other one, or E8.
 fn is_transformed(
+    rt: &impl Abort,
     alloc: Global,
-    value: &Value,
-    other: &Component,
+    (value, other): (&Value, &Value),
     side: Side,
     wanted: &Value,
-) -> Result<bool, Fail> {
-    match transform_one(alloc, component(alloc, value)?, other, side) {
-        Ok(components) => {
-            is_printed(
-                alloc,
-                &Op::new(components),
-                wanted.to_string(alloc)?.as_str(),
-            )
-        }
-        Err(fault) => Ok(fault == Fault::NotTransformed && wanted.as_str() == Some("E8")),
-    }
+) -> bool {
+    let (value, other) = (component(rt, alloc, value), component(rt, alloc, other));
+    is_outcome(rt, alloc, transform_one(alloc, value, &other, side), wanted)
 }
 
-fn is_for(side: &Value, name: &str) -> bool {
-    side.as_str() == Some("either") || side.as_str() == Some(name)
-}
-
-// Whether the row holds as this side, or isn't for it.
-fn holds(alloc: Global, row: &Value, name: &str, side: Side) -> Result<bool, Fail> {
-    let [value, other, sides, wanted] = row.as_array().ok_or("no row")?.as_slice() else {
-        return Err("no row of four".into());
+// Whether the row holds as each side that it is for.
+fn holds(rt: &impl Abort, alloc: Global, row: &[Value]) -> bool {
+    let [value, other, side, wanted] = row else {
+        return false;
     };
-    if !is_for(sides, name) {
-        return Ok(true);
-    }
-    is_transformed(alloc, value, &component(alloc, other)?, side, wanted)
-}
-
-// Counts the rows, each of which has to hold.
-fn count_rows(rt: &impl Abort, alloc: Global, table: &str) -> Result<usize, Fail> {
-    let rows = Value::from_str(alloc, table)?;
-    let rows = rows.as_array().ok_or("no rows")?;
-    for row in rows {
-        assert!(rt; holds(alloc, row, "left", Side::Left)?, "{row}");
-        assert!(rt; holds(alloc, row, "right", Side::Right)?, "{row}");
-    }
-    Ok(rows.len())
+    let side = side.as_str().expect(rt, "a side");
+    (side == "right" || is_transformed(rt, alloc, (value, other), Side::Left, wanted))
+        && (side == "left" || is_transformed(rt, alloc, (value, other), Side::Right, wanted))
 }
 
 #[test]
-fn each_row_of_the_table_holds(rt: HostRuntime) -> Result<(), Fail> {
-    assert!(rt; count_rows(&rt, rt.alloc(), WORKED)? == 6);
-    assert!(rt; count_rows(&rt, rt.alloc(), CASE_1)? == 11);
-    assert!(rt; count_rows(&rt, rt.alloc(), CASE_2)? == 27);
-    assert!(rt; count_rows(&rt, rt.alloc(), LISTS)? == 34);
-    assert!(rt; count_rows(&rt, rt.alloc(), OBJECTS)? == 22);
-    assert!(rt; count_rows(&rt, rt.alloc(), TEXTS)? == 34);
-    assert!(rt; count_rows(&rt, rt.alloc(), OTHERS)? == 21);
-    Ok(())
+fn each_row_of_the_table_holds(rt: HostRuntime) {
+    assert!(rt; each_row(&rt, rt.alloc(), WORKED, holds) == 6);
+    assert!(rt; each_row(&rt, rt.alloc(), CASE_1, holds) == 11);
+    assert!(rt; each_row(&rt, rt.alloc(), CASE_2, holds) == 27);
+    assert!(rt; each_row(&rt, rt.alloc(), LISTS, holds) == 34);
+    assert!(rt; each_row(&rt, rt.alloc(), OBJECTS, holds) == 22);
+    assert!(rt; each_row(&rt, rt.alloc(), TEXTS, holds) == 34);
+    assert!(rt; each_row(&rt, rt.alloc(), OTHERS, holds) == 21);
 }
 
 // Two operations, what stands for each after the other, and the pairs that met.
@@ -268,47 +250,20 @@ const CROSSINGS: &str = r#"[
    [{"od":8,"oi":1,"p":["k"]},{"na":2,"p":["k"]}], [], 2]
 ]"#;
 
-// How many pairs of the operations met, where these stand for them.
-fn crossed(
-    alloc: Global,
-    left: &str,
-    right: &str,
-    left_after: &str,
-    right_after: &str,
-) -> Result<Option<u128>, Fail> {
-    let crossed = cross(alloc, &op(alloc, left)?, &op(alloc, right)?)?;
-    if is_printed(alloc, &crossed.left, left_after)?
-        && is_printed(alloc, &crossed.right, right_after)?
-    {
-        return Ok(Some(crossed.pairs));
-    }
-    Ok(None)
-}
-
-fn row_crosses(alloc: Global, row: &Value) -> Result<bool, Fail> {
-    let [left, right, left_after, right_after, pairs] = row.as_array().ok_or("no row")?.as_slice()
-    else {
-        return Err("no row of five".into());
+fn crosses(rt: &impl Abort, alloc: Global, row: &[Value]) -> bool {
+    let [left, right, left_after, right_after, pairs] = row else {
+        return false;
     };
-    let (left, right) = (left.to_string(alloc)?, right.to_string(alloc)?);
-    let after = (left_after.to_string(alloc)?, right_after.to_string(alloc)?);
-    let met = crossed(
-        alloc,
-        left.as_str(),
-        right.as_str(),
-        after.0.as_str(),
-        after.1.as_str(),
-    )?;
-    Ok(met == Some(pairs.as_u64().ok_or("a count")? as u128))
+    let (left, right) = (op_of(rt, alloc, left), op_of(rt, alloc, right));
+    let crossed = cross(alloc, &left, &right).expect(rt, "crossed");
+    is_op(rt, alloc, &crossed.left, left_after)
+        && is_op(rt, alloc, &crossed.right, right_after)
+        && crossed.pairs == pairs.as_u64().expect(rt, "a count") as u128
 }
 
 #[test]
-fn operations_cross(rt: HostRuntime) -> Result<(), Fail> {
-    let rows = Value::from_str(rt.alloc(), CROSSINGS)?;
-    for row in rows.as_array().ok_or("no rows")? {
-        assert!(rt; row_crosses(rt.alloc(), row)?, "{row}");
-    }
-    Ok(())
+fn operations_cross(rt: HostRuntime) {
+    each_row(&rt, rt.alloc(), CROSSINGS, crosses);
 }
 
 const REFUSED: &str = r#"[{"oi":1,"p":["k"]},{"p":["t",0],"sd":"a😀"}]"#;
@@ -316,116 +271,110 @@ const REFUSED: &str = r#"[{"oi":1,"p":["k"]},{"p":["t",0],"sd":"a😀"}]"#;
 const REFUSING: &str = r#"[{"p":["t",0],"si":"b"},{"p":["t",3],"si":"x"}]"#;
 
 #[test]
-fn one_refusal_refuses_all(rt: HostRuntime) -> Result<(), Fail> {
-    let (left, right) = (op(rt.alloc(), REFUSED)?, op(rt.alloc(), REFUSING)?);
-    assert!(rt; matches!(cross(rt.alloc(), &left, &right), Err(Fault::NotTransformed)));
+fn one_refusal_refuses_all(rt: HostRuntime) {
+    let (left, right) = (op(&rt, rt.alloc(), REFUSED), op(&rt, rt.alloc(), REFUSING));
+    assert!(rt; cross(rt.alloc(), &left, &right).err() == Some(Fault::NotTransformed));
     let transformed = transform(rt.alloc(), &right, &left, Side::Right);
-    assert!(rt; matches!(transformed, Err(Fault::NotTransformed)));
-    Ok(())
+    assert!(rt; transformed.err() == Some(Fault::NotTransformed));
 }
 
-// The components, each but the first after a comma.
-fn joined(alloc: Global, parts: &[String]) -> Result<String, AllocError> {
-    let mut text = String::from_str(alloc, "[")?;
-    for part in parts {
-        if text.len() > 1 {
-            text.push(',')?;
-        }
-        text.push_str(part.as_str())?;
+// The component, and 99 with this member behind it, at 1, 2 and so on or at 197, 195 and so on.
+fn followed(rt: &impl Abort, alloc: Global, first: &str, member: &str, is_falling: bool) -> String {
+    let mut text = String::from_str(alloc, first).expect(rt, "out of memory");
+    for i in 1..100_u64 {
+        let at = if is_falling { 199 - 2 * i } else { i };
+        let next = format!(in alloc; ",{{\"p\":[{at}],{member}}}").expect(rt, "out of memory");
+        text.push_str(next.as_str()).expect(rt, "out of memory");
     }
-    text.push(']')?;
-    Ok(text)
-}
-
-fn inserts(alloc: Global, spread: bool) -> Result<String, Fail> {
-    let mut parts = Vec::new(alloc);
-    for i in 0..100_u64 {
-        let at = if spread { 199 - 2 * i } else { 0 };
-        parts.push(format!(in alloc; "{{\"p\":[{at}],\"si\":\"x\"}}")?)?;
-    }
-    Ok(joined(alloc, parts.as_slice())?)
-}
-
-fn pieces(alloc: Global) -> Result<String, Fail> {
-    let mut parts = Vec::new(alloc);
-    for at in 0..101 {
-        let text = if at == 0 || at == 100 { "a" } else { "aa" };
-        parts.push(format!(in alloc; "{{\"p\":[{at}],\"sd\":\"{text}\"}}")?)?;
-    }
-    Ok(joined(alloc, parts.as_slice())?)
-}
-
-fn one_delete(alloc: Global) -> Result<String, Fail> {
-    let mut text = extended(alloc, r#"[{"p":[0],"sd":""#, "a", 200)?;
-    text.push_str(r#""}]"#)?;
-    Ok(text)
-}
-
-// How many pairs meet where a delete is cut by inserts, if the cuts are right.
-fn cuts(alloc: Global) -> Result<Option<u128>, Fail> {
-    let (left, right) = (one_delete(alloc)?, inserts(alloc, true)?);
-    let after = (pieces(alloc)?, inserts(alloc, false)?);
-    crossed(
-        alloc,
-        left.as_str(),
-        right.as_str(),
-        after.0.as_str(),
-        after.1.as_str(),
-    )
-}
-
-#[test]
-fn a_long_delete_is_cut_a_hundred_times(rt: HostRuntime) -> Result<(), Fail> {
-    assert!(rt; cuts(rt.alloc())? == Some(5050));
-    Ok(())
-}
-
-// Whether this stands for an insert of B, where one of A stands at the same place.
-fn is_left_as(alloc: Global, side: Side, wanted: &str) -> Result<bool, Fail> {
-    let insert = op(alloc, r#"[{"li":"B","p":[0]}]"#)?;
-    let other = op(alloc, r#"[{"li":"A","p":[0]}]"#)?;
-    is_printed(alloc, &transform(alloc, &insert, &other, side)?, wanted)
-}
-
-#[test]
-fn an_operation_is_transformed_as_either_side(rt: HostRuntime) -> Result<(), Fail> {
-    assert!(rt; is_left_as(rt.alloc(), Side::Left, r#"[{"li":"B","p":[0]}]"#)?);
-    assert!(rt; is_left_as(rt.alloc(), Side::Right, r#"[{"li":"B","p":[1]}]"#)?);
-    Ok(())
+    text
 }
 
 // The front, so many letters, and the end.
-fn around(alloc: Global, front: &str, letters: u64, end: &str) -> Result<String, Fail> {
-    let mut text = extended(alloc, front, "x", letters)?;
-    text.push_str(end)?;
-    Ok(text)
+fn around(rt: &impl Abort, alloc: Global, front: &str, letters: u64, end: &str) -> String {
+    let text = extended(rt, alloc, front, "x", letters);
+    extended(rt, alloc, text.as_str(), end, 1)
+}
+
+// The front, and the parts behind it.
+fn joined(rt: &impl Abort, alloc: Global, front: &str, parts: &[&str]) -> String {
+    let mut text = String::from_str(alloc, front).expect(rt, "out of memory");
+    for part in parts {
+        text.push_str(part).expect(rt, "out of memory");
+    }
+    text
+}
+
+// A row of a delete of 200 letters that inserts cut, the last one first.
+fn cuts(rt: &impl Abort, alloc: Global) -> String {
+    let left = extended(rt, alloc, r#"[[[{"p":[0],"sd":""#, "a", 200);
+    let right = followed(rt, alloc, r#"{"p":[199],"si":"x"}"#, r#""si":"x""#, true);
+    let left_after = followed(rt, alloc, r#"{"p":[0],"sd":"a"}"#, r#""sd":"aa""#, false);
+    let insert = r#"{"p":[0],"si":"x"}"#;
+    let right_after = extended(rt, alloc, insert, r#",{"p":[0],"si":"x"}"#, 99);
+    let parts = [
+        r#""}],["#,
+        right.as_str(),
+        "],[",
+        left_after.as_str(),
+        r#",{"p":[100],"sd":"a"}],["#,
+        right_after.as_str(),
+        "],5050]]",
+    ];
+    joined(rt, alloc, left.as_str(), &parts)
+}
+
+#[test]
+fn a_long_delete_is_cut_a_hundred_times(rt: HostRuntime) {
+    assert!(rt; each_row(&rt, rt.alloc(), cuts(&rt, rt.alloc()).as_str(), crosses) == 1);
+}
+
+// Whether this stands for an insert of B, where one of A stands at the same place.
+fn is_left_as(rt: &impl Abort, alloc: Global, side: Side, wanted: &str) -> bool {
+    let insert = op(rt, alloc, r#"[{"li":"B","p":[0]}]"#);
+    let other = op(rt, alloc, r#"[{"li":"A","p":[0]}]"#);
+    let after = transform(alloc, &insert, &other, side).expect(rt, "transformed");
+    is_printed(rt, alloc, &after, wanted)
+}
+
+#[test]
+fn an_operation_is_transformed_as_either_side(rt: HostRuntime) {
+    assert!(rt; is_left_as(&rt, rt.alloc(), Side::Left, r#"[{"li":"B","p":[0]}]"#));
+    assert!(rt; is_left_as(&rt, rt.alloc(), Side::Right, r#"[{"li":"B","p":[1]}]"#));
 }
 
 const BELOW: &str = r#"[{"p":[3,0,0],"si":"yy"},{"li":1,"p":[3,1]},{"li":2,"p":[0]}]"#;
 
-// Whether the removal of a text of so many letters meets edits below it, from either side.
-fn meets(alloc: Global, letters: u64) -> Result<bool, Fail> {
-    let removal = around(alloc, r#"[{"ld":[""#, letters, r#"",null],"p":[3]}]"#)?;
-    let after = around(alloc, r#"[{"ld":["yy"#, letters, r#"",1,null],"p":[4]}]"#)?;
+// Two rows, of the removal of a text of so many letters that meets edits below it, from either side.
+fn removals(rt: &impl Abort, alloc: Global, letters: u64) -> String {
+    let removal = around(rt, alloc, r#"[{"ld":[""#, letters, r#"",null],"p":[3]}]"#);
+    let after = around(
+        rt,
+        alloc,
+        r#"[{"ld":["yy"#,
+        letters,
+        r#"",1,null],"p":[4]}]"#,
+    );
     let (removal, after, other) = (removal.as_str(), after.as_str(), r#"[{"li":2,"p":[0]}]"#);
-    Ok(
-        crossed(alloc, removal, BELOW, after, other)?.is_some()
-            && crossed(alloc, BELOW, removal, other, after)?.is_some(),
-    )
+    let left = [removal, ",", BELOW, ",", after, ",", other, ",3],["];
+    let left = joined(rt, alloc, "[[", &left);
+    let right = [BELOW, ",", removal, ",", other, ",", after, ",3]]"];
+    joined(rt, alloc, left.as_str(), &right)
 }
 
 #[test]
-fn a_removed_value_meets_edits_below_it(rt: HostRuntime) -> Result<(), Fail> {
+fn a_removed_value_meets_edits_below_it(rt: HostRuntime) {
     for letters in [0, 1, 63, 64, 65, 4096, 100000] {
-        assert!(rt; meets(rt.alloc(), letters)?, "{letters}");
+        let rows = removals(&rt, rt.alloc(), letters);
+        assert!(rt;
+            each_row(&rt, rt.alloc(), rows.as_str(), crosses) == 2,
+            "{letters}"
+        );
     }
-    Ok(())
 }
 
 #[test]
-fn faults_are_named(rt: HostRuntime) -> Result<(), Fail> {
-    let refused = Fault::NotTransformed.to_string(rt.alloc())?;
-    assert!(rt; refused.as_str() == "operation can not be applied");
-    assert!(rt; Fault::Memory.to_string(rt.alloc())?.as_str() == "out of memory");
-    Ok(())
+fn faults_are_named(rt: HostRuntime) {
+    let refused = "operation can not be applied";
+    assert!(rt; says(&rt, rt.alloc(), &Fault::NotTransformed, refused));
+    assert!(rt; says(&rt, rt.alloc(), &Fault::Memory, "out of memory"));
 }

@@ -2,48 +2,43 @@
 ghost use Rattle.std.specs.Prelude.{◌≡◌, OnOk, ⊤};
 ghost use Rattle.sdb_value.specs.View.{view};
 
-use crate::texts::{extended, is_shown, json, shown};
+use crate::texts::{each_row, extended, is_shown, json, json_of, parsed, says, shown, text_of};
 use json::Writer;
 use sdb_value::{
-    Change, Json, List, MAX, Members, Path, Step, Text, ValueFault, Whole, change_at, count_of,
-    cut_at, find, find_mut, from_value, insert_item, laws, list_mut, object_mut, put_member,
-    remove_item, remove_member, replace_item, same_value, text_mut, to_value, units, whole_of,
-    write_value,
+    Change, Json, List, MAX, Members, Path, Step, ValueFault, Whole, change_at, count_of, cut_at,
+    find, find_mut, from_value, insert_item, laws, list_mut, object_mut, put_member, remove_item,
+    remove_member, replace_item, same_value, text_mut, units, whole_of, write_value,
 };
 use serde_json::Value;
 use std::alloc::{AllocError, Global};
-use std::test::Fail;
+use std::process::Abort;
 
-fn written(alloc: Global, json: &Json) -> Result<Vec<u8>, Fail> {
+fn written(rt: &impl Abort, alloc: Global, json: &Json) -> Vec<u8> {
     let mut out = Writer::new(Vec::new(alloc));
-    write_value(json, &mut out)?;
-    Ok(out.into_inner())
+    write_value(json, &mut out).expect(rt, "out of memory");
+    out.into_inner()
 }
 
-fn step(item: &Json) -> Result<Step, Fail> {
-    match item {
-        Json::Text(key) => Ok(Step::Key(key.to_string(key.allocator())?)),
-        Json::Int(index) => Ok(Step::Index(index.get().unsigned_abs())),
-        _ => Err("no step".into()),
+fn step(rt: &impl Abort, alloc: Global, item: &Value) -> Step {
+    match item.as_u64() {
+        Some(index) => Step::Index(index),
+        None => Step::Key(text_of(rt, alloc, &item.as_str().expect(rt, "a step"))),
     }
 }
 
 // The steps that a list of keys and indexes names.
-fn path_of(alloc: Global, steps: &Json) -> Result<Path, Fail> {
+fn path_of(rt: &impl Abort, alloc: Global, steps: &Value) -> Path {
     let mut path = Vec::new(alloc);
-    let Json::List(items) = steps else {
-        return Err("no list".into());
-    };
-    for item in items.iter() {
-        path.push(step(item)?)?;
+    for item in steps.as_array().expect(rt, "a list") {
+        path.push(step(rt, alloc, item)).expect(rt, "out of memory");
     }
-    Ok(path)
+    path
 }
 
 // Lists, so many inside one another.
-fn deep(alloc: Global, depth: u64) -> Result<String, Fail> {
-    let opened = extended(alloc, "", "[", depth)?;
-    extended(alloc, opened.as_str(), "]", depth)
+fn deep(rt: &impl Abort, alloc: Global, depth: u64) -> String {
+    let opened = extended(rt, alloc, "", "[", depth);
+    extended(rt, alloc, opened.as_str(), "]", depth)
 }
 
 const READ: &str =
@@ -53,31 +48,28 @@ const PRINTED: &str =
     r#"{"a":{"k":0},"b":[null,true,false,-9007199254740991,9007199254740991,"aé😀\"\n",[],{}]}"#;
 
 #[test]
-fn a_value_is_read_and_printed(rt: HostRuntime) -> Result<(), Fail> {
-    let value = json(rt.alloc(), READ)?;
-    assert!(rt; is_shown(rt.alloc(), &value, PRINTED)?);
-    assert!(rt; written(rt.alloc(), &value)?.as_slice() == PRINTED.as_bytes());
-    Ok(())
+fn a_value_is_read_and_printed(rt: HostRuntime) {
+    let value = json(&rt, rt.alloc(), READ);
+    assert!(rt; is_shown(&rt, rt.alloc(), &value, PRINTED));
+    assert!(rt; written(&rt, rt.alloc(), &value).as_slice() == PRINTED.as_bytes());
 }
 
 #[test]
-fn a_copy_is_the_same(rt: HostRuntime) -> Result<(), Fail> {
-    let value = json(rt.alloc(), READ)?;
-    let copy = value.try_clone(rt.alloc())?;
+fn a_copy_is_the_same(rt: HostRuntime) {
+    let value = json(&rt, rt.alloc(), READ);
+    let copy = value.try_clone(rt.alloc()).expect(&rt, "out of memory");
     assert!(rt; same_value(&copy, &value));
     drop(value);
-    assert!(rt; is_shown(rt.alloc(), &copy, PRINTED)?);
-    Ok(())
+    assert!(rt; is_shown(&rt, rt.alloc(), &copy, PRINTED));
 }
 
-// Whether the text is refused for a number in it.
-fn is_no_number(alloc: Global, text: &str) -> Result<bool, Fail> {
-    let value = Value::from_str(alloc, text)?;
-    Ok(matches!(from_value(alloc, &value), Err(ValueFault::Number)))
+// Why the text is refused.
+fn fault(rt: &impl Abort, alloc: Global, text: &str) -> Option<ValueFault> {
+    from_value(alloc, &parsed(rt, alloc, text)).err()
 }
 
 #[test]
-fn other_numbers_are_refused(rt: HostRuntime) -> Result<(), Fail> {
+fn other_numbers_are_refused(rt: HostRuntime) {
     for text in [
         "1.5",
         "1.0",
@@ -86,35 +78,31 @@ fn other_numbers_are_refused(rt: HostRuntime) -> Result<(), Fail> {
         "-9007199254740992",
         r#"{"k":[0,1.5]}"#,
     ] {
-        assert!(rt; is_no_number(rt.alloc(), text)?, "{text}");
+        assert!(rt;
+            matches!(fault(&rt, rt.alloc(), text), Some(ValueFault::Number)),
+            "{text}"
+        );
     }
-    Ok(())
-}
-
-// How deep the value is.
-fn depth(alloc: Global, text: &str) -> Result<u64, Fail> {
-    Ok(json(alloc, text)?.depth())
-}
-
-// Whether the text is that deep, and shown again.
-fn is_deep(alloc: Global, text: &str, wanted: u64) -> Result<bool, Fail> {
-    let value = json(alloc, text)?;
-    Ok(value.depth() == wanted && is_shown(alloc, &value, text)?)
 }
 
 #[test]
-fn depth_is_counted(rt: HostRuntime) -> Result<(), Fail> {
-    assert!(rt; depth(rt.alloc(), r#""a""#)? == 0);
-    assert!(rt; depth(rt.alloc(), r#"{"a":[1],"b":{"c":[]}}"#)? == 3);
-    assert!(rt; is_deep(rt.alloc(), deep(rt.alloc(), 50)?.as_str(), 50)?);
-    Ok(())
+fn depth_is_counted(rt: HostRuntime) {
+    assert!(rt; json(&rt, rt.alloc(), r#""a""#).depth() == 0);
+    assert!(rt; json(&rt, rt.alloc(), r#"{"a":[1],"b":{"c":[]}}"#).depth() == 3);
+    let text = deep(&rt, rt.alloc(), 50);
+    let value = json(&rt, rt.alloc(), text.as_str());
+    assert!(rt; value.depth() == 50 && is_shown(&rt, rt.alloc(), &value, text.as_str()));
 }
 
 #[test]
-fn depth_is_limited(rt: HostRuntime) -> Result<(), Fail> {
-    let deeper = Value::from_str(rt.alloc(), deep(rt.alloc(), 51)?.as_str())?;
-    assert!(rt; matches!(from_value(rt.alloc(), &deeper), Err(ValueFault::Depth)));
-    Ok(())
+fn depth_is_limited(rt: HostRuntime) {
+    let deeper = deep(&rt, rt.alloc(), 51);
+    assert!(rt;
+        matches!(
+            fault(&rt, rt.alloc(), deeper.as_str()),
+            Some(ValueFault::Depth)
+        )
+    );
 }
 
 // Rows of a JSON number, and what it is as a whole number and as a count.
@@ -134,23 +122,19 @@ fn whole(value: &Value) -> Option<i64> {
     whole_of(value.as_number()?).map(Whole::get)
 }
 
-fn is_number(row: &Value) -> Result<bool, Fail> {
-    let [value, wanted, count] = row.as_array().ok_or("no row")?.as_slice() else {
-        return Err("no row of three".into());
+fn is_number(_rt: &impl Abort, _alloc: Global, row: &[Value]) -> bool {
+    let [value, wanted, count] = row else {
+        return false;
     };
-    Ok(whole(value) == wanted.as_i64() && count_of(value) == count.as_u64())
+    whole(value) == wanted.as_i64() && count_of(value) == count.as_u64()
 }
 
 #[test]
-fn numbers_are_read(rt: HostRuntime) -> Result<(), Fail> {
-    let rows = Value::from_str(rt.alloc(), NUMBERS)?;
-    for row in rows.as_array().ok_or("no rows")? {
-        assert!(rt; is_number(row)?, "{row}");
-    }
-    assert!(rt; count_of(&rows).is_none());
+fn numbers_are_read(rt: HostRuntime) {
+    each_row(&rt, rt.alloc(), NUMBERS, is_number);
+    assert!(rt; count_of(&parsed(&rt, rt.alloc(), NUMBERS)).is_none());
     assert!(rt; MAX == 9007199254740991);
     assert!(rt; Whole::MAX == 9007199254740991);
-    Ok(())
 }
 
 fn sum(a: i64, b: i64) -> Option<i64> {
@@ -195,30 +179,32 @@ fn is_sized(value: &Json, wanted: u64) -> bool {
     is_sized_to(value, 18446744073709551615, wanted)
 }
 
-fn has_size(alloc: Global, row: &Value) -> Result<bool, Fail> {
-    let [value, size] = row.as_array().ok_or("no row")?.as_slice() else {
-        return Err("no row of two".into());
+fn has_size(rt: &impl Abort, alloc: Global, row: &[Value]) -> bool {
+    let [value, size] = row else {
+        return false;
     };
-    Ok(is_sized(&from_value(alloc, value)?, size.as_u64().ok_or("a size")?))
+    let size = size.as_u64().expect(rt, "a size");
+    is_sized(&json_of(rt, alloc, value), size)
 }
 
 #[test]
-fn sizes_are_counted_up_to_a_limit(rt: HostRuntime) -> Result<(), Fail> {
-    let rows = Value::from_str(rt.alloc(), SIZES)?;
-    for row in rows.as_array().ok_or("no rows")? {
-        assert!(rt; has_size(rt.alloc(), row)?, "{row}");
-    }
-    Ok(())
+fn sizes_are_counted_up_to_a_limit(rt: HostRuntime) {
+    each_row(&rt, rt.alloc(), SIZES, has_size);
 }
 
 #[test]
-fn faults_are_named(rt: HostRuntime) -> Result<(), Fail> {
-    let number = ValueFault::Number.to_string(rt.alloc())?;
-    assert!(rt; number.as_str() == "a number is not whole or too large");
-    let depth = ValueFault::Depth.to_string(rt.alloc())?;
-    assert!(rt; depth.as_str() == "a value nests too deep");
-    assert!(rt; ValueFault::Memory.to_string(rt.alloc())?.as_str() == "out of memory");
-    Ok(())
+fn faults_are_named(rt: HostRuntime) {
+    let number = "a number is not whole or too large";
+    assert!(rt; says(&rt, rt.alloc(), &ValueFault::Number, number));
+    assert!(rt;
+        says(
+            &rt,
+            rt.alloc(),
+            &ValueFault::Depth,
+            "a value nests too deep"
+        )
+    );
+    assert!(rt; says(&rt, rt.alloc(), &ValueFault::Memory, "out of memory"));
 }
 
 const PLACED: &str = r#"{"a":[1,{"b":"x"}],"c":null,"d":true}"#;
@@ -244,54 +230,37 @@ const PLACES: &str = r#"[
   [["d",0,"b"], "nothing"]
 ]"#;
 
-fn shown_or_nothing(alloc: Global, place: Option<&Json>) -> Result<String, Fail> {
+fn shown_or_nothing(rt: &impl Abort, alloc: Global, place: Option<&Json>) -> String {
     match place {
-        Some(place) => shown(alloc, place),
-        None => Ok(String::from_str(alloc, r#""nothing""#)?),
+        Some(place) => shown(rt, alloc, place),
+        None => text_of(rt, alloc, &r#""nothing""#),
     }
 }
 
-fn found(alloc: Global, value: &Json, path: &Path) -> Result<String, Fail> {
-    shown_or_nothing(alloc, find(value, path))
-}
-
-fn lent(alloc: Global, value: &mut Json, path: &Path) -> Result<String, Fail> {
+fn lent(rt: &impl Abort, alloc: Global, value: &mut Json, path: &Path) -> String {
     match find_mut(value, path) {
-        Some(place) => shown(alloc, place),
-        None => Ok(String::from_str(alloc, r#""nothing""#)?),
+        Some(place) => shown(rt, alloc, place),
+        None => shown_or_nothing(rt, alloc, None),
     }
 }
 
 // Whether the path leads to this, read and lent. No clause says that a search that finds nothing changes
 // nothing.
-fn leads_to(alloc: Global, value: &mut Json, path: &Path, wanted: &str) -> Result<bool, Fail> {
-    Ok(
-        found(alloc, value, path)?.as_str() == wanted
-            && lent(alloc, value, path)?.as_str() == wanted
-            && is_shown(alloc, value, PLACED)?,
-    )
-}
-
-fn is_place(alloc: Global, row: &Value) -> Result<bool, Fail> {
-    let [steps, wanted] = row.as_array().ok_or("no row")?.as_slice() else {
-        return Err("no row of two".into());
+fn is_place(rt: &impl Abort, alloc: Global, row: &[Value]) -> bool {
+    let [steps, wanted] = row else {
+        return false;
     };
-    let path = path_of(alloc, &from_value(alloc, steps)?)?;
-    leads_to(
-        alloc,
-        &mut json(alloc, PLACED)?,
-        &path,
-        wanted.to_string(alloc)?.as_str(),
-    )
+    let path = path_of(rt, alloc, steps);
+    let wanted = text_of(rt, alloc, wanted);
+    let mut value = json(rt, alloc, PLACED);
+    shown_or_nothing(rt, alloc, find(&value, &path)).as_str() == wanted.as_str()
+        && lent(rt, alloc, &mut value, &path).as_str() == wanted.as_str()
+        && is_shown(rt, alloc, &value, PLACED)
 }
 
 #[test]
-fn places_are_found(rt: HostRuntime) -> Result<(), Fail> {
-    let rows = Value::from_str(rt.alloc(), PLACES)?;
-    for row in rows.as_array().ok_or("no rows")? {
-        assert!(rt; is_place(rt.alloc(), row)?, "{row}");
-    }
-    Ok(())
+fn places_are_found(rt: HostRuntime) {
+    each_row(&rt, rt.alloc(), PLACES, is_place);
 }
 
 // Puts a truth at the path.
@@ -302,13 +271,12 @@ fn put_truth(value: &mut Json, path: &Path) {
 }
 
 #[test]
-fn a_place_is_written(rt: HostRuntime) -> Result<(), Fail> {
-    let mut value = json(rt.alloc(), PLACED)?;
-    let path = path_of(rt.alloc(), &json(rt.alloc(), r#"["a",1,"b"]"#)?)?;
+fn a_place_is_written(rt: HostRuntime) {
+    let mut value = json(&rt, rt.alloc(), PLACED);
+    let path = path_of(&rt, rt.alloc(), &parsed(&rt, rt.alloc(), r#"["a",1,"b"]"#));
     put_truth(&mut value, &path);
     let after = r#"{"a":[1,{"b":true}],"c":null,"d":true}"#;
-    assert!(rt; is_shown(rt.alloc(), &value, after)?);
-    Ok(())
+    assert!(rt; is_shown(&rt, rt.alloc(), &value, after));
 }
 
 // Puts a value in the place of another, and answers how deep that was.
@@ -332,45 +300,43 @@ impl Change for Replace<'_> {
     }
 }
 
+fn depth_of(rt: &impl Abort, changed: Option<Result<u64, AllocError>>) -> Option<u64> {
+    Some(changed?.expect(rt, "out of memory"))
+}
+
 // Puts null at the path, and answers how deep the value there was.
-fn put_null(alloc: Global, value: &mut Json, steps: &str) -> Result<Option<u64>, Fail> {
-    let path = path_of(alloc, &json(alloc, steps)?)?;
+fn put_null(rt: &impl Abort, alloc: Global, value: &mut Json, steps: &str) -> Option<u64> {
+    let path = path_of(rt, alloc, &parsed(rt, alloc, steps));
     let null = Json::Null;
     let replace = Replace { alloc, new: &null };
-    match change_at(alloc, value, &path, replace)? {
-        Some(depth) => Ok(Some(depth?)),
-        None => Ok(None),
-    }
+    let changed = change_at(alloc, value, &path, replace);
+    depth_of(rt, changed.expect(rt, "out of memory"))
 }
 
-// Whether one place takes null, and places that aren't there change nothing.
-fn changes_one_place(alloc: Global, value: &mut Json) -> Result<bool, Fail> {
+// One place takes null, and places that aren't there change nothing.
+#[test]
+fn one_place_is_changed(rt: HostRuntime) {
+    let mut value = json(&rt, rt.alloc(), r#"{"a":[1,{"b":[[]]}],"c":2}"#);
     let after = r#"{"a":[1,{"b":null}],"c":2}"#;
-    Ok(
-        put_null(alloc, value, r#"["a",1,"b"]"#)? == Some(2)
-            && is_shown(alloc, value, after)?
-            && put_null(alloc, value, r#"["a",2]"#)?.is_none()
-            && put_null(alloc, value, r#"["b"]"#)?.is_none()
-            && is_shown(alloc, value, after)?,
-    )
+    assert!(rt; put_null(&rt, rt.alloc(), &mut value, r#"["a",1,"b"]"#) == Some(2));
+    assert!(rt; is_shown(&rt, rt.alloc(), &value, after));
+    assert!(rt; put_null(&rt, rt.alloc(), &mut value, r#"["a",2]"#).is_none());
+    assert!(rt; put_null(&rt, rt.alloc(), &mut value, r#"["b"]"#).is_none());
+    assert!(rt; is_shown(&rt, rt.alloc(), &value, after));
 }
 
 #[test]
-fn one_place_is_changed(rt: HostRuntime) -> Result<(), Fail> {
-    let mut value = json(rt.alloc(), r#"{"a":[1,{"b":[[]]}],"c":2}"#)?;
-    assert!(rt; changes_one_place(rt.alloc(), &mut value)?);
-    Ok(())
+fn the_whole_value_is_changed(rt: HostRuntime) {
+    let mut value = json(&rt, rt.alloc(), r#"{"a":[1,{"b":null}],"c":2}"#);
+    assert!(rt; put_null(&rt, rt.alloc(), &mut value, "[]") == Some(3));
+    assert!(rt; is_shown(&rt, rt.alloc(), &value, "null"));
 }
 
-fn changes_the_whole(alloc: Global, value: &mut Json) -> Result<bool, Fail> {
-    Ok(put_null(alloc, value, "[]")? == Some(3) && is_shown(alloc, value, "null")?)
-}
-
-#[test]
-fn the_whole_value_is_changed(rt: HostRuntime) -> Result<(), Fail> {
-    let mut value = json(rt.alloc(), r#"{"a":[1,{"b":null}],"c":2}"#)?;
-    assert!(rt; changes_the_whole(rt.alloc(), &mut value)?);
-    Ok(())
+// Asserts where the text is cut at each offset.
+fn assert_cuts(rt: &impl Abort, text: &str, cuts: &[(u64, Option<usize>)]) {
+    for (offset, wanted) in cuts {
+        assert!(rt; cut_at(text, *offset) == *wanted, "{offset}");
+    }
 }
 
 #[test]
@@ -378,32 +344,30 @@ fn texts_are_measured(rt: HostRuntime) {
     assert!(rt; units("") == 0);
     assert!(rt; units("a😀b") == 4);
     assert!(rt; units("aé€") == 3);
-    for (offset, want) in [
+    let cuts = [
         (0, Some(0)),
         (1, Some(1)),
         (2, None),
         (3, Some(5)),
         (4, Some(6)),
         (5, None),
-    ] {
-        assert!(rt; cut_at("a😀b", offset) == want, "{offset}");
-    }
+    ];
+    assert_cuts(&rt, "a😀b", &cuts);
 }
 
 // A pair over the end of the first 4096 bytes, and one more behind the second.
-fn long(alloc: Global) -> Result<String, Fail> {
-    let mut text = extended(alloc, "", "a", 4095)?;
-    text.push_str("😀")?;
-    let mut text = extended(alloc, text.as_str(), "b", 5000)?;
-    text.push_str("😀")?;
-    Ok(text)
+fn long(rt: &impl Abort, alloc: Global) -> String {
+    let text = extended(rt, alloc, "", "a", 4095);
+    let text = extended(rt, alloc, text.as_str(), "😀", 1);
+    let text = extended(rt, alloc, text.as_str(), "b", 5000);
+    extended(rt, alloc, text.as_str(), "😀", 1)
 }
 
 #[test]
-fn long_texts_are_measured(rt: HostRuntime) -> Result<(), Fail> {
-    let text = long(rt.alloc())?;
+fn long_texts_are_measured(rt: HostRuntime) {
+    let text = long(&rt, rt.alloc());
     assert!(rt; units(text.as_str()) == 9099);
-    for (offset, want) in [
+    let cuts = [
         (4094, Some(4094)),
         (4095, Some(4095)),
         (4096, None),
@@ -416,23 +380,21 @@ fn long_texts_are_measured(rt: HostRuntime) -> Result<(), Fail> {
         (9098, None),
         (9099, Some(9103)),
         (9100, None),
-    ] {
-        assert!(rt; cut_at(text.as_str(), offset) == want, "{offset}");
-    }
-    Ok(())
+    ];
+    assert_cuts(&rt, text.as_str(), &cuts);
 }
 
 // Pairs alone, from the end of the first 4096 bytes to that of the third.
-fn pairs(alloc: Global) -> Result<String, Fail> {
-    let text = extended(alloc, "", "a", 4096)?;
-    extended(alloc, text.as_str(), "😀", 2048)
+fn pairs(rt: &impl Abort, alloc: Global) -> String {
+    let text = extended(rt, alloc, "", "a", 4096);
+    extended(rt, alloc, text.as_str(), "😀", 2048)
 }
 
 #[test]
-fn pairs_are_measured(rt: HostRuntime) -> Result<(), Fail> {
-    let text = pairs(rt.alloc())?;
+fn pairs_are_measured(rt: HostRuntime) {
+    let text = pairs(&rt, rt.alloc());
     assert!(rt; units(text.as_str()) == 8192);
-    for (offset, want) in [
+    let cuts = [
         (4096, Some(4096)),
         (4097, None),
         (4098, Some(4100)),
@@ -440,108 +402,96 @@ fn pairs_are_measured(rt: HostRuntime) -> Result<(), Fail> {
         (6145, None),
         (8192, Some(12288)),
         (8193, None),
-    ] {
-        assert!(rt; cut_at(text.as_str(), offset) == want, "{offset}");
-    }
-    Ok(())
+    ];
+    assert_cuts(&rt, text.as_str(), &cuts);
 }
 
-fn change_items(alloc: Global, items: &mut List) -> Result<bool, Fail> {
-    Ok(
-        insert_item(alloc, items, 3, json(alloc, "4")?)?
-            && remove_item(alloc, items, 0)?
-            && replace_item(alloc, items, 1, json(alloc, r#""q""#)?)?,
-    )
-}
-
-#[test]
-fn a_list_is_changed_in_place(rt: HostRuntime) -> Result<(), Fail> {
-    let mut list = json(rt.alloc(), "[1,2,3]")?;
-    if let Some(items) = list_mut(&mut list) {
-        assert!(rt; change_items(rt.alloc(), items)?);
-    }
-    assert!(rt; is_shown(rt.alloc(), &list, r#"[2,"q",4]"#)?);
-    Ok(())
-}
-
-fn change_members(alloc: Global, members: &mut Members) -> Result<(), Fail> {
-    put_member(
-        alloc,
-        members,
-        String::from_str(alloc, "b")?,
-        json(alloc, "2")?,
-    )?;
-    put_member(alloc, members, String::from_str(alloc, "c")?, Json::Null)?;
-    remove_member(alloc, members, "a")?;
-    Ok(())
+fn change_items(rt: &impl Abort, alloc: Global, items: &mut List) {
+    let inserted = insert_item(alloc, items, 3, json(rt, alloc, "4"));
+    assert!(rt; inserted.expect(rt, "out of memory"));
+    assert!(rt; remove_item(alloc, items, 0).expect(rt, "out of memory"));
+    let replaced = replace_item(alloc, items, 1, json(rt, alloc, r#""q""#));
+    assert!(rt; replaced.expect(rt, "out of memory"));
 }
 
 #[test]
-fn an_object_is_changed_in_place(rt: HostRuntime) -> Result<(), Fail> {
-    let mut object = json(rt.alloc(), r#"{"a":1,"c":3}"#)?;
-    if let Some(members) = object_mut(&mut object) {
-        change_members(rt.alloc(), members)?;
-    }
-    assert!(rt; is_shown(rt.alloc(), &object, r#"{"b":2,"c":null}"#)?);
-    Ok(())
+fn a_list_is_changed_in_place(rt: HostRuntime) {
+    let mut list = json(&rt, rt.alloc(), "[1,2,3]");
+    change_items(&rt, rt.alloc(), list_mut(&mut list).expect(&rt, "a list"));
+    assert!(rt; is_shown(&rt, rt.alloc(), &list, r#"[2,"q",4]"#));
 }
 
-fn change_text(alloc: Global, inside: &mut Text) -> Result<bool, Fail> {
-    Ok(inside.insert(alloc, 3, "xy")? && inside.remove(alloc, 1, "😀x")?)
+fn put(rt: &impl Abort, alloc: Global, members: &mut Members, key: &str, value: Json) {
+    put_member(alloc, members, text_of(rt, alloc, &key), value).expect(rt, "out of memory");
+}
+
+fn change_members(rt: &impl Abort, alloc: Global, members: &mut Members) {
+    put(rt, alloc, members, "b", json(rt, alloc, "2"));
+    put(rt, alloc, members, "c", Json::Null);
+    remove_member(alloc, members, "a").expect(rt, "out of memory");
 }
 
 #[test]
-fn a_text_is_changed_in_place(rt: HostRuntime) -> Result<(), Fail> {
-    let mut text = json(rt.alloc(), r#""a😀b""#)?;
-    if let Some(inside) = text_mut(&mut text) {
-        assert!(rt; change_text(rt.alloc(), inside)?);
-    }
-    assert!(rt; is_shown(rt.alloc(), &text, r#""ayb""#)?);
-    Ok(())
+fn an_object_is_changed_in_place(rt: HostRuntime) {
+    let mut object = json(&rt, rt.alloc(), r#"{"a":1,"c":3}"#);
+    change_members(
+        &rt,
+        rt.alloc(),
+        object_mut(&mut object).expect(&rt, "an object"),
+    );
+    assert!(rt; is_shown(&rt, rt.alloc(), &object, r#"{"b":2,"c":null}"#));
+}
+
+#[test]
+fn a_text_is_changed_in_place(rt: HostRuntime) {
+    let mut text = json(&rt, rt.alloc(), r#""a😀b""#);
+    let inside = text_mut(&mut text).expect(&rt, "a text");
+    assert!(rt;
+        inside
+            .insert(rt.alloc(), 3, "xy")
+            .expect(&rt, "out of memory")
+    );
+    assert!(rt;
+        inside
+            .remove(rt.alloc(), 1, "😀x")
+            .expect(&rt, "out of memory")
+    );
+    assert!(rt; is_shown(&rt, rt.alloc(), &text, r#""ayb""#));
 }
 
 // A value with a list of several blocks and a text of several pieces.
-fn wide(alloc: Global) -> Result<Json, Fail> {
-    let mut text = String::from_str(alloc, r#"{"l":["#)?;
-    for _ in 0..1_500 {
-        text.push_str(r#"{"n":[1]},"#)?;
-    }
-    text.push_str(r#"0],"t":""#)?;
-    for _ in 0..3_000 {
-        text.push_str("aé😀")?;
-    }
-    text.push_str(r#""}"#)?;
-    json(alloc, text.as_str())
+fn wide(rt: &impl Abort, alloc: Global) -> Json {
+    let text = extended(rt, alloc, r#"{"l":["#, r#"{"n":[1]},"#, 1_500);
+    let text = extended(rt, alloc, text.as_str(), r#"0],"t":""#, 1);
+    let text = extended(rt, alloc, text.as_str(), "aé😀", 3_000);
+    let text = extended(rt, alloc, text.as_str(), r#""}"#, 1);
+    json(rt, alloc, text.as_str())
 }
 
 // Puts null at some places.
-fn change_some(alloc: Global, value: &mut Json) -> Result<bool, Fail> {
-    Ok(
-        put_null(alloc, value, r#"["l",700,"n",0]"#)? == Some(0)
-            && put_null(alloc, value, r#"["l",1400]"#)?.is_some()
-            && put_null(alloc, value, r#"["t"]"#)? == Some(0),
-    )
+fn change_some(rt: &impl Abort, alloc: Global, value: &mut Json) {
+    assert!(rt; put_null(rt, alloc, value, r#"["l",700,"n",0]"#) == Some(0));
+    assert!(rt; put_null(rt, alloc, value, r#"["l",1400]"#).is_some());
+    assert!(rt; put_null(rt, alloc, value, r#"["t"]"#) == Some(0));
 }
 
-// Whether a copy stays as it was where the other is changed, whichever is changed first.
-fn copies_apart(alloc: Global, value: &Json) -> Result<bool, Fail> {
-    let shared = value.shared_copy(alloc)?;
-    let mut first = shared.try_clone(alloc)?;
-    let second = first.try_clone(alloc)?;
-    let done = change_some(alloc, &mut first)?;
-    let mut third = first.shared_copy(alloc)?;
-    let again = change_some(alloc, &mut third)? && same_value(&first, &third);
-    Ok(
-        done && again
-            && same_value(value, &second)
-            && same_value(&shared, &second)
-            && !same_value(&first, &second),
-    )
+// Whether a copy takes the same changes once more.
+fn is_changed_again(rt: &impl Abort, alloc: Global, first: &Json) -> bool {
+    let mut third = first.shared_copy(alloc).expect(rt, "out of memory");
+    change_some(rt, alloc, &mut third);
+    same_value(first, &third)
 }
 
+// A copy stays as it was where the other is changed, whichever is changed first.
 #[test]
-fn copies_of_a_value_are_changed_apart(rt: HostRuntime) -> Result<(), Fail> {
-    let value = wide(rt.alloc())?;
-    assert!(rt; copies_apart(rt.alloc(), &value)?);
-    Ok(())
+fn copies_of_a_value_are_changed_apart(rt: HostRuntime) {
+    let value = wide(&rt, rt.alloc());
+    let shared = value.shared_copy(rt.alloc()).expect(&rt, "out of memory");
+    let mut first = shared.try_clone(rt.alloc()).expect(&rt, "out of memory");
+    let second = first.try_clone(rt.alloc()).expect(&rt, "out of memory");
+    change_some(&rt, rt.alloc(), &mut first);
+    assert!(rt; is_changed_again(&rt, rt.alloc(), &first));
+    assert!(rt; same_value(&value, &second));
+    assert!(rt; same_value(&shared, &second));
+    assert!(rt; !same_value(&first, &second));
 }
