@@ -111,6 +111,11 @@ fn is_made_once(alloc: Global, audit: &Audit) -> Result<bool, Fail> {
     Ok(log.len() == 1 && audit.queues() == 0)
 }
 
+// Whether the one is a front of the other: behind the whole a close may be told.
+fn agree(whole: &[u8], told: &[u8]) -> bool {
+    whole.starts_with(told) || told.starts_with(whole)
+}
+
 // Whether a client is told a front of the whole, another one then has the same document acknowledged, and
 // it is stored once.
 fn is_stored_once<R: AllocGlobal + Wait + Drop + Copy>(
@@ -125,7 +130,7 @@ fn is_stored_once<R: AllocGlobal + Wait + Drop + Copy>(
     let other = Stream::new(alloc, create.as_slice(), 4096, 100);
     let (second, other) = attend(&rt, alloc, &backend, second, other);
     let whole = told(alloc, &[OPENING, SUBSCRIBED, CREATED])?;
-    let is_front = whole.as_slice().starts_with(stream.told.as_slice());
+    let is_front = agree(whole.as_slice(), stream.told.as_slice());
     let is_told = other.told.as_slice().ends_with(CREATED.as_bytes());
     let audit = ended(alloc, backend, host, first, second)?;
     Ok(is_front && is_told && is_made_once(alloc, &audit)?)
@@ -134,7 +139,7 @@ fn is_stored_once<R: AllocGlobal + Wait + Drop + Copy>(
 #[test]
 fn a_client_whose_stream_fails(rt: HostRuntime) -> Result<(), Fail> {
     let sent = sent(rt.alloc(), &[SUBSCRIBE, CREATE])?;
-    for (at_once, most) in [(0, 8), (1, 600), (7, 100), (4096, 12)] {
+    for (at_once, most) in [(0, 8), (1, 360), (7, 100), (4096, 12)] {
         for calls in 0..most {
             let stream = Stream::new(rt.alloc(), sent.as_slice(), at_once, calls);
             assert!(rt;
