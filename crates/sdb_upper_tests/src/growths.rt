@@ -268,6 +268,9 @@ fn a_message(rt: HostRuntime) {
     let has_ended = ends(&mut session, &mut room, FETCH);
     mark(&rt, rt.alloc());
     let has_then = ends(&mut session, &mut room, FETCH);
+    if has_then && !has_ended {
+        panic!(rt; "out of memory around the call");
+    }
     let pumped = session.pump(&Solo, &mut room.shard, &room.table, 1);
     assert!(rt; has_then == has_ended && pumped.is_err() == has_ended);
     session.end(&Solo, &mut room.shard);
