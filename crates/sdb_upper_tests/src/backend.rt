@@ -123,13 +123,6 @@ fn wait_for(number: &AtomicU64, wanted: u64) {
     }
 }
 
-// An edit of version 1.
-fn late(rt: &impl Abort, alloc: Global, pass: &Pass, seq: u64, amount: i64) -> Submission
-    ensures { result.by ≡ number_of pass.now }
-{
-    through(rt, alloc, pass, seq, Some(1), adding(rt, alloc, amount))
-}
-
 // Submits while the other is held, and tells that it was answered. The pass, and where it is stored.
 fn submit_quick<R: Wait + Drop>(
     alloc: Global,
@@ -180,8 +173,9 @@ fn nobody_waits_for_a_submission_that_is_held(rt: HostRuntime) {
     } = opened(&rt, alloc, rt);
     let key = key(&rt, alloc, "1");
     create(&rt, alloc, &backend, &mut slow, &key);
-    let first = late(&rt, alloc, &slow, 2, 10);
-    let second = late(&rt, alloc, &quick, 1, 5);
+    let (ten, five) = (adding(&rt, alloc, 10), adding(&rt, alloc, 5));
+    let first = through(&rt, alloc, &slow, 2, Some(1), ten);
+    let second = through(&rt, alloc, &quick, 1, Some(1), five);
     let (answered, last) = (AtomicU64::new(0), AtomicU64::new(0));
     let ((mut slow, late), (_quick, early)) = thread::join(
         &rt,
@@ -227,26 +221,26 @@ fn read_back<R: Wait + Drop>(
     assert!(rt; is_of(entry, submission.src(), submission.seq()));
 }
 
-// Stores one edit at version 1 and reads it back.
+// Stores the submission and reads it back.
 fn edit<R: Wait + Drop>(
     rt: &impl Abort,
     alloc: Global,
     backend: &Backend<R>,
     pass: &mut Pass,
     key: &Key,
-    seq: u64,
+    submission: &Submission,
 ) -> Reply
-    requires { IsPass pass.old backend.now }
+    requires pass { IsPass pass.old backend.now }
+    requires by { submission.now.by ≡ number_of pass.old }
     ensures { IsPass pass.new backend.now }
 {
-    let submission = late(rt, alloc, pass, seq, 1);
-    let reply = submit(alloc, backend, pass, key, &submission, &NoGate);
+    let reply = submit(alloc, backend, pass, key, submission, &NoGate);
     let (version, _) = stored(&reply).expect(rt, "stored");
-    read_back(rt, backend, pass, key, &submission, version);
+    read_back(rt, backend, pass, key, submission, version);
     reply
 }
 
-// Stores the edits of one thread. The pass, and the replies.
+// Stores the edits of one thread, made at version 1. The pass, and the replies.
 fn edit_all<R: Wait + Drop>(
     rt: &impl Abort,
     alloc: Global,
@@ -259,7 +253,8 @@ fn edit_all<R: Wait + Drop>(
 {
     let mut replies = Vec::new(alloc);
     for seq in 2..2 + EDITS {
-        let reply = edit(rt, alloc, backend, &mut pass, key, seq);
+        let submission = through(rt, alloc, &pass, seq, Some(1), adding(rt, alloc, 1));
+        let reply = edit(rt, alloc, backend, &mut pass, key, &submission);
         replies.push(reply).expect(rt, "out of memory");
     }
     (pass, replies)
@@ -426,24 +421,7 @@ fn subscribed<R: Wait + Drop>(
     opened.expect(rt, "a queue").id
 }
 
-// Stores one edit at what is there now.
-fn store<R: Wait + Drop>(
-    rt: &impl Abort,
-    alloc: Global,
-    backend: &Backend<R>,
-    pass: &mut Pass,
-    key: &Key,
-    seq: u64,
-)
-    requires { IsPass pass.old backend.now }
-    ensures { IsPass pass.new backend.now }
-{
-    let submission = through(rt, alloc, pass, seq, None, adding(rt, alloc, 1));
-    let reply = submit_shared(alloc, backend, pass, key, &submission, &NoGate);
-    assert!(rt; stored(&reply).is_some(), "{seq}");
-}
-
-// Stores many edits of one thread. The pass.
+// Stores many edits of one thread, each at what is there now. The pass.
 fn store_many<R: Wait + Drop>(
     rt: &impl Abort,
     alloc: Global,
@@ -455,7 +433,9 @@ fn store_many<R: Wait + Drop>(
     ensures { IsPass result backend.now }
 {
     for seq in 1..=MANY {
-        store(rt, alloc, backend, &mut pass, key, seq);
+        let submission = through(rt, alloc, &pass, seq, None, adding(rt, alloc, 1));
+        let reply = submit_shared(alloc, backend, &mut pass, key, &submission, &NoGate);
+        assert!(rt; stored(&reply).is_some(), "{seq}");
     }
     pass
 }

@@ -73,7 +73,7 @@ impl Board {
     fn put_edit(&mut self, rt: &impl Abort, src: &str, amount: i64)
         ensures { StaySeen (plain_key self.old.key) self.old.shard (plain_key self.new.key) self.new.shard }
     {
-        self.put(rt, self.edit(rt, src, None, amount))
+        self.put(rt, self.numbered_edit(rt, (src, 1), None, amount))
     }
 
     // Adds one for each number from the first to the last.
