@@ -9,6 +9,8 @@ mod desk;
 #[cfg(test)]
 mod growths;
 #[cfg(test)]
+mod parts;
+#[cfg(test)]
 mod projection;
 #[cfg(test)]
 mod session;

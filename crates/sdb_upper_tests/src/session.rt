@@ -1,22 +1,15 @@
 //! `sdb_session`: what no line shows of a session: answers as texts, and how many entries a pump takes. That its
 //! end closes its queues is in the tests of the server.
+use crate::parts::text;
 use sdb_desk::Shard;
 use sdb_projection::Table;
 use sdb_session::Session;
 use sdb_submit::Solo;
 use std::alloc::Global;
-use std::test::Fail;
+use std::process::Abort;
 
-pub(crate) fn named(alloc: Global, source: &str) -> Result<Session, Fail> {
-    Ok(Session::new(alloc, String::from_str(alloc, source)?))
-}
-
-// Whether there is this text alone.
-fn is_only(texts: &[String], wanted: &str) -> bool {
-    match texts.first() {
-        Some(text) => texts.len() == 1 && text.as_str() == wanted,
-        None => false,
-    }
+pub(crate) fn named(rt: &impl Abort, alloc: Global, source: &str) -> Session {
+    Session::new(alloc, text(rt, alloc, source))
 }
 
 // A shard, and no projections.
@@ -37,15 +30,17 @@ impl Room {
     // Whether the message is answered by this text alone.
     fn answers(&mut self, session: &mut Session, text: &str, wanted: &str) -> bool {
         match session.handle(&Solo, &mut self.shard, &self.table, text) {
-            Ok(texts) => is_only(texts.as_slice(), wanted),
+            Ok(texts) => matches!(texts.as_slice(), [only] if only.as_str() == wanted),
             Err(_) => false,
         }
     }
 
     // How many entries the session takes, and how many texts it is sent.
     fn pumped(&mut self, session: &mut Session) -> Option<(u128, usize)> {
-        let pumped = session.pump(&Solo, &mut self.shard, &self.table, 64).ok()?;
-        Some((pumped.taken, pumped.texts.len()))
+        match session.pump(&Solo, &mut self.shard, &self.table, 64) {
+            Ok(pumped) => Some((pumped.taken, pumped.texts.len())),
+            Err(_) => None,
+        }
     }
 }
 
@@ -59,33 +54,41 @@ const SUBSCRIBED: &str = r#"{"a":"s","c":"b","d":"1","data":{"type":null,"v":0}}
 pub(crate) const FETCH: &str = r#"{"a":"f","c":"b","d":"1"}"#;
 
 // The front, 100,000 letters, and the back.
-fn long(alloc: Global, front: &str, back: &str) -> Result<String, Fail> {
-    let mut text = String::from_str(alloc, front)?;
+fn long(rt: &impl Abort, alloc: Global, front: &str, back: &str) -> String {
+    let mut text = text(rt, alloc, front);
     for _ in 0..100_000 {
-        text.push('x')?;
+        text.push('x').expect(rt, "out of memory");
     }
-    text.push_str(back)?;
-    Ok(text)
+    text.push_str(back).expect(rt, "out of memory");
+    text
+}
+
+// Stores a document of a long text.
+fn store(rt: &impl Abort, alloc: Global, room: &mut Room, session: &mut Session) {
+    let create = r#"{"a":"op","c":"b","d":"1","seq":1,"create":{"type":"json0","data":""#;
+    let create = long(rt, alloc, create, r#""}}"#);
+    let created = r#"{"a":"op","c":"b","d":"1","seq":1,"src":"s1","v":0}"#;
+    assert!(rt; room.answers(session, create.as_str(), created));
+}
+
+// Fetches it.
+fn fetch(rt: &impl Abort, alloc: Global, room: &mut Room, session: &mut Session) {
+    let front = r#"{"a":"f","c":"b","d":"1","data":{"data":""#;
+    let shown = long(rt, alloc, front, r#"","v":1}}"#);
+    assert!(rt; room.answers(session, FETCH, shown.as_str()));
 }
 
 #[test]
-fn a_session_takes_what_is_stored(rt: HostRuntime) -> Result<(), Fail> {
-    let (alloc, mut room) = (rt.alloc(), Room::new(rt.alloc()));
-    let (mut first, mut second) = (named(alloc, "s1")?, named(alloc, "s2")?);
-    assert!(rt; first.opening()?.as_str() == OPENING);
+fn a_session_takes_what_is_stored(rt: HostRuntime) {
+    let mut room = Room::new(rt.alloc());
+    let mut first = named(&rt, rt.alloc(), "s1");
+    let mut second = named(&rt, rt.alloc(), "s2");
+    let opening = first.opening().expect(&rt, "out of memory");
+    assert!(rt; opening.as_str() == OPENING);
     assert!(rt; room.answers(&mut first, SUBSCRIBE, SUBSCRIBED));
     assert!(rt; room.answers(&mut second, SUBSCRIBE, SUBSCRIBED));
-    let create = r#"{"a":"op","c":"b","d":"1","seq":1,"create":{"type":"json0","data":""#;
-    let create = long(alloc, create, r#""}}"#)?;
-    let created = r#"{"a":"op","c":"b","d":"1","seq":1,"src":"s1","v":0}"#;
-    assert!(rt; room.answers(&mut first, create.as_str(), created));
+    store(&rt, rt.alloc(), &mut room, &mut first);
     assert!(rt; room.pumped(&mut first) == Some((1, 0)));
     assert!(rt; room.pumped(&mut second) == Some((1, 1)));
-    let shown = long(
-        alloc,
-        r#"{"a":"f","c":"b","d":"1","data":{"data":""#,
-        r#"","v":1}}"#,
-    )?;
-    assert!(rt; room.answers(&mut second, FETCH, shown.as_str()));
-    Ok(())
+    fetch(&rt, rt.alloc(), &mut room, &mut second);
 }

@@ -5,18 +5,16 @@ use sdb_steps::{Step, StepAnswer, read_step, run, run_steps};
 use std::alloc::Global;
 use std::io;
 use std::io::Read;
-use std::test::Fail;
+use std::process::Abort;
 
 // The steps of lines that are steps.
-fn steps_of(alloc: Global, lines: &[&str]) -> Result<Vec<Step>, Fail> {
+fn steps_of(rt: &impl Abort, alloc: Global, lines: &[&str]) -> Vec<Step> {
     let mut steps = Vec::new(alloc);
     for line in lines {
-        match read_step(alloc, line) {
-            Ok(step) => steps.push(step)?,
-            Err(_) => return Err("no step".into()),
-        }
+        let step = read_step(alloc, line).expect(rt, "a step");
+        steps.push(step).expect(rt, "out of memory");
     }
-    Ok(steps)
+    steps
 }
 
 const THREE: [&str; 3] = [
@@ -25,20 +23,14 @@ const THREE: [&str; 3] = [
     r#"{"s":9,"do":"fetch","c":"b","d":"1"}"#,
 ];
 
-// Whether an operation was stored first of all.
-fn is_first(answer: &StepAnswer) -> bool {
-    match answer {
-        StepAnswer::Decided(Reply::Stored { v, missed }) => *v == 0 && missed.is_empty(),
-        _ => false,
-    }
-}
-
 // Whether the answers are those to these three steps.
 fn are_three(answers: &[StepAnswer]) -> bool {
     match answers {
-        [StepAnswer::Began, decided, StepAnswer::Fetched(found)] => {
-            is_first(decided) && found.version == 1 && found.snapshot.is_some()
-        }
+        [
+            StepAnswer::Began,
+            StepAnswer::Decided(Reply::Stored { v, missed }),
+            StepAnswer::Fetched(found),
+        ] => *v == 0 && missed.is_empty() && found.version == 1 && found.snapshot.is_some(),
         _ => false,
     }
 }
@@ -76,9 +68,8 @@ fn the_lines_before_a_failed_read_are_answered(rt: HostRuntime) {
 }
 
 #[test]
-fn steps_of_a_list_are_taken_in_turn(rt: HostRuntime) -> Result<(), Fail> {
-    let steps = steps_of(rt.alloc(), &THREE)?;
-    let ran = run_steps(rt.alloc(), steps.as_slice())?;
+fn steps_of_a_list_are_taken_in_turn(rt: HostRuntime) {
+    let steps = steps_of(&rt, rt.alloc(), &THREE);
+    let ran = run_steps(rt.alloc(), steps.as_slice()).expect(&rt, "out of memory");
     assert!(rt; are_three(ran.answers.as_slice()));
-    Ok(())
 }

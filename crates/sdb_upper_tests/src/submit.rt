@@ -1,5 +1,5 @@
 //! `sdb_submit`: tries that are counted, and a desk at which others store too.
-ghost use Rattle.std.specs.Prelude.{◌≡◌, ℕ, ⊤, IfOk};
+ghost use Rattle.std.specs.Prelude.{◌≡◌, ℕ, ⊤};
 ghost use Rattle.sdb_oplog.specs.Keys.{Logs};
 ghost use Rattle.sdb_desk.specs.Looked.{IsLook};
 ghost use Rattle.sdb_desk.specs.ShardView.{machine_of, logs_of};
@@ -8,17 +8,14 @@ ghost use Rattle.sdb_submit.specs.Calls.{Acts};
 ghost use Rattle.sdb_oplog.specs.Keys.{plain_key};
 ghost use Rattle.sdb_upper_tests.specs.Seen.{StaySeen};
 
-use crate::desk::{editing, number, stored, whole};
-use sdb_component::{Act, Component};
+use crate::parts::{adding, counted, creating, key, stored, submission};
 use sdb_desk::{Fetched, Look, Outcome, Reply, Shard, Subscribed, Work};
-use sdb_oplog::{Code, Content, Entry, Key, Submission};
+use sdb_oplog::{Code, Entry, Key, Submission};
 use sdb_submit::{Desk, Gate, Solo, submit};
 use sdb_subscribe::SubId;
-use sdb_value::{Json, Step};
 use std::alloc::{AllocError, Global};
 use std::cell::Cell;
-use std::collections::BTreeMap;
-use std::test::Fail;
+use std::process::Abort;
 
 // Notes the numbers of the tries, as the digits of one number.
 #[derive(Drop)]
@@ -147,126 +144,65 @@ impl Desk for Meddling {
     }
 }
 
-fn a_key(alloc: Global) -> Result<Key, Fail> {
-    let (collection, id) = (String::from_str(alloc, "b")?, String::from_str(alloc, "1")?);
-    Ok(Key { collection, id })
-}
-
-// The document whose `n` is 0.
-fn counter(alloc: Global) -> Result<Json, Fail> {
-    let mut members = BTreeMap::new(alloc);
-    drop(members.insert(String::from_str(alloc, "n")?, Json::Int(whole(0)?))?);
-    Ok(Json::object(members))
-}
-
-// Adds to the number at `n`.
-fn adding(alloc: Global, amount: i64) -> Result<Content, Fail> {
-    let mut path = Vec::new(alloc);
-    path.push(Step::Key(String::from_str(alloc, "n")?))?;
-    editing(alloc, Component::new(path, Act::Na(whole(amount)?)))
-}
-
-fn from(
-    alloc: Global,
-    src: &str,
-    seq: u64,
-    version: Option<u64>,
-    content: Content,
-) -> Result<Submission, Fail>
-    ensures { IfOk result (λ s. s.by ≡ 0) }
-{
-    let (src, via) = (String::from_str(alloc, src)?, String::from_str(alloc, "b")?);
-    Ok(Submission::new(alloc, src, seq, version, content, via, 0)?)
-}
-
-fn create(alloc: Global) -> Result<Submission, Fail>
-    ensures { IfOk result (λ s. s.by ≡ 0) }
-{
-    from(
-        alloc,
-        "w",
-        0,
-        None,
-        Content::create(alloc, counter(alloc)?)?,
-    )
-}
-
 // The submission that is tried: it adds 100, at version 1.
-fn hundred(alloc: Global) -> Result<Submission, Fail>
-    ensures { IfOk result (λ s. s.by ≡ 0) }
+fn hundred(rt: &impl Abort, alloc: Global) -> Submission
+    ensures { result.by ≡ 0 }
 {
-    from(alloc, "x", 1, Some(1), adding(alloc, 100)?)
+    submission(rt, alloc, "x", 1, Some(1), adding(rt, alloc, 100), 0)
 }
 
 // A shard with the document whose `n` is 0.
-fn started(alloc: Global, key: &Key) -> Result<Shard, Fail> {
+fn started(rt: &impl Abort, alloc: Global, key: &Key) -> Shard {
     let mut shard = Shard::new(alloc);
-    drop(shard.commit_now(key, &create(alloc)?));
-    Ok(shard)
+    let create = submission(rt, alloc, "w", 0, None, creating(rt, alloc), 0);
+    drop(shard.commit_now(key, &create));
+    shard
 }
 
 // Nine submissions, each of which adds 1.
-fn nine(alloc: Global) -> Result<Vec<Submission>, Fail> {
+fn nine(rt: &impl Abort, alloc: Global) -> Vec<Submission> {
     let mut others = Vec::new(alloc);
     for seq in 1..=9 {
-        others.push(from(alloc, "w", seq, None, adding(alloc, 1)?)?)?;
+        let other = submission(rt, alloc, "w", seq, None, adding(rt, alloc, 1), 0);
+        others.push(other).expect(rt, "out of memory");
     }
-    Ok(others)
+    others
+}
+
+#[test]
+fn one_caller_commits_once(rt: HostRuntime) {
+    let key = key(&rt, rt.alloc(), "1");
+    let mut shard = started(&rt, rt.alloc(), &key);
+    let (submission, gate) = (hundred(&rt, rt.alloc()), Tries::new());
+    let reply = submit(rt.alloc(), &Solo, &mut shard, &key, &submission, &gate);
+    assert!(rt; stored(&reply) == Some((1, 0)));
+    assert!(rt; gate.digits.get() == 1);
+}
+
+fn with_others(rt: &impl Abort, alloc: Global, key: &Key) -> Shared {
+    Shared {
+        shard: started(rt, alloc, key),
+        others: nine(rt, alloc),
+    }
+}
+
+// What is answered to the submission, where others store before each try.
+fn submitted(rt: &impl Abort, alloc: Global, pass: &mut Shared, key: &Key, gate: &Tries) -> Reply {
+    submit(alloc, &Meddling, pass, key, &hundred(rt, alloc), gate)
 }
 
 // The version, and the number at `n`.
-fn present(shard: &mut Shard, key: &Key) -> Result<(u64, Option<i64>), Fail> {
-    let fetched = shard.fetch(key).or(Err("no fetch"))?;
-    Ok((fetched.version, counted(fetched.snapshot.as_ref())))
-}
-
-fn counted(document: Option<&Json>) -> Option<i64> {
-    match document {
-        Some(Json::Object(members)) => number(members.get().get("n")),
-        _ => None,
-    }
-}
-
-fn submitted_solo(alloc: Global, gate: &Tries) -> Result<Option<(u64, usize)>, Fail> {
-    let key = a_key(alloc)?;
-    let mut shard = started(alloc, &key)?;
-    let submission = hundred(alloc)?;
-    Ok(stored(&submit(alloc, &Solo, &mut shard, &key, &submission, gate)))
+fn present(rt: &impl Abort, shard: &mut Shard, key: &Key) -> (u64, Option<i64>) {
+    let fetched = shard.fetch(key).expect(rt, "out of memory");
+    (fetched.version, counted(fetched.snapshot.as_ref()))
 }
 
 #[test]
-fn one_caller_commits_once(rt: HostRuntime) -> Result<(), Fail> {
-    let gate = Tries::new();
-    assert!(rt; submitted_solo(rt.alloc(), &gate)? == Some((1, 0)));
-    assert!(rt; gate.digits.get() == 1);
-    Ok(())
-}
-
-fn with_others(alloc: Global, key: &Key) -> Result<Shared, Fail> {
-    Ok(Shared {
-        shard: started(alloc, key)?,
-        others: nine(alloc)?,
-    })
-}
-
-// What is answered, and what is there then, where others store before each try.
-fn submitted(
-    alloc: Global,
-    gate: &Tries,
-) -> Result<(Option<(u64, usize)>, (u64, Option<i64>)), Fail> {
-    let key = a_key(alloc)?;
-    let mut pass = with_others(alloc, &key)?;
-    let submission = hundred(alloc)?;
-    let reply = submit(alloc, &Meddling, &mut pass, &key, &submission, gate);
-    Ok((stored(&reply), present(&mut pass.shard, &key)?))
-}
-
-#[test]
-fn a_commit_without_a_try_decides_after_eight(rt: HostRuntime) -> Result<(), Fail> {
-    let gate = Tries::new();
-    let (reply, present) = submitted(rt.alloc(), &gate)?;
-    assert!(rt; reply == Some((9, 8)));
+fn a_commit_without_a_try_decides_after_eight(rt: HostRuntime) {
+    let (key, gate) = (key(&rt, rt.alloc(), "1"), Tries::new());
+    let mut pass = with_others(&rt, rt.alloc(), &key);
+    let reply = submitted(&rt, rt.alloc(), &mut pass, &key, &gate);
+    assert!(rt; stored(&reply) == Some((9, 8)));
     assert!(rt; gate.digits.get() == 12_345_678);
-    assert!(rt; present == (10, Some(108)));
-    Ok(())
+    assert!(rt; present(&rt, &mut pass.shard, &key) == (10, Some(108)));
 }

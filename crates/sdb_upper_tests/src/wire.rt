@@ -1,6 +1,7 @@
 //! `sdb_wire`: what no program calls, and what none of their lines can show. All else is in the lines of the
 //! two programs.
-use sdb_oplog::{Code, Content, Entry, Submission};
+use crate::parts::{submission, text};
+use sdb_oplog::{Code, Content, Entry};
 use sdb_value::Json;
 use sdb_wire::{
     Answer, Echo, MESSAGE_LIMIT, Request, entry_value, no_echo, read_content, read_message,
@@ -8,7 +9,7 @@ use sdb_wire::{
 };
 use serde_json::Value;
 use std::alloc::Global;
-use std::test::Fail;
+use std::process::Abort;
 
 // The version of the fetch that the text is, or the code that refuses it.
 fn fetched(alloc: Global, text: &str) -> Result<Option<u64>, Code> {
@@ -20,37 +21,37 @@ fn fetched(alloc: Global, text: &str) -> Result<Option<u64>, Code> {
 }
 
 // A fetch from version 3, with spaces behind it up to so many bytes.
-fn padded(alloc: Global, length: usize) -> Result<String, Fail> {
-    let mut text = String::from_str(alloc, r#"{"a":"f","c":"b","d":"1","v":3}"#)?;
+fn padded(rt: &impl Abort, alloc: Global, length: usize) -> String {
+    let mut text = text(rt, alloc, r#"{"a":"f","c":"b","d":"1","v":3}"#);
     for _ in text.len()..length {
-        text.push(' ')?;
+        text.push(' ').expect(rt, "out of memory");
     }
-    Ok(text)
+    text
 }
 
 #[test]
-fn texts_are_read_up_to_the_limit(rt: HostRuntime) -> Result<(), Fail> {
+fn texts_are_read_up_to_the_limit(rt: HostRuntime) {
     for (length, wanted) in [
         (0, Ok(Some(3))),
         (MESSAGE_LIMIT, Ok(Some(3))),
         (1_048_577, Err(Code::E1)),
     ] {
-        let text = padded(rt.alloc(), length)?;
+        let text = padded(&rt, rt.alloc(), length);
         assert!(rt; fetched(rt.alloc(), text.as_str()) == wanted, "{length}");
     }
-    Ok(())
 }
 
-// The text of an error.
-fn told(alloc: Global, echo: &Echo, code: Code) -> Result<String, Fail> {
-    Ok(reply_text(alloc, &Answer::Failed { echo, code })?)
+// Whether the error is told by this text.
+fn is_told(rt: &impl Abort, alloc: Global, echo: &Echo, code: Code, wanted: &str) -> bool {
+    let told = reply_text(alloc, &Answer::Failed { echo, code }).expect(rt, "out of memory");
+    told.as_str() == wanted
 }
 
-// What is told of a text that is no message.
-fn refused(alloc: Global, text: &str) -> Result<String, Fail> {
+// Whether the text is no message, and this is told of it.
+fn is_refused(rt: &impl Abort, alloc: Global, text: &str, wanted: &str) -> bool {
     match read_message(alloc, text) {
-        Ok(_) => Err("a message".into()),
-        Err(bad) => told(alloc, &bad.echo, bad.code),
+        Ok(_) => false,
+        Err(bad) => is_told(rt, alloc, &bad.echo, bad.code, wanted),
     }
 }
 
@@ -61,18 +62,23 @@ const BADLY_FORMED: &str =
 const WANTING: &str = r#"{"error":{"code":"ERR_OUT_OF_MEMORY","message":"out of memory"}}"#;
 
 #[test]
-fn errors_are_told(rt: HostRuntime) -> Result<(), Fail> {
-    let refused = refused(rt.alloc(), r#"{"a":"f","c":"b","id":7}"#)?;
-    assert!(rt; refused.as_str() == BADLY_FORMED);
-    assert!(rt; told(rt.alloc(), &no_echo(), Code::E10)?.as_str() == WANTING);
-    Ok(())
+fn errors_are_told(rt: HostRuntime) {
+    let text = r#"{"a":"f","c":"b","id":7}"#;
+    assert!(rt; is_refused(&rt, rt.alloc(), text, BADLY_FORMED));
+    assert!(rt; is_told(&rt, rt.alloc(), &no_echo(), Code::E10, WANTING));
 }
 
-// What is stored at version 4 of submission 7 from x, as a value.
-fn shown(alloc: Global, content: Content) -> Result<String, Fail> {
-    let (src, via) = (String::from_str(alloc, "x")?, String::from_str(alloc, "b")?);
-    let arrived = Submission::new(alloc, src, 7, None, content, via, 7)?;
-    Ok(entry_value(alloc, &Entry::new(4, None, arrived))?.to_string(alloc)?)
+// Whether what is stored at version 4 of submission 7 from x is this value.
+fn is_shown(rt: &impl Abort, alloc: Global, content: Content, wanted: &str) -> bool {
+    let arrived = submission(rt, alloc, "x", 7, None, content, 7);
+    let value = entry_value(alloc, &Entry::new(4, None, arrived)).expect(rt, "out of memory");
+    value.to_string(alloc).expect(rt, "out of memory").as_str() == wanted
+}
+
+// The content that the text is.
+fn content(rt: &impl Abort, alloc: Global, text: &str) -> Content {
+    let value = Value::from_str(alloc, text).expect(rt, "out of memory or no JSON");
+    read_content(alloc, &value).expect(rt, "out of memory or no content")
 }
 
 const CREATED: &str =
@@ -83,13 +89,10 @@ const DELETED: &str = r#"{"del":true,"seq":7,"src":"x","v":4}"#;
 const EDITED: &str = r#"{"op":[{"na":2,"p":[]}],"seq":7,"src":"x","v":4}"#;
 
 #[test]
-fn entries_are_values(rt: HostRuntime) -> Result<(), Fail> {
-    let alloc = rt.alloc();
-    let created = shown(alloc, Content::create(alloc, Json::Null)?)?;
-    assert!(rt; created.as_str() == CREATED);
-    assert!(rt; shown(alloc, Content::delete())?.as_str() == DELETED);
-    let value = Value::from_str(alloc, r#"{"op":[{"na":2,"p":[]}]}"#)?;
-    let edit = read_content(alloc, &value).or(Err("no edit"))?;
-    assert!(rt; shown(alloc, edit)?.as_str() == EDITED);
-    Ok(())
+fn entries_are_values(rt: HostRuntime) {
+    let create = Content::create(rt.alloc(), Json::Null).expect(&rt, "out of memory");
+    assert!(rt; is_shown(&rt, rt.alloc(), create, CREATED));
+    assert!(rt; is_shown(&rt, rt.alloc(), Content::delete(), DELETED));
+    let edit = content(&rt, rt.alloc(), r#"{"op":[{"na":2,"p":[]}]}"#);
+    assert!(rt; is_shown(&rt, rt.alloc(), edit, EDITED));
 }

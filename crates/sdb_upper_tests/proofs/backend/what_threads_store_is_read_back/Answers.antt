@@ -11,8 +11,8 @@ join-first-requires-send-F g c κs within = search (sendable, crosses, maps.cros
 pub join-first-requires-send-A : goal.join-first-requires-send-A
 join-first-requires-send-A g c κs within = search (sendable, crosses, Pass-send, Reply-send) depth 20
 
-pub closed-requires-clause-first : goal.closed-requires-clause-first
-closed-requires-clause-first g c = c.join-first.ensures.first
+pub closed-audit-requires-clause-first : goal.closed-audit-requires-clause-first
+closed-audit-requires-clause-first g c = c.join-first.ensures.first
 
-pub closed-requires-clause-second : goal.closed-requires-clause-second
-closed-requires-clause-second g c = c.join-first.ensures.second
+pub closed-audit-requires-clause-second : goal.closed-audit-requires-clause-second
+closed-audit-requires-clause-second g c = c.join-first.ensures.second

@@ -14,5 +14,5 @@ join-first-requires-send-A g c κs within = search (sendable, crosses, Pass-send
 pub is_unknown-requires : goal.is_unknown-requires
 is_unknown-requires g c = c.join-first.ensures.first
 
-pub ended-requires-clause-second : goal.ended-requires-clause-second
-ended-requires-clause-second g c = c.join-first.ensures.second
+pub ended-audit-requires-clause-second : goal.ended-audit-requires-clause-second
+ended-audit-requires-clause-second g c = c.join-first.ensures.second

@@ -3,10 +3,6 @@ use Rattle.sdb_desk.specs.ShardView.{logs_of}
 use Rattle.sdb_upper_tests.proofs.Looks.{same_stays}
 use Rattle.sdb_upper_tests.proofs.growths.present.Goals as goal
 
-pub returns-in_err-fetched : goal.returns-in_err-fetched
-returns-in_err-fetched c =
-    λ a h. same_stays (logs_of c.args.board.now.shard) (logs_of c.fetch.new.self) (plain_key c.args.board.now.key) a c.fetch.ensures.logs h
-
 pub returns : goal.returns
-returns c =
+returns g c =
     λ a h. same_stays (logs_of c.args.board.now.shard) (logs_of c.fetch.new.self) (plain_key c.args.board.now.key) a c.fetch.ensures.logs h
