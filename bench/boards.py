@@ -1,7 +1,9 @@
 """Writes the input of the benchmark of a board: 8 sources put cards in, move them and mark them, each up to 8 versions behind.
 
-Each source puts cards anywhere into a column of its own and moves them from there to the top of one that all share; marks
-stand in one object, by the number of the card. So every operation fits the version that it names. boards.py OPERATIONS"""
+Each source puts cards anywhere into a column of its own and moves them from there to the top of one that all share, whose oldest
+ones the first source takes out; marks stand in one object. So every operation fits the version that it names. A column has some
+20 cards, or as many as are named. boards.py OPERATIONS [CARDS]"""
+import bisect
 import json
 import random
 import sys
@@ -9,43 +11,63 @@ import sys
 TYPE = "http://sharejs.org/types/JSONv0"
 SOURCES = 8
 BEHIND = 8
+MARKS = 500
 
 
-def put(pick, columns, source, number):
-    at = pick.randrange(len(columns[source]) + 1)
-    card = {"id": number, "text": f"what is to be done, {number}"}
-    columns[source].insert(at, card)
-    return [{"p": ["columns", source, at], "li": card}]
+class Board:
+    def __init__(self, cards):
+        self.pick, self.cards = random.Random(4), cards
+        self.columns = [[] for _ in range(SOURCES)]
+        # the cards that were moved, with the versions that their moves are stored at, and how many were taken out
+        self.moved, self.versions, self.gone = [], [], 0
+
+    def put(self, source, number):
+        column = self.columns[source]
+        at = self.pick.randrange(len(column) + 1)
+        card = {"id": number, "text": f"what is to be done, {number}"}
+        column.insert(at, card)
+        return [{"p": ["columns", source, at], "li": card}]
+
+    def move(self, source, number):
+        column = self.columns[source]
+        at = self.pick.randrange(len(column))
+        card = column.pop(at)
+        self.moved.append(card)
+        self.versions.append(number)
+        return [{"p": ["columns", source, at], "ld": card}, {"p": ["columns", SOURCES, 0], "li": card}]
+
+    def take_out(self, version):
+        components = []
+        count = bisect.bisect_left(self.versions, version) - self.gone
+        for at in range(count - 1, max(count - 5, self.cards), -1):
+            components.append({"p": ["columns", SOURCES, at], "ld": self.moved[self.gone]})
+            self.gone += 1
+        return components
+
+    def edit(self, source, number, version):
+        components = self.take_out(version) if source == 0 else []
+        kind = self.pick.randrange(10)
+        if components:
+            return components
+        if kind < 3:
+            return [{"p": ["marks", f"card{number % MARKS}"], "oi": number}]
+        if self.columns[source] and (kind < 6 or len(self.columns[source]) > self.cards):
+            return self.move(source, number)
+        return self.put(source, number)
 
 
-def move(pick, columns, source):
-    at = pick.randrange(len(columns[source]))
-    card = columns[source].pop(at)
-    return [{"p": ["columns", source, at], "ld": card}, {"p": ["columns", SOURCES, 0], "li": card}]
-
-
-def edit(pick, columns, source, number):
-    kind = pick.randrange(10)
-    if kind < 3:
-        return [{"p": ["marks", f"card{number}"], "oi": number}]
-    if kind < 6 and columns[source]:
-        return move(pick, columns, source)
-    return put(pick, columns, source, number)
-
-
-def main(operations):
-    pick = random.Random(4)
-    columns = [[] for _ in range(SOURCES)]
+def main(operations, cards=20):
+    board = Board(cards)
     create = {"type": TYPE, "data": {"columns": [[] for _ in range(SOURCES + 1)], "marks": {}}}
     print(json.dumps({"a": "op", "c": "boards", "d": "1", "src": "u0", "seq": 0, "create": create}, separators=(",", ":")))
     for number in range(1, operations):
         source = number % SOURCES
         # its own last one it has seen
-        at = max(1, number - pick.randrange(BEHIND))
-        message = {"a": "op", "c": "boards", "d": "1", "v": at, "src": f"u{source}", "seq": number}
-        message["op"] = edit(pick, columns, source, number)
+        version = max(1, number - board.pick.randrange(BEHIND))
+        message = {"a": "op", "c": "boards", "d": "1", "v": version, "src": f"u{source}", "seq": number}
+        message["op"] = board.edit(source, number, version)
         print(json.dumps(message, separators=(",", ":")))
 
 
 if __name__ == "__main__":
-    main(int(sys.argv[1]) if len(sys.argv) > 1 else 20_000)
+    main(*map(int, sys.argv[1:] or ["20000"]))
