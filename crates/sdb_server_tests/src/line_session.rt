@@ -1,10 +1,10 @@
-//! Sessions over lines whose output fails. What they are answered is in the lines of the program.
+//! Sessions over lines whose streams fail. What they are answered is in the lines of the program.
 use sdb_lines::{RunFault, WatchedReader, WatchedWriter};
 use sdb_projection::Table;
 use sdb_server::run_lines;
 use std::alloc::Global;
 use std::io;
-use std::io::Write;
+use std::io::{ErrorKind, Read, Write};
 
 // An output that takes seven bytes at a time, and fails after so many calls, as a full disk does.
 #[derive(Drop)]
@@ -27,6 +27,24 @@ impl io::Write for Output {
     }
 }
 
+// An input that gives seven bytes at a time, and fails after so many calls.
+#[derive(Drop)]
+struct Input {
+    bytes: &'static [u8],
+    calls: usize,
+}
+
+impl io::Read for Input {
+    fn read(&mut self, buf: &mut [u8]) -> io::Result<usize> {
+        if self.calls == 0 {
+            return Err(io::Error::from(ErrorKind::ConnectionReset));
+        }
+        self.calls -= 1;
+        let room = buf.len().min(7);
+        self.bytes.read(&mut buf[..room])
+    }
+}
+
 const FETCH: &str = r#"{"a":"f","c":"b","d":"1"}"#;
 
 const WHOLE: &str =
@@ -34,9 +52,13 @@ const WHOLE: &str =
 {"a":"f","c":"b","d":"1","data":{"type":null,"v":0}}
 "#;
 
-// What is written for the fetch in at most so many calls, and the fault that ended the run.
-fn run(alloc: Global, calls: usize) -> (Vec<u8>, Option<RunFault>) {
-    let mut reader = WatchedReader::new(FETCH.as_bytes());
+// What is written for the fetch where the streams fail after so many calls, and the fault that ended the run.
+fn run(alloc: Global, reads: usize, calls: usize) -> (Vec<u8>, Option<RunFault>) {
+    let bytes = FETCH.as_bytes();
+    let mut reader = WatchedReader::new(Input {
+        bytes,
+        calls: reads,
+    });
     let bytes = Vec::new(alloc);
     let mut writer = WatchedWriter::new(Output { bytes, calls });
     let ended = run_lines(alloc, &Table::new(alloc), &mut reader, &mut writer);
@@ -46,13 +68,25 @@ fn run(alloc: Global, calls: usize) -> (Vec<u8>, Option<RunFault>) {
 #[test]
 fn an_output_that_fails(rt: HostRuntime) {
     for calls in 0..20 {
-        let (written, fault) = run(rt.alloc(), calls);
+        let (written, fault) = run(rt.alloc(), 100, calls);
         assert!(rt; fault == Some(RunFault::Write), "after {calls}");
         assert!(rt;
             WHOLE.as_bytes().starts_with(written.as_slice()),
             "after {calls}"
         );
     }
-    let (written, fault) = run(rt.alloc(), 100);
+    let (written, fault) = run(rt.alloc(), 100, 100);
     assert!(rt; fault.is_none() && written.as_slice() == WHOLE.as_bytes());
+}
+
+#[test]
+fn an_input_that_fails(rt: HostRuntime) {
+    for reads in 0..5 {
+        let (written, fault) = run(rt.alloc(), reads, 100);
+        assert!(rt; fault == Some(RunFault::Read), "after {reads}");
+        assert!(rt;
+            WHOLE.as_bytes().starts_with(written.as_slice()),
+            "after {reads}"
+        );
+    }
 }
