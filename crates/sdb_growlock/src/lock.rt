@@ -1,5 +1,5 @@
 //! What is done with a lock and its seats.
-ghost use Rattle.std.specs.Prelude.{◌≡◌, ◌≢◌, ℕ, ◌+◌, ◌<◌, ◌≤◌, map, [], ◌∷◌, IfOk, IfErr};
+ghost use Rattle.std.specs.Prelude.{◌≡◌, ◌≢◌, ℕ, ◌+◌, ◌<◌, ◌≤◌, map, [], ◌∷◌, IfOk, IfErr, IsTrue, IsFalse};
 ghost use Rattle.sdb_growlock.specs.Rule.{Each, Took, stands, sight, holding, at_home, left_with, given_off, joined, gathered};
 ghost use Rattle.sdb_growlock.specs.Words.{IsOf, HasSeen, number, next, seats_of, HasNumber};
 
@@ -8,10 +8,14 @@ use crate::parts::{GrowLock, Seat};
 use crate::rule::{FreeStep, LookStep, SeatStep, TableSeat, TakeStep};
 use atomic_table::{Refused, Table};
 use std::alloc::Global;
+use std::hint::spin_loop;
 use std::snapshot::Snapshot;
 use std::sync::Wait;
 use std::sync::atomic::AtomicU64;
 use std::sync::atomic::Ordering::SeqCst;
+
+// How often a thread reads the word of a lock before it parks, as `std`'s `Mutex` does.
+const READS: u64 = 100;
 
 /// Why no seat was split off. A split takes no memory.
 #[derive(Debug, Drop)]
@@ -130,8 +134,12 @@ impl<T: Grows> GrowLock<T> {
         ensures own { (place.new.table_id ≡ place.old.table_id) × (place.new.id ≡ place.old.id) }
         ensures took { Took T.extends T.same T.blank place.old.me place.new.me }
     {
+        if self.try_take(place) {
+            return;
+        }
         for _ in rt.forever() {
-            if self.table.shared.swap::<TakeStep>(place, 0, 1) == 0 {
+            self.spin();
+            if self.try_take(place) {
                 return;
             }
             self.waiting.fetch_add(1, SeqCst);
@@ -139,6 +147,27 @@ impl<T: Grows> GrowLock<T> {
             self.waiting.fetch_sub(1, SeqCst);
         }
         unreachable!()
+    }
+
+    // Takes the value, if it is at home: whether it was.
+    fn try_take(&self, place: &mut TableSeat<T>) -> bool
+        requires own { place.old.table_id ≡ self.now.table.shared.table_id }
+        requires one { (n : ℕ) × (x : T) × (place.old.me.0.seen ≡ sight n x ∷ []) }
+        ensures own { (place.new.table_id ≡ place.old.table_id) × (place.new.id ≡ place.old.id) }
+        ensures took { IsTrue result → Took T.extends T.same T.blank place.old.me place.new.me }
+        ensures left { IsFalse result → place.new.me ≡ place.old.me }
+    {
+        self.table.shared.swap::<TakeStep>(place, 0, 1) == 0
+    }
+
+    // Reads the word while the value is out, for as long as a short job takes: to park and to be woken takes longer.
+    fn spin(&self) {
+        for _ in 0..READS {
+            if self.table.shared.peek(0) == 0 {
+                return;
+            }
+            spin_loop();
+        }
     }
 
     // Puts the value home. Who parks has counted itself before, and parks only while the value is out: so
