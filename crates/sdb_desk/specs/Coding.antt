@@ -3,26 +3,31 @@ use Rattle.std.specs.Prelude.{ℕ, List, Option, refl}
 use Rattle.std.specs.Coded.{Coded, code_by, coded×, coded_ℕ, coded_option}
 use Rattle.sdb_oplog.specs.Plain.{PlainEntry, PlainSubmission}
 use Rattle.sdb_oplog.specs.Coding.{submission_code, log_code}
+use Rattle.sdb_value.specs.Coding.{value_code}
+use Rattle.sdb_value.specs.Value.{Value}
 use Rattle.sdb_snapcache.specs.Kept.{Snapshot}
 use Rattle.sdb_snapcache.specs.View.{kept_code}
 use Rattle.sdb_desk.specs.Documents.{PlainDocument}
 use Rattle.sdb_subscribe.specs.Coding.{ringed_queues_code}
 use Rattle.sdb_subscribe.specs.Ring.{RingedQueues}
-use Rattle.sdb_desk.specs.Machine.{PlainAttempt}
+use Rattle.sdb_desk.specs.Machine.{PlainLook, PlainAttempt}
 use Rattle.sdb_desk.specs.Topics.{PlainTopic}
 
--- the submission, and the look: version, repeat, missed
-abbrev Fields : Type 0
-Fields = PlainSubmission × ((ℕ × Option ℕ) × List PlainEntry)
+-- version, repeat, missed, snapshot
+abbrev Look : Type 0
+Look = (ℕ × Option ℕ) × (List PlainEntry × Option Value)
 
-abbrev fields_code : Coded Fields
-fields_code = coded× submission_code (coded× (coded× coded_ℕ (coded_option coded_ℕ)) log_code)
+abbrev pub look_code : Coded PlainLook
+look_code =
+    code_by Look
+    (coded× (coded× coded_ℕ (coded_option coded_ℕ)) (coded× log_code (coded_option value_code)))
+    (λ l. ((l.version, l.repeat), (l.missed, l.snapshot)))
+    (λ p. record { version = p.0.0; repeat = p.0.1; missed = p.1.0; snapshot = p.1.1 }) (λ _. refl)
 
 abbrev pub attempt_code : Coded PlainAttempt
 attempt_code =
-    code_by Fields fields_code (λ a. (a.submission, ((a.look.version, a.look.repeat), a.look.missed)))
-    (λ p. record { submission = p.0; look = record { version = p.1.0.0; repeat = p.1.0.1; missed = p.1.1 } })
-    (λ _. refl)
+    code_by (PlainSubmission × PlainLook) (coded× submission_code look_code) (λ a. (a.submission, a.look))
+    (λ p. record { submission = p.0; look = p.1 }) (λ _. refl)
 
 abbrev pub document_code : Coded PlainDocument
 document_code =

@@ -5,7 +5,7 @@ use Rattle.sdb_value.specs.View.{view}
 use Rattle.sdb_value.specs.declared.value.Json.{Json}
 use Rattle.sdb_oplog.specs.Plain.{PlainContent, PlainEntry, PlainSubmission}
 use Rattle.sdb_oplog.specs.Over.{over_all}
-use Rattle.sdb_oplog.specs.Snap.{snap, stored_at}
+use Rattle.sdb_oplog.specs.Snap.{becomes, document, snap, stored_at}
 use Rattle.sdb_oplog.specs.Decide.{PlainReply, stored, repeated, refused, since, missed, IsMade}
 use Rattle.sdb_oplog.specs.declared.codes.Code.{Code}
 use Rattle.sdb_oplog.specs.declared.codes.Code.TheVariants.{E10}
@@ -38,10 +38,12 @@ pub record IsOpen (log : List PlainEntry) (s : PlainSubmission) : Type 0 where
   pub room : length log < 9007199254740991
   pub seen : since log s ≤ length log
 
--- and along what it missed it became this content; without a content it stays as it arrived
-pub record Settles (log : List PlainEntry) (s : PlainSubmission) (content : Option PlainContent) : Type 0 where
+-- and along what it missed it became this content, which makes this document; without a content it stays as it arrived
+pub record Settles (log : List PlainEntry) (s : PlainSubmission) (content : Option PlainContent) (made : Option Value)
+    : Type 0 where
   pub new : IsOpen log s
   pub over : over_all s.content (missed log s) ≡ Ok (unwrap_or content s.content)
+  pub makes : becomes (unwrap_or content s.content) (document log) ≡ Ok made
 
 -- a replay begins with the snapshot that was found, or with nothing at version 0
 abbrev pub Begins : Option Snapshot → ℕ → Option Value → Type 0

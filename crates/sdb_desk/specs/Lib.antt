@@ -13,3 +13,4 @@ pub mod ShardView
 pub mod Stored
 pub mod Topics
 pub mod View
+pub mod Worked

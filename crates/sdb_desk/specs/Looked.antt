@@ -5,7 +5,7 @@ use Rattle.std.proofs.Math.Seq.{take-length}
 use Rattle.std.proofs.lemmas.List.{take-append-le}
 use Rattle.sdb_oplog.specs.Plain.{PlainEntry, PlainSubmission}
 use Rattle.sdb_oplog.specs.Decide.{missed}
-use Rattle.sdb_oplog.specs.Snap.{stored_at}
+use Rattle.sdb_oplog.specs.Snap.{document, stored_at}
 use Rattle.sdb_desk.specs.Machine.{PlainAttempt, look_at}
 
 -- the look of the attempt shows the log as it was when it had the version of that look
@@ -28,10 +28,25 @@ look_later log more a h =
       is = h.is ∙ ap (λ l. look_at l a.submission) (sym (take-append-le a.look.version log more h.within));
     }
 
--- where the log is as long as it was looked at and the submission is new, what was missed is what is missed
+-- where the log is as long as it was looked at, the look is one that is taken now
 pub look_stands : (log : List PlainEntry) (a : PlainAttempt) → IsLook log a → length log ≡ a.look.version
+    → a.look ≡ look_at log a.submission
+look_stands log a h e =
+    h.is ∙ ap (λ l. look_at l a.submission) (ap (λ n. take n log) (sym e) ∙ take-length log)
+
+-- it shows what a new submission has missed
+pub missed_stands : (log : List PlainEntry) (a : PlainAttempt) → IsLook log a → length log ≡ a.look.version
     → stored_at a.submission.src a.submission.seq log ≡ None → a.look.missed ≡ missed log a.submission
-look_stands log a h e new =
-    ap (λ l. l.missed) h.is
-    ∙ ap (λ l. (look_at l a.submission).missed) (ap (λ n. take n log) (sym e) ∙ take-length log)
-    ∙ ap (λ o. cond (is_some o) [] (missed log a.submission)) new
+missed_stands log a h e new =
+    ap (λ l. l.missed) (look_stands log a h e) ∙ ap (λ o. cond (is_some o) [] (missed log a.submission)) new
+
+-- and the document
+pub snapshot_stands : (log : List PlainEntry) (a : PlainAttempt) → IsLook log a → length log ≡ a.look.version
+    → stored_at a.submission.src a.submission.seq log ≡ None → a.look.snapshot ≡ document log
+snapshot_stands log a h e new =
+    ap (λ l. l.snapshot) (look_stands log a h e) ∙ ap (λ o. cond (is_some o) None (document log)) new
+
+-- and no repeat
+pub repeat_stands : (log : List PlainEntry) (a : PlainAttempt) → IsLook log a → length log ≡ a.look.version
+    → stored_at a.submission.src a.submission.seq log ≡ None → a.look.repeat ≡ None
+repeat_stands log a h e new = ap (λ l. l.repeat) (look_stands log a h e) ∙ new

@@ -1,15 +1,15 @@
 -- The machine that takes each submission in one step: what a look shows, what a commit does, and what is read.
-use Rattle.std.specs.Prelude.{◌≡◌, ◌≢◌, ℕ, List, [], ◌∷◌, Bool, true, false, length, take, drop, if◌then◌else◌, nat_eq, nat_lt, Option, Some, None, unwrap_or, Result, Ok, Err, ◌⊎◌}
+use Rattle.std.specs.Prelude.{◌≡◌, ◌≢◌, ℕ, List, [], ◌∷◌, Bool, true, false, ◌||◌, length, take, drop, if◌then◌else◌, nat_eq, nat_lt, Option, Some, None, unwrap_or, Result, Ok, Err, ◌⊎◌}
 use Rattle.std.specs.Option.{is_some, option_map_or}
 use Rattle.std.specs.Result.{is_ok, is_err, result_ok}
 use Rattle.sdb_value.specs.Value.{Value}
 use Rattle.sdb_oplog.specs.Plain.{PlainEntry, PlainSubmission}
 use Rattle.sdb_oplog.specs.Refused.{result_then}
-use Rattle.sdb_oplog.specs.Over.{over_all}
-use Rattle.sdb_oplog.specs.Decide.{PlainReply, stored, repeated, refused, decide, missed, deciding_takes_memory}
+use Rattle.sdb_oplog.specs.Over.{over_all, carrying_takes_memory}
+use Rattle.sdb_oplog.specs.Decide.{PlainReply, stored, repeated, refused, decide, missed, settling_takes_memory, deciding_takes_memory}
 use Rattle.sdb_oplog.specs.Keys.{PlainKey, Logs, with_at, with_log}
 use Rattle.sdb_subscribe.specs.Queue.{PlainQueues, opened, taken_by, after_take_by, without_by}
-use Rattle.sdb_oplog.specs.Snap.{document, stored_at}
+use Rattle.sdb_oplog.specs.Snap.{becomes, document, stored_at}
 use Rattle.sdb_oplog.specs.declared.codes.Code.{Code}
 use Rattle.sdb_oplog.specs.declared.codes.Code.TheVariants.{E4, E10, E11}
 
@@ -21,6 +21,7 @@ pub record PlainLook : Type 0 where
   pub version : ℕ
   pub repeat : Option ℕ
   pub missed : List PlainEntry
+  pub snapshot : Option Value
 
 pub record PlainAttempt : Type 0 where
   pub submission : PlainSubmission
@@ -35,18 +36,30 @@ pub record PlainFetched : Type 0 where
   pub version : ℕ
   pub snapshot : Option Value
 
--- what a look at a log shows: nothing is missed by what is stored already, nor where the version is above the length
+-- what a look at a log shows: the length, and of what is stored already its version; else what it has missed, which is
+-- nothing where its version is above the length, and the document
 abbrev pub look_at : List PlainEntry → PlainSubmission → PlainLook
 look_at log s =
     record {
       version = length log;
       repeat = stored_at s.src s.seq log;
       missed = if is_some (stored_at s.src s.seq log) then [] else missed log s;
+      snapshot = if is_some (stored_at s.src s.seq log) then None else document log;
     }
 
--- a look copies the entries that it shows as missed
+-- a look copies the entries that it shows as missed, and a pointer to the document
 abbrev pub looking_takes_memory : List PlainEntry → PlainSubmission → Bool
-looking_takes_memory log s = is_filled (look_at log s).missed
+looking_takes_memory log s = is_filled (look_at log s).missed || is_some (look_at log s).snapshot
+
+-- what the submission, carried along what the look shows as missed, makes of the document that the look shows
+abbrev pub made_of : PlainAttempt → Result (Option Value) Code
+made_of a = result_then (λ m. becomes m a.look.snapshot) (over_all a.submission.content a.look.missed)
+
+-- the work takes memory where an edit is carried over an edit, and where what comes of it changes a document
+abbrev pub working_takes_memory : PlainAttempt → Bool
+working_takes_memory a =
+    carrying_takes_memory a.submission.content a.look.missed
+    || settling_takes_memory (over_all a.submission.content a.look.missed) a.look.snapshot
 
 -- the submission was decided, or memory was wanting for it and nothing has changed
 abbrev pub Decides : Logs → PlainKey → PlainSubmission → PlainReply → Logs → Type 0
@@ -54,10 +67,10 @@ Decides logs k s r new =
     ((r ≡ refused E10) × (new ≡ logs) × (deciding_takes_memory (logs k) s ≡ true))
     ⊎ ((r ≡ (decide (logs k) s).reply) × (new ≡ with_log logs k (decide (logs k) s).log))
 
--- the work found already that the submission is refused
+-- the work found already that the submission is refused, on the way or by the document
 abbrev pub IsFoundRefused : List PlainEntry → PlainAttempt → Type 0
 IsFoundRefused log a =
-    (a.look.missed ≡ missed log a.submission) × (is_err (over_all a.submission.content a.look.missed) ≡ true)
+    (a.look.missed ≡ missed log a.submission) × (a.look.snapshot ≡ document log) × (is_err (made_of a) ≡ true)
 
 -- a commit takes memory to show a log that has moved, and to decide, but not for what was found already
 abbrev pub CommittingTakesMemory : List PlainEntry → PlainAttempt → Type 0

@@ -2,7 +2,9 @@
 use Rattle.std.specs.Prelude.{List, Option, Some, None, option_map, Result, Ok, Err, Vec}
 use Rattle.std.specs.declared.alloc.AllocError.{AllocError}
 use Rattle.std.specs.declared.alloc.Global.{Global}
+use Rattle.sdb_value.specs.Value.{Value}
 use Rattle.sdb_value.specs.View.{view}
+use Rattle.sdb_value.specs.declared.value.Json.{Json}
 use Rattle.sdb_oplog.specs.Decide.{stored}
 use Rattle.sdb_oplog.specs.Plain.{PlainContent, PlainEntry}
 use Rattle.sdb_oplog.specs.declared.codes.Code.{Code}
@@ -20,10 +22,21 @@ use Rattle.sdb_desk.specs.declared.shard.Fetched.{Fetched}
 use Rattle.sdb_desk.specs.declared.shard.Subscribed.{Subscribed}
 
 abbrev pub plain_look : Look → PlainLook
-plain_look l = record { version = l.version; repeat = l.repeat; missed = l.missed.items }
+plain_look l =
+    record {
+      version = l.version;
+      repeat = l.repeat;
+      missed = l.missed.items;
+      snapshot = option_map view l.snapshot;
+    }
 
 abbrev pub plain_attempt : Attempt → PlainAttempt
 plain_attempt a = record { submission = a.submission; look = plain_look a.look }
+
+-- the document that was made, or the code that refuses it
+abbrev pub told_made : Result (Option Json) Code → Result (Option Value) Code
+told_made (Ok d) = Ok (option_map view d)
+told_made (Err code) = Err code
 
 -- the content that was worked, or the code that refuses it
 abbrev pub content_of : PlainContent → WorkedContent → Result PlainContent Code

@@ -1,12 +1,16 @@
 //! Looks, attempts, and the work on them.
-ghost use Rattle.std.specs.Prelude.{◌≡◌, [], true, IfOk, IfErr, Ok, Err, OnErr, option_map, unwrap_or};
-ghost use Rattle.sdb_oplog.specs.Over.{over_all, carrying_takes_memory};
-ghost use Rattle.sdb_desk.specs.Machine.{Keeps};
-ghost use Rattle.sdb_desk.specs.View.{content_of, plain_attempt, plain_outcome, outcome_of};
+ghost use Rattle.std.specs.Prelude.{◌≡◌, [], true, IfOk, IfErr, IsErrOf, None, Ok, Err, OnErr, option_map, unwrap_or};
+ghost use Rattle.sdb_oplog.specs.Over.{over_all};
+ghost use Rattle.sdb_oplog.specs.Refused.{RefusedBy};
+ghost use Rattle.sdb_oplog.specs.declared.codes.Code.TheVariants.{E10};
+ghost use Rattle.sdb_value.specs.View.{view};
+ghost use Rattle.sdb_desk.specs.Machine.{Keeps, made_of, working_takes_memory};
+ghost use Rattle.sdb_desk.specs.View.{content_of, told_made, plain_attempt, plain_outcome, outcome_of};
 
-use crate::document::Reply;
+use crate::document::{Reply, made_of};
 use crate::shard::{Decision, Outcome};
 use sdb_oplog::{Code, Content, Entry, Submission, over_all};
+use sdb_value::Json;
 use std::alloc::Global;
 use std::marker::Model;
 use std::mem;
@@ -21,6 +25,9 @@ pub struct Look {
     /// The entries that the submission has not seen: none where it is stored long since, or where its
     /// version is above the present one.
     pub missed: Vec<Entry>,
+    /// The present document, shared with the shard. It isn't shown where the submission is stored long
+    /// since.
+    pub snapshot: Option<Json>,
 }
 
 /// A submission, and the look that it is worked on.
@@ -41,11 +48,13 @@ pub enum WorkedContent {
     Refused(Code),
 }
 
-/// An attempt, with what its content becomes along the entries that the look shows as missed.
+/// An attempt, with what its content becomes along the entries that the look shows as missed, and what
+/// that makes of the document that the look shows.
 #[derive(Drop)]
 pub struct Work {
     attempt: Attempt,
     worked: WorkedContent,
+    made: Result<Option<Json>, Code>,
 }
 
 impl Model for Work {
@@ -57,53 +66,83 @@ impl Model for Work {
 
     ghost coded = { attempt_code };
 
-    ghost use Rattle.sdb_oplog.specs.Over.{over_all};
-    ghost use Rattle.sdb_desk.specs.View.{content_of, plain_attempt};
+    ghost use Rattle.sdb_desk.specs.View.{content_of, told_made, plain_attempt};
+    ghost use Rattle.sdb_desk.specs.Worked.{IsWorked};
 
     ghost view = { λ w. plain_attempt w.attempt };
 
-    ghost invariant = { λ w. content_of w.attempt.submission.content w.worked ≡
-        over_all w.attempt.submission.content w.attempt.look.missed.items };
+    ghost invariant = { λ w. IsWorked (plain_attempt w.attempt)
+        (content_of w.attempt.submission.content w.worked) (told_made w.made) };
 }
 
 impl Work {
     /// The attempt, worked: the content or the code is what comes of the submission along the entries
-    /// that the look shows as missed.
-    pub fn new(attempt: Attempt, worked: Result<Content, Code>) -> Work
-        requires { worked ≡ over_all attempt.submission.content attempt.look.missed.items }
+    /// that the look shows as missed, and the snapshot or the code is what the content makes of the document
+    /// that the look shows. The code of a content that is refused is both. A snapshot that isn't all shared
+    /// is copied by each look until the document is changed again.
+    pub fn new(
+        attempt: Attempt,
+        worked: Result<Content, Code>,
+        snapshot: Result<Option<Json>, Code>,
+    ) -> Work
+        requires content { worked ≡ over_all attempt.submission.content attempt.look.missed.items }
+        requires snapshot { told_made snapshot ≡ made_of (plain_attempt attempt) }
         ensures { result ≡ plain_attempt attempt }
     {
         let worked = match worked {
             Ok(content) => WorkedContent::Became(content),
             Err(code) => WorkedContent::Refused(code),
         };
-        Work { attempt, worked }
+        Work {
+            attempt,
+            worked,
+            made: snapshot,
+        }
     }
 
-    /// Works the attempt. It is handed back for want of memory alone, where an edit was to be carried
-    /// over an edit.
+    /// Works the attempt: carries the content along the entries that the look shows as missed, and applies it
+    /// to a copy of the document that the look shows, which shares what isn't touched. The attempt is handed
+    /// back for want of memory alone, where an edit was to be carried over an edit, or a document to be
+    /// changed.
     pub fn of(alloc: Global, attempt: Attempt) -> Result<Work, Attempt>
         ensures ok { IfOk result (λ w. w ≡ plain_attempt attempt) }
         ensures err { IfErr result (λ a. plain_attempt a ≡ plain_attempt attempt) }
-        ensures memory { OnErr result
-            (carrying_takes_memory attempt.submission.content attempt.look.missed.items ≡ true) }
+        ensures memory { OnErr result (working_takes_memory (plain_attempt attempt) ≡ true) }
     {
         let missed = attempt.look.missed.as_slice();
-        match over_all(alloc, attempt.submission.content(), missed) {
-            Ok(None) => Ok(Work {
-                attempt,
-                worked: WorkedContent::AsArrived,
-            }),
-            Ok(Some(content)) => Ok(Work {
-                attempt,
-                worked: WorkedContent::Became(content),
-            }),
-            Err(Code::E10) => Err(attempt),
-            Err(code) => Ok(Work {
-                attempt,
-                worked: WorkedContent::Refused(code),
-            }),
-        }
+        let worked = match over_all(alloc, attempt.submission.content(), missed) {
+            Ok(None) => WorkedContent::AsArrived,
+            Ok(Some(content)) => WorkedContent::Became(content),
+            Err(Code::E10) => return Err(attempt),
+            Err(code) => WorkedContent::Refused(code),
+        };
+        Work::from_content(alloc, attempt, worked)
+    }
+
+    /// The work of an attempt whose content became this along the entries that the look shows as missed: it is
+    /// applied to a copy of the document that the look shows. The attempt is handed back for want of memory
+    /// alone, where a document was to be changed.
+    pub fn from_content(
+        alloc: Global,
+        attempt: Attempt,
+        worked: WorkedContent,
+    ) -> Result<Work, Attempt>
+        requires { content_of attempt.submission.content worked ≡
+            over_all attempt.submission.content attempt.look.missed.items }
+        ensures ok { IfOk result (λ w. w ≡ plain_attempt attempt) }
+        ensures err { IfErr result (λ a. plain_attempt a ≡ plain_attempt attempt) }
+        ensures memory { OnErr result (working_takes_memory (plain_attempt attempt) ≡ true) }
+    {
+        let made = match made_by(alloc, &attempt, &worked) {
+            Ok(made) => Ok(made),
+            Err(Code::E10) => return Err(attempt),
+            Err(code) => Err(code),
+        };
+        Ok(Work {
+            attempt,
+            worked,
+            made,
+        })
     }
 
     /// The submission.
@@ -142,6 +181,19 @@ impl Work {
         }
     }
 
+    /// What the content made of the document that the look shows, or the code that it is refused by there or
+    /// was on the way; nothing is said of a submission that the look shows as stored long since.
+    pub fn snapshot(&self) -> Result<Option<&Json>, Code>
+        ensures ok { self.now.look.repeat ≡ None → IfOk result
+            (λ d. made_of self.now ≡ Ok (option_map (λ v. view v.now) d)) }
+        ensures err { self.now.look.repeat ≡ None → IfErr result (λ code. made_of self.now ≡ Err code) }
+    {
+        match &self.made {
+            Ok(made) => Ok(made.as_ref()),
+            Err(code) => Err(*code),
+        }
+    }
+
     /// The attempt, given back.
     pub fn into_attempt(self) -> Attempt
         ensures { plain_attempt result ≡ self }
@@ -158,15 +210,6 @@ impl Work {
         (self.attempt, self.worked)
     }
 
-    /// The work of these parts, as [`into_parts`](Work::into_parts) gives them.
-    pub fn from_parts(attempt: Attempt, worked: WorkedContent) -> Work
-        requires { content_of attempt.submission.content worked ≡
-            over_all attempt.submission.content attempt.look.missed.items }
-        ensures { result ≡ plain_attempt attempt }
-    {
-        Work { attempt, worked }
-    }
-
     /// Tells the work what was decided of it, and gives the answer: where it is stored, the entries that
     /// the look showed as missed go into the answer, and the work keeps its submission. In all other
     /// cases it stays as it is.
@@ -177,18 +220,44 @@ impl Work {
         match decision {
             Decision::Stores { v } => Outcome::Decided(Reply::Stored {
                 v,
-                missed: self.take_missed(alloc),
+                missed: self.take_missed(alloc, v),
             }),
             Decision::Answers(outcome) => outcome,
         }
     }
 
-    // Takes the missed entries out. The submission stays, on a look that shows none missed.
-    fn take_missed(&mut self, alloc: Global) -> Vec<Entry>
+    // Takes the missed entries out of what was stored at a version, and lets the snapshots go. The submission
+    // stays, on a look that shows it as stored there.
+    fn take_missed(&mut self, alloc: Global, v: u64) -> Vec<Entry>
         ensures missed { result.items ≡ self.old.look.missed }
         ensures submission { self.new.submission ≡ self.old.submission }
     {
         self.worked = WorkedContent::AsArrived;
+        self.made = Ok(None);
+        self.attempt.look.repeat = Some(v);
+        self.attempt.look.snapshot = None;
         mem::replace(&mut self.attempt.look.missed, Vec::new(alloc))
     }
+}
+
+// What the content that was worked makes of the document that the look shows. Nothing, where the look shows the
+// submission as stored long since.
+fn made_by(alloc: Global, attempt: &Attempt, worked: &WorkedContent) -> Result<Option<Json>, Code>
+    requires { content_of attempt.now.submission.content worked.now ≡
+        over_all attempt.now.submission.content attempt.now.look.missed.items }
+    ensures ok { attempt.now.look.repeat ≡ None → IfOk result
+        (λ d. made_of (plain_attempt attempt.now) ≡ Ok (option_map view d)) }
+    ensures err { attempt.now.look.repeat ≡ None → IfErr result
+        (λ code. RefusedBy (made_of (plain_attempt attempt.now)) code) }
+    ensures memory { IsErrOf result E10 → working_takes_memory (plain_attempt attempt.now) ≡ true }
+{
+    if attempt.look.repeat.is_some() {
+        return Ok(None);
+    }
+    let content = match worked {
+        WorkedContent::AsArrived => attempt.submission.content(),
+        WorkedContent::Became(content) => content,
+        WorkedContent::Refused(code) => return Err(*code),
+    };
+    made_of(alloc, content, attempt.look.snapshot.as_ref())
 }

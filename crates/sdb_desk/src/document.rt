@@ -1,8 +1,9 @@
 //! One document: its log, and what it makes.
-ghost use Rattle.std.specs.Prelude.{◌≡◌, ◌≢◌, ◌<◌, ◌≤◌, [], ◌∷◌, true, length, take, OnOk, OnErr, IfOk, IfErr, IfSome, OnSome, IfNone, is_some, Some, Ok, Err, option_map, unwrap_or};
+ghost use Rattle.std.specs.Prelude.{◌≡◌, ◌≢◌, ◌<◌, ◌≤◌, [], ◌∷◌, true, length, take, OnOk, OnErr, IfOk, IfErr, IsErrOf, IfSome, OnSome, IfNone, is_some, Some, Ok, Err, option_map, unwrap_or};
 ghost use Rattle.sdb_value.specs.Owns.{is_pointer};
 ghost use Rattle.sdb_value.specs.View.{view};
 ghost use Rattle.sdb_oplog.specs.Decide.{decide, stored, missed, IsMade, storing_takes_memory};
+ghost use Rattle.sdb_oplog.specs.Refused.{RefusedBy};
 ghost use Rattle.sdb_oplog.specs.Snap.{becomes, document, snap};
 ghost use Rattle.sdb_oplog.specs.declared.codes.Code.TheVariants.{E10};
 ghost use Rattle.sdb_desk.specs.Machine.{look_at, looking_takes_memory};
@@ -10,12 +11,12 @@ ghost use Rattle.sdb_desk.specs.View.{plain_look};
 ghost use Rattle.sdb_desk.specs.ReplyView.{plain_reply};
 ghost use Rattle.sdb_snapcache.specs.Kept.{nearest, used_for};
 ghost use Rattle.sdb_snapcache.specs.View.{snapshot};
-ghost use Rattle.sdb_desk.specs.Documents.{IsMadeDocument, IsOpen, Settles, Begins, RefusedAs, IsUnstored};
+ghost use Rattle.sdb_desk.specs.Documents.{IsMadeDocument, IsOpen, Settles, Begins, IsUnstored};
 ghost use Rattle.sdb_snapcache.specs.Snaps.{AreSnapsOf};
 ghost use Rattle.sdb_desk.specs.Read.{Leaves, Offers};
 
 use crate::attempts::Look;
-use sdb_oplog::{Code, Content, Entry, Kind, Log, Prepared, Submission, Unprepared, copy_entries};
+use sdb_oplog::{Code, Content, Entry, Kind, Log, Submission, Unprepared, copy_entries};
 use sdb_snapcache::Cache;
 use sdb_value::{Json, MAX};
 use std::alloc::{AllocError, Global};
@@ -55,21 +56,21 @@ impl Model for Document {
 }
 
 impl Document {
-    // The document that a submission makes, the first of its key.
+    // What a submission that is the first of its key makes.
     pub(crate) fn first(
         alloc: Global,
         submission: Submission,
         content: Option<Content>,
-    ) -> Result<Document, Code>
-        requires { Settles [] submission content }
+        made: Option<Json>,
+    ) -> Result<Document, AllocError>
+        requires { Settles [] submission content (option_map view made) }
         ensures log { IfOk result (λ d. d.log ≡ (decide [] submission).log) }
         ensures kept { IfOk result (λ d. d.kept ≡ []) }
         ensures reply { OnOk result ((decide [] submission).reply ≡ stored 0 (missed [] submission)) }
-        ensures err { IfErr result (RefusedAs (decide [] submission).reply) }
     {
         let mut log = Log::new(alloc);
         let mut present = None;
-        store(alloc, &mut log, &mut present, submission, content)?;
+        store(alloc, &mut log, &mut present, submission, content, made)?;
         let cache = Cache::new(alloc);
         Ok(Document {
             log,
@@ -112,22 +113,23 @@ impl Document {
         self.cache.len()
     }
 
-    // Stores what a submission has become, unless the document refuses it.
+    // Stores what a submission has become, with the document that it makes.
     pub(crate) fn store(
         &mut self,
         alloc: Global,
         submission: Submission,
         content: Option<Content>,
-    ) -> Result<(), Code>
-        requires { Settles self.old.log submission content }
+        made: Option<Json>,
+    ) -> Result<(), AllocError>
+        requires { Settles self.old.log submission content (option_map view made) }
         ensures log { OnOk result (self.new.log ≡ (decide self.old.log submission).log) }
         ensures reply { OnOk result
             ((decide self.old.log submission).reply ≡ stored (length self.old.log) (missed self.old.log submission)) }
-        ensures err { IfErr result (RefusedAs (decide self.old.log submission).reply) }
         ensures same { OnErr result (self.new.log ≡ self.old.log) }
         ensures kept { self.new.kept ≡ self.old.kept }
     {
-        store(alloc, &mut self.log, &mut self.present, submission, content)
+        let Document { log, present, .. } = self;
+        store(alloc, log, present, submission, content, made)
     }
 
     // The document at a version, made of the nearest snapshot that is kept. It is kept then, where there
@@ -214,7 +216,7 @@ fn base_of(found: Option<(u64, Json)>) -> (u64, Option<Json>)
 }
 
 // A copy of a document, which may be none, all of it shared: the next copy of it is a pointer.
-fn shared_copy_of(alloc: Global, document: Option<&Json>) -> Result<Option<Json>, AllocError>
+pub(crate) fn shared_copy_of(alloc: Global, document: Option<&Json>) -> Result<Option<Json>, AllocError>
     ensures copy { IfOk result (λ d. option_map view d ≡ option_map (λ v. view v.now) document.entry) }
     ensures pointer { IfOk result (λ d. IfSome d (λ v. is_pointer v ≡ true)) }
     ensures some { OnErr result (is_some document.entry ≡ true) }
@@ -271,8 +273,31 @@ pub(crate) fn reply_at_sight(log: &Log, submission: &Submission) -> Option<Reply
     None
 }
 
+// What a content makes of a document, which may be none: a copy, all of it shared, which shares with the document
+// what the content doesn't touch. A delete takes no memory.
+pub(crate) fn made_of(
+    alloc: Global,
+    content: &Content,
+    document: Option<&Json>,
+) -> Result<Option<Json>, Code>
+    ensures ok { IfOk result (λ d. becomes content.now (option_map (λ v. view v.now) document.entry) ≡
+        Ok (option_map view d)) }
+    ensures err { IfErr result
+        (λ code. RefusedBy (becomes content.now (option_map (λ v. view v.now) document.entry)) code) }
+    ensures memory { IsErrOf result E10 →
+        storing_takes_memory content.now (option_map (λ v. view v.now) document.entry) ≡ true }
+{
+    check_presence(content, document)?;
+    if matches!(content.kind(), Kind::Delete) {
+        return Ok(None);
+    }
+    let mut made = shared_copy_of(alloc, document)?;
+    content.apply_to(alloc, &mut made)?;
+    Ok(shared_copy_of(alloc, made.as_ref())?)
+}
+
 // Refuses a create on a document, and an edit of none.
-pub(crate) fn check_presence(content: &Content, document: Option<&Json>) -> Result<(), Code>
+fn check_presence(content: &Content, document: Option<&Json>) -> Result<(), Code>
     ensures ok { OnOk result
         (storing_takes_memory content.now (option_map (λ v. view v.now) document.entry) ≡ true) }
     ensures err { IfErr result
@@ -291,67 +316,61 @@ pub(crate) fn check_presence(content: &Content, document: Option<&Json>) -> Resu
     }
 }
 
-// Stores what a submission has become, unless the document refuses it.
+// Stores what a submission has become, and swaps in the document that it makes.
 fn store(
     alloc: Global,
     log: &mut Log,
     present: &mut Option<Json>,
     submission: Submission,
     content: Option<Content>,
-) -> Result<(), Code>
+    made: Option<Json>,
+) -> Result<(), AllocError>
     requires document { IsMadeDocument log.old present.old }
-    requires settles { Settles log.old submission content }
+    requires settles { Settles log.old submission content (option_map view made) }
     ensures log { OnOk result (log.new ≡ (decide log.old submission).log) }
     ensures reply { OnOk result
         ((decide log.old submission).reply ≡ stored (length log.old) (missed log.old submission)) }
-    ensures err { IfErr result (RefusedAs (decide log.old submission).reply) }
     ensures same { OnErr result (log.new ≡ log.old) }
     ensures document { IsMadeDocument log.new present.new }
 {
-    let prepared = match mem::replace(log, Log::new(alloc)).prepare(submission) {
-        Ok(prepared) => prepared,
-        Err(Unprepared { log: kept, error }) => {
-            *log = kept;
-            return Err(Code::from(error));
-        }
-    };
-    match settled_content(&content, &prepared).apply_to(alloc, present) {
-        Ok(()) => {
+    match mem::replace(log, Log::new(alloc)).prepare(submission) {
+        Ok(prepared) => {
             *log = prepared.store(content);
+            *present = made;
             Ok(())
         }
-        Err(code) => {
-            *log = prepared.give_up();
-            Err(code)
+        Err(Unprepared { log: kept, error }) => {
+            *log = kept;
+            Err(error)
         }
     }
 }
 
-// The content that is to be stored: the one that arrived, where there is no other.
-fn settled_content<'c>(content: &'c Option<Content>, prepared: &'c Prepared) -> &'c Content
-    ensures { result.now ≡ unwrap_or content.now prepared.now.submission.content }
-{
-    match content {
-        Some(content) => content,
-        None => prepared.submission().content(),
-    }
-}
-
-// What a look at the log shows for a submission.
-pub(crate) fn look_at(alloc: Global, log: &Log, submission: &Submission) -> Result<Look, AllocError>
+// What a look at the log, and at the document that it makes, shows for a submission.
+pub(crate) fn look_at(
+    alloc: Global,
+    log: &Log,
+    present: Option<&Json>,
+    submission: &Submission,
+) -> Result<Look, AllocError>
+    requires { option_map (λ v. view v.now) present ≡ document log.now }
     ensures look { IfOk result (λ l. plain_look l ≡ look_at log.now submission.now) }
     ensures memory { OnErr result (looking_takes_memory log.now submission.now ≡ true) }
 {
     let version = log.len();
-    let repeat = log.stored_at(submission.src(), submission.seq());
-    let missed = match repeat {
-        Some(_) => Vec::new(alloc),
-        None => copy_entries(alloc, missed_of(log, submission))?,
-    };
+    if let Some(v) = log.stored_at(submission.src(), submission.seq()) {
+        return Ok(Look {
+            version,
+            repeat: Some(v),
+            missed: Vec::new(alloc),
+            snapshot: None,
+        });
+    }
     Ok(Look {
         version,
-        repeat,
-        missed,
+        repeat: None,
+        missed: copy_entries(alloc, missed_of(log, submission))?,
+        snapshot: shared_copy_of(alloc, present)?,
     })
 }
 

@@ -25,7 +25,9 @@ ghost use Rattle.sdb_desk.specs.View.{plain_look, plain_outcome, outcome_of, tol
 ghost use Rattle.sdb_desk.specs.ReplyView.{plain_reply};
 
 use crate::attempts::{Look, Work};
-use crate::document::{Document, Reply, check_presence, look_at, missed_of, reply_at_sight};
+use crate::document::{
+    Document, Reply, look_at, made_of, missed_of, reply_at_sight, shared_copy_of,
+};
 use crate::topic::Topic;
 use sdb_oplog::{Code, Content, Entry, Key, Log, Submission, copy_entries, over_all};
 use sdb_subscribe::SubId;
@@ -164,16 +166,18 @@ impl Shard {
         }
     }
 
-    /// What a look at the document shows for a submission. It fails only for want of memory, where it
-    /// shows entries as missed.
+    /// What a look at the document shows for a submission. The document in it shares all with the shard: a
+    /// pointer. It fails only for want of memory, where it shows entries as missed, or a document.
     pub fn look(&self, key: &Key, submission: &Submission) -> Result<Look, AllocError>
         ensures look { IfOk result (λ l. plain_look l ≡ look_at (logs_of self.now (plain_key key.now)) submission.now) }
         ensures memory { OnErr result
             (looking_takes_memory (logs_of self.now (plain_key key.now)) submission.now ≡ true) }
     {
         match self.find(key) {
-            Some(document) => look_at(self.alloc, document.log(), submission),
-            None => look_at(self.alloc, &Log::new(self.alloc), submission),
+            Some(document) => {
+                look_at(self.alloc, document.log(), document.present(), submission)
+            }
+            None => look_at(self.alloc, &Log::new(self.alloc), None, submission),
         }
     }
 
@@ -258,10 +262,13 @@ impl Shard {
         }
     }
 
-    // Stores what a work has become, unless it was refused on the way or the document refuses it.
+    // Stores what a work has become, with the document that it makes, unless it was refused on the way or by the
+    // document.
     fn store_work(&mut self, key: &Key, work: &Work) -> Result<(), Code>
         requires open { IsOpen (logs_of self.old (plain_key key.now)) work.now.submission }
         requires missed { work.now.look.missed ≡ missed (logs_of self.old (plain_key key.now)) work.now.submission }
+        requires snapshot { work.now.look.snapshot ≡ document (logs_of self.old (plain_key key.now)) }
+        requires new { work.now.look.repeat ≡ None }
         ensures logs { OnOk result (logs_of self.new ≡ with_log (logs_of self.old) (plain_key key.now)
             (decide (logs_of self.old (plain_key key.now)) work.now.submission).log) }
         ensures reply { OnOk result ((decide (logs_of self.old (plain_key key.now)) work.now.submission).reply ≡
@@ -277,8 +284,9 @@ impl Shard {
         ensures rings { Notes (logs_of self.old) (logs_of self.new) (ringed_of self.old) (ringed_of self.new) }
     {
         let content = work.content()?;
-        self.check(key, content.unwrap_or(work.submission().content()))?;
-        self.store(key, work.submission(), content)
+        let made = shared_copy_of(self.alloc, work.snapshot()?)?;
+        self.store(key, work.submission(), content, made)?;
+        Ok(())
     }
 
     // Stores a submission, worked along the entries that it has missed now, and copies these; unless it is
@@ -299,9 +307,9 @@ impl Shard {
         ensures rings { Notes (logs_of self.old) (logs_of self.new) (ringed_of self.old) (ringed_of self.new) }
     {
         let content = self.carried(key, submission)?;
-        self.check(key, content.as_ref().unwrap_or(submission.content()))?;
+        let made = self.made(key, content.as_ref().unwrap_or(submission.content()))?;
         let missed = self.missed(key, submission)?;
-        self.store(key, submission, content.as_ref())?;
+        self.store(key, submission, content.as_ref(), made)?;
         Ok(missed)
     }
 
@@ -334,35 +342,36 @@ impl Shard {
         }
     }
 
-    // Refuses a create on a document, and an edit of none.
-    fn check(&self, key: &Key, content: &Content) -> Result<(), Code>
-        ensures ok { OnOk result
-            (storing_takes_memory content.now (document (logs_of self.now (plain_key key.now))) ≡ true) }
+    // What a content makes of the present document.
+    fn made(&self, key: &Key, content: &Content) -> Result<Option<Json>, Code>
+        ensures ok { IfOk result (λ d. becomes content.now (document (logs_of self.now (plain_key key.now))) ≡
+            Ok (option_map view d)) }
         ensures err { IfErr result
-            (λ code. becomes content.now (document (logs_of self.now (plain_key key.now))) ≡ Err code) }
+            (λ code. RefusedBy (becomes content.now (document (logs_of self.now (plain_key key.now)))) code) }
+        ensures memory { IsErrOf result E10 →
+            storing_takes_memory content.now (document (logs_of self.now (plain_key key.now))) ≡ true }
     {
         match self.find(key) {
-            Some(document) => check_presence(content, document.present()),
-            None => check_presence(content, None),
+            Some(document) => made_of(self.alloc, content, document.present()),
+            None => made_of(self.alloc, content, None),
         }
     }
 
-    // Stores what a submission has become, unless the document refuses it.
+    // Stores what a submission has become, with the document that it makes.
     fn store(
         &mut self,
         key: &Key,
         submission: &Submission,
         content: Option<&Content>,
-    ) -> Result<(), Code>
+        made: Option<Json>,
+    ) -> Result<(), AllocError>
         requires { Settles (logs_of self.old (plain_key key.now)) submission.now
-            (option_map (λ c. c.now) content) }
+            (option_map (λ c. c.now) content) (option_map view made) }
         ensures logs { OnOk result (logs_of self.new ≡ with_log (logs_of self.old) (plain_key key.now)
             (decide (logs_of self.old (plain_key key.now)) submission.now).log) }
         ensures reply { OnOk result ((decide (logs_of self.old (plain_key key.now)) submission.now).reply ≡
             stored (length (logs_of self.old (plain_key key.now)))
             (missed (logs_of self.old (plain_key key.now)) submission.now)) }
-        ensures err { IfErr result
-            (RefusedAs (decide (logs_of self.old (plain_key key.now)) submission.now).reply) }
         ensures same { OnErr result (logs_of self.new ≡ logs_of self.old) }
         ensures kept { kept_of self.new ≡ kept_of self.old }
         ensures queues { queues_of self.new ≡ queues_of self.old }
@@ -371,8 +380,8 @@ impl Shard {
         let submission = submission.try_clone()?;
         let content = copy_content(content)?;
         match self.topics.get_mut(key) {
-            Some(topic) => topic.store(self.alloc, submission, content),
-            None => self.store_first(key, submission, content),
+            Some(topic) => topic.store(self.alloc, submission, content, made),
+            None => self.store_first(key, submission, content, made),
         }
     }
 
@@ -382,21 +391,22 @@ impl Shard {
         key: &Key,
         submission: Submission,
         content: Option<Content>,
-    ) -> Result<(), Code>
+        made: Option<Json>,
+    ) -> Result<(), AllocError>
         requires nothing { no_topic ≡ topics_of self.old (plain_key key.now) }
-        requires settles { Settles [] submission content }
+        requires settles { Settles [] submission content (option_map view made) }
         ensures logs { OnOk result
             (logs_of self.new ≡ with_log (logs_of self.old) (plain_key key.now) (decide [] submission).log) }
         ensures reply { OnOk result ((decide [] submission).reply ≡ stored 0 (missed [] submission)) }
-        ensures err { IfErr result (RefusedAs (decide [] submission).reply) }
         ensures same { OnErr result (logs_of self.new ≡ logs_of self.old) }
         ensures kept { kept_of self.new ≡ kept_of self.old }
         ensures queues { queues_of self.new ≡ queues_of self.old }
         ensures rings { Notes (logs_of self.old) (logs_of self.new) (ringed_of self.old) (ringed_of self.new) }
     {
         let mut topic = Topic::new(self.alloc);
-        topic.store(self.alloc, submission, content)?;
-        Ok(self.keep(key, topic)?)
+        topic.store(self.alloc, submission, content, made)?;
+        self.keep(key, topic)?;
+        Ok(())
     }
 
     // Keeps the topic of a key.

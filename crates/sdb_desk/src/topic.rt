@@ -9,7 +9,7 @@ ghost use Rattle.sdb_oplog.specs.Snap.{document, snap};
 ghost use Rattle.sdb_oplog.specs.declared.codes.Code.TheVariants.{E10};
 ghost use Rattle.sdb_subscribe.specs.Queue.{opened, queue_at, taken_by, after_take_by, without_by, is_owned};
 ghost use Rattle.sdb_subscribe.specs.Ring.{bare, FitLog, AreNoted, after_take_ringed_by, without_ringed_by};
-ghost use Rattle.sdb_desk.specs.Documents.{no_document, Settles, RefusedAs};
+ghost use Rattle.sdb_desk.specs.Documents.{no_document, Settles};
 ghost use Rattle.sdb_desk.specs.Machine.{is_filled};
 ghost use Rattle.sdb_desk.specs.Read.{Leaves};
 ghost use Rattle.sdb_desk.specs.Rings.{IsNotedIn, opened_ringed};
@@ -78,18 +78,18 @@ impl Topic {
         &self.queues
     }
 
-    // Stores what a submission has become, unless the document refuses it, and tells the rings.
+    // Stores what a submission has become, with the document that it makes, and tells the rings.
     pub(crate) fn store(
         &mut self,
         alloc: Global,
         submission: Submission,
         content: Option<Content>,
-    ) -> Result<(), Code>
-        requires { Settles self.old.document.log submission content }
+        made: Option<Json>,
+    ) -> Result<(), AllocError>
+        requires { Settles self.old.document.log submission content (option_map view made) }
         ensures log { OnOk result (self.new.document.log ≡ (decide self.old.document.log submission).log) }
         ensures reply { OnOk result ((decide self.old.document.log submission).reply ≡
             stored (length self.old.document.log) (missed self.old.document.log submission)) }
-        ensures err { IfErr result (RefusedAs (decide self.old.document.log submission).reply) }
         ensures same { OnErr result (self.new.document.log ≡ self.old.document.log) }
         ensures kept { self.new.document.kept ≡ self.old.document.kept }
         ensures queues { bare self.new.queues ≡ bare self.old.queues }
@@ -97,7 +97,7 @@ impl Topic {
             self.old.queues.queues self.new.queues.queues }
     {
         let version = version_of(&self.document);
-        store_in(&mut self.document, alloc, submission, content)?;
+        store_in(&mut self.document, alloc, submission, content, made)?;
         note(&mut self.queues, &self.document, version);
         Ok(())
     }
@@ -208,26 +208,26 @@ fn version_of(document: &Option<Box<Document>>) -> u64
     }
 }
 
-// Stores what a submission has become, the first of its key where there is no document.
+// Stores what a submission has become, with the document that it makes, the first of its key where there is none.
 fn store_in(
     document: &mut Option<Box<Document>>,
     alloc: Global,
     submission: Submission,
     content: Option<Content>,
-) -> Result<(), Code>
-    requires { Settles (document_in document.old).log submission content }
+    made: Option<Json>,
+) -> Result<(), AllocError>
+    requires { Settles (document_in document.old).log submission content (option_map view made) }
     ensures log { OnOk result
         ((document_in document.new).log ≡ (decide (document_in document.old).log submission).log) }
     ensures reply { OnOk result ((decide (document_in document.old).log submission).reply ≡
         stored (length (document_in document.old).log) (missed (document_in document.old).log submission)) }
-    ensures err { IfErr result (RefusedAs (decide (document_in document.old).log submission).reply) }
     ensures same { OnErr result ((document_in document.new).log ≡ (document_in document.old).log) }
     ensures kept { (document_in document.new).kept ≡ (document_in document.old).kept }
 {
     match document {
-        Some(document) => document.store(alloc, submission, content),
+        Some(document) => document.store(alloc, submission, content, made),
         None => {
-            let first = Document::first(alloc, submission, content)?;
+            let first = Document::first(alloc, submission, content, made)?;
             *document = Some(boxed(alloc, first)?);
             Ok(())
         }

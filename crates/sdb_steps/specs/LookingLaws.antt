@@ -1,20 +1,14 @@
 -- What is said of looks has one proof.
-use Rattle.std.specs.Prelude.{◌≡◌, ℕ, List, Option, Some, None, slice_get, refl}
-use Rattle.std.specs.Coded.{Coded, Coded-set, code_by, coded×, coded_ℕ, coded_option, Π_prop, Unit-prop, le_prop}
-use Rattle.sdb_oplog.specs.Coding.{log_code}
+use Rattle.std.specs.Prelude.{◌≡◌, ℕ, List, Option, Some, None, slice_get}
+use Rattle.std.specs.Coded.{Coded-set, Π_prop, Unit-prop, le_prop}
 use Rattle.sdb_oplog.specs.Keys.{Logs, plain_key}
 use Rattle.sdb_oplog.specs.Plain.{PlainEntry}
+use Rattle.sdb_desk.specs.Coding.{look_code}
 use Rattle.sdb_desk.specs.Looked.{IsLook}
-use Rattle.sdb_desk.specs.Machine.{PlainAttempt, PlainLook}
+use Rattle.sdb_desk.specs.Machine.{PlainAttempt}
 use Rattle.sdb_steps.specs.Looking.{attempt_in, IsLooked, IsLookedIn, AllLooked}
 use Rattle.sdb_steps.specs.declared.session_state.OpenAttempt.{OpenAttempt}
 use Rattle.sdb_steps.specs.declared.session_state.Session.{Session}
-
-look_code : Coded PlainLook
-look_code =
-    code_by ((ℕ × Option ℕ) × List PlainEntry) (coded× (coded× coded_ℕ (coded_option coded_ℕ)) log_code)
-    (λ l. ((l.version, l.repeat), l.missed))
-    (λ p. record { version = p.0.0; repeat = p.0.1; missed = p.1 }) (λ _. refl)
 
 IsLook-prop : (log : List PlainEntry) (a : PlainAttempt) → IsProp (IsLook log a)
 IsLook-prop log a x y = λ i. record {

@@ -1,7 +1,8 @@
 //! The work on an attempt: its content, carried along the entries that it missed.
 ghost use Rattle.std.specs.Prelude.{◌≡◌, ◌≤◌, true, IfOk, IfErr, OnErr, IfSome, IsTrue, IsFalse, length, take, drop};
-ghost use Rattle.sdb_oplog.specs.Over.{over_all, carrying_takes_memory};
+ghost use Rattle.sdb_oplog.specs.Over.{over_all};
 ghost use Rattle.sdb_oplog.specs.Refused.{result_then};
+ghost use Rattle.sdb_desk.specs.Machine.{working_takes_memory};
 ghost use Rattle.sdb_desk.specs.View.{content_of, plain_attempt, plain_look};
 
 use sdb_desk::{Attempt, Look, Work, WorkedContent};
@@ -9,12 +10,11 @@ use sdb_oplog::{Code, Content, Entry, Submission, over_all, same_entries};
 use std::alloc::Global;
 
 /// Works an attempt: it takes no lock and waits for nobody. The attempt is handed back, as it was, for
-/// want of memory alone, where an edit was to be carried over an edit.
+/// want of memory alone, where an edit was to be carried over an edit, or a document to be changed.
 pub fn work(alloc: Global, attempt: Attempt) -> Result<Work, Attempt>
     ensures ok { IfOk result (λ w. w ≡ plain_attempt attempt) }
     ensures err { IfErr result (λ a. plain_attempt a ≡ plain_attempt attempt) }
-    ensures memory { OnErr result
-        (carrying_takes_memory attempt.submission.content attempt.look.missed.items ≡ true) }
+    ensures memory { OnErr result (working_takes_memory (plain_attempt attempt) ≡ true) }
 {
     Work::of(alloc, attempt)
 }
@@ -41,8 +41,8 @@ pub(crate) fn next_work(
 }
 
 /// Works a submission on by a fresh look. Only the entries behind those that were missed already are
-/// transformed; where these aren't the first of the fresh look, or the submission has no version, it
-/// starts afresh. For want of memory alone the attempt comes back, by the fresh look; what was worked
+/// transformed, and what comes of it is applied to the document of the fresh look; where these aren't the
+/// first of the fresh look, or the submission has no version, it starts afresh. For want of memory alone the attempt comes back, by the fresh look; what was worked
 /// before is gone then.
 pub fn work_on(alloc: Global, last: Work, look: Look) -> Result<Work, Attempt>
     ensures ok { IfOk result (λ w. w ≡ record { submission = last.submission; look = plain_look look }) }
@@ -61,7 +61,7 @@ pub fn work_on(alloc: Global, last: Work, look: Look) -> Result<Work, Attempt>
     }
     let fresh = behind(attempt.look.missed.as_slice(), known);
     match carried_on(alloc, attempt.submission.content(), worked, fresh) {
-        Some(worked) => Ok(Work::from_parts(attempt, worked)),
+        Some(worked) => Work::from_content(alloc, attempt, worked),
         None => Err(attempt),
     }
 }

@@ -171,14 +171,14 @@ fn moved(outcome: &Outcome) -> Option<(u64, usize)> {
 fn a_look_shows_what_is_missed(rt: HostRuntime) {
     let look = Board::new(&rt, rt.alloc()).look(&rt, "x", 0);
     assert!(rt; look.version == 1 && look.missed.len() == 1);
-    assert!(rt; look.repeat.is_none());
+    assert!(rt; look.repeat.is_none() && number(look.snapshot.as_ref()) == Some(0));
 }
 
 #[test]
 fn a_look_shows_a_repeat(rt: HostRuntime) {
     let look = Board::new(&rt, rt.alloc()).look(&rt, "w", 7);
     assert!(rt; look.version == 1 && look.missed.is_empty());
-    assert!(rt; look.repeat == Some(0));
+    assert!(rt; look.repeat == Some(0) && look.snapshot.is_none());
 }
 
 #[test]
@@ -197,7 +197,7 @@ fn deleting(rt: &impl Abort, board: &Board) -> Work
     let submission = submission(rt, alloc, "x", 1, Some(1), Content::delete(), 0);
     let attempt = board.attempt(rt, submission);
     assert!(rt; attempt.look.missed.is_empty());
-    Work::new(attempt, Ok(Content::delete()))
+    Work::new(attempt, Ok(Content::delete()), Ok(None))
 }
 
 #[test]
