@@ -29,7 +29,7 @@ Outcome grows (Err Memory) o d e = (grows ≡ true) × (e ≡ d)
 abbrev pub needs : Bool → Bool → Bool
 needs takes own = if own then takes else true
 
--- one component takes memory where its act does; of several, the place that they share is copied
+-- one component takes memory where its act does; of several, the place that they share is made shared
 abbrev pub whole_takes_memory : List PlainComponent → Bool
 whole_takes_memory [] = false
 whole_takes_memory (c ∷ []) = takes_memory c.act

@@ -1,5 +1,5 @@
 //! Components and operations, applied.
-ghost use Rattle.std.specs.Prelude.{◌≡◌, ◌+◌, ◌<◌, take, length, true, OnOk, OnErr, IfErr, IsErrOf, Some, None};
+ghost use Rattle.std.specs.Prelude.{◌≡◌, ◌+◌, ◌<◌, take, length, true, OnOk, OnErr, IfErr, IsErrOf, Some, None, ⊤};
 ghost use Rattle.sdb_value.specs.Owns.{is_own};
 ghost use Rattle.sdb_value.specs.View.{view, plain_path};
 ghost use Rattle.sdb_component.specs.View.{plain_act};
@@ -119,6 +119,8 @@ impl Change for Turn<'_> {
     type Output = Result<(), ApplyFault>;
 
     ghost makes = { λ t d e r. Outcome true r (effect (plain_act t.act.now) d) d e };
+
+    ghost keeps_own = { λ t. ⊤ };
 
     ghost answers_own = { λ t r. IsErrOf r Memory → takes_memory (plain_act t.act.now) ≡ true };
 

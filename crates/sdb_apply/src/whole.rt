@@ -15,14 +15,16 @@ use std::alloc::Global;
 /// Applies the components one after the other, in place, each to what the one before it made, as
 /// [`apply`](crate::apply) does; where one of them is refused the value is as it was.
 ///
-/// One component copies nothing. Of several, the value at the longest path that all of them share is
-/// copied, and put back where one is refused: the rest of the value is not touched.
+/// One component copies nothing. Of several, the value at the longest path that all of them share is made
+/// shared, at the cost of what in it isn't shared yet, and a pointer to it is put back where one is refused:
+/// so the parts of it on the ways of the components are copied, and nothing else. A value that is its own stays
+/// so under one component, and need not under several.
 pub fn apply_whole(alloc: Global, value: &mut Json, op: &Op) -> Result<(), ApplyFault>
     ensures done { OnOk result (applies op.now (view value.old) ≡ Some (view value.new)) }
     ensures refused { IsErrOf result NotApplied → applies op.now (view value.old) ≡ None }
     ensures memory { IsErrOf result Memory → needs (whole_takes_memory op.now) (is_own value.old) ≡ true }
     ensures unchanged { OnErr result (view value.new ≡ view value.old) }
-    ensures own { is_own value.old ≡ true → is_own value.new ≡ true }
+    ensures own { length op.now ≤ 1 → is_own value.old ≡ true → is_own value.new ≡ true }
 {
     match op.components() {
         [] => Ok(()),
@@ -38,8 +40,7 @@ fn apply_several(
     first: &Component,
 ) -> Result<(), ApplyFault>
     requires { take 1 components.now ≡ first.now ∷ [] }
-    ensures outcome { Outcome true result (applies components.now (view value.old)) (view value.old) (view value.new) }
-    ensures own { is_own value.old ≡ true → is_own value.new ≡ true }
+    ensures { Outcome true result (applies components.now (view value.old)) (view value.old) (view value.new) }
 {
     let path = shared_path(first.path(), components);
     let turn = Turns {
@@ -105,10 +106,13 @@ impl Change for Turns<'_> {
 
     ghost makes = { λ t d e r. Outcome true r (applies (below t.depth t.components.now) d) d e };
 
+    ghost keeps_own = { λ t. ⊥ };
+
     ghost answers_own = { λ t r. ⊤ };
 
     fn change(self, place: &mut Json) -> Result<(), ApplyFault> {
-        let kept = place.try_clone(self.alloc)?;
+        place.share(self.alloc)?;
+        let kept = place.shared_copy(self.alloc)?;
         match apply_below(self.alloc, place, self.components, self.depth) {
             Ok(()) => Ok(()),
             Err(fault) => {
@@ -128,7 +132,6 @@ fn apply_below(
 ) -> Result<(), ApplyFault>
     ensures done { OnOk result (applies (below depth components.now) (view value.old) ≡ Some (view value.new)) }
     ensures refused { IsErrOf result NotApplied → applies (below depth components.now) (view value.old) ≡ None }
-    ensures own { is_own value.old ≡ true → is_own value.new ≡ true }
 {
     for component in components {
         match apply_at(

@@ -1,7 +1,6 @@
-//! `sdb_apply`: components and operations applied. That a refused edit changes nothing is in the lines of the
-//! server.
+//! `sdb_apply`: components and operations applied, one after the other and whole.
 use crate::texts::{component, each_row, is_shown, is_value, json, json_of, op_of, parsed, says};
-use sdb_apply::{ApplyFault, Refused, apply, apply_one};
+use sdb_apply::{ApplyFault, Refused, apply, apply_one, apply_whole};
 use sdb_component::Component;
 use serde_json::Value;
 use std::alloc::Global;
@@ -83,6 +82,42 @@ fn holds(rt: &impl Abort, alloc: Global, row: &[Value]) -> bool {
 #[test]
 fn operations_are_applied_or_refused(rt: HostRuntime) {
     assert!(rt; each_row(&rt, rt.alloc(), STEPS, holds) == 48);
+}
+
+// Rows of a value, an operation, whether it is applied whole, and the value afterwards.
+const WHOLE: &str = r#"[
+  [5, [], true, 5],
+  [[1], [{"p":[0],"na":1}], true, [2]],
+  [[1], [{"p":[1],"na":1}], false, [1]],
+  [{"b":[["x"],[]]}, [{"p":["b",0,0],"ld":"x"},{"p":["b",1,0],"li":"x"}], true, {"b":[[],["x"]]}],
+  [{"b":[["x"],[]]}, [{"p":["b",0,0],"ld":"x"},{"p":["b",1,1],"li":"x"}], false, {"b":[["x"],[]]}],
+  [{"b":[["x"],[]]}, [{"p":["b",0,0],"ld":"x"},{"p":["b",2,0],"li":"x"}], false, {"b":[["x"],[]]}],
+  [{"a":1,"t":"ab"}, [{"p":["a"],"na":1},{"p":["t",1],"sd":"x"}], false, {"a":1,"t":"ab"}],
+  [{"t":"ab"}, [{"p":["t",0],"sd":"a"},{"p":["t",0],"sd":"b"},{"p":["t",0],"sd":"b"}], false, {"t":"ab"}]
+]"#;
+
+// Whether the operation is applied whole or not at all, twice: the second time on a value that is shared
+// with a copy, which stays as it is.
+fn holds_whole(rt: &impl Abort, alloc: Global, row: &[Value]) -> bool {
+    let [before, steps, done, after] = row else {
+        return false;
+    };
+    let op = op_of(rt, alloc, steps);
+    let mut value = json_of(rt, alloc, before);
+    let first = apply_whole(alloc, &mut value, &op).is_ok();
+    let made = is_value(rt, alloc, &value, after);
+    let mut shared = json_of(rt, alloc, before);
+    shared.share(alloc).expect(rt, "out of memory");
+    let copy = shared.shared_copy(alloc).expect(rt, "out of memory");
+    let second = apply_whole(alloc, &mut shared, &op).is_ok();
+    let kept = is_value(rt, alloc, &copy, before);
+    let same = is_value(rt, alloc, &shared, after);
+    made && kept && same && Some(first) == done.as_bool() && first == second
+}
+
+#[test]
+fn operations_are_applied_whole_or_not_at_all(rt: HostRuntime) {
+    assert!(rt; each_row(&rt, rt.alloc(), WHOLE, holds_whole) == 8);
 }
 
 // The one component that the text names.

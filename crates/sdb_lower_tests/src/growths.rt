@@ -1,7 +1,7 @@
 //! Calls that find no memory: what they leave, and the same call with memory. Run as they stand, these
 //! tests find memory at once; `tests/growths.py` refuses each allocation of each in turn.
 use crate::texts::{is_printed, is_shown, json, op};
-use sdb_apply::{ApplyFault, apply};
+use sdb_apply::{ApplyFault, apply, apply_whole};
 use sdb_component::Op;
 use sdb_transform::{Crossed, Fault, cross};
 use std::alloc::Global;
@@ -44,6 +44,22 @@ fn applied(rt: &impl Abort, alloc: Global, op: &Op) -> usize {
 fn an_apply(rt: HostRuntime) {
     let op = op(&rt, rt.alloc(), OPERATION);
     assert!(rt; applied(&rt, rt.alloc(), &op) == 3 || applied(&rt, rt.alloc(), &op) == 3);
+}
+
+// The whole operation is applied, where there was no memory after that left the value as it was.
+#[test]
+fn an_apply_whole(rt: HostRuntime) {
+    let op = op(&rt, rt.alloc(), OPERATION);
+    let mut value = json(&rt, rt.alloc(), VALUES[0]);
+    mark(&rt, rt.alloc());
+    let outcome = apply_whole(rt.alloc(), &mut value, &op);
+    mark(&rt, rt.alloc());
+    if let Err(fault) = outcome {
+        assert!(rt; fault == ApplyFault::Memory);
+        assert!(rt; is_shown(&rt, rt.alloc(), &value, VALUES[0]));
+        assert!(rt; apply_whole(rt.alloc(), &mut value, &op).is_ok());
+    }
+    assert!(rt; is_shown(&rt, rt.alloc(), &value, VALUES[3]));
 }
 
 // Carries them past one another, once more where there was no memory.

@@ -291,6 +291,8 @@ impl Change for Replace<'_> {
 
     ghost makes = { λ r _ e o. OnOk o (e ≡ view r.new.now) };
 
+    ghost keeps_own = { λ _. ⊤ };
+
     ghost answers_own = { λ _ _. ⊤ };
 
     fn change(self, place: &mut Json) -> Result<u64, AllocError> {

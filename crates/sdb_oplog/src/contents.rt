@@ -101,9 +101,9 @@ impl Content {
     /// document is E6, an edit of none E7, one that has no effect E8, want of memory E10. The document
     /// is then as it was.
     ///
-    /// An edit copies no more of the document than the value at the longest path that all of its
-    /// components share, and nothing where it has one component; beside that, what is shared with copies of
-    /// the document on its way.
+    /// An edit of one component copies nothing but what is shared with copies of the document on its way. One
+    /// of several also makes the value at the longest path that they share shared, as far as it isn't yet, and
+    /// copies its parts on their ways.
     pub fn apply_to(&self, alloc: Global, document: &mut Option<Json>) -> Result<(), Code>
         ensures ok { OnOk result (becomes self.now (option_map view document.old) ≡ Ok (option_map view document.new)) }
         ensures err { IfErr result (λ code. RefusedBy (becomes self.now (option_map view document.old)) code) }

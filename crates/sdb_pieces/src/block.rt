@@ -95,6 +95,30 @@ impl<T: Drop> Block<T> {
             Block::Shared(items) => Ok(Block::Shared(items)),
         }
     }
+
+    /// Makes the items shared in place, so that the next copy of them is a pointer: they are moved, and memory
+    /// is taken for the pointer alone, where they had one owner.
+    pub fn share_in_place(&mut self, alloc: Global) -> Result<(), AllocError>
+        ensures same { items_of self.new ≡ items_of self.old }
+        ensures shared { OnOk result (is_shared self.new ≡ true) }
+    {
+        match replace(self, Block::Own(Vec::new(alloc))) {
+            Block::Own(items) => match Arc::new(alloc, items) {
+                Ok(shared) => {
+                    *self = Block::Shared(shared);
+                    Ok(())
+                }
+                Err(refused) => {
+                    *self = Block::Own(refused.value);
+                    Err(AllocError)
+                }
+            },
+            Block::Shared(shared) => {
+                *self = Block::Shared(shared);
+                Ok(())
+            }
+        }
+    }
 }
 
 impl<T> Block<T> {

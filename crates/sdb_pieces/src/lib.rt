@@ -10,5 +10,5 @@ mod shareable;
 
 pub use block::{Block, Share};
 pub use iter::Iter;
-pub use pieces::Pieces;
+pub use pieces::{Form, Pieces};
 pub use shareable::Shareable;

@@ -39,6 +39,31 @@ impl<T> Pieces<T> {
         }
     }
 
+    /// The list of the items that stand here.
+    pub fn from_form(form: Form<T>) -> Pieces<T>
+        ensures { result.form ≡ form }
+    {
+        Pieces { form }
+    }
+
+    /// Where its items stand.
+    pub fn into_form(self) -> Form<T>
+        ensures { result ≡ self.form }
+    {
+        let Pieces { form } = self;
+        form
+    }
+
+    /// Whether a copy of it is a pointer.
+    pub fn is_shared(&self) -> bool
+        ensures { result ≡ is_shared_list self.now }
+    {
+        match &self.form {
+            Form::One(block) => !block.is_own(),
+            Form::Many(blocks) => !blocks.is_own(),
+        }
+    }
+
     /// In how many blocks the items stand, from 0 on.
     pub fn part_count(&self) -> usize
         ensures { result ≡ length (blocks_in self.now) }

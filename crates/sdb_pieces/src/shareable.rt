@@ -25,6 +25,16 @@ impl<T> Shareable<T> {
         }
     }
 
+    /// Whether a copy of it is a pointer.
+    pub fn is_shared(&self) -> bool
+        ensures { result ≡ is_shared self.now }
+    {
+        match self {
+            Shareable::Own(_) => false,
+            Shareable::Shared(_) => true,
+        }
+    }
+
     /// The same value again, as a pointer to it, where it is shared; `None` where it has one owner. Fails
     /// only where no more pointers can be counted.
     pub fn share_pointer(&self) -> Result<Option<Shareable<T>>, AllocError>

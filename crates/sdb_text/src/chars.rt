@@ -130,6 +130,40 @@ impl Chars {
         }
     }
 
+    /// Makes the bytes shared in place: they are moved, and memory is taken for the pointer alone, where they had
+    /// one owner.
+    pub(crate) fn share_in_place(&mut self, alloc: Global) -> Result<(), AllocError>
+        ensures same { chars_bytes self.new ≡ chars_bytes self.old }
+        ensures shared { OnOk result (chars_shared self.new ≡ true) }
+    {
+        match replace(self, Chars::Own(String::new(alloc))) {
+            Chars::Own(text) => match Arc::new(alloc, text) {
+                Ok(shared) => {
+                    *self = Chars::Shared(shared);
+                    Ok(())
+                }
+                Err(refused) => {
+                    *self = Chars::Own(refused.value);
+                    Err(AllocError)
+                }
+            },
+            Chars::Shared(shared) => {
+                *self = Chars::Shared(shared);
+                Ok(())
+            }
+        }
+    }
+
+    /// Whether a copy of the bytes is a pointer.
+    pub(crate) fn is_shared(&self) -> bool
+        ensures { result ≡ chars_shared self.now }
+    {
+        match self {
+            Chars::Own(_) => false,
+            Chars::Shared(_) => true,
+        }
+    }
+
     /// The allocator of the bytes.
     pub(crate) fn allocator(&self) -> Global {
         match self {

@@ -1,5 +1,5 @@
 //! Edits of a text of many pieces.
-ghost use Rattle.std.specs.Prelude.{◌≡◌, true, false, IfOk, OnErr};
+ghost use Rattle.std.specs.Prelude.{◌≡◌, true, false, IfOk, OnOk, OnErr};
 ghost use Rattle.std.specs.List.{concat};
 ghost use Rattle.sdb_pieces.specs.Block.{is_shared};
 ghost use Rattle.sdb_text.specs.Blocks.{block_texts, block_own};
@@ -90,4 +90,31 @@ fn shared_parts(alloc: Global, parts: &[Part]) -> Result<Vec<Part>, AllocError>
         copies.push(part.shared_copy(alloc)?)?;
     }
     Ok(copies)
+}
+
+/// Makes the pieces shared in place, and the list of them. What is shared already is left as it is.
+pub(crate) fn share_many(alloc: Global, block: &mut Block<Part>) -> Result<(), AllocError>
+    ensures same { block_texts block.new ≡ block_texts block.old }
+    ensures shared { OnOk result (is_shared block.new ≡ true) }
+{
+    share_within(alloc, block)?;
+    block.share_in_place(alloc)
+}
+
+fn share_within(alloc: Global, block: &mut Block<Part>) -> Result<(), AllocError>
+    ensures { block_texts block.new ≡ block_texts block.old }
+{
+    match block {
+        Block::Own(parts) => share_parts(alloc, parts),
+        Block::Shared(_) => Ok(()),
+    }
+}
+
+fn share_parts(alloc: Global, parts: &mut Vec<Part>) -> Result<(), AllocError>
+    ensures { texts_of parts.new.items ≡ texts_of parts.old.items }
+{
+    for at in 0..parts.len() {
+        parts[at].share_in_place(alloc)?;
+    }
+    Ok(())
 }

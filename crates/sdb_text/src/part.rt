@@ -90,6 +90,14 @@ impl Part {
             chars: self.chars.shared_copy(alloc)?,
         })
     }
+
+    /// Makes the bytes shared in place.
+    pub(crate) fn share_in_place(&mut self, alloc: Global) -> Result<(), AllocError>
+        ensures { part_bytes self.new ≡ part_bytes self.old }
+    {
+        let done = self.chars.share_in_place(alloc);
+        done
+    }
 }
 
 impl Share for Part {

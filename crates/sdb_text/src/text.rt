@@ -1,13 +1,13 @@
 //! A text in pieces.
 ghost use Rattle.std.specs.Prelude.{◌≡◌, ◌<◌, true, false, length, min, string_bytes, slice_get, option_map};
-ghost use Rattle.std.specs.Prelude.{IfOk, OnErr, IfSome, IsTrue, IsFalse};
+ghost use Rattle.std.specs.Prelude.{IfOk, OnOk, OnErr, IfSome, IsTrue, IsFalse};
 ghost use Rattle.sdb_text.specs.Edits.{Edits};
 ghost use Rattle.sdb_text.specs.Held.{bytes_in, parts_in, is_own, is_shared, HasShortParts};
 ghost use Rattle.sdb_text.specs.Text as texts;
 
 use crate::change::{MAX, bytes_up_to, joined, pieces, pieces_with};
 use crate::chars::Chars;
-use crate::many::{insert_many, remove_many, shared_many};
+use crate::many::{insert_many, remove_many, share_many, shared_many};
 use crate::part::Part;
 use crate::same::{is_whole, same_parts};
 use crate::units::cut_at;
@@ -218,6 +218,28 @@ impl Text {
                     form: Form::Many(copy),
                 })
             }
+        }
+    }
+
+    /// Makes all of it shared in place, so that a copy of it is a pointer. Each piece that isn't shared yet is
+    /// moved, and takes memory for a pointer alone. After want of memory the text is the same.
+    pub fn share_in_place(&mut self, alloc: Global) -> Result<(), AllocError>
+        ensures parts { parts_in self.new ≡ parts_in self.old }
+        ensures shared { OnOk result (is_shared self.new ≡ true) }
+    {
+        match &mut self.form {
+            Form::One(chars) => chars.share_in_place(alloc),
+            Form::Many(parts) => share_many(alloc, parts),
+        }
+    }
+
+    /// Whether a copy of it is a pointer.
+    pub fn is_shared(&self) -> bool
+        ensures { result ≡ is_shared self.now }
+    {
+        match &self.form {
+            Form::One(chars) => chars.is_shared(),
+            Form::Many(parts) => !parts.is_own(),
         }
     }
 }

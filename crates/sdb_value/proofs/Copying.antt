@@ -207,7 +207,7 @@ made_view l new bs e h = ap (λ b. items_view (flat_map block_items b)) e ∙ h
 
 -- ---- one more block, one more item
 
-join_view : (xs ys : List Json) → items_view (xs ++ ys) ≡ join (items_view xs) (items_view ys)
+pub join_view : (xs ys : List Json) → items_view (xs ++ ys) ≡ join (items_view xs) (items_view ys)
 join_view [] ys = refl
 join_view (x ∷ xs) ys = ap (item (view x)) (join_view xs ys)
 

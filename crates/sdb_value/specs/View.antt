@@ -2,8 +2,11 @@
 use Rattle.std.specs.Prelude.{List, [], ◌∷◌, map, String, string_bytes}
 use Rattle.std.specs.declared.collections.BTreeMap.{BTreeMap}
 use Rattle.std.specs.declared.alloc.Global.{Global}
-use Rattle.sdb_pieces.specs.Pieces.{seen_in, items_in}
+use Rattle.std.specs.List.{flat_map}
+use Rattle.sdb_pieces.specs.Block.{items_of as block_items}
+use Rattle.sdb_pieces.specs.Pieces.{seen_in, blocks_form, items_in}
 use Rattle.sdb_pieces.specs.Shareable.{inside}
+use Rattle.sdb_pieces.specs.declared.pieces.Form.{Form}
 use Rattle.sdb_pieces.specs.declared.pieces.Pieces.{Pieces}
 use Rattle.sdb_pieces.specs.declared.shareable.Shareable.{Shareable}
 use Rattle.sdb_text.specs.Held.{bytes_in}
@@ -42,6 +45,9 @@ members_view ms = members_of (map (λ m. (m.0, view m.1)) ms)
 -- of a list in pieces, and of an object's members
 abbrev pub list_view : Pieces Json → Items
 list_view l = items_view (items_in l)
+
+abbrev pub form_view : Form Json → Items
+form_view w = items_view (flat_map block_items (blocks_form w))
 
 abbrev pub object_view : Shareable (BTreeMap (String Global) Json Global) → Members
 object_view m = members_view (inside m).entries

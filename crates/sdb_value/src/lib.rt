@@ -12,6 +12,7 @@ mod members;
 mod numbers;
 mod places;
 mod print;
+mod share;
 mod value;
 mod writing;
 

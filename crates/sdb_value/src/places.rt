@@ -93,7 +93,7 @@ fn item_mut(items: &mut List, number: u64) -> Option<&mut Json>
     items.get_mut(number as usize)
 }
 
-/// What is done to the value at a place. It leaves what is its owner's own so.
+/// What is done to the value at a place.
 pub trait Change {
     /// What the change answers.
     type Output;
@@ -101,13 +101,16 @@ pub trait Change {
     // `makes self before after output`: from the value before, the change leaves the one after.
     ghost makes: { Self → Value → Value → Self.Output → Type 0 };
 
+    // that it leaves what is its owner's own so
+    ghost keeps_own: { Self → Type 0 };
+
     // what holds of the output where the value before was its owner's own
     ghost answers_own: { Self → Self.Output → Type 0 };
 
     /// Changes the value in place.
     fn change(self, place: &mut Json) -> Self::Output
         ensures made { makes self (view place.old) (view place.new) result }
-        ensures own { is_own place.old ≡ true → is_own place.new ≡ true }
+        ensures own { keeps_own self → is_own place.old ≡ true → is_own place.new ≡ true }
         ensures answer { is_own place.old ≡ true → answers_own self result };
 }
 
@@ -128,7 +131,7 @@ pub fn change_at<C: Change + Drop>(
         (λ r. ChangedAt (λ u v. C.Change.makes change u v r)
         (view value.old) (plain_path path.now) (view value.new))) }
     ensures err { OnErr result (view value.new ≡ view value.old) }
-    ensures own { is_own value.old ≡ true → is_own value.new ≡ true }
+    ensures own { C.Change.keeps_own change → is_own value.old ≡ true → is_own value.new ≡ true }
     ensures shared { OnErr result (is_own value.old ≡ false) }
     ensures answer { is_own value.old ≡ true
         → IfOk result (λ o. IfSome o (λ r. C.Change.answers_own change r)) }
@@ -163,7 +166,7 @@ fn change_item<C: Change + Drop>(
         (λ r. ChangedAt (λ u v. C.Change.makes change u v r)
         (list (list_view items.old)) (index number ∷ plain_path rest.now) (list (list_view items.new)))) }
     ensures err { OnErr result (list_view items.new ≡ list_view items.old) }
-    ensures own { list_own items.old ≡ true → list_own items.new ≡ true }
+    ensures own { C.Change.keeps_own change → list_own items.old ≡ true → list_own items.new ≡ true }
     ensures shared { OnErr result (list_own items.old ≡ false) }
     ensures answer { list_own items.old ≡ true
         → IfOk result (λ o. IfSome o (λ r. C.Change.answers_own change r)) }
@@ -192,7 +195,7 @@ fn change_member<C: Change + Drop>(
         (object (object_view members.old)) (key name.now ∷ plain_path rest.now)
         (object (object_view members.new)))) }
     ensures err { OnErr result (object_view members.new ≡ object_view members.old) }
-    ensures own { object_own members.old ≡ true → object_own members.new ≡ true }
+    ensures own { C.Change.keeps_own change → object_own members.old ≡ true → object_own members.new ≡ true }
     ensures shared { OnErr result (object_own members.old ≡ false) }
     ensures answer { object_own members.old ≡ true
         → IfOk result (λ o. IfSome o (λ r. C.Change.answers_own change r)) }

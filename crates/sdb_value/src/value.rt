@@ -1,5 +1,5 @@
 //! What a document holds.
-ghost use Rattle.std.specs.Prelude.{◌≡◌, ◌+ℤ◌, IfOk, map, min, true};
+ghost use Rattle.std.specs.Prelude.{◌≡◌, ◌+ℤ◌, IfOk, OnOk, map, min, true};
 ghost use Rattle.sdb_value.specs.Owns.{all_true, is_own, is_pointer, members_own};
 ghost use Rattle.sdb_value.specs.Profile.{in_range};
 ghost use Rattle.sdb_value.specs.Size.{size};
@@ -9,6 +9,7 @@ ghost use Rattle.sdb_value.specs.View.{view, items_view, members_view};
 use crate::copy::{Manner, copy};
 use crate::measures::{depth_of, size_of};
 use crate::numbers::MAX;
+use crate::share::share;
 use sdb_pieces::{Pieces, Share, Shareable};
 use sdb_text::Text;
 use std::alloc::{AllocError, Global};
@@ -140,6 +141,18 @@ impl Json {
         ensures pointer { IfOk result (λ v. is_pointer v ≡ true) }
     {
         copy(alloc, self, Manner::Shared)
+    }
+
+    /// Makes all of it shared in place, so that a copy of it is a pointer. It costs a pointer for each text, list
+    /// and object in it that isn't shared yet, and for each of their pieces, which are moved; of an object that
+    /// isn't shared yet, it also looks at each member, and copies the keys of those that aren't, for as long as
+    /// it works. What is shared already isn't looked into. Fails only where memory is wanting; the value is the
+    /// same then.
+    pub fn share(&mut self, alloc: Global) -> Result<(), AllocError>
+        ensures value { view self.new ≡ view self.old }
+        ensures pointer { OnOk result (is_pointer self.new ≡ true) }
+    {
+        share(alloc, self)
     }
 
     /// How deep lists and objects nest: 0 for a value that is neither, and for a list or an object

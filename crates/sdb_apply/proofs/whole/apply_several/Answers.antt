@@ -11,8 +11,8 @@ use Rattle.sdb_apply.proofs.Outcomes.{at_some, at_none}
 use Rattle.sdb_apply.proofs.Under.{whole_at, none_nowhere}
 use Rattle.sdb_apply.proofs.whole.apply_several.Goals as goal
 
-pub returns-in-Some-clause-outcome : goal.returns-in-Some-clause-outcome
-returns-in-Some-clause-outcome c =
+pub returns-in-Some : goal.returns-in-Some
+returns-in-Some c =
     let path = c.shared_path-path.result.now in
     let old = view c.args.value.now in
     let new = view c.change_at.new.value in
@@ -20,8 +20,8 @@ returns-in-Some-clause-outcome c =
     whole_at c.in-Some.done c.args.components.now (length path) (view c.args.value.now) (view c.change_at.new.value) (plain_path path) (sym (length-map path plain_step)) c.shared_path-path.ensures.shared
     (at_some (NothingAt old (plain_path path) new) Changed c.in_ok-done.field-0 c.in-Some.done c.in-Some.is c.in_ok-done.ensures.done)
 
-pub returns-in-None-clause-outcome : goal.returns-in-None-clause-outcome
-returns-in-None-clause-outcome c =
+pub returns-in-None : goal.returns-in-None
+returns-in-None c =
     let path = c.shared_path-path.result.now in
     let old = view c.args.value.now in
     let new = view c.change_at.new.value in

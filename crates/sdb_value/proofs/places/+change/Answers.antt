@@ -27,8 +27,8 @@ change_at-returns-in-Some-list_mut-clause-err g t c =
     c.change_item.ensures.err
 
 pub change_at-returns-in-Some-list_mut-clause-own : goal.change_at-returns-in-Some-list_mut-clause-own
-change_at-returns-in-Some-list_mut-clause-own g t c own =
-    (known _ _ c.in-Some-list_mut.is (c.list_mut.follows.holds _)).1 ∙ c.change_item.ensures.own (c.in-Some-list_mut.ensures.own ∙ own)
+change_at-returns-in-Some-list_mut-clause-own g t c keeps own =
+    (known _ _ c.in-Some-list_mut.is (c.list_mut.follows.holds _)).1 ∙ c.change_item.ensures.own keeps (c.in-Some-list_mut.ensures.own ∙ own)
 
 -- ---- at a member
 
@@ -49,8 +49,8 @@ change_at-returns-in-Some-object_mut-clause-err g t c =
     c.change_member.ensures.err
 
 pub change_at-returns-in-Some-object_mut-clause-own : goal.change_at-returns-in-Some-object_mut-clause-own
-change_at-returns-in-Some-object_mut-clause-own g t c own =
-    (known _ _ c.in-Some-object_mut.is (c.object_mut.follows.holds _)).1 ∙ c.change_member.ensures.own (c.in-Some-object_mut.ensures.own ∙ own)
+change_at-returns-in-Some-object_mut-clause-own g t c keeps own =
+    (known _ _ c.in-Some-object_mut.is (c.object_mut.follows.holds _)).1 ∙ c.change_member.ensures.own keeps (c.in-Some-object_mut.ensures.own ∙ own)
 
 -- ---- an item, taken out and put back
 
@@ -99,10 +99,10 @@ change_member-returns-in-Some-member_mut-clause-err g t c =
     c.change_at.ensures.err
 
 pub change_member-returns-in-Some-member_mut-clause-own : goal.change_member-returns-in-Some-member_mut-clause-own
-change_member-returns-in-Some-member_mut-clause-own g t c own =
+change_member-returns-in-Some-member_mut-clause-own g t c keeps own =
     let before = c.in-Some.ensures.own ∙ c.own_members.ensures.kept own in
     (known _ _ c.in-Some.is (c.map_mut.follows.holds _)).1
-    ∙ (known _ _ c.in-Some-member_mut.is (c.member_mut.follows.holds _)).1 before (c.change_at.ensures.own (c.in-Some-member_mut.ensures.own before))
+    ∙ (known _ _ c.in-Some-member_mut.is (c.member_mut.follows.holds _)).1 before (c.change_at.ensures.own keeps (c.in-Some-member_mut.ensures.own before))
 
 pub change_member-returns-in-Some-member_mut-clause-shared : goal.change_member-returns-in-Some-member_mut-clause-shared
 change_member-returns-in-Some-member_mut-clause-shared g t c =
@@ -120,5 +120,5 @@ change_member-returns-in-None-clause-done g t c =
     ((known _ _ c.in-Some.is (c.map_mut.follows.holds _)).0 ∙ c.member_mut.follows.holds-at-none.0 ∙ is)
 
 pub change_member-returns-in-None-clause-own : goal.change_member-returns-in-None-clause-own
-change_member-returns-in-None-clause-own g t c own =
+change_member-returns-in-None-clause-own g t c keeps own =
     (known _ _ c.in-Some.is (c.map_mut.follows.holds _)).1 ∙ c.member_mut.follows.holds-at-none.1 ∙ c.in-Some.ensures.own ∙ c.own_members.ensures.kept own
