@@ -216,7 +216,10 @@ fn base_of(found: Option<(u64, Json)>) -> (u64, Option<Json>)
 }
 
 // A copy of a document, which may be none, all of it shared: the next copy of it is a pointer.
-pub(crate) fn shared_copy_of(alloc: Global, document: Option<&Json>) -> Result<Option<Json>, AllocError>
+pub(crate) fn shared_copy_of(
+    alloc: Global,
+    document: Option<&Json>,
+) -> Result<Option<Json>, AllocError>
     ensures copy { IfOk result (λ d. option_map view d ≡ option_map (λ v. view v.now) document.entry) }
     ensures pointer { IfOk result (λ d. IfSome d (λ v. is_pointer v ≡ true)) }
     ensures some { OnErr result (is_some document.entry ≡ true) }
@@ -246,10 +249,18 @@ fn share_value(alloc: Global, value: &mut Json) -> Result<Json, AllocError>
     ensures pointer { IfOk result (λ v. is_pointer v ≡ true) }
     ensures same { view value.new ≡ view value.old }
 {
-    let shared = value.shared_copy(alloc)?;
-    let copy = shared.shared_copy(alloc)?;
-    *value = shared;
-    Ok(copy)
+    value.share(alloc)?;
+    value.shared_copy(alloc)
+}
+
+// Makes a document, which may be none, shared: the next copy of it is a pointer.
+fn share_all(alloc: Global, document: &mut Option<Json>) -> Result<(), AllocError>
+    ensures { option_map view document.new ≡ option_map view document.old }
+{
+    match document {
+        Some(value) => value.share(alloc),
+        None => Ok(()),
+    }
 }
 
 // What a submission is answered whatever it asks, where it isn't to be carried: a repeat, a full log, a
@@ -293,7 +304,8 @@ pub(crate) fn made_of(
     }
     let mut made = shared_copy_of(alloc, document)?;
     content.apply_to(alloc, &mut made)?;
-    Ok(shared_copy_of(alloc, made.as_ref())?)
+    share_all(alloc, &mut made)?;
+    Ok(made)
 }
 
 // Refuses a create on a document, and an edit of none.

@@ -42,8 +42,8 @@ pub(crate) fn next_work(
 
 /// Works a submission on by a fresh look. Only the entries behind those that were missed already are
 /// transformed, and what comes of it is applied to the document of the fresh look; where these aren't the
-/// first of the fresh look, or the submission has no version, it starts afresh. For want of memory alone the attempt comes back, by the fresh look; what was worked
-/// before is gone then.
+/// first of the fresh look, or the submission has no version, it starts afresh. For want of memory alone the
+/// attempt comes back, by the fresh look; what was worked before is gone then.
 pub fn work_on(alloc: Global, last: Work, look: Look) -> Result<Work, Attempt>
     ensures ok { IfOk result (λ w. w ≡ record { submission = last.submission; look = plain_look look }) }
     ensures err { IfErr result
