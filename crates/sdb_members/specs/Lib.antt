@@ -1,0 +1,4 @@
+pub mod Key
+pub mod Keys
+pub mod Order
+pub mod Search

@@ -1,0 +1,9 @@
+//! Members of an object: keys in the order of their bytes, and a value for each, both in pieces.
+#![tactic(auto)]
+
+mod key;
+mod keys;
+mod search;
+
+pub use key::Key;
+pub use keys::Keys;
