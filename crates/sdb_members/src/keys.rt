@@ -39,14 +39,3 @@ impl Keys {
     }
 }
 
-// TEMP
-#[derive(Drop)]
-pub struct Two<V> {
-    keys: Keys,
-    values: Pieces<V>,
-}
-#[derive(Drop)]
-pub enum Tree {
-    Leaf(u8),
-    Node(Two<Tree>),
-}
