@@ -372,6 +372,13 @@ map_insert f [] (suc i) x = refl
 map_insert f (y ∷ xs) zero x = refl
 map_insert f (y ∷ xs) (suc i) x = ap (λ l. f y ∷ l) (map_insert f xs i x)
 
+-- what was put in is inside
+pub put_inside : {S : Type 0} (xs : List S) (i : ℕ) (x : S) → i ≤ length xs → i < length (insert xs i x)
+put_inside [] zero x h = omega arith
+put_inside [] (suc i) x h = absurd (omega (arith, h))
+put_inside (y ∷ xs) zero x h = omega arith
+put_inside (y ∷ xs) (suc i) x h = let w = put_inside xs i x (omega (arith, h)) in omega (arith, w)
+
 pub map_remove : {X S : Type 0} (f : X → S) (xs : List X) (i : ℕ) → map f (remove xs i) ≡ remove (map f xs) i
 map_remove f [] zero = refl
 map_remove f [] (suc i) = refl

@@ -212,13 +212,13 @@ impl<T: Share> Pieces<T> {
         }
     }
 
-    // Makes a list of blocks of one block that is full.
-    fn make_room(&mut self, alloc: Global) -> Result<(), AllocError>
+    // Makes a list of blocks of one block that has as many items as it may have.
+    fn make_room(&mut self, alloc: Global, most: usize) -> Result<(), AllocError>
         ensures same { seen_in T.seen self.new ≡ seen_in T.seen self.old }
         ensures own { is_own_list self.old ≡ true → is_own_list self.new ≡ true }
     {
         if let Form::One(block) = &mut self.form {
-            if block.len() >= MAX {
+            if block.len() >= most {
                 let blocks = one_block(alloc, block)?;
                 self.form = Form::Many(Block::Own(blocks));
             }
@@ -235,8 +235,27 @@ impl<T: Share> Pieces<T> {
         ensures within { IfOk result (λ done. done ≡ nat_le index (length (seen_in T.seen self.old))) }
         ensures err { OnErr result (seen_in T.seen self.new ≡ seen_in T.seen self.old) }
         ensures own { is_own_list self.old ≡ true → is_own_list self.new ≡ true }
+        ensures now_own { IfOk result (λ done. done ≡ true → is_own_at self.new index ≡ true) }
     {
-        self.make_room(alloc)?;
+        self.insert_within(alloc, index, item, MAX)
+    }
+
+    /// The same, and a block that has as many items as are given last, or more, is split first.
+    pub fn insert_within(
+        &mut self,
+        alloc: Global,
+        index: usize,
+        item: T,
+        most: usize,
+    ) -> Result<bool, AllocError>
+        ensures ok { IfOk result (λ done. seen_in T.seen self.new ≡ (if done
+            then insert (seen_in T.seen self.old) index (T.seen item) else seen_in T.seen self.old)) }
+        ensures within { IfOk result (λ done. done ≡ nat_le index (length (seen_in T.seen self.old))) }
+        ensures err { OnErr result (seen_in T.seen self.new ≡ seen_in T.seen self.old) }
+        ensures own { is_own_list self.old ≡ true → is_own_list self.new ≡ true }
+        ensures now_own { IfOk result (λ done. done ≡ true → is_own_at self.new index ≡ true) }
+    {
+        self.make_room(alloc, most)?;
         match &mut self.form {
             Form::One(block) => {
                 if index > block.len() {
@@ -246,7 +265,7 @@ impl<T: Share> Pieces<T> {
                 Ok(true)
             }
             Form::Many(blocks) => {
-                let done = insert_among(alloc, blocks, index, item)?;
+                let done = insert_among(alloc, blocks, index, item, most)?;
                 Ok(done)
             }
         }
@@ -261,6 +280,7 @@ impl<T: Share> Pieces<T> {
         ensures err { OnErr result (seen_in T.seen self.new ≡ seen_in T.seen self.old) }
         ensures own { is_own_list self.old ≡ true → is_own_list self.new ≡ true }
         ensures shared { OnErr result (is_own_list self.old ≡ false) }
+        ensures shared_there { OnErr result (is_own_at self.old index ≡ false) }
     {
         match &mut self.form {
             Form::One(block) => {
