@@ -1,3 +1,4 @@
 pub mod Blocks
+pub mod Edits
 pub mod Ordered
 pub mod Places

@@ -1,4 +1,5 @@
 pub mod Key
 pub mod Keys
+pub mod Members
 pub mod Order
 pub mod Search

@@ -2,7 +2,10 @@
 use Rattle.std.specs.Prelude.{◌≡◌, ℕ, ◌-◌, List, [], ◌∷◌, map, length, take, drop, Bool, true, false, not, slice_get, Some, IsTrue, ◌⊎◌}
 use Rattle.std.specs.List.{flat_map}
 use Rattle.std.specs.Ordering.{is_lt}
-use Rattle.sdb_pieces.specs.Pieces.{seen_in, parts_in}
+use Rattle.sdb_pieces.specs.Block.{items_of}
+use Rattle.sdb_pieces.specs.Pieces.{seen_in, parts_in, blocks_form}
+use Rattle.sdb_pieces.specs.declared.block.Block.{Block}
+use Rattle.sdb_pieces.specs.declared.pieces.Form.{Form}
 use Rattle.sdb_pieces.specs.declared.pieces.Pieces.{Pieces}
 use Rattle.sdb_members.specs.Key.{key_bytes}
 use Rattle.sdb_members.specs.Order.{by_bytes}
@@ -14,6 +17,13 @@ texts ks = map key_bytes ks
 
 abbrev pub texts_of : Pieces Key → List (List ℕ)
 texts_of l = seen_in key_bytes l
+
+-- those of blocks
+abbrev pub block_texts : List (Block Key) → List (List ℕ)
+block_texts bs = texts (flat_map items_of bs)
+
+abbrev pub form_texts : Form Key → List (List ℕ)
+form_texts w = block_texts (blocks_form w)
 
 -- those in the first blocks, and those in the others
 abbrev pub first_texts : Pieces Key → ℕ → List (List ℕ)

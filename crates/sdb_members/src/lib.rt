@@ -3,7 +3,11 @@
 
 mod key;
 mod keys;
+mod members;
+mod pairs;
 mod search;
+mod sharing;
 
 pub use key::Key;
 pub use keys::Keys;
+pub use members::Members;

@@ -14,7 +14,7 @@ invariant_of-result c =
         ∙ ap (λ xs. map key_bytes (flat_map (λ ys. ys) (xs ∷ []))) c.new.ensures.items in
     record { counted = sym (ap length e); ascending = subst IsAscending (sym e) no_texts }
 
-pub returns : goal.returns
-returns c =
+pub returns-clause-texts : goal.returns-clause-texts
+returns-clause-texts c =
     seen_parts key_bytes c.from_vec.result ∙ ap (λ p. map key_bytes (flat_map (λ xs. xs) p)) c.from_vec.ensures.items
     ∙ ap (λ xs. map key_bytes (flat_map (λ ys. ys) (xs ∷ []))) c.new.ensures.items
