@@ -1,3 +1,4 @@
+pub mod Iter
 pub mod Key
 pub mod Keys
 pub mod Members

@@ -7,7 +7,7 @@ ghost use Rattle.sdb_members.specs.Search.{texts_of};
 use crate::key::{Key, MOST};
 use crate::search::find;
 use crate::sharing::{own_at, own_texts, share_texts};
-use sdb_pieces::{Pieces, Share};
+use sdb_pieces::{Iter, Pieces, Share};
 use std::alloc::{AllocError, Global};
 
 /// Keys in the order of their bytes, none of them twice.
@@ -24,6 +24,8 @@ impl Keys {
     ghost use Rattle.std.specs.List.{insert, remove};
     ghost use Rattle.sdb_members.specs.Keys.{texts_in, is_own, is_own_at, is_shared};
     ghost use Rattle.sdb_members.specs.Order.{IsFound, IsGap};
+    ghost use Rattle.sdb_members.specs.Search.{texts};
+    ghost use Rattle.sdb_pieces.specs.Iter.{rest};
 
     /// No keys.
     pub fn new(alloc: Global) -> Keys
@@ -34,6 +36,19 @@ impl Keys {
             texts: Pieces::from_vec(Vec::new(alloc)),
             count: 0,
         }
+    }
+
+    /// The keys of a vector in which they stand in order, in blocks.
+    pub(crate) fn from_vec(alloc: Global, keys: Vec<Key>) -> Result<Keys, AllocError>
+        requires { IsAscending (texts keys.items) }
+        ensures texts { IfOk result (λ k. texts_in k ≡ texts keys.items) }
+        ensures own { IfOk result (λ k. is_own k ≡ true) }
+    {
+        let count = keys.len();
+        Ok(Keys {
+            texts: Pieces::cut(alloc, keys, MOST)?,
+            count,
+        })
     }
 
     /// How many keys.
@@ -51,6 +66,13 @@ impl Keys {
             Some(key) => Some(key.as_str()),
             None => None,
         }
+    }
+
+    /// The keys, one after the other.
+    pub fn iter(&self) -> Iter<'_, Key>
+        ensures { texts (rest result) ≡ texts_in self.now }
+    {
+        self.texts.iter()
     }
 
     /// The index of the key, or else the one where it can be put.

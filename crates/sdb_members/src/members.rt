@@ -1,15 +1,21 @@
 //! The members of an object.
-ghost use Rattle.std.specs.Prelude.{◌≡◌, [], true, false, None, length, string_bytes, option_map, is_some, IfOk, IfSome, IfNone, OnOk, OnErr};
+ghost use Rattle.std.specs.Prelude.{◌≡◌, [], map, true, false, None, length, string_bytes, option_map, is_some, IfOk, IfSome, IfNone, OnOk, OnErr};
 ghost use Rattle.std.specs.Map.{lookup, remove_entry};
 ghost use Rattle.std.specs.BTreeMap.{insert_entry, is_at};
-ghost use Rattle.sdb_members.specs.Keys.{is_own_at as is_own_key_at};
-ghost use Rattle.sdb_members.specs.Members.{entries_seen, is_own, is_shared};
+ghost use Rattle.sdb_members.specs.Iter.{rest};
+ghost use Rattle.sdb_members.specs.Keys.{texts_in};
+ghost use Rattle.sdb_members.specs.Members.{entries_in, entries_seen, is_own, is_shared};
+ghost use Rattle.sdb_pieces.specs.Pieces.{parts_in};
 ghost use Rattle.sdb_members.specs.Order.{IsFound, by_bytes};
 
+use crate::iter::Iter;
+use crate::key::MOST;
 use crate::keys::Keys;
+use crate::made::parted;
 use crate::pairs::{insert_new, remove_at};
 use sdb_pieces::{Pieces, Share};
 use std::alloc::{AllocError, Global};
+use std::collections::BTreeMap;
 
 /// Keys in the order of their bytes, and the value of each: that of the first key first. A key that has no value,
 /// and a value that has no key, are no member.
@@ -24,6 +30,7 @@ pub struct Members<V> {
 impl<V> Members<V> {
     /// No members.
     pub fn new(alloc: Global) -> Members<V>
+        ensures members { entries_in result ≡ [] }
         ensures own { is_own result ≡ true }
     {
         Members {
@@ -32,11 +39,53 @@ impl<V> Members<V> {
         }
     }
 
+    /// The members, in the order of their keys.
+    pub fn iter(&self) -> Iter<'_, V>
+        ensures { rest result ≡ entries_in self.now }
+    {
+        Iter::new(self.keys.iter(), self.values.iter())
+    }
+
     /// Whether a copy of them is a pointer.
     pub fn is_shared(&self) -> bool
         ensures { result ≡ is_shared self.now }
     {
         self.keys.is_shared() && self.values.is_shared()
+    }
+
+    /// The same members again, as a pointer to them, where they are shared; `None` where they aren't. Fails only
+    /// where no more pointers can be counted.
+    pub fn share_pointer(&self) -> Result<Option<Members<V>>, AllocError>
+        ensures keys { IfOk result (λ o. IfSome o (λ m. texts_in m.keys ≡ texts_in self.now.keys)) }
+        ensures values { IfOk result (λ o. IfSome o (λ m. parts_in m.values ≡ parts_in self.now.values)) }
+        ensures shared { IfOk result (λ o. IfSome o (λ m. is_shared m ≡ true)) }
+        ensures found { IfOk result (λ o. is_some o ≡ is_shared self.now) }
+    {
+        match self.keys.share_pointer()? {
+            Some(keys) => match self.values.share_pointer()? {
+                Some(values) => Ok(Some(Members { keys, values })),
+                None => Ok(None),
+            },
+            None => Ok(None),
+        }
+    }
+}
+
+impl<V: Drop> Members<V> {
+    /// The members of a map, in blocks. Fails only where memory is wanting.
+    pub fn from_map(
+        alloc: Global,
+        entries: BTreeMap<String, V>,
+    ) -> Result<Members<V>, AllocError>
+        ensures members { IfOk result (λ m. entries_in m
+            ≡ map (λ e. (string_bytes e.0, e.1)) entries.entries) }
+        ensures own { IfOk result (λ m. is_own m ≡ true) }
+    {
+        let (keys, values) = parted(alloc, entries)?;
+        Ok(Members {
+            keys: Keys::from_vec(alloc, keys)?,
+            values: Pieces::cut(alloc, values, MOST)?,
+        })
     }
 }
 
@@ -94,5 +143,21 @@ impl<V: Share> Members<V> {
             }
             Err(_) => Ok(None),
         }
+    }
+}
+
+impl<V: Share> Share for Members<V> {
+    ghost use Rattle.std.specs.Prelude.{List, ℕ, Bool};
+    ghost use Rattle.sdb_members.specs.Members.{entries_seen, is_own};
+
+    ghost Seen = { List (List ℕ × V.Seen) × Bool };
+
+    ghost seen = { λ m. (entries_seen V.seen m, is_own m) };
+
+    fn share(&self, alloc: Global) -> Result<Members<V>, AllocError> {
+        Ok(Members {
+            keys: self.keys.share(alloc)?,
+            values: self.values.share(alloc)?,
+        })
     }
 }

@@ -4,6 +4,7 @@
 mod among;
 mod block;
 mod change;
+mod cut;
 mod iter;
 mod pieces;
 mod shareable;

@@ -8,6 +8,7 @@ ghost use Rattle.sdb_pieces.specs.Pieces.{seen_in, is_own_list, is_own_at, is_sh
 use crate::among::{block_item, insert_among, one_block, remove_among, replace_among};
 use crate::block::{Block, Share};
 use crate::change::{MAX, insert_in, item_in, item_mut, remove_in, replace_in};
+use crate::cut::cut_blocks;
 use crate::iter::Iter;
 use std::alloc::{AllocError, Global};
 use std::sync::Arc;
@@ -120,6 +121,15 @@ impl<T: Drop> Pieces<T> {
         Pieces {
             form: Form::Many(Block::Own(blocks)),
         }
+    }
+
+    /// A list of these items, in blocks of at most as many as are given last.
+    pub fn cut(alloc: Global, items: Vec<T>, most: usize) -> Result<Pieces<T>, AllocError>
+        requires { 0 < most }
+        ensures items { IfOk result (λ l. items_in l ≡ items.items) }
+        ensures own { IfOk result (λ l. is_own_list l ≡ true) }
+    {
+        Ok(Pieces::from_blocks(cut_blocks(alloc, items, most)?))
     }
 
     /// The list of these blocks, in order, so that the next copy of it is a pointer where the blocks are shared.
