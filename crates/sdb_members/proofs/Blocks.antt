@@ -1,5 +1,5 @@
 -- A key among keys in blocks.
-use Rattle.std.proofs.Common.{◌≡◌, ℕ, zero, suc, ◌+◌, ◌<◌, ◌≤◌, List, [], ◌∷◌, ◌++◌, length, take, drop, map, refl, sym, ap, ◌∙◌, subst, arith, Some, slice_get, Bool, true, false, not, append_assoc, length-append, IfOk, IfErr}
+use Rattle.std.proofs.Common.{◌≡◌, ℕ, zero, suc, ◌+◌, ◌<◌, ◌≤◌, List, [], ◌∷◌, ◌++◌, length, take, drop, map, refl, sym, ap, ◌∙◌, subst, arith, Some, slice_get, Bool, true, false, not, append_assoc, length-append}
 use Rattle.std.proofs.Math.ListN.{length-map}
 use Rattle.std.specs.List.{AllByRecursion, flat_map}
 use Rattle.std.specs.List.Sorted.{IsStrictlySortedBy}
@@ -9,7 +9,8 @@ use Rattle.std.specs.declared.cmp.Ordering.TheVariants.{Less, Equal, Greater}
 use Rattle.std.specs.Cmp.{IsTotalOrder}
 use Rattle.std.proofs.lemmas.Cmp.{nat_list_cmp_total}
 use Rattle.std.proofs.lemmas.Map.Lookups.{exact_bytes}
-use Rattle.sdb_pieces.specs.Pieces.{parts_in}
+use Rattle.sdb_pieces.specs.Block.{items_of}
+use Rattle.sdb_pieces.specs.Pieces.{blocks_in, parts_in}
 use Rattle.sdb_pieces.specs.Laws.{seen_parts, part_taken, part_left, joined_more}
 use Rattle.sdb_pieces.specs.declared.pieces.Pieces.{Pieces}
 use Rattle.sdb_members.specs.Key.{key_bytes}
@@ -230,3 +231,15 @@ gap_first l k b = record {
     whole : (ts : List (List ℕ)) → ts ≡ drop 0 ts
     whole [] = refl
     whole (t ∷ ts) = refl
+
+-- the texts of all blocks
+all_taken : (xss : List (List Key)) (n : ℕ) → length xss ≤ n → take n xss ≡ xss
+all_taken [] zero h = refl
+all_taken [] (suc n) h = refl
+all_taken (xs ∷ xss) zero h = absurd (omega (arith, h))
+all_taken (xs ∷ xss) (suc n) h = ap (λ l. xs ∷ l) (all_taken xss n (omega (arith, h)))
+
+pub first_all : (l : Pieces Key) (n : ℕ) → length (blocks_in l) ≤ n → first_texts l n ≡ texts_of l
+first_all l n h =
+    let w : length (parts_in l) ≤ n = omega (arith, h, length-map (blocks_in l) items_of) in
+    ap (λ p. texts (flat_map (λ xs. xs) p)) (all_taken (parts_in l) n w) ∙ sym (seen_parts key_bytes l)

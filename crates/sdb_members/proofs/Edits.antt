@@ -1,21 +1,22 @@
 -- Lists that are changed, and what calls answer.
-use Rattle.std.proofs.Common.{◌≡◌, ℕ, zero, suc, ◌+◌, ◌-◌, ◌<◌, ◌≤◌, List, [], ◌∷◌, ◌++◌, length, take, drop, map, refl, sym, ap, ◌∙◌, subst, arith, Option, Some, None, option_map, slice_get, slice_set, get_or, set, Bool, true, false, cond, if◌then◌else◌, nat_le, Result, Ok, Err, OnOk, OnErr, IfOk}
+use Rattle.std.proofs.Common.{◌≡◌, ℕ, zero, suc, ◌+◌, ◌-◌, ◌<◌, ◌≤◌, List, [], ◌∷◌, ◌++◌, length, map, refl, sym, ap, ◌∙◌, subst, arith, append_assoc, Option, Some, None, option_map, slice_get, slice_set, get_or, set, Bool, true, false, cond, if◌then◌else◌, nat_le, Result, Ok, Err, OnOk, OnErr, IfOk}
 use Rattle.std.specs.declared.alloc.AllocError.{AllocError}
 use Rattle.std.proofs.lemmas.Bool.{le-leb}
 use Rattle.std.specs.Option.{is_some, IfSome}
 use Rattle.std.specs.List.{insert, remove, flat_map, zip}
 use Rattle.std.specs.Map.{lookup, remove_entry}
 use Rattle.std.specs.BTreeMap.{insert_entry, is_at}
-use Rattle.sdb_pieces.specs.Block.{items_of}
-use Rattle.sdb_pieces.specs.Pieces.{parts_in}
+use Rattle.sdb_pieces.specs.Block.{items_of, is_own}
+use Rattle.sdb_pieces.specs.Pieces.{parts_in, all_own}
 use Rattle.sdb_pieces.specs.Laws.{seen_parts}
 use Rattle.sdb_pieces.specs.declared.block.Block.{Block}
 use Rattle.sdb_pieces.specs.declared.pieces.Pieces.{Pieces}
 use Rattle.sdb_members.specs.Key.{key_bytes}
-use Rattle.sdb_members.specs.Order.{by_bytes, IsFound, IsGap}
+use Rattle.sdb_members.specs.Order.{by_bytes, IsFound}
 use Rattle.sdb_members.specs.Search.{texts_of, block_texts}
 use Rattle.sdb_members.specs.declared.key.Key.{Key}
-use Rattle.sdb_members.proofs.Ordered.{found_lookup, found_insert, found_remove, found_past}
+use Rattle.sdb_members.specs.Laws.{found_lookup}
+use Rattle.sdb_members.proofs.Ordered.{found_insert, found_remove, found_past}
 
 pub own_first : (a b : Bool) → cond a b false ≡ true → a ≡ true
 own_first true b e = refl
@@ -173,3 +174,24 @@ put_undone [] zero x h = refl
 put_undone [] (suc i) x h = absurd (omega (arith, h))
 put_undone (y ∷ xs) zero x h = refl
 put_undone (y ∷ xs) (suc i) x h = ap (λ l. y ∷ l) (put_undone xs i x (omega (arith, h)))
+
+-- one more block
+append_none : (xs : List Key) → xs ++ [] ≡ xs
+append_none [] = refl
+append_none (x ∷ xs) = ap (λ l. x ∷ l) (append_none xs)
+
+map_append : (xs ys : List Key) → map key_bytes (xs ++ ys) ≡ map key_bytes xs ++ map key_bytes ys
+map_append [] ys = refl
+map_append (x ∷ xs) ys = ap (λ l. key_bytes x ∷ l) (map_append xs ys)
+
+flat_more : (bs : List (Block Key)) (b : Block Key) → flat_map items_of (bs ++ b ∷ []) ≡ flat_map items_of bs ++ items_of b
+flat_more [] b = append_none (items_of b)
+flat_more (a ∷ bs) b = ap (λ l. items_of a ++ l) (flat_more bs b) ∙ sym (append_assoc (items_of a) (flat_map items_of bs) (items_of b))
+
+pub more_texts : (bs : List (Block Key)) (b : Block Key) → block_texts (bs ++ b ∷ []) ≡ block_texts bs ++ map key_bytes (items_of b)
+more_texts bs b = ap (map key_bytes) (flat_more bs b) ∙ map_append (flat_map items_of bs) (items_of b)
+
+pub more_own : {X : Type 0} (bs : List (Block X)) (b : Block X) → all_own bs ≡ true → is_own b ≡ true → all_own (bs ++ b ∷ []) ≡ true
+more_own [] b all own = own_both (is_own b) true own refl
+more_own (a ∷ bs) b all own =
+    own_both (is_own a) (all_own (bs ++ b ∷ [])) (own_first (is_own a) (all_own bs) all) (more_own bs b (own_second (is_own a) (all_own bs) all) own)

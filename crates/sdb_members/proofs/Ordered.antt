@@ -1,15 +1,15 @@
 -- Where a key stands among texts in order, and what that says of a map.
-use Rattle.std.proofs.Common.{◌≡◌, ℕ, zero, suc, ◌+◌, ◌<◌, ◌≤◌, List, [], ◌∷◌, ◌++◌, length, take, drop, map, refl, sym, ap, ◌∙◌, subst, arith, Option, Some, None, slice_get, slice_set, Bool, true, false, cond}
-use Rattle.std.specs.List.{AllByRecursion, insert, remove, zip}
+use Rattle.std.proofs.Common.{◌≡◌, ℕ, zero, suc, ◌<◌, ◌≤◌, List, [], ◌∷◌, length, take, drop, refl, sym, ap, ◌∙◌, arith, Some, slice_get, slice_set, cond}
+use Rattle.std.specs.List.{insert, remove, zip}
 use Rattle.std.specs.List.Sorted.{IsStrictlySortedBy}
 use Rattle.std.specs.Ordering.{is_eq, ordering_reverse, match_ordering}
-use Rattle.std.specs.declared.cmp.Ordering.{Ordering}
 use Rattle.std.specs.declared.cmp.Ordering.TheVariants.{Less, Equal, Greater}
-use Rattle.std.specs.Map.{lookup, set_value, remove_entry}
+use Rattle.std.specs.Map.{remove_entry}
 use Rattle.std.specs.BTreeMap.{insert_entry, is_at}
 use Rattle.std.specs.Cmp.{IsTotalOrder}
-use Rattle.std.proofs.lemmas.Cmp.{nat_list_cmp_total, tied_itself}
+use Rattle.std.proofs.lemmas.Cmp.{nat_list_cmp_total}
 use Rattle.std.proofs.lemmas.Map.Lookups.{exact_bytes}
+use Rattle.sdb_members.specs.Laws.{same_equal}
 use Rattle.sdb_members.specs.Order.{by_bytes, IsAscending, IsAboveAll, IsBelowAll, IsGap, IsFound}
 
 order : IsTotalOrder by_bytes
@@ -20,9 +20,6 @@ less_back x y e = order.antisymm y x ∙ ap ordering_reverse e
 
 pub greater_back : (x y : List ℕ) → by_bytes x y ≡ Greater → by_bytes y x ≡ Less
 greater_back x y e = order.antisymm y x ∙ ap ordering_reverse e
-
-same_equal : (k t : List ℕ) → t ≡ k → by_bytes k t ≡ Equal
-same_equal k t e = ap (by_bytes k) e ∙ tied_itself order k
 
 -- ---- texts in order
 
@@ -102,18 +99,6 @@ zip_none [] = refl
 zip_none (t ∷ ts) = refl
 
 module _ {X : Type 0} (k : List ℕ) where
-  found_entry : (ts : List (List ℕ)) (vs : List X) (i : ℕ) → slice_get ts i ≡ Some k → IsAboveAll k (take i ts)
-      → lookup (is_at (by_bytes k)) (zip ts vs) ≡ slice_get vs i
-  found_entry [] vs i e a = cc
-  found_entry (t ∷ ts) [] i e a = refl
-  found_entry (t ∷ ts) (v ∷ vs) zero e a = let is : t ≡ k = cc in
-      ap (λ o. cond (is_eq o) (Some v) (lookup (is_at (by_bytes k)) (zip ts vs))) (same_equal k t is)
-  found_entry (t ∷ ts) (v ∷ vs) (suc i) e a =
-      ap (λ o. cond (is_eq o) (Some v) (lookup (is_at (by_bytes k)) (zip ts vs))) a.0 ∙ found_entry ts vs i e a.1
-
-  pub found_lookup : (ts : List (List ℕ)) (vs : List X) (i : ℕ) → IsFound ts k i → lookup (is_at (by_bytes k)) (zip ts vs) ≡ slice_get vs i
-  found_lookup ts vs i f = found_entry ts vs i f.is f.above
-
   found_put : (ts : List (List ℕ)) (vs : List X) (i : ℕ) (v : X) → slice_get ts i ≡ Some k → IsAboveAll k (take i ts) → i < length vs
       → insert_entry by_bytes (zip ts vs) k v ≡ zip ts (slice_set vs i v)
   found_put [] vs i v e a w = cc
@@ -127,21 +112,6 @@ module _ {X : Type 0} (k : List ℕ) where
   pub found_insert : (ts : List (List ℕ)) (vs : List X) (i : ℕ) (v : X) → IsFound ts k i → i < length vs
       → insert_entry by_bytes (zip ts vs) k v ≡ zip ts (slice_set vs i v)
   found_insert ts vs i v f w = found_put ts vs i v f.is f.above w
-
-  found_set : (ts : List (List ℕ)) (vs : List X) (i : ℕ) (v : X) → slice_get ts i ≡ Some k → IsAboveAll k (take i ts)
-      → set_value (is_at (by_bytes k)) (zip ts vs) v ≡ zip ts (slice_set vs i v)
-  found_set [] vs i v e a = cc
-  found_set (t ∷ ts) [] i v e a = refl
-  found_set (t ∷ ts) (u ∷ vs) zero v e a = let is : t ≡ k = cc in
-      ap (λ o. cond (is_eq o) ((t, v) ∷ zip ts vs) ((t, u) ∷ set_value (is_at (by_bytes k)) (zip ts vs) v)) (same_equal k t is)
-  found_set (t ∷ ts) (u ∷ vs) (suc i) v e a =
-      ap (λ o. cond (is_eq o) ((t, v) ∷ zip ts vs) ((t, u) ∷ set_value (is_at (by_bytes k)) (zip ts vs) v)) a.0
-      ∙ ap (λ es. (t, u) ∷ es) (found_set ts vs i v e a.1)
-
-  -- the value at the key's index is the key's
-  pub found_value : (ts : List (List ℕ)) (vs : List X) (i : ℕ) (v : X) → IsFound ts k i
-      → set_value (is_at (by_bytes k)) (zip ts vs) v ≡ zip ts (slice_set vs i v)
-  found_value ts vs i v f = found_set ts vs i v f.is f.above
 
   found_taken : (ts : List (List ℕ)) (vs : List X) (i : ℕ) → slice_get ts i ≡ Some k → IsAboveAll k (take i ts) → i < length vs
       → remove_entry (is_at (by_bytes k)) (zip ts vs) ≡ zip (remove ts i) (remove vs i)
@@ -172,22 +142,6 @@ module _ {X : Type 0} (k : List ℕ) where
   found_past ts vs i f w = past_taken ts vs i f.above w
 
   -- a key that isn't there
-  none_below : (ts : List (List ℕ)) (vs : List X) → IsBelowAll k ts → lookup (is_at (by_bytes k)) (zip ts vs) ≡ None
-  none_below [] vs b = refl
-  none_below (t ∷ ts) [] b = refl
-  none_below (t ∷ ts) (v ∷ vs) b = ap (λ o. cond (is_eq o) (Some v) (lookup (is_at (by_bytes k)) (zip ts vs))) b.0 ∙ none_below ts vs b.1
-
-  none_at : (ts : List (List ℕ)) (vs : List X) (i : ℕ) → IsAboveAll k (take i ts) → IsBelowAll k (drop i ts)
-      → lookup (is_at (by_bytes k)) (zip ts vs) ≡ None
-  none_at [] vs i a b = refl
-  none_at (t ∷ ts) [] i a b = refl
-  none_at (t ∷ ts) (v ∷ vs) zero a b = none_below (t ∷ ts) (v ∷ vs) b
-  none_at (t ∷ ts) (v ∷ vs) (suc i) a b =
-      ap (λ o. cond (is_eq o) (Some v) (lookup (is_at (by_bytes k)) (zip ts vs))) a.0 ∙ none_at ts vs i a.1 b
-
-  pub gap_lookup : (ts : List (List ℕ)) (vs : List X) (i : ℕ) → IsGap ts k i → lookup (is_at (by_bytes k)) (zip ts vs) ≡ None
-  gap_lookup ts vs i g = none_at ts vs i g.above g.below
-
   kept_below : (ts : List (List ℕ)) (vs : List X) → IsBelowAll k ts → remove_entry (is_at (by_bytes k)) (zip ts vs) ≡ zip ts vs
   kept_below [] vs b = refl
   kept_below (t ∷ ts) [] b = refl

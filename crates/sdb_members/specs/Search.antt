@@ -1,5 +1,5 @@
 -- The texts of keys in pieces.
-use Rattle.std.specs.Prelude.{◌≡◌, ℕ, ◌-◌, List, [], ◌∷◌, map, length, take, drop, Bool, true, false, not, slice_get, Some, IsTrue, ◌⊎◌}
+use Rattle.std.specs.Prelude.{ℕ, List, [], ◌∷◌, map, take, drop, Bool, false, not}
 use Rattle.std.specs.List.{flat_map}
 use Rattle.std.specs.Ordering.{is_lt}
 use Rattle.sdb_pieces.specs.Block.{items_of}

@@ -95,9 +95,7 @@ impl Keys {
         if self.count == usize::MAX {
             return Err(AllocError);
         }
-        let _ = self
-            .texts
-            .insert_within(alloc, index, Key::new(key), MOST)?;
+        let _ = self.texts.insert_within(alloc, index, Key::new(key), MOST)?;
         self.count += 1;
         Ok(())
     }

@@ -73,10 +73,7 @@ impl<V> Members<V> {
 
 impl<V: Drop> Members<V> {
     /// The members of a map, in blocks. Fails only where memory is wanting.
-    pub fn from_map(
-        alloc: Global,
-        entries: BTreeMap<String, V>,
-    ) -> Result<Members<V>, AllocError>
+    pub fn from_map(alloc: Global, entries: BTreeMap<String, V>) -> Result<Members<V>, AllocError>
         ensures members { IfOk result (λ m. entries_in m
             ≡ map (λ e. (string_bytes e.0, e.1)) entries.entries) }
         ensures own { IfOk result (λ m. is_own m ≡ true) }

@@ -1,5 +1,5 @@
-use Rattle.std.proofs.Common.{◌≡◌, ◌∙◌, ap}
-use Rattle.std.specs.List.{insert, remove}
+use Rattle.std.proofs.Common.{◌∙◌, ap}
+use Rattle.std.specs.List.{remove}
 use Rattle.sdb_members.specs.Keys.{texts_in, is_own_at}
 use Rattle.sdb_members.proofs.Edits.{surely, put_undone}
 use Rattle.sdb_members.proofs.pairs.insert_new.Goals as goal

@@ -1,4 +1,4 @@
-use Rattle.std.proofs.Common.{◌≡◌, ◌+◌, ◌-◌, suc, ap, ◌∙◌, sym, subst, arith}
+use Rattle.std.proofs.Common.{◌≡◌, ◌+◌, ◌-◌, suc, ap, subst, arith}
 use Rattle.sdb_members.specs.Order.{IsBelowAll}
 use Rattle.sdb_members.specs.Search.{other_texts}
 use Rattle.sdb_members.proofs.Blocks.{ascending_part, found_in_block, gap_in_block, gap_first, length_to, found_within, gap_within}
@@ -14,15 +14,23 @@ find_in-requires c = ascending_part c.args.keys.now (c.block_end-end.result - 1)
 
 pub overflow_add-result : goal.overflow_add-result
 overflow_add-result c =
-    omega (arith, c.start_of-start.ensures, c.requires.small,
-    length_to c.args.keys.now (c.block_end-end.result - 1) c.part.result.now c.part.ensures,
-    found_within c.part.result.now c.args.key.now c.in-Ok.at c.in-Ok.ensures.found)
+    omega (
+      arith,
+      c.start_of-start.ensures,
+      c.requires.small,
+      length_to c.args.keys.now (c.block_end-end.result - 1) c.part.result.now c.part.ensures,
+      found_within c.part.result.now c.args.key.now c.in-Ok.at c.in-Ok.ensures.found,
+    )
 
 pub overflow_add-result-in-Err : goal.overflow_add-result-in-Err
 overflow_add-result-in-Err c =
-    omega (arith, c.start_of-start.ensures, c.requires.small,
-    length_to c.args.keys.now (c.block_end-end.result - 1) c.part.result.now c.part.ensures,
-    gap_within c.part.result.now c.args.key.now c.in-Err.at c.in-Err.ensures.gap)
+    omega (
+      arith,
+      c.start_of-start.ensures,
+      c.requires.small,
+      length_to c.args.keys.now (c.block_end-end.result - 1) c.part.result.now c.part.ensures,
+      gap_within c.part.result.now c.args.key.now c.in-Err.at c.in-Err.ensures.gap,
+    )
 
 pub returns-in-Ok-clause-found : goal.returns-in-Ok-clause-found
 returns-in-Ok-clause-found c =

@@ -65,7 +65,7 @@ returns-in_ok-insert_in-in-Some-clause-now_own g c =
     let at = subst (λ l. IsPlace f l c.args.index k i) c.deref.ensures.value c.in-Some.ensures.place in
     let was : d ≡ get_or bs k d = c.index_mut.ensures.value in
     let put : map f (items_of a) ≡ insert (map f (items_of (get_or bs k d))) i (f c.args.item) =
-        c.in_ok-insert_in-in-Some.ensures.ok ∙ ap (λ b. insert (map f (items_of b)) i (f c.args.item)) was in
+    c.in_ok-insert_in-in-Some.ensures.ok ∙ ap (λ b. insert (map f (items_of b)) i (f c.args.item)) was in
     let more = put_inside (map f (items_of (get_or bs k d))) i (f c.args.item) (at.within d) in
     let within : i < length (items_of a) = omega (arith, more, ap length put, length-map (items_of a) f) in
     λ _. among_set f bs c.args.index k i a at.inside at.sum within ∙ c.in_ok-insert_in-in-Some.ensures.now_own

@@ -1,4 +1,4 @@
-use Rattle.std.proofs.Common.{◌≡◌, length, sym, ap, ◌∙◌, subst}
+use Rattle.std.proofs.Common.{length, sym, ap, ◌∙◌, subst}
 use Rattle.std.proofs.Math.ListN.{length-map}
 use Rattle.sdb_members.specs.Key.{key_bytes}
 use Rattle.sdb_members.specs.Order.{IsAscending}

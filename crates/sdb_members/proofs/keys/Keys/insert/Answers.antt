@@ -1,6 +1,6 @@
-use Rattle.std.proofs.Common.{◌≡◌, ◌+◌, length, ap, sym, ◌∙◌, subst}
+use Rattle.std.proofs.Common.{◌+◌, length, ap, sym, ◌∙◌, subst}
 use Rattle.std.specs.List.{insert}
-use Rattle.sdb_members.specs.Order.{IsAscending, IsGap}
+use Rattle.sdb_members.specs.Order.{IsAscending}
 use Rattle.sdb_members.specs.Search.{texts_of}
 use Rattle.sdb_members.proofs.Edits.{put_done, length_put}
 use Rattle.sdb_members.proofs.Ordered.{ascending_put}

@@ -10,8 +10,8 @@ use Rattle.sdb_members.proofs.keys.Keys.new.Goals as goal
 pub invariant_of-result : goal.invariant_of-result
 invariant_of-result c =
     let e : texts_of c.from_vec.result ≡ [] =
-        seen_parts key_bytes c.from_vec.result ∙ ap (λ p. map key_bytes (flat_map (λ xs. xs) p)) c.from_vec.ensures.items
-        ∙ ap (λ xs. map key_bytes (flat_map (λ ys. ys) (xs ∷ []))) c.new.ensures.items in
+    seen_parts key_bytes c.from_vec.result ∙ ap (λ p. map key_bytes (flat_map (λ xs. xs) p)) c.from_vec.ensures.items
+    ∙ ap (λ xs. map key_bytes (flat_map (λ ys. ys) (xs ∷ []))) c.new.ensures.items in
     record { counted = sym (ap length e); ascending = subst IsAscending (sym e) no_texts }
 
 pub returns-clause-texts : goal.returns-clause-texts

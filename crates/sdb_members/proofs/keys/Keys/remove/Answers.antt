@@ -1,4 +1,4 @@
-use Rattle.std.proofs.Common.{◌≡◌, ◌-◌, length, ap, sym, ◌∙◌, subst}
+use Rattle.std.proofs.Common.{◌-◌, length, ap, sym, ◌∙◌, subst}
 use Rattle.sdb_members.specs.Order.{IsAscending}
 use Rattle.sdb_members.specs.Search.{texts_of}
 use Rattle.sdb_members.proofs.Edits.{length_taken}

@@ -1,7 +1,6 @@
 use Rattle.std.proofs.Common.{◌≡◌, length, ap, sym, ◌∙◌, subst}
 use Rattle.sdb_pieces.specs.Pieces.{parts_in}
 use Rattle.sdb_members.specs.Order.{IsAscending}
-use Rattle.sdb_members.specs.Search.{texts_of}
 use Rattle.sdb_members.proofs.Edits.{if_some_at, same_parts}
 use Rattle.sdb_members.proofs.keys.Keys.share_pointer.Goals as goal
 

@@ -1,4 +1,4 @@
-use Rattle.std.proofs.Common.{◌≡◌, String, string_bytes, sym, ap, ◌∙◌}
+use Rattle.std.proofs.Common.{String, string_bytes, ap, ◌∙◌}
 use Rattle.std.specs.declared.alloc.Global.{Global}
 use Rattle.std.specs.List.{zip}
 use Rattle.sdb_pieces.specs.Pieces.{items_in}

@@ -1,7 +1,7 @@
 use Rattle.std.proofs.Common.{◌∙◌, sym}
 use Rattle.sdb_pieces.specs.Pieces.{seen_in}
 use Rattle.sdb_members.specs.Keys.{texts_in}
-use Rattle.sdb_members.proofs.Ordered.{found_lookup, gap_lookup}
+use Rattle.sdb_members.specs.Laws.{found_lookup, gap_lookup}
 use Rattle.sdb_members.proofs.members.Members.get.Goals as goal
 
 pub returns-in-Ok : goal.returns-in-Ok

@@ -1,11 +1,12 @@
-use Rattle.std.proofs.Common.{◌≡◌, ◌∙◌, List, ℕ, Some, sym, ap, subst, string_bytes, option_map, slice_get}
+use Rattle.std.proofs.Common.{◌∙◌, sym, ap, subst, string_bytes, option_map}
 use Rattle.std.specs.List.{insert, zip}
 use Rattle.sdb_pieces.specs.Laws.{own_everywhere}
 use Rattle.sdb_pieces.specs.Pieces.{seen_in, is_own_list, is_own_at}
 use Rattle.sdb_members.specs.Keys.{texts_in, is_own}
 use Rattle.sdb_members.specs.Order.{IsFound, IsGap}
 use Rattle.sdb_members.proofs.Edits.{own_first, own_second, own_both, not_both, on_err, replaced, answer, unchanged, absent}
-use Rattle.sdb_members.proofs.Ordered.{gap_lookup, gap_insert}
+use Rattle.sdb_members.specs.Laws.{gap_lookup}
+use Rattle.sdb_members.proofs.Ordered.{gap_insert}
 use Rattle.sdb_members.proofs.members.Members.insert.Goals as goal
 
 -- ---- the key is there

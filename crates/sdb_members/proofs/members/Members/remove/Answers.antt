@@ -1,8 +1,9 @@
-use Rattle.std.proofs.Common.{◌≡◌, ◌∙◌, sym}
+use Rattle.std.proofs.Common.{sym}
 use Rattle.sdb_pieces.specs.Pieces.{seen_in, is_own_list}
 use Rattle.sdb_members.specs.Keys.{texts_in, is_own}
 use Rattle.sdb_members.proofs.Edits.{own_first, own_second, own_both, answer, taken}
-use Rattle.sdb_members.proofs.Ordered.{gap_lookup, gap_remove}
+use Rattle.sdb_members.specs.Laws.{gap_lookup}
+use Rattle.sdb_members.proofs.Ordered.{gap_remove}
 use Rattle.sdb_members.proofs.members.Members.remove.Goals as goal
 
 pub returns-in_err-value-in-Ok-clause-own : goal.returns-in_err-value-in-Ok-clause-own
