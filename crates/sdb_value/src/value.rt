@@ -1,16 +1,16 @@
 //! What a document holds.
 ghost use Rattle.std.specs.Prelude.{◌≡◌, ◌+ℤ◌, IfOk, OnOk, map, min, true};
-ghost use Rattle.sdb_value.specs.Owns.{all_true, is_own, is_pointer, members_own};
+ghost use Rattle.sdb_value.specs.Owns.{all_true, is_own, is_pointer, map_own};
 ghost use Rattle.sdb_value.specs.Profile.{in_range};
 ghost use Rattle.sdb_value.specs.Size.{size};
 ghost use Rattle.sdb_value.specs.Value.{depth, list, object};
-ghost use Rattle.sdb_value.specs.View.{view, items_view, members_view};
+ghost use Rattle.sdb_value.specs.View.{view, items_view, map_view};
 
 use crate::copy::{Manner, copy};
 use crate::measures::{depth_of, size_of};
 use crate::numbers::MAX;
 use crate::share::share;
-use sdb_pieces::{Pieces, Share, Shareable};
+use sdb_pieces::{Pieces, Share};
 use sdb_text::Text;
 use std::alloc::{AllocError, Global};
 use std::collections::BTreeMap;
@@ -68,8 +68,8 @@ impl Whole {
 /// The items of a list, in pieces that copies share.
 pub type List = Pieces<Json>;
 
-/// The members of an object, in the order of their keys' bytes, which copies share.
-pub type Members = Shareable<BTreeMap<String, Json>>;
+/// The members of an object, in the order of their keys' bytes, in pieces that copies share.
+pub type Members = sdb_members::Members<Json>;
 
 /// A value of a document (RFC 8259, section 3), its numbers whole. Its texts, lists and objects are its own,
 /// or shared with copies: a change copies what is shared on its way, and changes what is own in place.
@@ -109,12 +109,12 @@ impl Json {
         Json::List(Pieces::from_vec(items))
     }
 
-    /// An object of these members, in the map's own memory.
-    pub fn object(members: BTreeMap<String, Json>) -> Json
-        ensures value { view result ≡ object (members_view members.entries) }
-        ensures own { members_own members.entries ≡ true → is_own result ≡ true }
+    /// An object of these members. Fails only where memory is wanting.
+    pub fn object(alloc: Global, members: BTreeMap<String, Json>) -> Result<Json, AllocError>
+        ensures value { IfOk result (λ v. view v ≡ object (map_view members.entries)) }
+        ensures own { map_own members.entries ≡ true → IfOk result (λ v. is_own v ≡ true) }
     {
-        Json::Object(Shareable::Own(members))
+        Ok(Json::Object(Members::from_map(alloc, members)?))
     }
 
     /// The same value again: what is shared at the cost of a pointer, all else in memory of its own. Fails
