@@ -1,9 +1,9 @@
 -- Lists that are changed, and what calls answer.
-use Rattle.std.proofs.Common.{◌≡◌, ℕ, zero, suc, ◌+◌, ◌-◌, ◌<◌, ◌≤◌, List, [], ◌∷◌, ◌++◌, length, map, refl, sym, ap, ◌∙◌, subst, arith, append_assoc, Option, Some, None, option_map, slice_get, slice_set, get_or, set, Bool, true, false, cond, if◌then◌else◌, nat_le, Result, Ok, Err, OnOk, OnErr, IfOk}
+use Rattle.std.proofs.Common.{◌≡◌, ℕ, zero, suc, ◌+◌, ◌-◌, ◌<◌, ◌≤◌, List, [], ◌∷◌, ◌++◌, length, map, refl, sym, ap, ◌∙◌, subst, arith, append_assoc, Option, Some, None, option_map, slice_get, slice_set, get_or, set, Bool, true, false, cond, ◌&&◌, if◌then◌else◌, nat_le, Result, Ok, Err, OnOk, OnErr, IfOk}
 use Rattle.std.specs.declared.alloc.AllocError.{AllocError}
 use Rattle.std.proofs.lemmas.Bool.{le-leb}
 use Rattle.std.specs.Option.{is_some, IfSome}
-use Rattle.std.specs.List.{insert, remove, flat_map, zip}
+use Rattle.std.specs.List.{insert, remove, flat_map, zip, list_all}
 use Rattle.std.specs.Map.{lookup, remove_entry}
 use Rattle.std.specs.BTreeMap.{insert_entry, is_at}
 use Rattle.sdb_pieces.specs.Block.{items_of, is_own}
@@ -195,3 +195,40 @@ pub more_own : {X : Type 0} (bs : List (Block X)) (b : Block X) → all_own bs �
 more_own [] b all own = own_both (is_own b) true own refl
 more_own (a ∷ bs) b all own =
     own_both (is_own a) (all_own (bs ++ b ∷ [])) (own_first (is_own a) (all_own bs) all) (more_own bs b (own_second (is_own a) (all_own bs) all) own)
+
+-- ---- a test that all values pass
+
+and_first : (a b : Bool) → a && b ≡ true → a ≡ true
+and_first true b e = refl
+and_first false b e = e
+
+and_second : (a b : Bool) → a && b ≡ true → b ≡ true
+and_second true b e = e
+and_second false b e = cc
+
+and_both : (a b : Bool) → a ≡ true → b ≡ true → a && b ≡ true
+and_both true b p q = q
+and_both false b p q = p
+
+all_first : {X : Type 0} (p : X → Bool) (x : X) (xs : List X) → list_all p (x ∷ xs) ≡ true → p x ≡ true
+all_first p x xs h = and_first (p x) (list_all p xs) h
+
+all_rest : {X : Type 0} (p : X → Bool) (x : X) (xs : List X) → list_all p (x ∷ xs) ≡ true → list_all p xs ≡ true
+all_rest p x xs h = and_second (p x) (list_all p xs) h
+
+pub all_set : {X : Type 0} (p : X → Bool) (xs : List X) (i : ℕ) (x : X) → list_all p xs ≡ true → p x ≡ true → list_all p (slice_set xs i x) ≡ true
+all_set p [] i x h e = h
+all_set p (y ∷ xs) zero x h e = and_both (p x) (list_all p xs) e (all_rest p y xs h)
+all_set p (y ∷ xs) (suc i) x h e = and_both (p y) (list_all p (slice_set xs i x)) (all_first p y xs h) (all_set p xs i x (all_rest p y xs h) e)
+
+pub all_put : {X : Type 0} (p : X → Bool) (xs : List X) (i : ℕ) (x : X) → list_all p xs ≡ true → p x ≡ true → list_all p (insert xs i x) ≡ true
+all_put p [] zero x h e = and_both (p x) true e refl
+all_put p [] (suc i) x h e = and_both (p x) true e refl
+all_put p (y ∷ xs) zero x h e = and_both (p x) (list_all p (y ∷ xs)) e h
+all_put p (y ∷ xs) (suc i) x h e = and_both (p y) (list_all p (insert xs i x)) (all_first p y xs h) (all_put p xs i x (all_rest p y xs h) e)
+
+pub all_taken : {X : Type 0} (p : X → Bool) (xs : List X) (i : ℕ) → list_all p xs ≡ true → list_all p (remove xs i) ≡ true
+all_taken p [] zero h = refl
+all_taken p [] (suc i) h = refl
+all_taken p (y ∷ xs) zero h = all_rest p y xs h
+all_taken p (y ∷ xs) (suc i) h = and_both (p y) (list_all p (remove xs i)) (all_first p y xs h) (all_taken p xs i (all_rest p y xs h))

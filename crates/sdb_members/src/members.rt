@@ -1,11 +1,12 @@
 //! The members of an object.
-ghost use Rattle.std.specs.Prelude.{◌≡◌, [], map, true, false, None, length, string_bytes, option_map, is_some, IfOk, IfSome, IfNone, OnOk, OnErr};
+ghost use Rattle.std.specs.Prelude.{◌≡◌, Bool, [], map, true, false, None, length, string_bytes, option_map, is_some, IfOk, IfSome, IfNone, OnOk, OnErr};
 ghost use Rattle.std.specs.Map.{lookup, remove_entry};
 ghost use Rattle.std.specs.BTreeMap.{insert_entry, is_at};
 ghost use Rattle.sdb_members.specs.Iter.{rest};
 ghost use Rattle.sdb_members.specs.Keys.{texts_in};
 ghost use Rattle.sdb_members.specs.Members.{entries_in, entries_seen, is_own, is_shared};
-ghost use Rattle.sdb_pieces.specs.Pieces.{parts_in};
+ghost use Rattle.std.specs.List.{list_all};
+ghost use Rattle.sdb_pieces.specs.Pieces.{parts_in, seen_in};
 ghost use Rattle.sdb_members.specs.Order.{IsFound, by_bytes};
 
 use crate::iter::Iter;
@@ -109,6 +110,8 @@ impl<V: Share> Members<V> {
         ensures absent { is_own self.old ≡ true → OnErr result
             (lookup (is_at (by_bytes (string_bytes key))) (entries_seen V.seen self.old) ≡ None) }
         ensures own { is_own self.old ≡ true → is_own self.new ≡ true }
+        ensures values { (p : V.Seen → Bool) → list_all p (seen_in V.seen self.old.values) ≡ true
+            → p (V.seen value) ≡ true → list_all p (seen_in V.seen self.new.values) ≡ true }
     {
         match self.keys.find(key.as_str()) {
             Ok(index) => match self.values.replace(alloc, index, value)? {
@@ -131,6 +134,8 @@ impl<V: Share> Members<V> {
             ≡ lookup (is_at (by_bytes key.now)) (entries_seen V.seen self.old)) }
         ensures err { OnErr result (entries_seen V.seen self.new ≡ entries_seen V.seen self.old) }
         ensures own { is_own self.old ≡ true → is_own self.new ≡ true }
+        ensures values { (p : V.Seen → Bool) → list_all p (seen_in V.seen self.old.values) ≡ true
+            → list_all p (seen_in V.seen self.new.values) ≡ true }
         ensures shared { OnErr result (is_own self.old ≡ false) }
     {
         match self.keys.find(key) {

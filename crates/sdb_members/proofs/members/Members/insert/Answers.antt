@@ -1,10 +1,10 @@
 use Rattle.std.proofs.Common.{◌∙◌, sym, ap, subst, string_bytes, option_map}
-use Rattle.std.specs.List.{insert, zip}
+use Rattle.std.specs.List.{insert, zip, list_all}
 use Rattle.sdb_pieces.specs.Laws.{own_everywhere}
 use Rattle.sdb_pieces.specs.Pieces.{seen_in, is_own_list, is_own_at}
 use Rattle.sdb_members.specs.Keys.{texts_in, is_own}
 use Rattle.sdb_members.specs.Order.{IsFound, IsGap}
-use Rattle.sdb_members.proofs.Edits.{own_first, own_second, own_both, not_both, on_err, replaced, answer, unchanged, absent}
+use Rattle.sdb_members.proofs.Edits.{own_first, own_second, own_both, not_both, on_err, replaced, answer, unchanged, absent, all_set, all_put}
 use Rattle.sdb_members.specs.Laws.{gap_lookup}
 use Rattle.sdb_members.proofs.Ordered.{gap_insert}
 use Rattle.sdb_members.proofs.members.Members.insert.Goals as goal
@@ -98,3 +98,20 @@ returns-clause-own g c own =
     own_both (is_own c.insert_new.new.keys) (is_own_list c.insert_new.new.values)
     (c.insert_new.ensures.own_keys (own_first (is_own m.keys) (is_own_list m.values) own))
     (c.insert_new.ensures.own_values (own_second (is_own m.keys) (is_own_list m.values) own))
+
+-- ---- a test that all values pass
+
+pub returns-in-Some-clause-values : goal.returns-in-Some-clause-values
+returns-in-Some-clause-values g c p all one =
+    let f = g.V.Share.seen in
+    ap (list_all p) c.in_ok-old-in-Ok.ensures.ok ∙ all_set p (seen_in f c.args.self.now.values) c.in-Ok.index (f c.args.value) all one
+
+pub returns-in-Ok-clause-values : goal.returns-in-Ok-clause-values
+returns-in-Ok-clause-values g c p all one =
+    let f = g.V.Share.seen in
+    ap (list_all p) c.in_ok-old-in-Ok.ensures.ok ∙ all_set p (seen_in f c.args.self.now.values) c.in-Ok.index (f c.args.value) all one
+
+pub returns-clause-values : goal.returns-clause-values
+returns-clause-values g c p all one =
+    let f = g.V.Share.seen in
+    ap (list_all p) c.in_ok-insert_new-in-Err.ensures.values ∙ all_put p (seen_in f c.args.self.now.values) c.in-Err.index (f c.args.value) all one

@@ -1,7 +1,8 @@
-use Rattle.std.proofs.Common.{sym}
+use Rattle.std.proofs.Common.{sym, ap, ◌∙◌}
+use Rattle.std.specs.List.{list_all}
 use Rattle.sdb_pieces.specs.Pieces.{seen_in, is_own_list}
 use Rattle.sdb_members.specs.Keys.{texts_in, is_own}
-use Rattle.sdb_members.proofs.Edits.{own_first, own_second, own_both, answer, taken}
+use Rattle.sdb_members.proofs.Edits.{own_first, own_second, own_both, answer, taken, all_taken}
 use Rattle.sdb_members.specs.Laws.{gap_lookup}
 use Rattle.sdb_members.proofs.Ordered.{gap_remove}
 use Rattle.sdb_members.proofs.members.Members.remove.Goals as goal
@@ -43,3 +44,7 @@ pub returns-in-Err-clause-value : goal.returns-in-Err-clause-value
 returns-in-Err-clause-value g c =
     let m = c.args.self.now in
     sym (gap_lookup c.args.key.now (texts_in m.keys) (seen_in g.V.Share.seen m.values) c.in-Err.field-0 c.in-Err.ensures.gap)
+
+pub returns-in_ok-value-in-Ok-clause-values : goal.returns-in_ok-value-in-Ok-clause-values
+returns-in_ok-value-in-Ok-clause-values g c p all =
+    ap (list_all p) c.in_ok-value-in-Ok.ensures.values ∙ all_taken p (seen_in g.V.Share.seen c.args.self.now.values) c.in-Ok.index all
