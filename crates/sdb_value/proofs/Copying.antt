@@ -2,18 +2,17 @@
 use Rattle.std.proofs.Common.{◌≡◌, ℕ, ◌<◌, List, [], ◌∷◌, ◌++◌, length, take, map, Option, Some, None, Bool, true, false, cond, Result, Ok, Err, IfOk, String, Global, true≢false, refl, sym, ap, ◌∙◌, append_assoc}
 use Rattle.std.specs.List.{flat_map}
 use Rattle.std.specs.Option.{is_some, IfSome, IfNone}
-use Rattle.std.specs.declared.collections.BTreeMap.{BTreeMap}
 use Rattle.std.specs.Prelude.{⊤}
 use Rattle.sdb_pieces.specs.Block.{items_of as block_items, is_own as block_own, is_shared as block_shared}
 use Rattle.sdb_pieces.specs.Pieces.{all_own, all_shared, blocks_in, items_in, parts_in, is_own_form, is_own_list, is_shared_form, is_shared_list}
-use Rattle.sdb_pieces.specs.Shareable.{inside, is_own as holds_own, is_shared as holds_shared}
+use Rattle.sdb_members.specs.Keys.{texts_in, is_own as keys_own, is_shared as keys_shared}
+use Rattle.sdb_members.specs.Members.{is_shared as holds_shared}
+use Rattle.sdb_members.specs.declared.members.Members.{Members as Held}
 use Rattle.sdb_pieces.specs.declared.block.Block.{Block}
 use Rattle.sdb_pieces.specs.declared.block.Block.TheVariants.{Own, Shared}
 use Rattle.sdb_pieces.specs.declared.pieces.Form.{Form}
 use Rattle.sdb_pieces.specs.declared.pieces.Form.TheVariants.{One, Many}
 use Rattle.sdb_pieces.specs.declared.pieces.Pieces.{Pieces}
-use Rattle.sdb_pieces.specs.declared.shareable.Shareable.{Shareable}
-use Rattle.sdb_pieces.specs.declared.shareable.Shareable.TheVariants as shareable
 use Rattle.sdb_value.specs.Copies.{IsCopied, block_all_own, blocks_all_own}
 use Rattle.sdb_value.specs.Owns.{all_true, is_own, is_pointer, items_own, list_own, object_own}
 use Rattle.sdb_value.specs.View.{view, items_view, list_view, object_view}
@@ -23,7 +22,8 @@ use Rattle.sdb_value.specs.declared.copy.Manner.TheVariants as manner
 use Rattle.sdb_value.specs.declared.value.Json.{Json}
 use Rattle.sdb_value.specs.declared.value.Json as json
 use Rattle.sdb_value.proofs.Owned.{items_parts, owned_list, owned_object, pointer_list, pointer_object}
-use Rattle.sdb_value.proofs.Views.{Entry, seen_list, seen_object}
+use Rattle.sdb_value.proofs.Pairs.{paired, object_pairs}
+use Rattle.sdb_value.proofs.Views.{seen_list, seen_object}
 
 -- ---- a pointer
 
@@ -236,8 +236,7 @@ both_copied manner.Shared a b c d p q h k = ap (λ x. cond x q false) h ∙ k
 
 pub same_entries : (s new : Held Json) → texts_in new.keys ≡ texts_in s.keys → list_view new.values ≡ list_view s.values → object_view new ≡ object_view s
 same_entries s new k v =
-    paired_view (texts_in new.keys) (items_in new.values)
-    ∙ ap (λ ts. paired ts (list_view new.values)) k ∙ ap (paired (texts_in s.keys)) v ∙ sym (paired_view (texts_in s.keys) (items_in s.values))
+    object_pairs new ∙ ap (λ ts. paired ts (list_view new.values)) k ∙ ap (paired (texts_in s.keys)) v ∙ sym (object_pairs s)
 
 pub keys_values : (m : Manner) (s new : Held Json) → IsCopied m (keys_own s.keys) (keys_own new.keys) (keys_shared new.keys)
     → IsCopied m (list_own s.values) (list_own new.values) (is_shared_list new.values) → IsCopied m (object_own s) (object_own new) (holds_shared new)

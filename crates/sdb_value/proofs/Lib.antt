@@ -6,6 +6,7 @@ pub mod Read
 pub mod ListEdits
 pub mod Objects
 pub mod Owned
+pub mod Pairs
 pub mod Sharing
 pub mod Steps
 pub mod Views

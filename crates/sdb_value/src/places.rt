@@ -76,7 +76,10 @@ fn item(items: &List, number: u64) -> Option<&Json>
 fn member<'v>(members: &'v Members, name: &str) -> Option<&'v Json>
     ensures { option_map (λ v. view v.now) result ≡ member_at name.now (object_view members.now) }
 {
-    members.get(name)
+    match members.keys.find(name) {
+        Ok(index) => item(&members.values, index as u64),
+        Err(_) => None,
+    }
 }
 
 // The item at an index, where it is the list's own.
