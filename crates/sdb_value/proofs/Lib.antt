@@ -7,6 +7,7 @@ pub mod ListEdits
 pub mod Objects
 pub mod Owned
 pub mod Pairs
+pub mod Puts
 pub mod Sharing
 pub mod Steps
 pub mod Views

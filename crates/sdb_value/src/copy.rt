@@ -4,11 +4,10 @@ ghost use Rattle.std.specs.List.{flat_map};
 ghost use Rattle.sdb_pieces.specs.Block.{items_of, is_own as block_own, is_shared as block_shared};
 ghost use Rattle.sdb_pieces.specs.Pieces.{all_shared, blocks_in, is_shared_list};
 ghost use Rattle.sdb_members.specs.Keys.{texts_in, is_own as keys_own, is_shared as keys_shared};
-ghost use Rattle.sdb_members.specs.Members.{is_shared as members_shared};
 ghost use Rattle.sdb_text.specs.Held.{bytes_in, is_own as text_own, is_shared as text_shared};
 ghost use Rattle.sdb_value.specs.Copies.{IsCopied, block_all_own, blocks_all_own};
-ghost use Rattle.sdb_value.specs.Owns.{is_own, is_pointer, items_own, list_own, object_own};
-ghost use Rattle.sdb_value.specs.View.{view, items_view, list_view, object_view};
+ghost use Rattle.sdb_value.specs.Owns.{is_own, is_pointer, items_own, list_own};
+ghost use Rattle.sdb_value.specs.View.{view, items_view, list_view};
 ghost use Rattle.sdb_value.specs.declared.copy.Manner.TheVariants.{Same};
 
 use crate::value::{Json, List, Members};
@@ -39,7 +38,11 @@ pub(crate) fn copy(alloc: Global, value: &Json, manner: Manner) -> Result<Json, 
         Json::Int(n) => Ok(Json::Int(*n)),
         Json::Text(text) => Ok(Json::Text(copy_text(alloc, text, manner)?)),
         Json::List(items) => Ok(Json::List(copy_list(alloc, items, manner)?)),
-        Json::Object(members) => Ok(Json::Object(copy_object(alloc, members, manner)?)),
+        Json::Object(members) => {
+            let keys = copy_keys(alloc, &members.keys, manner)?;
+            let values = copy_list(alloc, &members.values, manner)?;
+            Ok(Json::Object(Members { keys, values }))
+        }
     }
 }
 
@@ -135,18 +138,6 @@ fn copy_items(alloc: Global, items: &[Json], manner: Manner) -> Result<Vec<Json>
         copies.push(copy(alloc, item, manner)?)?;
     }
     Ok(copies)
-}
-
-#[cycle(copy)]
-fn copy_object(alloc: Global, members: &Members, manner: Manner) -> Result<Members, AllocError>
-    ensures members { IfOk result (λ m. object_view m ≡ object_view members.now) }
-    ensures own { IfOk result (λ m. IsCopied manner
-        (object_own members.now) (object_own m) (members_shared m)) }
-{
-    Ok(Members {
-        keys: copy_keys(alloc, &members.keys, manner)?,
-        values: copy_list(alloc, &members.values, manner)?,
-    })
 }
 
 fn copy_keys(alloc: Global, keys: &Keys, manner: Manner) -> Result<Keys, AllocError>

@@ -6,6 +6,7 @@ use Rattle.sdb_value.specs.Value.{Value, null, list, object, index, key, item_at
 use Rattle.sdb_value.specs.Owns.{is_own}
 use Rattle.sdb_value.specs.View.{view, plain_step, plain_path, list_view, object_view}
 use Rattle.sdb_value.proofs.ListEdits.{shared_place}
+use Rattle.sdb_value.proofs.Pairs.{told_pairs, same_object, key_missing}
 use Rattle.sdb_value.proofs.Steps.{told_of, list_told, set_again, put_same}
 use Rattle.sdb_value.proofs.places.+change.Goals as goal
 
@@ -75,3 +76,19 @@ change_item-returns-clause-err g t c =
     ∙ ap (set_item c.args.number (set_item c.args.number ds null)) same
     ∙ put_same c.args.number ds (view c.in-Some.item) (ap (option_map view) (sym c.in-Some.is) ∙ c.in_ok-item.ensures.item))
     c.change_at-done.ensures.err
+
+-- ---- a member, as the item at its index
+
+pub change_member-returns-in-Ok-clause-done : goal.change_member-returns-in-Ok-clause-done
+change_member-returns-in-Ok-clause-done g t c =
+    let m = c.args.members.now in
+    told_pairs c.change_item.result (λ r u v. g.C.Change.makes c.args.change u v r) c.args.name.now c.in-Ok.index (plain_path c.args.rest.now) m
+    (record { keys = m.keys; values = c.change_item.new.items }) refl c.in-Ok.ensures.found c.change_item.ensures.done
+
+pub change_member-returns-in-Ok-clause-err : goal.change_member-returns-in-Ok-clause-err
+change_member-returns-in-Ok-clause-err g t c =
+    let m = c.args.members.now in
+    on_err_weaker c.change_item.result (same_object m (record { keys = m.keys; values = c.change_item.new.items }) refl) c.change_item.ensures.err
+
+pub change_member-returns-in-Err-clause-done : goal.change_member-returns-in-Err-clause-done
+change_member-returns-in-Err-clause-done g t c = key_missing c.args.members.now c.args.name.now c.in-Err.field-0 (plain_path c.args.rest.now) c.in-Err.ensures.gap
