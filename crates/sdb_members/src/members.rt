@@ -6,7 +6,7 @@ ghost use Rattle.sdb_members.specs.Iter.{rest};
 ghost use Rattle.sdb_members.specs.Keys.{texts_in};
 ghost use Rattle.sdb_members.specs.Members.{entries_in, entries_seen, is_own, is_shared};
 ghost use Rattle.std.specs.List.{list_all};
-ghost use Rattle.sdb_pieces.specs.Pieces.{parts_in, seen_in};
+ghost use Rattle.sdb_pieces.specs.Pieces.{items_in, parts_in, seen_in};
 ghost use Rattle.sdb_members.specs.Order.{IsFound, by_bytes};
 
 use crate::iter::Iter;
@@ -77,6 +77,7 @@ impl<V: Drop> Members<V> {
     pub fn from_map(alloc: Global, entries: BTreeMap<String, V>) -> Result<Members<V>, AllocError>
         ensures members { IfOk result (λ m. entries_in m
             ≡ map (λ e. (string_bytes e.0, e.1)) entries.entries) }
+        ensures values { IfOk result (λ m. items_in m.values ≡ map (λ e. e.1) entries.entries) }
         ensures own { IfOk result (λ m. is_own m ≡ true) }
     {
         let (keys, values) = parted(alloc, entries)?;
