@@ -91,7 +91,7 @@ parts true true c e = (refl, e)
 parts true false c e = cc
 parts false b c e = cc
 
-whole : (a b c : Bool) → cond a b false ≡ true → c ≡ true → cond a (cond b c false) false ≡ true
+pub whole : (a b c : Bool) → cond a b false ≡ true → c ≡ true → cond a (cond b c false) false ≡ true
 whole true true c e f = f
 whole true false c e f = cc
 whole false b c e f = cc
