@@ -155,7 +155,8 @@ fn a_client_whose_stream_fails(rt: HostRuntime) -> Result<(), Fail> {
 // A text of so many bytes, as a client sends it, with the mask 0.
 fn long_text(alloc: Global, length: u16) -> Result<Vec<u8>, Fail> {
     let mut frame = Vec::new(alloc);
-    frame.extend_from_slice(&[TEXT, 0xFE, (length >> 8) as u8, length as u8, 0, 0, 0, 0])?;
+    let low = u8::try_from(length % 256)?;
+    frame.extend_from_slice(&[TEXT, 0xFE, (length >> 8) as u8, low, 0, 0, 0, 0])?;
     for _ in 0..length {
         frame.push(b'x')?;
     }
