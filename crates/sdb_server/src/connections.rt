@@ -4,6 +4,7 @@ ghost use Rattle.sdb_backend.specs.Passes.{next_of, IsPass, IsHost};
 ghost use Rattle.sdb_backend.specs.declared.seats.Host.{Host as Hosting};
 ghost use Rattle.sdb_server.specs.Served.{IsHostOf};
 
+use crate::deadline_stream::DeadlineStream;
 use crate::websocket_session::{close_and_drain, serve};
 use sdb_backend::{Backend, Host, Pass};
 use sdb_projection::Table;
@@ -144,11 +145,18 @@ impl<R: Wait + Drop> ServerState<R> {
 }
 
 // The handshake of a server.
-fn accept(alloc: Global, stream: TcpStream) -> Option<WebSocket<TcpStream, NoMask>> {
+fn accept(
+    alloc: Global,
+    stream: TcpStream,
+) -> Option<WebSocket<DeadlineStream<TcpStream>, NoMask>> {
+    let stream = DeadlineStream::new(stream);
     let mut handshake = start(alloc, stream, NoCallback, Some(configuration()));
     for _ in 0..HANDSHAKE_SILENCE_LIMIT {
         match handshake.handshake() {
-            Ok(socket) => return Some(socket),
+            Ok(mut socket) => {
+                socket.get_mut().restart();
+                return Some(socket);
+            }
             Err(HandshakeError::Interrupted(rest)) => handshake = rest,
             Err(HandshakeError::Failure(_)) => return None,
         }

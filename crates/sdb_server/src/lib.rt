@@ -3,10 +3,12 @@
 #![tactic(auto)]
 
 mod connections;
+mod deadline_stream;
 mod line_session;
 mod websocket_session;
 
 pub use connections::{CLIENT_LIMIT, ServerState, listen, set_socket_options};
+pub use deadline_stream::DeadlineStream;
 pub use line_session::run_lines;
 pub use websocket_session::serve;
 

@@ -4,6 +4,7 @@ ghost use Rattle.sdb_backend.specs.Passes.{number_of, IsPass};
 ghost use Rattle.sdb_server.specs.Served.{KeepsPass};
 
 use crate::TAKE_LIMIT;
+use crate::deadline_stream::DeadlineStream;
 use sdb_backend::{Backend, Pass};
 use sdb_projection::Table;
 use sdb_session::Session;
@@ -62,9 +63,27 @@ impl From<Error> for SessionEnd {
             Error::Protocol(_) => SessionEnd::Closed(CloseCode::Protocol),
             Error::Utf8 => SessionEnd::Closed(CloseCode::Invalid),
             Error::OutOfMemory => SessionEnd::Closed(CloseCode::Error),
+            Error::Io(error) => end_of(&error),
             _ => SessionEnd::Gone,
         }
     }
+}
+
+// A client that was given up is told so, as one that is silent.
+fn end_of(error: &IoError) -> SessionEnd {
+    match error.kind() {
+        ErrorKind::ConnectionAborted => SessionEnd::Closed(CloseCode::Away),
+        _ => SessionEnd::Gone,
+    }
+}
+
+// What is still said to a client whose session has ended.
+#[derive(Drop)]
+enum Farewell {
+    Nothing,
+    Close(CloseCode),
+    // The answer to a message that is too long, and a close.
+    Refusal(Vec<String>),
 }
 
 // What a read of the socket gives.
@@ -82,7 +101,7 @@ enum Incoming {
 #[derive(Drop)]
 struct Client<'a, R: Wait, S> {
     alloc: Global,
-    socket: &'a mut WebSocket<S, NoMask>,
+    socket: &'a mut WebSocket<DeadlineStream<S>, NoMask>,
     backend: &'a Backend<R>,
     table: &'a Table,
     pass: Pass,
@@ -98,11 +117,12 @@ struct Client<'a, R: Wait, S> {
 /// is answered as E1, and ends the session.
 ///
 /// A client from which 3,000 reads in a row bring nothing is sent a ping, and after 6,000 a close with
-/// the status 1001. The session's queues are closed when this returns.
+/// the status 1001, as is one that takes too many reads for a message ([`DeadlineStream`]). The session's
+/// queues are closed before anything is waited for at its end.
 pub fn serve<R: Wait + Drop, S: Read + Write + Drop>(
     rt: &R,
     alloc: Global,
-    socket: &mut WebSocket<S, NoMask>,
+    socket: &mut WebSocket<DeadlineStream<S>, NoMask>,
     backend: &Backend<R>,
     pass: Pass,
     table: &Table,
@@ -126,11 +146,13 @@ pub fn serve<R: Wait + Drop, S: Read + Write + Drop>(
         silent_reads: 0,
     };
     let end = client.converse(rt);
-    client.close(end);
-    client.leave()
+    let farewell = client.farewell(end);
+    let (socket, pass) = client.leave();
+    say_farewell(alloc, socket, farewell);
+    pass
 }
 
-impl<R: Wait + Drop, S: Read + Write + Drop> Client<'_, R, S> {
+impl<'a, R: Wait + Drop, S: Read + Write + Drop> Client<'a, R, S> {
     // Answers the client until the session ends.
     fn converse(&mut self, rt: &R) -> SessionEnd
         requires { IsPass self.old.pass self.old.backend.now }
@@ -163,6 +185,7 @@ impl<R: Wait + Drop, S: Read + Write + Drop> Client<'_, R, S> {
         ensures { KeepsPass self.old.backend.now self.old.pass self.new.backend.now self.new.pass }
     {
         let incoming = next_incoming(self.socket)?;
+        self.restart_deadline(&incoming);
         self.answer(&incoming)?;
         self.pump()?;
         self.watch(&incoming)?;
@@ -207,6 +230,17 @@ impl<R: Wait + Drop, S: Read + Write + Drop> Client<'_, R, S> {
         Ok(())
     }
 
+    // What came is whole, so the next message has a deadline of its own.
+    fn restart_deadline(&mut self, incoming: &Incoming)
+        requires { IsPass self.old.pass self.old.backend.now }
+        ensures { KeepsPass self.old.backend.now self.old.pass self.new.backend.now self.new.pass }
+    {
+        match incoming {
+            Incoming::Silence => {}
+            _ => self.socket.get_mut().restart(),
+        }
+    }
+
     // Asks a client that is silent for a sign of life, and ends with one that gives none.
     fn watch(&mut self, incoming: &Incoming) -> Result<(), SessionEnd>
         requires { IsPass self.old.pass self.old.backend.now }
@@ -244,53 +278,75 @@ impl<R: Wait + Drop, S: Read + Write + Drop> Client<'_, R, S> {
         Ok(())
     }
 
-    // Closes the connection as the session has ended.
-    fn close(&mut self, end: SessionEnd)
+    // What is said to the client at the end of its session.
+    fn farewell(&mut self, end: SessionEnd) -> Farewell
         requires { IsPass self.old.pass self.old.backend.now }
         ensures { KeepsPass self.old.backend.now self.old.pass self.new.backend.now self.new.pass }
     {
         match end {
-            SessionEnd::Gone => {}
-            SessionEnd::TooLong => self.refuse_too_long(),
-            SessionEnd::Closed(code) => close_and_drain(self.socket, code),
+            SessionEnd::Gone => Farewell::Nothing,
+            SessionEnd::TooLong => self.refusal(),
+            SessionEnd::Closed(code) => Farewell::Close(code),
         }
     }
 
-    // Answers a message that is too long, and closes. The socket takes no text any more, so the answer
-    // goes out over a fresh one on the same stream.
-    fn refuse_too_long(&mut self)
+    fn refusal(&mut self) -> Farewell
         requires { IsPass self.old.pass self.old.backend.now }
         ensures { KeepsPass self.old.backend.now self.old.pass self.new.backend.now self.new.pass }
     {
-        let stream = self.socket.get_mut();
-        let mut socket = WebSocket::from_raw_socket(self.alloc, stream, NoMask, Role::Server, None);
         let mut texts = Vec::new(self.alloc);
-        if self.session.refuse_to(&mut texts).is_err() {
-            return;
+        match self.session.refuse_to(&mut texts) {
+            Ok(()) => Farewell::Refusal(texts),
+            Err(_) => Farewell::Nothing,
         }
-        for text in texts {
-            if send_text(&mut socket, text).is_err() {
-                return;
-            }
-        }
-        close_and_drain(&mut socket, CloseCode::Size);
     }
 
-    // Closes the queues of the session, and gives the pass back.
-    fn leave(self) -> Pass
+    // Closes the queues of the session, and gives the socket and the pass back.
+    fn leave(self) -> (&'a mut WebSocket<DeadlineStream<S>, NoMask>, Pass)
         requires { IsPass self.pass self.backend.now }
-        ensures pass { IsPass result self.entry.backend.now }
-        ensures number { number_of result ≡ number_of self.entry.pass }
+        ensures pass { IsPass result.1 self.entry.backend.now }
+        ensures number { number_of result.1 ≡ number_of self.entry.pass }
     {
         let Client {
+            socket,
             backend,
             mut pass,
             session,
             ..
         } = self;
         session.end(backend, &mut pass);
-        pass
+        (socket, pass)
     }
+}
+
+// Says what is still to be said, and closes the connection.
+fn say_farewell<S: Read + Write + Drop>(
+    alloc: Global,
+    socket: &mut WebSocket<DeadlineStream<S>, NoMask>,
+    farewell: Farewell,
+) {
+    socket.get_mut().restart();
+    match farewell {
+        Farewell::Nothing => {}
+        Farewell::Close(code) => close_and_drain(socket, code),
+        Farewell::Refusal(texts) => refuse_too_long(alloc, socket.get_mut(), texts),
+    }
+}
+
+// Answers a message that is too long, and closes. The socket that read it takes no text any more, so the answer
+// goes out over a fresh one on the same stream.
+fn refuse_too_long<S: Read + Write + Drop>(
+    alloc: Global,
+    stream: &mut DeadlineStream<S>,
+    texts: Vec<String>,
+) {
+    let mut socket = WebSocket::from_raw_socket(alloc, stream, NoMask, Role::Server, None);
+    for text in texts {
+        if send_text(&mut socket, text).is_err() {
+            return;
+        }
+    }
+    close_and_drain(&mut socket, CloseCode::Size);
 }
 
 // One read of the socket.

@@ -1,8 +1,9 @@
-//! Sessions whose streams fail at any of their calls: what was stored stays, once, and no queue is left.
+//! Sessions whose streams fail at any of their calls: what was stored stays, once, and no queue is left. And those
+//! whose streams bring a byte at a time.
 ghost use Rattle.sdb_backend.specs.Passes.{IsHost, IsPass};
 
 use crate::websocket_session::{
-    OPENING, SUBSCRIBE, SUBSCRIBED, TEXT, attend, document, send, tell,
+    AWAY_FRAME, BADLY_FORMED, OPENING, SUBSCRIBE, SUBSCRIBED, TEXT, attend, document, send, tell,
 };
 use sdb_backend::{Audit, Backend, Host, Pass};
 use std::alloc::{AllocGlobal, Global};
@@ -148,5 +149,38 @@ fn a_client_whose_stream_fails(rt: HostRuntime) -> Result<(), Fail> {
             );
         }
     }
+    Ok(())
+}
+
+// A text of so many bytes, as a client sends it, with the mask 0.
+fn long_text(alloc: Global, length: u16) -> Result<Vec<u8>, Fail> {
+    let mut frame = Vec::new(alloc);
+    let low = u8::try_from(length % 256)?;
+    frame.extend_from_slice(&[TEXT, 0xFE, (length >> 8) as u8, low, 0, 0, 0, 0])?;
+    for _ in 0..length {
+        frame.push(b'x')?;
+    }
+    Ok(frame)
+}
+
+// What a client is told that sends it a byte at a time.
+fn told_by_bytes<R: AllocGlobal + Wait + Drop + Copy>(rt: R, length: u16) -> Result<Vec<u8>, Fail> {
+    let alloc = rt.alloc();
+    let text = long_text(alloc, length)?;
+    let (backend, mut host) = Backend::new(alloc, rt)?;
+    let pass = backend.enter(&mut host)?;
+    let stream = Stream::new(alloc, text.as_slice(), 1, u64::MAX);
+    let (_, stream) = attend(&rt, alloc, &backend, pass, stream);
+    Ok(stream.told)
+}
+
+#[test]
+fn a_message_takes_a_thousand_reads_at_most(rt: HostRuntime) -> Result<(), Fail> {
+    let alloc = rt.alloc();
+    let answered = told(alloc, &[OPENING, BADLY_FORMED])?;
+    assert!(rt; told_by_bytes(rt, 992)?.as_slice() == answered.as_slice());
+    let mut away = told(alloc, &[OPENING])?;
+    away.extend_from_slice(AWAY_FRAME)?;
+    assert!(rt; told_by_bytes(rt, 993)?.as_slice() == away.as_slice());
     Ok(())
 }

@@ -4,7 +4,7 @@ ghost use Rattle.sdb_backend.specs.Passes.{IsPass};
 use sdb_backend::{Backend, Pass};
 use sdb_oplog::Key;
 use sdb_projection::Table;
-use sdb_server::serve;
+use sdb_server::{DeadlineStream, serve};
 use sdb_submit::Desk;
 use sdb_subscribe::SubId;
 use std::alloc::{AllocError, Global};
@@ -70,7 +70,7 @@ pub(crate) const SUBSCRIBE: &str = r#"{"a":"s","c":"b","d":"1","v":null}"#;
 
 pub(crate) const SUBSCRIBED: &str = r#"{"a":"s","c":"b","d":"1","data":{"type":null,"v":0}}"#;
 
-const BADLY_FORMED: &str =
+pub(crate) const BADLY_FORMED: &str =
     r#"{"error":{"code":"ERR_MESSAGE_BADLY_FORMED","message":"message is badly formed"}}"#;
 
 // The first byte of a frame that is a whole message.
@@ -83,7 +83,7 @@ const PONG: u8 = 0x8A;
 const PING_FRAME: &[u8] = &[0x89, 0];
 
 // A close with the code 1001.
-const AWAY_FRAME: &[u8] = &[0x88, 2, 0x03, 0xE9];
+pub(crate) const AWAY_FRAME: &[u8] = &[0x88, 2, 0x03, 0xE9];
 
 // Adds a frame as a client sends it, with the mask 0.
 pub(crate) fn send(frames: &mut Vec<u8>, head: u8, payload: &str) -> Result<(), Fail> {
@@ -120,10 +120,11 @@ pub(crate) fn attend<R: Wait + Drop, S: Read + Write + Drop>(
     requires { IsPass pass backend.now }
     ensures { IsPass result.0 backend.now }
 {
+    let stream = DeadlineStream::new(stream);
     let mut socket = WebSocket::from_raw_socket(alloc, stream, NoMask, Role::Server, None);
     let table = Table::new(alloc);
     let pass = serve(rt, alloc, &mut socket, backend, pass, &table);
-    (pass, socket.into_inner())
+    (pass, socket.into_inner().into_inner())
 }
 
 // What the first client of a server is told.
