@@ -1,8 +1,7 @@
 -- Copies in their three manners.
-use Rattle.std.proofs.Common.{◌≡◌, ℕ, ◌<◌, List, [], ◌∷◌, ◌++◌, length, take, map, Option, Some, None, Bool, true, false, cond, Result, Ok, Err, IfOk, String, Global, true≢false, refl, sym, ap, ◌∙◌, append_assoc}
+use Rattle.std.proofs.Common.{◌≡◌, List, [], ◌∷◌, ◌++◌, map, Option, Some, None, Bool, true, false, cond, Result, Ok, Err, IfOk, true≢false, refl, sym, ap, ◌∙◌, append_assoc}
 use Rattle.std.specs.List.{flat_map}
 use Rattle.std.specs.Option.{is_some, IfSome, IfNone}
-use Rattle.std.specs.Prelude.{⊤}
 use Rattle.sdb_pieces.specs.Block.{items_of as block_items, is_own as block_own, is_shared as block_shared}
 use Rattle.sdb_pieces.specs.Pieces.{all_own, all_shared, blocks_in, items_in, parts_in, is_own_form, is_own_list, is_shared_form, is_shared_list}
 use Rattle.sdb_members.specs.Keys.{texts_in, is_own as keys_own, is_shared as keys_shared}

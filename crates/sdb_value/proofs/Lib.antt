@@ -5,6 +5,7 @@ pub mod Depths
 pub mod Read
 pub mod ListEdits
 pub mod Objects
+pub mod Ordered
 pub mod Owned
 pub mod Pairs
 pub mod Puts

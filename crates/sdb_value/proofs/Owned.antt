@@ -1,5 +1,5 @@
 -- What is its owner's own, and of what a copy is a pointer, level by level.
-use Rattle.std.proofs.Common.{◌≡◌, List, [], ◌∷◌, ◌++◌, map, Bool, true, false, cond, String, Vec, Global, refl, sym, ap, ◌∙◌, rules}
+use Rattle.std.proofs.Common.{◌≡◌, List, [], ◌∷◌, ◌++◌, map, Bool, true, false, cond, Vec, Global, refl, ap, ◌∙◌, rules}
 use Rattle.std.specs.declared.sync.Arc.{Arc}
 use Rattle.std.specs.List.{flat_map}
 use Rattle.sdb_pieces.specs.Block.{items_of as block_items, is_own as block_own}
@@ -15,7 +15,7 @@ use Rattle.sdb_members.specs.Members.{is_shared as holds_shared}
 use Rattle.sdb_members.specs.declared.members.Members.{Members as Held}
 use Rattle.sdb_text.specs.Held.{is_own as text_own, is_shared as text_shared}
 use Rattle.sdb_text.specs.declared.text.Text.{Text}
-use Rattle.sdb_value.specs.Owns.{all_true, is_own, is_pointer, items_own, list_own, object_own}
+use Rattle.sdb_value.specs.Owns.{all_true, is_own, is_pointer, list_own, object_own}
 use Rattle.sdb_value.specs.declared.value.Json.{Json, the_lemmas}
 use Rattle.sdb_value.specs.declared.value.Json as json
 use Rattle.sdb_value.proofs.Views.{former_seen, former_values, seen_list, seen_object}

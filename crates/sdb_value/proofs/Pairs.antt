@@ -1,5 +1,5 @@
 -- An object as its keys and the list of its values.
-use Rattle.std.proofs.Common.{◌≡◌, ℕ, zero, suc, List, [], ◌∷◌, take, drop, map, Option, Some, None, refl, sym, ap, ◌∙◌, subst, slice_get, cond, Bool, true, false, Result, Ok, Err, IfOk}
+use Rattle.std.proofs.Common.{◌≡◌, ℕ, zero, suc, List, [], ◌∷◌, take, drop, Option, Some, None, refl, sym, ap, ◌∙◌, subst, slice_get, cond, Bool, true, false, Result, Ok, Err, IfOk}
 use Rattle.std.specs.List.{zip}
 use Rattle.std.specs.Option.{option_and_then, option_map_or, MatchOption}
 use Rattle.std.specs.Ordering.{is_eq}
@@ -9,7 +9,7 @@ use Rattle.sdb_members.specs.Laws.{same_equal}
 use Rattle.sdb_members.specs.Order.{IsAboveAll, IsBelowAll, IsFound, IsGap}
 use Rattle.sdb_members.specs.declared.members.Members.{Members as Held}
 use Rattle.sdb_value.specs.Change.{ChangedAt, NothingAt}
-use Rattle.sdb_value.specs.Value.{Value, list, object, Items, no_items, item, Members, no_members, member, PlainStep, key, index, item_at, member_at, set_item, set_member, at, with, with_one}
+use Rattle.sdb_value.specs.Value.{Value, list, object, Items, no_items, item, Members, no_members, member, PlainStep, key, index, item_at, member_at, set_item, set_member, at, with}
 use Rattle.sdb_value.specs.View.{view, items_view, list_view, members_view, object_view}
 use Rattle.sdb_value.specs.declared.value.Json.{Json}
 

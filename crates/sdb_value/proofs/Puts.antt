@@ -12,7 +12,7 @@ use Rattle.sdb_members.specs.Laws.{seen_entries}
 use Rattle.sdb_members.specs.Members.{entries_in, entries_seen, is_own as holds_own}
 use Rattle.sdb_members.specs.Order.{by_bytes}
 use Rattle.sdb_members.specs.declared.members.Members.{Members as Held}
-use Rattle.sdb_value.specs.Owns.{all_true, is_own, items_own, list_own, object_own, seen}
+use Rattle.sdb_value.specs.Owns.{is_own, items_own, object_own, seen}
 use Rattle.sdb_value.specs.Value.{Value, Members, member, member_at, put, without}
 use Rattle.sdb_value.specs.View.{view, members_of, members_view, object_view}
 use Rattle.sdb_value.specs.declared.value.Json.{Json}

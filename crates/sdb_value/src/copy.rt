@@ -58,7 +58,7 @@ fn copy_text(alloc: Global, text: &Text, manner: Manner) -> Result<Text, AllocEr
 }
 
 #[cycle(copy)]
-fn copy_list(alloc: Global, items: &List, manner: Manner) -> Result<List, AllocError>
+pub(crate) fn copy_list(alloc: Global, items: &List, manner: Manner) -> Result<List, AllocError>
     ensures items { IfOk result (λ l. list_view l ≡ list_view items.now) }
     ensures own { IfOk result (λ l. IsCopied manner (list_own items.now) (list_own l) (is_shared_list l)) }
 {
@@ -140,7 +140,7 @@ fn copy_items(alloc: Global, items: &[Json], manner: Manner) -> Result<Vec<Json>
     Ok(copies)
 }
 
-fn copy_keys(alloc: Global, keys: &Keys, manner: Manner) -> Result<Keys, AllocError>
+pub(crate) fn copy_keys(alloc: Global, keys: &Keys, manner: Manner) -> Result<Keys, AllocError>
     ensures same { IfOk result (λ k. texts_in k ≡ texts_in keys.now) }
     ensures own { IfOk result (λ k. IsCopied manner (keys_own keys.now) (keys_own k) (keys_shared k)) }
 {

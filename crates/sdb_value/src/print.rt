@@ -44,10 +44,7 @@ fn write_items(alloc: Global, items: &List) -> Result<Vec<Value>, AllocError>
 }
 
 #[cycle(write)]
-fn write_members(
-    alloc: Global,
-    members: &Members,
-) -> Result<Map<String, Value>, AllocError>
+fn write_members(alloc: Global, members: &Members) -> Result<Map<String, Value>, AllocError>
     ensures { IfOk result (λ m. raw.members_view m.entries ≡ to_members (object_view members.now)) }
 {
     let mut made = BTreeMap::new(alloc);

@@ -7,6 +7,7 @@ ghost use Rattle.sdb_members.specs.Members.{is_shared as members_shared};
 ghost use Rattle.sdb_value.specs.Owns.{is_pointer};
 ghost use Rattle.sdb_value.specs.View.{view, form_view, items_view, list_view, object_view};
 
+use crate::copy::{Manner, copy_keys, copy_list};
 use crate::value::{Json, List, Members};
 use sdb_pieces::{Block, Form, Pieces};
 use std::alloc::{AllocError, Global};
@@ -113,12 +114,26 @@ fn share_each_item(alloc: Global, items: &mut Vec<Json>) -> Result<(), AllocErro
     Ok(())
 }
 
-// The keys and the values: each value has its key, and each key its value.
+// The keys and the values.
 #[cycle(share)]
 fn share_object(alloc: Global, members: &mut Members) -> Result<(), AllocError>
     ensures members { object_view members.new ≡ object_view members.old }
     ensures shared { OnOk result (members_shared members.new ≡ true) }
 {
+    if members.values.get(members.keys.len()).is_some() {
+        return share_copied(alloc, members);
+    }
     members.keys.share_in_place(alloc)?;
     share_list(alloc, &mut members.values)
+}
+
+// Of an object with values that have no key, which no call makes: it is copied.
+fn share_copied(alloc: Global, members: &mut Members) -> Result<(), AllocError>
+    ensures members { object_view members.new ≡ object_view members.old }
+    ensures shared { OnOk result (members_shared members.new ≡ true) }
+{
+    let keys = copy_keys(alloc, &members.keys, Manner::Shared)?;
+    let values = copy_list(alloc, &members.values, Manner::Shared)?;
+    *members = Members { keys, values };
+    Ok(())
 }

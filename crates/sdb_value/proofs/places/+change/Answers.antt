@@ -1,9 +1,8 @@
-use Rattle.std.proofs.Common.{◌≡◌, refl, Some, ◌∷◌, option_map, ap, sym, ◌∙◌, subst}
+use Rattle.std.proofs.Common.{refl, ◌∷◌, option_map, ap, sym, ◌∙◌}
 use Rattle.std.proofs.lemmas.Result.{on_err_weaker}
 use Rattle.sdb_value.specs.FrontLaws.{on_any_err}
 use Rattle.sdb_value.specs.Law.{known, list_is, object_is}
-use Rattle.sdb_value.specs.Value.{Value, null, list, object, index, key, item_at, set_item}
-use Rattle.sdb_value.specs.Owns.{is_own}
+use Rattle.sdb_value.specs.Value.{null, list, object, key, set_item}
 use Rattle.sdb_value.specs.View.{view, plain_step, plain_path, list_view, object_view}
 use Rattle.sdb_value.proofs.ListEdits.{shared_place}
 use Rattle.sdb_value.proofs.Pairs.{told_pairs, same_object, key_missing}

@@ -1,7 +1,7 @@
-use Rattle.std.proofs.Common.{◌≡◌, List, [], ◌∷◌, map, false, cond, String, Global, refl, sym, ap, ◌∙◌}
+use Rattle.std.proofs.Common.{◌≡◌, List, [], ◌∷◌, map, false, cond, String, Global, refl, ap, ◌∙◌}
 use Rattle.sdb_members.specs.Keys.{is_own as keys_own}
 use Rattle.sdb_pieces.specs.Pieces.{is_own_list, items_in}
-use Rattle.sdb_value.specs.Owns.{is_own, all_true, items_own, map_own}
+use Rattle.sdb_value.specs.Owns.{is_own, items_own, map_own}
 use Rattle.sdb_value.specs.Value.{object}
 use Rattle.sdb_value.specs.View.{members_view}
 use Rattle.sdb_value.specs.declared.value.Json.{Json}
