@@ -59,7 +59,7 @@ fn small_object(alloc: Global) -> Result<Json, AllocError> {
         None => Json::Null,
     };
     drop(members.insert(key, one)?);
-    Ok(Json::object(members))
+    Json::object(alloc, members)
 }
 
 fn list_inserts(rt: &HostRuntime, length: u64) -> anyhow::Result<()> {
@@ -68,7 +68,7 @@ fn list_inserts(rt: &HostRuntime, length: u64) -> anyhow::Result<()> {
     for _ in 0..length {
         items.push(small_object(alloc)?)?;
     }
-    let mut value = Json::list(items);
+    let mut value = Json::list_of(alloc, items)?;
     let mut random = Random::new();
     let start = Instant::now(rt)?;
     for _ in 0..INSERTS {

@@ -11,6 +11,7 @@ use Rattle.sdb_pieces.specs.Laws.{seen_items_in}
 use Rattle.sdb_pieces.specs.Pieces.{items_in}
 use Rattle.sdb_pieces.specs.declared.pieces.Pieces.{Pieces}
 use Rattle.sdb_members.specs.Key.{key_bytes}
+use Rattle.sdb_members.specs.Members.{names}
 use Rattle.sdb_members.specs.Order.{by_bytes, IsAscending}
 use Rattle.sdb_members.specs.Search.{texts, texts_of}
 use Rattle.sdb_members.specs.declared.key.Key.{Key}
@@ -58,3 +59,16 @@ ascending_bytes (e ∷ es) s = (below_bytes e.0 es s.0, ascending_bytes es s.1)
 
 pub texts_kept : (l : Pieces Key) (ks : List Key) → items_in l ≡ ks → texts_of l ≡ texts ks
 texts_kept l ks e = seen_items_in key_bytes l ∙ ap texts e
+
+-- the keys of members ascend
+below_names : {X : Type 0} (k : List ℕ) (ts : List (List ℕ)) (vs : List X) → AllByRecursion (λ y. by_bytes k y ≡ Less) ts
+    → AllByRecursion (λ y. by_bytes k y ≡ Less) (names (zip ts vs))
+below_names k [] vs h = tt
+below_names k (t ∷ ts) [] h = tt
+below_names k (t ∷ ts) (v ∷ vs) h = (h.0, below_names k ts vs h.1)
+
+pub names_ascend : {X : Type 0} (ts : List (List ℕ)) (vs : List X) → IsAscending ts → IsAscending (names (zip ts vs))
+unfolding IsStrictlySortedBy
+names_ascend [] vs h = tt
+names_ascend (t ∷ ts) [] h = tt
+names_ascend (t ∷ ts) (v ∷ vs) h = (below_names t ts vs h.0, names_ascend ts vs h.1)

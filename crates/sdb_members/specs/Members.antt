@@ -1,5 +1,5 @@
 -- The members of an object, and whose they are.
-use Rattle.std.specs.Prelude.{ℕ, List, Bool, false, cond}
+use Rattle.std.specs.Prelude.{ℕ, List, Bool, false, cond, map}
 use Rattle.std.specs.List.{zip}
 use Rattle.sdb_pieces.specs.Pieces.{seen_in, items_in, is_own_list, is_shared_list}
 use Rattle.sdb_members.specs.Keys.{texts_in, is_own as is_own_keys, is_shared as is_shared_keys}
@@ -12,6 +12,10 @@ entries_in m = zip (texts_in m.keys) (items_in m.values)
 -- the same, with each value as f sees it
 abbrev pub entries_seen : {X S : Type 0} → (X → S) → Members X → List (List ℕ × S)
 entries_seen f m = zip (texts_in m.keys) (seen_in f m.values)
+
+-- the keys of entries
+abbrev pub names : {X : Type 0} → List (List ℕ × X) → List (List ℕ)
+names es = map (λ e. e.0) es
 
 -- nothing of them is shared, but for what the values share
 abbrev pub is_own : {X : Type 0} → Members X → Bool

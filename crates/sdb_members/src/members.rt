@@ -4,10 +4,10 @@ ghost use Rattle.std.specs.Map.{lookup, remove_entry};
 ghost use Rattle.std.specs.BTreeMap.{insert_entry, is_at};
 ghost use Rattle.sdb_members.specs.Iter.{rest};
 ghost use Rattle.sdb_members.specs.Keys.{texts_in};
-ghost use Rattle.sdb_members.specs.Members.{entries_in, entries_seen, is_own, is_shared};
+ghost use Rattle.sdb_members.specs.Members.{entries_in, entries_seen, is_own, is_shared, names};
 ghost use Rattle.std.specs.List.{list_all};
 ghost use Rattle.sdb_pieces.specs.Pieces.{items_in, parts_in, seen_in};
-ghost use Rattle.sdb_members.specs.Order.{IsFound, by_bytes};
+ghost use Rattle.sdb_members.specs.Order.{IsAscending, IsFound, by_bytes};
 
 use crate::iter::Iter;
 use crate::key::MOST;
@@ -42,7 +42,8 @@ impl<V> Members<V> {
 
     /// The members, in the order of their keys.
     pub fn iter(&self) -> Iter<'_, V>
-        ensures { rest result ≡ entries_in self.now }
+        ensures members { rest result ≡ entries_in self.now }
+        ensures ordered { IsAscending (names (entries_in self.now)) }
     {
         Iter::new(self.keys.iter(), self.values.iter())
     }

@@ -129,7 +129,21 @@ impl<T: Drop> Pieces<T> {
         ensures items { IfOk result (λ l. items_in l ≡ items.items) }
         ensures own { IfOk result (λ l. is_own_list l ≡ true) }
     {
+        if items.len() <= most {
+            return Ok(Pieces {
+                form: Form::One(Block::Own(items)),
+            });
+        }
         Ok(Pieces::from_blocks(cut_blocks(alloc, items, most)?))
+    }
+
+    /// A list of these items, in blocks that are as long as an insert lets them grow. One block alone stands in the
+    /// vector's own memory.
+    pub fn in_blocks(alloc: Global, items: Vec<T>) -> Result<Pieces<T>, AllocError>
+        ensures items { IfOk result (λ l. items_in l ≡ items.items) }
+        ensures own { IfOk result (λ l. is_own_list l ≡ true) }
+    {
+        Pieces::cut(alloc, items, MAX)
     }
 
     /// The list of these blocks, in order, so that the next copy of it is a pointer where the blocks are shared.

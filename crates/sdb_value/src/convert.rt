@@ -72,7 +72,7 @@ fn read(alloc: Global, value: &Value, left: u64) -> Result<Json, ValueFault>
             if left == 0 {
                 return Err(ValueFault::Depth);
             }
-            Ok(Json::list(read_items(alloc, items, left - 1)?))
+            Ok(Json::list_of(alloc, read_items(alloc, items, left - 1)?)?)
         }
         Value::Object(members) => {
             if left == 0 {

@@ -1,10 +1,10 @@
 //! What a document holds.
-ghost use Rattle.std.specs.Prelude.{◌≡◌, ◌+ℤ◌, IfOk, OnOk, map, min, true};
-ghost use Rattle.sdb_value.specs.Owns.{all_true, is_own, is_pointer, map_own};
+ghost use Rattle.std.specs.Prelude.{◌≡◌, ◌+ℤ◌, IfOk, IsFalse, IsTrue, OnOk, map, min, option_map, true};
+ghost use Rattle.sdb_value.specs.Owns.{all_true, is_own, is_pointer, map_own, object_own};
 ghost use Rattle.sdb_value.specs.Profile.{in_range};
 ghost use Rattle.sdb_value.specs.Size.{size};
-ghost use Rattle.sdb_value.specs.Value.{depth, list, object};
-ghost use Rattle.sdb_value.specs.View.{view, items_view, map_view};
+ghost use Rattle.sdb_value.specs.Value.{as_object, depth, list, null, object};
+ghost use Rattle.sdb_value.specs.View.{view, items_view, map_view, object_view};
 
 use crate::copy::{Manner, copy};
 use crate::measures::{depth_of, size_of};
@@ -109,12 +109,52 @@ impl Json {
         Json::List(Pieces::from_vec(items))
     }
 
+    /// A list of these items, in pieces. Up to 512 stand in the vector's own memory. Fails only where memory is
+    /// wanting.
+    pub fn list_of(alloc: Global, items: Vec<Json>) -> Result<Json, AllocError>
+        ensures value { IfOk result (λ v. view v ≡ list (items_view items.items)) }
+        ensures own { all_true (map is_own items.items) ≡ true → IfOk result (λ v. is_own v ≡ true) }
+    {
+        Ok(Json::List(Pieces::in_blocks(alloc, items)?))
+    }
+
     /// An object of these members. Fails only where memory is wanting.
     pub fn object(alloc: Global, members: BTreeMap<String, Json>) -> Result<Json, AllocError>
         ensures value { IfOk result (λ v. view v ≡ object (map_view members.entries)) }
         ensures own { map_own members.entries ≡ true → IfOk result (λ v. is_own v ≡ true) }
     {
         Ok(Json::Object(Members::from_map(alloc, members)?))
+    }
+
+    /// An object that holds these members, their parts as they are.
+    #[tactic(auto, using(crate::proofs::Views::seen_object, crate::proofs::Owned::owned_object))]
+    pub fn of_members(members: Members) -> Json
+        ensures value { view result ≡ object (object_view members) }
+        ensures own { is_own result ≡ object_own members }
+    {
+        Json::Object(members)
+    }
+
+    /// Whether it is `null`.
+    pub fn is_null(&self) -> bool
+        ensures null { IsTrue result → view self.now ≡ null }
+        ensures other { IsFalse result → view self.now ≡ null → ⊥ }
+    {
+        match self {
+            Json::Null => true,
+            _ => false,
+        }
+    }
+
+    /// The members, or `None` where the value is no object.
+    #[tactic(auto, using(crate::proofs::Views::seen_object))]
+    pub fn members(&self) -> Option<&Members>
+        ensures { option_map (λ m. object_view m.now) result ≡ as_object (view self.now) }
+    {
+        match self {
+            Json::Object(members) => Some(members),
+            _ => None,
+        }
     }
 
     /// The same value again: what is shared at the cost of a pointer, all else in memory of its own. Fails

@@ -1,12 +1,11 @@
 use Rattle.std.proofs.Common.{suc, ◌≤◌}
 use Rattle.sdb_members.specs.Iter.{rest as members_left}
-use Rattle.sdb_members.specs.Members.{entries_in}
+use Rattle.sdb_members.specs.Members.{entries_in, names}
 use Rattle.sdb_members.specs.Order.{IsAscending}
 use Rattle.sdb_pieces.specs.Pieces.{items_in}
 use Rattle.sdb_pieces.specs.Iter.{rest}
 use Rattle.sdb_value.specs.View.{items_view, list_view, members_view, object_view}
 use Rattle.sdb_value.specs.WellFormed.{AreWellFormed, MembersWellFormed}
-use Rattle.sdb_value.proofs.Ordered.{names}
 use Rattle.sdb_value.proofs.Weights.{weight, weights, members_weight}
 use Rattle.sdb_value.proofs.laws.+well_formed.Given as goal
 
