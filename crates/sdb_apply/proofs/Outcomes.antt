@@ -1,8 +1,8 @@
 -- What an act does at its place, and in the whole value.
-use Rattle.std.proofs.Common.{◌≡◌, ℕ, List, Option, Some, None, Ok, Err, Result, Bool, true, false, refl, sym, ap, ◌∙◌, option_map}
+use Rattle.std.proofs.Common.{◌≡◌, ℕ, List, Option, Some, None, Ok, Err, Result, Bool, true, false, true≢false, refl, sym, ap, ◌∙◌, option_map}
 use Rattle.std.specs.Prelude.{⊤, if◌then◌else◌}
 use Rattle.std.specs.Option.{option_and_then}
-use Rattle.std.proofs.Common.{String, Global, cond, IsErrOf, MatchOption, subst}
+use Rattle.std.proofs.Common.{cond, IsErrOf, MatchOption, subst}
 use Rattle.std.specs.Option.{IfSome}
 use Rattle.sdb_pieces.specs.Pieces.{is_own_list, items_in}
 use Rattle.sdb_members.specs.Keys.{is_own as keys_own}
