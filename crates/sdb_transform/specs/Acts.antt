@@ -11,6 +11,8 @@ use Rattle.sdb_transform.specs.declared.paths.StepAfter.{StepAfter}
 use Rattle.sdb_transform.specs.declared.paths.StepAfter.TheVariants.{Stays, Gone, At}
 use Rattle.sdb_transform.specs.declared.side.Fault.{Fault}
 use Rattle.sdb_transform.specs.declared.side.Fault.TheVariants.{NotTransformed, Memory}
+use Rattle.sdb_transform.specs.declared.side.Side.{Side}
+use Rattle.sdb_transform.specs.declared.side.Side.TheVariants.{Left, Right}
 use Rattle.sdb_transform.specs.declared.side.Remaining.{Remaining}
 use Rattle.sdb_transform.specs.declared.side.Remaining.TheVariants.{Dropped, One, Two}
 
@@ -18,6 +20,10 @@ abbrev pub remaining_acts : Remaining → List PlainAct
 remaining_acts Dropped = []
 remaining_acts (One a) = plain_act a ∷ []
 remaining_acts (Two a b) = plain_act a ∷ plain_act b ∷ []
+
+abbrev pub opposite : Side → Side
+opposite Left = Right
+opposite Right = Left
 
 -- no transform exists, or memory was wanting
 abbrev pub IsFaultOf : {A : Type 0} → Fault → Option A → Type 0

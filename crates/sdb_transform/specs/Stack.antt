@@ -10,11 +10,12 @@ use Rattle.sdb_transform.specs.declared.side.Fault.{Fault}
 use Rattle.sdb_transform.specs.declared.side.Fault.TheVariants.{Memory, NotTransformed}
 use Rattle.sdb_transform.specs.declared.side.Side.TheVariants.{Left, Right}
 use Rattle.sdb_transform.specs.Grid.{Crossing, Crossings, total}
+use Rattle.sdb_transform.specs.Outlook.{successors}
 use Rattle.sdb_transform.specs.Transform.{transform}
 use Rattle.sdb_transform.specs.Work.{Token, Waits, Moves, moves, turns, Told}
 
 abbrev pub token : Pending → Token PlainComponent
-token (Waiting pieces) = Waits pieces.items
+token (Waiting pieces) = Waits (successors pieces)
 token (Moving c) = Moves c
 
 unfoldable pub top : List PlainComponent → List PlainComponent

@@ -3,13 +3,15 @@ ghost use Rattle.std.specs.Prelude.{◌≡◌, ◌<◌, nat_le, ◌∷◌, [], �
 ghost use Rattle.sdb_component.specs.Size.{component_size};
 ghost use Rattle.sdb_transform.specs.Acts.{IsFaultOf, apart, measured};
 ghost use Rattle.sdb_transform.specs.Grid.{Crossings};
+ghost use Rattle.sdb_transform.specs.Outlook.{successors};
 ghost use Rattle.sdb_transform.specs.Stack.{top, stack, token, Meets, IsRefusal, ToldWith, turns_with};
 ghost use Rattle.sdb_transform.specs.Transform.{transform};
 ghost use Rattle.sdb_transform.specs.Work.{Waits, moves};
 ghost use Rattle.sdb_transform.specs.declared.side.Fault.TheVariants.{Memory};
 ghost use Rattle.sdb_transform.specs.declared.side.Side.TheVariants.{Left, Right};
 
-use crate::components::only;
+use crate::components::Successors;
+use crate::outlook::{Outlook, foresee, moved, past};
 use crate::paths::behind;
 use crate::side::{Fault, Side};
 use crate::transforming::transform_one;
@@ -19,7 +21,7 @@ use std::alloc::Global;
 // Left components that wait from here on, or a right one on its way past those that wait.
 #[derive(Drop)]
 pub(crate) enum Pending {
-    Waiting(Vec<Component>),
+    Waiting(Successors),
     Moving(Component),
 }
 
@@ -43,7 +45,7 @@ impl Progress {
             → ToldWith (token next ∷ []) goal self.old → IsFaultOf f goal) }
     {
         match next {
-            Pending::Waiting(pieces) => push_pieces(&mut self.waiting, pieces),
+            Pending::Waiting(pieces) => push_successors(&mut self.waiting, pieces),
             Pending::Moving(right) => match pop_waiting(&mut self.waiting) {
                 None => {
                     self.done.push(right)?;
@@ -55,6 +57,19 @@ impl Progress {
                 }
             },
         }
+    }
+}
+
+fn push_successors(waiting: &mut Vec<Component>, pieces: Successors) -> Result<(), Fault>
+    ensures ok { OnOk result (top waiting.new.items ≡ successors pieces ++ top waiting.old.items) }
+    ensures err { IfErr result (λ f. f ≡ Memory) }
+{
+    match pieces {
+        Successors::One(piece) => {
+            waiting.push(piece)?;
+            Ok(())
+        }
+        Successors::Many(pieces) => push_pieces(waiting, pieces),
     }
 }
 
@@ -95,12 +110,25 @@ pub(crate) fn pop_work(work: &mut Vec<Pending>) -> Option<Pending>
     work.pop()
 }
 
-fn push_waiting(work: &mut Vec<Pending>, pieces: Vec<Component>) -> Result<(), Fault>
-    ensures ok { OnOk result (stack work.new.items ≡ Waits pieces.items ∷ stack work.old.items) }
+fn push_waiting(work: &mut Vec<Pending>, pieces: Successors) -> Result<(), Fault>
+    ensures ok { OnOk result (stack work.new.items ≡ Waits (successors pieces) ∷ stack work.old.items) }
     ensures err { IfErr result (λ f. f ≡ Memory) }
 {
     work.push(Pending::Waiting(pieces))?;
     Ok(())
+}
+
+fn push_run(work: &mut Vec<Pending>, run: Successors) -> Result<(), Fault>
+    ensures ok { OnOk result (stack work.new.items ≡ moves (successors run) ++ stack work.old.items) }
+    ensures err { IfErr result (λ f. f ≡ Memory) }
+{
+    match run {
+        Successors::One(component) => {
+            work.push(Pending::Moving(component))?;
+            Ok(())
+        }
+        Successors::Many(run) => push_moving(work, run),
+    }
 }
 
 pub(crate) fn push_moving(work: &mut Vec<Pending>, mut run: Vec<Component>) -> Result<(), Fault>
@@ -125,12 +153,57 @@ fn meet(
 {
     let (pieces, run) = both_past(alloc, left, right)?;
     push_waiting(work, pieces)?;
-    push_moving(work, run)
+    push_run(work, run)
 }
 
-// What stands for each of two components after the other. Where they touch, the one of which there is
-// less to copy is copied, and nothing else.
+// What stands for each of two components after the other. Nothing is copied but where both are reworked.
 fn both_past(
+    alloc: Global,
+    left: Component,
+    right: Component,
+) -> Result<(Successors, Successors), Fault>
+    ensures left { IfOk result (λ p. transform Left left right ≡ Some (successors p.0)) }
+    ensures right { IfOk result (λ p. transform Right right left ≡ Some (successors p.1)) }
+    ensures err { IfErr result (λ f. IsRefusal left right f) }
+{
+    if are_apart(&left, &right) {
+        return Ok((Successors::One(left), Successors::One(right)));
+    }
+    match foresee(&right, &left, Side::Right) {
+        Outlook::Refused => Err(Fault::NotTransformed),
+        Outlook::Moves(to) => {
+            let pieces = past(alloc, left, &right, Side::Left)?;
+            Ok((pieces, moved(alloc, right, to)))
+        }
+        Outlook::Reworked => past_reworked(alloc, left, right),
+    }
+}
+
+// The same where the right one is reworked.
+fn past_reworked(
+    alloc: Global,
+    left: Component,
+    right: Component,
+) -> Result<(Successors, Successors), Fault>
+    ensures left { IfOk result (λ p. transform Left left right ≡ Some (successors p.0)) }
+    ensures right { IfOk result (λ p. transform Right right left ≡ Some (successors p.1)) }
+    ensures err { IfErr result (λ f. IsRefusal left right f) }
+{
+    match foresee(&left, &right, Side::Left) {
+        Outlook::Refused => Err(Fault::NotTransformed),
+        Outlook::Moves(to) => {
+            let run = transform_one(alloc, right, &left, Side::Right)?;
+            Ok((moved(alloc, left, to), Successors::Many(run)))
+        }
+        Outlook::Reworked => {
+            let (pieces, run) = both_reworked(alloc, left, right)?;
+            Ok((Successors::Many(pieces), Successors::Many(run)))
+        }
+    }
+}
+
+// The same where both are reworked: the one of which there is less to copy is copied.
+fn both_reworked(
     alloc: Global,
     left: Component,
     right: Component,
@@ -139,9 +212,6 @@ fn both_past(
     ensures right { IfOk result (λ p. transform Right right left ≡ Some p.1.items) }
     ensures err { IfErr result (λ f. IsRefusal left right f) }
 {
-    if are_apart(&left, &right) {
-        return Ok((only(alloc, left)?, only(alloc, right)?));
-    }
     if is_no_larger(&left, &right) {
         let copy = left.try_clone(alloc)?;
         let pieces = transform_one(alloc, copy, &right, Side::Left)?;

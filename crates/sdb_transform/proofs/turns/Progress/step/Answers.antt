@@ -5,7 +5,7 @@ use Rattle.sdb_transform.proofs.turns.Progress.step.Goals as goal
 
 pub returns-in-Waiting-clause-falls : goal.returns-in-Waiting-clause-falls
 returns-in-Waiting-clause-falls c =
-    on_ok_then c.push_pieces.result c.push_pieces.ensures.ok (λ e. waits_falls c.args.next _ _ _ _ (ap token c.in-Waiting.is) e)
+    on_ok_then c.push_successors.result c.push_successors.ensures.ok (λ e. waits_falls c.args.next _ _ _ _ (ap token c.in-Waiting.is) e)
 
 pub returns-in_ok-push-in-None-clause-keeps : goal.returns-in_ok-push-in-None-clause-keeps
 returns-in_ok-push-in-None-clause-keeps c =

@@ -5,7 +5,7 @@ use Rattle.sdb_transform.specs.Stack.{IsRefusal}
 use Rattle.sdb_transform.specs.Transform.{transform}
 use Rattle.sdb_transform.specs.declared.side.Side.TheVariants.{Left, Right}
 use Rattle.sdb_transform.proofs.Pairs.{refused_left, refused_right}
-use Rattle.sdb_transform.proofs.turns.both_past.Goals as goal
+use Rattle.sdb_transform.proofs.turns.both_reworked.Goals as goal
 
 pub returns-in_err-pieces-clause-err : goal.returns-in_err-pieces-clause-err
 returns-in_err-pieces-clause-err c =
