@@ -130,9 +130,7 @@ impl<T: Drop> Pieces<T> {
         ensures own { IfOk result (λ l. is_own_list l ≡ true) }
     {
         if items.len() <= most {
-            return Ok(Pieces {
-                form: Form::One(Block::Own(items)),
-            });
+            return Ok(Pieces::from_form(Form::One(Block::Own(items))));
         }
         Ok(Pieces::from_blocks(cut_blocks(alloc, items, most)?))
     }

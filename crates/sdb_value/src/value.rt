@@ -128,11 +128,11 @@ impl Json {
 
     /// An object that holds these members, their parts as they are.
     #[tactic(auto, using(crate::proofs::Views::seen_object, crate::proofs::Owned::owned_object))]
-    pub fn of_members(members: Members) -> Json
-        ensures value { view result ≡ object (object_view members) }
-        ensures own { is_own result ≡ object_own members }
+    pub fn of_members(held: Members) -> Json
+        ensures value { view result ≡ object (object_view held) }
+        ensures own { is_own result ≡ object_own held }
     {
-        Json::Object(members)
+        Json::Object(held)
     }
 
     /// Whether it is `null`.
