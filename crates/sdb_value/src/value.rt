@@ -184,10 +184,8 @@ impl Json {
     }
 
     /// Makes all of it shared in place, so that a copy of it is a pointer. It costs a pointer for each text, list
-    /// and object in it that isn't shared yet, and for each of their pieces, which are moved; of an object that
-    /// isn't shared yet, it also looks at each member, and copies the keys of those that aren't, for as long as
-    /// it works. What is shared already isn't looked into. Fails only where memory is wanting; the value is the
-    /// same then.
+    /// and object in it that isn't shared yet, and for each of their pieces, which are moved. What is shared already
+    /// isn't looked into. Fails only where memory is wanting; the value is the same then.
     pub fn share(&mut self, alloc: Global) -> Result<(), AllocError>
         ensures value { view self.new ≡ view self.old }
         ensures pointer { OnOk result (is_pointer self.new ≡ true) }
