@@ -39,14 +39,6 @@ Shows c o =
     (x : Crossing PlainComponent) × (o ≡ Some x) × (c.left ≡ x.left) × (c.right ≡ x.right)
     × (c.pairs ≡ min x.pairs (2 ^ 128 - 1))
 
--- a pair met: what comes of both is put on the work
-pub record Meets (l r : PlainComponent) (ts ts' : List (Token PlainComponent)) : Type 0 where
-  pub pieces : List PlainComponent
-  pub run : List PlainComponent
-  pub on_left : transform Left l r ≡ Some pieces
-  pub on_right : transform Right r l ≡ Some run
-  pub work : ts' ≡ moves run ++ (Waits pieces ∷ ts)
-
 -- one of both transforms is refused, or memory was wanting
 abbrev pub IsRefusal : PlainComponent → PlainComponent → Fault → Type 0
 IsRefusal l r Memory = ⊤

@@ -10,7 +10,7 @@ ghost use Rattle.sdb_transform.specs.Transform.{above, step_over, transform, und
 use crate::components::Successors;
 use crate::foreseen::outlook_of_act;
 use crate::paths::{StepAfter, behind, step_over};
-use crate::removed::under_removed;
+use crate::removed::{removes_value, under_removed};
 use crate::side::{Fault, Side};
 use crate::transforming::transform_one;
 use sdb_component::{Act, Component};
@@ -52,6 +52,9 @@ fn outlook_apart(component: &Component, other: &Component) -> Outlook
     ensures { Foresees result component.now
         (Some (above component.now other.now (under_removed component.now other.now.path))) }
 {
+    if !removes_value(component.act()) {
+        return Outlook::Moves(Move::Stays);
+    }
     match under_removed(component.path(), component.act(), other.path()) {
         Some(_) => Outlook::Reworked,
         None => Outlook::Moves(Move::Stays),

@@ -1,18 +1,17 @@
 //! The work of a crossing, turn by turn.
 ghost use Rattle.std.specs.Prelude.{◌≡◌, ◌<◌, nat_le, ◌∷◌, [], ◌++◌, MatchOption, IfOk, OnOk, IfErr, Some};
 ghost use Rattle.sdb_component.specs.Size.{component_size};
-ghost use Rattle.sdb_transform.specs.Acts.{IsFaultOf, apart, measured};
+ghost use Rattle.sdb_transform.specs.Acts.{IsFaultOf, measured};
 ghost use Rattle.sdb_transform.specs.Grid.{Crossings};
 ghost use Rattle.sdb_transform.specs.Outlook.{successors};
-ghost use Rattle.sdb_transform.specs.Stack.{top, stack, token, Meets, IsRefusal, ToldWith, turns_with};
+ghost use Rattle.sdb_transform.specs.Stack.{top, stack, token, IsRefusal, ToldWith, turns_with};
 ghost use Rattle.sdb_transform.specs.Transform.{transform};
-ghost use Rattle.sdb_transform.specs.Work.{Waits, moves};
+ghost use Rattle.sdb_transform.specs.Work.{Moves, Waits, moves};
 ghost use Rattle.sdb_transform.specs.declared.side.Fault.TheVariants.{Memory};
 ghost use Rattle.sdb_transform.specs.declared.side.Side.TheVariants.{Left, Right};
 
 use crate::components::Successors;
 use crate::outlook::{Outlook, foresee, moved, past};
-use crate::paths::behind;
 use crate::side::{Fault, Side};
 use crate::transforming::transform_one;
 use sdb_component::Component;
@@ -46,17 +45,29 @@ impl Progress {
     {
         match next {
             Pending::Waiting(pieces) => push_successors(&mut self.waiting, pieces),
-            Pending::Moving(right) => match pop_waiting(&mut self.waiting) {
-                None => {
-                    self.done.push(right)?;
-                    Ok(())
-                }
-                Some(left) => {
-                    self.pairs = self.pairs.saturating_add(1);
-                    meet(alloc, left, right, &mut self.work)
-                }
-            },
+            Pending::Moving(right) => self.carry(alloc, right),
         }
+    }
+
+    // Carries a right component past those that wait, as long as a single one stands for it.
+    fn carry(&mut self, alloc: Global, mut right: Component) -> Result<(), Fault>
+        ensures keeps { OnOk result ((goal : Crossings)
+            → ToldWith (Moves right ∷ []) goal self.old → ToldWith [] goal self.new) }
+        ensures falls { OnOk result (turns_with [] self.new < turns_with (Moves right ∷ []) self.old) }
+        ensures refused { IfErr result (λ f. (goal : Crossings)
+            → ToldWith (Moves right ∷ []) goal self.old → IsFaultOf f goal) }
+    {
+        while let Some(left) = pop_waiting(&mut self.waiting) {
+            self.pairs = self.pairs.saturating_add(1);
+            let (pieces, run) = both_past(alloc, left, right)?;
+            push_waiting(&mut self.work, pieces)?;
+            match run {
+                Successors::One(next) => right = next,
+                Successors::Many(run) => return push_moving(&mut self.work, run),
+            }
+        }
+        self.done.push(right)?;
+        Ok(())
     }
 }
 
@@ -118,19 +129,6 @@ fn push_waiting(work: &mut Vec<Pending>, pieces: Successors) -> Result<(), Fault
     Ok(())
 }
 
-fn push_run(work: &mut Vec<Pending>, run: Successors) -> Result<(), Fault>
-    ensures ok { OnOk result (stack work.new.items ≡ moves (successors run) ++ stack work.old.items) }
-    ensures err { IfErr result (λ f. f ≡ Memory) }
-{
-    match run {
-        Successors::One(component) => {
-            work.push(Pending::Moving(component))?;
-            Ok(())
-        }
-        Successors::Many(run) => push_moving(work, run),
-    }
-}
-
 pub(crate) fn push_moving(work: &mut Vec<Pending>, mut run: Vec<Component>) -> Result<(), Fault>
     ensures ok { OnOk result (stack work.new.items ≡ moves run.items ++ stack work.old.items) }
     ensures err { IfErr result (λ f. f ≡ Memory) }
@@ -139,21 +137,6 @@ pub(crate) fn push_moving(work: &mut Vec<Pending>, mut run: Vec<Component>) -> R
         work.push(Pending::Moving(component))?;
     }
     Ok(())
-}
-
-// Carries two components past one another, and puts what comes of them on the work.
-fn meet(
-    alloc: Global,
-    left: Component,
-    right: Component,
-    work: &mut Vec<Pending>,
-) -> Result<(), Fault>
-    ensures ok { OnOk result (Meets left right (stack work.old.items) (stack work.new.items)) }
-    ensures err { IfErr result (λ f. IsRefusal left right f) }
-{
-    let (pieces, run) = both_past(alloc, left, right)?;
-    push_waiting(work, pieces)?;
-    push_run(work, run)
 }
 
 // What stands for each of two components after the other. Nothing is copied but where both are reworked.
@@ -166,9 +149,6 @@ fn both_past(
     ensures right { IfOk result (λ p. transform Right right left ≡ Some (successors p.1)) }
     ensures err { IfErr result (λ f. IsRefusal left right f) }
 {
-    if are_apart(&left, &right) {
-        return Ok((Successors::One(left), Successors::One(right)));
-    }
     match foresee(&right, &left, Side::Right) {
         Outlook::Refused => Err(Fault::NotTransformed),
         Outlook::Moves(to) => {
@@ -223,12 +203,6 @@ fn both_reworked(
         let pieces = transform_one(alloc, left, &right, Side::Left)?;
         Ok((pieces, run))
     }
-}
-
-fn are_apart(left: &Component, right: &Component) -> bool
-    ensures { result ≡ apart left.now right.now }
-{
-    behind(left.path(), right.path()).is_none() && behind(right.path(), left.path()).is_none()
 }
 
 // Whether there is no more to copy of the left one than of the right one. Both are measured up to a
