@@ -1,5 +1,5 @@
 -- What is known of an act or a step beforehand is known of its component.
-use Rattle.std.proofs.Common.{◌≡◌, ℕ, ◌<◌, length, get_or, List, [], ◌∷◌, ◌++◌, map, Option, Some, None, option_map, Bool, true, false, refl, sym, ap, ◌∙◌, arith}
+use Rattle.std.proofs.Common.{◌≡◌, ◌<◌, length, get_or, List, [], ◌∷◌, ◌++◌, map, Some, None, option_map, false, refl, sym, ap, ◌∙◌, arith}
 use Rattle.std.specs.Option.{is_none}
 use Rattle.sdb_value.specs.Value.{PlainStep}
 use Rattle.sdb_value.specs.View.{plain_step, plain_path}

@@ -1,5 +1,5 @@
 -- One turn of the loop of a crossing.
-use Rattle.std.proofs.Common.{◌≡◌, ℕ, ◌+◌, ◌-◌, ◌*◌, ◌^◌, ◌<◌, ◌≤◌, arith, min, List, [], ◌∷◌, ◌++◌, Result, Ok, Err, Some, sym, ap, ◌∙◌, append-nil}
+use Rattle.std.proofs.Common.{◌≡◌, ℕ, ◌+◌, ◌-◌, ◌*◌, ◌^◌, ◌<◌, ◌≤◌, arith, min, List, [], ◌∷◌, ◌++◌, Result, Ok, Err, Some, ap, ◌∙◌, append-nil}
 use Rattle.std.specs.Prelude.{IfOk, OnOk, IfErr}
 use Rattle.sdb_component.specs.Plain.{PlainComponent}
 use Rattle.sdb_component.specs.Weighs.{weigh, weight}

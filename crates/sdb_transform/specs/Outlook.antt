@@ -1,7 +1,7 @@
 -- What is known of a transform beforehand.
-use Rattle.std.specs.Prelude.{◌≡◌, ℕ, ◌+◌, Bool, false, nat_lt, nat_le, if◌then◌else◌, List, [], ◌∷◌, Option, Some, None}
+use Rattle.std.specs.Prelude.{◌≡◌, ℕ, ◌+◌, Bool, false, nat_lt, nat_le, if◌then◌else◌, List, [], ◌∷◌, Some, None}
 use Rattle.std.specs.Option.{is_none}
-use Rattle.sdb_component.specs.Plain.{PlainAct, na, si, sd, li, ld, lr, oi, od, or, PlainComponent}
+use Rattle.sdb_component.specs.Plain.{PlainAct, si, sd, li, ld, lr, PlainComponent}
 use Rattle.sdb_transform.specs.declared.side.Side.{Side}
 use Rattle.sdb_transform.specs.declared.side.Side.TheVariants.{Left, Right}
 use Rattle.sdb_transform.specs.declared.outlook.Move.{Move}

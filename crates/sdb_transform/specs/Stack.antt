@@ -1,5 +1,5 @@
 -- Vectors as stacks, by what they hold from the top, and what the code shows of a crossing.
-use Rattle.std.specs.Prelude.{◌⊎◌, ◌≡◌, ℕ, ◌-◌, ◌^◌, min, List, ◌∷◌, ◌++◌, map, reverse, Some, None, ⊤}
+use Rattle.std.specs.Prelude.{◌⊎◌, ◌≡◌, ℕ, ◌-◌, ◌^◌, min, List, ◌++◌, map, reverse, Some, None, ⊤}
 use Rattle.sdb_component.specs.Plain.{PlainComponent}
 use Rattle.sdb_component.specs.Weighs.{weigh}
 use Rattle.sdb_transform.specs.declared.turns.Pending.{Pending}
@@ -12,7 +12,7 @@ use Rattle.sdb_transform.specs.declared.side.Side.TheVariants.{Left, Right}
 use Rattle.sdb_transform.specs.Grid.{Crossing, Crossings, total}
 use Rattle.sdb_transform.specs.Outlook.{successors}
 use Rattle.sdb_transform.specs.Transform.{transform}
-use Rattle.sdb_transform.specs.Work.{Token, Waits, Moves, moves, turns, Told}
+use Rattle.sdb_transform.specs.Work.{Token, Waits, Moves, turns, Told}
 
 abbrev pub token : Pending → Token PlainComponent
 token (Waiting pieces) = Waits (successors pieces)

@@ -1,4 +1,4 @@
-use Rattle.std.proofs.Common.{◌≡◌, ◌<◌, length, Some, sym, arith}
+use Rattle.std.proofs.Common.{◌≡◌, Some, sym, arith}
 use Rattle.sdb_value.specs.View.{plain_path}
 use Rattle.sdb_transform.specs.Transform.{behind}
 use Rattle.sdb_transform.proofs.Outlooks.{foreseen_first}

@@ -1,9 +1,8 @@
-use Rattle.std.proofs.Common.{◌≡◌, ◌<◌, List, ◌∷◌, ◌++◌, ap, ◌∙◌, arith}
+use Rattle.std.proofs.Common.{◌≡◌, ◌∷◌, ◌++◌, ap, ◌∙◌, arith}
 use Rattle.std.proofs.lemmas.Result.{err_from_is_err_and}
-use Rattle.sdb_component.specs.Plain.{PlainComponent}
 use Rattle.sdb_transform.specs.Outlook.{successors}
 use Rattle.sdb_transform.specs.Stack.{top, stack}
-use Rattle.sdb_transform.specs.Work.{Token, Moves, Waits, moves}
+use Rattle.sdb_transform.specs.Work.{Moves, Waits, moves}
 use Rattle.sdb_transform.proofs.Run.{on_ok_then, none_keeps, meet_keeps, meet_falls, meet_refused}
 use Rattle.sdb_transform.proofs.turns.Progress.carry.Goals as goal
 
