@@ -34,8 +34,8 @@ pub struct Crossed {
 /// It is `Fault::NotTransformed` where one transform of a pair that meets is, and `Fault::Memory`
 /// where an allocation fails.
 ///
-/// Each component is copied once, and at a pair at most one of the two once more. Apart from that the
-/// cost is the transforms of the pairs, at most as many as the product of both weights.
+/// Each component is copied once, and of two deletions of one text that overlap one once more. Apart from
+/// that the cost is the transforms of the pairs, at most as many as the product of both weights.
 pub fn cross(alloc: Global, left: &Op, right: &Op) -> Result<Crossed, Fault>
     ensures ok { IfOk result (λ c. Shows c (crossing left.now right.now)) }
     ensures err { IfErr result (λ f. IsFaultOf f (crossing left.now right.now)) }
