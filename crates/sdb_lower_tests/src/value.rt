@@ -462,24 +462,23 @@ fn a_text_is_changed_in_place(rt: HostRuntime) {
     assert!(rt; is_shown(&rt, rt.alloc(), &text, r#""ayb""#));
 }
 
-// The text of an object with a member for each number from the first on, below 1,000, by steps.
-fn numbered(rt: &impl Abort, alloc: Global, first: u64, step: u64) -> String {
-    let mut text = extended(rt, alloc, "{", "", 0);
-    for number in (first..1_000).step_by(step as usize) {
-        let comma = if number == first { "" } else { "," };
-        let member = format!(in alloc; r#"{comma}"k{number}":{number}"#).expect(
-            rt,
-            "out of memory",
-        );
-        text.push_str(member.as_str()).expect(rt, "out of memory");
+// The text of an object with a member for each number from 100 to 999, or for each even one.
+fn numbered(rt: &impl Abort, alloc: Global, with_odd: bool) -> String {
+    let mut text = extended(rt, alloc, r#"{"k100":100"#, "", 0);
+    for number in 101_u64..1_000 {
+        if with_odd || number % 2 == 0 {
+            let member = format!(in alloc; r#","k{number}":{number}"#).expect(rt, "out of memory");
+            text.push_str(member.as_str()).expect(rt, "out of memory");
+        }
     }
     extended(rt, alloc, text.as_str(), "}", 1)
 }
 
-// Takes the members of odd numbers out, and puts them in again.
+// Takes the members of odd numbers out, or puts them in again.
 fn change_odd(rt: &impl Abort, alloc: Global, object: &mut Json, back: bool) {
     let members = object_mut(object).expect(rt, "an object");
-    for number in (101_i64..1_000).step_by(2) {
+    for half in 50_i64..500 {
+        let number = half.wrapping_mul(2).wrapping_add(1);
         let key = format!(in alloc; "k{number}").expect(rt, "out of memory");
         if back {
             let value = Json::Int(Whole::new(number).expect(rt, "a number"));
@@ -492,8 +491,8 @@ fn change_odd(rt: &impl Abort, alloc: Global, object: &mut Json, back: bool) {
 
 #[test]
 fn a_wide_object_is_changed_beside_its_copy(rt: HostRuntime) {
-    let whole = numbered(&rt, rt.alloc(), 100, 1);
-    let half = numbered(&rt, rt.alloc(), 100, 2);
+    let whole = numbered(&rt, rt.alloc(), true);
+    let half = numbered(&rt, rt.alloc(), false);
     let mut object = json(&rt, rt.alloc(), whole.as_str());
     object.share(rt.alloc()).expect(&rt, "out of memory");
     let copy = object.try_clone(rt.alloc()).expect(&rt, "out of memory");
@@ -517,7 +516,7 @@ fn members_are_a_value_again(rt: HostRuntime) {
 // A value with a list and an object of several blocks and a text of several pieces.
 fn wide(rt: &impl Abort, alloc: Global) -> Json {
     let text = extended(rt, alloc, r#"{"l":["#, r#"{"n":[1]},"#, 1_500);
-    let object = numbered(rt, alloc, 100, 1);
+    let object = numbered(rt, alloc, true);
     let text = extended(rt, alloc, text.as_str(), r#"0],"o":"#, 1);
     let text = extended(rt, alloc, text.as_str(), object.as_str(), 1);
     let text = extended(rt, alloc, text.as_str(), r#","t":""#, 1);
