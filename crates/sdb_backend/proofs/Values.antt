@@ -5,17 +5,12 @@ use denote.Param.Send.{IsSend, IsSync, sendable}
 use denote.Param.SendFields.{as_row_send, as_row_sync, declared_send, declared_sync, variants_send, variants_sync}
 use Rattle.std.proofs.Crossing.{Vec-send, Vec-sync, Arc-send, Arc-sync, crosses}
 use Rattle.std.proofs.MapsCrossing as maps
-use Rattle.std.specs.contracts.alloc.Global as Global
-use Rattle.std.specs.contracts.collections.BTreeMap as Map
-use Rattle.std.specs.contracts.impls.GlobalAllocator.TheImpl as allocator
-use Rattle.std.specs.contracts.impls.StringOrd.TheImpl as ord
-use Rattle.std.specs.contracts.impls.StringPartialEq.TheImpl as eq
-use Rattle.std.specs.contracts.impls.StringPartialOrd.TheImpl as partial
-use Rattle.std.specs.contracts.string.String as String
 use Rattle.sdb_pieces.specs.contracts.block.Block as Block
 use Rattle.sdb_pieces.specs.contracts.pieces.Form as Form
 use Rattle.sdb_pieces.specs.contracts.pieces.Pieces as Pieces
-use Rattle.sdb_pieces.specs.contracts.shareable.Shareable as Shareable
+use Rattle.sdb_members.specs.contracts.key.Key as Key
+use Rattle.sdb_members.specs.contracts.keys.Keys as Keys
+use Rattle.sdb_members.specs.contracts.members.Members as Members
 use Rattle.sdb_value.specs.contracts.value.Json as Json
 use Rattle.sdb_value.proofs.value.Json.TheLaws.TheKnot as knot
 
@@ -25,12 +20,6 @@ module _ (T : RattleType) (s : IsSend T) (y : IsSync T) where
 
   Block-sync : IsSync (Block.the_row T)
   Block-sync = variants_sync (Block.enum T) ((Vec-sync T y, tt), ((Arc-sync _ (Vec-send T s) (Vec-sync T y), tt), tt))
-
-  Shareable-send : IsSend (Shareable.the_row T)
-  Shareable-send = variants_send (Shareable.enum T) ((as_row_send (row_field T) s, tt), ((Arc-send T s y, tt), tt))
-
-  Shareable-sync : IsSync (Shareable.the_row T)
-  Shareable-sync = variants_sync (Shareable.enum T) ((as_row_sync (row_field T) y, tt), ((Arc-sync T s y, tt), tt))
 
 module _ (T : RattleType) (s : IsSend T) (y : IsSync T) where
   Form-send : IsSend (Form.the_row T)
@@ -45,40 +34,33 @@ module _ (T : RattleType) (s : IsSend T) (y : IsSync T) where
   Pieces-sync : IsSync (Pieces.the_row T)
   Pieces-sync = declared_sync (Pieces.the_type T) (Form-sync, tt)
 
--- a map of members
-module _ (T : RattleType) where
-  abbrev map-field : Field
-  map-field =
-      Map.the_field (String.the_row Global.the_row allocator.ghosts) T Global.the_row (ord.ghosts Global.the_row allocator.ghosts ord.no_dict ord.no_dict)
-      (eq.ghosts Global.the_row allocator.ghosts eq.no_dict eq.no_dict) (partial.ghosts Global.the_row allocator.ghosts partial.no_dict partial.no_dict)
-      allocator.ghosts
+Key-send : IsSend Key.the_row
+Key-send = search (sendable, crosses, maps.crosses) depth 40
 
-  abbrev map-row : RattleType
-  map-row =
-      Map.the_row (String.the_row Global.the_row allocator.ghosts) T Global.the_row (ord.ghosts Global.the_row allocator.ghosts ord.no_dict ord.no_dict)
-      (eq.ghosts Global.the_row allocator.ghosts eq.no_dict eq.no_dict) (partial.ghosts Global.the_row allocator.ghosts partial.no_dict partial.no_dict)
-      allocator.ghosts
+Key-sync : IsSync Key.the_row
+Key-sync = search (sendable, crosses, maps.crosses) depth 40
 
-  map-send : IsSend T → IsSend map-row
-  map-send s =
-      as_row_send map-field
-      (maps.BTreeMap-send _ T (ord.ghosts Global.the_row allocator.ghosts ord.no_dict ord.no_dict) (eq.ghosts Global.the_row allocator.ghosts eq.no_dict eq.no_dict)
-      (partial.ghosts Global.the_row allocator.ghosts partial.no_dict partial.no_dict) maps.String-send s)
+Keys-send : IsSend Keys.the_row
+Keys-send = declared_send Keys.the_type (Pieces-send Key.the_row Key-send Key-sync, (search sendable, tt))
 
-  map-sync : IsSync T → IsSync map-row
-  map-sync y =
-      as_row_sync map-field
-      (maps.BTreeMap-sync _ T (ord.ghosts Global.the_row allocator.ghosts ord.no_dict ord.no_dict) (eq.ghosts Global.the_row allocator.ghosts eq.no_dict eq.no_dict)
-      (partial.ghosts Global.the_row allocator.ghosts partial.no_dict partial.no_dict) maps.String-sync y)
+Keys-sync : IsSync Keys.the_row
+Keys-sync = declared_sync Keys.the_type (Pieces-sync Key.the_row Key-send Key-sync, (search sendable, tt))
+
+module _ (T : RattleType) (s : IsSend T) (y : IsSync T) where
+  Members-send : IsSend (Members.the_row T)
+  Members-send = declared_send (Members.the_type T) (Keys-send, (Pieces-send T s y, tt))
+
+  Members-sync : IsSync (Members.the_row T)
+  Members-sync = declared_sync (Members.the_type T) (Keys-sync, (Pieces-sync T s y, tt))
 
 pub Json-send : IsSend (Json.the_field).row
 Json-send =
     knot.both_send-Json (search sendable) (search sendable) (search sendable) (search sendable) (search (sendable, crosses, maps.crosses) depth 40)
     (search (sendable, crosses, maps.crosses) depth 40) (λ h s y. Pieces-send h s y) (λ h s y. Pieces-sync h s y)
-    (λ h s y. Shareable-send (map-row h) (map-send h s) (map-sync h y)) (λ h s y. Shareable-sync (map-row h) (map-send h s) (map-sync h y))
+    (λ h s y. Members-send h s y) (λ h s y. Members-sync h s y)
 
 pub Json-sync : IsSync (Json.the_field).row
 Json-sync =
     knot.both_sync-Json (search sendable) (search sendable) (search sendable) (search sendable) (search (sendable, crosses, maps.crosses) depth 40)
     (search (sendable, crosses, maps.crosses) depth 40) (λ h s y. Pieces-send h s y) (λ h s y. Pieces-sync h s y)
-    (λ h s y. Shareable-send (map-row h) (map-send h s) (map-sync h y)) (λ h s y. Shareable-sync (map-row h) (map-send h s) (map-sync h y))
+    (λ h s y. Members-send h s y) (λ h s y. Members-sync h s y)

@@ -1,4 +1,4 @@
-//! Inserts into a long text and a long list.
+//! Inserts into a long text, a long list and an object of many keys.
 use crate::random::Random;
 use crate::timing::report;
 use sdb_apply::apply_one;
@@ -16,6 +16,9 @@ pub(crate) fn measure(rt: &HostRuntime) -> anyhow::Result<()> {
     }
     for length in [25_000, 50_000, 100_000] {
         list_inserts(rt, length)?;
+    }
+    for length in [1_000, 10_000, 100_000] {
+        object_puts(rt, length)?;
     }
     Ok(())
 }
@@ -59,7 +62,7 @@ fn small_object(alloc: Global) -> Result<Json, AllocError> {
         None => Json::Null,
     };
     drop(members.insert(key, one)?);
-    Ok(Json::object(members))
+    Json::object(alloc, members)
 }
 
 fn list_inserts(rt: &HostRuntime, length: u64) -> anyhow::Result<()> {
@@ -68,7 +71,7 @@ fn list_inserts(rt: &HostRuntime, length: u64) -> anyhow::Result<()> {
     for _ in 0..length {
         items.push(small_object(alloc)?)?;
     }
-    let mut value = Json::list(items);
+    let mut value = Json::list_of(alloc, items)?;
     let mut random = Random::new();
     let start = Instant::now(rt)?;
     for _ in 0..INSERTS {
@@ -76,6 +79,31 @@ fn list_inserts(rt: &HostRuntime, length: u64) -> anyhow::Result<()> {
         let _ = apply_one(alloc, &mut value, &Component::new(Vec::new(alloc), act));
     }
     let name = format!(in alloc; "an object into a list of {length}")?;
+    report(rt, name.as_str(), start, INSERTS)?;
+    Ok(())
+}
+
+fn object_of(alloc: Global, length: u64) -> Result<Json, AllocError> {
+    let mut members = BTreeMap::new(alloc);
+    for at in 0..length {
+        let name = format!(in alloc; "k{at}")?;
+        drop(members.insert(name, Json::Null)?);
+    }
+    Json::object(alloc, members)
+}
+
+// At random keys among twice as many as the object has at first.
+fn object_puts(rt: &HostRuntime, length: u64) -> anyhow::Result<()> {
+    let alloc = rt.alloc();
+    let mut value = object_of(alloc, length)?;
+    let mut random = Random::new();
+    let start = Instant::now(rt)?;
+    for _ in 0..INSERTS {
+        let key = random.below(length.saturating_mul(2).max(1));
+        let act = Act::Oi(format!(in alloc; "k{key}")?, Json::Null);
+        let _ = apply_one(alloc, &mut value, &Component::new(Vec::new(alloc), act));
+    }
+    let name = format!(in alloc; "a key into an object of {length}")?;
     report(rt, name.as_str(), start, INSERTS)?;
     Ok(())
 }

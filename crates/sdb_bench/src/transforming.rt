@@ -76,7 +76,8 @@ fn removal(alloc: Global) -> Result<Component, AllocError> {
         drop(members.insert(name, number())?);
     }
     let name = String::from_str(alloc, "k")?;
-    Ok(Component::new(path(alloc)?, Act::Od(name, Json::object(members))))
+    let object = Json::object(alloc, members)?;
+    Ok(Component::new(path(alloc)?, Act::Od(name, object)))
 }
 
 fn edit_below(alloc: Global) -> Result<Component, AllocError> {

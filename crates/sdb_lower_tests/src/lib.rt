@@ -14,6 +14,8 @@ mod lines;
 #[cfg(test)]
 mod meet;
 #[cfg(test)]
+mod members;
+#[cfg(test)]
 mod oplog;
 #[cfg(test)]
 mod pieces;

@@ -5,7 +5,7 @@ use std::alloc::{AllocError, Global};
 use std::process::Abort;
 
 #[derive(Drop)]
-struct Number(u64);
+pub(crate) struct Number(pub(crate) u64);
 
 impl Share for Number {
     ghost use Rattle.std.specs.Prelude.{ℕ};

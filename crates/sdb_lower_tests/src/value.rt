@@ -4,6 +4,7 @@ ghost use Rattle.sdb_value.specs.View.{view};
 
 use crate::texts::{each_row, extended, is_shown, json, json_of, parsed, says, shown, text_of};
 use json::Writer;
+use sdb_pieces::Share;
 use sdb_value::{
     Change, Json, List, MAX, Members, Path, Step, ValueFault, Whole, change_at, count_of, cut_at,
     find, find_mut, from_value, insert_item, laws, list_mut, object_mut, put_member, remove_item,
@@ -461,10 +462,64 @@ fn a_text_is_changed_in_place(rt: HostRuntime) {
     assert!(rt; is_shown(&rt, rt.alloc(), &text, r#""ayb""#));
 }
 
-// A value with a list of several blocks and a text of several pieces.
+// The text of an object with a member for each number from 100 to 999, or for each even one.
+fn numbered(rt: &impl Abort, alloc: Global, with_odd: bool) -> String {
+    let mut text = extended(rt, alloc, r#"{"k100":100"#, "", 0);
+    for number in 101_u64..1_000 {
+        if with_odd || number % 2 == 0 {
+            let member = format!(in alloc; r#","k{number}":{number}"#).expect(rt, "out of memory");
+            text.push_str(member.as_str()).expect(rt, "out of memory");
+        }
+    }
+    extended(rt, alloc, text.as_str(), "}", 1)
+}
+
+// Takes the members of odd numbers out, or puts them in again.
+fn change_odd(rt: &impl Abort, alloc: Global, object: &mut Json, back: bool) {
+    let members = object_mut(object).expect(rt, "an object");
+    for half in 50_i64..500 {
+        let number = half.wrapping_mul(2).wrapping_add(1);
+        let key = format!(in alloc; "k{number}").expect(rt, "out of memory");
+        if back {
+            let value = Json::Int(Whole::new(number).expect(rt, "a number"));
+            put_member(alloc, members, key, value).expect(rt, "out of memory");
+        } else {
+            remove_member(alloc, members, key.as_str()).expect(rt, "out of memory");
+        }
+    }
+}
+
+#[test]
+fn a_wide_object_is_changed_beside_its_copy(rt: HostRuntime) {
+    let whole = numbered(&rt, rt.alloc(), true);
+    let half = numbered(&rt, rt.alloc(), false);
+    let mut object = json(&rt, rt.alloc(), whole.as_str());
+    object.share(rt.alloc()).expect(&rt, "out of memory");
+    let copy = object.try_clone(rt.alloc()).expect(&rt, "out of memory");
+    change_odd(&rt, rt.alloc(), &mut object, false);
+    assert!(rt; is_shown(&rt, rt.alloc(), &object, half.as_str()));
+    change_odd(&rt, rt.alloc(), &mut object, true);
+    assert!(rt; is_shown(&rt, rt.alloc(), &object, whole.as_str()));
+    assert!(rt; is_shown(&rt, rt.alloc(), &copy, whole.as_str()));
+}
+
+#[test]
+fn members_are_a_value_again(rt: HostRuntime) {
+    let object = json(&rt, rt.alloc(), r#"{"a":null}"#);
+    let members = object.members().expect(&rt, "an object");
+    assert!(rt; members.get("a").expect(&rt, "a member").is_null());
+    assert!(rt; !object.is_null());
+    let pointer = members.share(rt.alloc()).expect(&rt, "out of memory");
+    assert!(rt; same_value(&object, &Json::of_members(pointer)));
+}
+
+// A value with a list and an object of several blocks and a text of several pieces.
 fn wide(rt: &impl Abort, alloc: Global) -> Json {
     let text = extended(rt, alloc, r#"{"l":["#, r#"{"n":[1]},"#, 1_500);
-    let text = extended(rt, alloc, text.as_str(), r#"0],"t":""#, 1);
+    let object = numbered(rt, alloc, true);
+    let text = extended(rt, alloc, text.as_str(), r#"0],"o":"#, 1);
+    let text = extended(rt, alloc, text.as_str(), object.as_str(), 1);
+    let text = extended(rt, alloc, text.as_str(), r#","t":""#, 1);
     let text = extended(rt, alloc, text.as_str(), "aé😀", 3_000);
     let text = extended(rt, alloc, text.as_str(), r#""}"#, 1);
     json(rt, alloc, text.as_str())
@@ -474,6 +529,7 @@ fn wide(rt: &impl Abort, alloc: Global) -> Json {
 fn change_some(rt: &impl Abort, alloc: Global, value: &mut Json) {
     assert!(rt; put_null(rt, alloc, value, r#"["l",700,"n",0]"#) == Some(0));
     assert!(rt; put_null(rt, alloc, value, r#"["l",1400]"#).is_some());
+    assert!(rt; put_null(rt, alloc, value, r#"["o","k500"]"#) == Some(0));
     assert!(rt; put_null(rt, alloc, value, r#"["t"]"#) == Some(0));
 }
 

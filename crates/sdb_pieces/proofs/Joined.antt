@@ -1,10 +1,10 @@
 -- Blocks one by one, and the list that they make.
-use Rattle.std.proofs.Common.{◌≡◌, ℕ, zero, suc, ◌+◌, ◌-◌, ◌<◌, ◌≤◌, List, [], ◌∷◌, ◌++◌, length, take, drop, map, refl, sym, ap, ◌∙◌, arith, append_assoc, length-append, get_or, set, Option, Some, None, option_map, slice_get, Bool, true, false, cond, Bor, MutBor, Result, Ok, Err, OnErr, ltb, if◌then◌else◌}
+use Rattle.std.proofs.Common.{◌≡◌, ℕ, zero, suc, ◌+◌, ◌-◌, ◌<◌, ◌≤◌, List, [], ◌∷◌, ◌++◌, length, take, drop, map, reverse, refl, sym, ap, ◌∙◌, arith, append_assoc, length-append, get_or, set, Option, Some, None, option_map, slice_get, Bool, true, false, cond, Bor, MutBor, Result, Ok, Err, OnErr, ltb, if◌then◌else◌}
 use Rattle.std.proofs.Math.ListN.{length-map}
 use Rattle.std.proofs.lemmas.Bool.{lt-ltb, le-ltb, ltb-true, ltb-false}
 use Rattle.std.specs.Option.{is_some, IfSome}
-use Rattle.std.specs.List.{insert, remove}
-use Rattle.std.proofs.lemmas.List.{take_more, drop_more, take-append-drop}
+use Rattle.std.specs.List.{insert, remove, flat_map}
+use Rattle.std.proofs.lemmas.List.{take_more, drop_more, take-append-drop, reverse-append}
 use Rattle.std.proofs.lemmas.List.Edits.{insert-append_left, insert-append_right}
 use Rattle.sdb_pieces.specs.Block.{items_of, is_own}
 use Rattle.sdb_pieces.specs.Pieces.{seen_items, joined, all_own, own_among}
@@ -372,6 +372,13 @@ map_insert f [] (suc i) x = refl
 map_insert f (y ∷ xs) zero x = refl
 map_insert f (y ∷ xs) (suc i) x = ap (λ l. f y ∷ l) (map_insert f xs i x)
 
+-- what was put in is inside
+pub put_inside : {S : Type 0} (xs : List S) (i : ℕ) (x : S) → i ≤ length xs → i < length (insert xs i x)
+put_inside [] zero x h = omega arith
+put_inside [] (suc i) x h = absurd (omega (arith, h))
+put_inside (y ∷ xs) zero x h = omega arith
+put_inside (y ∷ xs) (suc i) x h = let w = put_inside xs i x (omega (arith, h)) in omega (arith, w)
+
 pub map_remove : {X S : Type 0} (f : X → S) (xs : List X) (i : ℕ) → map f (remove xs i) ≡ remove (map f xs) i
 map_remove f [] zero = refl
 map_remove f [] (suc i) = refl
@@ -441,3 +448,21 @@ pub own_same : {X : Type 0} (bs : List (Block X)) (k : ℕ) (a d : Block X) → 
 own_same [] k a d h is e = refl
 own_same (b ∷ bs) zero a d h is e = ap (λ t. cond t (all_own bs) false) (e ∙ ap is_own is)
 own_same (b ∷ bs) (suc k) a d h is e = ap (λ t. cond (is_own b) t false) (own_same bs k a d (omega (arith, h)) is e)
+
+-- ---- blocks that are cut off, the last first
+
+pub own_more : {X : Type 0} (bs : List (Block X)) (b : Block X) → all_own bs ≡ true → is_own b ≡ true → all_own (bs ++ b ∷ []) ≡ true
+own_more [] b all own = own_both (is_own b) true own refl
+own_more (a ∷ bs) b all own =
+    own_both (is_own a) (all_own (bs ++ b ∷ [])) (own_first (is_own a) (all_own bs) all) (own_more bs b (own_rest (is_own a) (all_own bs) all) own)
+
+pub own_reverse : {X : Type 0} (bs : List (Block X)) → all_own bs ≡ true → all_own (reverse bs) ≡ true
+own_reverse [] all = refl
+own_reverse (b ∷ bs) all = ap all_own (reverse-append (b ∷ []) bs) ∙ own_more (reverse bs) b (own_reverse bs (own_rest (is_own b) (all_own bs) all)) (own_first (is_own b) (all_own bs) all)
+
+pub cut_off : {X : Type 0} (xs ms : List X) (bs cs : List (Block X)) (b : Block X) (n : ℕ) → ms ≡ take n xs → items_of b ≡ drop n xs → cs ≡ bs ++ b ∷ []
+    → ms ++ flat_map items_of (reverse cs) ≡ xs ++ flat_map items_of (reverse bs)
+cut_off xs ms bs cs b n m t c =
+    let R = flat_map items_of (reverse bs) in
+    ap (λ l. ms ++ flat_map items_of l) (ap reverse c ∙ reverse-append bs (b ∷ [])) ∙ sym (append_assoc ms (items_of b) R)
+    ∙ ap (λ l. l ++ R) (ap (λ l. l ++ items_of b) m ∙ ap (λ l. take n xs ++ l) t ∙ take-append-drop n xs)

@@ -3,4 +3,3 @@ pub mod Iter
 pub mod Laws
 pub mod Pieces
 pub mod Place
-pub mod Shareable

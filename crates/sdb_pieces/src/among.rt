@@ -29,6 +29,7 @@ pub(crate) fn insert_among<T: Share>(
     blocks: &mut Block<Block<T>>,
     index: usize,
     item: T,
+    most: usize,
 ) -> Result<bool, AllocError>
     ensures ok { IfOk result (λ done. joined T.seen (items_of blocks.new) ≡ (if done
         then insert (joined T.seen (items_of blocks.old)) index (T.seen item)
@@ -36,11 +37,12 @@ pub(crate) fn insert_among<T: Share>(
     ensures within { IfOk result (λ done. done ≡ nat_le index (length (joined T.seen (items_of blocks.old)))) }
     ensures err { OnErr result (joined T.seen (items_of blocks.new) ≡ joined T.seen (items_of blocks.old)) }
     ensures own { is_own_form (Many blocks.old) ≡ true → is_own_form (Many blocks.new) ≡ true }
+    ensures now_own { IfOk result (λ done. done ≡ true → is_own_form_at (Many blocks.new) index ≡ true) }
 {
     own_blocks(alloc, blocks)?;
     match blocks {
         Block::Own(own) => {
-            let done = insert_item(alloc, own, index, item)?;
+            let done = insert_item(alloc, own, index, item, most)?;
             Ok(done)
         }
         Block::Shared(_) => Ok(false),
@@ -59,6 +61,7 @@ pub(crate) fn remove_among<T: Share>(
     ensures err { OnErr result (joined T.seen (items_of blocks.new) ≡ joined T.seen (items_of blocks.old)) }
     ensures own { is_own_form (Many blocks.old) ≡ true → is_own_form (Many blocks.new) ≡ true }
     ensures shared { OnErr result (is_own_form (Many blocks.old) ≡ false) }
+    ensures shared_there { OnErr result (is_own_form_at (Many blocks.old) index ≡ false) }
 {
     own_blocks(alloc, blocks)?;
     match blocks {

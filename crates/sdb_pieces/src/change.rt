@@ -10,7 +10,7 @@ use crate::block::{Block, Share};
 use std::alloc::{AllocError, Global};
 use std::mem::replace;
 
-// How many items a block may have before it is split.
+// How many items a block has at most, unless another bound is given.
 pub(crate) const MAX: usize = 512;
 
 // The block where an item can be put at the index, and the place in it. `None` where there is none.
@@ -69,6 +69,7 @@ pub(crate) fn insert_in<T: Share>(
         ≡ insert (map T.seen (items_of block.old)) index (T.seen item)) }
     ensures err { OnErr result (map T.seen (items_of block.new) ≡ map T.seen (items_of block.old)) }
     ensures own { is_own block.old ≡ true → is_own block.new ≡ true }
+    ensures now_own { OnOk result (is_own block.new ≡ true) }
 {
     block.make_own(alloc)?;
     if let Block::Own(items) = block {
@@ -160,12 +161,14 @@ fn insert_at<T: Share>(
     blocks: &mut Vec<Block<T>>,
     index: usize,
     item: T,
+    most: usize,
 ) -> Result<bool, AllocError>
     ensures ok { IfOk result (λ done. joined T.seen blocks.new.items ≡ (if done
         then insert (joined T.seen blocks.old.items) index (T.seen item) else joined T.seen blocks.old.items)) }
     ensures within { IfOk result (λ done. done ≡ nat_le index (length (joined T.seen blocks.old.items))) }
     ensures err { OnErr result (joined T.seen blocks.new.items ≡ joined T.seen blocks.old.items) }
     ensures own { all_own blocks.old.items ≡ true → all_own blocks.new.items ≡ true }
+    ensures now_own { IfOk result (λ done. done ≡ true → own_among blocks.new.items index ≡ true) }
 {
     match place(blocks, index) {
         Some((at, inside)) => {
@@ -176,7 +179,7 @@ fn insert_at<T: Share>(
             if !blocks.is_empty() || index != 0 {
                 return Ok(false);
             }
-            let mut items = Vec::with_capacity(alloc, MAX)?;
+            let mut items = Vec::with_capacity(alloc, most)?;
             items.push(item)?;
             blocks.push(Block::Own(items))?;
             Ok(true)
@@ -184,25 +187,27 @@ fn insert_at<T: Share>(
     }
 }
 
-// The same, and a block that is full is split first.
+// The same, and a block of as many items as it may have is split first.
 pub(crate) fn insert_item<T: Share>(
     alloc: Global,
     blocks: &mut Vec<Block<T>>,
     index: usize,
     item: T,
+    most: usize,
 ) -> Result<bool, AllocError>
     ensures ok { IfOk result (λ done. joined T.seen blocks.new.items ≡ (if done
         then insert (joined T.seen blocks.old.items) index (T.seen item) else joined T.seen blocks.old.items)) }
     ensures within { IfOk result (λ done. done ≡ nat_le index (length (joined T.seen blocks.old.items))) }
     ensures err { OnErr result (joined T.seen blocks.new.items ≡ joined T.seen blocks.old.items) }
     ensures own { all_own blocks.old.items ≡ true → all_own blocks.new.items ≡ true }
+    ensures now_own { IfOk result (λ done. done ≡ true → own_among blocks.new.items index ≡ true) }
 {
     if let Some((at, _)) = place(blocks, index) {
-        if blocks[at].len() >= MAX {
+        if blocks[at].len() >= most {
             split_block(alloc, blocks, at)?;
         }
     }
-    let done = insert_at(alloc, blocks, index, item)?;
+    let done = insert_at(alloc, blocks, index, item, most)?;
     Ok(done)
 }
 
@@ -228,6 +233,7 @@ pub(crate) fn remove_item<T: Share>(
     ensures err { OnErr result (joined T.seen blocks.new.items ≡ joined T.seen blocks.old.items) }
     ensures own { all_own blocks.old.items ≡ true → all_own blocks.new.items ≡ true }
     ensures shared { OnErr result (all_own blocks.old.items ≡ false) }
+    ensures shared_there { OnErr result (own_among blocks.old.items index ≡ false) }
 {
     let Some((at, inside)) = place_of(blocks, index) else {
         return Ok(None);

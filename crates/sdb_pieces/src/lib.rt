@@ -4,11 +4,10 @@
 mod among;
 mod block;
 mod change;
+mod cut;
 mod iter;
 mod pieces;
-mod shareable;
 
 pub use block::{Block, Share};
 pub use iter::Iter;
 pub use pieces::{Form, Pieces};
-pub use shareable::Shareable;

@@ -8,6 +8,7 @@ ghost use Rattle.sdb_pieces.specs.Pieces.{seen_in, is_own_list, is_own_at, is_sh
 use crate::among::{block_item, insert_among, one_block, remove_among, replace_among};
 use crate::block::{Block, Share};
 use crate::change::{MAX, insert_in, item_in, item_mut, remove_in, replace_in};
+use crate::cut::cut_blocks;
 use crate::iter::Iter;
 use std::alloc::{AllocError, Global};
 use std::sync::Arc;
@@ -122,6 +123,27 @@ impl<T: Drop> Pieces<T> {
         }
     }
 
+    /// A list of these items, in blocks of at most as many as are given last.
+    pub fn cut(alloc: Global, items: Vec<T>, most: usize) -> Result<Pieces<T>, AllocError>
+        requires { 0 < most }
+        ensures items { IfOk result (λ l. items_in l ≡ items.items) }
+        ensures own { IfOk result (λ l. is_own_list l ≡ true) }
+    {
+        if items.len() <= most {
+            return Ok(Pieces::from_form(Form::One(Block::Own(items))));
+        }
+        Ok(Pieces::from_blocks(cut_blocks(alloc, items, most)?))
+    }
+
+    /// A list of these items, in blocks that are as long as an insert lets them grow. One block alone stands in the
+    /// vector's own memory.
+    pub fn in_blocks(alloc: Global, items: Vec<T>) -> Result<Pieces<T>, AllocError>
+        ensures items { IfOk result (λ l. items_in l ≡ items.items) }
+        ensures own { IfOk result (λ l. is_own_list l ≡ true) }
+    {
+        Pieces::cut(alloc, items, MAX)
+    }
+
     /// The list of these blocks, in order, so that the next copy of it is a pointer where the blocks are shared.
     pub fn from_shared_blocks(
         alloc: Global,
@@ -212,13 +234,13 @@ impl<T: Share> Pieces<T> {
         }
     }
 
-    // Makes a list of blocks of one block that is full.
-    fn make_room(&mut self, alloc: Global) -> Result<(), AllocError>
+    // Makes a list of blocks of one block that has as many items as it may have.
+    fn make_room(&mut self, alloc: Global, most: usize) -> Result<(), AllocError>
         ensures same { seen_in T.seen self.new ≡ seen_in T.seen self.old }
         ensures own { is_own_list self.old ≡ true → is_own_list self.new ≡ true }
     {
         if let Form::One(block) = &mut self.form {
-            if block.len() >= MAX {
+            if block.len() >= most {
                 let blocks = one_block(alloc, block)?;
                 self.form = Form::Many(Block::Own(blocks));
             }
@@ -235,8 +257,27 @@ impl<T: Share> Pieces<T> {
         ensures within { IfOk result (λ done. done ≡ nat_le index (length (seen_in T.seen self.old))) }
         ensures err { OnErr result (seen_in T.seen self.new ≡ seen_in T.seen self.old) }
         ensures own { is_own_list self.old ≡ true → is_own_list self.new ≡ true }
+        ensures now_own { IfOk result (λ done. done ≡ true → is_own_at self.new index ≡ true) }
     {
-        self.make_room(alloc)?;
+        self.insert_within(alloc, index, item, MAX)
+    }
+
+    /// The same, and a block that has as many items as are given last, or more, is split first.
+    pub fn insert_within(
+        &mut self,
+        alloc: Global,
+        index: usize,
+        item: T,
+        most: usize,
+    ) -> Result<bool, AllocError>
+        ensures ok { IfOk result (λ done. seen_in T.seen self.new ≡ (if done
+            then insert (seen_in T.seen self.old) index (T.seen item) else seen_in T.seen self.old)) }
+        ensures within { IfOk result (λ done. done ≡ nat_le index (length (seen_in T.seen self.old))) }
+        ensures err { OnErr result (seen_in T.seen self.new ≡ seen_in T.seen self.old) }
+        ensures own { is_own_list self.old ≡ true → is_own_list self.new ≡ true }
+        ensures now_own { IfOk result (λ done. done ≡ true → is_own_at self.new index ≡ true) }
+    {
+        self.make_room(alloc, most)?;
         match &mut self.form {
             Form::One(block) => {
                 if index > block.len() {
@@ -246,7 +287,7 @@ impl<T: Share> Pieces<T> {
                 Ok(true)
             }
             Form::Many(blocks) => {
-                let done = insert_among(alloc, blocks, index, item)?;
+                let done = insert_among(alloc, blocks, index, item, most)?;
                 Ok(done)
             }
         }
@@ -261,6 +302,7 @@ impl<T: Share> Pieces<T> {
         ensures err { OnErr result (seen_in T.seen self.new ≡ seen_in T.seen self.old) }
         ensures own { is_own_list self.old ≡ true → is_own_list self.new ≡ true }
         ensures shared { OnErr result (is_own_list self.old ≡ false) }
+        ensures shared_there { OnErr result (is_own_at self.old index ≡ false) }
     {
         match &mut self.form {
             Form::One(block) => {

@@ -1,17 +1,37 @@
--- What an object of the code stands for, by its members.
-use Rattle.std.proofs.Common.{◌≡◌, String, BTreeMap, Global, map, refl, rules}
-use Rattle.sdb_pieces.specs.Shareable.{inside}
-use Rattle.sdb_pieces.specs.declared.shareable.Shareable.{Shareable}
-use Rattle.sdb_pieces.specs.declared.shareable.Shareable.TheVariants as shareable
-use Rattle.sdb_value.specs.Value.{object}
-use Rattle.sdb_value.specs.View.{view, object_view}
-use Rattle.sdb_value.specs.declared.value.Json.{Json, the_lemmas}
-use Rattle.sdb_value.specs.declared.value.Json as json
+-- What is shown of a value, and whether it may be created, by whether it is an object.
+use Rattle.std.proofs.Common.{◌≡◌, ℕ, List, Some, None, true, false, refl}
+use Rattle.sdb_value.specs.Value.{Value, null, truth, whole, text, list, object, Members, as_object}
+use Rattle.sdb_projection.specs.Projected.{proj, shown, all_fields, allowed_data}
 
-former_entries : {X Y : Type 0} (f : X → Y) (m : Shareable (BTreeMap (String Global) X))
-    → (inside ((json.TheShapes.former-Json-Object-0).map X Y f m)).entries ≡ map (λ (e : String Global × X). (e.0, f e.1)) (inside m).entries
-former_entries f (shareable.Own m) = refl
-former_entries f (shareable.Shared m) = refl
+module _ (fields : List (List ℕ)) where
+  pub object_shown : (d : Value) (ms : Members) → Some ms ≡ as_object d → proj fields d ≡ object (shown fields ms)
+  object_shown null ms e = cc
+  object_shown (truth b) ms e = cc
+  object_shown (whole n) ms e = cc
+  object_shown (text t) ms e = cc
+  object_shown (list ds) ms e = cc
+  object_shown (object ns) ms e = cc
 
-pub seen_object : (m : Shareable (BTreeMap (String Global) Json)) → view (json.Object m) ≡ object (object_view m)
-seen_object m = search (rules, the_lemmas, former_entries)
+  pub other_shown : (d : Value) → None ≡ as_object d → proj fields d ≡ null
+  other_shown null e = refl
+  other_shown (truth b) e = refl
+  other_shown (whole n) e = refl
+  other_shown (text t) e = refl
+  other_shown (list ds) e = refl
+  other_shown (object ns) e = cc
+
+  pub object_allowed : (d : Value) (ms : Members) → Some ms ≡ as_object d → allowed_data fields d ≡ all_fields fields ms
+  object_allowed null ms e = cc
+  object_allowed (truth b) ms e = cc
+  object_allowed (whole n) ms e = cc
+  object_allowed (text t) ms e = cc
+  object_allowed (list ds) ms e = cc
+  object_allowed (object ns) ms e = cc
+
+  pub other_allowed : (d : Value) → None ≡ as_object d → (d ≡ null → ⊥) → allowed_data fields d ≡ false
+  other_allowed null e h = absurd (h refl)
+  other_allowed (truth b) e h = refl
+  other_allowed (whole n) e h = refl
+  other_allowed (text t) e h = refl
+  other_allowed (list ds) e h = refl
+  other_allowed (object ns) e h = cc

@@ -1,15 +1,14 @@
 //! What may be asked through a projection.
 ghost use Rattle.std.specs.Prelude.{◌≡◌};
 ghost use Rattle.std.specs.List.{list_all};
-ghost use Rattle.sdb_value.specs.View.{view, members_view};
+ghost use Rattle.sdb_value.specs.View.{view, object_view};
 ghost use Rattle.sdb_projection.specs.Projected.{all_fields, allowed, allowed_data, is_shown};
 ghost use Rattle.sdb_projection.specs.View.{fields_of};
 
 use crate::projection::Projection;
 use sdb_component::Op;
 use sdb_oplog::{Content, Kind};
-use sdb_value::Json;
-use std::collections::BTreeMap;
+use sdb_value::{Json, Members};
 
 /// Whether the content may be asked through the projection: a create of null or of an object of its
 /// fields alone; a delete; an edit each of whose components has a path, as it is sent, that begins
@@ -24,22 +23,20 @@ pub fn allowed(projection: &Projection, content: &Content) -> bool
     }
 }
 
-#[tactic(auto, using(crate::proofs::Objects::seen_object))]
 fn allowed_data(projection: &Projection, value: &Json) -> bool
     ensures { result ≡ allowed_data (fields_of projection.now) (view value.now) }
 {
-    match value {
-        Json::Null => true,
-        Json::Object(members) => all_fields(projection, members.get()),
-        _ => false,
+    match value.members() {
+        Some(members) => all_fields(projection, members),
+        None => value.is_null(),
     }
 }
 
-fn all_fields(projection: &Projection, members: &BTreeMap<String, Json>) -> bool
-    ensures { result ≡ all_fields (fields_of projection.now) (members_view members.now.entries) }
+fn all_fields(projection: &Projection, members: &Members) -> bool
+    ensures { result ≡ all_fields (fields_of projection.now) (object_view members.now) }
 {
     for (key, _) in members.iter() {
-        if !projection.is_field(key.as_str()) {
+        if !projection.is_field(key) {
             return false;
         }
     }

@@ -9,11 +9,9 @@ use sdb_component::Op;
 use sdb_oplog::{Content, Kind};
 use sdb_value::{Json, Members, put_member};
 use std::alloc::{AllocError, Global};
-use std::collections::BTreeMap;
 
 /// What the projection shows of a document's data: of an object its fields alone, and null of other
 /// data. Fails only where an allocation does.
-#[tactic(auto, using(crate::proofs::Objects::seen_object))]
 pub fn project_data(
     alloc: Global,
     projection: &Projection,
@@ -21,9 +19,9 @@ pub fn project_data(
 ) -> Result<Json, AllocError>
     ensures { IfOk result (λ v. view v ≡ proj (fields_of projection.now) (view value.now)) }
 {
-    match value {
-        Json::Object(members) => Ok(Json::Object(shown(alloc, projection, members)?)),
-        _ => Ok(Json::Null),
+    match value.members() {
+        Some(members) => Ok(Json::of_members(shown(alloc, projection, members)?)),
+        None => Ok(Json::Null),
     }
 }
 
@@ -32,10 +30,11 @@ fn shown(alloc: Global, projection: &Projection, members: &Members) -> Result<Me
     ensures { IfOk result
         (λ m. object_view m ≡ shown (fields_of projection.now) (object_view members.now)) }
 {
-    let mut copies = Members::Own(BTreeMap::new(alloc));
-    for (key, member) in members.get().iter() {
-        if projection.is_field(key.as_str()) {
-            put_member(alloc, &mut copies, key.clone()?, member.try_clone(alloc)?)?;
+    let mut copies = Members::new(alloc);
+    for (key, member) in members.iter() {
+        if projection.is_field(key) {
+            let name = String::from_str(alloc, key)?;
+            put_member(alloc, &mut copies, name, member.try_clone(alloc)?)?;
         }
     }
     Ok(copies)

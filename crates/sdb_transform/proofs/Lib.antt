@@ -10,6 +10,8 @@ pub mod MeetRemovals
 pub mod MeetTexts
 pub mod MeetUnder
 pub mod Meeting
+pub mod OneSided
+pub mod Outlooks
 pub mod Pairs
 pub mod Run
 pub mod Stack

@@ -1,16 +1,15 @@
 -- One turn of the loop of a crossing.
-use Rattle.std.proofs.Common.{◌≡◌, ℕ, ◌+◌, ◌-◌, ◌*◌, ◌^◌, ◌<◌, ◌≤◌, arith, min, List, [], ◌∷◌, ◌++◌, Result, Ok, Err, ap, ◌∙◌, append-nil}
-use Rattle.std.specs.Prelude.{OnOk, IfErr}
+use Rattle.std.proofs.Common.{◌≡◌, ℕ, ◌+◌, ◌-◌, ◌*◌, ◌^◌, ◌<◌, ◌≤◌, arith, min, List, [], ◌∷◌, ◌++◌, Result, Ok, Err, Some, ap, ◌∙◌, append-nil}
+use Rattle.std.specs.Prelude.{IfOk, OnOk, IfErr}
 use Rattle.sdb_component.specs.Plain.{PlainComponent}
 use Rattle.sdb_component.specs.Weighs.{weigh, weight}
 use Rattle.sdb_transform.specs.declared.turns.Pending.{Pending}
-use Rattle.sdb_transform.specs.declared.turns.Pending.TheVariants.{Moving}
 use Rattle.sdb_transform.specs.declared.side.Fault.{Fault}
 use Rattle.sdb_transform.specs.declared.side.Fault.TheVariants.{Memory, NotTransformed}
 use Rattle.sdb_transform.specs.declared.side.Side.TheVariants.{Left, Right}
 use Rattle.sdb_transform.specs.Acts.{IsFaultOf}
 use Rattle.sdb_transform.specs.Grid.{Crossings, total, crossing}
-use Rattle.sdb_transform.specs.Stack.{token, Meets, IsRefusal}
+use Rattle.sdb_transform.specs.Stack.{token, IsRefusal}
 use Rattle.sdb_transform.specs.Transform.{transform}
 use Rattle.sdb_transform.specs.Work.{Token, Waits, Moves, moves, turns, Told}
 use Rattle.sdb_transform.proofs.Grid.{told_start, told_none, told_pair, told_refused, told_end, turns_waits, turns_pair}
@@ -20,6 +19,10 @@ pub on_ok_then : {A E : Type 0} {P Q : Type 0} (r : Result A E) → OnOk r P →
 on_ok_then (Ok a) h k = k h
 on_ok_then (Err e) h k = h
 
+pub if_ok_then : {A E : Type 0} {P Q : A → Type 0} (r : Result A E) → IfOk r P → ((a : A) → P a → Q a) → IfOk r Q
+if_ok_then (Ok a) h k = k a h
+if_ok_then (Err e) h k = h
+
 pub if_err_then : {A E : Type 0} {P Q : E → Type 0} (r : Result A E) → IfErr r P → ((e : E) → P e → Q e) → IfErr r Q
 if_err_then (Ok a) h k = h
 if_err_then (Err e) h k = k e h
@@ -27,26 +30,20 @@ if_err_then (Err e) h k = k e h
 abbrev pub At : Crossings → List PlainComponent → List (Token PlainComponent) → List PlainComponent → ℕ → Type 0
 At goal W S done p = Told (transform Left) (transform Right) weigh goal W S done p
 
-module _ (next : Pending) (c : PlainComponent) (is : next ≡ Moving c) (W W' : List PlainComponent) (S : List (Token PlainComponent)) (done : List PlainComponent) (p : ℕ) where
-  pub none_keeps : (done' : List PlainComponent) → (W ≡ []) × (W' ≡ []) → done' ≡ done ++ c ∷ [] → (goal : Crossings) → At goal W (token next ∷ S) done p → At goal W' S done' p
-  none_keeps done' e f goal h =
-      let h' : At goal W (Moves c ∷ S) done p = rw is at h in
-      told_none weighs goal W W' c S done done' p e.0 e.1 f h'
+-- a right change past none, and past one that waits
+module _ (goal : Crossings) (r : PlainComponent) (W W' : List PlainComponent) (S S' : List (Token PlainComponent)) (done : List PlainComponent) (p : ℕ) where
+  pub none_keeps : (done' : List PlainComponent) → W ≡ [] → W' ≡ [] → done' ≡ done ++ r ∷ [] → At goal W (Moves r ∷ S) done p → At goal W' S done' p
+  none_keeps done' e e' f h = told_none weighs goal W W' r S done done' p e e' f h
 
-  pub meet_keeps : (l : PlainComponent) (S' : List (Token PlainComponent)) (p' : ℕ) → W ≡ l ∷ W' → p' ≡ min (p + 1) (2 ^ 128 - 1) → Meets l c S S' → (goal : Crossings) → At goal W (token next ∷ S) done p → At goal W' S' done p'
-  meet_keeps l S' p' e f m goal h =
-      let h' : At goal W (Moves c ∷ S) done p = rw is at h in
-      told_pair weighs goal W W' l c S S' done p p' m.pieces m.run e m.on_left m.on_right f m.work h'
+  pub meet_keeps : (l : PlainComponent) (p' : ℕ) (ls rs : List PlainComponent) → W ≡ l ∷ W' → transform Left l r ≡ Some ls → transform Right r l ≡ Some rs → p' ≡ min (p + 1) (2 ^ 128 - 1) → S' ≡ moves rs ++ (Waits ls ∷ S) → At goal W (Moves r ∷ S) done p → At goal W' S' done p'
+  meet_keeps l p' ls rs e on_left on_right f g h = told_pair weighs goal W W' l r S S' done p p' ls rs e on_left on_right f g h
 
-  pub meet_falls : (l : PlainComponent) (S' : List (Token PlainComponent)) → W ≡ l ∷ W' → Meets l c S S' → turns weigh (total weigh W') S' < turns weigh (total weigh W) (token next ∷ S)
-  meet_falls l S' e m =
-      rw is (turns_pair weighs W W' l c S S' m.pieces m.run e m.on_left m.on_right m.work)
+  pub meet_refused : (l : PlainComponent) → W ≡ l ∷ W' → (f : Fault) → IsRefusal l r f → At goal W (Moves r ∷ S) done p → IsFaultOf f goal
+  meet_refused l e Memory q h = tt
+  meet_refused l e NotTransformed q h = told_refused weighs goal W W' l r S done p e h q
 
-  pub meet_refused : (l : PlainComponent) → W ≡ l ∷ W' → (f : Fault) → IsRefusal l c f → (goal : Crossings) → At goal W (token next ∷ S) done p → IsFaultOf f goal
-  meet_refused l e Memory q goal h = tt
-  meet_refused l e NotTransformed q goal h =
-      let h' : At goal W (Moves c ∷ S) done p = rw is at h in
-      told_refused weighs goal W W' l c S done p e h' q
+pub meet_falls : (l r : PlainComponent) (W W' : List PlainComponent) (S S' : List (Token PlainComponent)) (ls rs : List PlainComponent) → W ≡ l ∷ W' → transform Left l r ≡ Some ls → transform Right r l ≡ Some rs → S' ≡ moves rs ++ (Waits ls ∷ S) → turns weigh (total weigh W') S' < turns weigh (total weigh W) (Moves r ∷ S)
+meet_falls l r W W' S S' ls rs e on_left on_right g = turns_pair weighs W W' l r S S' ls rs e on_left on_right g
 
 pub waits_falls : (next : Pending) (W W' ls : List PlainComponent) (S : List (Token PlainComponent)) → token next ≡ Waits ls → W' ≡ ls ++ W → turns weigh (total weigh W') S < turns weigh (total weigh W) (token next ∷ S)
 waits_falls next W W' ls S is e = rw is (turns_waits weighs W W' ls S e)

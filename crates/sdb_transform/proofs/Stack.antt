@@ -19,7 +19,7 @@ pub top_pieces : (ps xs : List PlainComponent) → top (xs ++ reverse ps) ≡ ps
 unfolding top
 top_pieces ps xs = from_reversed ps xs
 
-top_push : (xs : List PlainComponent) (c : PlainComponent) → top (xs ++ c ∷ []) ≡ c ∷ top xs
+pub top_push : (xs : List PlainComponent) (c : PlainComponent) → top (xs ++ c ∷ []) ≡ c ∷ top xs
 unfolding top
 top_push xs c = reverse-append xs (c ∷ [])
 
@@ -27,7 +27,7 @@ pub stack_push : (xs : List Pending) (p : Pending) → stack (xs ++ p ∷ []) �
 unfolding stack
 stack_push xs p = ap reverse (map-append token xs (p ∷ [])) ∙ reverse-append (map token xs) (token p ∷ [])
 
-empty_list : {A : Type 0} (xs : List A) → length xs ≡ 0 → xs ≡ []
+pub empty_list : {A : Type 0} (xs : List A) → length xs ≡ 0 → xs ≡ []
 empty_list [] e = refl
 empty_list (x ∷ xs) e = absurd (omega (arith, e))
 

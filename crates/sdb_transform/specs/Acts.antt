@@ -1,16 +1,17 @@
 -- What the code's results stand for.
-use Rattle.std.specs.Prelude.{◌≡◌, ℕ, min, Bool, ◌&&◌, List, [], ◌∷◌, Option, Some, None, Result, Ok, Err, Vec, ⊤}
-use Rattle.std.specs.Option.{is_none}
+use Rattle.std.specs.Prelude.{◌≡◌, ℕ, min, List, [], ◌∷◌, Option, Some, None, Result, Ok, Err, Vec, ⊤}
 use Rattle.std.specs.declared.alloc.Global.{Global}
 use Rattle.sdb_component.specs.Plain.{PlainAct, PlainComponent}
 use Rattle.sdb_component.specs.View.{plain_act}
 use Rattle.sdb_value.specs.Value.{PlainStep, index}
 use Rattle.sdb_component.specs.declared.component.Component.{Component}
-use Rattle.sdb_transform.specs.Transform.{Moved, behind}
+use Rattle.sdb_transform.specs.Transform.{Moved}
 use Rattle.sdb_transform.specs.declared.paths.StepAfter.{StepAfter}
 use Rattle.sdb_transform.specs.declared.paths.StepAfter.TheVariants.{Stays, Gone, At}
 use Rattle.sdb_transform.specs.declared.side.Fault.{Fault}
 use Rattle.sdb_transform.specs.declared.side.Fault.TheVariants.{NotTransformed, Memory}
+use Rattle.sdb_transform.specs.declared.side.Side.{Side}
+use Rattle.sdb_transform.specs.declared.side.Side.TheVariants.{Left, Right}
 use Rattle.sdb_transform.specs.declared.side.Remaining.{Remaining}
 use Rattle.sdb_transform.specs.declared.side.Remaining.TheVariants.{Dropped, One, Two}
 
@@ -18,6 +19,10 @@ abbrev pub remaining_acts : Remaining → List PlainAct
 remaining_acts Dropped = []
 remaining_acts (One a) = plain_act a ∷ []
 remaining_acts (Two a b) = plain_act a ∷ plain_act b ∷ []
+
+abbrev pub opposite : Side → Side
+opposite Left = Right
+opposite Right = Left
 
 -- no transform exists, or memory was wanting
 abbrev pub IsFaultOf : {A : Type 0} → Fault → Option A → Type 0
@@ -43,10 +48,6 @@ step_after s (At i) = Some (index i)
 abbrev pub MovedTo : PlainStep → Result StepAfter Fault → Moved → Type 0
 MovedTo s (Ok after) m = m ≡ Some (step_after s after)
 MovedTo s (Err fault) m = IsFaultOf fault m
-
--- neither container's path begins with the other's, so neither changes the other
-abbrev pub apart : PlainComponent → PlainComponent → Bool
-apart c o = is_none (behind c.path o.path) && is_none (behind o.path c.path)
 
 -- a size, as far as a number of 64 bits reaches
 abbrev pub measured : ℕ → ℕ

@@ -4,6 +4,7 @@ pub mod Law
 pub mod Meet
 pub mod MeetLaw
 pub mod MeetWorked
+pub mod Outlook
 pub mod Stack
 pub mod Transform
 pub mod Work

@@ -1,5 +1,5 @@
 -- Vectors as stacks, by what they hold from the top, and what the code shows of a crossing.
-use Rattle.std.specs.Prelude.{◌⊎◌, ◌≡◌, ℕ, ◌-◌, ◌^◌, min, List, ◌∷◌, ◌++◌, map, reverse, Some, None, ⊤}
+use Rattle.std.specs.Prelude.{◌⊎◌, ◌≡◌, ℕ, ◌-◌, ◌^◌, min, List, ◌++◌, map, reverse, Some, None, ⊤}
 use Rattle.sdb_component.specs.Plain.{PlainComponent}
 use Rattle.sdb_component.specs.Weighs.{weigh}
 use Rattle.sdb_transform.specs.declared.turns.Pending.{Pending}
@@ -10,11 +10,12 @@ use Rattle.sdb_transform.specs.declared.side.Fault.{Fault}
 use Rattle.sdb_transform.specs.declared.side.Fault.TheVariants.{Memory, NotTransformed}
 use Rattle.sdb_transform.specs.declared.side.Side.TheVariants.{Left, Right}
 use Rattle.sdb_transform.specs.Grid.{Crossing, Crossings, total}
+use Rattle.sdb_transform.specs.Outlook.{successors}
 use Rattle.sdb_transform.specs.Transform.{transform}
-use Rattle.sdb_transform.specs.Work.{Token, Waits, Moves, moves, turns, Told}
+use Rattle.sdb_transform.specs.Work.{Token, Waits, Moves, turns, Told}
 
 abbrev pub token : Pending → Token PlainComponent
-token (Waiting pieces) = Waits pieces.items
+token (Waiting pieces) = Waits (successors pieces)
 token (Moving c) = Moves c
 
 unfoldable pub top : List PlainComponent → List PlainComponent
@@ -37,14 +38,6 @@ abbrev pub Shows : Crossed → Crossings → Type 0
 Shows c o =
     (x : Crossing PlainComponent) × (o ≡ Some x) × (c.left ≡ x.left) × (c.right ≡ x.right)
     × (c.pairs ≡ min x.pairs (2 ^ 128 - 1))
-
--- a pair met: what comes of both is put on the work
-pub record Meets (l r : PlainComponent) (ts ts' : List (Token PlainComponent)) : Type 0 where
-  pub pieces : List PlainComponent
-  pub run : List PlainComponent
-  pub on_left : transform Left l r ≡ Some pieces
-  pub on_right : transform Right r l ≡ Some run
-  pub work : ts' ≡ moves run ++ (Waits pieces ∷ ts)
 
 -- one of both transforms is refused, or memory was wanting
 abbrev pub IsRefusal : PlainComponent → PlainComponent → Fault → Type 0

@@ -1,10 +1,17 @@
-//! Lists of one and of two components.
-ghost use Rattle.std.specs.Prelude.{◌∷◌, [], Some};
+//! Lists of components.
+ghost use Rattle.std.specs.Prelude.{◌≡◌, ◌∷◌, [], Some};
 ghost use Rattle.sdb_transform.specs.Acts.{Transforms};
 
 use crate::side::Fault;
 use sdb_component::Component;
 use std::alloc::Global;
+
+// The components that stand for one. One alone takes no allocation.
+#[derive(Drop)]
+pub(crate) enum Successors {
+    One(Component),
+    Many(Vec<Component>),
+}
 
 pub(crate) fn only(alloc: Global, component: Component) -> Result<Vec<Component>, Fault>
     ensures { Transforms result (Some (component ∷ [])) }
@@ -25,4 +32,14 @@ pub(crate) fn two(
     components.push(first)?;
     components.push(second)?;
     Ok(components)
+}
+
+pub(crate) fn copies(alloc: Global, components: &[Component]) -> Result<Vec<Component>, Fault>
+    ensures { Transforms result (Some components.now) }
+{
+    let mut copies = Vec::with_capacity(alloc, components.len())?;
+    for component in components {
+        copies.push(component.try_clone(alloc)?)?;
+    }
+    Ok(copies)
 }

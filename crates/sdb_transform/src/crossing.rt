@@ -1,11 +1,15 @@
 //! Operations, carried past one another.
-ghost use Rattle.std.specs.Prelude.{◌≡◌, ◌≤◌, ◌*◌, ◌∷◌, [], IfOk, IfErr, Some};
+ghost use Rattle.std.specs.Prelude.{◌≡◌, ◌≤◌, ◌*◌, List, ◌∷◌, [], IfOk, IfErr, Some};
+ghost use Rattle.sdb_component.specs.Plain.{PlainComponent};
 ghost use Rattle.sdb_component.specs.Weighs.{weight};
 ghost use Rattle.sdb_transform.specs.Acts.{IsFaultOf};
 ghost use Rattle.sdb_transform.specs.Grid.{crossing, carried};
+ghost use Rattle.sdb_transform.specs.Outlook.{successors};
 ghost use Rattle.sdb_transform.specs.Stack.{Shows};
 ghost use Rattle.sdb_transform.specs.Transform.{transform};
 
+use crate::components::{Successors, copies, only};
+use crate::outlook::{Outlook, foresee, past};
 use crate::side::{Fault, Side};
 use crate::transforming::transform_one;
 use crate::turns::{Progress, from_top, pop_work, push_moving, push_pieces};
@@ -30,8 +34,8 @@ pub struct Crossed {
 /// It is `Fault::NotTransformed` where one transform of a pair that meets is, and `Fault::Memory`
 /// where an allocation fails.
 ///
-/// Each component is copied once, and at a pair at most one of the two once more. Apart from that the
-/// cost is the transforms of the pairs, at most as many as the product of both weights.
+/// Each component is copied once, and of two deletions of one text that overlap one once more. Apart from
+/// that the cost is the transforms of the pairs, at most as many as the product of both weights.
 pub fn cross(alloc: Global, left: &Op, right: &Op) -> Result<Crossed, Fault>
     ensures ok { IfOk result (λ c. Shows c (crossing left.now right.now)) }
     ensures err { IfErr result (λ f. IsFaultOf f (crossing left.now right.now)) }
@@ -39,7 +43,7 @@ pub fn cross(alloc: Global, left: &Op, right: &Op) -> Result<Crossed, Fault>
 {
     match (left.components(), right.components()) {
         ([left], [right]) => cross_pair(alloc, left, right),
-        _ => cross_all(alloc, left, right),
+        (left, right) => cross_all(alloc, copies(alloc, left)?, copies(alloc, right)?),
     }
 }
 
@@ -50,8 +54,8 @@ fn cross_pair(alloc: Global, left: &Component, right: &Component) -> Result<Cros
     ensures err { IfErr result (λ f. IsFaultOf f (crossing (left.now ∷ []) (right.now ∷ []))) }
     ensures few { IfOk result (λ c. c.pairs ≤ weight (left.now ∷ []) * weight (right.now ∷ [])) }
 {
-    let pieces = past(alloc, left, right, Side::Left)?;
-    let run = past(alloc, right, left, Side::Right)?;
+    let pieces = copied_past(alloc, left, right, Side::Left)?;
+    let run = copied_past(alloc, right, left, Side::Right)?;
     Ok(Crossed {
         left: Op::new(pieces),
         right: Op::new(run),
@@ -60,7 +64,7 @@ fn cross_pair(alloc: Global, left: &Component, right: &Component) -> Result<Cros
 }
 
 // What stands for a component after another one; both are lent.
-fn past(
+fn copied_past(
     alloc: Global,
     component: &Component,
     other: &Component,
@@ -72,11 +76,11 @@ fn past(
     transform_one(alloc, component.try_clone(alloc)?, other, side)
 }
 
-// Operations of any components.
-fn cross_all(alloc: Global, left: &Op, right: &Op) -> Result<Crossed, Fault>
-    ensures ok { IfOk result (λ c. Shows c (crossing left.now right.now)) }
-    ensures err { IfErr result (λ f. IsFaultOf f (crossing left.now right.now)) }
-    ensures few { IfOk result (λ c. c.pairs ≤ weight left.now * weight right.now) }
+// Operations of any components, given up.
+fn cross_all(alloc: Global, left: Vec<Component>, right: Vec<Component>) -> Result<Crossed, Fault>
+    ensures ok { IfOk result (λ c. Shows c (crossing left.items right.items)) }
+    ensures err { IfErr result (λ f. IsFaultOf f (crossing left.items right.items)) }
+    ensures few { IfOk result (λ c. c.pairs ≤ weight left.items * weight right.items) }
 {
     let mut progress = Progress {
         waiting: Vec::new(alloc),
@@ -84,10 +88,8 @@ fn cross_all(alloc: Global, left: &Op, right: &Op) -> Result<Crossed, Fault>
         done: Vec::new(alloc),
         pairs: 0,
     };
-    let left = left.try_clone(alloc)?;
-    let right = right.try_clone(alloc)?;
-    push_pieces(&mut progress.waiting, left.into_components())?;
-    push_moving(&mut progress.work, right.into_components())?;
+    push_pieces(&mut progress.waiting, left)?;
+    push_moving(&mut progress.work, right)?;
     while let Some(next) = pop_work(&mut progress.work) {
         progress.step(alloc, next)?;
     }
@@ -100,18 +102,82 @@ fn cross_all(alloc: Global, left: &Op, right: &Op) -> Result<Crossed, Fault>
 
 /// What stands for an operation after another one was applied, both made at one version: the
 /// operation's part of what `cross` answers where it stands on this side. Both are lent. The errors
-/// and the cost are those of `cross`.
+/// are those of `cross`, and the cost at most its cost: nothing is copied of the other one while a single
+/// component stands for the operation.
 pub fn transform(alloc: Global, op: &Op, other: &Op, side: Side) -> Result<Op, Fault>
     ensures ok { IfOk result (λ t. carried side op.now other.now ≡ Some t) }
     ensures err { IfErr result (λ f. IsFaultOf f (carried side op.now other.now)) }
 {
+    match op.components() {
+        [component] => {
+            let copy = component.try_clone(alloc)?;
+            one_past_all(alloc, copy, other.components(), side)
+        }
+        components => many_past_all(alloc, copies(alloc, components)?, other.components(), side),
+    }
+}
+
+// What stands for one component after the others, one by one.
+fn one_past_all(
+    alloc: Global,
+    component: Component,
+    others: &[Component],
+    side: Side,
+) -> Result<Op, Fault>
+    ensures ok { IfOk result (λ t. carried side (component ∷ []) others.now ≡ Some t) }
+    ensures err { IfErr result (λ f. IsFaultOf f (carried side (component ∷ []) others.now)) }
+{
+    let mut current = component;
+    let mut rest = others;
+    while let Some((other, behind)) = rest.split_first() {
+        rest = behind;
+        match past_lent(alloc, current, other, side)? {
+            Successors::One(next) => current = next,
+            Successors::Many(pieces) => return many_past_all(alloc, pieces, rest, side),
+        }
+    }
+    Ok(Op::new(only(alloc, current)?))
+}
+
+// What stands for a component after another one, if what stands for the other one exists too.
+fn past_lent(
+    alloc: Global,
+    component: Component,
+    other: &Component,
+    side: Side,
+) -> Result<Successors, Fault>
+    ensures ok { IfOk result (λ s. (rest : List PlainComponent)
+        → carried side (component ∷ []) (other.now ∷ rest) ≡ carried side (successors s) rest) }
+    ensures err { IfErr result (λ f. (rest : List PlainComponent)
+        → IsFaultOf f (carried side (component ∷ []) (other.now ∷ rest))) }
+{
+    match foresee(other, &component, side.opposite()) {
+        Outlook::Refused => Err(Fault::NotTransformed),
+        _ => past(alloc, component, other, side),
+    }
+}
+
+// What stands for components after the others.
+fn many_past_all(
+    alloc: Global,
+    components: Vec<Component>,
+    others: &[Component],
+    side: Side,
+) -> Result<Op, Fault>
+    ensures ok { IfOk result (λ t. carried side components.items others.now ≡ Some t) }
+    ensures err { IfErr result (λ f. IsFaultOf f (carried side components.items others.now)) }
+{
+    if components.is_empty() {
+        return Ok(Op::new(components));
+    }
+    let others = copies(alloc, others)?;
     match side {
         Side::Left => {
-            let crossed = cross(alloc, op, other)?;
+            let crossed = cross_all(alloc, components, others)?;
             Ok(crossed.left)
         }
         Side::Right => {
-            let crossed = cross(alloc, other, op)?;
+            let crossed = cross_all(alloc, others, components)?;
             Ok(crossed.right)
         }
     }

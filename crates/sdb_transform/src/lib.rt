@@ -4,9 +4,11 @@
 
 mod components;
 mod crossing;
+mod foreseen;
 pub mod laws;
 mod lists;
 mod objects;
+mod outlook;
 mod paths;
 mod removed;
 mod side;

@@ -1,10 +1,11 @@
 //! Paths.
-ghost use Rattle.std.specs.Prelude.{◌≡◌, Some, option_map};
+ghost use Rattle.std.specs.Prelude.{◌≡◌, Some, IfErr, option_map};
 ghost use Rattle.sdb_value.specs.View.{plain_step, plain_path};
 ghost use Rattle.sdb_transform.specs.Transform.{behind, step_over, index_over, key_over};
 ghost use Rattle.sdb_value.specs.Value.{index, key};
 ghost use Rattle.sdb_component.specs.View.{plain_act};
 ghost use Rattle.sdb_transform.specs.Acts.{MovedTo, step_after};
+ghost use Rattle.sdb_transform.specs.declared.side.Fault.TheVariants.{NotTransformed};
 
 use crate::lists::next;
 use crate::objects::same_key;
@@ -29,7 +30,8 @@ pub(crate) enum StepAfter {
 
 // Where the step of a path through the act's container leads after the act.
 pub(crate) fn step_over(over: &Act, step: &Step) -> Result<StepAfter, Fault>
-    ensures { MovedTo (plain_step step.now) result (step_over (plain_act over.now) (plain_step step.now)) }
+    ensures moved { MovedTo (plain_step step.now) result (step_over (plain_act over.now) (plain_step step.now)) }
+    ensures err { IfErr result (λ f. f ≡ NotTransformed) }
 {
     match step {
         Step::Index(index) => index_over(over, *index),
@@ -38,7 +40,8 @@ pub(crate) fn step_over(over: &Act, step: &Step) -> Result<StepAfter, Fault>
 }
 
 fn index_over(over: &Act, j: u64) -> Result<StepAfter, Fault>
-    ensures { MovedTo (index j) result (index_over (plain_act over.now) j) }
+    ensures moved { MovedTo (index j) result (index_over (plain_act over.now) j) }
+    ensures err { IfErr result (λ f. f ≡ NotTransformed) }
 {
     match over {
         Act::Li(i, _) => {

@@ -2,7 +2,8 @@
 ghost use Rattle.std.specs.Prelude.{◌≡◌, IfOk, IfErr, option_map};
 ghost use Rattle.sdb_value.specs.View.{view, plain_step, plain_path};
 ghost use Rattle.sdb_component.specs.View.{plain_act};
-ghost use Rattle.sdb_transform.specs.Transform.{under_removed, updated, with_removed, at_path, is_removed};
+ghost use Rattle.std.specs.Option.{is_some};
+ghost use Rattle.sdb_transform.specs.Transform.{removes, under_removed, updated, with_removed, at_path, is_removed};
 ghost use Rattle.sdb_value.specs.Value.{index, key, same_step};
 ghost use Rattle.sdb_transform.specs.declared.side.Fault.TheVariants.{Memory};
 
@@ -23,6 +24,16 @@ fn removes(act: &Act, step: &Step) -> bool
         Act::Lr(index, _, _) => is_index(*index, step),
         Act::Od(key, _) => is_key(key.as_str(), step),
         Act::Or(key, _, _) => is_key(key.as_str(), step),
+        _ => false,
+    }
+}
+
+// Whether the act removes a value.
+pub(crate) fn removes_value(act: &Act) -> bool
+    ensures { result ≡ is_some (removes (plain_act act.now)) }
+{
+    match act {
+        Act::Ld(_, _) | Act::Lr(_, _, _) | Act::Od(_, _) | Act::Or(_, _, _) => true,
         _ => false,
     }
 }

@@ -1,4 +1,6 @@
 //! Sides, faults, and what comes of one act.
+ghost use Rattle.std.specs.Prelude.{◌≡◌};
+ghost use Rattle.sdb_transform.specs.Acts.{opposite};
 
 use sdb_component::Act;
 use std::alloc::{AllocError, AllocFailed};
@@ -11,6 +13,18 @@ pub enum Side {
     Left,
     /// The one that is put behind, or that gives way, there.
     Right,
+}
+
+impl Side {
+    // The other one of the two.
+    pub(crate) fn opposite(self) -> Side
+        ensures { result ≡ opposite self }
+    {
+        match self {
+            Side::Left => Side::Right,
+            Side::Right => Side::Left,
+        }
+    }
 }
 
 /// Why nothing was transformed.

@@ -141,7 +141,7 @@ fn without(p: u64, d: Piece, before: u64, after: u64) -> Result<Remaining, Fault
 }
 
 // The offset moved up, unless it passes the greatest.
-fn raised(offset: u64, by: u64) -> Option<u64>
+pub(crate) fn raised(offset: u64, by: u64) -> Option<u64>
     ensures some { IfSome result (λ at. (at ≡ offset + by) × (offset + by ≤ MAX)) }
     ensures none { IfNone result (MAX < offset + by) }
 {

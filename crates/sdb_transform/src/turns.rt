@@ -1,16 +1,17 @@
 //! The work of a crossing, turn by turn.
 ghost use Rattle.std.specs.Prelude.{◌≡◌, ◌<◌, nat_le, ◌∷◌, [], ◌++◌, MatchOption, IfOk, OnOk, IfErr, Some};
 ghost use Rattle.sdb_component.specs.Size.{component_size};
-ghost use Rattle.sdb_transform.specs.Acts.{IsFaultOf, apart, measured};
+ghost use Rattle.sdb_transform.specs.Acts.{IsFaultOf, measured};
 ghost use Rattle.sdb_transform.specs.Grid.{Crossings};
-ghost use Rattle.sdb_transform.specs.Stack.{top, stack, token, Meets, IsRefusal, ToldWith, turns_with};
+ghost use Rattle.sdb_transform.specs.Outlook.{successors};
+ghost use Rattle.sdb_transform.specs.Stack.{top, stack, token, IsRefusal, ToldWith, turns_with};
 ghost use Rattle.sdb_transform.specs.Transform.{transform};
-ghost use Rattle.sdb_transform.specs.Work.{Waits, moves};
+ghost use Rattle.sdb_transform.specs.Work.{Moves, Waits, moves};
 ghost use Rattle.sdb_transform.specs.declared.side.Fault.TheVariants.{Memory};
 ghost use Rattle.sdb_transform.specs.declared.side.Side.TheVariants.{Left, Right};
 
-use crate::components::only;
-use crate::paths::behind;
+use crate::components::Successors;
+use crate::outlook::{Outlook, foresee, moved, past};
 use crate::side::{Fault, Side};
 use crate::transforming::transform_one;
 use sdb_component::Component;
@@ -19,7 +20,7 @@ use std::alloc::Global;
 // Left components that wait from here on, or a right one on its way past those that wait.
 #[derive(Drop)]
 pub(crate) enum Pending {
-    Waiting(Vec<Component>),
+    Waiting(Successors),
     Moving(Component),
 }
 
@@ -43,18 +44,43 @@ impl Progress {
             → ToldWith (token next ∷ []) goal self.old → IsFaultOf f goal) }
     {
         match next {
-            Pending::Waiting(pieces) => push_pieces(&mut self.waiting, pieces),
-            Pending::Moving(right) => match pop_waiting(&mut self.waiting) {
-                None => {
-                    self.done.push(right)?;
-                    Ok(())
-                }
-                Some(left) => {
-                    self.pairs = self.pairs.saturating_add(1);
-                    meet(alloc, left, right, &mut self.work)
-                }
-            },
+            Pending::Waiting(pieces) => push_successors(&mut self.waiting, pieces),
+            Pending::Moving(right) => self.carry(alloc, right),
         }
+    }
+
+    // Carries a right component past those that wait, as long as a single one stands for it.
+    fn carry(&mut self, alloc: Global, mut right: Component) -> Result<(), Fault>
+        ensures keeps { OnOk result ((goal : Crossings)
+            → ToldWith (Moves right ∷ []) goal self.old → ToldWith [] goal self.new) }
+        ensures falls { OnOk result (turns_with [] self.new < turns_with (Moves right ∷ []) self.old) }
+        ensures refused { IfErr result (λ f. (goal : Crossings)
+            → ToldWith (Moves right ∷ []) goal self.old → IsFaultOf f goal) }
+    {
+        while let Some(left) = pop_waiting(&mut self.waiting) {
+            self.pairs = self.pairs.saturating_add(1);
+            let (pieces, run) = both_past(alloc, left, right)?;
+            push_waiting(&mut self.work, pieces)?;
+            match run {
+                Successors::One(next) => right = next,
+                Successors::Many(run) => return push_moving(&mut self.work, run),
+            }
+        }
+        self.done.push(right)?;
+        Ok(())
+    }
+}
+
+fn push_successors(waiting: &mut Vec<Component>, pieces: Successors) -> Result<(), Fault>
+    ensures ok { OnOk result (top waiting.new.items ≡ successors pieces ++ top waiting.old.items) }
+    ensures err { IfErr result (λ f. f ≡ Memory) }
+{
+    match pieces {
+        Successors::One(piece) => {
+            waiting.push(piece)?;
+            Ok(())
+        }
+        Successors::Many(pieces) => push_pieces(waiting, pieces),
     }
 }
 
@@ -95,8 +121,8 @@ pub(crate) fn pop_work(work: &mut Vec<Pending>) -> Option<Pending>
     work.pop()
 }
 
-fn push_waiting(work: &mut Vec<Pending>, pieces: Vec<Component>) -> Result<(), Fault>
-    ensures ok { OnOk result (stack work.new.items ≡ Waits pieces.items ∷ stack work.old.items) }
+fn push_waiting(work: &mut Vec<Pending>, pieces: Successors) -> Result<(), Fault>
+    ensures ok { OnOk result (stack work.new.items ≡ Waits (successors pieces) ∷ stack work.old.items) }
     ensures err { IfErr result (λ f. f ≡ Memory) }
 {
     work.push(Pending::Waiting(pieces))?;
@@ -113,24 +139,51 @@ pub(crate) fn push_moving(work: &mut Vec<Pending>, mut run: Vec<Component>) -> R
     Ok(())
 }
 
-// Carries two components past one another, and puts what comes of them on the work.
-fn meet(
+// What stands for each of two components after the other. Nothing is copied but where both are reworked.
+fn both_past(
     alloc: Global,
     left: Component,
     right: Component,
-    work: &mut Vec<Pending>,
-) -> Result<(), Fault>
-    ensures ok { OnOk result (Meets left right (stack work.old.items) (stack work.new.items)) }
+) -> Result<(Successors, Successors), Fault>
+    ensures left { IfOk result (λ p. transform Left left right ≡ Some (successors p.0)) }
+    ensures right { IfOk result (λ p. transform Right right left ≡ Some (successors p.1)) }
     ensures err { IfErr result (λ f. IsRefusal left right f) }
 {
-    let (pieces, run) = both_past(alloc, left, right)?;
-    push_waiting(work, pieces)?;
-    push_moving(work, run)
+    match foresee(&right, &left, Side::Right) {
+        Outlook::Refused => Err(Fault::NotTransformed),
+        Outlook::Moves(to) => {
+            let pieces = past(alloc, left, &right, Side::Left)?;
+            Ok((pieces, moved(alloc, right, to)))
+        }
+        Outlook::Reworked => past_reworked(alloc, left, right),
+    }
 }
 
-// What stands for each of two components after the other. Where they touch, the one of which there is
-// less to copy is copied, and nothing else.
-fn both_past(
+// The same where the right one is reworked.
+fn past_reworked(
+    alloc: Global,
+    left: Component,
+    right: Component,
+) -> Result<(Successors, Successors), Fault>
+    ensures left { IfOk result (λ p. transform Left left right ≡ Some (successors p.0)) }
+    ensures right { IfOk result (λ p. transform Right right left ≡ Some (successors p.1)) }
+    ensures err { IfErr result (λ f. IsRefusal left right f) }
+{
+    match foresee(&left, &right, Side::Left) {
+        Outlook::Refused => Err(Fault::NotTransformed),
+        Outlook::Moves(to) => {
+            let run = transform_one(alloc, right, &left, Side::Right)?;
+            Ok((moved(alloc, left, to), Successors::Many(run)))
+        }
+        Outlook::Reworked => {
+            let (pieces, run) = both_reworked(alloc, left, right)?;
+            Ok((Successors::Many(pieces), Successors::Many(run)))
+        }
+    }
+}
+
+// The same where both are reworked: the one of which there is less to copy is copied.
+fn both_reworked(
     alloc: Global,
     left: Component,
     right: Component,
@@ -139,9 +192,6 @@ fn both_past(
     ensures right { IfOk result (λ p. transform Right right left ≡ Some p.1.items) }
     ensures err { IfErr result (λ f. IsRefusal left right f) }
 {
-    if are_apart(&left, &right) {
-        return Ok((only(alloc, left)?, only(alloc, right)?));
-    }
     if is_no_larger(&left, &right) {
         let copy = left.try_clone(alloc)?;
         let pieces = transform_one(alloc, copy, &right, Side::Left)?;
@@ -153,12 +203,6 @@ fn both_past(
         let pieces = transform_one(alloc, left, &right, Side::Left)?;
         Ok((pieces, run))
     }
-}
-
-fn are_apart(left: &Component, right: &Component) -> bool
-    ensures { result ≡ apart left.now right.now }
-{
-    behind(left.path(), right.path()).is_none() && behind(right.path(), left.path()).is_none()
 }
 
 // Whether there is no more to copy of the left one than of the right one. Both are measured up to a

@@ -56,7 +56,8 @@ pub(crate) fn creating(rt: &impl Abort, alloc: Global) -> Content {
     let zero = Json::Int(Whole::new(0).expect(rt, "a whole number"));
     let added: Result<_, _> = members.insert(text(rt, alloc, "n"), zero);
     drop(added.expect(rt, "out of memory"));
-    Content::create(alloc, Json::object(members)).expect(rt, "out of memory")
+    let object = Json::object(alloc, members).expect(rt, "out of memory");
+    Content::create(alloc, object).expect(rt, "out of memory")
 }
 
 // A submission of the source, through b and the pass of the number.
@@ -86,7 +87,7 @@ pub(crate) fn number(document: Option<&Json>) -> Option<i64> {
 // The number at `n`.
 pub(crate) fn counted(document: Option<&Json>) -> Option<i64> {
     match document {
-        Some(Json::Object(members)) => number(members.get().get("n")),
+        Some(Json::Object(members)) => number(members.get("n")),
         _ => None,
     }
 }

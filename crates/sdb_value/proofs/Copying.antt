@@ -1,21 +1,19 @@
 -- Copies in their three manners.
-use Rattle.std.proofs.Common.{◌≡◌, ℕ, ◌<◌, List, [], ◌∷◌, ◌++◌, length, take, map, Option, Some, None, Bool, true, false, cond, Result, Ok, Err, IfOk, String, Global, true≢false, refl, sym, ap, ◌∙◌, append_assoc}
+use Rattle.std.proofs.Common.{◌≡◌, List, [], ◌∷◌, ◌++◌, map, Option, Some, None, Bool, true, false, cond, Result, Ok, Err, IfOk, true≢false, refl, sym, ap, ◌∙◌, append_assoc}
 use Rattle.std.specs.List.{flat_map}
 use Rattle.std.specs.Option.{is_some, IfSome, IfNone}
-use Rattle.std.specs.declared.collections.BTreeMap.{BTreeMap}
-use Rattle.std.specs.Prelude.{⊤}
 use Rattle.sdb_pieces.specs.Block.{items_of as block_items, is_own as block_own, is_shared as block_shared}
 use Rattle.sdb_pieces.specs.Pieces.{all_own, all_shared, blocks_in, items_in, parts_in, is_own_form, is_own_list, is_shared_form, is_shared_list}
-use Rattle.sdb_pieces.specs.Shareable.{inside, is_own as holds_own, is_shared as holds_shared}
+use Rattle.sdb_members.specs.Keys.{texts_in, is_own as keys_own, is_shared as keys_shared}
+use Rattle.sdb_members.specs.Members.{is_shared as holds_shared}
+use Rattle.sdb_members.specs.declared.members.Members.{Members as Held}
 use Rattle.sdb_pieces.specs.declared.block.Block.{Block}
 use Rattle.sdb_pieces.specs.declared.block.Block.TheVariants.{Own, Shared}
 use Rattle.sdb_pieces.specs.declared.pieces.Form.{Form}
 use Rattle.sdb_pieces.specs.declared.pieces.Form.TheVariants.{One, Many}
 use Rattle.sdb_pieces.specs.declared.pieces.Pieces.{Pieces}
-use Rattle.sdb_pieces.specs.declared.shareable.Shareable.{Shareable}
-use Rattle.sdb_pieces.specs.declared.shareable.Shareable.TheVariants as shareable
 use Rattle.sdb_value.specs.Copies.{IsCopied, block_all_own, blocks_all_own}
-use Rattle.sdb_value.specs.Owns.{all_true, is_own, is_pointer, items_own, list_own, members_own, object_own}
+use Rattle.sdb_value.specs.Owns.{all_true, is_own, is_pointer, items_own, list_own, object_own}
 use Rattle.sdb_value.specs.View.{view, items_view, list_view, object_view}
 use Rattle.sdb_value.specs.Value.{list, object, item, join}
 use Rattle.sdb_value.specs.declared.copy.Manner.{Manner}
@@ -23,7 +21,8 @@ use Rattle.sdb_value.specs.declared.copy.Manner.TheVariants as manner
 use Rattle.sdb_value.specs.declared.value.Json.{Json}
 use Rattle.sdb_value.specs.declared.value.Json as json
 use Rattle.sdb_value.proofs.Owned.{items_parts, owned_list, owned_object, pointer_list, pointer_object}
-use Rattle.sdb_value.proofs.Views.{Entry, seen_list, seen_object}
+use Rattle.sdb_value.proofs.Pairs.{paired, object_pairs}
+use Rattle.sdb_value.proofs.Views.{seen_list, seen_object}
 
 -- ---- a pointer
 
@@ -73,21 +72,9 @@ pub block_pointed : (m : Manner) (b new : Block Json) → (m ≡ manner.Own → 
     → IsCopied m (block_all_own b) (block_all_own new) (block_shared new)
 block_pointed m b new h was now = copied_pointer m (block_all_own b) (block_all_own new) (block_shared new) h (shared_block_own b was) (shared_block_own new now) now
 
-shared_object_own : (s : Shareable (BTreeMap (String Global) Json Global)) → holds_shared s ≡ true → object_own s ≡ false
-shared_object_own (shareable.Own m) h = absurd (true≢false (sym h))
-shared_object_own (shareable.Shared m) h = refl
-
-pub object_pointed : (m : Manner) (s new : Shareable (BTreeMap (String Global) Json Global)) → (m ≡ manner.Own → ⊥) → holds_shared s ≡ true → holds_shared new ≡ true
-    → IsCopied m (object_own s) (object_own new) (holds_shared new)
-object_pointed m s new h was now = copied_pointer m (object_own s) (object_own new) (holds_shared new) h (shared_object_own s was) (shared_object_own new now) now
-
 pub not_shared_own : {X : Type 0} (b : Block X) → block_shared b ≡ false → block_own b ≡ true
 not_shared_own (Own v) h = refl
 not_shared_own (Shared a) h = absurd (true≢false h)
-
-pub not_shared_holds : {X : Type 0} (s : Shareable X) → holds_shared s ≡ false → holds_own s ≡ true
-not_shared_holds (shareable.Own m) h = refl
-not_shared_holds (shareable.Shared m) h = absurd (true≢false h)
 
 -- ---- one more of several
 
@@ -184,11 +171,11 @@ copied_list m v l new is h =
     copied_by m (list_own l) (list_own new) (is_shared_list new) (is_own v) (is_own (json.List new)) (is_pointer (json.List new))
     (ap is_own is ∙ owned_list l) (owned_list new) (pointer_list new) h
 
-pub value_object : (v : Json) (s new : Shareable (BTreeMap (String Global) Json Global)) → v ≡ json.Object s → object_view new ≡ object_view s
+pub value_object : (v : Json) (s new : Held Json) → v ≡ json.Object s → object_view new ≡ object_view s
     → view (json.Object new) ≡ view v
 value_object v s new is e = seen_object new ∙ ap object e ∙ sym (ap view is ∙ seen_object s)
 
-pub copied_object : (m : Manner) (v : Json) (s new : Shareable (BTreeMap (String Global) Json Global)) → v ≡ json.Object s
+pub copied_object : (m : Manner) (v : Json) (s new : Held Json) → v ≡ json.Object s
     → IsCopied m (object_own s) (object_own new) (holds_shared new) → IsCopied m (is_own v) (is_own (json.Object new)) (is_pointer (json.Object new))
 copied_object m v s new is h =
     copied_by m (object_own s) (object_own new) (holds_shared new) (is_own v) (is_own (json.Object new)) (is_pointer (json.Object new))
@@ -241,12 +228,19 @@ items_copied_more m vs cs v c p h k =
     both_of m (items_own vs) (items_own cs) (is_own v) (is_own c) (items_own (vs ++ v ∷ [])) (items_own (cs ++ c ∷ [])) p
     (ap all_true (map_append is_own vs (v ∷ [])) ∙ all_more (map is_own vs) (is_own v)) (ap all_true (map_append is_own cs (c ∷ [])) ∙ all_more (map is_own cs) (is_own c)) h k
 
-pub members_copied_more : (m : Manner) (es cs : List Entry) (e c : Entry) (p : Bool) → IsCopied m (members_own es) (members_own cs) true
-    → IsCopied m (is_own e.1) (is_own c.1) p → IsCopied m (members_own (es ++ e ∷ [])) (members_own (cs ++ c ∷ [])) true
-members_copied_more m es cs e c p h k =
-    let f : Entry → Bool = λ e. is_own e.1 in
-    both_of m (members_own es) (members_own cs) (is_own e.1) (is_own c.1) (members_own (es ++ e ∷ [])) (members_own (cs ++ c ∷ [])) p
-    (ap all_true (map_append f es (e ∷ [])) ∙ all_more (map f es) (is_own e.1)) (ap all_true (map_append f cs (c ∷ [])) ∙ all_more (map f cs) (is_own c.1)) h k
+both_copied : (m : Manner) (a b c d p q : Bool) → IsCopied m a b p → IsCopied m c d q → IsCopied m (cond a c false) (cond b d false) (cond p q false)
+both_copied manner.Same a b c d p q h k = ap (λ x. cond x d false) h ∙ ap (λ x. cond a x false) k
+both_copied manner.Own a b c d p q h k = ap (λ x. cond x d false) h ∙ k
+both_copied manner.Shared a b c d p q h k = ap (λ x. cond x q false) h ∙ k
+
+pub same_entries : (s new : Held Json) → texts_in new.keys ≡ texts_in s.keys → list_view new.values ≡ list_view s.values → object_view new ≡ object_view s
+same_entries s new k v =
+    object_pairs new ∙ ap (λ ts. paired ts (list_view new.values)) k ∙ ap (paired (texts_in s.keys)) v ∙ sym (object_pairs s)
+
+pub keys_values : (m : Manner) (s new : Held Json) → IsCopied m (keys_own s.keys) (keys_own new.keys) (keys_shared new.keys)
+    → IsCopied m (list_own s.values) (list_own new.values) (is_shared_list new.values) → IsCopied m (object_own s) (object_own new) (holds_shared new)
+keys_values m s new h k =
+    both_copied m (keys_own s.keys) (keys_own new.keys) (list_own s.values) (list_own new.values) (keys_shared new.keys) (is_shared_list new.values) h k
 
 pub view_more : (cs vs : List Json) (c v : Json) → map view cs ≡ map view vs → view c ≡ view v → map view (cs ++ c ∷ []) ≡ map view (vs ++ v ∷ [])
 view_more cs vs c v h e = map_append view cs (c ∷ []) ∙ ap (λ l. l ++ view c ∷ []) h ∙ ap (λ d. map view vs ++ d ∷ []) e ∙ sym (map_append view vs (v ∷ []))

@@ -5,7 +5,10 @@ pub mod Depths
 pub mod Read
 pub mod ListEdits
 pub mod Objects
+pub mod Ordered
 pub mod Owned
+pub mod Pairs
+pub mod Puts
 pub mod Sharing
 pub mod Steps
 pub mod Views

@@ -1,5 +1,5 @@
 -- Edits of a list, beside those of the values that its items stand for.
-use Rattle.std.proofs.Common.{◌≡◌, ℕ, zero, suc, ◌<◌, ◌≤◌, List, [], ◌∷◌, ◌++◌, length, take, drop, map, set, Option, Some, None, option_map, Bool, true, false, cond, ltb, leb, slice_get, if◌then◌else◌, nat_le, nat_lt, Result, Ok, Err, IfOk, OnOk, OnErr, true≢false, refl, sym, ap, ◌∙◌, arith}
+use Rattle.std.proofs.Common.{◌≡◌, ℕ, zero, suc, ◌<◌, List, [], ◌∷◌, ◌++◌, length, take, drop, map, set, Option, Some, None, option_map, Bool, true, false, cond, ltb, leb, slice_get, if◌then◌else◌, nat_le, Result, Ok, Err, IfOk, OnOk, OnErr, true≢false, refl, sym, ap, ◌∙◌, arith}
 use Rattle.std.specs.List.{insert, remove}
 use Rattle.std.specs.Option.{is_some, IfSome, IfNone}
 use Rattle.std.proofs.lemmas.Bool.Decides.{nat_tests}
@@ -9,7 +9,7 @@ use Rattle.sdb_pieces.specs.declared.pieces.Pieces.{Pieces}
 use Rattle.sdb_text.specs.Edits.{Edits}
 use Rattle.sdb_value.specs.Owns.{all_true, is_own, items_own, list_own, seen}
 use Rattle.sdb_value.specs.Value.{Value, null, Items, item, count, join, take_items, drop_items, insert_item, remove_item, replace_item, item_at, set_item}
-use Rattle.sdb_value.specs.View.{view, items_of, items_view, list_view}
+use Rattle.sdb_value.specs.View.{view, items_of, list_view}
 use Rattle.sdb_value.specs.declared.value.Json.{Json}
 use Rattle.sdb_value.specs.declared.value.Json as json
 use Rattle.sdb_value.proofs.Views.{seen_null}

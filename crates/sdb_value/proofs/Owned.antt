@@ -1,7 +1,6 @@
 -- What is its owner's own, and of what a copy is a pointer, level by level.
-use Rattle.std.proofs.Common.{◌≡◌, List, [], ◌∷◌, ◌++◌, map, Bool, true, false, cond, String, Vec, Global, refl, sym, ap, ◌∙◌, rules}
+use Rattle.std.proofs.Common.{◌≡◌, List, [], ◌∷◌, ◌++◌, map, Bool, true, false, cond, Vec, Global, refl, ap, ◌∙◌, rules}
 use Rattle.std.specs.declared.sync.Arc.{Arc}
-use Rattle.std.specs.declared.collections.BTreeMap.{BTreeMap}
 use Rattle.std.specs.List.{flat_map}
 use Rattle.sdb_pieces.specs.Block.{items_of as block_items, is_own as block_own}
 use Rattle.sdb_pieces.specs.Laws.{seen_items_in}
@@ -11,15 +10,15 @@ use Rattle.sdb_pieces.specs.declared.block.Block.TheVariants.{Own, Shared}
 use Rattle.sdb_pieces.specs.declared.pieces.Form.{Form}
 use Rattle.sdb_pieces.specs.declared.pieces.Form.TheVariants.{One, Many}
 use Rattle.sdb_pieces.specs.declared.pieces.Pieces.{Pieces}
-use Rattle.sdb_pieces.specs.declared.shareable.Shareable.{Shareable}
-use Rattle.sdb_pieces.specs.declared.shareable.Shareable.TheVariants as shareable
-use Rattle.sdb_pieces.specs.Shareable.{inside, is_own as holds_own, is_shared as holds_shared}
+use Rattle.sdb_members.specs.Keys.{is_own as keys_own, is_shared as keys_shared}
+use Rattle.sdb_members.specs.Members.{is_shared as holds_shared}
+use Rattle.sdb_members.specs.declared.members.Members.{Members as Held}
 use Rattle.sdb_text.specs.Held.{is_own as text_own, is_shared as text_shared}
 use Rattle.sdb_text.specs.declared.text.Text.{Text}
-use Rattle.sdb_value.specs.Owns.{all_true, is_own, is_pointer, items_own, list_own, members_own, object_own}
+use Rattle.sdb_value.specs.Owns.{all_true, is_own, is_pointer, list_own, object_own}
 use Rattle.sdb_value.specs.declared.value.Json.{Json, the_lemmas}
 use Rattle.sdb_value.specs.declared.value.Json as json
-use Rattle.sdb_value.proofs.Views.{former_seen, former_entries, seen_list, seen_object}
+use Rattle.sdb_value.proofs.Views.{former_seen, former_values, seen_list, seen_object}
 
 -- ---- through the fold
 
@@ -70,29 +69,34 @@ owned_text t = search (rules, the_lemmas)
 pub pointer_text : (t : Text) → is_pointer (json.Text t) ≡ text_shared t
 pointer_text t = search (rules, the_lemmas)
 
-second_once : {X : Type 0} (f : X → Bool) (es : List (String Global × X)) → map (λ (e : String Global × Bool). e.1) (map (λ (e : String Global × X). (e.0, f e.1)) es) ≡ map (λ (e : String Global × X). f e.1) es
-second_once f [] = refl
-second_once f (e ∷ es) = ap (λ l. f e.1 ∷ l) (second_once f es)
-
-abbrev inner_members : Shareable (BTreeMap (String Global) Json Global) → Shareable (BTreeMap (String Global) Bool Global)
+abbrev inner_members : Held Json → Held Bool
 inner_members m = (json.TheShapes.former-Json-Object-0).map Json Bool is_own m
 
-former_holds : (m : Shareable (BTreeMap (String Global) Json Global)) → holds_own (inner_members m) ≡ holds_own m
-former_holds (shareable.Own m) = refl
-former_holds (shareable.Shared m) = refl
+values_own : {X Y : Type 0} (f : X → Y) (m : Held X) (w : Form X)
+    → is_own_list ((json.TheShapes.former-Json-Object-0).map X Y f (record { keys = m.keys; values = record { form = w } })).values ≡ is_own_form w
+values_own f m (One (Own v)) = refl
+values_own f m (One (Shared a)) = refl
+values_own f m (Many (Own v)) = all_own_once _ v.items (λ w. refl) (λ w. refl)
+values_own f m (Many (Shared a)) = refl
 
-pub owned_object : (m : Shareable (BTreeMap (String Global) Json Global)) → is_own (json.Object m) ≡ object_own m
+values_shared : {X Y : Type 0} (f : X → Y) (m : Held X) (w : Form X)
+    → is_shared_list ((json.TheShapes.former-Json-Object-0).map X Y f (record { keys = m.keys; values = record { form = w } })).values ≡ is_shared_form w
+values_shared f m (One (Own v)) = refl
+values_shared f m (One (Shared a)) = refl
+values_shared f m (Many (Own v)) = refl
+values_shared f m (Many (Shared a)) = refl
+
+pub owned_object : (m : Held Json) → is_own (json.Object m) ≡ object_own m
 owned_object m =
-    let e : is_own (json.Object m) ≡ cond (holds_own (inner_members m)) (all_true (map (λ (e : String Global × Bool). e.1) (inside (inner_members m)).entries)) false = search (rules, the_lemmas) in
-    e ∙ ap (λ b. cond b (all_true (map (λ (e : String Global × Bool). e.1) (inside (inner_members m)).entries)) false) (former_holds m)
-    ∙ ap (λ es. cond (holds_own m) (all_true (map (λ (e : String Global × Bool). e.1) es)) false) (former_entries is_own m)
-    ∙ ap (λ bs. cond (holds_own m) (all_true bs) false) (second_once is_own (inside m).entries)
+    let n = inner_members m in
+    let e : is_own (json.Object m) ≡ cond (keys_own m.keys) (cond (is_own_list n.values) (all_true (seen_in (λ b. b) n.values)) false) false = search (rules, the_lemmas) in
+    e ∙ ap (λ b. cond (keys_own m.keys) (cond b (all_true (seen_in (λ b. b) n.values)) false) false) (values_own is_own m m.values.form)
+    ∙ ap (λ bs. cond (keys_own m.keys) (cond (is_own_list m.values) (all_true bs) false) false) (former_values is_own m ∙ seen_items_in is_own m.values)
 
-former_pointer : (f : Json → Bool) (m : Shareable (BTreeMap (String Global) Json Global)) → holds_shared ((json.TheShapes.former-Json-Object-0).map Json Bool f m) ≡ holds_shared m
-former_pointer f (shareable.Own m) = refl
-former_pointer f (shareable.Shared m) = refl
+former_pointer : (f : Json → Bool) (m : Held Json) → holds_shared ((json.TheShapes.former-Json-Object-0).map Json Bool f m) ≡ holds_shared m
+former_pointer f m = ap (λ b. cond (keys_shared m.keys) b false) (values_shared f m m.values.form)
 
-pub pointer_object : (m : Shareable (BTreeMap (String Global) Json Global)) → is_pointer (json.Object m) ≡ holds_shared m
+pub pointer_object : (m : Held Json) → is_pointer (json.Object m) ≡ holds_shared m
 pointer_object m = search (rules, the_lemmas, former_pointer)
 
 -- ---- blocks

@@ -1,12 +1,14 @@
 -- What sharing in place leaves as it was, and how much a walk through a value has still to go.
-use Rattle.std.proofs.Common.{◌≡◌, ℕ, zero, suc, ◌+◌, ◌≤◌, ◌<◌, List, [], ◌∷◌, length, map, get_or, set, Option, Some, Bool, true, false, cond, sym, ap, ◌∙◌, arith}
+use Rattle.std.proofs.Common.{◌≡◌, ℕ, zero, suc, ◌+◌, ◌≤◌, ◌<◌, List, [], ◌∷◌, length, map, get_or, set, Option, Some, None, option_map, slice_get, false, true≢false, sym, ap, ◌∙◌, arith}
 use Rattle.std.proofs.lemmas.List.{get_or-map, map-set, set-get_or}
-use Rattle.std.specs.List.{flat_map}
+use Rattle.std.specs.List.{flat_map, zip}
+use Rattle.std.specs.Option.{is_some}
 use Rattle.sdb_pieces.specs.Block.{items_of as block_items}
 use Rattle.sdb_pieces.specs.declared.block.Block.{Block}
 use Rattle.sdb_value.specs.Size.{size, items_size, members_size}
-use Rattle.sdb_value.specs.Value.{Value, null, Items, no_items, item, Members, no_members, member, join, member_at, same_text}
-use Rattle.sdb_value.specs.View.{view, items_of, items_view}
+use Rattle.sdb_value.specs.Value.{null, Items, no_items, item, join}
+use Rattle.sdb_value.specs.Owns.{seen}
+use Rattle.sdb_value.specs.View.{view, items_of, items_view, members_view}
 use Rattle.sdb_value.specs.declared.value.Json.{Json}
 use Rattle.sdb_value.proofs.Copying.{join_view}
 use Rattle.sdb_value.proofs.Views.{seen_list, seen_object}
@@ -55,14 +57,16 @@ block_within (x ∷ bs) (suc k) b h is =
     let all = first_size x bs in
     omega (arith, rest, all)
 
-either_within : (t : Bool) (n : ℕ) (c d : Value) (ms : Members) (found : Option Value) → Some c ≡ cond t (Some d) found
-    → (Some c ≡ found → size c ≤ members_size ms) → size c ≤ n + size d + members_size ms
-either_within true n c d ms found e h = let same : c ≡ d = cc in let s : size c ≡ size d = ap size same in omega (arith, s)
-either_within false n c d ms found e h = let rest = h e in omega (arith, rest)
+-- where there is no value past the keys, the values are no greater than the object
+pub values_within : (ts : List (List ℕ)) (vs : List Json) → slice_get (map seen vs) (length ts) ≡ None → items_size (items_view vs) ≤ members_size (members_view (zip ts vs))
+values_within [] [] e = omega arith
+values_within [] (v ∷ vs) e = cc
+values_within (t ∷ ts) [] e = omega arith
+values_within (t ∷ ts) (v ∷ vs) e = let rest = values_within ts vs e in omega (arith, rest)
 
-pub member_within : (k : List ℕ) (ms : Members) (c : Value) → Some c ≡ member_at k ms → size c ≤ members_size ms
-member_within k no_members c e = cc
-member_within k (member l d ms) c e = either_within (same_text k l) (length l) c d ms (member_at k ms) e (member_within k ms c)
+pub none_found : {A B : Type 0} (f : A → B) (o : Option A) (r : Option B) → option_map f o ≡ r → is_some o ≡ false → r ≡ None
+none_found f None r e h = sym e
+none_found f (Some x) r e h = absurd (true≢false h)
 
 -- one level of a list, and of an object: what it is
 pub ruleset levels = (seen_list, seen_object)

@@ -1,5 +1,5 @@
 -- One step down a path, and a change below it.
-use Rattle.std.proofs.Common.{◌≡◌, ℕ, zero, suc, List, ◌∷◌, Option, Some, None, MatchOption, Result, Ok, Err, IfOk, OnErr, Bool, true, false, true≢false, refl, sym, ap, ◌∙◌}
+use Rattle.std.proofs.Common.{◌≡◌, ℕ, zero, suc, List, ◌∷◌, Option, Some, None, MatchOption, Result, Ok, Err, IfOk, Bool, true, false, true≢false, refl, sym, ap, ◌∙◌}
 use Rattle.sdb_value.specs.Value.{Value, null, no_items, item, list, object, Items, Members, PlainStep, key, index, item_at, member_at, set_item, set_member, as_list, as_object, one, with_one}
 use Rattle.sdb_value.specs.Change.{ChangedAt, NothingAt}
 use Rattle.sdb_value.specs.Law.{list_is, object_is, set_same_item, set_same_member}

@@ -1,15 +1,16 @@
 -- How much there is of a value: what a walk through it goes down by.
-use Rattle.std.proofs.Common.{◌≡◌, ℕ, suc, ◌+◌, ◌≤◌, ◌<◌, List, [], ◌∷◌, map, String, Global, refl, sym, ap, ◌∙◌, subst, arith, rules}
-use Rattle.std.specs.declared.collections.BTreeMap.{BTreeMap}
+use Rattle.std.proofs.Common.{◌≡◌, ℕ, suc, ◌+◌, ◌≤◌, ◌<◌, List, [], ◌∷◌, map, refl, ap, ◌∙◌, arith, rules}
+use Rattle.std.specs.List.{zip}
 use Rattle.sdb_pieces.specs.Laws.{seen_items_in}
 use Rattle.sdb_pieces.specs.Pieces.{seen_in, items_in}
-use Rattle.sdb_pieces.specs.Shareable.{inside}
+use Rattle.sdb_members.specs.Keys.{texts_in}
+use Rattle.sdb_members.specs.Members.{entries_in}
 use Rattle.sdb_pieces.specs.declared.pieces.Pieces.{Pieces}
-use Rattle.sdb_pieces.specs.declared.shareable.Shareable.{Shareable}
+use Rattle.sdb_members.specs.declared.members.Members.{Members as Held}
 use Rattle.sdb_value.specs.declared.value.Json.{Json, fold-Json, the_lemmas}
 use Rattle.sdb_value.specs.declared.value.Json as json
 use Rattle.sdb_value.specs.declared.value.Json.TheOpen.{Json-F}
-use Rattle.sdb_value.proofs.Views.{Entry, former_seen, former_entries, seen_list, seen_object}
+use Rattle.sdb_value.proofs.Views.{former_seen, former_values, seen_list, seen_object}
 
 abbrev total : List ℕ → ℕ
 total [] = 0
@@ -17,7 +18,7 @@ total (n ∷ ns) = n + total ns
 
 abbrev weight_step : Json-F ℕ → ℕ
 weight_step (Json-F.List l) = suc (suc (total (seen_in (λ n. n) l)))
-weight_step (Json-F.Object m) = suc (suc (total (map (λ (e : String Global × ℕ). e.1) (inside m).entries)))
+weight_step (Json-F.Object m) = suc (suc (total (seen_in (λ n. n) m.values)))
 weight_step _ = 1
 
 abbrev pub weight : Json → ℕ
@@ -27,7 +28,7 @@ abbrev pub weights : List Json → ℕ
 weights [] = 0
 weights (v ∷ vs) = weight v + weights vs
 
-abbrev pub members_weight : List Entry → ℕ
+abbrev pub members_weight : List (List ℕ × Json) → ℕ
 members_weight [] = 0
 members_weight (e ∷ es) = weight e.1 + members_weight es
 
@@ -43,17 +44,22 @@ weigh_list l =
     let e : weight (json.List l) ≡ suc (suc (total (seen_in (λ n. n) (inner_list l)))) = search (rules, the_lemmas) in
     e ∙ ap (λ ns. suc (suc (total ns))) (former_seen weight l ∙ seen_items_in weight l) ∙ ap (λ n. suc (suc n)) (weights_are (items_in l))
 
-members_are : (es : List Entry) → total (map (λ (e : String Global × ℕ). e.1) (map (λ (e : Entry). (e.0, weight e.1)) es)) ≡ members_weight es
-members_are [] = refl
-members_are (e ∷ es) = ap (λ n. weight e.1 + n) (members_are es)
-
-abbrev inner_object : Shareable (BTreeMap (String Global) Json Global) → Shareable (BTreeMap (String Global) ℕ Global)
+abbrev inner_object : Held Json → Held ℕ
 inner_object m = (json.TheShapes.former-Json-Object-0).map Json ℕ weight m
 
-pub weigh_object : (m : Shareable (BTreeMap (String Global) Json Global)) → weight (json.Object m) ≡ suc (suc (members_weight (inside m).entries))
+pub weigh_object : (m : Held Json) → weight (json.Object m) ≡ suc (suc (weights (items_in m.values)))
 weigh_object m =
-    let e : weight (json.Object m) ≡ suc (suc (total (map (λ (e : String Global × ℕ). e.1) (inside (inner_object m)).entries))) = search (rules, the_lemmas) in
-    e ∙ ap (λ es. suc (suc (total (map (λ (e : String Global × ℕ). e.1) es)))) (former_entries weight m) ∙ ap (λ n. suc (suc n)) (members_are (inside m).entries)
+    let e : weight (json.Object m) ≡ suc (suc (total (seen_in (λ n. n) (inner_object m).values))) = search (rules, the_lemmas) in
+    e ∙ ap (λ ns. suc (suc (total ns))) (former_values weight m ∙ seen_items_in weight m.values) ∙ ap (λ n. suc (suc n)) (weights_are (items_in m.values))
+
+paired_fit : (ts : List (List ℕ)) (vs : List Json) → members_weight (zip ts vs) ≤ weights vs
+paired_fit [] vs = omega arith
+paired_fit (t ∷ ts) [] = omega arith
+paired_fit (t ∷ ts) (v ∷ vs) = let below = paired_fit ts vs in omega (arith, below)
+
+-- the members weigh no more than the values
+pub members_fit : (m : Held Json) → members_weight (entries_in m) ≤ weights (items_in m.values)
+members_fit m = paired_fit (texts_in m.keys) (items_in m.values)
 
 -- one of a list weighs less than the list
 pub first_below : (vs ws : List Json) (v : Json) (n : ℕ) → vs ≡ v ∷ ws → weights vs ≤ n → weight v < suc n
@@ -62,11 +68,11 @@ first_below vs ws v n e h = let s : weights vs ≡ weight v + weights ws = ap we
 pub rest_below : (vs ws : List Json) (v : Json) (n : ℕ) → vs ≡ v ∷ ws → weights vs ≤ n → weights ws ≤ n
 rest_below vs ws v n e h = let s : weights vs ≡ weight v + weights ws = ap weights e in omega (arith, s, h)
 
-pub member_below : (es fs : List Entry) (e : Entry) (n : ℕ) → es ≡ e ∷ fs → members_weight es ≤ n → weight e.1 < suc n
+pub member_below : (es fs : List (List ℕ × Json)) (e : List ℕ × Json) (n : ℕ) → es ≡ e ∷ fs → members_weight es ≤ n → weight e.1 < suc n
 member_below es fs e n h k = let s : members_weight es ≡ weight e.1 + members_weight fs = ap members_weight h in omega (arith, s, k)
 
-pub members_rest_below : (es fs : List Entry) (e : Entry) (n : ℕ) → es ≡ e ∷ fs → members_weight es ≤ n → members_weight fs ≤ n
+pub members_rest_below : (es fs : List (List ℕ × Json)) (e : List ℕ × Json) (n : ℕ) → es ≡ e ∷ fs → members_weight es ≤ n → members_weight fs ≤ n
 members_rest_below es fs e n h k = let s : members_weight es ≡ weight e.1 + members_weight fs = ap members_weight h in omega (arith, s, k)
 
 -- one level of a list, and of an object: what it is, and what it weighs
-pub ruleset levels = (seen_list, seen_object, weigh_list, weigh_object)
+pub ruleset levels = (seen_list, seen_object, weigh_list, weigh_object, members_fit)

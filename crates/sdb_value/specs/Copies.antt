@@ -1,5 +1,5 @@
 -- What of a copy is its owner's own.
-use Rattle.std.specs.Prelude.{◌≡◌, List, [], ◌∷◌, map, Bool, true, false, cond}
+use Rattle.std.specs.Prelude.{◌≡◌, List, map, Bool, true, false, cond}
 use Rattle.sdb_pieces.specs.Block.{items_of, is_own as block_own}
 use Rattle.sdb_pieces.specs.declared.block.Block.{Block}
 use Rattle.sdb_value.specs.Owns.{all_true, items_own}

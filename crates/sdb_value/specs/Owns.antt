@@ -1,11 +1,11 @@
 -- Whether a `Json` is its owner's own: nothing in it is shared with copies.
 use Rattle.std.specs.Prelude.{List, [], ◌∷◌, map, Bool, true, false, cond, String}
-use Rattle.std.specs.declared.collections.BTreeMap.{BTreeMap}
 use Rattle.std.specs.declared.alloc.Global.{Global}
 use Rattle.sdb_pieces.specs.Pieces.{seen_in, items_in, is_own_list, is_shared_list}
-use Rattle.sdb_pieces.specs.Shareable.{inside, is_own as holds_own, is_shared as holds_shared}
+use Rattle.sdb_members.specs.Keys.{is_own as keys_own}
+use Rattle.sdb_members.specs.Members.{is_shared as holds_shared}
+use Rattle.sdb_members.specs.declared.members.Members.{Members}
 use Rattle.sdb_pieces.specs.declared.pieces.Pieces.{Pieces}
-use Rattle.sdb_pieces.specs.declared.shareable.Shareable.{Shareable}
 use Rattle.sdb_text.specs.Held.{is_own as text_own, is_shared as text_shared}
 use Rattle.sdb_value.specs.Value.{Value}
 use Rattle.sdb_value.specs.View.{view}
@@ -20,24 +20,24 @@ all_true (b ∷ bs) = cond b (all_true bs) false
 abbrev pub own_step : Json-F Bool → Bool
 own_step (Json-F.Text t) = text_own t
 own_step (Json-F.List l) = cond (is_own_list l) (all_true (seen_in (λ b. b) l)) false
-own_step (Json-F.Object m) = cond (holds_own m) (all_true (map (λ e. e.1) (inside m).entries)) false
+own_step (Json-F.Object m) = cond (keys_own m.keys) (cond (is_own_list m.values) (all_true (seen_in (λ b. b) m.values)) false) false
 own_step _ = true
 
 abbrev pub is_own : Json → Bool
 is_own = fold-Json Bool own_step
 
--- of a list and all its items, of an object and all its members
+-- of a list and all its items, of a map's values, of an object and all its values
 abbrev pub items_own : List Json → Bool
 items_own vs = all_true (map is_own vs)
 
 abbrev pub list_own : Pieces Json → Bool
 list_own l = cond (is_own_list l) (items_own (items_in l)) false
 
-abbrev pub members_own : List (String Global × Json) → Bool
-members_own es = all_true (map (λ e. is_own e.1) es)
+abbrev pub map_own : List (String Global × Json) → Bool
+map_own es = all_true (map (λ e. is_own e.1) es)
 
-abbrev pub object_own : Shareable (BTreeMap (String Global) Json Global) → Bool
-object_own m = cond (holds_own m) (members_own (inside m).entries) false
+abbrev pub object_own : Members Json → Bool
+object_own m = cond (keys_own m.keys) (list_own m.values) false
 
 -- a copy of it is a pointer, or as little
 abbrev pub pointer_step : Json-F Bool → Bool

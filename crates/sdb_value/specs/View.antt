@@ -1,14 +1,13 @@
 -- The value that a `Json` stands for.
-use Rattle.std.specs.Prelude.{List, [], ◌∷◌, map, String, string_bytes}
-use Rattle.std.specs.declared.collections.BTreeMap.{BTreeMap}
+use Rattle.std.specs.Prelude.{ℕ, List, [], ◌∷◌, map, String, string_bytes}
 use Rattle.std.specs.declared.alloc.Global.{Global}
 use Rattle.std.specs.List.{flat_map}
 use Rattle.sdb_pieces.specs.Block.{items_of as block_items}
 use Rattle.sdb_pieces.specs.Pieces.{seen_in, blocks_form, items_in}
-use Rattle.sdb_pieces.specs.Shareable.{inside}
 use Rattle.sdb_pieces.specs.declared.pieces.Form.{Form}
 use Rattle.sdb_pieces.specs.declared.pieces.Pieces.{Pieces}
-use Rattle.sdb_pieces.specs.declared.shareable.Shareable.{Shareable}
+use Rattle.sdb_members.specs.Members.{entries_in, entries_seen}
+use Rattle.sdb_members.specs.declared.members.Members.{Members as Held}
 use Rattle.sdb_text.specs.Held.{bytes_in}
 use Rattle.sdb_value.specs.Value.{Value, null, truth, whole, text, list, object, Items, no_items, item, Members, no_members, member, PlainStep, key, index}
 use Rattle.sdb_value.specs.declared.value.Json.{Json, fold-Json}
@@ -20,9 +19,9 @@ abbrev pub items_of : List Value → Items
 items_of [] = no_items
 items_of (d ∷ ds) = item d (items_of ds)
 
-abbrev pub members_of : List (String Global × Value) → Members
+abbrev pub members_of : List (List ℕ × Value) → Members
 members_of [] = no_members
-members_of (m ∷ ms) = member (string_bytes m.0) m.1 (members_of ms)
+members_of (m ∷ ms) = member m.0 m.1 (members_of ms)
 
 -- one level, with each value inside already seen
 abbrev pub view_step : Json-F Value → Value
@@ -31,7 +30,7 @@ view_step (Json-F.Bool b) = truth b
 view_step (Json-F.Int n) = whole n
 view_step (Json-F.Text t) = text (bytes_in t)
 view_step (Json-F.List l) = list (items_of (seen_in (λ d. d) l))
-view_step (Json-F.Object m) = object (members_of (inside m).entries)
+view_step (Json-F.Object m) = object (members_of (entries_seen (λ d. d) m))
 
 abbrev pub view : Json → Value
 view = fold-Json Value view_step
@@ -39,8 +38,12 @@ view = fold-Json Value view_step
 abbrev pub items_view : List Json → Items
 items_view vs = items_of (map view vs)
 
-abbrev pub members_view : List (String Global × Json) → Members
+abbrev pub members_view : List (List ℕ × Json) → Members
 members_view ms = members_of (map (λ m. (m.0, view m.1)) ms)
+
+-- of a map's entries
+abbrev pub map_view : List (String Global × Json) → Members
+map_view ms = members_view (map (λ m. (string_bytes m.0, m.1)) ms)
 
 -- of a list in pieces, and of an object's members
 abbrev pub list_view : Pieces Json → Items
@@ -49,8 +52,8 @@ list_view l = items_view (items_in l)
 abbrev pub form_view : Form Json → Items
 form_view w = items_view (flat_map block_items (blocks_form w))
 
-abbrev pub object_view : Shareable (BTreeMap (String Global) Json Global) → Members
-object_view m = members_view (inside m).entries
+abbrev pub object_view : Held Json → Members
+object_view m = members_view (entries_in m)
 
 abbrev pub plain_step : Step → PlainStep
 plain_step (Key k) = key (string_bytes k)

@@ -1,10 +1,9 @@
 //! Whether values and paths are the same.
 ghost use Rattle.std.specs.Prelude.{◌≡◌, IsTrue, IsFalse};
-ghost use Rattle.sdb_value.specs.View.{view, list_view, members_view, plain_step, plain_path};
+ghost use Rattle.sdb_value.specs.View.{view, list_view, object_view, plain_step, plain_path};
 
 use crate::places::Step;
-use crate::value::{Json, List};
-use std::collections::BTreeMap;
+use crate::value::{Json, List, Members};
 
 /// Whether the values are the same: of one kind, with the same parts, and the members of objects under the
 /// same keys. It walks both as far as they are the same, and takes no memory.
@@ -43,7 +42,7 @@ fn same(a: &Json, b: &Json) -> bool
             _ => false,
         },
         Json::Object(x) => match b {
-            Json::Object(y) => same_members(x.get(), y.get()),
+            Json::Object(y) => same_members(x, y),
             _ => false,
         },
     }
@@ -69,15 +68,15 @@ fn same_items(a: &List, b: &List) -> bool
 }
 
 #[cycle(same)]
-fn same_members(a: &BTreeMap<String, Json>, b: &BTreeMap<String, Json>) -> bool
-    ensures same { IsTrue result → members_view a.now.entries ≡ members_view b.now.entries }
-    ensures other { IsFalse result → members_view a.now.entries ≡ members_view b.now.entries → ⊥ }
+fn same_members(a: &Members, b: &Members) -> bool
+    ensures same { IsTrue result → object_view a.now ≡ object_view b.now }
+    ensures other { IsFalse result → object_view a.now ≡ object_view b.now → ⊥ }
 {
     let mut others = b.iter();
     for (key, member) in a.iter() {
         match others.next() {
             Some((name, other)) => {
-                if key.as_str() != name.as_str() || !same(member, other) {
+                if key != name || !same(member, other) {
                     return false;
                 }
             }

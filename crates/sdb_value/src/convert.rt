@@ -1,10 +1,10 @@
 //! From `serde_json`'s `Value`.
 ghost use Rattle.std.specs.Prelude.{◌≡◌, ◌<◌, ◌≤◌, true, Some, None, IfOk, IfErr, option_map};
 ghost use Rattle.sdb_value.specs.Value.{depth, items_depth, members_depth};
-ghost use Rattle.sdb_value.specs.Owns.{is_own, items_own, members_own};
+ghost use Rattle.sdb_value.specs.Owns.{is_own, items_own, map_own};
 ghost use Rattle.sdb_value.specs.Profile.{of_data, of_items, of_members, in_profile};
 ghost use Rattle.sdb_value.specs.Profile.{Unread, Refuses, RefusesItems, RefusesMembers};
-ghost use Rattle.sdb_value.specs.View.{view, items_view, members_view};
+ghost use Rattle.sdb_value.specs.View.{view, items_view, map_view};
 ghost use Rattle.serde_json.specs.View as raw;
 
 use crate::lists::push_item;
@@ -72,13 +72,13 @@ fn read(alloc: Global, value: &Value, left: u64) -> Result<Json, ValueFault>
             if left == 0 {
                 return Err(ValueFault::Depth);
             }
-            Ok(Json::list(read_items(alloc, items, left - 1)?))
+            Ok(Json::list_of(alloc, read_items(alloc, items, left - 1)?)?)
         }
         Value::Object(members) => {
             if left == 0 {
                 return Err(ValueFault::Depth);
             }
-            Ok(Json::object(read_members(alloc, members, left - 1)?))
+            Ok(Json::object(alloc, read_members(alloc, members, left - 1)?)?)
         }
     }
 }
@@ -105,9 +105,9 @@ fn read_members(
     left: u64,
 ) -> Result<BTreeMap<String, Json>, ValueFault>
     ensures ok { IfOk result (λ m. of_members (raw.members_view members.now.entries)
-        ≡ Some (members_view m.entries)) }
-    ensures low { IfOk result (λ m. members_depth (members_view m.entries) ≤ left) }
-    ensures own { IfOk result (λ m. members_own m.entries ≡ true) }
+        ≡ Some (map_view m.entries)) }
+    ensures low { IfOk result (λ m. members_depth (map_view m.entries) ≤ left) }
+    ensures own { IfOk result (λ m. map_own m.entries ≡ true) }
     ensures err { IfErr result (λ f. RefusesMembers left (raw.members_view members.now.entries) f) }
 {
     let mut made = BTreeMap::new(alloc);

@@ -3,19 +3,18 @@ ghost use Rattle.std.specs.Prelude.{◌≡◌, true, false, IfOk, IfSome, IfNone
 ghost use Rattle.std.specs.List.{flat_map};
 ghost use Rattle.sdb_pieces.specs.Block.{items_of, is_own as block_own, is_shared as block_shared};
 ghost use Rattle.sdb_pieces.specs.Pieces.{all_shared, blocks_in, is_shared_list};
-ghost use Rattle.sdb_pieces.specs.Shareable.{is_own as holds_own, is_shared as members_shared};
+ghost use Rattle.sdb_members.specs.Keys.{texts_in, is_own as keys_own, is_shared as keys_shared};
 ghost use Rattle.sdb_text.specs.Held.{bytes_in, is_own as text_own, is_shared as text_shared};
 ghost use Rattle.sdb_value.specs.Copies.{IsCopied, block_all_own, blocks_all_own};
-ghost use Rattle.sdb_value.specs.Owns.{is_own, is_pointer, items_own, list_own, members_own, object_own};
-ghost use Rattle.sdb_value.specs.View.{view, items_view, list_view, members_view, object_view};
+ghost use Rattle.sdb_value.specs.Owns.{is_own, is_pointer, items_own, list_own};
+ghost use Rattle.sdb_value.specs.View.{view, items_view, list_view};
 ghost use Rattle.sdb_value.specs.declared.copy.Manner.TheVariants.{Same};
 
 use crate::value::{Json, List, Members};
-use sdb_pieces::{Block, Pieces, Share, Shareable};
+use sdb_members::Keys;
+use sdb_pieces::{Block, Pieces, Share};
 use sdb_text::Text;
 use std::alloc::{AllocError, Global};
-use std::collections::BTreeMap;
-use std::sync::Arc;
 
 /// Of whom a copy is.
 #[derive(Clone, Copy, Drop)]
@@ -39,7 +38,11 @@ pub(crate) fn copy(alloc: Global, value: &Json, manner: Manner) -> Result<Json, 
         Json::Int(n) => Ok(Json::Int(*n)),
         Json::Text(text) => Ok(Json::Text(copy_text(alloc, text, manner)?)),
         Json::List(items) => Ok(Json::List(copy_list(alloc, items, manner)?)),
-        Json::Object(members) => Ok(Json::Object(copy_object(alloc, members, manner)?)),
+        Json::Object(members) => {
+            let keys = copy_keys(alloc, &members.keys, manner)?;
+            let values = copy_list(alloc, &members.values, manner)?;
+            Ok(Json::Object(Members { keys, values }))
+        }
     }
 }
 
@@ -55,7 +58,7 @@ fn copy_text(alloc: Global, text: &Text, manner: Manner) -> Result<Text, AllocEr
 }
 
 #[cycle(copy)]
-fn copy_list(alloc: Global, items: &List, manner: Manner) -> Result<List, AllocError>
+pub(crate) fn copy_list(alloc: Global, items: &List, manner: Manner) -> Result<List, AllocError>
     ensures items { IfOk result (λ l. list_view l ≡ list_view items.now) }
     ensures own { IfOk result (λ l. IsCopied manner (list_own items.now) (list_own l) (is_shared_list l)) }
 {
@@ -137,49 +140,17 @@ fn copy_items(alloc: Global, items: &[Json], manner: Manner) -> Result<Vec<Json>
     Ok(copies)
 }
 
-#[cycle(copy)]
-fn copy_object(alloc: Global, members: &Members, manner: Manner) -> Result<Members, AllocError>
-    ensures members { IfOk result (λ m. object_view m ≡ object_view members.now) }
-    ensures own { IfOk result (λ m. IsCopied manner
-        (object_own members.now) (object_own m) (members_shared m)) }
-{
-    if let Some(members) = object_pointer(members, manner)? {
-        return Ok(members);
-    }
-    let copies = copy_members(alloc, members.get(), manner)?;
-    match manner {
-        Manner::Shared => Ok(Shareable::Shared(Arc::new(alloc, copies)?)),
-        _ => Ok(Shareable::Own(copies)),
-    }
-}
-
-// A pointer to the members, where they are shared and a copy may be one.
-fn object_pointer(members: &Members, manner: Manner) -> Result<Option<Members>, AllocError>
-    ensures members { IfOk result (λ o. IfSome o (λ m. object_view m ≡ object_view members.now)) }
-    ensures own { IfOk result (λ o. IfSome o (λ m. IsCopied manner
-        (object_own members.now) (object_own m) (members_shared m))) }
-    ensures none { IfOk result (λ o. IfNone o (manner ≡ Same → holds_own members.now ≡ true)) }
+pub(crate) fn copy_keys(alloc: Global, keys: &Keys, manner: Manner) -> Result<Keys, AllocError>
+    ensures same { IfOk result (λ k. texts_in k ≡ texts_in keys.now) }
+    ensures own { IfOk result (λ k. IsCopied manner (keys_own keys.now) (keys_own k) (keys_shared k)) }
 {
     match manner {
-        Manner::Own => Ok(None),
-        _ => members.share_pointer(),
+        Manner::Same => keys.share(alloc),
+        Manner::Own => keys.own_copy(alloc),
+        Manner::Shared => {
+            let mut copy = keys.share(alloc)?;
+            copy.share_in_place(alloc)?;
+            Ok(copy)
+        }
     }
-}
-
-#[cycle(copy)]
-pub(crate) fn copy_members(
-    alloc: Global,
-    members: &BTreeMap<String, Json>,
-    manner: Manner,
-) -> Result<BTreeMap<String, Json>, AllocError>
-    ensures members { IfOk result (λ m. members_view m.entries ≡ members_view members.now.entries) }
-    ensures own { IfOk result (λ m. IsCopied manner
-        (members_own members.now.entries) (members_own m.entries) true) }
-{
-    let mut copies = BTreeMap::new(alloc);
-    for (key, member) in members.iter() {
-        let name = key.clone()?;
-        drop(copies.insert(name, copy(alloc, member, manner)?)?);
-    }
-    Ok(copies)
 }

@@ -2,12 +2,11 @@
 //! functions do nothing.
 ghost use Rattle.std.specs.Str.{IsUtf8};
 ghost use Rattle.sdb_value.specs.Apart.{PlacesApart, StepsApart, TextsSame, StepsSame};
-ghost use Rattle.sdb_value.specs.View.{view, list_view, members_view};
+ghost use Rattle.sdb_value.specs.View.{view, list_view, object_view};
 ghost use Rattle.sdb_value.specs.WellFormed.{IsInRange, IsWellFormed, AreWellFormed, MembersWellFormed};
 
-use crate::value::{Json, List, Whole};
+use crate::value::{Json, List, Members, Whole};
 use sdb_text::laws::text_is_utf8;
-use std::collections::BTreeMap;
 
 /// The numbers of a value are in range, its texts and keys UTF-8, and the keys of each object in it
 /// ascend by their bytes, so that each is there once.
@@ -26,7 +25,7 @@ fn all_well_formed(value: &Json)
         Json::Int(number) => in_range(*number),
         Json::Text(text) => text_is_utf8(text),
         Json::List(items) => items_well_formed(items),
-        Json::Object(members) => members_well_formed(members.get()),
+        Json::Object(members) => members_well_formed(members),
         _ => {}
     }
 }
@@ -41,11 +40,11 @@ fn items_well_formed(items: &List)
 }
 
 #[cycle(well_formed)]
-fn members_well_formed(members: &BTreeMap<String, Json>)
-    ensures { MembersWellFormed (members_view members.now.entries) }
+fn members_well_formed(members: &Members)
+    ensures { MembersWellFormed (object_view members.now) }
 {
     for (key, member) in members.iter() {
-        key_is_text(key.as_str());
+        key_is_text(key);
         all_well_formed(member);
     }
 }

@@ -1,19 +1,15 @@
 //! The inside of a value, lent for a change.
-ghost use Rattle.std.specs.Prelude.{◌≡◌, true, false, option_map, IfSome, IfNone};
+ghost use Rattle.std.specs.Prelude.{◌≡◌, option_map, IfSome};
 ghost use Rattle.std.specs.Option.{OnSome};
 ghost use Rattle.std.specs.Borrow.{LendsSo, sem};
-ghost use Rattle.sdb_pieces.specs.Shareable.{is_own as holds_own};
 ghost use Rattle.sdb_text.specs.Held.{bytes_in, is_own as text_own};
-ghost use Rattle.sdb_value.specs.Owns.{is_own, list_own, members_own, object_own};
-ghost use Rattle.sdb_value.specs.Rows.{json_row, list_row, map_row, object_row, text_row};
+ghost use Rattle.sdb_value.specs.Owns.{is_own, list_own, object_own};
+ghost use Rattle.sdb_value.specs.Rows.{json_row, list_row, object_row, text_row};
 ghost use Rattle.sdb_value.specs.Value.{text, list, object, as_text, as_list, as_object};
-ghost use Rattle.sdb_value.specs.Value.{member_at, set_member};
-ghost use Rattle.sdb_value.specs.View.{view, list_view, object_view, members_view};
+ghost use Rattle.sdb_value.specs.View.{view, list_view, object_view};
 
 use crate::value::{Json, List, Members};
-use sdb_pieces::Shareable;
 use sdb_text::Text;
-use std::collections::BTreeMap;
 
 /// The text, or `None` where the value is no text. What is left in it is the text afterwards.
 #[tactic(auto, using(crate::proofs::Owned::owned_text))]
@@ -62,36 +58,4 @@ pub fn object_mut(value: &mut Json) -> Option<&mut Members>
     } else {
         None
     }
-}
-
-// The map of an object's members, where it is the object's own.
-pub(crate) fn map_mut(members: &mut Members) -> Option<&mut BTreeMap<String, Json>>
-    ensures* writes_back { sem 𝓛 (LendsSo object_row map_row members.entry result
-        (λ n w. OnSome result ((object_view n ≡ members_view w.entries) × (object_own n ≡ members_own w.entries)))
-        (λ n. (object_view n ≡ object_view members.old) × (object_own n ≡ object_own members.old))) }
-    ensures value { IfSome result (λ v. members_view v.now.entries ≡ object_view members.old) }
-    ensures own { IfSome result (λ v. members_own v.now.entries ≡ object_own members.old) }
-    ensures none { IfNone result (holds_own members.old ≡ false) }
-{
-    if let Shareable::Own(map) = members {
-        Some(map)
-    } else {
-        None
-    }
-}
-
-pub(crate) fn member_mut<'v>(
-    members: &'v mut BTreeMap<String, Json>,
-    key: &str,
-) -> Option<&'v mut Json>
-    ensures* writes_back { sem 𝓛 (LendsSo map_row json_row members.entry result
-        (λ n w. OnSome result
-        ((members_view n.entries ≡ set_member key.now (members_view members.old.entries) (view w))
-        × (members_own members.old.entries ≡ true → is_own w ≡ true → members_own n.entries ≡ true)))
-        (λ n. (members_view n.entries ≡ members_view members.old.entries)
-        × (members_own n.entries ≡ members_own members.old.entries))) }
-    ensures value { option_map (λ v. view v.now) result ≡ member_at key.now (members_view members.old.entries) }
-    ensures own { members_own members.old.entries ≡ true → IfSome result (λ v. is_own v.now ≡ true) }
-{
-    members.get_mut(key)
 }

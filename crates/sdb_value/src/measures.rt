@@ -2,10 +2,9 @@
 ghost use Rattle.std.specs.Prelude.{◌≡◌, min};
 ghost use Rattle.sdb_value.specs.Size.{size, items_size, members_size};
 ghost use Rattle.sdb_value.specs.Value.{depth, items_depth, members_depth};
-ghost use Rattle.sdb_value.specs.View.{view, list_view, members_view};
+ghost use Rattle.sdb_value.specs.View.{view, list_view, object_view};
 
-use crate::value::{Json, List};
-use std::collections::BTreeMap;
+use crate::value::{Json, List, Members};
 
 #[cycle(depths)]
 #[tactic(auto, using(crate::proofs::Weights::levels))]
@@ -14,7 +13,7 @@ pub(crate) fn depth_of(value: &Json) -> u64
 {
     match value {
         Json::List(items) => items_deep(items).saturating_add(1),
-        Json::Object(members) => members_deep(members.get()).saturating_add(1),
+        Json::Object(members) => members_deep(members).saturating_add(1),
         _ => 0,
     }
 }
@@ -31,8 +30,8 @@ fn items_deep(items: &List) -> u64
 }
 
 #[cycle(depths)]
-fn members_deep(members: &BTreeMap<String, Json>) -> u64
-    ensures { result ≡ min (members_depth (members_view members.now.entries)) 18446744073709551615 }
+fn members_deep(members: &Members) -> u64
+    ensures { result ≡ min (members_depth (object_view members.now)) 18446744073709551615 }
 {
     let mut deepest = 0;
     for (_key, member) in members.iter() {
@@ -52,7 +51,7 @@ pub(crate) fn size_of(value: &Json, limit: u64) -> u64
     match value {
         Json::Text(text) => text.bytes_up_to(limit - 1) + 1,
         Json::List(items) => items_size(items, limit - 1) + 1,
-        Json::Object(members) => members_size(members.get(), limit - 1) + 1,
+        Json::Object(members) => members_size(members, limit - 1) + 1,
         _ => 1,
     }
 }
@@ -72,8 +71,8 @@ fn items_size(items: &List, limit: u64) -> u64
 }
 
 #[cycle(sizes)]
-fn members_size(members: &BTreeMap<String, Json>, limit: u64) -> u64
-    ensures { result ≡ min limit (members_size (members_view members.now.entries)) }
+fn members_size(members: &Members, limit: u64) -> u64
+    ensures { result ≡ min limit (members_size (object_view members.now)) }
 {
     let mut left = limit;
     for (key, member) in members.iter() {

@@ -3,14 +3,12 @@ ghost use Rattle.std.specs.Prelude.{◌≡◌, ◌∷◌, true, false, option_ma
 ghost use Rattle.sdb_value.specs.Change.{ChangedAt, NothingAt};
 ghost use Rattle.sdb_value.specs.Owns.{is_own, list_own, object_own};
 ghost use Rattle.sdb_value.specs.Value.{Value, at, one, item_at, member_at, key, index, list, object};
-ghost use Rattle.sdb_value.specs.View.{view, plain_step, plain_path, list_view, members_view, object_view};
+ghost use Rattle.sdb_value.specs.View.{view, plain_step, plain_path, list_view, object_view};
 
-use crate::lends::{list_mut, map_mut, member_mut, object_mut};
+use crate::lends::{list_mut, object_mut};
 use crate::lists::{put_back, take_item};
-use crate::members::own_members;
 use crate::value::{Json, List, Members};
 use std::alloc::{AllocError, Global};
-use std::collections::BTreeMap;
 
 /// One step down: into a member of an object, or an item of a list.
 #[derive(PartialEq, Drop)]
@@ -47,10 +45,7 @@ pub fn find_mut<'v>(value: &'v mut Json, path: &[Step]) -> Option<&'v mut Json>
     };
     match first {
         Step::Index(index) => find_mut(item_mut(list_mut(value)?, *index)?, rest),
-        Step::Key(key) => find_mut(
-            member_mut(map_mut(object_mut(value)?)?, key.as_str())?,
-            rest,
-        ),
+        Step::Key(key) => find_mut(member_mut(object_mut(value)?, key.as_str())?, rest),
     }
 }
 
@@ -65,7 +60,7 @@ fn child<'v>(value: &'v Json, step: &Step) -> Option<&'v Json>
             Step::Key(_) => None,
         },
         Json::Object(members) => match step {
-            Step::Key(key) => member(members.get(), key.as_str()),
+            Step::Key(key) => member(members, key.as_str()),
             Step::Index(_) => None,
         },
         _ => None,
@@ -78,10 +73,13 @@ fn item(items: &List, number: u64) -> Option<&Json>
     items.get(number as usize)
 }
 
-fn member<'v>(members: &'v BTreeMap<String, Json>, name: &str) -> Option<&'v Json>
-    ensures { option_map (λ v. view v.now) result ≡ member_at name.now (members_view members.now.entries) }
+fn member<'v>(members: &'v Members, name: &str) -> Option<&'v Json>
+    ensures { option_map (λ v. view v.now) result ≡ member_at name.now (object_view members.now) }
 {
-    members.get(name)
+    match members.keys.find(name) {
+        Ok(index) => item(&members.values, index as u64),
+        Err(_) => None,
+    }
 }
 
 // The item at an index, where it is the list's own.
@@ -91,6 +89,18 @@ fn item_mut(items: &mut List, number: u64) -> Option<&mut Json>
     ensures own { list_own items.old ≡ true → IfSome result (λ v. is_own v.now ≡ true) }
 {
     items.get_mut(number as usize)
+}
+
+// The value of a key, where it is the object's own.
+fn member_mut<'v>(members: &'v mut Members, name: &str) -> Option<&'v mut Json>
+    ensures value { object_own members.old ≡ true
+        → option_map (λ v. view v.now) result ≡ member_at name.now (object_view members.old) }
+    ensures own { object_own members.old ≡ true → IfSome result (λ v. is_own v.now ≡ true) }
+{
+    match members.keys.find(name) {
+        Ok(index) => item_mut(&mut members.values, index as u64),
+        Err(_) => None,
+    }
 }
 
 /// What is done to the value at a place.
@@ -200,12 +210,8 @@ fn change_member<C: Change + Drop>(
     ensures answer { object_own members.old ≡ true
         → IfOk result (λ o. IfSome o (λ r. C.Change.answers_own change r)) }
 {
-    own_members(alloc, members)?;
-    let Some(map) = map_mut(members) else {
-        unreachable!();
-    };
-    match member_mut(map, name) {
-        Some(place) => change_at(alloc, place, rest, change),
-        None => Ok(None),
+    match members.keys.find(name) {
+        Ok(index) => change_item(alloc, &mut members.values, index as u64, rest, change),
+        Err(_) => Ok(None),
     }
 }

@@ -1,10 +1,10 @@
 //! To `serde_json`'s `Value`.
 ghost use Rattle.std.specs.Prelude.{◌≡◌, IfOk};
 ghost use Rattle.sdb_value.specs.Profile.{to_data, to_items, to_members};
-ghost use Rattle.sdb_value.specs.View.{view, list_view, members_view};
+ghost use Rattle.sdb_value.specs.View.{view, list_view, object_view};
 ghost use Rattle.serde_json.specs.View as raw;
 
-use crate::value::{Json, List};
+use crate::value::{Json, List, Members};
 use serde_json::{Map, Number, Value};
 use std::alloc::{AllocError, Global};
 use std::collections::BTreeMap;
@@ -28,7 +28,7 @@ fn write(alloc: Global, json: &Json) -> Result<Value, AllocError>
         Json::Int(n) => Ok(Value::Number(Number::from(n.get()))),
         Json::Text(text) => Ok(Value::String(text.to_string(alloc)?)),
         Json::List(items) => Ok(Value::Array(write_items(alloc, items)?)),
-        Json::Object(members) => Ok(Value::Object(write_members(alloc, members.get())?)),
+        Json::Object(members) => Ok(Value::Object(write_members(alloc, members)?)),
     }
 }
 
@@ -44,15 +44,12 @@ fn write_items(alloc: Global, items: &List) -> Result<Vec<Value>, AllocError>
 }
 
 #[cycle(write)]
-fn write_members(
-    alloc: Global,
-    members: &BTreeMap<String, Json>,
-) -> Result<Map<String, Value>, AllocError>
-    ensures { IfOk result (λ m. raw.members_view m.entries ≡ to_members (members_view members.now.entries)) }
+fn write_members(alloc: Global, members: &Members) -> Result<Map<String, Value>, AllocError>
+    ensures { IfOk result (λ m. raw.members_view m.entries ≡ to_members (object_view members.now)) }
 {
     let mut made = BTreeMap::new(alloc);
     for (key, member) in members.iter() {
-        let name = key.clone()?;
+        let name = String::from_str(alloc, key)?;
         drop(made.insert(name, write(alloc, member)?)?);
     }
     Ok(made)

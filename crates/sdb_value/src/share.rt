@@ -1,19 +1,17 @@
 //! Values made shared in place.
-ghost use Rattle.std.specs.Prelude.{◌≡◌, ◌<◌, true, false, length, OnOk};
+ghost use Rattle.std.specs.Prelude.{◌≡◌, true, OnOk};
 ghost use Rattle.std.specs.List.{flat_map};
 ghost use Rattle.sdb_pieces.specs.Block.{items_of, is_shared as block_shared};
 ghost use Rattle.sdb_pieces.specs.Pieces.{is_shared_form, is_shared_list};
-ghost use Rattle.sdb_pieces.specs.Shareable.{is_shared as members_shared};
+ghost use Rattle.sdb_members.specs.Members.{is_shared as members_shared};
 ghost use Rattle.sdb_value.specs.Owns.{is_pointer};
-ghost use Rattle.sdb_value.specs.View.{view, form_view, items_view, list_view, members_view, object_view};
+ghost use Rattle.sdb_value.specs.View.{view, form_view, items_view, list_view, object_view};
 
-use crate::lends::member_mut;
+use crate::copy::{Manner, copy_keys, copy_list};
 use crate::value::{Json, List, Members};
-use sdb_pieces::{Block, Form, Pieces, Shareable};
+use sdb_pieces::{Block, Form, Pieces};
 use std::alloc::{AllocError, Global};
-use std::collections::BTreeMap;
 use std::mem::replace;
-use std::sync::Arc;
 
 // Makes all of a value shared: what is shared already is left as it is, and what is in it isn't looked at.
 #[cycle(share)]
@@ -116,98 +114,26 @@ fn share_each_item(alloc: Global, items: &mut Vec<Json>) -> Result<(), AllocErro
     Ok(())
 }
 
+// The keys and the values.
 #[cycle(share)]
 fn share_object(alloc: Global, members: &mut Members) -> Result<(), AllocError>
     ensures members { object_view members.new ≡ object_view members.old }
     ensures shared { OnOk result (members_shared members.new ≡ true) }
 {
-    share_own_members(alloc, members)?;
-    share_map(alloc, members)
-}
-
-// Makes each member shared, where the object isn't yet.
-#[cycle(share)]
-fn share_own_members(alloc: Global, members: &mut Members) -> Result<(), AllocError>
-    ensures { object_view members.new ≡ object_view members.old }
-{
-    match members {
-        Shareable::Own(map) => share_each_member(alloc, map),
-        Shareable::Shared(_) => Ok(()),
+    if members.values.get(members.keys.len()).is_some() {
+        return share_copied(alloc, members);
     }
+    members.keys.share_in_place(alloc)?;
+    share_list(alloc, &mut members.values)
 }
 
-// A map lends one value at a time, by its key: so the keys of those that aren't shared yet are copied, for as
-// long as this takes.
-#[cycle(share)]
-fn share_each_member(alloc: Global, members: &mut BTreeMap<String, Json>) -> Result<(), AllocError>
-    ensures { members_view members.new.entries ≡ members_view members.old.entries }
-{
-    let keys = unshared_keys(alloc, members)?;
-    for key in &keys {
-        share_member(alloc, members, key.as_str())?;
-    }
-    Ok(())
-}
-
-#[cycle(share)]
-fn share_member(
-    alloc: Global,
-    members: &mut BTreeMap<String, Json>,
-    name: &str,
-) -> Result<(), AllocError>
-    ensures { members_view members.new.entries ≡ members_view members.old.entries }
-{
-    match member_mut(members, name) {
-        Some(member) => share(alloc, member),
-        None => Ok(()),
-    }
-}
-
-// The keys of the members that aren't shared yet.
-fn unshared_keys(
-    alloc: Global,
-    members: &BTreeMap<String, Json>,
-) -> Result<Vec<String>, AllocError> {
-    let mut keys = Vec::new(alloc);
-    for (key, member) in members.iter() {
-        if !is_shared(member) {
-            keys.push(key.clone()?)?;
-        }
-    }
-    Ok(keys)
-}
-
-// Whether a copy of the value is a pointer, or as little.
-fn is_shared(value: &Json) -> bool
-    ensures { result ≡ is_pointer value.now }
-{
-    match value {
-        Json::Text(text) => text.is_shared(),
-        Json::List(items) => items.is_shared(),
-        Json::Object(members) => members.is_shared(),
-        _ => true,
-    }
-}
-
-// Makes the map of an object's members shared: it is moved.
-fn share_map(alloc: Global, members: &mut Members) -> Result<(), AllocError>
+// Of an object with values that have no key, which no call makes: it is copied.
+fn share_copied(alloc: Global, members: &mut Members) -> Result<(), AllocError>
     ensures members { object_view members.new ≡ object_view members.old }
     ensures shared { OnOk result (members_shared members.new ≡ true) }
 {
-    match replace(members, Shareable::Own(BTreeMap::new(alloc))) {
-        Shareable::Own(map) => match Arc::new(alloc, map) {
-            Ok(shared) => {
-                *members = Shareable::Shared(shared);
-                Ok(())
-            }
-            Err(refused) => {
-                *members = Shareable::Own(refused.value);
-                Err(AllocError)
-            }
-        },
-        Shareable::Shared(shared) => {
-            *members = Shareable::Shared(shared);
-            Ok(())
-        }
-    }
+    let keys = copy_keys(alloc, &members.keys, Manner::Shared)?;
+    let values = copy_list(alloc, &members.values, Manner::Shared)?;
+    *members = Members { keys, values };
+    Ok(())
 }

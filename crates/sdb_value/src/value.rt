@@ -1,16 +1,16 @@
 //! What a document holds.
-ghost use Rattle.std.specs.Prelude.{◌≡◌, ◌+ℤ◌, IfOk, OnOk, map, min, true};
-ghost use Rattle.sdb_value.specs.Owns.{all_true, is_own, is_pointer, members_own};
+ghost use Rattle.std.specs.Prelude.{◌≡◌, ◌+ℤ◌, IfOk, IsFalse, IsTrue, OnOk, map, min, option_map, true};
+ghost use Rattle.sdb_value.specs.Owns.{all_true, is_own, is_pointer, map_own, object_own};
 ghost use Rattle.sdb_value.specs.Profile.{in_range};
 ghost use Rattle.sdb_value.specs.Size.{size};
-ghost use Rattle.sdb_value.specs.Value.{depth, list, object};
-ghost use Rattle.sdb_value.specs.View.{view, items_view, members_view};
+ghost use Rattle.sdb_value.specs.Value.{as_object, depth, list, null, object};
+ghost use Rattle.sdb_value.specs.View.{view, items_view, map_view, object_view};
 
 use crate::copy::{Manner, copy};
 use crate::measures::{depth_of, size_of};
 use crate::numbers::MAX;
 use crate::share::share;
-use sdb_pieces::{Pieces, Share, Shareable};
+use sdb_pieces::{Pieces, Share};
 use sdb_text::Text;
 use std::alloc::{AllocError, Global};
 use std::collections::BTreeMap;
@@ -68,8 +68,8 @@ impl Whole {
 /// The items of a list, in pieces that copies share.
 pub type List = Pieces<Json>;
 
-/// The members of an object, in the order of their keys' bytes, which copies share.
-pub type Members = Shareable<BTreeMap<String, Json>>;
+/// The members of an object, in the order of their keys' bytes, in pieces that copies share.
+pub type Members = sdb_members::Members<Json>;
 
 /// A value of a document (RFC 8259, section 3), its numbers whole. Its texts, lists and objects are its own,
 /// or shared with copies: a change copies what is shared on its way, and changes what is own in place.
@@ -109,12 +109,52 @@ impl Json {
         Json::List(Pieces::from_vec(items))
     }
 
-    /// An object of these members, in the map's own memory.
-    pub fn object(members: BTreeMap<String, Json>) -> Json
-        ensures value { view result ≡ object (members_view members.entries) }
-        ensures own { members_own members.entries ≡ true → is_own result ≡ true }
+    /// A list of these items, in pieces. Up to 512 stand in the vector's own memory. Fails only where memory is
+    /// wanting.
+    pub fn list_of(alloc: Global, items: Vec<Json>) -> Result<Json, AllocError>
+        ensures value { IfOk result (λ v. view v ≡ list (items_view items.items)) }
+        ensures own { all_true (map is_own items.items) ≡ true → IfOk result (λ v. is_own v ≡ true) }
     {
-        Json::Object(Shareable::Own(members))
+        Ok(Json::List(Pieces::in_blocks(alloc, items)?))
+    }
+
+    /// An object of these members. Fails only where memory is wanting.
+    pub fn object(alloc: Global, members: BTreeMap<String, Json>) -> Result<Json, AllocError>
+        ensures value { IfOk result (λ v. view v ≡ object (map_view members.entries)) }
+        ensures own { map_own members.entries ≡ true → IfOk result (λ v. is_own v ≡ true) }
+    {
+        Ok(Json::Object(Members::from_map(alloc, members)?))
+    }
+
+    /// An object that holds these members, their parts as they are.
+    #[tactic(auto, using(crate::proofs::Views::seen_object, crate::proofs::Owned::owned_object))]
+    pub fn of_members(held: Members) -> Json
+        ensures value { view result ≡ object (object_view held) }
+        ensures own { is_own result ≡ object_own held }
+    {
+        Json::Object(held)
+    }
+
+    /// Whether it is `null`.
+    pub fn is_null(&self) -> bool
+        ensures null { IsTrue result → view self.now ≡ null }
+        ensures other { IsFalse result → view self.now ≡ null → ⊥ }
+    {
+        match self {
+            Json::Null => true,
+            _ => false,
+        }
+    }
+
+    /// The members, or `None` where the value is no object.
+    #[tactic(auto, using(crate::proofs::Views::seen_object))]
+    pub fn members(&self) -> Option<&Members>
+        ensures { option_map (λ m. object_view m.now) result ≡ as_object (view self.now) }
+    {
+        match self {
+            Json::Object(members) => Some(members),
+            _ => None,
+        }
     }
 
     /// The same value again: what is shared at the cost of a pointer, all else in memory of its own. Fails
@@ -144,10 +184,8 @@ impl Json {
     }
 
     /// Makes all of it shared in place, so that a copy of it is a pointer. It costs a pointer for each text, list
-    /// and object in it that isn't shared yet, and for each of their pieces, which are moved; of an object that
-    /// isn't shared yet, it also looks at each member, and copies the keys of those that aren't, for as long as
-    /// it works. What is shared already isn't looked into. Fails only where memory is wanting; the value is the
-    /// same then.
+    /// and object in it that isn't shared yet, and for each of their pieces, which are moved. What is shared already
+    /// isn't looked into. Fails only where memory is wanting; the value is the same then.
     pub fn share(&mut self, alloc: Global) -> Result<(), AllocError>
         ensures value { view self.new ≡ view self.old }
         ensures pointer { OnOk result (is_pointer self.new ≡ true) }

@@ -5,13 +5,12 @@ ghost use Rattle.sdb_text.specs.Held.{bytes_in};
 ghost use Rattle.json.specs.Written.{WritesFront};
 ghost use Rattle.sdb_value.specs.Printed.{array_rest, data_tokens, object_rest};
 ghost use Rattle.sdb_value.specs.Profile.{to_data, to_items, to_members};
-ghost use Rattle.sdb_value.specs.View.{view, list_view, members_view};
+ghost use Rattle.sdb_value.specs.View.{view, list_view, object_view};
 
-use crate::value::{Json, List};
+use crate::value::{Json, List, Members};
 use json::Writer;
 use sdb_text::Text;
 use std::alloc::AllocError;
-use std::collections::BTreeMap;
 
 /// Writes a value behind what is written, compact, its members in the order of their keys' bytes. Fails
 /// only where memory is wanting, and a part of it may then be written.
@@ -41,7 +40,7 @@ fn write(value: &Json, out: &mut Writer) -> Result<(), AllocError>
         }
         Json::Object(members) => {
             out.begin_object()?;
-            write_members(members.get(), out)
+            write_members(members, out)
         }
     }
 }
@@ -75,15 +74,15 @@ fn write_items(items: &List, out: &mut Writer) -> Result<(), AllocError>
 }
 
 #[cycle(write)]
-fn write_members(members: &BTreeMap<String, Json>, out: &mut Writer) -> Result<(), AllocError>
+fn write_members(members: &Members, out: &mut Writer) -> Result<(), AllocError>
     ensures tokens { OnOk result (out.new.tokens
-        ≡ out.old.tokens ++ object_rest (to_members (members_view members.now.entries))) }
+        ≡ out.old.tokens ++ object_rest (to_members (object_view members.now))) }
     ensures before { out.new.before ≡ out.old.before }
     ensures err { OnErr result (WritesFront out.old.tokens out.new.tokens
-        (object_rest (to_members (members_view members.now.entries)))) }
+        (object_rest (to_members (object_view members.now)))) }
 {
     for (key, member) in members.iter() {
-        out.key(key.as_str())?;
+        out.key(key)?;
         write(member, out)?;
     }
     out.end_object()

@@ -1,13 +1,11 @@
-use Rattle.std.proofs.Common.{Bool, true, false, List, ℕ, refl, sym, ap, ◌∙◌, subst}
+use Rattle.std.proofs.Common.{List, ℕ, ◌∙◌, subst}
 use Rattle.std.proofs.lemmas.Result.{err_from_is_err_and}
 use Rattle.sdb_text.specs.Edits.{Edits}
 use Rattle.sdb_text.specs.Held.{bytes_in}
-use Rattle.sdb_text.specs.Text.{insert_text, remove_text}
+use Rattle.sdb_text.specs.Text.{insert_text}
 use Rattle.sdb_value.specs.Law.{known}
 use Rattle.sdb_value.specs.Owns.{is_own}
-use Rattle.sdb_value.specs.Value.{Value, insert_item, remove_item, replace_item, put, without}
-use Rattle.sdb_value.specs.View.{view, list_view, object_view}
-use Rattle.sdb_apply.proofs.Outcomes.{needs_put, needs_shared, list_shared, object_shared, text_edited, text_stays, list_edited, list_stays, object_done, object_stays}
+use Rattle.sdb_apply.proofs.Outcomes.{needs_put, text_edited, text_stays}
 use Rattle.sdb_apply.proofs.acts.insert_at.Goals as goal
 
 pub returns-in_err-insert-in-Some-clause-outcome : goal.returns-in_err-insert-in-Some-clause-outcome

@@ -1,9 +1,11 @@
-use Rattle.std.proofs.Common.{ap, sym, ◌∙◌, subst, length}
+use Rattle.std.proofs.Common.{◌≡◌, ◌<◌, map, get_or, ap, sym, ◌∙◌, subst, length, arith}
+use Rattle.std.proofs.Math.ListN.{length-map}
 use Rattle.std.specs.List.{insert}
 use Rattle.std.proofs.lemmas.Bool.{le-leb}
+use Rattle.sdb_pieces.specs.Block.{items_of}
 use Rattle.sdb_pieces.specs.Pieces.{seen_items, joined}
 use Rattle.sdb_pieces.specs.Place.{IsPlace}
-use Rattle.sdb_pieces.proofs.Joined.{joined_insert, joined_same, place_within, own_changed, on_err}
+use Rattle.sdb_pieces.proofs.Joined.{joined_insert, joined_same, place_within, own_changed, among_set, put_inside, on_err}
 use Rattle.sdb_pieces.proofs.change.insert_at.Goals as goal
 
 pub returns-in_err-insert_in-in-Some-clause-err : goal.returns-in_err-insert_in-in-Some-clause-err
@@ -51,3 +53,19 @@ returns-in_ok-insert_in-in-Some-clause-own g c =
     let d = c.index_mut.result.now in
     let at = subst (λ l. IsPlace f l c.args.index k c.in-Some.inside) c.deref.ensures.value c.in-Some.ensures.place in
     own_changed bs k c.insert_in.new.block d at.inside c.index_mut.ensures.value c.in_ok-insert_in-in-Some.ensures.own
+
+pub returns-in_ok-insert_in-in-Some-clause-now_own : goal.returns-in_ok-insert_in-in-Some-clause-now_own
+returns-in_ok-insert_in-in-Some-clause-now_own g c =
+    let f = g.T.Share.seen in
+    let bs = c.args.blocks.now.items in
+    let k = c.in-Some.at in
+    let i = c.in-Some.inside in
+    let d = c.index_mut.result.now in
+    let a = c.insert_in.new.block in
+    let at = subst (λ l. IsPlace f l c.args.index k i) c.deref.ensures.value c.in-Some.ensures.place in
+    let was : d ≡ get_or bs k d = c.index_mut.ensures.value in
+    let put : map f (items_of a) ≡ insert (map f (items_of (get_or bs k d))) i (f c.args.item) =
+    c.in_ok-insert_in-in-Some.ensures.ok ∙ ap (λ b. insert (map f (items_of b)) i (f c.args.item)) was in
+    let more = put_inside (map f (items_of (get_or bs k d))) i (f c.args.item) (at.within d) in
+    let within : i < length (items_of a) = omega (arith, more, ap length put, length-map (items_of a) f) in
+    λ _. among_set f bs c.args.index k i a at.inside at.sum within ∙ c.in_ok-insert_in-in-Some.ensures.now_own

@@ -1,9 +1,10 @@
-use Rattle.std.proofs.Common.{slice_get, ap, sym, ◌∙◌, subst}
+use Rattle.std.proofs.Common.{◌<◌, slice_get, get_or, length, ap, sym, ◌∙◌, subst, arith}
+use Rattle.std.proofs.Math.ListN.{length-map}
 use Rattle.std.specs.List.{remove}
-use Rattle.sdb_pieces.specs.Block.{is_own}
+use Rattle.sdb_pieces.specs.Block.{items_of, is_own}
 use Rattle.sdb_pieces.specs.Pieces.{seen_items}
 use Rattle.sdb_pieces.specs.Place.{IsItem}
-use Rattle.sdb_pieces.proofs.Joined.{joined_remove, joined_same, joined_get, own_changed, shared_at, on_err}
+use Rattle.sdb_pieces.proofs.Joined.{joined_remove, joined_same, joined_get, own_changed, shared_at, among_here, on_err}
 use Rattle.sdb_pieces.proofs.change.remove_item.Goals as goal
 
 pub returns-in_err-item-clause-err : goal.returns-in_err-item-clause-err
@@ -60,3 +61,13 @@ returns-clause-own g c =
     let d = c.index_mut.result.now in
     let at = subst (λ l. IsItem f l c.args.index k c.in-Some.inside) c.deref.ensures.value c.in-Some.ensures.item in
     λ all. c.drop_empty.ensures.own (own_changed bs k c.remove_in.new.block d at.inside c.index_mut.ensures.value c.in_ok-item.ensures.own all)
+
+pub returns-in_err-item-clause-shared_there : goal.returns-in_err-item-clause-shared_there
+returns-in_err-item-clause-shared_there g c =
+    let f = g.T.Share.seen in
+    let bs = c.args.blocks.now.items in
+    let k = c.in-Some.at in
+    let d = c.index_mut.result.now in
+    let at = subst (λ l. IsItem f l c.args.index k c.in-Some.inside) c.deref.ensures.value c.in-Some.ensures.item in
+    let within : c.in-Some.inside < length (items_of (get_or bs k d)) = omega (arith, at.within d, length-map (items_of (get_or bs k d)) f) in
+    on_err c.from_residual.result (among_here f bs c.args.index k c.in-Some.inside d at.inside at.sum within ∙ sym (ap is_own c.index_mut.ensures.value) ∙ c.in_err-item.ensures.shared)

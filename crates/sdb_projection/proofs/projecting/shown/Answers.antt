@@ -1,8 +1,7 @@
 use Rattle.std.proofs.Common.{◌≡◌, [], ◌∷◌, ◌++◌, true, false, string_bytes, sym, ap, ◌∙◌, subst, append_assoc}
-use Rattle.std.specs.List.Sorted.{IsStrictlySortedBy}
-use Rattle.std.specs.Map.{keys_of}
-use Rattle.std.specs.String.{string_cmp}
-use Rattle.sdb_pieces.specs.Shareable.{inside}
+use Rattle.sdb_members.specs.Iter.{rest}
+use Rattle.sdb_members.specs.Members.{entries_in, names}
+use Rattle.sdb_members.specs.Order.{IsAscending}
 use Rattle.sdb_projection.specs.Projected.{is_field}
 use Rattle.sdb_projection.specs.View.{fields_of}
 use Rattle.sdb_projection.proofs.Walks.{Entry, one_shown, one_hidden}
@@ -14,11 +13,11 @@ loop-key-preserved-in_ok-put_member c =
     let l = c.loop-key in
     let done = l.invariant.0 in
     let e : Entry = (c.in-Some.key.now, c.in-Some.member.now) in
-    let left = c.next.new.self in
-    let all : (inside c.args.members.now).entries ≡ done ++ e ∷ left = l.invariant.1 ∙ ap (λ es. done ++ es) c.in-Some.ensures.steps in
-    let is : is_field fields (string_bytes e.0) ≡ true = ap (is_field fields) (sym c.as_str.ensures.value) ∙ sym c.is_field.ensures ∙ c.if-is_field.true in
-    let last = one_shown fields done e left (subst (λ es. IsStrictlySortedBy string_cmp (keys_of es)) (ap (λ m. m.entries) c.get.ensures ∙ all) c.iter-key-items.ensures.ordered) is in
-    let named : string_bytes c.in_ok-clone.field-0 ≡ string_bytes e.0 = c.in_ok-clone.ensures.cases in (
+    let left = rest c.next.new.self in
+    let all : entries_in c.args.members.now ≡ done ++ e ∷ left = l.invariant.1 ∙ ap (λ es. done ++ es) c.in-Some.ensures.steps in
+    let is : is_field fields e.0 ≡ true = sym c.is_field.ensures ∙ c.if-is_field.true in
+    let last = one_shown fields done e left (subst (λ es. IsAscending (names es)) all c.iter-key-items.ensures.ordered) is in
+    let named : string_bytes c.in_ok-name.name ≡ e.0 = c.in_ok-name.ensures.ok in (
       done ++ e ∷ [],
       all ∙ sym (append_assoc done (e ∷ []) left),
       c.in_ok-put_member.ensures.ok ∙ rw (named, c.in_ok-try_clone.ensures.value, l.invariant.2) last,
@@ -30,8 +29,8 @@ loop-key-preserved c =
     let l = c.loop-key in
     let done = l.invariant.0 in
     let e : Entry = (c.in-Some.key.now, c.in-Some.member.now) in
-    let is : is_field fields (string_bytes e.0) ≡ false = ap (is_field fields) (sym c.as_str.ensures.value) ∙ sym c.is_field.ensures ∙ c.if-is_field.false in (
+    let is : is_field fields e.0 ≡ false = sym c.is_field.ensures ∙ c.if-is_field.false in (
       done ++ e ∷ [],
-      l.invariant.1 ∙ ap (λ es. done ++ es) c.in-Some.ensures.steps ∙ sym (append_assoc done (e ∷ []) c.next.new.self),
+      l.invariant.1 ∙ ap (λ es. done ++ es) c.in-Some.ensures.steps ∙ sym (append_assoc done (e ∷ []) (rest c.next.new.self)),
       l.invariant.2 ∙ one_hidden fields done e is,
     )

@@ -27,7 +27,7 @@ returns-in_err-step_over c =
     let t = plain_step c.index.result.now in
     let same : t ≡ r.0 = step_there c.args.path.items c.path-at.result.now c.args.other.now.path r.0 r.1 c.index.result.now c.path-at.ensures (behind_is _ _ _ r.2) c.index.ensures in
     let p = err_from_is_err_and c.from_residual.result c.from_residual.ensures.1 in
-    rw (p.1, p.2) (none_below c.in_err-step_over.field-0.0 c.args.side _ c.args.other.now r.0 t r.1 r.2 same (rw c.act.ensures at c.in_err-step_over.ensures))
+    rw (p.1, p.2) (none_below c.in_err-step_over.field-0.0 c.args.side _ c.args.other.now r.0 t r.1 r.2 same (rw c.act.ensures at c.in_err-step_over.ensures.moved))
 
 pub returns-in-Stays : goal.returns-in-Stays
 returns-in-Stays c =
@@ -35,7 +35,7 @@ returns-in-Stays c =
     let t = plain_step c.index.result.now in
     let o = c.args.other.now in
     let same : t ≡ r.0 = step_there c.args.path.items c.path-at.result.now o.path r.0 r.1 c.index.result.now c.path-at.ensures (behind_is _ _ _ r.2) c.index.ensures in
-    let h : step_over o.act t ≡ Some (Some t) = ap (λ a. step_over a t) (sym c.act.ensures) ∙ c.in_ok-step_over.ensures ∙ ap (λ p. Some (step_after t p)) c.in-Stays.is in
+    let h : step_over o.act t ≡ Some (Some t) = ap (λ a. step_over a t) (sym c.act.ensures) ∙ c.in_ok-step_over.ensures.moved ∙ ap (λ p. Some (step_after t p)) c.in-Stays.is in
     subst (Transforms c.one.result) (stays_below c.args.side (at_path (plain_path c.args.path.items) (plain_act c.args.act)) o r.0 t r.1 r.2 same h) c.one.ensures
 
 pub returns-in-Gone : goal.returns-in-Gone
@@ -44,7 +44,7 @@ returns-in-Gone c =
     let t = plain_step c.index.result.now in
     let o = c.args.other.now in
     let same : t ≡ r.0 = step_there c.args.path.items c.path-at.result.now o.path r.0 r.1 c.index.result.now c.path-at.ensures (behind_is _ _ _ r.2) c.index.ensures in
-    let h : step_over o.act t ≡ Some None = ap (λ a. step_over a t) (sym c.act.ensures) ∙ c.in_ok-step_over.ensures ∙ ap (λ p. Some (step_after t p)) c.in-Gone.is in
+    let h : step_over o.act t ≡ Some None = ap (λ a. step_over a t) (sym c.act.ensures) ∙ c.in_ok-step_over.ensures.moved ∙ ap (λ p. Some (step_after t p)) c.in-Gone.is in
     gone_below c.args.side (at_path (plain_path c.args.path.items) (plain_act c.args.act)) o r.0 t r.1 r.2 same h ∙ ap Some (sym c.new.ensures.items)
 
 pub returns-in-At : goal.returns-in-At
@@ -54,5 +54,5 @@ returns-in-At c =
     let o = c.args.other.now in
     let path_is = behind_is o.path (plain_path c.args.path.items) (r.0 ∷ r.1) r.2 in
     let same : t ≡ r.0 = step_there c.args.path.items c.path-at.result.now o.path r.0 r.1 c.index.result.now c.path-at.ensures path_is c.index.ensures in
-    let h : step_over o.act t ≡ Some (Some (index c.in-At.index)) = ap (λ a. step_over a t) (sym c.act.ensures) ∙ c.in_ok-step_over.ensures ∙ ap (λ p. Some (step_after t p)) c.in-At.is in
+    let h : step_over o.act t ≡ Some (Some (index c.in-At.index)) = ap (λ a. step_over a t) (sym c.act.ensures) ∙ c.in_ok-step_over.ensures.moved ∙ ap (λ p. Some (step_after t p)) c.in-At.is in
     subst (Transforms c.one-in-At.result) (set_below c.args.side (at_path (plain_path c.args.path.items) (plain_act c.args.act)) o r.0 t (index c.in-At.index) r.1 _ r.2 same h (set_there c.args.path.items c.path-at.result.now o.path r.0 r.1 (Index c.in-At.index) c.path-at.ensures path_is)) c.one-in-At.ensures

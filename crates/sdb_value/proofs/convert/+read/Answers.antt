@@ -9,7 +9,7 @@ use Rattle.serde_json.specs.View as data-view
 use Rattle.serde_json.proofs.Views.{Entry}
 use Rattle.sdb_value.specs.Value.{put, join}
 use Rattle.sdb_value.specs.Profile.{of_items, Refuses, RefusesMembers}
-use Rattle.sdb_value.specs.View.{view, items_view, members_view}
+use Rattle.sdb_value.specs.View.{view, items_view, map_view}
 use Rattle.sdb_value.specs.declared.convert.ValueFault.{ValueFault}
 use Rattle.sdb_value.specs.declared.convert.ValueFault.TheVariants.{Number, Depth, Memory}
 use Rattle.sdb_value.specs.Owns.{items_own}
@@ -59,11 +59,11 @@ read_members-loop-key-preserved t c =
     let left = c.next.new.self in
     let all : c.args.members.now.entries ≡ done ++ e ∷ left = l.invariant.split ∙ ap (λ es. done ++ es) c.in-Some.ensures.steps in
     let sorted = subst (λ es. IsStrictlySortedBy string_cmp (keys_of es)) all c.iter-key-items.ensures.ordered in
-    let put_in = c.in_ok-put_entry.ensures.ok ∙ ap (λ k. put k (view c.in_ok-new.new) (members_view l.made.entries)) c.in_ok-name.ensures.cases in
+    let put_in = c.in_ok-put_entry.ensures.ok ∙ ap (λ k. put k (view c.in_ok-new.new) (map_view l.made.entries)) c.in_ok-name.ensures.cases in
     record {
       done = done ++ e ∷ [];
       split = all ∙ sym (append_assoc done (e ∷ []) left);
-      reads = member_more done e left (members_view l.made.entries) (view c.in_ok-new.new) sorted l.invariant.reads c.in_ok-new.ensures.ok ∙ ap Some (sym put_in);
-      low = rw put_in (low_put (string_bytes e.0) (view c.in_ok-new.new) (members_view l.made.entries) c.args.left l.invariant.low c.in_ok-new.ensures.low);
+      reads = member_more done e left (map_view l.made.entries) (view c.in_ok-new.new) sorted l.invariant.reads c.in_ok-new.ensures.ok ∙ ap Some (sym put_in);
+      low = rw put_in (low_put (string_bytes e.0) (view c.in_ok-new.new) (map_view l.made.entries) c.args.left l.invariant.low c.in_ok-new.ensures.low);
       own = c.put_entry.ensures.own l.invariant.own c.in_ok-new.ensures.own;
     }

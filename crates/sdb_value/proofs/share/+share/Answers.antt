@@ -1,12 +1,17 @@
-use Rattle.std.proofs.Common.{◌≡◌, ◌<◌, length, ap, ◌∙◌, arith}
+use Rattle.std.proofs.Common.{◌≡◌, ◌<◌, length, slice_get, sym, ap, ◌∙◌, arith}
 use Rattle.std.proofs.lemmas.List.{length-set}
 use Rattle.std.specs.List.{flat_map}
+use Rattle.sdb_members.specs.Keys.{texts_in}
+use Rattle.sdb_members.specs.declared.members.Members.{Members as Held}
 use Rattle.sdb_pieces.specs.Block.{items_of}
-use Rattle.sdb_value.specs.Law.{known, set_same_member}
+use Rattle.sdb_pieces.specs.Laws.{seen_items_in}
+use Rattle.sdb_pieces.specs.Pieces.{items_in, seen_in}
+use Rattle.sdb_value.specs.Owns.{seen}
 use Rattle.sdb_value.specs.Size.{items_size}
-use Rattle.sdb_value.specs.Value.{set_member}
-use Rattle.sdb_value.specs.View.{view, items_view, members_view}
-use Rattle.sdb_value.proofs.Sharing.{block_within, item_within, member_within, same_block, same_item}
+use Rattle.sdb_value.specs.View.{items_view}
+use Rattle.sdb_value.specs.declared.value.Json.{Json}
+use Rattle.sdb_value.proofs.Pairs.{same_object}
+use Rattle.sdb_value.proofs.Sharing.{block_within, item_within, none_found, same_block, same_item, values_within}
 use Rattle.sdb_value.proofs.share.+share.Goals as goal
 
 -- ---- one block of several
@@ -59,15 +64,18 @@ share_each_item-loop-at-preserved t c =
       count = length-set vs c.loop-at.at c.share.new.value ∙ c.loop-at.invariant.count;
     }
 
--- ---- one member of several
+-- ---- the values of an object
 
-pub share_member-share-requires : goal.share_member-share-requires
-share_member-share-requires t c =
-    let below = member_within c.args.name.now (members_view c.args.members.now.entries) (view c.in-Some.member.now) c.in-Some.ensures.value in
-    (omega (arith, below, c.requires), tt)
+pub share_object-share_list-requires : goal.share_object-share_list-requires
+share_object-share_list-requires t c =
+    let m = c.args.members.now in
+    let n = length (texts_in m.keys) in
+    let none = none_found _ c.get.result _ (c.get.ensures ∙ ap (slice_get (seen_in seen m.values)) c.len.ensures) (sym c.is_some.ensures ∙ c.if-is_some.false) in
+    let below = values_within (texts_in m.keys) (items_in m.values) (ap (λ l. slice_get l n) (sym (seen_items_in seen m.values)) ∙ none) in
+    (omega (arith, below, c.decreases), tt)
 
-pub share_member-returns-in-Some : goal.share_member-returns-in-Some
-share_member-returns-in-Some t c =
-    let ms = members_view c.args.members.now.entries in
-    (known _ _ c.in-Some.is (c.member_mut.follows.holds _)).0 ∙ ap (set_member c.args.name.now ms) c.share.ensures.value
-    ∙ set_same_member c.args.name.now ms (view c.in-Some.member.now) c.in-Some.ensures.value
+pub share_object-returns-clause-members : goal.share_object-returns-clause-members
+share_object-returns-clause-members t c =
+    let m = c.args.members.now in
+    let new : Held Json = record { keys = c.share_in_place.new.self; values = c.share_list.new.items } in
+    same_object m new c.share_in_place.ensures.same c.share_list.ensures.items

@@ -1,7 +1,5 @@
-use Rattle.std.specs.declared.collections.BTreeMap.{BTreeMap}
-use Rattle.json.specs.Written.{WritesFront}
-use Rattle.sdb_value.specs.declared.value.Json.{Json}
-use Rattle.std.proofs.Common.{String, Global, OnOk, OnErr, subst, ◌≡◌, ◌+◌, ◌∷◌, [], ◌++◌, drop, string_bytes, sym, ap, ◌∙◌, append_assoc, arith, rules}
+use Rattle.std.proofs.Common.{◌≡◌, ◌∷◌, [], ◌++◌, sym, ap, ◌∙◌, append_assoc, rules}
+use Rattle.sdb_members.specs.Iter.{rest as members_left}
 use Rattle.sdb_pieces.specs.Iter.{rest}
 use Rattle.json.specs.Token.{key}
 use Rattle.sdb_value.specs.Printed.{array_rest, data_tokens, object_rest}
@@ -25,11 +23,11 @@ pub write_members-loop-key-preserved : goal.write_members-loop-key-preserved
 write_members-loop-key-preserved t c =
     let l = c.loop-key in
     let done = l.invariant.done in
-    let k = string_bytes c.in-Some.key.now in
+    let k = c.in-Some.key.now in
     let mine = data_tokens (to_data (view c.in-Some.member.now)) in
-    let rest = object_rest (to_members (members_view c.next.new.self)) in
+    let rest = object_rest (to_members (members_view (members_left c.next.new.self))) in
     let left = ap (λ es. object_rest (to_members (members_view es))) c.in-Some.ensures.steps in
-    let named : c.key.new.self.tokens ≡ l.out.tokens ++ key k ∷ [] = c.in_ok-key.ensures.ok ∙ ap (λ n. l.out.tokens ++ key n ∷ []) c.as_str.ensures.value in
+    let named : c.key.new.self.tokens ≡ l.out.tokens ++ key k ∷ [] = c.in_ok-key.ensures.ok in
     let put = c.in_ok-write.ensures.tokens ∙ ap (λ ts. ts ++ mine) named ∙ append_assoc l.out.tokens (key k ∷ []) mine in
     record {
       before = search rules;
@@ -37,19 +35,19 @@ write_members-loop-key-preserved t c =
       done = done ++ key k ∷ mine;
       split = l.invariant.split ∙ ap (λ ts. done ++ ts) left ∙ sym (append_assoc done (key k ∷ mine) _);
       written = put ∙ ap (λ ts. ts ++ key k ∷ mine) l.invariant.written ∙ append_assoc _ done _;
-      below = members_rest_below _ c.next.new.self (c.in-Some.key.now, c.in-Some.member.now) _ c.in-Some.ensures.steps l.invariant.below;
+      below = members_rest_below _ (members_left c.next.new.self) (c.in-Some.key.now, c.in-Some.member.now) _ c.in-Some.ensures.steps l.invariant.below;
     }
 
 pub write_members-returns-in_err-write-clause-err : goal.write_members-returns-in_err-write-clause-err
 write_members-returns-in_err-write-clause-err t c =
     let l = c.loop-key in
     let done = l.invariant.done in
-    let k = string_bytes c.in-Some.key.now in
+    let k = c.in-Some.key.now in
     let left = ap (λ es. object_rest (to_members (members_view es))) c.in-Some.ensures.steps in
-    let named : c.key.new.self.tokens ≡ l.out.tokens ++ key k ∷ [] = c.in_ok-key.ensures.ok ∙ ap (λ n. l.out.tokens ++ key n ∷ []) c.as_str.ensures.value in
+    let named : c.key.new.self.tokens ≡ l.out.tokens ++ key k ∷ [] = c.in_ok-key.ensures.ok in
     let so_far = named ∙ ap (λ ts. ts ++ key k ∷ []) l.invariant.written ∙ append_assoc _ done _ in
     let whole = l.invariant.split ∙ ap (λ ts. done ++ ts) left ∙ sym (append_assoc done (key k ∷ []) _) in
-    on_any_err _ (wrote_after _ c.key.new.self.tokens _ (done ++ key k ∷ []) (data_tokens (to_data (view c.in-Some.member.now))) (object_rest (to_members (members_view c.next.new.self))) _ so_far whole c.in_err-write.ensures.err)
+    on_any_err _ (wrote_after _ c.key.new.self.tokens _ (done ++ key k ∷ []) (data_tokens (to_data (view c.in-Some.member.now))) (object_rest (to_members (members_view (members_left c.next.new.self)))) _ so_far whole c.in_err-write.ensures.err)
 
 pub write-returns-in_ok-begin_array-in-List-clause-tokens : goal.write-returns-in_ok-begin_array-in-List-clause-tokens
 write-returns-in_ok-begin_array-in-List-clause-tokens t c =
@@ -63,14 +61,10 @@ write-returns-in_ok-begin_array-in-List-clause-err t c =
 
 pub write-returns-in_ok-begin_object-in-Object-clause-tokens : goal.write-returns-in_ok-begin_object-in-Object-clause-tokens
 write-returns-in_ok-begin_object-in-Object-clause-tokens t c =
-    let Wrote : BTreeMap (String Global) Json Global → Type 0 =
-    λ m. OnOk c.write_members.result (c.write_members.new.out.tokens ≡ c.begin_object.new.self.tokens ++ object_rest (to_members (members_view m.entries))) in
     object_written c.write_members.result c.args.value.now c.in-Object.members c.args.out.now.tokens c.begin_object.new.self.tokens c.write_members.new.out.tokens c.in-Object.is
-    c.in_ok-begin_object-in-Object.ensures.ok (subst Wrote c.get-in-Object.ensures c.write_members.ensures.tokens)
+    c.in_ok-begin_object-in-Object.ensures.ok c.write_members.ensures.tokens
 
 pub write-returns-in_ok-begin_object-in-Object-clause-err : goal.write-returns-in_ok-begin_object-in-Object-clause-err
 write-returns-in_ok-begin_object-in-Object-clause-err t c =
-    let Wrote : BTreeMap (String Global) Json Global → Type 0 =
-    λ m. OnErr c.write_members.result (WritesFront c.begin_object.new.self.tokens c.write_members.new.out.tokens (object_rest (to_members (members_view m.entries)))) in
     object_front c.write_members.result c.args.value.now c.in-Object.members c.args.out.now.tokens c.begin_object.new.self.tokens c.write_members.new.out.tokens c.in-Object.is
-    c.in_ok-begin_object-in-Object.ensures.ok (subst Wrote c.get-in-Object.ensures c.write_members.ensures.err)
+    c.in_ok-begin_object-in-Object.ensures.ok c.write_members.ensures.err

@@ -1,4 +1,4 @@
-use Rattle.std.proofs.Common.{true, false, cond, ap, ◌∙◌}
+use Rattle.std.proofs.Common.{false, cond, ap, ◌∙◌}
 use Rattle.sdb_pieces.specs.Pieces.{items_in}
 use Rattle.sdb_value.specs.Owns.{items_own}
 use Rattle.sdb_value.specs.Value.{list}

@@ -1,0 +1,5 @@
+pub mod Blocks
+pub mod Edits
+pub mod Entries
+pub mod Ordered
+pub mod Places

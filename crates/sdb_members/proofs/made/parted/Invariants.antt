@@ -1,0 +1,12 @@
+use Rattle.std.proofs.Common.{◌≡◌, List, ◌++◌, map, String, string_bytes}
+use Rattle.std.specs.declared.alloc.Global.{Global}
+use Rattle.sdb_members.specs.Search.{texts}
+use Rattle.sdb_members.proofs.made.parted.Given as goal
+
+abbrev pub invariant-loop-key : goal.invariant-loop-key
+invariant-loop-key g l = record {
+  done : List (String Global × g.row.V.Denot);
+  split : l.fn.entries.entries ≡ done ++ l.key-iterator;
+  keys : texts l.keys.items ≡ map (λ e. string_bytes e.0) done;
+  values : l.values.items ≡ map (λ e. e.1) done;
+}

@@ -1,0 +1,7 @@
+pub mod Iter
+pub mod Key
+pub mod Keys
+pub mod Laws
+pub mod Members
+pub mod Order
+pub mod Search

@@ -1,0 +1,20 @@
+use Rattle.std.proofs.Common.{◌-◌, length, refl, ap, ◌∙◌}
+use Rattle.sdb_pieces.specs.Pieces.{all_own}
+use Rattle.sdb_pieces.specs.declared.block.Block.TheVariants.{Own}
+use Rattle.sdb_pieces.proofs.Joined.{own_more, own_reverse, cut_off}
+use Rattle.sdb_pieces.proofs.cut.cut_blocks.Goals as goal
+
+pub loop-left-preserved : goal.loop-left-preserved
+loop-left-preserved g c =
+    let xs = c.loop-left.left.items in
+    let bs = c.loop-left.blocks.items in
+    record {
+      whole = cut_off xs c.split_off.new.self.items bs c.push.new.self.items (Own c.in_ok-last.last) _
+          c.in_ok-last.ensures.items c.in_ok-last.ensures.tail c.in_ok-push.ensures.items ∙ c.loop-left.invariant.whole;
+      own = ap all_own c.in_ok-push.ensures.items ∙ own_more bs (Own c.in_ok-last.last) c.loop-left.invariant.own refl;
+    }
+
+pub returns-clause-own : goal.returns-clause-own
+returns-clause-own g c =
+    let bs = c.loop-left.blocks.items in
+    ap all_own c.reverse.ensures.items ∙ own_reverse c.push-2.new.self.items (ap all_own c.in_ok-push-2.ensures.items ∙ own_more bs _ c.loop-left.invariant.own refl)

@@ -1,0 +1,158 @@
+-- An object as its keys and the list of its values.
+use Rattle.std.proofs.Common.{◌≡◌, ℕ, zero, suc, List, [], ◌∷◌, take, drop, Option, Some, None, refl, sym, ap, ◌∙◌, subst, slice_get, cond, Bool, true, false, Result, Ok, Err, IfOk}
+use Rattle.std.specs.List.{zip}
+use Rattle.std.specs.Option.{option_and_then, option_map_or, MatchOption}
+use Rattle.std.specs.Ordering.{is_eq}
+use Rattle.sdb_pieces.specs.Pieces.{items_in}
+use Rattle.sdb_members.specs.Keys.{texts_in}
+use Rattle.sdb_members.specs.Laws.{same_equal}
+use Rattle.sdb_members.specs.Order.{IsAboveAll, IsBelowAll, IsFound, IsGap}
+use Rattle.sdb_members.specs.declared.members.Members.{Members as Held}
+use Rattle.sdb_value.specs.Change.{ChangedAt, NothingAt}
+use Rattle.sdb_value.specs.Value.{Value, list, object, Items, no_items, item, Members, no_members, member, PlainStep, key, index, item_at, member_at, set_item, set_member, at, with}
+use Rattle.sdb_value.specs.View.{view, items_view, list_view, members_view, object_view}
+use Rattle.sdb_value.specs.declared.value.Json.{Json}
+
+abbrev pub paired : List (List ℕ) → Items → Members
+paired [] ds = no_members
+paired (t ∷ ts) no_items = no_members
+paired (t ∷ ts) (item d ds) = member t d (paired ts ds)
+
+pub paired_view : (ts : List (List ℕ)) (vs : List Json) → members_view (zip ts vs) ≡ paired ts (items_view vs)
+paired_view [] vs = refl
+paired_view (t ∷ ts) [] = refl
+paired_view (t ∷ ts) (v ∷ vs) = ap (member t (view v)) (paired_view ts vs)
+
+pub object_pairs : (m : Held Json) → object_view m ≡ paired (texts_in m.keys) (list_view m.values)
+object_pairs m = paired_view (texts_in m.keys) (items_in m.values)
+
+module _ (k : List ℕ) where
+  member_in : (ts : List (List ℕ)) (ds : Items) (i : ℕ) → slice_get ts i ≡ Some k → IsAboveAll k (take i ts) → member_at k (paired ts ds) ≡ item_at i ds
+  member_in [] ds i e a = cc
+  member_in (t ∷ ts) no_items i e a = refl
+  member_in (t ∷ ts) (item d ds) zero e a = let is : t ≡ k = cc in ap (λ o. cond (is_eq o) (Some d) (member_at k (paired ts ds))) (same_equal k t is)
+  member_in (t ∷ ts) (item d ds) (suc i) e a = ap (λ o. cond (is_eq o) (Some d) (member_at k (paired ts ds))) a.0 ∙ member_in ts ds i e a.1
+
+  -- the value of a key is the item at its index
+  pub member_found : (ts : List (List ℕ)) (ds : Items) (i : ℕ) → IsFound ts k i → member_at k (paired ts ds) ≡ item_at i ds
+  member_found ts ds i f = member_in ts ds i f.is f.above
+
+  set_in : (ts : List (List ℕ)) (ds : Items) (i : ℕ) (u : Value) → slice_get ts i ≡ Some k → IsAboveAll k (take i ts)
+      → set_member k (paired ts ds) u ≡ paired ts (set_item i ds u)
+  set_in [] ds i u e a = cc
+  set_in (t ∷ ts) no_items i u e a = refl
+  set_in (t ∷ ts) (item d ds) zero u e a = let is : t ≡ k = cc in
+      ap (λ o. cond (is_eq o) (member t u (paired ts ds)) (member t d (set_member k (paired ts ds) u))) (same_equal k t is)
+  set_in (t ∷ ts) (item d ds) (suc i) u e a =
+      ap (λ o. cond (is_eq o) (member t u (paired ts ds)) (member t d (set_member k (paired ts ds) u))) a.0 ∙ ap (member t d) (set_in ts ds i u e a.1)
+
+  pub set_found : (ts : List (List ℕ)) (ds : Items) (i : ℕ) (u : Value) → IsFound ts k i → set_member k (paired ts ds) u ≡ paired ts (set_item i ds u)
+  set_found ts ds i u f = set_in ts ds i u f.is f.above
+
+  -- a key that isn't there
+  none_below : (ts : List (List ℕ)) (ds : Items) → IsBelowAll k ts → member_at k (paired ts ds) ≡ None
+  none_below [] ds b = refl
+  none_below (t ∷ ts) no_items b = refl
+  none_below (t ∷ ts) (item d ds) b = ap (λ o. cond (is_eq o) (Some d) (member_at k (paired ts ds))) b.0 ∙ none_below ts ds b.1
+
+  none_in : (ts : List (List ℕ)) (ds : Items) (i : ℕ) → IsAboveAll k (take i ts) → IsBelowAll k (drop i ts) → member_at k (paired ts ds) ≡ None
+  none_in [] ds i a b = refl
+  none_in (t ∷ ts) no_items i a b = refl
+  none_in (t ∷ ts) (item d ds) zero a b = none_below (t ∷ ts) (item d ds) b
+  none_in (t ∷ ts) (item d ds) (suc i) a b = ap (λ o. cond (is_eq o) (Some d) (member_at k (paired ts ds))) a.0 ∙ none_in ts ds i a.1 b
+
+  pub member_missing : (ts : List (List ℕ)) (ds : Items) (i : ℕ) → IsGap ts k i → member_at k (paired ts ds) ≡ None
+  member_missing ts ds i g = none_in ts ds i g.above g.below
+
+  -- what is done at the index of a list of values is done at the key of the object
+  placed_in : (o : Option Value) (ts : List (List ℕ)) (ds es : Items) (i : ℕ) (p : List PlainStep) (u : Value) → IsFound ts k i
+      → list es ≡ option_map_or (λ c. list (set_item i ds (with c p u))) o (list ds)
+      → object (paired ts es) ≡ option_map_or (λ c. object (set_member k (paired ts ds) (with c p u))) o (object (paired ts ds))
+  placed_in None ts ds es i p u f e = let is : es ≡ ds = cc in ap (λ l. object (paired ts l)) is
+  placed_in (Some c) ts ds es i p u f e =
+      let is : es ≡ set_item i ds (with c p u) = cc in
+      ap (λ l. object (paired ts l)) is ∙ ap object (sym (set_found ts ds i (with c p u) f))
+
+  pub changed_in : (R : Value → Value → Type 0) (ts : List (List ℕ)) (ds es : Items) (i : ℕ) (p : List PlainStep) → IsFound ts k i
+      → ChangedAt R (list ds) (index i ∷ p) (list es) → ChangedAt R (object (paired ts ds)) (key k ∷ p) (object (paired ts es))
+  changed_in R ts ds es i p f c = record {
+    before = c.before;
+    after = c.after;
+    found = ap (option_and_then (λ d. at d p)) (member_found ts ds i f) ∙ c.found;
+    turned = c.turned;
+    placed = placed_in (item_at i ds) ts ds es i p c.after f c.placed
+        ∙ ap (λ o. option_map_or (λ d. object (set_member k (paired ts ds) (with d p c.after))) o (object (paired ts ds))) (sym (member_found ts ds i f));
+  }
+
+  pub nothing_in : (ts : List (List ℕ)) (ds es : Items) (i : ℕ) (p : List PlainStep) → IsFound ts k i
+      → NothingAt (list ds) (index i ∷ p) (list es) → NothingAt (object (paired ts ds)) (key k ∷ p) (object (paired ts es))
+  nothing_in ts ds es i p f n =
+      let is : es ≡ ds = let e = n.same in cc in
+      record {
+        nothing = ap (option_and_then (λ d. at d p)) (member_found ts ds i f) ∙ n.nothing;
+        same = ap (λ l. object (paired ts l)) is;
+      }
+
+  pub nothing_there : (ts : List (List ℕ)) (ds : Items) (i : ℕ) (p : List PlainStep) → IsGap ts k i
+      → NothingAt (object (paired ts ds)) (key k ∷ p) (object (paired ts ds))
+  nothing_there ts ds i p g = record { nothing = ap (option_and_then (λ d. at d p)) (member_missing ts ds i g); same = refl }
+
+-- ---- the same of an object of a value
+
+module _ {O E : Type 0} (r : Result (Option O) E) (R : O → Value → Value → Type 0) (k : List ℕ) (i : ℕ) (p : List PlainStep) where
+  told : (ts : List (List ℕ)) (ds es : Items) → IsFound ts k i
+      → IfOk r (λ o. MatchOption o (NothingAt (list ds) (index i ∷ p) (list es)) (λ x. ChangedAt (R x) (list ds) (index i ∷ p) (list es)))
+      → IfOk r (λ o. MatchOption o (NothingAt (object (paired ts ds)) (key k ∷ p) (object (paired ts es)))
+      (λ x. ChangedAt (R x) (object (paired ts ds)) (key k ∷ p) (object (paired ts es))))
+  told ts ds es f h = by r h
+    where
+      by : (q : Result (Option O) E)
+          → IfOk q (λ o. MatchOption o (NothingAt (list ds) (index i ∷ p) (list es)) (λ x. ChangedAt (R x) (list ds) (index i ∷ p) (list es)))
+          → IfOk q (λ o. MatchOption o (NothingAt (object (paired ts ds)) (key k ∷ p) (object (paired ts es)))
+          (λ x. ChangedAt (R x) (object (paired ts ds)) (key k ∷ p) (object (paired ts es))))
+      by (Ok None) h = nothing_in k ts ds es i p f h
+      by (Ok (Some x)) h = changed_in k (R x) ts ds es i p f h
+      by (Err e) h = tt
+
+  pub told_pairs : (s new : Held Json) → texts_in new.keys ≡ texts_in s.keys → IsFound (texts_in s.keys) k i
+      → IfOk r (λ o. MatchOption o (NothingAt (list (list_view s.values)) (index i ∷ p) (list (list_view new.values)))
+      (λ x. ChangedAt (R x) (list (list_view s.values)) (index i ∷ p) (list (list_view new.values))))
+      → IfOk r (λ o. MatchOption o (NothingAt (object (object_view s)) (key k ∷ p) (object (object_view new)))
+      (λ x. ChangedAt (R x) (object (object_view s)) (key k ∷ p) (object (object_view new))))
+  told_pairs s new e f h =
+      let P : Members → Members → Type 0 = λ ms ns. IfOk r (λ o. MatchOption o (NothingAt (object ms) (key k ∷ p) (object ns)) (λ x. ChangedAt (R x) (object ms) (key k ∷ p) (object ns))) in
+      let ts = texts_in s.keys in
+      let after : object_view new ≡ paired ts (list_view new.values) = object_pairs new ∙ ap (λ us. paired us (list_view new.values)) e in
+      subst (λ ms. P ms (object_view new)) (sym (object_pairs s))
+      (subst (P (paired ts (list_view s.values))) (sym after) (told ts (list_view s.values) (list_view new.values) f h))
+
+pub key_missing : (s : Held Json) (k : List ℕ) (i : ℕ) (p : List PlainStep) → IsGap (texts_in s.keys) k i
+    → NothingAt (object (object_view s)) (key k ∷ p) (object (object_view s))
+key_missing s k i p g =
+    subst (λ ms. NothingAt (object ms) (key k ∷ p) (object ms)) (sym (object_pairs s)) (nothing_there k (texts_in s.keys) (list_view s.values) i p g)
+
+pub key_found : (s : Held Json) (k : List ℕ) (i : ℕ) → IsFound (texts_in s.keys) k i → item_at i (list_view s.values) ≡ member_at k (object_view s)
+key_found s k i f = sym (ap (member_at k) (object_pairs s) ∙ member_found k (texts_in s.keys) (list_view s.values) i f)
+
+pub key_absent : (s : Held Json) (k : List ℕ) (i : ℕ) → IsGap (texts_in s.keys) k i → None ≡ member_at k (object_view s)
+key_absent s k i g = sym (ap (member_at k) (object_pairs s) ∙ member_missing k (texts_in s.keys) (list_view s.values) i g)
+
+pub same_object : (s new : Held Json) → texts_in new.keys ≡ texts_in s.keys → list_view new.values ≡ list_view s.values → object_view new ≡ object_view s
+same_object s new k v =
+    object_pairs new ∙ ap (λ ts. paired ts (list_view new.values)) k ∙ ap (paired (texts_in s.keys)) v ∙ sym (object_pairs s)
+
+pub values_first : (a b : Bool) → cond a b false ≡ true → a ≡ true
+values_first true b e = refl
+values_first false b e = e
+
+pub values_own : (a b : Bool) → cond a b false ≡ true → b ≡ true
+values_own true b e = e
+values_own false b e = cc
+
+pub both_own : (a b : Bool) → a ≡ true → b ≡ true → cond a b false ≡ true
+both_own true b p q = q
+both_own false b p q = p
+
+pub not_own : (a b : Bool) → b ≡ false → cond a b false ≡ false
+not_own true b e = e
+not_own false b e = refl
