@@ -8,3 +8,4 @@ pub mod Searches
 pub mod Seen
 pub mod Steps
 pub mod Leaving
+pub mod Replays

@@ -10,7 +10,7 @@ use Rattle.sdb_subscribe.specs.Queue.{PlainQueue, queue_at, waiting, taken_by, i
 use Rattle.sdb_desk.specs.ShardView.{machine_of}
 use Rattle.sdb_desk.specs.View.{told_taken}
 use Rattle.sdb_desk.specs.Machine.{Machine, PlainLook, PlainAttempt, Same, decided, moved}
-use Rattle.sdb_submit.specs.Calls.{PlainCall, look, commit, commit_now, take_next, AnswerTo}
+use Rattle.sdb_submit.specs.Calls.{PlainCall, look, commit, commit_now, take_next, AnswerTo, Acts}
 use Rattle.sdb_submit.specs.Chain.{Calls, Submits}
 use Rattle.sdb_submit.specs.Laws.{IsKept, submits_kept, decided_at_commit, wanting_unchanged}
 use Rattle.sdb_locks.specs.Laws.{have_seen_once}
@@ -24,6 +24,32 @@ use Rattle.sdb_backend.specs.declared.seats.Pass.{Pass}
 
 -- ---- one call after another
 
+-- a call that changed nothing came before
+pub after : (k : PlainKey) (c e : PlainCall) (a : AnswerTo c) (b : AnswerTo e) (p o q : Pass) (h : Answered k c p a o)
+    → Same (machine_of h.1.shard) (machine_of h.2.shard) → Answered k e o b q → Answered k e p b q
+after k c e a b p o q h same d =
+    let n = number_of p in
+    let x = machine_of h.0.shard in
+    let at = machine_of h.1.shard in
+    let left = machine_of h.2.shard in
+    let next = machine_of d.1.shard in
+    let one : d.0 ≡ h.2 = have_seen_once o.seats (shard_of k) d.0 h.2 d.3 h.7 in
+    let ext : Extends next left = subst (λ (y : Held). Extends next (machine_of y.shard)) one d.4 in
+    let kept : own n left ≡ own n next =
+    subst (λ (m : ℕ). own m left ≡ own m next) h.8 (subst (λ (y : Held). own (number_of o) (machine_of y.shard) ≡ own (number_of o) next) one d.5) in
+    let still : own n at ≡ own n left = λ i. own n (record { logs = sym same.0 i; queues = sym same.1 i }) in (
+      h.0,
+      d.1,
+      d.2,
+      h.3,
+      extends_further x left next ext (extends_further x at left (same_grown n at left same).extends h.4),
+      h.5 ∙ still ∙ kept,
+      subst (λ (m : ℕ). Acts m next k e b (machine_of d.2.shard)) h.8 d.6,
+      d.7,
+      d.8 ∙ h.8,
+      (λ j t ne. d.9 j t ne ∙ h.9 j t ne),
+    )
+
 module _ (k : PlainKey) (s : PlainSubmission) where
   abbrev pub OfPass : Calls Pass
   OfPass c p a q = Answered k c p a q
@@ -32,42 +58,16 @@ module _ (k : PlainKey) (s : PlainSubmission) where
   abbrev pub InOneStep : Pass → PlainReply → Pass → Type 0
   InOneStep p r q = Answered k (commit_now s) p r q
 
-  -- a call that changed nothing came before
-  after : (c : PlainCall) (a : AnswerTo c) (p o q : Pass) (r : PlainReply) (h : Answered k c p a o)
-      → Same (machine_of h.1.shard) (machine_of h.2.shard) → InOneStep o r q → InOneStep p r q
-  after c a p o q r h same d =
-      let n = number_of p in
-      let x = machine_of h.0.shard in
-      let at = machine_of h.1.shard in
-      let left = machine_of h.2.shard in
-      let next = machine_of d.1.shard in
-      let one : d.0 ≡ h.2 = have_seen_once o.seats (shard_of k) d.0 h.2 d.3 h.7 in
-      let ext : Extends next left = subst (λ (y : Held). Extends next (machine_of y.shard)) one d.4 in
-      let kept : own n left ≡ own n next =
-      subst (λ (m : ℕ). own m left ≡ own m next) h.8 (subst (λ (y : Held). own (number_of o) (machine_of y.shard) ≡ own (number_of o) next) one d.5) in
-      let still : own n at ≡ own n left = λ i. own n (record { logs = sym same.0 i; queues = sym same.1 i }) in (
-        h.0,
-        d.1,
-        d.2,
-        h.3,
-        extends_further x left next ext (extends_further x at left (same_grown n at left same).extends h.4),
-        h.5 ∙ still ∙ kept,
-        d.6,
-        d.7,
-        d.8 ∙ h.8,
-        (λ j t ne. d.9 j t ne ∙ h.9 j t ne),
-      )
-
   abbrev looked_at : PlainLook → PlainAttempt
   looked_at l = record { submission = s; look = l }
 
   one_step_kept : IsKept OfPass s InOneStep
   one_step_kept = record {
-    unseen = λ p o q r h d. after (look s) None p o q r h h.6.1 d;
-    seen = λ p o q l r h d. after (look s) (Some l) p o q r h h.6.1 d;
-    moves = λ p o q l m r h d. after (commit (looked_at l)) (moved m) p o q r h (h.6.0.2, h.6.1) d;
+    unseen = λ p o q r h d. after k (look s) (commit_now s) None r p o q h h.6.1 d;
+    seen = λ p o q l r h d. after k (look s) (commit_now s) (Some l) r p o q h h.6.1 d;
+    moves = λ p o q l m r h d. after k (commit (looked_at l)) (commit_now s) (moved m) r p o q h (h.6.0.2, h.6.1) d;
     wanting = λ p o q l r h d.
-        after (commit (looked_at l)) (decided (refused E10)) p o q r h
+        after k (commit (looked_at l)) (commit_now s) (decided (refused E10)) r p o q h
         (wanting_unchanged (machine_of h.1.shard).logs (machine_of h.2.shard).logs k (looked_at l) h.6.0, h.6.1) d;
     at_once = λ p q l r h isnt.
         (h.0, h.1, h.2, h.3, h.4, h.5, (decided_at_commit (machine_of h.1.shard).logs (machine_of h.2.shard).logs k (looked_at l) r isnt h.6.0, h.6.1), h.7, h.8, h.9);

@@ -4,4 +4,5 @@ pub mod Gathered
 pub mod History
 pub mod HistoryLaws
 pub mod Left
+pub mod Lending
 pub mod Passes

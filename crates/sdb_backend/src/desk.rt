@@ -1,15 +1,16 @@
 //! A backend as a desk.
-ghost use Rattle.std.specs.Prelude.{◌≡◌, IfOk, option_map};
+ghost use Rattle.std.specs.Prelude.{◌≡◌, IfOk, Some, option_map};
 ghost use Rattle.sdb_oplog.specs.Keys.{plain_key};
 ghost use Rattle.sdb_desk.specs.ReplyView.{plain_reply};
-ghost use Rattle.sdb_submit.specs.Calls.{commit_now};
+ghost use Rattle.sdb_desk.specs.View.{told_fetched};
+ghost use Rattle.sdb_submit.specs.Calls.{commit_now, snapshot};
 ghost use Rattle.sdb_backend.specs.Calls.{Answered, IsLookOf, Adds, TakesOn};
 ghost use Rattle.sdb_backend.specs.Passes.{number_of, IsPass};
 
 use crate::backend::Backend;
 use crate::jobs::{
-    Commit, CommitNow, Fetch, Forget, Look as Looking, OpsFrom, SnapshotAt, Subscribe, Take,
-    Unsubscribe, Version,
+    Commit, CommitLast, CommitNow, Fetch, Forget, Lend, Look as Looking, Offer, OpsFrom, SnapshotAt,
+    Subscribe, Take, Unsubscribe, Version,
 };
 use crate::seats::Pass;
 use sdb_desk::{Fetched, Look, Outcome, Reply, Subscribed, Work};
@@ -50,6 +51,10 @@ impl<R: Wait + Drop> Desk for Backend<R> {
         self.run(pass, key, CommitNow { key, submission })
     }
 
+    fn commit_last(&self, pass: &mut Pass, key: &Key, work: Work) -> Reply {
+        self.run(pass, key, CommitLast { key, work })
+    }
+
     fn version(&self, pass: &mut Pass, key: &Key) -> u64 {
         self.run(pass, key, Version { key })
     }
@@ -68,7 +73,10 @@ impl<R: Wait + Drop> Desk for Backend<R> {
         key: &Key,
         version: Option<u64>,
     ) -> Result<Fetched, Code> {
-        self.run(pass, key, SnapshotAt { key, version })
+        match version {
+            Some(version) => self.snapshot_of(pass, key, version),
+            None => self.run(pass, key, SnapshotAt { key, version }),
+        }
     }
 
     fn forget(&self, pass: &mut Pass, key: &Key) {
@@ -100,6 +108,33 @@ impl<R: Wait + Drop> Desk for Backend<R> {
 
     fn by(&self, pass: &Pass) -> u64 {
         pass.number()
+    }
+}
+
+impl<R: Wait + Drop> Backend<R> {
+    // The document at a version. What it is made of is lent under the lock, and replayed without it; what was
+    // replayed is offered then.
+    fn snapshot_of(&self, pass: &mut Pass, key: &Key, version: u64) -> Result<Fetched, Code>
+        requires { IsPass pass.old self.now }
+        ensures pass { IsPass pass.new self.now }
+        ensures answered { Answered (plain_key key.now) (snapshot (Some version)) pass.old
+            (told_fetched result) pass.new }
+    {
+        let lent = self.run(pass, key, Lend { key, version })?;
+        let is_replayed = !lent.entries.is_empty();
+        let snapshot = lent.replay(self.alloc)?;
+        if is_replayed {
+            self.run(
+                pass,
+                key,
+                Offer {
+                    key,
+                    version,
+                    snapshot: snapshot.as_ref(),
+                },
+            );
+        }
+        Ok(Fetched { version, snapshot })
     }
 }
 

@@ -1,5 +1,5 @@
 //! The calls of the documents, as jobs under a lock. What each does is what the machine does at this call.
-ghost use Rattle.std.specs.Prelude.{◌≡◌};
+ghost use Rattle.std.specs.Prelude.{◌≡◌, option_map};
 ghost use Rattle.sdb_oplog.specs.Keys.{plain_key};
 ghost use Rattle.sdb_desk.specs.ShardView.{machine_of, logs_of};
 ghost use Rattle.sdb_desk.specs.Looked.{IsLook};
@@ -7,12 +7,16 @@ ghost use Rattle.sdb_desk.specs.View.{outcome_of, told_fetched, told_entries, to
 ghost use Rattle.sdb_desk.specs.ReplyView.{plain_reply};
 ghost use Rattle.sdb_submit.specs.Calls.{Acts, told_look};
 ghost use Rattle.sdb_submit.specs.Calls as call;
+ghost use Rattle.sdb_value.specs.View.{view};
+ghost use Rattle.sdb_desk.specs.Machine.{Same};
+ghost use Rattle.sdb_backend.specs.Lending.{IsAt, IsLent, told_lent};
 
 use crate::held::Held;
-use sdb_desk::{Decision, Fetched, Look as Shown, Reply, Subscribed, Work};
+use sdb_desk::{Decision, Fetched, Lent, Look as Shown, Reply, Subscribed, Work};
 use sdb_growlock::Job;
 use sdb_oplog::{Code, Entry, Key, Submission};
 use sdb_subscribe::SubId;
+use sdb_value::Json;
 use std::alloc::AllocError;
 
 pub(crate) struct Look<'a> {
@@ -50,6 +54,25 @@ impl<'a> Job<Held> for CommitNow<'a> {
     fn run(self, _number: u64, held: &mut Held) -> Reply {
         let Self { key, submission } = self;
         held.shard.commit_now(key, submission)
+    }
+}
+
+pub(crate) struct CommitLast<'a> {
+    pub(crate) key: &'a Key,
+    pub(crate) work: Work,
+}
+
+impl<'a> Job<Held> for CommitLast<'a> {
+    type Answer = Reply;
+
+    ghost ready = { λ j n a. j.work.submission.by ≡ n };
+
+    ghost does = { λ j n a b r. Acts n (machine_of a.shard) (plain_key j.key.now)
+        (call.commit_now j.work.submission) (plain_reply r) (machine_of b.shard) };
+
+    fn run(self, _number: u64, held: &mut Held) -> Reply {
+        let Self { key, work } = self;
+        held.shard.commit_last(key, work)
     }
 }
 
@@ -106,6 +129,50 @@ impl<'a> Job<Held> for SnapshotAt<'a> {
     fn run(self, _number: u64, held: &mut Held) -> Result<Fetched, Code> {
         let Self { key, version } = self;
         held.shard.snapshot_at(key, version)
+    }
+}
+
+pub(crate) struct Lend<'a> {
+    pub(crate) key: &'a Key,
+    pub(crate) version: u64,
+}
+
+impl<'a> Job<Held> for Lend<'a> {
+    type Answer = Result<Lent, Code>;
+
+    ghost ready = { λ j n a. Unit {0} };
+
+    ghost does = { λ j n a b r. IsLent (machine_of a.shard) (plain_key j.key.now) j.version (told_lent r)
+        × Same (machine_of a.shard) (machine_of b.shard) };
+
+    fn run(self, _number: u64, held: &mut Held) -> Result<Lent, Code> {
+        let Self { key, version } = self;
+        held.shard.lend(key, version)
+    }
+}
+
+pub(crate) struct Offer<'a> {
+    pub(crate) key: &'a Key,
+    pub(crate) version: u64,
+    pub(crate) snapshot: Option<&'a Json>,
+}
+
+impl<'a> Job<Held> for Offer<'a> {
+    type Answer = ();
+
+    ghost ready = { λ j n a. IsAt (logs_of a.shard (plain_key j.key.now)) j.version
+        (option_map (λ v. view v.now) j.snapshot) };
+
+    ghost does = { λ j n a b r. IsAt (logs_of a.shard (plain_key j.key.now)) j.version
+        (option_map (λ v. view v.now) j.snapshot) × Same (machine_of a.shard) (machine_of b.shard) };
+
+    fn run(self, _number: u64, held: &mut Held) {
+        let Self {
+            key,
+            version,
+            snapshot,
+        } = self;
+        held.shard.offer(key, version, snapshot)
     }
 }
 

@@ -9,11 +9,13 @@ use Rattle.sdb_oplog.specs.Decide.{stored}
 use Rattle.sdb_oplog.specs.Plain.{PlainContent, PlainEntry}
 use Rattle.sdb_oplog.specs.declared.codes.Code.{Code}
 use Rattle.sdb_desk.specs.Machine.{PlainLook, PlainAttempt, PlainOutcome, decided, moved, PlainFetched, PlainSubscribed}
+use Rattle.sdb_desk.specs.Read.{PlainLent}
 use Rattle.sdb_desk.specs.ReplyView.{plain_reply}
 use Rattle.sdb_desk.specs.declared.attempts.Look.{Look}
 use Rattle.sdb_desk.specs.declared.attempts.Attempt.{Attempt}
 use Rattle.sdb_desk.specs.declared.attempts.WorkedContent.{WorkedContent}
 use Rattle.sdb_desk.specs.declared.attempts.WorkedContent.TheVariants.{AsArrived, Became, Refused}
+use Rattle.sdb_desk.specs.declared.lending.Lent.{Lent}
 use Rattle.sdb_desk.specs.declared.shard.Outcome.{Outcome}
 use Rattle.sdb_desk.specs.declared.shard.Outcome.TheVariants.{Decided, Moved}
 use Rattle.sdb_desk.specs.declared.shard.Decision.{Decision}
@@ -56,6 +58,9 @@ outcome_of a (Answers o) = plain_outcome o
 abbrev pub told_fetched : Result Fetched Code → Result PlainFetched Code
 told_fetched (Ok f) = Ok (record { version = f.version; snapshot = option_map view f.snapshot })
 told_fetched (Err code) = Err code
+
+abbrev pub plain_lent : Lent → PlainLent
+plain_lent l = record { version = l.version; snapshot = option_map view l.snapshot; entries = l.entries.items }
 
 abbrev pub told_subscribed : Result Subscribed Code → Result PlainSubscribed Code
 told_subscribed (Ok s) =

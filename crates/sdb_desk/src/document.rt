@@ -7,15 +7,16 @@ ghost use Rattle.sdb_oplog.specs.Refused.{RefusedBy};
 ghost use Rattle.sdb_oplog.specs.Snap.{becomes, document, snap};
 ghost use Rattle.sdb_oplog.specs.declared.codes.Code.TheVariants.{E10};
 ghost use Rattle.sdb_desk.specs.Machine.{look_at, looking_takes_memory};
-ghost use Rattle.sdb_desk.specs.View.{plain_look};
+ghost use Rattle.sdb_desk.specs.View.{plain_lent, plain_look};
 ghost use Rattle.sdb_desk.specs.ReplyView.{plain_reply};
 ghost use Rattle.sdb_snapcache.specs.Kept.{nearest, used_for};
 ghost use Rattle.sdb_snapcache.specs.View.{snapshot};
 ghost use Rattle.sdb_desk.specs.Documents.{IsMadeDocument, IsOpen, Settles, Begins, IsUnstored};
 ghost use Rattle.sdb_snapcache.specs.Snaps.{AreSnapsOf};
-ghost use Rattle.sdb_desk.specs.Read.{Leaves, Offers};
+ghost use Rattle.sdb_desk.specs.Read.{Leaves, Offers, Lends, LendsFrom, Uses};
 
 use crate::attempts::Look;
+use crate::lending::Lent;
 use sdb_oplog::{Code, Content, Entry, Kind, Log, Submission, Unprepared, copy_entries};
 use sdb_snapcache::Cache;
 use sdb_value::{Json, MAX};
@@ -154,12 +155,39 @@ impl Document {
         Ok(snapshot)
     }
 
+    // What the document at a version is made of: the nearest snapshot that is kept, and the entries behind it.
+    pub(crate) fn lend(&mut self, alloc: Global, version: u64) -> Result<Lent, AllocError>
+        requires { version ≤ length self.old.log }
+        ensures lends { IfOk result (λ l. Lends self.old.log version (plain_lent l)) }
+        ensures from { IfOk result (λ l. LendsFrom self.old.log self.old.kept version (plain_lent l)) }
+        ensures memory { OnErr result (0 < version) }
+        ensures log { self.new.log ≡ self.old.log }
+        ensures kept { Uses self.old.log version self.old.kept self.new.kept }
+    {
+        if version == self.log.len() {
+            return Ok(Lent {
+                version,
+                snapshot: self.share(alloc)?,
+                entries: Vec::new(alloc),
+            });
+        }
+        let (from, snapshot) = self.nearest(alloc, version)?;
+        let between = (version - from) as usize;
+        let entries = copy_entries(alloc, &self.log.entries_from(from)[..between])?;
+        Ok(Lent {
+            version: from,
+            snapshot,
+            entries,
+        })
+    }
+
     // The kept snapshot of the greatest version up to this one; without one the version 0, where nothing
     // is.
     fn nearest(&mut self, alloc: Global, version: u64) -> Result<(u64, Option<Json>), AllocError>
         requires { version ≤ length self.old.log }
         ensures up_to { IfOk result (λ r. r.0 ≤ version) }
         ensures snap { IfOk result (λ r. snap (take r.0 self.old.log) ≡ Some (option_map view r.1)) }
+        ensures begins { IfOk result (λ r. Begins (nearest version self.old.kept) r.0 (option_map view r.1)) }
         ensures memory { OnErr result (0 < version) }
         ensures log { self.new.log ≡ self.old.log }
         ensures kept { self.new.kept ≡ used_for version self.old.kept }
@@ -169,9 +197,9 @@ impl Document {
     }
 
     // Keeps a copy of the snapshot, where there is one, and memory for it.
-    fn offer(&mut self, alloc: Global, version: u64, snapshot: Option<&Json>)
+    pub(crate) fn offer(&mut self, alloc: Global, version: u64, snapshot: Option<&Json>)
         requires reached { version ≤ length self.old.log }
-        requires snap { snap (take version self.old.log) ≡ Some (option_map (λ v. view v.now) snapshot) }
+        requires snapshot { document (take version self.old.log) ≡ option_map (λ v. view v.now) snapshot }
         ensures log { self.new.log ≡ self.old.log }
         ensures kept { Offers version (option_map (λ v. view v.now) snapshot.entry) self.old.kept self.new.kept }
     {

@@ -3,9 +3,12 @@
 
 mod attempts;
 mod document;
+mod lending;
+mod resuming;
 mod shard;
 mod topic;
 
 pub use attempts::{Attempt, Look, Work, WorkedContent};
 pub use document::Reply;
+pub use lending::Lent;
 pub use shard::{Decision, Fetched, Outcome, Shard, Subscribed};

@@ -16,18 +16,19 @@ ghost use Rattle.sdb_oplog.specs.Keys.{with_at};
 ghost use Rattle.sdb_desk.specs.ShardView.{topics_of, documents_of, logs_of, kept_of, with_kept, queues_of, ringed_of, rings_of, with_ringed};
 ghost use Rattle.sdb_desk.specs.Rings.{Notes, opened_ringed};
 ghost use Rattle.sdb_desk.specs.Topics.{no_topic};
-ghost use Rattle.sdb_desk.specs.Read.{Leaves};
+ghost use Rattle.sdb_desk.specs.Read.{Leaves, Offers, Lends, LendsFrom, Uses};
 ghost use Rattle.sdb_desk.specs.Stored.{AreStored};
 ghost use Rattle.sdb_desk.specs.Looked.{IsLook};
 ghost use Rattle.sdb_desk.specs.Open.{AreOpen};
 ghost use Rattle.sdb_desk.specs.Machine.{IsFoundRefused, look_at, looking_takes_memory, fetched, operations, snapshot_at, start_of, start_free, is_filled, has_document, has_version, no_queues, with_queues, closed, Decides, Commits, Keeps, Reads, Subscribes, Takes};
-ghost use Rattle.sdb_desk.specs.View.{plain_look, plain_outcome, outcome_of, told_fetched, told_entries, told_subscribed, told_taken};
+ghost use Rattle.sdb_desk.specs.View.{plain_lent, plain_look, plain_outcome, outcome_of, told_fetched, told_entries, told_subscribed, told_taken};
 ghost use Rattle.sdb_desk.specs.ReplyView.{plain_reply};
 
 use crate::attempts::{Look, Work};
 use crate::document::{
     Document, Reply, look_at, made_of, missed_of, reply_at_sight, shared_copy_of,
 };
+use crate::lending::{Lent, nothing_lent};
 use crate::topic::Topic;
 use sdb_oplog::{Code, Content, Entry, Key, Log, Submission, copy_entries, over_all};
 use sdb_subscribe::SubId;
@@ -244,6 +245,28 @@ impl Shard {
         match self.store_now(key, submission) {
             Ok(missed) => Reply::Stored { v, missed },
             Err(code) => Reply::Refused(code),
+        }
+    }
+
+    /// Decides the submission of a work in one step, whatever was stored since its look: only that is carried
+    /// over here, and what comes of it is applied to the present document. Where memory is wanting for that it
+    /// is decided as [`Shard::commit_now`] does.
+    pub fn commit_last(&mut self, key: &Key, work: Work) -> Reply
+        ensures decides { Decides (logs_of self.old) (plain_key key.now) work.submission (plain_reply result)
+            (logs_of self.new) }
+        ensures kept { kept_of self.new ≡ kept_of self.old }
+        ensures queues { queues_of self.new ≡ queues_of self.old }
+        ensures rings { Notes (logs_of self.old) (logs_of self.new) (ringed_of self.old) (ringed_of self.new) }
+    {
+        let Ok(look) = self.look(key, work.submission()) else {
+            return self.commit_now(key, work.submission());
+        };
+        match work.resume(self.alloc, look) {
+            Ok(mut resumed) => match self.commit(key, &mut resumed) {
+                Outcome::Decided(reply) => reply,
+                Outcome::Moved(_) => unreachable!(),
+            },
+            Err(attempt) => self.commit_now(key, &attempt.submission),
         }
     }
 
@@ -514,6 +537,69 @@ impl Shard {
         match self.topics.get_mut(key) {
             Some(topic) => topic.snapshot_at(self.alloc, version),
             None => Ok(None),
+        }
+    }
+
+    /// Lends what the document at a version is made of: the nearest older snapshot that is kept and the
+    /// operations from there on, at the cost of a pointer each, or the present document. E4 where the version
+    /// is above the present one, E10 is want of memory, at a version above 0.
+    pub fn lend(&mut self, key: &Key, version: u64) -> Result<Lent, Code>
+        ensures lends { IfOk result (λ l. Lends (logs_of self.old (plain_key key.now)) version (plain_lent l)) }
+        ensures from { IfOk result (λ l. LendsFrom (logs_of self.old (plain_key key.now))
+            (kept_of self.old (plain_key key.now)) version (plain_lent l)) }
+        ensures err { IfErr result (λ code. Reads has_version (Err code)
+            (snapshot_at (logs_of self.old (plain_key key.now)) (Some version))) }
+        ensures kept { OnOk result (Uses (logs_of self.old (plain_key key.now)) version
+            (kept_of self.old (plain_key key.now)) (kept_of self.new (plain_key key.now))) }
+        ensures others { kept_of self.new ≡
+            with_kept (kept_of self.old) (plain_key key.now) (kept_of self.new (plain_key key.now)) }
+        ensures logs { logs_of self.new ≡ logs_of self.old }
+        ensures queues { queues_of self.new ≡ queues_of self.old }
+        ensures rings { ringed_of self.new ≡ ringed_of self.old }
+    {
+        if self.version(key) < version {
+            return Err(Code::E4);
+        }
+        Ok(self.parts_at(key, version)?)
+    }
+
+    // What the document at a version is made of, up to the present one.
+    fn parts_at(&mut self, key: &Key, version: u64) -> Result<Lent, AllocError>
+        requires { version ≤ length (logs_of self.old (plain_key key.now)) }
+        ensures lends { IfOk result (λ l. Lends (logs_of self.old (plain_key key.now)) version (plain_lent l)) }
+        ensures from { IfOk result (λ l. LendsFrom (logs_of self.old (plain_key key.now))
+            (kept_of self.old (plain_key key.now)) version (plain_lent l)) }
+        ensures memory { OnErr result (0 < version) }
+        ensures kept { Uses (logs_of self.old (plain_key key.now)) version
+            (kept_of self.old (plain_key key.now)) (kept_of self.new (plain_key key.now)) }
+        ensures others { kept_of self.new ≡
+            with_kept (kept_of self.old) (plain_key key.now) (kept_of self.new (plain_key key.now)) }
+        ensures logs { logs_of self.new ≡ logs_of self.old }
+        ensures queues { queues_of self.new ≡ queues_of self.old }
+        ensures rings { ringed_of self.new ≡ ringed_of self.old }
+    {
+        match self.topics.get_mut(key) {
+            Some(topic) => topic.lend(self.alloc, version),
+            None => Ok(nothing_lent(self.alloc)),
+        }
+    }
+
+    /// Keeps the document at a version, where there is one, and memory for it: at most eight of a document are
+    /// kept, those that were used last.
+    pub fn offer(&mut self, key: &Key, version: u64, snapshot: Option<&Json>)
+        requires reached { version ≤ length (logs_of self.old (plain_key key.now)) }
+        requires snapshot { document (take version (logs_of self.old (plain_key key.now))) ≡
+            option_map (λ v. view v.now) snapshot }
+        ensures kept { Offers version (option_map (λ v. view v.now) snapshot.entry)
+            (kept_of self.old (plain_key key.now)) (kept_of self.new (plain_key key.now)) }
+        ensures others { kept_of self.new ≡
+            with_kept (kept_of self.old) (plain_key key.now) (kept_of self.new (plain_key key.now)) }
+        ensures logs { logs_of self.new ≡ logs_of self.old }
+        ensures queues { queues_of self.new ≡ queues_of self.old }
+        ensures rings { ringed_of self.new ≡ ringed_of self.old }
+    {
+        if let Some(topic) = self.topics.get_mut(key) {
+            topic.offer(self.alloc, version, snapshot);
         }
     }
 

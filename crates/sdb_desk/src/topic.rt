@@ -11,11 +11,13 @@ ghost use Rattle.sdb_subscribe.specs.Queue.{opened, queue_at, taken_by, after_ta
 ghost use Rattle.sdb_subscribe.specs.Ring.{bare, FitLog, AreNoted, after_take_ringed_by, without_ringed_by};
 ghost use Rattle.sdb_desk.specs.Documents.{no_document, Settles};
 ghost use Rattle.sdb_desk.specs.Machine.{is_filled};
-ghost use Rattle.sdb_desk.specs.Read.{Leaves};
+ghost use Rattle.sdb_desk.specs.Read.{Leaves, Offers, Lends, LendsFrom, Uses};
 ghost use Rattle.sdb_desk.specs.Rings.{IsNotedIn, opened_ringed};
 ghost use Rattle.sdb_desk.specs.Topics.{no_topic, document_in};
+ghost use Rattle.sdb_desk.specs.View.{plain_lent};
 
 use crate::document::Document;
+use crate::lending::{Lent, nothing_lent};
 use sdb_oplog::{Code, Content, Entry, Log, Submission};
 use sdb_subscribe::{Queues, SubId};
 use sdb_value::Json;
@@ -128,6 +130,37 @@ impl Topic {
         match &mut self.document {
             Some(document) => document.snapshot_at(alloc, version),
             None => Ok(None),
+        }
+    }
+
+    // What the document at a version is made of.
+    pub(crate) fn lend(&mut self, alloc: Global, version: u64) -> Result<Lent, AllocError>
+        requires { version ≤ length self.old.document.log }
+        ensures lends { IfOk result (λ l. Lends self.old.document.log version (plain_lent l)) }
+        ensures from { IfOk result
+            (λ l. LendsFrom self.old.document.log self.old.document.kept version (plain_lent l)) }
+        ensures memory { OnErr result (0 < version) }
+        ensures log { self.new.document.log ≡ self.old.document.log }
+        ensures kept { Uses self.old.document.log version self.old.document.kept self.new.document.kept }
+        ensures queues { self.new.queues ≡ self.old.queues }
+    {
+        match &mut self.document {
+            Some(document) => document.lend(alloc, version),
+            None => Ok(nothing_lent(alloc)),
+        }
+    }
+
+    // Keeps the document at a version, where there is one, and memory for it.
+    pub(crate) fn offer(&mut self, alloc: Global, version: u64, snapshot: Option<&Json>)
+        requires reached { version ≤ length self.old.document.log }
+        requires snapshot { document (take version self.old.document.log) ≡ option_map (λ v. view v.now) snapshot }
+        ensures log { self.new.document.log ≡ self.old.document.log }
+        ensures kept { Offers version (option_map (λ v. view v.now) snapshot.entry)
+            self.old.document.kept self.new.document.kept }
+        ensures queues { self.new.queues ≡ self.old.queues }
+    {
+        if let Some(document) = &mut self.document {
+            document.offer(alloc, version, snapshot);
         }
     }
 

@@ -16,6 +16,10 @@ module _ {P : Type 0} (acts : Calls P) (s : PlainSubmission) where
   unfolding Tries
   by_none n l p q r e h = subst (λ (m : ℕ). Tries acts s m l p r q) (sym e) h
 
+  -- the same of a submission that is this one
+  pub by_last : (n : ℕ) (l : PlainLook) (p q : P) (r : PlainReply) (x : PlainSubmission) → n ≡ 0 → x ≡ s → acts (commit_now x) p r q → Left n l p r q
+  by_last n l p q r x e is h = by_none n l p q r e (subst (λ (y : PlainSubmission). acts (commit_now y) p r q) is h)
+
   pub by_unworked : (n k : ℕ) (l : PlainLook) (p q : P) (r : PlainReply) → n ≡ suc k → acts (commit_now s) p r q → Left n l p r q
   unfolding Tries
   by_unworked n k l p q r e h = subst (λ (m : ℕ). Tries acts s m l p r q) (sym e) (inl h)

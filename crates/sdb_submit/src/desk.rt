@@ -67,6 +67,15 @@ pub trait Desk {
         ensures acts { acts self.now (plain_key key.now) (commit_now submission.now) pass.old
             (plain_reply result) pass.new };
 
+    /// Decides the submission of a work, whatever has been stored since its look: only that is carried over.
+    fn commit_last(&self, pass: &mut Self::Pass, key: &Key, work: Work) -> Reply
+        requires takes { takes self.now pass.old }
+        requires by { work.submission.by ≡ number self.now pass.old }
+        ensures takes { takes self.now pass.new }
+        ensures number { number self.now pass.new ≡ number self.now pass.old }
+        ensures acts { acts self.now (plain_key key.now) (commit_now work.submission) pass.old
+            (plain_reply result) pass.new };
+
     /// The present version; 0 where there is no document yet. It takes no memory.
     fn version(&self, pass: &mut Self::Pass, key: &Key) -> u64
         requires { takes self.now pass.old }

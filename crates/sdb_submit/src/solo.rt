@@ -43,6 +43,10 @@ impl Desk for Solo {
         pass.commit_now(key, submission)
     }
 
+    fn commit_last(&self, pass: &mut Shard, key: &Key, work: Work) -> Reply {
+        pass.commit_last(key, work)
+    }
+
     fn version(&self, pass: &mut Shard, key: &Key) -> u64 {
         pass.version(key)
     }

@@ -13,7 +13,8 @@ use sdb_oplog::{Code, Key, Submission};
 use std::alloc::Global;
 
 /// Submits: a look, then up to eight tries of work and commit, and at last a commit that decides. A try
-/// that found the log moved goes on from there. Refusals and repeats are decided at a commit too.
+/// that found the log moved goes on from there, and the last commit from what was worked till then. Refusals
+/// and repeats are decided at a commit too.
 ///
 /// The reply is that of the call that decided. Where memory is wanting for a look, for work or for a
 /// commit, a commit decides at once, which answers E10 only where a decision takes memory itself: nothing
@@ -55,7 +56,10 @@ pub fn submit<D: Desk, G: Gate>(
             }
         }
     }
-    desk.commit_now(pass, key, submission)
+    match next_work(alloc, submission, last, look) {
+        Some(worked) => desk.commit_last(pass, key, worked),
+        None => desk.commit_now(pass, key, submission),
+    }
 }
 
 // Whether memory was wanting.

@@ -122,6 +122,10 @@ impl Board {
         self.shard.commit(&self.key, &mut work)
     }
 
+    fn commit_last(&mut self, work: Work) -> Reply {
+        self.shard.commit_last(&self.key, work)
+    }
+
     // The version, and the number there.
     fn present(&mut self, rt: &impl Abort) -> (u64, Option<i64>) {
         let fetched = self.shard.fetch(&self.key).expect(rt, "out of memory");
@@ -225,6 +229,16 @@ fn a_commit_shows_a_log_that_has_moved(rt: HostRuntime) {
     assert!(rt; moved(&board.commit(late)) == Some((2, 1)));
 }
 
+// After the work another edit is stored.
+#[test]
+fn a_work_is_decided_at_last(rt: HostRuntime) {
+    let mut board = Board::new(&rt, rt.alloc());
+    let late = board.work(&rt, "x", 1, 10);
+    board.put_edit(&rt, "y", 5);
+    assert!(rt; stored(&board.commit_last(late)) == Some((2, 1)));
+    assert!(rt; board.present(&rt) == (3, Some(15)));
+}
+
 #[test]
 fn a_submission_is_decided_in_one_step(rt: HostRuntime) {
     let mut board = Board::new(&rt, rt.alloc());
@@ -309,6 +323,30 @@ fn no_document_before_the_first_version(rt: HostRuntime) {
     let first = board.shard.snapshot_at(&board.key, Some(0));
     assert!(rt; first.expect(&rt, "a version").snapshot.is_none());
     assert!(rt; matches!(board.shard.snapshot_at(&board.key, Some(13)), Err(Code::E4)));
+}
+
+// From which version the document at another is to be replayed, and by how many operations.
+fn lent(rt: &impl Abort, board: &mut Board, version: u64) -> (u64, usize) {
+    let lent = board.shard.lend(&board.key, version).expect(rt, "a version");
+    (lent.version, lent.entries.len())
+}
+
+// The document at a version, replayed beside the shard and kept.
+fn keep(rt: &impl Abort, board: &mut Board, version: u64) -> Option<i64> {
+    let lent = board.shard.lend(&board.key, version).expect(rt, "a version");
+    let snapshot = lent.replay(board.alloc).expect(rt, "out of memory");
+    board.shard.offer(&board.key, version, snapshot.as_ref());
+    number(snapshot.as_ref())
+}
+
+#[test]
+fn a_version_is_lent_from_the_nearest_that_is_kept(rt: HostRuntime) {
+    let mut board = eleven(&rt, rt.alloc());
+    assert!(rt; lent(&rt, &mut board, 8) == (0, 8) && lent(&rt, &mut board, 12) == (12, 0));
+    assert!(rt; keep(&rt, &mut board, 8) == Some(7));
+    assert!(rt; lent(&rt, &mut board, 10) == (8, 2) && lent(&rt, &mut board, 8) == (8, 0));
+    assert!(rt; keep(&rt, &mut board, 10) == Some(9));
+    assert!(rt; matches!(board.shard.lend(&board.key, 13), Err(Code::E4)));
 }
 
 // Asserts that the entries that are taken have these versions.

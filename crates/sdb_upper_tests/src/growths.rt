@@ -185,6 +185,57 @@ fn a_commit_in_one_step(rt: HostRuntime) {
     assert!(rt; present(&rt, &mut board) == (5, Some(5)));
 }
 
+// Decides a work at last between marks, and its submission once more where there was no memory.
+fn commit_last_again(rt: &impl Abort, board: &mut Board, work: Work) -> Answered {
+    let submission = work.submission().try_clone().expect(rt, "out of memory");
+    let before = present(rt, board);
+    mark(rt, board.alloc);
+    let first = stored(&board.shard.commit_last(&board.key, work));
+    mark(rt, board.alloc);
+    if first.is_some() {
+        return first;
+    }
+    if present(rt, board) != before {
+        return None;
+    }
+    commit_now(board, &submission)
+}
+
+// After the work another edit is stored.
+#[test]
+fn a_last_commit(rt: HostRuntime) {
+    let mut board = full(&rt, rt.alloc());
+    let work = late_work(&rt, &board);
+    board.put(&rt, adding(&rt, rt.alloc(), "y", None));
+    assert!(rt; commit_last_again(&rt, &mut board, work) == Some((5, 2)));
+    assert!(rt; present(&rt, &mut board) == (6, Some(6)));
+}
+
+// The document at version 3, replayed between marks, and once more where there was no memory.
+fn replay_again(rt: &impl Abort, board: &mut Board) -> Option<usize> {
+    mark(rt, board.alloc);
+    let first = replayed(board);
+    mark(rt, board.alloc);
+    match first {
+        Err(Code::E10) => replayed(board).expect(rt, "out of memory"),
+        first => first.expect(rt, "refused"),
+    }
+}
+
+fn replayed(board: &mut Board) -> Result<Option<usize>, Code> {
+    let lent = board.shard.lend(&board.key, 3)?;
+    let snapshot = lent.replay(board.alloc)?;
+    board.shard.offer(&board.key, 3, snapshot.as_ref());
+    Ok(count(snapshot.as_ref()))
+}
+
+#[test]
+fn a_replay(rt: HostRuntime) {
+    let mut board = full(&rt, rt.alloc());
+    assert!(rt; replay_again(&rt, &mut board) == Some(3));
+    assert!(rt; present(&rt, &mut board) == (4, Some(4)));
+}
+
 // Opens a queue at version 1 between marks, at the second time where the first one finds no memory.
 fn subscribe_again(rt: &impl Abort, board: &mut Board) -> Subscribed {
     mark(rt, board.alloc);

@@ -91,6 +91,10 @@ impl Desk for Meddling {
         pass.shard.commit_now(key, submission)
     }
 
+    fn commit_last(&self, pass: &mut Shared, key: &Key, work: Work) -> Reply {
+        pass.shard.commit_last(key, work)
+    }
+
     fn version(&self, pass: &mut Shared, key: &Key) -> u64 {
         pass.shard.version(key)
     }

@@ -1,0 +1,146 @@
+"""Measures what one client's long edits cost those who edit other documents: bystanders.py SERVER [EDITS]
+
+One document gets 1,000 operations of 256 components. Then one client sends operations of 256 components made at
+version 1 of it, so each is carried over all of them, while another one edits it without a pause, so each finds that the
+log has moved. Beside both a bystander sends 10,000 edits (or EDITS) to sixteen other documents in turn, of which some
+share the document's lock. Printed are the middle and the slowest acknowledgement of the bystander, first without the
+other two.
+
+SERVER is the program of the server. It is started at a port of its own and stopped at the end."""
+import json
+import multiprocessing
+import socket
+import subprocess
+import sys
+import time
+
+TYPE = "http://sharejs.org/types/JSONv0"
+COMPONENTS = 256
+LONG = 1_000
+DOCUMENTS = 16
+
+
+class Client:
+    """One session over a WebSocket. Its frames are masked by zeros, so that nothing has to be computed."""
+
+    def __init__(self, port, source):
+        self.socket = socket.create_connection(("127.0.0.1", port))
+        self.socket.setsockopt(socket.IPPROTO_TCP, socket.TCP_NODELAY, 1)
+        self.input = self.socket.makefile("rb", buffering=1 << 20)
+        self.source, self.seq = source, 0
+        self.socket.sendall(
+            b"GET / HTTP/1.1\r\nHost: localhost\r\nUpgrade: websocket\r\nConnection: Upgrade\r\n"
+            b"Sec-WebSocket-Key: AAAAAAAAAAAAAAAAAAAAAA==\r\nSec-WebSocket-Version: 13\r\n\r\n"
+        )
+        while self.input.readline() != b"\r\n":
+            pass
+        self.receive()
+
+    def send(self, message):
+        text = json.dumps(message, separators=(",", ":")).encode()
+        if len(text) < 126:
+            head = bytes([0x81, 0x80 | len(text)])
+        elif len(text) < 65_536:
+            head = bytes([0x81, 0xFE]) + len(text).to_bytes(2, "big")
+        else:
+            head = bytes([0x81, 0xFF]) + len(text).to_bytes(8, "big")
+        self.socket.sendall(head + bytes(4) + text)
+
+    def receive(self):
+        head = self.input.read(2)
+        if len(head) < 2:
+            raise EOFError
+        length = head[1]
+        if length == 126:
+            length = int.from_bytes(self.input.read(2), "big")
+        elif length == 127:
+            length = int.from_bytes(self.input.read(8), "big")
+        text = self.input.read(length)
+        return text if head[0] & 15 == 1 else self.receive()
+
+    def submit(self, document, **content):
+        """Sends an operation and waits until it is acknowledged; what others have stored comes before."""
+        self.seq += 1
+        self.send({"a": "op", "c": "boards", "d": document, "src": self.source, "seq": self.seq, **content})
+        own = b'"seq":%d,"src":"%s"' % (self.seq, self.source.encode())
+        while True:
+            text = self.receive()
+            if b'"error"' in text:
+                raise RuntimeError(text)
+            if own in text:
+                return
+
+
+def long_edit():
+    return [{"p": ["t", 0], "si": "x"}] * COMPONENTS
+
+
+def start(server):
+    with socket.socket() as free:
+        free.bind(("127.0.0.1", 0))
+        port = free.getsockname()[1]
+    program = subprocess.Popen([server, f"127.0.0.1:{port}"])
+    for _ in range(100):
+        try:
+            socket.create_connection(("127.0.0.1", port)).close()
+            return program, port
+        except OSError:
+            time.sleep(0.05)
+    raise RuntimeError("the server doesn't listen")
+
+
+def bystand(client, edits):
+    took = []
+    for number in range(edits):
+        start = time.perf_counter()
+        client.submit(f"b{number % DOCUMENTS}", op=[{"p": ["n"], "na": 1}])
+        took.append(time.perf_counter() - start)
+    took.sort()
+    return took[len(took) // 2], took[-1]
+
+
+def repeat(port, source, edit, count):
+    client = Client(port, source)
+    try:
+        while True:
+            client.submit("a", **edit)
+            count.value += 1
+    except (EOFError, OSError):
+        pass
+
+
+def report(name, client, edits):
+    middle, slowest = bystand(client, edits)
+    print(f"{name}: middle {middle * 1e6:.0f} us, slowest {slowest * 1e3:.1f} ms", flush=True)
+
+
+def main(server, edits=10_000):
+    program, port = start(server)
+    try:
+        bystander, author = Client(port, "bystander"), Client(port, "author")
+        for number in range(DOCUMENTS):
+            bystander.submit(f"b{number}", create={"type": TYPE, "data": {"n": 0}})
+        author.submit("a", create={"type": TYPE, "data": {"t": "", "n": 0}})
+        for _ in range(LONG):
+            author.submit("a", op=long_edit())
+        report("alone", bystander, edits)
+        late, stored = multiprocessing.Value("q"), multiprocessing.Value("q")
+        one = {"op": [{"p": ["n"], "na": 1}]}
+        others = [
+            multiprocessing.Process(target=repeat, daemon=True, args=(port, "late", {"v": 1, "op": long_edit()}, late)),
+            multiprocessing.Process(target=repeat, daemon=True, args=(port, "storer", one, stored)),
+        ]
+        for other in others:
+            other.start()
+        time.sleep(1)
+        report("beside", bystander, edits)
+        print(f"meanwhile {late.value} late operations and {stored.value} others were acknowledged")
+        for other in others:
+            other.kill()
+    finally:
+        program.kill()
+        program.wait()
+
+
+if __name__ == "__main__":
+    main(sys.argv[1], *map(int, sys.argv[2:]))

@@ -1,0 +1,71 @@
+//! What older versions of a document are made of, lent to be replayed without the documents.
+ghost use Rattle.std.specs.Prelude.{◌≡◌, ◌<◌, [], true, length, is_some, Some, None, IfOk, IfErr, OnErr, option_map};
+ghost use Rattle.sdb_value.specs.View.{view};
+ghost use Rattle.sdb_oplog.specs.Snap.{snap_from};
+ghost use Rattle.sdb_desk.specs.View.{plain_lent};
+ghost use Rattle.sdb_oplog.specs.declared.codes.Code.TheVariants.{E10};
+
+use sdb_oplog::{Code, Entry};
+use sdb_value::Json;
+use std::alloc::Global;
+
+/// What the document at a version is made of: the document at a version before it, or there, and the stored
+/// operations from there on. All of it is shared with the shard.
+#[derive(Drop)]
+pub struct Lent {
+    /// The version of the snapshot.
+    pub version: u64,
+    /// The document there.
+    pub snapshot: Option<Json>,
+    /// The operations that were stored from there on.
+    pub entries: Vec<Entry>,
+}
+
+impl Lent {
+    /// The document that it makes: the operations are applied to a copy of the snapshot, one by one, which
+    /// shares what they don't touch. All of it is shared, so that a copy of it is a pointer. E10 is want of
+    /// memory, where there are operations.
+    pub fn replay(self, alloc: Global) -> Result<Option<Json>, Code>
+        requires { is_some (snap_from (option_map view self.snapshot) self.entries.items) ≡ true }
+        ensures ok { IfOk result
+            (λ d. snap_from (option_map view self.snapshot) self.entries.items ≡ Some (option_map view d)) }
+        ensures err { IfErr result (λ code. code ≡ E10) }
+        ensures memory { OnErr result (0 < length self.entries.items) }
+    {
+        let Lent {
+            snapshot, entries, ..
+        } = self;
+        if entries.is_empty() {
+            return Ok(snapshot);
+        }
+        let mut replayed = replay(alloc, snapshot, entries.as_slice())?;
+        if let Some(value) = &mut replayed {
+            value.share(alloc)?;
+        }
+        Ok(replayed)
+    }
+}
+
+// What is lent where nothing is stored.
+pub(crate) fn nothing_lent(alloc: Global) -> Lent
+    ensures { plain_lent result ≡ record { version = 0; snapshot = None; entries = [] } }
+{
+    Lent {
+        version: 0,
+        snapshot: None,
+        entries: Vec::new(alloc),
+    }
+}
+
+// The document after these operations, from this one on.
+fn replay(alloc: Global, snapshot: Option<Json>, entries: &[Entry]) -> Result<Option<Json>, Code>
+    requires { is_some (snap_from (option_map view snapshot) entries.now) ≡ true }
+    ensures ok { IfOk result (λ d. snap_from (option_map view snapshot) entries.now ≡ Some (option_map view d)) }
+    ensures err { IfErr result (λ code. code ≡ E10) }
+{
+    let mut replayed = snapshot;
+    for entry in entries {
+        entry.content().apply_to(alloc, &mut replayed)?;
+    }
+    Ok(replayed)
+}
