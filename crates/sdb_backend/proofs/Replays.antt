@@ -48,7 +48,7 @@ lent_whole log v l h none = lent_at log v l l.snapshot h (ap (snap_from l.snapsh
 -- ---- what is answered
 
 due_or : (b : Bool) (log : List PlainEntry) (v : ℕ) → nat_lt (length log) v ≡ b → v ≤ length log
-    → cond b (Err E4) (Ok (record { version = v; snapshot = document (take v log) })) ≡ Ok (record { version = v; snapshot = document (take v log) })
+    → cond {A = Result PlainFetched Code} b (Err E4) (Ok (record { version = v; snapshot = document (take v log) })) ≡ Ok (record { version = v; snapshot = document (take v log) })
 due_or true log v is within = let no : nat_lt (length log) v ≡ false = le-ltb (length log) v within in cc
 due_or false log v is within = refl
 
@@ -64,7 +64,7 @@ take_none : (log : List PlainEntry) → take 0 log ≡ []
 take_none [] = refl
 take_none (e ∷ es) = refl
 
-drop_none : (w : ℕ) → drop w [] ≡ ([] : List PlainEntry)
+drop_none : (w : ℕ) → drop {A = PlainEntry} w [] ≡ []
 drop_none zero = refl
 drop_none (suc w) = refl
 

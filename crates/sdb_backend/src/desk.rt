@@ -13,7 +13,7 @@ use crate::jobs::{
     Subscribe, Take, Unsubscribe, Version,
 };
 use crate::seats::Pass;
-use sdb_desk::{Fetched, Look, Outcome, Reply, Subscribed, Work};
+use sdb_desk::{Fetched, Lent, Look, Outcome, Reply, Subscribed, Work};
 use sdb_oplog::{Code, Entry, Key, Submission};
 use sdb_submit::{Desk, Gate, submit};
 use sdb_subscribe::SubId;
@@ -121,19 +121,17 @@ impl<R: Wait + Drop> Backend<R> {
             (told_fetched result) pass.new }
     {
         let lent = self.run(pass, key, Lend { key, version })?;
-        let is_replayed = !lent.entries.is_empty();
-        let snapshot = lent.replay(self.alloc)?;
-        if is_replayed {
-            self.run(
-                pass,
-                key,
-                Offer {
-                    key,
-                    version,
-                    snapshot: snapshot.as_ref(),
-                },
-            );
+        if lent.entries.is_empty() {
+            let Lent { snapshot, .. } = lent;
+            return Ok(Fetched { version, snapshot });
         }
+        let snapshot = lent.replay(self.alloc)?;
+        let offer = Offer {
+            key,
+            version,
+            snapshot: &snapshot,
+        };
+        self.run(pass, key, offer);
         Ok(Fetched { version, snapshot })
     }
 }

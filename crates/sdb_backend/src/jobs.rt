@@ -154,17 +154,17 @@ impl<'a> Job<Held> for Lend<'a> {
 pub(crate) struct Offer<'a> {
     pub(crate) key: &'a Key,
     pub(crate) version: u64,
-    pub(crate) snapshot: Option<&'a Json>,
+    pub(crate) snapshot: &'a Option<Json>,
 }
 
 impl<'a> Job<Held> for Offer<'a> {
     type Answer = ();
 
     ghost ready = { λ j n a. IsAt (logs_of a.shard (plain_key j.key.now)) j.version
-        (option_map (λ v. view v.now) j.snapshot) };
+        (option_map view j.snapshot.now) };
 
     ghost does = { λ j n a b r. IsAt (logs_of a.shard (plain_key j.key.now)) j.version
-        (option_map (λ v. view v.now) j.snapshot) × Same (machine_of a.shard) (machine_of b.shard) };
+        (option_map view j.snapshot.now) × Same (machine_of a.shard) (machine_of b.shard) };
 
     fn run(self, _number: u64, held: &mut Held) {
         let Self {
@@ -172,7 +172,7 @@ impl<'a> Job<Held> for Offer<'a> {
             version,
             snapshot,
         } = self;
-        held.shard.offer(key, version, snapshot)
+        held.shard.offer(key, version, snapshot.as_ref())
     }
 }
 
