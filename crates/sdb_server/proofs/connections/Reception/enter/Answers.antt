@@ -1,5 +1,5 @@
 use Rattle.std.proofs.Common.{arith}
-use Rattle.sdb_server.proofs.connections.ConnectionThreads.admit.Goals as goal
+use Rattle.sdb_server.proofs.connections.Reception.enter.Goals as goal
 
 pub overflow_add-self : goal.overflow_add-self
 overflow_add-self g c =
