@@ -114,14 +114,14 @@ pub fn serve<R: Wait + Drop, S: Read + Write + Drop>(
 
 /// Serves a client as [`serve`] does, and also ends its session, with the status 1001, once the server is
 /// ending.
-pub(crate) fn serve_until<R: Wait + Drop, S: Read + Write + Drop>(
+pub(crate) fn serve_until<'a, R: Wait + Drop, S: Read + Write + Drop>(
     rt: &R,
     alloc: Global,
-    socket: &mut WebSocket<DeadlineStream<S>, NoMask>,
-    backend: &Backend<R>,
+    socket: &'a mut WebSocket<DeadlineStream<S>, NoMask>,
+    backend: &'a Backend<R>,
     pass: Pass,
-    table: &Table,
-    is_ending: &AtomicBool,
+    table: &'a Table,
+    is_ending: &'a AtomicBool,
 ) -> Served
     requires { IsPass pass backend.now }
     ensures pass { IsPass result.pass backend.now }
