@@ -8,6 +8,7 @@ use Rattle.sdb_projection.specs.contracts.table.Table as Table
 use Rattle.sdb_backend.proofs.Crossing.{Backend-send, Backend-sync, Pass-send}
 use Rattle.sdb_server.specs.contracts.server_state.ServerState as ServerState
 use Rattle.sdb_server.specs.contracts.server_state.Slot as Slot
+use Rattle.sdb_server.specs.contracts.session_end.SessionEnd as SessionEnd
 use Rattle.sdb_server.specs.contracts.websocket_session.Served as Served
 
 Table-send : IsSend Table.the_row
@@ -19,8 +20,12 @@ Table-sync = search (sendable, crosses, maps.crosses) depth 20
 Slot-send : IsSend Slot.the_row
 Slot-send = search (sendable, crosses) depth 20
 
+End-send : IsSend SessionEnd.the_row
+End-send = search (sendable, crosses) depth 20
+
 pub Served-send : IsSend Served.the_row
-Served-send = search (Pass-send, sendable, crosses) depth 20
+Served-send =
+    declared_send Served.the_type (Pass-send, (End-send, (search (sendable, crosses) depth 20, (search (sendable, crosses) depth 20, (search (sendable, crosses) depth 20, tt)))))
 
 module _ (R : RattleType) where
   pub ServerState-send : IsSend R → IsSend (ServerState.the_row R)

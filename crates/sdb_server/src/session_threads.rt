@@ -137,11 +137,7 @@ impl<R: Wait + Drop> SessionThreads<R> {
         let run = move || -> Served
             requires { IsPass pass theirs.value.backend }
             ensures { IsPass result.pass theirs.value.backend }
-        {
-            let served = theirs.serve(&rt, alloc, stream, pass);
-            theirs.note_end(&rt, Slot::Session(slot));
-            served
-        };
+        { serve_in(theirs, rt, alloc, slot, stream, pass) };
         match thread::spawn_with(&rt, promise, run) {
             Ok(handle) => {
                 self.put(slot, handle);
@@ -215,4 +211,21 @@ impl<R: Wait + Drop> SessionThreads<R> {
         let SessionThreads { passes, .. } = self;
         passes
     }
+}
+
+// What a session's thread does: it serves a client, and notes that it is about to end.
+fn serve_in<R: Wait + Drop>(
+    state: Arc<ServerState<R>, Global>,
+    rt: R,
+    alloc: Global,
+    slot: usize,
+    stream: TcpStream,
+    pass: Pass,
+) -> Served
+    requires { IsPass pass state.value.backend }
+    ensures { IsPass result.pass state.value.backend }
+{
+    let served = state.serve(&rt, alloc, stream, pass);
+    state.note_end(&rt, Slot::Session(slot));
+    served
 }

@@ -9,6 +9,6 @@ pub returns : goal.returns
 returns g c = record {
   backend = λ b a.
       let left = c.give_back.ensures.backend b a in
-      let of = subst (λ x. IsPass c.join-end.result.pass x) (c.in_ok-handle.ensures.handle b left) c.join-end.ensures in
+      let of = subst (λ x. IsPass c.join-pass.result.pass x) (c.in_ok-handle.ensures.handle b left) c.join-pass.ensures in
       c.keep.ensures b of (c.take.ensures.backend b left);
 }

@@ -13,7 +13,7 @@ spawn_with-requires-send-F g c κs within =
     search (ServerState-send, ServerState-sync, Pass-send, sendable, crosses) depth 40
 
 pub spawn_with-requires-send-T : goal.spawn_with-requires-send-T
-spawn_with-requires-send-T g c κs within = Served-send
+spawn_with-requires-send-T g c κs within = search (Served-send, sendable, crosses) depth 20
 
 pub returns : goal.returns
 returns g c =
