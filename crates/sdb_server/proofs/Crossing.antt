@@ -1,13 +1,15 @@
--- What the threads of connections share.
+-- What the threads of connections share, and what they leave.
 use denote.RattleType.{RattleType}
 use denote.Param.Send.{IsSend, IsSync, sendable}
 use denote.Param.SendFields.{declared_send, declared_sync}
 use Rattle.std.proofs.Crossing.{crosses}
 use Rattle.std.proofs.MapsCrossing as maps
 use Rattle.sdb_projection.specs.contracts.table.Table as Table
-use Rattle.sdb_backend.proofs.Crossing.{Backend-send, Backend-sync}
-use Rattle.sdb_server.specs.contracts.connections.ServerState as ServerState
-use Rattle.sdb_server.specs.contracts.connections.Slots as Slots
+use Rattle.sdb_backend.proofs.Crossing.{Backend-send, Backend-sync, Pass-send}
+use Rattle.sdb_server.specs.contracts.server_state.ServerState as ServerState
+use Rattle.sdb_server.specs.contracts.server_state.Slot as Slot
+use Rattle.sdb_server.specs.contracts.session_end.SessionEnd as SessionEnd
+use Rattle.sdb_server.specs.contracts.websocket_session.Served as Served
 
 Table-send : IsSend Table.the_row
 Table-send = search (sendable, crosses, maps.crosses) depth 20
@@ -15,12 +17,19 @@ Table-send = search (sendable, crosses, maps.crosses) depth 20
 Table-sync : IsSync Table.the_row
 Table-sync = search (sendable, crosses, maps.crosses) depth 20
 
-Slots-send : IsSend Slots.the_row
-Slots-send = search (sendable, crosses) depth 20
+Slot-send : IsSend Slot.the_row
+Slot-send = search (sendable, crosses) depth 20
+
+End-send : IsSend SessionEnd.the_row
+End-send = search (sendable, crosses) depth 20
+
+pub Served-send : IsSend Served.the_row
+Served-send =
+    declared_send Served.the_type (Pass-send, (End-send, (search (sendable, crosses) depth 20, (search (sendable, crosses) depth 20, (search (sendable, crosses) depth 20, tt)))))
 
 module _ (R : RattleType) where
   pub ServerState-send : IsSend R → IsSend (ServerState.the_row R)
-  ServerState-send s = declared_send (ServerState.the_type R) (Backend-send R s, (Table-send, (search (crosses, Slots-send) depth 5, tt)))
+  ServerState-send s = declared_send (ServerState.the_type R) (Backend-send R s, (Table-send, search (crosses, sendable, Slot-send) depth 12))
 
   pub ServerState-sync : IsSync R → IsSync (ServerState.the_row R)
-  ServerState-sync y = declared_sync (ServerState.the_type R) (Backend-sync R y, (Table-sync, (search (crosses, Slots-send) depth 5, tt)))
+  ServerState-sync y = declared_sync (ServerState.the_type R) (Backend-sync R y, (Table-sync, search (crosses, sendable, Slot-send) depth 12))

@@ -2,3 +2,4 @@ pub mod Runs
 pub mod Served
 pub mod Source
 pub mod State
+pub mod Threads

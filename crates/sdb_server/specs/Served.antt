@@ -4,7 +4,7 @@ use Rattle.sdb_backend.specs.Passes.{number_of, IsPass, IsHost}
 use Rattle.sdb_backend.specs.declared.backend.Backend.{Backend}
 use Rattle.sdb_backend.specs.declared.seats.Host.{Host}
 use Rattle.sdb_backend.specs.declared.seats.Pass.{Pass}
-use Rattle.sdb_server.specs.declared.connections.ServerState.{ServerState}
+use Rattle.sdb_server.specs.declared.server_state.ServerState.{ServerState}
 
 module _ {R : Type 0} where
   -- the backend is the same one, and the pass is one of it, with the number that it had

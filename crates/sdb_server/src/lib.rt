@@ -2,14 +2,22 @@
 //! clients in and serves each on a thread of its own.
 #![tactic(auto)]
 
+mod answers;
 mod connections;
 mod deadline_stream;
+mod journal;
 mod line_session;
+mod opening_handshake;
+mod server_state;
+mod session_end;
+mod session_threads;
+mod visit_threads;
 mod websocket_session;
 
-pub use connections::{CLIENT_LIMIT, ServerState, listen, set_socket_options};
+pub use connections::{listen, listen_until_stopped};
 pub use deadline_stream::DeadlineStream;
 pub use line_session::run_lines;
+pub use server_state::{CLIENT_LIMIT, ServerState, set_socket_options};
 pub use websocket_session::serve;
 
 // The most entries that are taken of one queue at a time.

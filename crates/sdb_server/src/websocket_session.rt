@@ -4,13 +4,16 @@ ghost use Rattle.sdb_backend.specs.Passes.{number_of, IsPass};
 ghost use Rattle.sdb_server.specs.Served.{KeepsPass};
 
 use crate::TAKE_LIMIT;
+use crate::answers::Answers;
 use crate::deadline_stream::DeadlineStream;
+use crate::session_end::SessionEnd;
 use sdb_backend::{Backend, Pass};
 use sdb_projection::Table;
 use sdb_session::Session;
-use std::alloc::{AllocError, Global};
+use std::alloc::Global;
 use std::io::{Error as IoError, ErrorKind, Read, Write};
 use std::sync::Wait;
+use std::sync::atomic::{AtomicBool, Ordering};
 use tungstenite::{
     Bytes, CloseCode, CloseFrame, Error, Message, NoMask, Role, Utf8Bytes, WebSocket,
 };
@@ -32,50 +35,6 @@ const DRAIN_BYTE_LIMIT: usize = 4_096;
 
 // How many of these may find nothing: with a read timeout of 20 milliseconds a second.
 const DRAIN_SILENCE_LIMIT: u64 = 50;
-
-// Why a session ends.
-#[derive(Clone, Copy, Drop)]
-enum SessionEnd {
-    // The client has closed the connection, or it is broken.
-    Gone,
-    // The message is longer than a message may be, so what follows it can't be told apart from it.
-    TooLong,
-    // The server closes, and says why.
-    Closed(CloseCode),
-}
-
-impl From<AllocError> for SessionEnd {
-    fn from(_: AllocError) -> SessionEnd {
-        SessionEnd::Closed(CloseCode::Error)
-    }
-}
-
-impl From<sdb_session::Ended> for SessionEnd {
-    fn from(_: sdb_session::Ended) -> SessionEnd {
-        SessionEnd::Closed(CloseCode::Error)
-    }
-}
-
-impl From<Error> for SessionEnd {
-    fn from(error: Error) -> SessionEnd {
-        match error {
-            Error::Capacity(_) => SessionEnd::TooLong,
-            Error::Protocol(_) => SessionEnd::Closed(CloseCode::Protocol),
-            Error::Utf8 => SessionEnd::Closed(CloseCode::Invalid),
-            Error::OutOfMemory => SessionEnd::Closed(CloseCode::Error),
-            Error::Io(error) => end_of(&error),
-            _ => SessionEnd::Gone,
-        }
-    }
-}
-
-// A client that was given up is told so, as one that is silent.
-fn end_of(error: &IoError) -> SessionEnd {
-    match error.kind() {
-        ErrorKind::ConnectionAborted => SessionEnd::Closed(CloseCode::Away),
-        _ => SessionEnd::Gone,
-    }
-}
 
 // What is still said to a client whose session has ended.
 #[derive(Drop)]
@@ -104,9 +63,27 @@ struct Client<'a, R: Wait, S> {
     socket: &'a mut WebSocket<DeadlineStream<S>, NoMask>,
     backend: &'a Backend<R>,
     table: &'a Table,
+    is_ending: &'a AtomicBool,
     pass: Pass,
     session: Session,
     silent_reads: u64,
+    messages: u64,
+    operations: u64,
+}
+
+/// How a client was served.
+#[derive(Drop)]
+pub(crate) struct Served {
+    /// The pass that it was served with.
+    pub(crate) pass: Pass,
+    /// Why its session ended.
+    pub(crate) end: SessionEnd,
+    /// Its source at the end, as a text of JSON, where there was memory for it.
+    pub(crate) source: Option<String>,
+    /// How many messages came from it.
+    pub(crate) messages: u64,
+    /// How many of them were operations that were acknowledged.
+    pub(crate) operations: u64,
 }
 
 /// Serves a client at a socket until one of both closes it, and gives the pass back. The session's
@@ -131,25 +108,53 @@ pub fn serve<R: Wait + Drop, S: Read + Write + Drop>(
     ensures pass { IsPass result backend.now }
     ensures number { number_of result ≡ number_of pass }
 {
+    let is_ending = AtomicBool::new(false);
+    serve_until(rt, alloc, socket, backend, pass, table, &is_ending).pass
+}
+
+/// Serves a client as [`serve`] does, and also ends its session, with the status 1001, once the server is
+/// ending.
+pub(crate) fn serve_until<'a, R: Wait + Drop, S: Read + Write + Drop>(
+    rt: &R,
+    alloc: Global,
+    socket: &'a mut WebSocket<DeadlineStream<S>, NoMask>,
+    backend: &'a Backend<R>,
+    pass: Pass,
+    table: &'a Table,
+    is_ending: &'a AtomicBool,
+) -> Served
+    requires { IsPass pass backend.now }
+    ensures pass { IsPass result.pass backend.now }
+    ensures number { number_of result.pass ≡ number_of pass }
+{
     let number = pass.number();
     let Ok(source) = format!(in alloc; "s{number}") else {
         close_and_drain(socket, CloseCode::Error);
-        return pass;
+        return Served {
+            pass,
+            end: SessionEnd::Memory,
+            source: None,
+            messages: 0,
+            operations: 0,
+        };
     };
     let mut client = Client {
         alloc,
         socket,
         backend,
         table,
+        is_ending,
         pass,
         session: Session::new(alloc, source),
         silent_reads: 0,
+        messages: 0,
+        operations: 0,
     };
     let end = client.converse(rt);
     let farewell = client.farewell(end);
-    let (socket, pass) = client.leave();
+    let (socket, served) = client.leave(end);
     say_farewell(alloc, socket, farewell);
-    pass
+    served
 }
 
 impl<'a, R: Wait + Drop, S: Read + Write + Drop> Client<'a, R, S> {
@@ -179,11 +184,15 @@ impl<'a, R: Wait + Drop, S: Read + Write + Drop> Client<'a, R, S> {
         Ok(())
     }
 
-    // One read, its answers, and what was stored meanwhile. They go out together.
+    // One read, its answers, and what was stored meanwhile. They go out together. Nothing is read any more
+    // once the server is ending.
     fn turn(&mut self) -> Result<(), SessionEnd>
         requires { IsPass self.old.pass self.old.backend.now }
         ensures { KeepsPass self.old.backend.now self.old.pass self.new.backend.now self.new.pass }
     {
+        if self.is_ending.load(Ordering::SeqCst) {
+            return Err(SessionEnd::Stopped);
+        }
         let incoming = next_incoming(self.socket)?;
         self.restart_deadline(&incoming);
         self.answer(&incoming)?;
@@ -198,19 +207,31 @@ impl<'a, R: Wait + Drop, S: Read + Write + Drop> Client<'a, R, S> {
         ensures { KeepsPass self.old.backend.now self.old.pass self.new.backend.now self.new.pass }
     {
         match incoming {
-            Incoming::Text(text) => {
-                let texts = self
-                    .session
-                    .handle(self.backend, &mut self.pass, self.table, text.as_str())?;
-                self.say_all(texts)
-            }
-            Incoming::Binary => {
-                let mut texts = Vec::new(self.alloc);
-                self.session.refuse_to(&mut texts)?;
-                self.say_all(texts)
-            }
+            Incoming::Text(text) => self.answer_text(text.as_str()),
+            Incoming::Binary => self.answer_binary(),
             Incoming::Control | Incoming::Silence => Ok(()),
         }
+    }
+
+    fn answer_text(&mut self, text: &str) -> Result<(), SessionEnd>
+        requires { IsPass self.old.pass self.old.backend.now }
+        ensures { KeepsPass self.old.backend.now self.old.pass self.new.backend.now self.new.pass }
+    {
+        self.messages = self.messages.saturating_add(1);
+        let mut answers = Answers::new(self.alloc);
+        self.session.handle_to(self.backend, &mut self.pass, self.table, text, &mut answers)?;
+        self.operations = self.operations.saturating_add(answers.acknowledged);
+        self.say_all(answers.texts)
+    }
+
+    fn answer_binary(&mut self) -> Result<(), SessionEnd>
+        requires { IsPass self.old.pass self.old.backend.now }
+        ensures { KeepsPass self.old.backend.now self.old.pass self.new.backend.now self.new.pass }
+    {
+        self.messages = self.messages.saturating_add(1);
+        let mut texts = Vec::new(self.alloc);
+        self.session.refuse_to(&mut texts)?;
+        self.say_all(texts)
     }
 
     // Sends what was stored meanwhile.
@@ -254,7 +275,7 @@ impl<'a, R: Wait + Drop, S: Read + Write + Drop> Client<'a, R, S> {
             self.socket.write(Message::Ping(Bytes::new()))?;
         }
         if self.silent_reads >= SILENCE_LIMIT {
-            return Err(SessionEnd::Closed(CloseCode::Away));
+            return Err(SessionEnd::Silent);
         }
         Ok(())
     }
@@ -283,10 +304,12 @@ impl<'a, R: Wait + Drop, S: Read + Write + Drop> Client<'a, R, S> {
         requires { IsPass self.old.pass self.old.backend.now }
         ensures { KeepsPass self.old.backend.now self.old.pass self.new.backend.now self.new.pass }
     {
-        match end {
-            SessionEnd::Gone => Farewell::Nothing,
-            SessionEnd::TooLong => self.refusal(),
-            SessionEnd::Closed(code) => Farewell::Close(code),
+        if let SessionEnd::TooLong = end {
+            return self.refusal();
+        }
+        match end.close_code() {
+            Some(code) => Farewell::Close(code),
+            None => Farewell::Nothing,
         }
     }
 
@@ -301,22 +324,41 @@ impl<'a, R: Wait + Drop, S: Read + Write + Drop> Client<'a, R, S> {
         }
     }
 
-    // Closes the queues of the session, and gives the socket and the pass back.
-    fn leave(self) -> (&'a mut WebSocket<DeadlineStream<S>, NoMask>, Pass)
+    // Closes the queues of the session, and gives back the socket, the pass and how the client was served.
+    fn leave(self, end: SessionEnd) -> (&'a mut WebSocket<DeadlineStream<S>, NoMask>, Served)
         requires { IsPass self.pass self.backend.now }
-        ensures pass { IsPass result.1 self.entry.backend.now }
-        ensures number { number_of result.1 ≡ number_of self.entry.pass }
+        ensures pass { IsPass result.1.pass self.entry.backend.now }
+        ensures number { number_of result.1.pass ≡ number_of self.entry.pass }
     {
         let Client {
+            alloc,
             socket,
             backend,
             mut pass,
             session,
+            messages,
+            operations,
             ..
         } = self;
+        let source = source_of(alloc, &session);
         session.end(backend, &mut pass);
-        (socket, pass)
+        let served = Served {
+            pass,
+            end,
+            source,
+            messages,
+            operations,
+        };
+        (socket, served)
     }
+}
+
+// The source of a session as its opening shows it, a text of JSON.
+fn source_of(alloc: Global, session: &Session) -> Option<String> {
+    let opening = session.opening().ok()?;
+    let (_, rest) = opening.as_str().split_once(r#""id":"#)?;
+    let (source, _) = rest.split_once(r#","protocol":"#)?;
+    String::from_str(alloc, source).ok()
 }
 
 // Says what is still to be said, and closes the connection.
@@ -403,7 +445,8 @@ pub(crate) fn close_and_drain<S: Read + Write + Drop>(
     }
 }
 
-fn drain<S: Read>(stream: &mut S) {
+/// Throws away what comes for a while.
+pub(crate) fn drain<S: Read>(stream: &mut S) {
     let mut bytes = [0; DRAIN_BYTE_LIMIT];
     let mut silent_reads = 0;
     for _ in 0..DRAIN_READ_LIMIT {

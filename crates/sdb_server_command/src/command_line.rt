@@ -1,31 +1,39 @@
 //! The command line, and what it asks for.
+use crate::clients::{Until, serve_clients};
 use crate::projection_option::{Refusal, table_of};
 use clap::builder::ValueParser;
 use clap::{Arg, ArgAction, ArgGroup, ArgMatches, Command, Error};
-use sdb_backend::Backend;
-use sdb_command_line::{DONE, FAULT, answer_no_run, end_with, refuse};
+use sdb_command_line::{DONE, answer_no_run, end_with, refuse};
 use sdb_lines::{WatchedReader, WatchedWriter};
 use sdb_projection::{Table, TableFault};
-use sdb_server::{ServerState, listen, run_lines};
+use sdb_server::run_lines;
 use std::alloc::{AllocError, Global};
 use std::io;
-use std::io::Read;
+use std::io::{Read, StdinLock};
 use std::net::{Net, SocketAddr, TcpListener, TcpStream};
-use std::sync::{Arc, Wait};
+use std::sync::Wait;
 use std::thread::Threads;
 use std::time::Clock;
+
+// The version that `--version` tells.
+const VERSION: &str = "1.0.0";
 
 // The most connections that can be asked for.
 const CONNECTION_LIMIT: u64 = 1_000_000;
 
 fn command<'a>(alloc: Global) -> Result<Command<'a>, AllocError> {
     let connections = connections_option(alloc)?;
+    let until_eof = until_eof_option(alloc)?;
+    let log = log_option(alloc)?;
     let job = job_group(alloc)?;
     Command::new(alloc, "sdb_server")
         .about("A ShareDB server for JSON documents")
+        .version(VERSION)
         .arg(lines_option(alloc))?
         .arg(listen_option(alloc))?
         .arg(connections)?
+        .arg(until_eof)?
+        .arg(log)?
         .arg(projection_option(alloc))?
         .group(job)
 }
@@ -49,10 +57,29 @@ fn connections_option<'a>(alloc: Global) -> Result<Arg<'a>, AllocError> {
     let connections = Arg::new(alloc, "connections")
         .long("connections")
         .value_name("N")
-        .help("With --listen, ends when N connections have ended")
+        .help("With --listen, ends when N clients were served")
         .value_parser(ValueParser::unsigned(1, CONNECTION_LIMIT))
         .action(ArgAction::Set);
     connections.requires_arg("listen")?.conflicts_with("lines")
+}
+
+fn until_eof_option<'a>(alloc: Global) -> Result<Arg<'a>, AllocError> {
+    let until_eof = Arg::new(alloc, "until-eof")
+        .long("until-eof")
+        .help("With --listen, ends at the end of standard input, and tells what was stored")
+        .action(ArgAction::SetTrue);
+    until_eof
+        .requires_arg("listen")?
+        .conflicts_with("lines")?
+        .conflicts_with("connections")
+}
+
+fn log_option<'a>(alloc: Global) -> Result<Arg<'a>, AllocError> {
+    let log = Arg::new(alloc, "log")
+        .long("log")
+        .help("With --listen, tells on standard error when a client comes and goes")
+        .action(ArgAction::SetTrue);
+    log.requires_arg("listen")?.conflicts_with("lines")
 }
 
 fn projection_option<'a>(alloc: Global) -> Arg<'a> {
@@ -78,8 +105,10 @@ pub enum Job {
     Listen {
         /// Where to listen.
         address: SocketAddr,
-        /// After how many clients the run ends, from 1 to 1,000,000; `None` is without end.
-        connections: Option<u64>,
+        /// How long.
+        until: Until,
+        /// Whether the begin and the end of each session are told.
+        is_logging: bool,
     },
 }
 
@@ -102,7 +131,7 @@ pub enum Asked {
 }
 
 /// The options of a command line, whose first word is the program's name. An error is what `clap` refuses,
-/// a call for help, or want of memory.
+/// a call for help or for the version, or want of memory.
 pub fn asked_options(alloc: Global, words: &[String]) -> Result<Options, Error> {
     let matches = command(alloc)?.try_get_matches_from(words)?;
     Ok(Options {
@@ -117,16 +146,27 @@ fn asked_job(matches: &ArgMatches<'_>) -> Option<Job> {
     };
     Some(Job::Listen {
         address: address.parse().ok()?,
-        connections: matches.get_one::<u64>("connections"),
+        until: asked_until(matches),
+        is_logging: matches.get_flag("log"),
     })
 }
 
-/// Does what the words of a command line ask for, and gives the status: 0 for a good end and for help, 1 for
-/// a fault, 2 for words that are refused. It fails where memory is wanting before the run, or a line can't be
-/// printed.
+fn asked_until(matches: &ArgMatches<'_>) -> Until {
+    if matches.get_flag("until-eof") {
+        return Until::Eof;
+    }
+    match matches.get_one::<u64>("connections") {
+        Some(count) => Until::Served(count),
+        None => Until::Never,
+    }
+}
+
+/// Does what the words of a command line ask for, and gives the status: 0 for a good end, for help and for the
+/// version, 1 for a fault, 2 for words that are refused. It fails where memory is wanting before the run, or a
+/// line can't be printed.
 pub fn run<R>(rt: R, words: &[String]) -> anyhow::Result<u8>
 where
-    R: AllocGlobal + Input + Print + Eprint,
+    R: AllocGlobal + Input<Reader = StdinLock<'static>> + Print + Eprint,
     R: Net<Listener = TcpListener, Stream = TcpStream> + Threads + Wait + Clock,
     R: Copy + Drop + Send + Sync + 'static,
 {
@@ -157,7 +197,7 @@ where
 
 fn do_job<R>(rt: R, job: Job, table: Table) -> anyhow::Result<u8>
 where
-    R: AllocGlobal + Input + Print + Eprint,
+    R: AllocGlobal + Input<Reader = StdinLock<'static>> + Print + Eprint,
     R: Net<Listener = TcpListener, Stream = TcpStream> + Threads + Wait + Clock,
     R: Copy + Drop + Send + Sync + 'static,
 {
@@ -165,50 +205,10 @@ where
         Job::Lines => Ok(answer_input(&rt, rt.reader(), &table)),
         Job::Listen {
             address,
-            connections,
-        } => serve_clients(rt, address, connections, table),
+            until,
+            is_logging,
+        } => serve_clients(rt, address, until, is_logging, table),
     }
-}
-
-// Serves clients at the address.
-fn serve_clients<R>(
-    rt: R,
-    address: SocketAddr,
-    connections: Option<u64>,
-    table: Table,
-) -> anyhow::Result<u8>
-where
-    R: AllocGlobal + Print + Eprint,
-    R: Net<Listener = TcpListener, Stream = TcpStream> + Threads + Wait + Clock,
-    R: Copy + Drop + Send + Sync + 'static,
-{
-    let listener = match TcpListener::bind(&rt, address) {
-        Ok(listener) => listener,
-        Err(error) => {
-            eprintln!(rt; "error: can't listen on {address}: {error}")?;
-            return Ok(FAULT);
-        }
-    };
-    serve_at(rt, &listener, connections, table)
-}
-
-/// Serves the clients that come to the listener: so many, or without end.
-pub fn serve_at<R>(
-    rt: R,
-    listener: &TcpListener,
-    connections: Option<u64>,
-    table: Table,
-) -> anyhow::Result<u8>
-where
-    R: AllocGlobal + Print + Threads + Wait + Clock,
-    R: Copy + Drop + Send + Sync + 'static,
-{
-    let alloc = rt.alloc();
-    let (backend, mut host) = Backend::new(alloc, rt)?;
-    let state = Arc::new(alloc, ServerState::new(alloc, backend, table)?)?;
-    println!(rt; "listening {}", listener.local_addr()?)?;
-    listen(rt, alloc, listener, &state, &mut host, connections)?;
-    Ok(DONE)
 }
 
 // Says why the projections are refused. Want of memory is no refusal.

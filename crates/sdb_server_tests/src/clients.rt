@@ -14,11 +14,17 @@ pub(crate) type Client = WebSocket<TcpStream, RandomKeys<HostRuntime>>;
 // for so long.
 const PATIENCE: u64 = 20;
 
-// A client at the address, whose handshake is done.
-fn reach(rt: HostRuntime, alloc: Global, address: SocketAddr) -> Result<Client, &'static str> {
+// A connection to the address, over which nothing was sent yet.
+pub(crate) fn connect(rt: HostRuntime, address: SocketAddr) -> Result<TcpStream, &'static str> {
     let stream = TcpStream::connect(&rt, address).or(Err("no connection"))?;
     let patience = Some(Duration::from_secs(PATIENCE));
     stream.set_read_timeout(patience).or(Err("no patience"))?;
+    Ok(stream)
+}
+
+// A client at the address, whose handshake is done.
+fn reach(rt: HostRuntime, alloc: Global, address: SocketAddr) -> Result<Client, &'static str> {
+    let stream = connect(rt, address)?;
     let request = request_of(alloc, "ws://localhost/").or(Err("no request"))?;
     match client(alloc, rt, request, stream) {
         Ok((socket, _)) => Ok(socket),

@@ -3,7 +3,8 @@ use sdb_command_line::terminal::{Terminal, words};
 use sdb_command_line::{DONE, FAULT, REFUSED};
 use sdb_projection::{Projection, Table, TableFault};
 use sdb_server_command::{
-    Asked, Job, Options, Refusal, answer_input, asked_options, asked_run, run, serve_at, table_of,
+    Asked, Job, Options, Refusal, Until, answer_input, asked_options, asked_run, run, serve_at,
+    serve_until_end, table_of,
 };
 use std::alloc::Global;
 use std::fmt::Display;
@@ -33,8 +34,8 @@ fn command_lines(rt: HostRuntime) -> Result<(), Fail> {
     Ok(())
 }
 
-// The port and the number of connections that a command line asks for, where it asks to listen.
-fn asked_to_listen(alloc: Global, line: &str) -> Result<Option<(u16, Option<u64>)>, Fail> {
+// The port, how long, and whether with a log, where a command line asks to listen.
+fn asked_to_listen(alloc: Global, line: &str) -> Result<Option<(u16, Until, bool)>, Fail> {
     let given = words(alloc, line)?;
     match asked_options(alloc, given.as_slice()) {
         Ok(
@@ -42,37 +43,49 @@ fn asked_to_listen(alloc: Global, line: &str) -> Result<Option<(u16, Option<u64>
                 job: Some(
                     Job::Listen {
                         address,
-                        connections,
+                        until,
+                        is_logging,
                     },
                 ),
                 ..
             },
-        ) => Ok(Some((address.port(), connections))),
+        ) => Ok(Some((address.port(), until, is_logging))),
         _ => Ok(None),
     }
 }
 
 #[test]
-fn addresses_and_connections(rt: HostRuntime) -> Result<(), Fail> {
+fn addresses_and_how_long(rt: HostRuntime) -> Result<(), Fail> {
     for (line, wanted) in [
         (
             "sdb_server --listen 127.0.0.1:8080 --connections 2",
-            Some((8080, Some(2))),
+            Some((8080, Until::Served(2), false)),
         ),
         ("sdb_server --listen nowhere --connections 2", None),
-        ("sdb_server --listen 127.0.0.1:0", Some((0, None))),
+        (
+            "sdb_server --listen 127.0.0.1:0",
+            Some((0, Until::Never, false)),
+        ),
+        (
+            "sdb_server --listen 127.0.0.1:0 --log",
+            Some((0, Until::Never, true)),
+        ),
+        (
+            "sdb_server --until-eof --log --listen 127.0.0.1:0",
+            Some((0, Until::Eof, true)),
+        ),
         ("sdb_server --listen 127.0.0.1:0 --connections 0", None),
         (
             "sdb_server --listen 127.0.0.1:0 --connections 1",
-            Some((0, Some(1))),
+            Some((0, Until::Served(1), false)),
         ),
         (
             "sdb_server --listen 127.0.0.1:0 --connections 1001",
-            Some((0, Some(1_001))),
+            Some((0, Until::Served(1_001), false)),
         ),
         (
             "sdb_server --listen 127.0.0.1:0 --connections 1000000",
-            Some((0, Some(1_000_000))),
+            Some((0, Until::Served(1_000_000), false)),
         ),
         (
             "sdb_server --listen 127.0.0.1:0 --connections 1000001",
@@ -186,6 +199,10 @@ fn a_refused_command_line_is_one_line_on_standard_error(rt: HostRuntime) -> Resu
         "sdb_server",
         "sdb_server --lines --listen 127.0.0.1:0",
         "sdb_server --lines --connections 1",
+        "sdb_server --lines --until-eof",
+        "sdb_server --lines --log",
+        "sdb_server --until-eof",
+        "sdb_server --listen 127.0.0.1:0 --until-eof --connections 1",
         "sdb_server --listen 127.0.0.1:0 --connections 0",
         "sdb_server more",
     ] {
@@ -210,9 +227,30 @@ fn help_is_printed(rt: HostRuntime) -> Result<(), Fail> {
 }
 
 #[test]
+fn the_version_is_one_line(rt: HostRuntime) -> Result<(), Fail> {
+    let (status, terminal) = answered(rt.alloc(), "sdb_server --version")?;
+    assert!(rt; status == Some(DONE));
+    assert!(rt; terminal.err.into_inner().is_empty());
+    assert!(rt; terminal.out.into_inner().as_str() == "sdb_server 1.0.0\n");
+    Ok(())
+}
+
+#[test]
 fn a_server_that_nobody_is_to_come_to(rt: HostRuntime) -> Result<(), Fail> {
     let listener = TcpListener::bind(&rt, "127.0.0.1:0")?;
-    let status = serve_at(rt, &listener, Some(0), Table::new(rt.alloc()))?;
+    let table = Table::new(rt.alloc());
+    let status = serve_at(rt, &listener, Until::Served(0), false, table)?;
+    assert!(rt; status == DONE);
+    Ok(())
+}
+
+const TWO_LINES: &[u8] = b"one\ntwo\n";
+
+#[test]
+fn a_server_whose_input_has_ended(rt: HostRuntime) -> Result<(), Fail> {
+    let listener = TcpListener::bind(&rt, "127.0.0.1:0")?;
+    let table = Table::new(rt.alloc());
+    let status = serve_until_end(rt, &listener, TWO_LINES, false, table)?;
     assert!(rt; status == DONE);
     Ok(())
 }

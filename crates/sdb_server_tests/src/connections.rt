@@ -1,16 +1,23 @@
-//! Clients over sockets: two, many, large messages, and when the server ends.
-use crate::clients::{Client, FIRST_OPENING, ask, come, enter, expect, expect_close};
+//! Clients over sockets: two, many, large messages, requests that are no handshake, and when the server ends.
+ghost use Rattle.std.specs.Prelude.{IfOk};
+ghost use Rattle.sdb_backend.specs.Passes.{IsHost};
+ghost use Rattle.sdb_backend.specs.declared.seats.Host.{Host as Hosting};
+ghost use Rattle.sdb_server.specs.Served.{IsHostOf};
+
+use crate::clients::{Client, FIRST_OPENING, ask, come, connect, enter, expect, expect_close};
 use sdb_backend::Backend;
+use sdb_oplog::Log;
 use sdb_projection::Table;
-use sdb_server::{ServerState, listen, set_socket_options};
-use std::alloc::Global;
-use std::net::{SocketAddr, TcpListener, TcpStream};
+use sdb_server::{ServerState, listen, listen_until_stopped, set_socket_options};
+use std::alloc::{AllocError, Global};
+use std::io::Write;
+use std::net::{Shutdown, SocketAddr, TcpListener, TcpStream};
 use std::sync::atomic::{AtomicBool, Ordering};
 use std::sync::{Arc, Wait};
 use std::test::Fail;
-use std::thread;
 use std::thread::Threads;
 use std::time::{Clock, Duration};
+use std::{io, thread};
 use tungstenite::CloseCode;
 
 // How many clients are served at once, and how many come in all.
@@ -31,14 +38,26 @@ const FETCHED: &str = r#"{"a":"f","c":"b","d":"1","data":{"type":null,"v":0}}"#;
 const BADLY_FORMED: &str =
     r#"{"error":{"code":"ERR_MESSAGE_BADLY_FORMED","message":"message is badly formed"}}"#;
 
+// A server without documents and projections.
+fn server<R: Wait + Drop>(
+    alloc: Global,
+    backend: Backend<R>,
+    is_logging: bool,
+) -> Result<Arc<ServerState<R>, Global>, AllocError>
+    ensures { IfOk result (λ s. (h : Hosting) → IsHost h backend → IsHostOf h s.value) }
+{
+    let state = ServerState::new(alloc, backend, Table::new(alloc))?.with_log(is_logging);
+    Ok(Arc::new(alloc, state)?)
+}
+
 // Serves so many clients that come to the listener.
 fn serve_clients<R>(rt: R, listener: &TcpListener, connections: u64) -> Result<(), Fail>
 where
-    R: AllocGlobal + Threads + Wait + Clock + Drop + Copy + Send + Sync + 'static,
+    R: AllocGlobal + Eprint + Threads + Wait + Clock + Drop + Copy + Send + Sync + 'static,
 {
     let alloc = rt.alloc();
     let (backend, mut host) = Backend::new(alloc, rt)?;
-    let state = Arc::new(alloc, ServerState::new(alloc, backend, Table::new(alloc))?)?;
+    let state = server(alloc, backend, false)?;
     listen(rt, alloc, listener, &state, &mut host, Some(connections))?;
     Ok(())
 }
@@ -225,6 +244,41 @@ fn stay(
     Ok(())
 }
 
+const PLAIN_REQUEST: &[u8] = b"GET / HTTP/1.1\r\nHost: localhost\r\n\r\n";
+
+// A request for no WebSocket is answered what this is, and the connection is closed.
+fn ask_plainly(rt: HostRuntime, alloc: Global, address: SocketAddr) -> Result<(), &'static str> {
+    let mut stream = connect(rt, address)?;
+    stream.write_all(PLAIN_REQUEST).or(Err("not sent"))?;
+    stream.shutdown(Shutdown::Write).or(Err("not ended"))?;
+    let answer = io::read_to_string(alloc, stream).or(Err("no answer"))?;
+    let (head, body) = answer
+        .as_str()
+        .split_once("\r\n\r\n")
+        .ok_or("no end of the head")?;
+    let length = format!(in alloc; "Content-Length: {}", body.len()).or(Err("no memory"))?;
+    let is_said = body.starts_with("This is a ShareDB server.") && body.ends_with('\n');
+    let mut lines = head.lines();
+    let is_refused = lines.next() == Some("HTTP/1.1 426 Upgrade Required");
+    let is_named = head.contains("\r\nUpgrade: websocket\r\n");
+    if is_said && is_refused && is_named && head.contains(length.as_str()) {
+        Ok(())
+    } else {
+        Err("another answer")
+    }
+}
+
+// Who sends nothing, or no handshake, takes no number.
+fn come_oddly(rt: HostRuntime, alloc: Global, address: SocketAddr) -> Result<(), &'static str> {
+    let silent = connect(rt, address)?;
+    ask_plainly(rt, alloc, address)?;
+    let mut client = enter(rt, alloc, address, FIRST_OPENING)?;
+    ask(alloc, &mut client, FETCH, FETCHED)?;
+    leave(client)?;
+    drop(silent);
+    Ok(())
+}
+
 // What the clients of a server do.
 #[derive(Clone, Copy, Drop)]
 enum Visit {
@@ -232,6 +286,7 @@ enum Visit {
     FillAllSlots,
     SendLargeMessages,
     Stay,
+    ComeOddly,
 }
 
 impl Visit {
@@ -247,12 +302,13 @@ impl Visit {
             Visit::FillAllSlots => fill_all_slots(rt, alloc, address),
             Visit::SendLargeMessages => send_large_messages(rt, alloc, address),
             Visit::Stay => stay(rt, alloc, address, has_ended),
+            Visit::ComeOddly => come_oddly(rt, alloc, address),
         }
     }
 }
 
 // Two clients edit one document; at most 64 are served, and each slot is given back; a message of a
-// megabyte is taken, and one of a byte more refused; and the server waits for its clients.
+// megabyte is taken, and one of a byte more refused; the server waits for its clients, and for nobody else.
 #[test]
 fn clients_over_sockets(rt: HostRuntime) -> Result<(), Fail> {
     let alloc = rt.alloc();
@@ -261,6 +317,7 @@ fn clients_over_sockets(rt: HostRuntime) -> Result<(), Fail> {
         (Visit::FillAllSlots, ALL),
         (Visit::SendLargeMessages, 1),
         (Visit::Stay, 1),
+        (Visit::ComeOddly, 1),
     ] {
         let listener = TcpListener::bind(&rt, "127.0.0.1:0")?;
         let address = listener.local_addr()?;
@@ -273,6 +330,51 @@ fn clients_over_sockets(rt: HostRuntime) -> Result<(), Fail> {
         has_ended.store(true, Ordering::SeqCst);
         clients.join(&rt);
     }
+    Ok(())
+}
+
+// One client is silent, one follows what a third one edits, and the server is stopped.
+fn be_stopped<R: Wait + Drop>(
+    rt: HostRuntime,
+    alloc: Global,
+    address: SocketAddr,
+    state: &ServerState<R>,
+) -> Result<(), &'static str> {
+    let silent = connect(rt, address)?;
+    let mut follower = follow(rt, alloc, address)?;
+    edit(rt, alloc, address)?;
+    expect(&mut follower, FOLLOWED)?;
+    state.stop();
+    expect_close(&mut follower, CloseCode::Away)?;
+    drop(silent);
+    Ok(())
+}
+
+// All passes come back from a server that is stopped, no queue is left, and what was stored is there.
+#[test]
+fn a_server_that_is_stopped(rt: HostRuntime) -> Result<(), Fail> {
+    let alloc = rt.alloc();
+    let listener = TcpListener::bind(&rt, "127.0.0.1:0")?;
+    let address = listener.local_addr()?;
+    let (backend, mut host) = Backend::new(alloc, rt)?;
+    let state = server(alloc, backend, true)?;
+    let theirs = Arc::try_clone(&state)?;
+    let clients = thread::spawn(&rt, move || {
+        assert_eq!(rt; be_stopped(rt, alloc, address, &theirs), Ok(()));
+    })?;
+    let passes = listen_until_stopped(rt, alloc, &listener, &state, &mut host)?;
+    clients.join(&rt);
+    assert!(rt; passes.len() == 2);
+    let Ok(state) = Arc::try_unwrap(state) else {
+        return Err("somebody is still served".into());
+    };
+    let Ok(audit) = state.into_backend().close(host, passes) else {
+        return Err("not closed".into());
+    };
+    let keys = audit.documents()?;
+    assert!(rt; keys.len() == 1 && audit.queues() == 0);
+    let log = keys.first().and_then(|key| audit.log(key));
+    assert!(rt; log.map(Log::len) == Some(2));
     Ok(())
 }
 

@@ -1,0 +1,79 @@
+//! The handshake of a connection, and what is answered to whoever asks for something else.
+use crate::deadline_stream::DeadlineStream;
+use crate::websocket_session::drain;
+use std::alloc::Global;
+use std::io::{Read, Write};
+use std::sync::atomic::{AtomicBool, Ordering};
+use tungstenite::handshake::server::start;
+use tungstenite::{Error, HandshakeError, NoCallback};
+
+// How many reads that find nothing a handshake may take: with a read timeout of 20 milliseconds ten seconds.
+const HANDSHAKE_SILENCE_LIMIT: u64 = 500;
+
+// The answer to a request that isn't the handshake of a WebSocket.
+const UPGRADE_REQUIRED: &str = "HTTP/1.1 426 Upgrade Required\r\n\
+    Upgrade: websocket\r\n\
+    Connection: Upgrade, close\r\n\
+    Sec-WebSocket-Version: 13\r\n\
+    Content-Type: text/plain\r\n\
+    Content-Length: 62\r\n\
+    \r\n\
+    This is a ShareDB server. Its clients connect by a WebSocket.\n";
+
+// How a handshake ends.
+#[derive(Clone, Copy, Drop)]
+enum Greeting {
+    // It is done.
+    Done,
+    // What came asks for no WebSocket.
+    OtherRequest,
+    // The client is gone or too slow, or nobody is served any more.
+    GivenUp,
+}
+
+/// Does a server's handshake, and gives the stream back where it is done. What is no handshake is
+/// answered 426. It is given up where the client takes too long, or nobody is served any more.
+pub(crate) fn shake_hands<S: Read + Write + Drop>(
+    alloc: Global,
+    stream: S,
+    is_full: &AtomicBool,
+) -> Option<S> {
+    let mut stream = DeadlineStream::new(stream);
+    match greet(alloc, &mut stream, is_full) {
+        Greeting::Done => Some(stream.into_inner()),
+        Greeting::OtherRequest => {
+            stream.restart();
+            if stream.write_all(UPGRADE_REQUIRED.as_bytes()).is_ok() {
+                drain(&mut stream);
+            }
+            None
+        }
+        Greeting::GivenUp => None,
+    }
+}
+
+fn greet<S: Read + Write + Drop>(
+    alloc: Global,
+    stream: &mut DeadlineStream<S>,
+    is_full: &AtomicBool,
+) -> Greeting {
+    let mut handshake = start(alloc, stream, NoCallback, None);
+    for _ in 0..HANDSHAKE_SILENCE_LIMIT {
+        match handshake.handshake() {
+            Ok(_) => return Greeting::Done,
+            Err(HandshakeError::Interrupted(rest)) => handshake = rest,
+            Err(HandshakeError::Failure(error)) => return greeting_of(&error),
+        }
+        if is_full.load(Ordering::SeqCst) {
+            return Greeting::GivenUp;
+        }
+    }
+    Greeting::GivenUp
+}
+
+fn greeting_of(error: &Error) -> Greeting {
+    match error {
+        Error::Handshake(_) | Error::JunkAfterRequest | Error::Url => Greeting::OtherRequest,
+        _ => Greeting::GivenUp,
+    }
+}

@@ -1,0 +1,231 @@
+//! The threads of clients that are served.
+ghost use Rattle.std.specs.Prelude.{◌≡◌, IfOk, IfSome};
+ghost use Rattle.sdb_backend.specs.Passes.{IsPass};
+ghost use Rattle.sdb_backend.specs.declared.backend.Backend.{Backend as Documents};
+ghost use Rattle.sdb_growlock.specs.Rule.{Each};
+ghost use Rattle.sdb_server.specs.Threads.{AreOf, AreOfAny, Keeps};
+
+use crate::journal::Report;
+use crate::server_state::{CLIENT_LIMIT, ServerState, Slot};
+use crate::websocket_session::Served;
+use sdb_backend::{Backend, Pass};
+use std::alloc::{AllocError, Global};
+use std::net::{Shutdown, TcpStream};
+use std::snapshot::Snapshot;
+use std::sync::{Arc, Wait};
+use std::thread;
+use std::thread::{Promise, PromisedHandle, Threads};
+
+/// That the pass which a thread gives back is one of the backend.
+#[derive(Drop)]
+pub(crate) struct OfBackend<R: Wait>(Snapshot<Backend<R>>);
+
+impl<R: Wait> Promise<Served> for OfBackend<R> {
+    ghost use Rattle.sdb_backend.specs.Passes.{IsPass};
+
+    ghost kept_by = { λ p served. IsPass served.pass p.0.value };
+}
+
+/// These threads, each in a slot of its own, and the passes that came back.
+#[derive(Drop)]
+pub(crate) struct SessionThreads<R: Wait> {
+    handles: Vec<Option<PromisedHandle<Served, OfBackend<R>>>>,
+    free: Vec<usize>,
+    passes: Vec<Pass>,
+    // Whether the passes are kept.
+    is_keeping: bool,
+}
+
+/// What a thread is started with.
+#[derive(Drop)]
+pub(crate) struct Place<R: Wait> {
+    slot: usize,
+    state: Arc<ServerState<R>, Global>,
+    stream: TcpStream,
+    // The same stream again, to close it where no thread can be started.
+    spare: TcpStream,
+}
+
+impl<R: Wait + Drop> SessionThreads<R> {
+    /// No threads. It fails only for want of memory.
+    pub(crate) fn new(alloc: Global, is_keeping: bool) -> Result<SessionThreads<R>, AllocError>
+        ensures { IfOk result AreOfAny }
+    {
+        let mut handles = Vec::with_capacity(alloc, CLIENT_LIMIT)?;
+        let mut free = Vec::with_capacity(alloc, CLIENT_LIMIT)?;
+        for slot in 0..CLIENT_LIMIT {
+            handles.push(None)?;
+            free.push(slot)?;
+        }
+        Ok(SessionThreads {
+            handles,
+            free,
+            passes: Vec::new(alloc),
+            is_keeping,
+        })
+    }
+
+    /// Whether there is no thread.
+    pub(crate) fn is_empty(&self) -> bool {
+        self.free.len() == CLIENT_LIMIT
+    }
+
+    /// What a thread for the stream is started with; the stream, where none can be.
+    pub(crate) fn place_for(
+        &mut self,
+        state: &Arc<ServerState<R>, Global>,
+        stream: TcpStream,
+    ) -> Result<Place<R>, TcpStream>
+        ensures state { IfOk result (λ place. place.state.value ≡ state.now.value) }
+        ensures backend { Keeps self.old self.new }
+    {
+        if !self.has_room() {
+            return Err(stream);
+        }
+        let (Ok(spare), Ok(state)) = (stream.try_clone(), Arc::try_clone(state)) else {
+            return Err(stream);
+        };
+        match self.free.pop() {
+            Some(slot) => Ok(Place {
+                slot,
+                state,
+                stream,
+                spare,
+            }),
+            None => Err(stream),
+        }
+    }
+
+    // Whether there is room for the passes of all clients.
+    fn has_room(&mut self) -> bool
+        ensures backend { Keeps self.old self.new }
+    {
+        !self.is_keeping || self.passes.reserve(CLIENT_LIMIT).is_ok()
+    }
+
+    /// The stream of a place that isn't taken.
+    pub(crate) fn give_up(&mut self, place: Place<R>) -> TcpStream
+        ensures backend { Keeps self.old self.new }
+    {
+        let Place { slot, stream, .. } = place;
+        self.give_back(slot);
+        stream
+    }
+
+    fn give_back(&mut self, slot: usize)
+        ensures backend { Keeps self.old self.new }
+    {
+        // There is room, since each slot is in the list at most once.
+        let _ = self.free.push(slot);
+    }
+
+    /// Starts a thread that serves the client with the pass. False where none can be started: the
+    /// connection is closed then.
+    pub(crate) fn start(&mut self, rt: R, alloc: Global, place: Place<R>, pass: Pass) -> bool
+    where
+        R: Threads + Copy + Send + Sync + 'static,
+        requires pass { IsPass pass place.state.value.backend }
+        ensures backend { AreOf self.old place.state.value.backend → AreOf self.new place.state.value.backend }
+    {
+        let Place {
+            slot,
+            state: theirs,
+            stream,
+            spare,
+        } = place;
+        let promise = OfBackend(Snapshot::of(&theirs.backend));
+        let run = move || -> Served
+            requires { IsPass pass theirs.value.backend }
+            ensures { IsPass result.pass theirs.value.backend }
+        { serve_in(theirs, rt, alloc, slot, stream, pass) };
+        match thread::spawn_with(&rt, promise, run) {
+            Ok(handle) => {
+                self.put(slot, handle);
+                true
+            }
+            Err(refused) => {
+                // A session over a closed connection ends at once.
+                let _ = spare.shutdown(Shutdown::Both);
+                let served = (refused.value)();
+                self.keep(served.pass);
+                false
+            }
+        }
+    }
+
+    fn put(&mut self, slot: usize, handle: PromisedHandle<Served, OfBackend<R>>)
+        ensures { AreOf self.old handle.promise.0.value → AreOf self.new handle.promise.0.value }
+    {
+        if let Some(place) = self.handles.get_mut(slot) {
+            *place = Some(handle);
+        }
+    }
+
+    fn keep(&mut self, pass: Pass)
+        ensures { (b : Documents R) → IsPass pass b → AreOf self.old b → AreOf self.new b }
+    {
+        if self.is_keeping {
+            // There is room for it.
+            let _ = self.passes.push(pass);
+        }
+    }
+
+    /// Joins the thread of the slot, which is about to end, and keeps the pass. What is to be told of its
+    /// session.
+    pub(crate) fn join(&mut self, rt: &R, slot: usize) -> Option<Report>
+    where
+        R: Threads,
+        ensures backend { Keeps self.old self.new }
+    {
+        self.give_back(slot);
+        let handle = self.take(slot)?;
+        let Served {
+            pass,
+            end,
+            source,
+            messages,
+            operations,
+        } = handle.join(rt);
+        let number = pass.number();
+        self.keep(pass);
+        Some(Report {
+            number,
+            source,
+            end,
+            messages,
+            operations,
+        })
+    }
+
+    fn take(&mut self, slot: usize) -> Option<PromisedHandle<Served, OfBackend<R>>>
+        ensures handle { IfSome result (λ t. (b : Documents R) → AreOf self.old b → t.promise.0.value ≡ b) }
+        ensures backend { Keeps self.old self.new }
+    {
+        self.handles.get_mut(slot)?.take()
+    }
+
+    /// The passes that came back, where they are kept.
+    pub(crate) fn into_passes(self) -> Vec<Pass>
+        ensures { (b : Documents R) → AreOf self b → Each (λ p. IsPass p b) result.items }
+    {
+        let SessionThreads { passes, .. } = self;
+        passes
+    }
+}
+
+// What a session's thread does: it serves a client, and notes that it is about to end.
+fn serve_in<R: Wait + Drop>(
+    state: Arc<ServerState<R>, Global>,
+    rt: R,
+    alloc: Global,
+    slot: usize,
+    stream: TcpStream,
+    pass: Pass,
+) -> Served
+    requires { IsPass pass state.value.backend }
+    ensures { IsPass result.pass state.value.backend }
+{
+    let served = state.serve(&rt, alloc, stream, pass);
+    state.note_end(&rt, Slot::Session(slot));
+    served
+}

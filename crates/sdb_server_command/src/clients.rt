@@ -1,0 +1,184 @@
+//! Clients at an address, for as long as it is asked for.
+ghost use Rattle.std.specs.Prelude.{IfOk};
+ghost use Rattle.sdb_backend.specs.Passes.{IsHost};
+ghost use Rattle.sdb_backend.specs.declared.seats.Host.{Host as Hosting};
+ghost use Rattle.sdb_server.specs.Served.{IsHostOf};
+
+use sdb_backend::{Audit, Backend, Refused, Why};
+use sdb_command_line::{DONE, FAULT};
+use sdb_oplog::Log;
+use sdb_projection::Table;
+use sdb_server::{ServerState, listen, listen_until_stopped};
+use std::alloc::{AllocError, Global};
+use std::io::{ErrorKind, Read, StdinLock};
+use std::net::{Net, SocketAddr, TcpListener, TcpStream};
+use std::sync::{Arc, Wait};
+use std::thread::Threads;
+use std::time::Clock;
+use std::{io, thread};
+
+// How many bytes of an input are thrown away at a time.
+const INPUT_CHUNK: usize = 4_096;
+
+/// How long clients are served.
+#[derive(Clone, Copy, PartialEq, Eq, Drop)]
+pub enum Until {
+    /// Without end.
+    Never,
+    /// Until so many were served, from 1 to 1,000,000, and have gone.
+    Served(u64),
+    /// Until the end of standard input.
+    Eof,
+}
+
+// Serves clients at the address.
+pub(crate) fn serve_clients<R>(
+    rt: R,
+    address: SocketAddr,
+    until: Until,
+    is_logging: bool,
+    table: Table,
+) -> anyhow::Result<u8>
+where
+    R: AllocGlobal + Input<Reader = StdinLock<'static>> + Print + Eprint,
+    R: Net<Listener = TcpListener, Stream = TcpStream> + Threads + Wait + Clock,
+    R: Copy + Drop + Send + Sync + 'static,
+{
+    let listener = match TcpListener::bind(&rt, address) {
+        Ok(listener) => listener,
+        Err(error) => {
+            eprintln!(rt; "error: can't listen on {address}: {error}")?;
+            return Ok(FAULT);
+        }
+    };
+    serve_at(rt, &listener, until, is_logging, table)
+}
+
+/// Serves the clients that come to the listener, for so long.
+pub fn serve_at<R>(
+    rt: R,
+    listener: &TcpListener,
+    until: Until,
+    is_logging: bool,
+    table: Table,
+) -> anyhow::Result<u8>
+where
+    R: AllocGlobal + Input<Reader = StdinLock<'static>> + Print + Eprint,
+    R: Threads + Wait + Clock,
+    R: Copy + Drop + Send + Sync + 'static,
+{
+    match until {
+        Until::Never => serve_so_many(rt, listener, None, is_logging, table),
+        Until::Served(count) => serve_so_many(rt, listener, Some(count), is_logging, table),
+        Until::Eof => serve_until_end(rt, listener, rt.reader(), is_logging, table),
+    }
+}
+
+// Serves so many clients, or without end.
+fn serve_so_many<R>(
+    rt: R,
+    listener: &TcpListener,
+    connections: Option<u64>,
+    is_logging: bool,
+    table: Table,
+) -> anyhow::Result<u8>
+where
+    R: AllocGlobal + Print + Eprint + Threads + Wait + Clock,
+    R: Copy + Drop + Send + Sync + 'static,
+{
+    let alloc = rt.alloc();
+    let (backend, mut host) = Backend::new(alloc, rt)?;
+    let state = server(alloc, backend, table, is_logging)?;
+    println!(rt; "listening {}", listener.local_addr()?)?;
+    listen(rt, alloc, listener, &state, &mut host, connections)?;
+    Ok(DONE)
+}
+
+/// Serves the clients that come to the listener until the input ends, and tells on standard error what was stored.
+pub fn serve_until_end<R, I>(
+    rt: R,
+    listener: &TcpListener,
+    input: I,
+    is_logging: bool,
+    table: Table,
+) -> anyhow::Result<u8>
+where
+    R: AllocGlobal + Print + Eprint + Threads + Wait + Clock,
+    R: Copy + Drop + Send + Sync + 'static,
+    I: Read + Drop + Send + 'static,
+{
+    let alloc = rt.alloc();
+    let (backend, mut host) = Backend::new(alloc, rt)?;
+    let state = server(alloc, backend, table, is_logging)?;
+    let theirs = Arc::try_clone(&state)?;
+    let waiting = thread::spawn(&rt, move || {
+        skip_all(input);
+        theirs.stop();
+    })?;
+    println!(rt; "listening {}", listener.local_addr()?)?;
+    let passes = listen_until_stopped(rt, alloc, listener, &state, &mut host)?;
+    waiting.join(&rt);
+    match Arc::try_unwrap(state) {
+        Ok(state) => tell_close(&rt, state.into_backend().close(host, passes)),
+        Err(_) => tell_close_fault(&rt, "somebody is still served"),
+    }
+}
+
+// The server, with a log where one is asked for.
+fn server<R: Wait + Drop>(
+    alloc: Global,
+    backend: Backend<R>,
+    table: Table,
+    is_logging: bool,
+) -> Result<Arc<ServerState<R>, Global>, AllocError>
+    ensures { IfOk result (λ s. (h : Hosting) → IsHost h backend → IsHostOf h s.value) }
+{
+    let state = ServerState::new(alloc, backend, table)?.with_log(is_logging);
+    Ok(Arc::new(alloc, state)?)
+}
+
+// Reads to the end of the input, or to a failure.
+fn skip_all<I: Read + Drop>(mut input: I) {
+    let mut bytes = [0; INPUT_CHUNK];
+    for _ in 0..u64::MAX {
+        match input.read(&mut bytes) {
+            Ok(0) => return,
+            Ok(_) => {}
+            Err(error) if error.kind() == ErrorKind::Interrupted => {}
+            Err(_) => return,
+        }
+    }
+}
+
+// Tells how a backend was closed, and gives the status.
+fn tell_close<R: Wait + Drop>(
+    rt: &impl Eprint,
+    closed: Result<Audit, Refused<R>>,
+) -> anyhow::Result<u8> {
+    match closed {
+        Ok(audit) => {
+            let (documents, operations) = count_stored(&audit)?;
+            eprintln!(rt; "ended: {documents} documents, {operations} operations")?;
+            Ok(DONE)
+        }
+        Err(refused) => match refused.why {
+            Why::Missing => tell_close_fault(rt, "a pass is missing"),
+            Why::Memory => tell_close_fault(rt, "out of memory"),
+        },
+    }
+}
+
+fn tell_close_fault(rt: &impl Eprint, why: &str) -> anyhow::Result<u8> {
+    eprintln!(rt; "error: what is stored can't be told: {why}")?;
+    Ok(FAULT)
+}
+
+// How many documents there are, and how many operations are stored of them.
+fn count_stored(audit: &Audit) -> Result<(usize, u64), AllocError> {
+    let keys = audit.documents()?;
+    let mut operations: u64 = 0;
+    for key in keys.iter() {
+        operations = operations.saturating_add(audit.log(key).map_or(0, Log::len));
+    }
+    Ok((keys.len(), operations))
+}
