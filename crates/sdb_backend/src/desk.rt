@@ -9,8 +9,8 @@ ghost use Rattle.sdb_backend.specs.Passes.{number_of, IsPass};
 
 use crate::backend::Backend;
 use crate::jobs::{
-    Commit, CommitLast, CommitNow, Fetch, Forget, Lend, Look as Looking, Offer, OpsFrom, SnapshotAt,
-    Subscribe, Take, Unsubscribe, Version,
+    Commit, CommitLast, CommitNow, Fetch, Forget, Lend, Look as Looking, Offer, OpsFrom,
+    SnapshotAt, Subscribe, Take, Unsubscribe, Version,
 };
 use crate::seats::Pass;
 use sdb_desk::{Fetched, Lent, Look, Outcome, Reply, Subscribed, Work};

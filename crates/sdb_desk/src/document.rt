@@ -164,7 +164,7 @@ impl Document {
         ensures log { self.new.log ≡ self.old.log }
         ensures kept { Uses self.old.log version self.old.kept self.new.kept }
     {
-        if version == self.log.len() {
+        if self.log.len() == version {
             return Ok(Lent {
                 version,
                 snapshot: self.share(alloc)?,

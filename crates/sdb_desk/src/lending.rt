@@ -33,7 +33,9 @@ impl Lent {
         ensures memory { OnErr result (0 < length self.entries.items) }
     {
         let Lent {
-            snapshot, entries, ..
+            snapshot,
+            entries,
+            ..
         } = self;
         if entries.is_empty() {
             return Ok(snapshot);

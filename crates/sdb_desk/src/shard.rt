@@ -557,7 +557,7 @@ impl Shard {
         ensures queues { queues_of self.new ≡ queues_of self.old }
         ensures rings { ringed_of self.new ≡ ringed_of self.old }
     {
-        if self.version(key) < version {
+        if version > self.version(key) {
             return Err(Code::E4);
         }
         Ok(self.parts_at(key, version)?)

@@ -327,13 +327,19 @@ fn no_document_before_the_first_version(rt: HostRuntime) {
 
 // From which version the document at another is to be replayed, and by how many operations.
 fn lent(rt: &impl Abort, board: &mut Board, version: u64) -> (u64, usize) {
-    let lent = board.shard.lend(&board.key, version).expect(rt, "a version");
+    let lent = board
+        .shard
+        .lend(&board.key, version)
+        .expect(rt, "a version");
     (lent.version, lent.entries.len())
 }
 
 // The document at a version, replayed beside the shard and kept.
 fn keep(rt: &impl Abort, board: &mut Board, version: u64) -> Option<i64> {
-    let lent = board.shard.lend(&board.key, version).expect(rt, "a version");
+    let lent = board
+        .shard
+        .lend(&board.key, version)
+        .expect(rt, "a version");
     let snapshot = lent.replay(board.alloc).expect(rt, "out of memory");
     board.shard.offer(&board.key, version, snapshot.as_ref());
     number(snapshot.as_ref())
