@@ -12,7 +12,7 @@ use crate::visit_threads::VisitThreads;
 use sdb_backend::{Host, Pass};
 use std::alloc::{AllocError, Global};
 use std::io::{Error, ErrorKind};
-use std::net::{TcpListener, TcpStream};
+use std::net::{Net, TcpListener, TcpStream};
 use std::sync::{Arc, Wait};
 use std::thread::Threads;
 use std::time::{Clock, Duration};
@@ -30,7 +30,7 @@ struct Reception<R: Wait> {
     is_accept_failing: bool,
 }
 
-impl<R: Threads + Wait + Eprint + Drop + Copy + Send + Sync + 'static> Reception<R> {
+impl<R: Net + Threads + Wait + Eprint + Drop + Copy + Send + Sync + 'static> Reception<R> {
     fn new(
         alloc: Global,
         state: &ServerState<R>,
@@ -269,7 +269,7 @@ impl<R: Threads + Wait + Eprint + Drop + Copy + Send + Sync + 'static> Reception
 ///
 /// An error comes where the listener can't be told not to block, or for want of memory, and before
 /// anybody is let in. The listener doesn't block afterwards.
-pub fn listen<R: Threads + Wait + Clock + Eprint + Drop + Copy + Send + Sync + 'static>(
+pub fn listen<R: Net + Threads + Wait + Clock + Eprint + Drop + Copy + Send + Sync + 'static>(
     rt: R,
     alloc: Global,
     listener: &TcpListener,
@@ -306,7 +306,7 @@ pub fn listen<R: Threads + Wait + Clock + Eprint + Drop + Copy + Send + Sync + '
 ///
 /// An error comes as from `listen`.
 pub fn listen_until_stopped<
-    R: Threads + Wait + Clock + Eprint + Drop + Copy + Send + Sync + 'static,
+    R: Net + Threads + Wait + Clock + Eprint + Drop + Copy + Send + Sync + 'static,
 >(
     rt: R,
     alloc: Global,
@@ -324,7 +324,7 @@ pub fn listen_until_stopped<
     for _ in rt.forever() {
         let is_stopped = state.is_stopped();
         if is_stopped {
-            state.end();
+            state.end(&rt);
         }
         if is_stopped && reception.is_empty() {
             return Ok(reception.sessions.into_passes());

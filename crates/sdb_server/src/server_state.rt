@@ -5,14 +5,17 @@ ghost use Rattle.sdb_backend.specs.declared.seats.Host.{Host as Hosting};
 ghost use Rattle.sdb_server.specs.Served.{IsHostOf};
 
 use crate::deadline_stream::DeadlineStream;
+use crate::followers::Followers;
 use crate::opening_handshake::shake_hands;
-use crate::websocket_session::{Served, close_and_drain, serve_until};
+use crate::waking_stream::WakingStream;
+use crate::websocket_session::{Served, Signals, close_and_drain, serve_until};
 use sdb_backend::{Backend, Pass};
 use sdb_projection::Table;
 use sdb_wire::MESSAGE_LIMIT;
 use std::alloc::{AllocError, Global};
 use std::io;
-use std::net::TcpStream;
+use std::io::{Read, Write};
+use std::net::{Net, TcpStream};
 use std::sync::atomic::{AtomicBool, Ordering};
 use std::sync::{Mutex, Wait};
 use std::time::Duration;
@@ -48,6 +51,8 @@ pub struct ServerState<R: Wait> {
     is_ending: AtomicBool,
     // The threads that are about to end.
     ended: Mutex<Vec<Slot>>,
+    // The sessions that are woken where something is stored.
+    followers: Followers,
 }
 
 /// Which thread it is of those of its kind.
@@ -87,6 +92,7 @@ impl<R: Wait + Drop> ServerState<R> {
             is_full: AtomicBool::new(false),
             is_ending: AtomicBool::new(false),
             ended: Mutex::new(ended),
+            followers: Followers::new(alloc)?,
         })
     }
 
@@ -134,9 +140,10 @@ impl<R: Wait + Drop> ServerState<R> {
     }
 
     /// The sessions are to end, and nobody more is served.
-    pub(crate) fn end(&self) {
+    pub(crate) fn end(&self, rt: &R) {
         self.is_ending.store(true, Ordering::SeqCst);
         self.fill();
+        self.followers.wake_all(rt);
     }
 
     /// Notes that the thread is about to end.
@@ -178,27 +185,37 @@ impl<R: Wait + Drop> ServerState<R> {
         }
     }
 
-    /// Serves a client whose handshake is done.
-    pub(crate) fn serve(&self, rt: &R, alloc: Global, stream: TcpStream, pass: Pass) -> Served
+    /// Serves a client whose handshake is done, in this slot.
+    pub(crate) fn serve(
+        &self,
+        rt: &R,
+        alloc: Global,
+        slot: usize,
+        stream: TcpStream,
+        pass: Pass,
+    ) -> Served
+    where
+        R: Net,
         requires { IsPass pass self.now.backend }
         ensures { IsPass result.pass self.now.backend }
     {
+        let (stream, waker) = WakingStream::new(rt, alloc, stream);
+        self.followers.enter(rt, slot, waker);
         let mut socket = socket_on(alloc, stream);
         let (backend, table) = (&self.backend, &self.table);
-        serve_until(
-            rt,
-            alloc,
-            &mut socket,
-            backend,
-            pass,
-            table,
-            &self.is_ending,
-        )
+        let signals = Signals {
+            is_ending: &self.is_ending,
+            following: Some((&self.followers, slot)),
+        };
+        serve_until(rt, alloc, &mut socket, backend, pass, table, signals)
     }
 }
 
 // The socket of a connection whose handshake is done.
-fn socket_on(alloc: Global, stream: TcpStream) -> WebSocket<DeadlineStream<TcpStream>, NoMask> {
+fn socket_on<S: Read + Write + Drop>(
+    alloc: Global,
+    stream: S,
+) -> WebSocket<DeadlineStream<S>, NoMask> {
     let stream = DeadlineStream::new(stream);
     WebSocket::from_raw_socket(alloc, stream, NoMask, Role::Server, Some(configuration()))
 }

@@ -10,7 +10,7 @@ use crate::server_state::{CLIENT_LIMIT, ServerState, Slot};
 use crate::websocket_session::Served;
 use sdb_backend::{Backend, Pass};
 use std::alloc::{AllocError, Global};
-use std::net::{Shutdown, TcpStream};
+use std::net::{Net, Shutdown, TcpStream};
 use std::snapshot::Snapshot;
 use std::sync::{Arc, Wait};
 use std::thread;
@@ -123,7 +123,7 @@ impl<R: Wait + Drop> SessionThreads<R> {
     /// connection is closed then.
     pub(crate) fn start(&mut self, rt: R, alloc: Global, place: Place<R>, pass: Pass) -> bool
     where
-        R: Threads + Copy + Send + Sync + 'static,
+        R: Net + Threads + Copy + Send + Sync + 'static,
         requires pass { IsPass pass place.state.value.backend }
         ensures backend { AreOf self.old place.state.value.backend → AreOf self.new place.state.value.backend }
     {
@@ -214,7 +214,7 @@ impl<R: Wait + Drop> SessionThreads<R> {
 }
 
 // What a session's thread does: it serves a client, and notes that it is about to end.
-fn serve_in<R: Wait + Drop>(
+fn serve_in<R: Net + Wait + Drop>(
     state: Arc<ServerState<R>, Global>,
     rt: R,
     alloc: Global,
@@ -225,7 +225,7 @@ fn serve_in<R: Wait + Drop>(
     requires { IsPass pass state.value.backend }
     ensures { IsPass result.pass state.value.backend }
 {
-    let served = state.serve(&rt, alloc, stream, pass);
+    let served = state.serve(&rt, alloc, slot, stream, pass);
     state.note_end(&rt, Slot::Session(slot));
     served
 }

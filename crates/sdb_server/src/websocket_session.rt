@@ -4,9 +4,10 @@ ghost use Rattle.sdb_backend.specs.Passes.{number_of, IsPass};
 ghost use Rattle.sdb_server.specs.Served.{KeepsPass};
 
 use crate::TAKE_LIMIT;
-use crate::answers::Answers;
 use crate::deadline_stream::DeadlineStream;
+use crate::followers::{Followers, Group};
 use crate::session_end::SessionEnd;
+use crate::socket_sink::SocketSink;
 use sdb_backend::{Backend, Pass};
 use sdb_projection::Table;
 use sdb_session::Session;
@@ -54,16 +55,28 @@ enum Incoming {
     Control,
     // Nothing, for as long as a read waits.
     Silence,
+    // Something was stored meanwhile.
+    Waking,
+}
+
+/// What reaches a session from outside of it.
+#[derive(Clone, Copy, Drop)]
+pub(crate) struct Signals<'a> {
+    /// The server is ending.
+    pub(crate) is_ending: &'a AtomicBool,
+    /// Where it is woken: the sessions that follow documents, and its slot among them.
+    pub(crate) following: Option<(&'a Followers, usize)>,
 }
 
 // A client at a socket, and what it is served with.
 #[derive(Drop)]
 struct Client<'a, R: Wait, S> {
+    rt: &'a R,
     alloc: Global,
     socket: &'a mut WebSocket<DeadlineStream<S>, NoMask>,
     backend: &'a Backend<R>,
     table: &'a Table,
-    is_ending: &'a AtomicBool,
+    signals: Signals<'a>,
     pass: Pass,
     session: Session,
     silent_reads: u64,
@@ -109,19 +122,23 @@ pub fn serve<R: Wait + Drop, S: Read + Write + Drop>(
     ensures number { number_of result ≡ number_of pass }
 {
     let is_ending = AtomicBool::new(false);
-    serve_until(rt, alloc, socket, backend, pass, table, &is_ending).pass
+    let signals = Signals {
+        is_ending: &is_ending,
+        following: None,
+    };
+    serve_until(rt, alloc, socket, backend, pass, table, signals).pass
 }
 
 /// Serves a client as [`serve`] does, and also ends its session, with the status 1001, once the server is
 /// ending.
 pub(crate) fn serve_until<'a, R: Wait + Drop, S: Read + Write + Drop>(
-    rt: &R,
+    rt: &'a R,
     alloc: Global,
     socket: &'a mut WebSocket<DeadlineStream<S>, NoMask>,
     backend: &'a Backend<R>,
     pass: Pass,
     table: &'a Table,
-    is_ending: &'a AtomicBool,
+    signals: Signals<'a>,
 ) -> Served
     requires { IsPass pass backend.now }
     ensures pass { IsPass result.pass backend.now }
@@ -139,11 +156,12 @@ pub(crate) fn serve_until<'a, R: Wait + Drop, S: Read + Write + Drop>(
         };
     };
     let mut client = Client {
+        rt,
         alloc,
         socket,
         backend,
         table,
-        is_ending,
+        signals,
         pass,
         session: Session::new(alloc, source),
         silent_reads: 0,
@@ -190,12 +208,13 @@ impl<'a, R: Wait + Drop, S: Read + Write + Drop> Client<'a, R, S> {
         requires { IsPass self.old.pass self.old.backend.now }
         ensures { KeepsPass self.old.backend.now self.old.pass self.new.backend.now self.new.pass }
     {
-        if self.is_ending.load(Ordering::SeqCst) {
+        if self.signals.is_ending.load(Ordering::SeqCst) {
             return Err(SessionEnd::Stopped);
         }
         let incoming = next_incoming(self.socket)?;
         self.restart_deadline(&incoming);
         self.answer(&incoming)?;
+        self.ask_to_be_woken();
         self.pump()?;
         self.watch(&incoming)?;
         self.socket.flush()?;
@@ -209,7 +228,7 @@ impl<'a, R: Wait + Drop, S: Read + Write + Drop> Client<'a, R, S> {
         match incoming {
             Incoming::Text(text) => self.answer_text(text.as_str()),
             Incoming::Binary => self.answer_binary(),
-            Incoming::Control | Incoming::Silence => Ok(()),
+            Incoming::Control | Incoming::Silence | Incoming::Waking => Ok(()),
         }
     }
 
@@ -218,10 +237,39 @@ impl<'a, R: Wait + Drop, S: Read + Write + Drop> Client<'a, R, S> {
         ensures { KeepsPass self.old.backend.now self.old.pass self.new.backend.now self.new.pass }
     {
         self.messages = self.messages.saturating_add(1);
-        let mut answers = Answers::new(self.alloc);
-        self.session.handle_to(self.backend, &mut self.pass, self.table, text, &mut answers)?;
-        self.operations = self.operations.saturating_add(answers.acknowledged);
-        self.say_all(answers.texts)
+        let mut sink = SocketSink::new(self.socket);
+        self.session.handle_to(self.backend, &mut self.pass, self.table, text, &mut sink)?;
+        let SocketSink {
+            stored,
+            followed,
+            failure,
+            ..
+        } = sink;
+        if stored.is_some() {
+            self.operations = self.operations.saturating_add(1);
+        }
+        self.signal(stored, followed);
+        end_by(failure)
+    }
+
+    // Wakes those who follow what was stored, and follows what was subscribed to.
+    fn signal(&self, stored: Option<Group>, followed: Option<Group>) {
+        let Some((followers, slot)) = self.signals.following else {
+            return;
+        };
+        if let Some(group) = followed {
+            followers.follow(slot, group);
+        }
+        if let Some(group) = stored {
+            followers.tell(self.rt, slot, group);
+        }
+    }
+
+    // Whatever is stored from now on wakes the session. What was stored before is taken next.
+    fn ask_to_be_woken(&self) {
+        if let Some((followers, slot)) = self.signals.following {
+            followers.wait(slot);
+        }
     }
 
     fn answer_binary(&mut self) -> Result<(), SessionEnd>
@@ -229,9 +277,9 @@ impl<'a, R: Wait + Drop, S: Read + Write + Drop> Client<'a, R, S> {
         ensures { KeepsPass self.old.backend.now self.old.pass self.new.backend.now self.new.pass }
     {
         self.messages = self.messages.saturating_add(1);
-        let mut texts = Vec::new(self.alloc);
-        self.session.refuse_to(&mut texts)?;
-        self.say_all(texts)
+        let mut sink = SocketSink::new(self.socket);
+        self.session.refuse_to(&mut sink)?;
+        end_by(sink.failure)
     }
 
     // Sends what was stored meanwhile.
@@ -240,11 +288,16 @@ impl<'a, R: Wait + Drop, S: Read + Write + Drop> Client<'a, R, S> {
         ensures { KeepsPass self.old.backend.now self.old.pass self.new.backend.now self.new.pass }
     {
         for _ in 0..PUMP_LIMIT {
-            let pumped = self
-                .session
-                .pump(self.backend, &mut self.pass, self.table, TAKE_LIMIT)?;
-            self.say_all(pumped.texts)?;
-            if pumped.taken < u128::from(TAKE_LIMIT) {
+            let mut sink = SocketSink::new(self.socket);
+            let taken = self.session.pump_to(
+                self.backend,
+                &mut self.pass,
+                self.table,
+                TAKE_LIMIT,
+                &mut sink,
+            )?;
+            end_by(sink.failure)?;
+            if taken < u128::from(TAKE_LIMIT) {
                 break;
             }
         }
@@ -257,7 +310,7 @@ impl<'a, R: Wait + Drop, S: Read + Write + Drop> Client<'a, R, S> {
         ensures { KeepsPass self.old.backend.now self.old.pass self.new.backend.now self.new.pass }
     {
         match incoming {
-            Incoming::Silence => {}
+            Incoming::Silence | Incoming::Waking => {}
             _ => self.socket.get_mut().restart(),
         }
     }
@@ -269,6 +322,7 @@ impl<'a, R: Wait + Drop, S: Read + Write + Drop> Client<'a, R, S> {
     {
         self.silent_reads = match incoming {
             Incoming::Silence => self.silent_reads.saturating_add(1),
+            Incoming::Waking => self.silent_reads,
             _ => 0,
         };
         if self.silent_reads == SILENCE_LIMIT_BEFORE_PING {
@@ -276,16 +330,6 @@ impl<'a, R: Wait + Drop, S: Read + Write + Drop> Client<'a, R, S> {
         }
         if self.silent_reads >= SILENCE_LIMIT {
             return Err(SessionEnd::Silent);
-        }
-        Ok(())
-    }
-
-    fn say_all(&mut self, texts: Vec<String>) -> Result<(), SessionEnd>
-        requires { IsPass self.old.pass self.old.backend.now }
-        ensures { KeepsPass self.old.backend.now self.old.pass self.new.backend.now self.new.pass }
-    {
-        for text in texts {
-            self.say(text)?;
         }
         Ok(())
     }
@@ -331,15 +375,20 @@ impl<'a, R: Wait + Drop, S: Read + Write + Drop> Client<'a, R, S> {
         ensures number { number_of result.1.pass ≡ number_of self.entry.pass }
     {
         let Client {
+            rt,
             alloc,
             socket,
             backend,
+            signals,
             mut pass,
             session,
             messages,
             operations,
             ..
         } = self;
+        if let Some((followers, slot)) = signals.following {
+            followers.leave(rt, slot);
+        }
         let source = source_of(alloc, &session);
         session.end(backend, &mut pass);
         let served = Served {
@@ -398,7 +447,9 @@ fn next_incoming<S: Read + Write + Drop>(
     match socket.read() {
         Ok(message) => Ok(incoming_of(message)),
         Err(error) => {
-            if finds_nothing(&error) {
+            if is_waking(&error) {
+                Ok(Incoming::Waking)
+            } else if finds_nothing(&error) {
                 Ok(Incoming::Silence)
             } else {
                 Err(error.into())
@@ -412,6 +463,22 @@ fn incoming_of(message: Message) -> Incoming {
         Message::Text(text) => Incoming::Text(text),
         Message::Binary(_) => Incoming::Binary,
         _ => Incoming::Control,
+    }
+}
+
+// An error of the socket ends the session.
+fn end_by(failure: Option<Error>) -> Result<(), SessionEnd> {
+    match failure {
+        Some(error) => Err(error.into()),
+        None => Ok(()),
+    }
+}
+
+// Whether the read was woken.
+fn is_waking(error: &Error) -> bool {
+    match error {
+        Error::Io(error) => error.kind() == ErrorKind::Interrupted,
+        _ => false,
     }
 }
 

@@ -53,7 +53,7 @@ fn server<R: Wait + Drop>(
 // Serves so many clients that come to the listener.
 fn serve_clients<R>(rt: R, listener: &TcpListener, connections: u64) -> Result<(), Fail>
 where
-    R: AllocGlobal + Eprint + Threads + Wait + Clock + Drop + Copy + Send + Sync + 'static,
+    R: AllocGlobal + Net + Eprint + Threads + Wait + Clock + Drop + Copy + Send + Sync + 'static,
 {
     let alloc = rt.alloc();
     let (backend, mut host) = Backend::new(alloc, rt)?;
