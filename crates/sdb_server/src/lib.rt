@@ -5,7 +5,6 @@
 mod connections;
 mod deadline_stream;
 mod followers;
-mod followers;
 mod journal;
 mod line_session;
 mod opening_handshake;
@@ -14,7 +13,6 @@ mod session_end;
 mod session_threads;
 mod socket_sink;
 mod visit_threads;
-mod waking_stream;
 mod waking_stream;
 mod websocket_session;
 

@@ -11,7 +11,7 @@ use sdb_projection::Table;
 use sdb_server::{ServerState, listen, listen_until_stopped, set_socket_options};
 use std::alloc::{AllocError, Global};
 use std::io::Write;
-use std::net::{Shutdown, SocketAddr, TcpListener, TcpStream};
+use std::net::{Net, Shutdown, SocketAddr, TcpListener, TcpStream};
 use std::sync::atomic::{AtomicBool, Ordering};
 use std::sync::{Arc, Wait};
 use std::test::Fail;

@@ -1,14 +1,29 @@
-use Rattle.std.proofs.Common.{sym, subst}
+use Rattle.std.proofs.Common.{sym, ◌∙◌, subst}
+use Rattle.sdb_backend.specs.Passes.{IsPass}
+use Rattle.sdb_server.specs.Served.{IsHostOf}
 use Rattle.sdb_server.specs.Threads.{AreOf}
 use Rattle.sdb_server.proofs.connections.Reception.admit.Goals as goal
 
+pub enter-requires-clause-host : goal.enter-requires-clause-host
+enter-requires-clause-host g c = subst (λ s. IsHostOf c.args.host.now s) (sym c.deref.ensures) c.requires.host
+
+pub start-requires-clause-pass : goal.start-requires-clause-pass
+start-requires-clause-pass g c =
+    subst (λ s. IsPass c.in-Some.pass s.backend) (c.deref.ensures ∙ sym c.in_ok-place.ensures.state) c.in-Some.ensures.pass
+
 pub returns-in_err-place-clause-sessions : goal.returns-in_err-place-clause-sessions
 returns-in_err-place-clause-sessions g c = c.place_for.ensures.backend c.args.state.now.value.backend c.requires.sessions
+
+pub returns-in_default-clause-host : goal.returns-in_default-clause-host
+returns-in_default-clause-host g c = subst (λ s. IsHostOf c.enter.new.host s) c.deref.ensures c.enter.ensures.host
 
 pub returns-in_default-clause-sessions : goal.returns-in_default-clause-sessions
 returns-in_default-clause-sessions g c =
     let b = c.args.state.now.value.backend in
     c.give_up.ensures.backend b (c.enter.ensures.sessions b (c.place_for.ensures.backend b c.requires.sessions))
+
+pub returns-then-not-start-clause-host : goal.returns-then-not-start-clause-host
+returns-then-not-start-clause-host g c = subst (λ s. IsHostOf c.enter.new.host s) c.deref.ensures c.enter.ensures.host
 
 pub returns-then-not-start-clause-sessions : goal.returns-then-not-start-clause-sessions
 returns-then-not-start-clause-sessions g c =
@@ -16,6 +31,9 @@ returns-then-not-start-clause-sessions g c =
     let before = c.enter.ensures.sessions b (c.place_for.ensures.backend b c.requires.sessions) in
     let theirs = subst (λ s. AreOf c.enter.new.self.sessions s.backend) (sym c.in_ok-place.ensures.state) before in
     subst (λ s. AreOf c.start.new.self s.backend) c.in_ok-place.ensures.state (c.start.ensures.backend theirs)
+
+pub returns-else-not-start-clause-host : goal.returns-else-not-start-clause-host
+returns-else-not-start-clause-host g c = subst (λ s. IsHostOf c.enter.new.host s) c.deref.ensures c.enter.ensures.host
 
 pub returns-else-not-start-clause-sessions : goal.returns-else-not-start-clause-sessions
 returns-else-not-start-clause-sessions g c =

@@ -1,8 +1,9 @@
-use Rattle.std.proofs.Common.{subst}
+use Rattle.std.proofs.Common.{sym, ap, ◌∙◌, subst}
 use denote.Param.Send.{sendable}
 use Rattle.std.proofs.Crossing.{crosses}
 use Rattle.sdb_backend.proofs.Crossing.{Pass-send}
 use Rattle.sdb_backend.specs.Passes.{IsPass}
+use Rattle.sdb_server.specs.Threads.{AreOf}
 use Rattle.sdb_server.proofs.Crossing.{ServerState-send, ServerState-sync, Served-send}
 use Rattle.sdb_server.proofs.session_threads.SessionThreads.start.Goals as goal
 
@@ -14,6 +15,19 @@ spawn_with-requires-send-F g c κs within =
 
 pub spawn_with-requires-send-T : goal.spawn_with-requires-send-T
 spawn_with-requires-send-T g c κs within = search (Served-send, sendable, crosses) depth 20
+
+pub spawn_with-requires-clause-keeps : goal.spawn_with-requires-clause-keeps
+spawn_with-requires-clause-keeps g c =
+    let e = ap (λ s. s.backend) (sym c.deref.ensures) ∙ sym c.of.ensures in
+    λ r h. subst (λ b. IsPass r.pass b) e h
+
+pub returns-in-Ok : goal.returns-in-Ok
+returns-in-Ok g c =
+    let e = ap (λ p. p.0.value) c.in-Ok.ensures.ok ∙ c.of.ensures ∙ ap (λ s. s.backend) c.deref.ensures in
+    record { backend = λ a. subst (λ b. AreOf c.put.new.self b) e (c.put.ensures (subst (λ b. AreOf c.args.self.now b) (sym e) a)) }
+
+pub run-served-requires : goal.run-served-requires
+run-served-requires g c = subst (λ f. IsPass f.pass f.theirs.value.backend) (sym c.in-Err.ensures.err) c.requires.pass
 
 pub returns : goal.returns
 returns g c =
