@@ -1,4 +1,5 @@
 pub mod Ends
+mod Items
 pub mod Printed
 pub mod Sizes
 pub mod Written
