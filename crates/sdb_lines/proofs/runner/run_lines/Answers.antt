@@ -1,9 +1,24 @@
-use Rattle.std.proofs.Common.{arith, inr, take, ap, ◌∙◌, length-take, refl}
+use Rattle.std.proofs.Common.{◌≡◌, ℕ, ◌⊎◌, Result, Ok, Err, true, arith, inl, inr, take, ap, ◌∙◌, length-take, refl}
+use Rattle.std.specs.Result.{IsErrAnd, IsErrOf}
+use Rattle.sdb_lines.specs.Streams.{Writes, failures_after}
+use Rattle.sdb_lines.specs.declared.runner.RunFault.{RunFault}
+use Rattle.sdb_lines.specs.declared.runner.RunFault.TheVariants.{Write}
 use Rattle.sdb_lines.proofs.Pieces.{ended-few}
 use Rattle.sdb_lines.proofs.Runs.{nothing-written}
 use Rattle.sdb_lines.proofs.Writing.{but-no_error, if_any_some, on_any_err}
 use Rattle.sdb_lines.proofs.Progress.{went-start, went-on, went-front, went-stop, went-whole, went-whole_front, went-counts, opening-front}
 use Rattle.sdb_lines.proofs.runner.run_lines.Goals as goal
+
+of_write : {A : Type 0} (x f : RunFault) → x ≡ f → IsErrOf {T = A} (Err x) Write → IsErrOf {T = Unit {0}} (Err f) Write
+of_write x f e h = let w : f ≡ Write = cc in ap Err w
+
+-- the fault of a part that writes is the fault of the whole
+writes_of : {A : Type 0} (r : Result A RunFault) (f : RunFault) (was before now : ℕ) → IsErrAnd r (λ e. e ≡ f) → before ≡ was
+    → (now ≡ before) ⊎ (IsErrOf {T = Unit {0}} (Err f) Write) → (IsErrOf {T = Unit {0}} (Err f) Write → now ≡ failures_after true before) → Writes r was now
+writes_of (Ok x) f was before now e same others fault = absurd e
+writes_of (Err x) f was before now e same (inl p) fault = record { others = inl (p ∙ same); fault = λ h. fault (of_write x f e h) ∙ ap (failures_after true) same }
+writes_of (Err x) f was before now e same (inr w) fault =
+    record { others = inr (let q : x ≡ Write = cc in ap Err q); fault = λ h. fault (of_write x f e h) ∙ ap (failures_after true) same }
 
 pub returns-in_err-space-clause-front : goal.returns-in_err-space-clause-front
 returns-in_err-space-clause-front g c =
@@ -72,3 +87,18 @@ returns-in-Ok-eq0-clause-counts g c =
     let nothing = ap (λ n. take n c.take.new.buf) c.in-Ok-eq0.field-0-test in
     let ends = bytes.1 c.in-Ok-eq0.field-0-test (omega (arith, c.loop-turn.invariant.room, c.take.auto.buf)) in
     went-counts takes g.M.Replier.is_step _ _ nothing c.loop-turn.invariant.went bytes.0 ends _ c.in_ok-answer_rest-in-Ok-eq0.ensures.counted
+
+pub returns-in_err-write_opening-clause-writes : goal.returns-in_err-write_opening-clause-writes
+returns-in_err-write_opening-clause-writes g c =
+    let told = c.in_err-write_opening.ensures in
+    writes_of _ _ _ _ _ c.from_residual-in_err-write_opening.ensures.1 refl told.writes told.write
+
+pub returns-in_err-answer_piece-in-Ok-clause-writes : goal.returns-in_err-answer_piece-in-Ok-clause-writes
+returns-in_err-answer_piece-in-Ok-clause-writes g c =
+    let told = c.in_err-answer_piece-in-Ok.ensures in
+    writes_of _ _ _ _ _ c.from_residual-in_err-answer_piece-in-Ok.ensures.1 c.loop-turn.invariant.writes told.writes told.write
+
+pub returns-in_err-answer_rest-in-Ok-eq0-clause-writes : goal.returns-in_err-answer_rest-in-Ok-eq0-clause-writes
+returns-in_err-answer_rest-in-Ok-eq0-clause-writes g c =
+    let told = c.in_err-answer_rest-in-Ok-eq0.ensures in
+    writes_of _ _ _ _ _ c.from_residual-in_err-answer_rest-in-Ok-eq0.ensures.1 c.loop-turn.invariant.writes told.writes told.write
