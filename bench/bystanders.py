@@ -2,9 +2,9 @@
 
 One document gets 1,000 operations of 256 components. Then one client sends operations of 256 components made at
 version 1 of it, so each is carried over all of them, while another one edits it without a pause, so each finds that the
-log has moved. Beside both a bystander sends 10,000 edits (or EDITS) to sixteen other documents in turn, of which some
-share the document's lock. Printed are the middle and the slowest acknowledgement of the bystander, first without the
-other two.
+log has moved. Beside both a bystander sends edits to sixteen other documents in turn, of which some share the
+document's lock: 10,000 (or EDITS), and more until two of the late operations were acknowledged. Printed are the middle
+and the slowest acknowledgement of the bystander, first without the other two.
 
 SERVER is the program of the server. It is started at a port of its own and stopped at the end."""
 import json
@@ -17,6 +17,7 @@ import time
 TYPE = "http://sharejs.org/types/JSONv0"
 COMPONENTS = 256
 LONG = 1_000
+LATE = 2
 DOCUMENTS = 16
 
 
@@ -79,7 +80,7 @@ def start(server):
     with socket.socket() as free:
         free.bind(("127.0.0.1", 0))
         port = free.getsockname()[1]
-    program = subprocess.Popen([server, f"127.0.0.1:{port}"])
+    program = subprocess.Popen([server, "--listen", f"127.0.0.1:{port}"], stdout=subprocess.DEVNULL)
     for _ in range(100):
         try:
             socket.create_connection(("127.0.0.1", port)).close()
@@ -89,14 +90,14 @@ def start(server):
     raise RuntimeError("the server doesn't listen")
 
 
-def bystand(client, edits):
+def bystand(client, edits, is_enough):
     took = []
-    for number in range(edits):
+    while len(took) < edits or not is_enough():
         start = time.perf_counter()
-        client.submit(f"b{number % DOCUMENTS}", op=[{"p": ["n"], "na": 1}])
+        client.submit(f"b{len(took) % DOCUMENTS}", op=[{"p": ["n"], "na": 1}])
         took.append(time.perf_counter() - start)
     took.sort()
-    return took[len(took) // 2], took[-1]
+    return len(took), took[len(took) // 2], took[-1]
 
 
 def repeat(port, source, edit, count):
@@ -109,9 +110,9 @@ def repeat(port, source, edit, count):
         pass
 
 
-def report(name, client, edits):
-    middle, slowest = bystand(client, edits)
-    print(f"{name}: middle {middle * 1e6:.0f} us, slowest {slowest * 1e3:.1f} ms", flush=True)
+def report(name, client, edits, is_enough):
+    count, middle, slowest = bystand(client, edits, is_enough)
+    print(f"{name}: {count} edits, middle {middle * 1e6:.0f} us, slowest {slowest * 1e3:.1f} ms", flush=True)
 
 
 def main(server, edits=10_000):
@@ -123,7 +124,7 @@ def main(server, edits=10_000):
         author.submit("a", create={"type": TYPE, "data": {"t": "", "n": 0}})
         for _ in range(LONG):
             author.submit("a", op=long_edit())
-        report("alone", bystander, edits)
+        report("alone", bystander, edits, lambda: True)
         late, stored = multiprocessing.Value("q"), multiprocessing.Value("q")
         one = {"op": [{"p": ["n"], "na": 1}]}
         others = [
@@ -133,7 +134,7 @@ def main(server, edits=10_000):
         for other in others:
             other.start()
         time.sleep(1)
-        report("beside", bystander, edits)
+        report("beside", bystander, edits, lambda: late.value >= LATE)
         print(f"meanwhile {late.value} late operations and {stored.value} others were acknowledged")
         for other in others:
             other.kill()
