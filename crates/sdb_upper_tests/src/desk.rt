@@ -334,14 +334,13 @@ fn lent(rt: &impl Abort, board: &mut Board, version: u64) -> (u64, usize) {
     (lent.version, lent.entries.len())
 }
 
-// The document at a version, replayed beside the shard and kept.
-fn keep(rt: &impl Abort, board: &mut Board, version: u64) -> Option<i64> {
+// The number at a version, replayed beside the shard.
+fn replayed(rt: &impl Abort, board: &mut Board, version: u64) -> Option<i64> {
     let lent = board
         .shard
         .lend(&board.key, version)
         .expect(rt, "a version");
     let snapshot = lent.replay(board.alloc).expect(rt, "out of memory");
-    board.shard.offer(&board.key, version, snapshot.as_ref());
     number(snapshot.as_ref())
 }
 
@@ -349,9 +348,10 @@ fn keep(rt: &impl Abort, board: &mut Board, version: u64) -> Option<i64> {
 fn a_version_is_lent_from_the_nearest_that_is_kept(rt: HostRuntime) {
     let mut board = eleven(&rt, rt.alloc());
     assert!(rt; lent(&rt, &mut board, 8) == (0, 8) && lent(&rt, &mut board, 12) == (12, 0));
-    assert!(rt; keep(&rt, &mut board, 8) == Some(7));
+    assert!(rt; replayed(&rt, &mut board, 8) == Some(7));
+    assert!(rt; number_at(&rt, &mut board, 8) == Some(7));
     assert!(rt; lent(&rt, &mut board, 10) == (8, 2) && lent(&rt, &mut board, 8) == (8, 0));
-    assert!(rt; keep(&rt, &mut board, 10) == Some(9));
+    assert!(rt; replayed(&rt, &mut board, 10) == Some(9));
     assert!(rt; matches!(board.shard.lend(&board.key, 13), Err(Code::E4)));
 }
 

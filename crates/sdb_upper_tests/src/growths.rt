@@ -225,7 +225,6 @@ fn replay_again(rt: &impl Abort, board: &mut Board) -> Option<usize> {
 fn replayed(board: &mut Board) -> Result<Option<usize>, Code> {
     let lent = board.shard.lend(&board.key, 3)?;
     let snapshot = lent.replay(board.alloc)?;
-    board.shard.offer(&board.key, 3, snapshot.as_ref());
     Ok(count(snapshot.as_ref()))
 }
 
