@@ -10,7 +10,7 @@ pub listen_until_stopped-requires-after_bounds : goal.listen_until_stopped-requi
 listen_until_stopped-requires-after_bounds g c κs = c.in_ok-state.ensures c.in_ok-backend.host c.in_ok-backend.ensures.host
 
 pub spawn-requires-send-F : goal.spawn-requires-send-F
-spawn-requires-send-F g c κs within = search (ServerState-send, ServerState-sync, sendable, crosses) depth 40
+spawn-requires-send-F g c κs = search (ServerState-send, ServerState-sync, sendable, crosses) depth 40
 
 pub close-requires-clause-host : goal.close-requires-clause-host
 close-requires-clause-host g c =
