@@ -859,6 +859,15 @@
     }
 
     /**
+     * The document as it was at a moment of the server's clock.
+     * @param {number|null} [moment] in milliseconds since 1970, as Date.now() tells; the present version without one
+     * @returns {Promise<{version: number, data: Data|undefined}>}
+     */
+    snapshotAtTime(moment = null) {
+      return this.#transport.snapshotAtTime(this.collection, this.id, moment);
+    }
+
+    /**
      * The stored operations from a version on.
      * @param {number} [from]
      * @returns {Promise<Array<{version: number, source: string, seq: number} & Content>>}
@@ -1614,6 +1623,17 @@
       return this.#snapshot(collection, id, version, false);
     }
 
+    /**
+     * A document as it was at a moment of the server's clock.
+     * @param {string} collection
+     * @param {string} id
+     * @param {number|null} [moment] in milliseconds since 1970; the present version without one
+     * @returns {Promise<{version: number, data: Data|undefined}>}
+     */
+    snapshotAtTime(collection, id, moment = null) {
+      return this.#request({ a: 'nt', c: collection, d: id, ts: moment }, false);
+    }
+
     /** @returns {Promise<void>} is fulfilled when nothing is pending in any document */
     async whenNothingPending() {
       await Promise.all([...this.#documents.values()].map((document) => document.whenNothingPending()));
@@ -1634,16 +1654,21 @@
         sendText: (text) => client.#sendText(text),
         later: (action) => client.#later(action),
         snapshot: (collection, id, version) => client.#snapshot(collection, id, version, false),
+        snapshotAtTime: (collection, id, moment) => client.snapshotAtTime(collection, id, moment),
         compared: (collection, id, version) => client.#snapshot(collection, id, version, true),
         forget: (document) => client.#documents.delete(keyOf(document.collection, document.id)),
       };
     }
 
-    // One that is the client's own is of use over this connection alone.
     #snapshot(collection, id, version, own) {
+      return this.#request({ a: 'nf', c: collection, d: id, v: version }, own);
+    }
+
+    // Asks for a snapshot. One that is the client's own is of use over this connection alone.
+    #request(message, own) {
       return new Promise((resolve, reject) => {
         const number = (this.#requested += 1);
-        const text = JSON.stringify({ a: 'nf', c: collection, d: id, id: number, v: version });
+        const text = JSON.stringify({ ...message, id: number });
         this.#requests.set(number, { text, own, resolve, reject });
         this.#sendText(text);
       });
@@ -1737,7 +1762,7 @@
       if (message.a === 'init') this.#receiveInit(message);
       else if (message.a === 'hs') this.#receiveHandshake(message);
       else if (this.state === 'connecting') this.#fail(message.error ? refusalOf(message) : new Refusal('ERR_PROTOCOL'));
-      else if (message.a === 'nf') this.#receiveSnapshot(message);
+      else if (message.a === 'nf' || message.a === 'nt') this.#receiveSnapshot(message);
       else if (document) document.receive(message);
       else if (message.error) this.emit('error', refusalOf(message));
     }

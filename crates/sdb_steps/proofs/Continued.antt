@@ -85,14 +85,14 @@ keeps_work : (m : OneStep) (f : PlainKey → Option Reading) (x : Session) (o : 
 keeps_work m f x None end t = record { tracks = t; continued = tt }
 keeps_work m f x (Some a) end t = keeps_worked m f x a a.worked end t
 
-keeps_tried : (m : OneStep) (f : PlainKey → Option Reading) (x : Session) (a : Attempt) (c : Bool) (end : Logs) → Tracks f x
-    → Keeps m f plain.commit (cond c (event (machine.submission a.key a.submission) (with_attempt x None)) (notice plain.moved (with_attempt x (Some (plain.moved_on m a))))) end
-keeps_tried m f x a true end t = record { tracks = t; continued = tt }
-keeps_tried m f x a false end t = record { tracks = t; continued = tt }
+keeps_tried : (m : OneStep) (f : PlainKey → Option Reading) (x : Session) (now : ℕ) (a : Attempt) (c : Bool) (end : Logs) → Tracks f x
+    → Keeps m f (plain.commit now) (cond c (event (machine.submission a.key a.submission now) (with_attempt x None)) (notice plain.moved (with_attempt x (Some (plain.moved_on m a))))) end
+keeps_tried m f x now a true end t = record { tracks = t; continued = tt }
+keeps_tried m f x now a false end t = record { tracks = t; continued = tt }
 
-keeps_commit : (m : OneStep) (f : PlainKey → Option Reading) (x : Session) (o : Option Attempt) (end : Logs) → Tracks f x → Keeps m f plain.commit (option_map_or (plain.commits m x) o (notice plain.idle x)) end
-keeps_commit m f x None end t = record { tracks = t; continued = tt }
-keeps_commit m f x (Some a) end t = keeps_tried m f x a (plain.decides m a) end t
+keeps_commit : (m : OneStep) (f : PlainKey → Option Reading) (x : Session) (now : ℕ) (o : Option Attempt) (end : Logs) → Tracks f x → Keeps m f (plain.commit now) (option_map_or (plain.commits m x now) o (notice plain.idle x)) end
+keeps_commit m f x now None end t = record { tracks = t; continued = tt }
+keeps_commit m f x now (Some a) end t = keeps_tried m f x now a (plain.decides m a) end t
 
 -- of k, or of another key
 put_same : (b : Bool) (p o u : Option Reading) → o ≡ u → cond b p o ≡ cond b p u
@@ -156,9 +156,10 @@ keeps_close m f x k (Some q) end t = record { tracks = λ j. put_same (same_key 
 keeps_deed : (m : OneStep) (f : PlainKey → Option Reading) (i : ℕ) (x : Session) (act : Act) (end : Logs) → Grow m end → Tracks f x → Keeps m f act (effect m i x act) end
 keeps_deed m f i x (plain.begin k src seq v content) end g t = keeps_begin m f i x k src seq v content x.attempt end t
 keeps_deed m f i x plain.work end g t = keeps_work m f x x.attempt end t
-keeps_deed m f i x plain.commit end g t = keeps_commit m f x x.attempt end t
+keeps_deed m f i x (plain.commit now) end g t = keeps_commit m f x now x.attempt end t
 keeps_deed m f i x (plain.fetch k) end g t = record { tracks = t; continued = tt }
 keeps_deed m f i x (plain.snapshot k v) end g t = record { tracks = t; continued = tt }
+keeps_deed m f i x (plain.at_time k u) end g t = record { tracks = t; continued = tt }
 keeps_deed m f i x (plain.subscribe k v) end g t = keeps_subscribe m f x k v (started m k v) end refl g t
 keeps_deed m f i x (plain.take k max) end g t = keeps_take m f x k max (x.queues k) end refl g t
 keeps_deed m f i x (plain.unsubscribe k) end g t = keeps_close m f x k (x.queues k) end t
@@ -168,9 +169,10 @@ keeps_deed m f i x (plain.forget k) end g t = record { tracks = t; continued = t
 kept_none : (f : PlainKey → Option Reading) (act : Act) (end : Logs) → ((j : PlainKey) → read_after j act no_memory (f j) ≡ f j) × IsContinued end f act no_memory
 kept_none f (plain.begin k src seq v content) end = ((λ j. refl), tt)
 kept_none f plain.work end = ((λ j. refl), tt)
-kept_none f plain.commit end = ((λ j. refl), tt)
+kept_none f (plain.commit now) end = ((λ j. refl), tt)
 kept_none f (plain.fetch k) end = ((λ j. refl), tt)
 kept_none f (plain.snapshot k v) end = ((λ j. refl), tt)
+kept_none f (plain.at_time k t) end = ((λ j. refl), tt)
 kept_none f (plain.subscribe k v) end = ((λ j. refl), tt)
 kept_none f (plain.take k max) end = ((λ j. refl), tt)
 kept_none f (plain.unsubscribe k) end = ((λ j. refl), tt)

@@ -38,9 +38,10 @@ given_logs : (m : OneStep) (k : PlainKey) (b : Bool) → (cond b (record { logs 
 given_logs m k b = same_logs b m _ refl
 
 pub grows_next : (m : OneStep) (e : Event) (k : PlainKey) → Grows (m.logs k) ((next m e).logs k)
-grows_next m (machine.submission q s) k = let g = decide_grows (m.logs q) s in grows_at (same_key q k) q k m (decide (m.logs q) s).log refl (record { more = g.0; is = g.1 })
+grows_next m (machine.submission q s now) k = let g = decide_grows (m.logs q) s now in grows_at (same_key q k) q k m (decide (m.logs q) s now).log refl (record { more = g.0; is = g.1 })
 grows_next m (machine.fetch q) k = same_log (m.logs k)
 grows_next m (machine.snapshot q v) k = same_log (m.logs k)
+grows_next m (machine.at_time q t) k = same_log (m.logs k)
 grows_next m (machine.subscribe q v) k =
     let same : (next m (machine.subscribe q v)).logs ≡ m.logs = given_logs m q (is_ok (started m q v)) in
     subst (λ (f : Logs). Grows (m.logs k) (f k)) (sym same) (same_log (m.logs k))
@@ -73,9 +74,10 @@ made_at true l old h k = h
 made_at false l old h k = k
 
 made_next : (m : OneStep) (e : Event) → ((k : PlainKey) → IsMade (m.logs k)) → (k : PlainKey) → IsMade ((next m e).logs k)
-made_next m (machine.submission q s) h k = made_at (same_key q k) (decide (m.logs q) s).log (m.logs k) (made_decided (m.logs q) s (h q)) (h k)
+made_next m (machine.submission q s now) h k = made_at (same_key q k) (decide (m.logs q) s now).log (m.logs k) (made_decided (m.logs q) s now (h q)) (h k)
 made_next m (machine.fetch q) h k = h k
 made_next m (machine.snapshot q v) h k = h k
+made_next m (machine.at_time q t) h k = h k
 made_next m (machine.subscribe q v) h k =
     let same : (next m (machine.subscribe q v)).logs ≡ m.logs = given_logs m q (is_ok (started m q v)) in
     subst (λ (f : Logs). IsMade (f k)) (sym same) (h k)

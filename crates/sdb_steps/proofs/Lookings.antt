@@ -29,19 +29,19 @@ looked_opened logs k j s l e is =
 stays : (logs new : Logs) (k : PlainKey) (a w : PlainAttempt) → new ≡ logs → a ≡ w → IsLook (logs k) w → IsLook (new k) a
 stays logs new k a w same is h = subst (λ (f : Logs). IsLook (f k) a) (sym same) (subst (λ (x : PlainAttempt). IsLook (logs k) x) (sym is) h)
 
-pub looked_wanting : (logs new : Logs) (k : PlainKey) (a w : PlainAttempt) (r : PlainReply) → r ≡ refused E10 → Commits logs k w (decided r) new → a ≡ w → IsLook (logs k) w → IsLook (new k) a
-looked_wanting logs new k a w r e h is look =
-    stays logs new k a w (wanting_unchanged logs new k w (subst (λ (x : PlainReply). Commits logs k w (decided x) new) e h)) is look
+pub looked_wanting : (logs new : Logs) (k : PlainKey) (a w : PlainAttempt) (now : ℕ) (r : PlainReply) → r ≡ refused E10 → Commits logs k w now (decided r) new → a ≡ w → IsLook (logs k) w → IsLook (new k) a
+looked_wanting logs new k a w now r e h is look =
+    stays logs new k a w (wanting_unchanged logs new k w now (subst (λ (x : PlainReply). Commits logs k w now (decided x) new) e h)) is look
 
-pub looked_moved : (logs new : Logs) (k : PlainKey) (a w : PlainAttempt) (l : PlainLook) → Commits logs k w (moved l) new → a ≡ record { submission = w.submission; look = l } → IsLook (new k) a
-looked_moved logs new k a w l h is = subst (λ (x : PlainAttempt). IsLook (new k) x) (sym is) (moved_looked logs new k w (moved l) h)
+pub looked_moved : (logs new : Logs) (k : PlainKey) (a w : PlainAttempt) (now : ℕ) (l : PlainLook) → Commits logs k w now (moved l) new → a ≡ record { submission = w.submission; look = l } → IsLook (new k) a
+looked_moved logs new k a w now l h is = subst (λ (x : PlainAttempt). IsLook (new k) x) (sym is) (moved_looked logs new k w now (moved l) h)
 
-now_unchanged : (logs new : Logs) (k : PlainKey) (s : PlainSubmission) (r : PlainReply) → r ≡ refused E10 → Decides logs k s r new → new ≡ logs
-now_unchanged logs new k s r e (inl h) = h.1
-now_unchanged logs new k s r e (inr h) = absurd (decides_never_wanting (logs k) s (sym h.0 ∙ e))
+now_unchanged : (logs new : Logs) (k : PlainKey) (s : PlainSubmission) (now : ℕ) (r : PlainReply) → r ≡ refused E10 → Decides logs k s now r new → new ≡ logs
+now_unchanged logs new k s now r e (inl h) = h.1
+now_unchanged logs new k s now r e (inr h) = absurd (decides_never_wanting (logs k) s now (sym h.0 ∙ e))
 
-pub looked_now_wanting : (logs new : Logs) (k : PlainKey) (a : PlainAttempt) (s : PlainSubmission) (r : PlainReply) → r ≡ refused E10 → Decides logs k s r new → IsLook (logs k) a → IsLook (new k) a
-looked_now_wanting logs new k a s r e h look = stays logs new k a a (now_unchanged logs new k s r e h) refl look
+pub looked_now_wanting : (logs new : Logs) (k : PlainKey) (a : PlainAttempt) (s : PlainSubmission) (now : ℕ) (r : PlainReply) → r ≡ refused E10 → Decides logs k s now r new → IsLook (logs k) a → IsLook (new k) a
+looked_now_wanting logs new k a s now r e h look = stays logs new k a a (now_unchanged logs new k s now r e h) refl look
 
 -- ---- all sessions
 

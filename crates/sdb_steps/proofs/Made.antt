@@ -24,8 +24,8 @@ grows : (log : List PlainEntry) (e : PlainEntry) (o : Option ℕ) (d : Decided) 
 grows log e None d h = (refl, h)
 grows log e (Some i) d h = absurd (longer log e h)
 
-absent : (log : List PlainEntry) (e : PlainEntry) → (decide log e.arrived).log ≡ log ++ e ∷ [] → stored_at e.arrived.src e.arrived.seq log ≡ None
-absent log e h = (grows log e (stored_at e.arrived.src e.arrived.seq log) (store log e.arrived (settled log e.arrived)) h).0
+absent : (log : List PlainEntry) (e : PlainEntry) → (decide log e.arrived e.moment).log ≡ log ++ e ∷ [] → stored_at e.arrived.src e.arrived.seq log ≡ None
+absent log e h = (grows log e (stored_at e.arrived.src e.arrived.seq log) (store log e.arrived e.moment (settled log e.arrived)) h).0
 
 once : (before es : List PlainEntry) → MadeFrom before es → are_first before es ≡ true
 once before [] h = refl
@@ -68,12 +68,12 @@ last_same : (xs : List PlainEntry) (a b : PlainEntry) → xs ++ a ∷ [] ≡ xs 
 last_same [] a b h = cc
 last_same (x ∷ xs) a b h = let k : xs ++ a ∷ [] ≡ xs ++ b ∷ [] = cc in last_same xs a b k
 
-lives_stored : (log : List PlainEntry) (s : PlainSubmission) (e : PlainEntry) (r : Result PlainContent Code) → settled log s ≡ r → (store log s r).log ≡ log ++ e ∷ [] → is_some (snap log) ≡ true → is_some (snap (log ++ e ∷ [])) ≡ true
-lives_stored log s e (Err c) is h lives = absurd (longer log e h)
-lives_stored log s e (Ok m) is h lives = lives_more log s m e is lives (ap (λ (x : PlainEntry). x.content) (sym (last_same log (entry_of log s m) e h)))
+lives_stored : (log : List PlainEntry) (s : PlainSubmission) (now : ℕ) (e : PlainEntry) (r : Result PlainContent Code) → settled log s ≡ r → (store log s now r).log ≡ log ++ e ∷ [] → is_some (snap log) ≡ true → is_some (snap (log ++ e ∷ [])) ≡ true
+lives_stored log s now e (Err c) is h lives = absurd (longer log e h)
+lives_stored log s now e (Ok m) is h lives = lives_more log s m e is lives (ap (λ (x : PlainEntry). x.content) (sym (last_same log (entry_of log s now m) e h)))
 
-lives_on : (log : List PlainEntry) (e : PlainEntry) → (decide log e.arrived).log ≡ log ++ e ∷ [] → is_some (snap log) ≡ true → is_some (snap (log ++ e ∷ [])) ≡ true
-lives_on log e h lives = lives_stored log e.arrived e (settled log e.arrived) refl (grows log e (stored_at e.arrived.src e.arrived.seq log) (store log e.arrived (settled log e.arrived)) h).1 lives
+lives_on : (log : List PlainEntry) (e : PlainEntry) → (decide log e.arrived e.moment).log ≡ log ++ e ∷ [] → is_some (snap log) ≡ true → is_some (snap (log ++ e ∷ [])) ≡ true
+lives_on log e h lives = lives_stored log e.arrived e.moment e (settled log e.arrived) refl (grows log e (stored_at e.arrived.src e.arrived.seq log) (store log e.arrived e.moment (settled log e.arrived)) h).1 lives
 
 lives_from : (before es : List PlainEntry) (v : ℕ) → MadeFrom before es → is_some (snap before) ≡ true → is_some (snap (before ++ take v es)) ≡ true
 lives_from before [] zero h lives = ap (λ (l : List PlainEntry). is_some (snap l)) (append_nil before) ∙ lives
@@ -100,21 +100,21 @@ own : (e : PlainEntry) → is_from e.arrived.src e.arrived.seq e ≡ true
 own e = rw (eq-eqb e.arrived.seq e.arrived.seq refl, (bytes_eq-Decides e.arrived.src e.arrived.src).1 refl)
 
 -- an entry that is the first of its source and number answers each repeat
-repeat_of : (before later : List PlainEntry) (e : PlainEntry) (again : PlainSubmission) → stored_at e.arrived.src e.arrived.seq before ≡ None → again.src ≡ e.arrived.src → again.seq ≡ e.arrived.seq
-    → decide (before ++ e ∷ later) again ≡ record { reply = repeated (length before); log = before ++ e ∷ later }
-repeat_of before later e again none src seq =
+repeat_of : (before later : List PlainEntry) (e : PlainEntry) (again : PlainSubmission) (now : ℕ) → stored_at e.arrived.src e.arrived.seq before ≡ None → again.src ≡ e.arrived.src → again.seq ≡ e.arrived.seq
+    → decide (before ++ e ∷ later) again now ≡ record { reply = repeated (length before); log = before ++ e ∷ later }
+repeat_of before later e again now none src seq =
     let there : stored_at again.src again.seq (before ++ e ∷ later) ≡ Some (length before) =
     ap (λ (x : List ℕ). stored_at x again.seq (before ++ e ∷ later)) src ∙ ap (λ (n : ℕ). stored_at e.arrived.src n (before ++ e ∷ later)) seq ∙ found_later e.arrived.src e.arrived.seq before later e none (own e) in
-    decides_repeat (before ++ e ∷ later) again (length before) there
+    decides_repeat (before ++ e ∷ later) again now (length before) there
 
-made_entry : (past before later : List PlainEntry) (e : PlainEntry) → MadeFrom past (before ++ e ∷ later) → (decide (past ++ before) e.arrived).log ≡ (past ++ before) ++ e ∷ []
-made_entry past [] later e h = ap (λ (l : List PlainEntry). (decide l e.arrived).log) (append_nil past) ∙ h.0 ∙ ap (λ (l : List PlainEntry). l ++ e ∷ []) (sym (append_nil past))
+made_entry : (past before later : List PlainEntry) (e : PlainEntry) → MadeFrom past (before ++ e ∷ later) → (decide (past ++ before) e.arrived e.moment).log ≡ (past ++ before) ++ e ∷ []
+made_entry past [] later e h = ap (λ (l : List PlainEntry). (decide l e.arrived e.moment).log) (append_nil past) ∙ h.0 ∙ ap (λ (l : List PlainEntry). l ++ e ∷ []) (sym (append_nil past))
 made_entry past (x ∷ before) later e h =
-    ap (λ (l : List PlainEntry). (decide l e.arrived).log) (sym (append_assoc past (x ∷ []) before)) ∙ made_entry (past ++ x ∷ []) before later e h.1 ∙ ap (λ (l : List PlainEntry). l ++ e ∷ []) (append_assoc past (x ∷ []) before)
+    ap (λ (l : List PlainEntry). (decide l e.arrived e.moment).log) (sym (append_assoc past (x ∷ []) before)) ∙ made_entry (past ++ x ∷ []) before later e h.1 ∙ ap (λ (l : List PlainEntry). l ++ e ∷ []) (append_assoc past (x ∷ []) before)
 
-pub repeats_all : (before later : List PlainEntry) (e : PlainEntry) (again : PlainSubmission) → IsMade (before ++ e ∷ later) → again.src ≡ e.arrived.src → again.seq ≡ e.arrived.seq
-    → decide (before ++ e ∷ later) again ≡ record { reply = repeated (length before); log = before ++ e ∷ later }
-repeats_all before later e again h src seq = repeat_of before later e again (absent before e (made_entry [] before later e h)) src seq
+pub repeats_all : (before later : List PlainEntry) (e : PlainEntry) (again : PlainSubmission) (now : ℕ) → IsMade (before ++ e ∷ later) → again.src ≡ e.arrived.src → again.seq ≡ e.arrived.seq
+    → decide (before ++ e ∷ later) again now ≡ record { reply = repeated (length before); log = before ++ e ∷ later }
+repeats_all before later e again now h src seq = repeat_of before later e again now (absent before e (made_entry [] before later e h)) src seq
 
 -- what was stored, and where
 record Stores (log : List PlainEntry) (s : PlainSubmission) (v : ℕ) (d : Decided) : Type 0 where
@@ -124,22 +124,22 @@ record Stores (log : List PlainEntry) (s : PlainSubmission) (v : ℕ) (d : Decid
   pub more : d.log ≡ log ++ entry ∷ []
   pub from : entry.arrived ≡ s
 
-stores_by : (log not_seen : List PlainEntry) (s : PlainSubmission) (v : ℕ) (o : Option ℕ) (r : Result PlainContent Code) → stored_at s.src s.seq log ≡ o
-    → (option_map_or (λ i. record { reply = repeated i; log = log }) o (store log s r)).reply ≡ stored v not_seen → Stores log s v (option_map_or (λ i. record { reply = repeated i; log = log }) o (store log s r))
-stores_by log not_seen s v (Some i) r is h = absurd (cc)
-stores_by log not_seen s v None (Err c) is h = absurd (cc)
-stores_by log not_seen s v None (Ok m) is h = let k : v ≡ length log = cc in record { none = is; place = k; entry = entry_of log s m; more = refl; from = refl }
+stores_by : (log not_seen : List PlainEntry) (s : PlainSubmission) (now v : ℕ) (o : Option ℕ) (r : Result PlainContent Code) → stored_at s.src s.seq log ≡ o
+    → (option_map_or (λ i. record { reply = repeated i; log = log }) o (store log s now r)).reply ≡ stored v not_seen → Stores log s v (option_map_or (λ i. record { reply = repeated i; log = log }) o (store log s now r))
+stores_by log not_seen s now v (Some i) r is h = absurd (cc)
+stores_by log not_seen s now v None (Err c) is h = absurd (cc)
+stores_by log not_seen s now v None (Ok m) is h = let k : v ≡ length log = cc in record { none = is; place = k; entry = entry_of log s now m; more = refl; from = refl }
 
-stores : (log not_seen : List PlainEntry) (s : PlainSubmission) (v : ℕ) → (decide log s).reply ≡ stored v not_seen → Stores log s v (decide log s)
-stores log not_seen s v h = stores_by log not_seen s v (stored_at s.src s.seq log) (settled log s) refl h
+stores : (log not_seen : List PlainEntry) (s : PlainSubmission) (now v : ℕ) → (decide log s now).reply ≡ stored v not_seen → Stores log s v (decide log s now)
+stores log not_seen s now v h = stores_by log not_seen s now v (stored_at s.src s.seq log) (settled log s) refl h
 
-pub resent_all : (log not_seen more : List PlainEntry) (s again : PlainSubmission) (v : ℕ) → (decide log s).reply ≡ stored v not_seen → again.src ≡ s.src → again.seq ≡ s.seq
-    → decide ((decide log s).log ++ more) again ≡ record { reply = repeated v; log = (decide log s).log ++ more }
-resent_all log not_seen more s again v h src seq =
-    let t = stores log not_seen s v h in
+pub resent_all : (log not_seen more : List PlainEntry) (s again : PlainSubmission) (now later v : ℕ) → (decide log s now).reply ≡ stored v not_seen → again.src ≡ s.src → again.seq ≡ s.seq
+    → decide ((decide log s now).log ++ more) again later ≡ record { reply = repeated v; log = (decide log s now).log ++ more }
+resent_all log not_seen more s again now later v h src seq =
+    let t = stores log not_seen s now v h in
     let e = t.entry in
-    let whole : (decide log s).log ++ more ≡ log ++ e ∷ more = ap (λ (l : List PlainEntry). l ++ more) t.more ∙ append_assoc log (e ∷ []) more in
+    let whole : (decide log s now).log ++ more ≡ log ++ e ∷ more = ap (λ (l : List PlainEntry). l ++ more) t.more ∙ append_assoc log (e ∷ []) more in
     let none : stored_at e.arrived.src e.arrived.seq log ≡ None = ap (λ (x : PlainSubmission). stored_at x.src x.seq log) t.from ∙ t.none in
-    let first : decide (log ++ e ∷ more) again ≡ record { reply = repeated (length log); log = log ++ e ∷ more } =
-    repeat_of log more e again none (src ∙ sym (ap (λ (x : PlainSubmission). x.src) t.from)) (seq ∙ sym (ap (λ (x : PlainSubmission). x.seq) t.from)) in
-    ap (λ (l : List PlainEntry). decide l again) whole ∙ first ∙ ap (λ (n : ℕ). record { reply = repeated n; log = log ++ e ∷ more }) (sym t.place) ∙ ap (λ (l : List PlainEntry). record { reply = repeated v; log = l }) (sym whole)
+    let first : decide (log ++ e ∷ more) again later ≡ record { reply = repeated (length log); log = log ++ e ∷ more } =
+    repeat_of log more e again later none (src ∙ sym (ap (λ (x : PlainSubmission). x.src) t.from)) (seq ∙ sym (ap (λ (x : PlainSubmission). x.seq) t.from)) in
+    ap (λ (l : List PlainEntry). decide l again later) whole ∙ first ∙ ap (λ (n : ℕ). record { reply = repeated n; log = log ++ e ∷ more }) (sym t.place) ∙ ap (λ (l : List PlainEntry). record { reply = repeated v; log = l }) (sym whole)

@@ -33,39 +33,39 @@ place_stays : (src : List ℕ) (seq : ℕ) (log more : List PlainEntry) (v : ℕ
 place_stays src seq [] more v h = cc
 place_stays src seq (e ∷ log) more v h = first_stays (is_from src seq e) (stored_at src seq log) (stored_at src seq (log ++ more)) v (λ i k. place_stays src seq log more i k) h
 
-never_repeats : (log : List PlainEntry) (s : PlainSubmission) (r : Result PlainContent Code) (v : ℕ) → (store log s r).reply ≡ repeated v → ⊥
-never_repeats log s (Ok m) v h = cc
-never_repeats log s (Err c) v h = cc
+never_repeats : (log : List PlainEntry) (s : PlainSubmission) (now : ℕ) (r : Result PlainContent Code) (v : ℕ) → (store log s now r).reply ≡ repeated v → ⊥
+never_repeats log s now (Ok m) v h = cc
+never_repeats log s now (Err c) v h = cc
 
-repeat_by : (log : List PlainEntry) (s : PlainSubmission) (v : ℕ) (o : Option ℕ) → (option_map_or (λ i. record { reply = repeated i; log = log }) o (store log s (settled log s))).reply ≡ repeated v → o ≡ Some v
-repeat_by log s v None h = absurd (never_repeats log s (settled log s) v h)
-repeat_by log s v (Some i) h = let same : i ≡ v = cc in ap Some same
+repeat_by : (log : List PlainEntry) (s : PlainSubmission) (now v : ℕ) (o : Option ℕ) → (option_map_or (λ i. record { reply = repeated i; log = log }) o (store log s now (settled log s))).reply ≡ repeated v → o ≡ Some v
+repeat_by log s now v None h = absurd (never_repeats log s now (settled log s) v h)
+repeat_by log s now v (Some i) h = let same : i ≡ v = cc in ap Some same
 
 -- a repeat stands where it says
-repeat_at : (log : List PlainEntry) (s : PlainSubmission) (v : ℕ) → (decide log s).reply ≡ repeated v → stored_at s.src s.seq log ≡ Some v
-repeat_at log s v h = repeat_by log s v (stored_at s.src s.seq log) h
+repeat_at : (log : List PlainEntry) (s : PlainSubmission) (now v : ℕ) → (decide log s now).reply ≡ repeated v → stored_at s.src s.seq log ≡ Some v
+repeat_at log s now v h = repeat_by log s now v (stored_at s.src s.seq log) h
 
 abbrev begun_of : Attempt → Begun
 begun_of a = record { key = a.key; src = a.submission.src; seq = a.submission.seq }
 
 -- what was decided on a log, seen in a longer one
-placed_reply : (k : PlainKey) (log more : List PlainEntry) (s : PlainSubmission) (end : Logs) (r : PlainReply) → (decide log s).reply ≡ r → end k ≡ (decide log s).log ++ more
-    → IsPlaced end (Some (record { key = k; src = s.src; seq = s.seq })) plain.commit (replied (decided r))
-placed_reply k log more s end (stored v missed) h is =
-    let again = resent_all log missed more s s v h refl refl in
-    ap (stored_at s.src s.seq) is ∙ repeat_at ((decide log s).log ++ more) s v (ap (λ d. d.reply) again)
-placed_reply k log more s end (repeated v) h is =
-    let there = repeat_at log s v h in
-    let same : (decide log s).log ≡ log = ap (λ d. d.log) (decides_repeat log s v there) in
+placed_reply : (k : PlainKey) (log more : List PlainEntry) (s : PlainSubmission) (now : ℕ) (end : Logs) (r : PlainReply) → (decide log s now).reply ≡ r → end k ≡ (decide log s now).log ++ more
+    → IsPlaced end (Some (record { key = k; src = s.src; seq = s.seq })) (plain.commit now) (replied (decided r))
+placed_reply k log more s now end (stored v missed) h is =
+    let again = resent_all log missed more s s now now v h refl refl in
+    ap (stored_at s.src s.seq) is ∙ repeat_at ((decide log s now).log ++ more) s now v (ap (λ d. d.reply) again)
+placed_reply k log more s now end (repeated v) h is =
+    let there = repeat_at log s now v h in
+    let same : (decide log s now).log ≡ log = ap (λ d. d.log) (decides_repeat log s now v there) in
     ap (stored_at s.src s.seq) (is ∙ ap (λ (l : List PlainEntry). l ++ more) same) ∙ place_stays s.src s.seq log more v there
-placed_reply k log more s end (refused c) h is = tt
+placed_reply k log more s now end (refused c) h is = tt
 
-placed_next : (m : OneStep) (a : Attempt) (end : Logs) → Grows ((next m (machine.submission a.key a.submission)).logs a.key) (end a.key)
-    → IsPlaced end (Some (begun_of a)) plain.commit (replied (machine.reply m (machine.submission a.key a.submission)))
-placed_next m a end g =
-    let d = decide (m.logs a.key) a.submission in
-    let here : (next m (machine.submission a.key a.submission)).logs a.key ≡ d.log = ap (λ (b : Bool). cond b d.log (m.logs a.key)) (same_itself a.key) in
-    placed_reply a.key (m.logs a.key) g.more a.submission end d.reply refl (g.is ∙ ap (λ (l : List PlainEntry). l ++ g.more) here)
+placed_next : (m : OneStep) (now : ℕ) (a : Attempt) (end : Logs) → Grows ((next m (machine.submission a.key a.submission now)).logs a.key) (end a.key)
+    → IsPlaced end (Some (begun_of a)) (plain.commit now) (replied (machine.reply m (machine.submission a.key a.submission now)))
+placed_next m now a end g =
+    let d = decide (m.logs a.key) a.submission now in
+    let here : (next m (machine.submission a.key a.submission now)).logs a.key ≡ d.log = ap (λ (b : Bool). cond b d.log (m.logs a.key)) (same_itself a.key) in
+    placed_reply a.key (m.logs a.key) g.more a.submission now end d.reply refl (g.is ∙ ap (λ (l : List PlainEntry). l ++ g.more) here)
 
 -- ---- one step of a session
 
@@ -107,16 +107,16 @@ keeps_work : (m : OneStep) (b : Option Begun) (x : Session) (o : Option Attempt)
 keeps_work m b x None end is t = record { tracks = t; placed = tt }
 keeps_work m b x (Some a) end is t = keeps_worked m b x a a.worked end is t
 
-keeps_tried : (m : OneStep) (b : Option Begun) (x : Session) (a : Attempt) (c : Bool) (end : Logs) → b ≡ Some (begun_of a)
-    → Keeps m b plain.commit (cond c (event (machine.submission a.key a.submission) (with_attempt x None)) (notice plain.moved (with_attempt x (Some (plain.moved_on m a))))) end
-keeps_tried m b x a true end is =
-    λ g. record { tracks = refl; placed = subst (λ (c : Option Begun). IsPlaced end c plain.commit (replied (machine.reply m (machine.submission a.key a.submission)))) (sym is) (placed_next m a end (g a.key)) }
-keeps_tried m b x a false end is = record { tracks = is; placed = tt }
+keeps_tried : (m : OneStep) (b : Option Begun) (x : Session) (now : ℕ) (a : Attempt) (c : Bool) (end : Logs) → b ≡ Some (begun_of a)
+    → Keeps m b (plain.commit now) (cond c (event (machine.submission a.key a.submission now) (with_attempt x None)) (notice plain.moved (with_attempt x (Some (plain.moved_on m a))))) end
+keeps_tried m b x now a true end is =
+    λ g. record { tracks = refl; placed = subst (λ (c : Option Begun). IsPlaced end c (plain.commit now) (replied (machine.reply m (machine.submission a.key a.submission now)))) (sym is) (placed_next m now a end (g a.key)) }
+keeps_tried m b x now a false end is = record { tracks = is; placed = tt }
 
-keeps_commit : (m : OneStep) (b : Option Begun) (x : Session) (o : Option Attempt) (end : Logs) → x.attempt ≡ o → Tracks b x
-    → Keeps m b plain.commit (option_map_or (plain.commits m x) o (notice plain.idle x)) end
-keeps_commit m b x None end is t = record { tracks = t; placed = tt }
-keeps_commit m b x (Some a) end is t = keeps_tried m b x a (plain.decides m a) end (t ∙ ap (option_map begun_of) is)
+keeps_commit : (m : OneStep) (b : Option Begun) (x : Session) (now : ℕ) (o : Option Attempt) (end : Logs) → x.attempt ≡ o → Tracks b x
+    → Keeps m b (plain.commit now) (option_map_or (plain.commits m x now) o (notice plain.idle x)) end
+keeps_commit m b x now None end is t = record { tracks = t; placed = tt }
+keeps_commit m b x now (Some a) end is t = keeps_tried m b x now a (plain.decides m a) end (t ∙ ap (option_map begun_of) is)
 
 keeps_subscribe : (m : OneStep) (b : Option Begun) (x : Session) (k : PlainKey) (v : Option ℕ) (r : Result ℕ Code) (end : Logs) → Tracks b x → Keeps m b (plain.subscribe k v) (plain.subscribes x k v r) end
 keeps_subscribe m b x k v (Ok start) end t = λ g. record { tracks = t; placed = tt }
@@ -144,9 +144,10 @@ keeps_close m b x k (Some q) end t = record { tracks = t; placed = tt }
 keeps_deed : (m : OneStep) (b : Option Begun) (i : ℕ) (x : Session) (act : Act) (end : Logs) → Tracks b x → Keeps m b act (effect m i x act) end
 keeps_deed m b i x (plain.begin k src seq v content) end t = keeps_begin m b i x k src seq v content x.attempt end t
 keeps_deed m b i x plain.work end t = keeps_work m b x x.attempt end refl t
-keeps_deed m b i x plain.commit end t = keeps_commit m b x x.attempt end refl t
+keeps_deed m b i x (plain.commit now) end t = keeps_commit m b x now x.attempt end refl t
 keeps_deed m b i x (plain.fetch k) end t = λ g. record { tracks = t; placed = tt }
 keeps_deed m b i x (plain.snapshot k v) end t = λ g. record { tracks = t; placed = tt }
+keeps_deed m b i x (plain.at_time k u) end t = λ g. record { tracks = t; placed = tt }
 keeps_deed m b i x (plain.subscribe k v) end t = keeps_subscribe m b x k v (started m k v) end t
 keeps_deed m b i x (plain.take k max) end t = keeps_take m b x k max (x.queues k) end t
 keeps_deed m b i x (plain.unsubscribe k) end t = keeps_close m b x k (x.queues k) end t
@@ -156,9 +157,10 @@ keeps_deed m b i x (plain.forget k) end t = record { tracks = t; placed = tt }
 kept_none : (b : Option Begun) (x : Session) (act : Act) (end : Logs) → Tracks b x → Kept b act no_memory x end
 kept_none b x (plain.begin k src seq v content) end t = record { tracks = t; placed = tt }
 kept_none b x plain.work end t = record { tracks = t; placed = tt }
-kept_none b x plain.commit end t = record { tracks = t; placed = tt }
+kept_none b x (plain.commit now) end t = record { tracks = t; placed = tt }
 kept_none b x (plain.fetch k) end t = record { tracks = t; placed = tt }
 kept_none b x (plain.snapshot k v) end t = record { tracks = t; placed = tt }
+kept_none b x (plain.at_time k u) end t = record { tracks = t; placed = tt }
 kept_none b x (plain.subscribe k v) end t = record { tracks = t; placed = tt }
 kept_none b x (plain.take k max) end t = record { tracks = t; placed = tt }
 kept_none b x (plain.unsubscribe k) end t = record { tracks = t; placed = tt }

@@ -440,29 +440,29 @@ module _ (i : ℕ) (q0 q1 : Queued) (l0 l1 : PlainKey → List PlainEntry) (s0 s
 
 -- ---- a commit
 
-commits_if : (b : Bool) (m n : OneStep) (x : Session) (a : plain.Attempt) (r : machine.Reply) (o : Option plain.Attempt) → b ≡ true → r ≡ reply m (machine.submission a.key a.submission) → n ≡ next m (machine.submission a.key a.submission) → o ≡ None
-    → Follows m (cond b (plain.event (machine.submission a.key a.submission) (plain.with_attempt x None)) (plain.notice plain.moved (plain.with_attempt x (Some (plain.moved_on m a))))) (replied r) n (plain.with_attempt x o)
-commits_if true m n x a r o is h g e = (ap replied h, g, ap (plain.with_attempt x) e)
-commits_if false m n x a r o is h g e = cc
+commits_if : (b : Bool) (m n : OneStep) (x : Session) (now : ℕ) (a : plain.Attempt) (r : machine.Reply) (o : Option plain.Attempt) → b ≡ true → r ≡ reply m (machine.submission a.key a.submission now) → n ≡ next m (machine.submission a.key a.submission now) → o ≡ None
+    → Follows m (cond b (plain.event (machine.submission a.key a.submission now) (plain.with_attempt x None)) (plain.notice plain.moved (plain.with_attempt x (Some (plain.moved_on m a))))) (replied r) n (plain.with_attempt x o)
+commits_if true m n x now a r o is h g e = (ap replied h, g, ap (plain.with_attempt x) e)
+commits_if false m n x now a r o is h g e = cc
 
-moves_if : (b : Bool) (m n : OneStep) (x : Session) (a : plain.Attempt) (v : plain.Notice) (o : Option plain.Attempt) → b ≡ false → v ≡ plain.moved → n ≡ m → o ≡ Some (plain.moved_on m a)
-    → Follows m (cond b (plain.event (machine.submission a.key a.submission) (plain.with_attempt x None)) (plain.notice plain.moved (plain.with_attempt x (Some (plain.moved_on m a))))) (said v) n (plain.with_attempt x o)
-moves_if true m n x a v o is h g e = cc
-moves_if false m n x a v o is h g e = (ap said h, g, ap (plain.with_attempt x) e)
+moves_if : (b : Bool) (m n : OneStep) (x : Session) (now : ℕ) (a : plain.Attempt) (v : plain.Notice) (o : Option plain.Attempt) → b ≡ false → v ≡ plain.moved → n ≡ m → o ≡ Some (plain.moved_on m a)
+    → Follows m (cond b (plain.event (machine.submission a.key a.submission now) (plain.with_attempt x None)) (plain.notice plain.moved (plain.with_attempt x (Some (plain.moved_on m a))))) (said v) n (plain.with_attempt x o)
+moves_if true m n x now a v o is h g e = cc
+moves_if false m n x now a v o is h g e = (ap said h, g, ap (plain.with_attempt x) e)
 
-wants_if : (b : Bool) (m : OneStep) (x : Session) (a : plain.Attempt) → (b ≡ true → deciding_takes_memory (m.logs a.key) a.submission ≡ true)
-    → may_want m (cond b (plain.event (machine.submission a.key a.submission) (plain.with_attempt x None)) (plain.notice plain.moved (plain.with_attempt x (Some (plain.moved_on m a))))) ≡ true
-wants_if true m x a h = h refl
-wants_if false m x a h = refl
+wants_if : (b : Bool) (m : OneStep) (x : Session) (now : ℕ) (a : plain.Attempt) → (b ≡ true → deciding_takes_memory (m.logs a.key) a.submission ≡ true)
+    → may_want m (cond b (plain.event (machine.submission a.key a.submission now) (plain.with_attempt x None)) (plain.notice plain.moved (plain.with_attempt x (Some (plain.moved_on m a))))) ≡ true
+wants_if true m x now a h = h refl
+wants_if false m x now a h = refl
 
 -- the commit of a session's attempt
-pub commit_turn : (i : ℕ) (m n : OneStep) (x : Session) (a : plain.Attempt) (answer : Answer) (o : Option plain.Attempt) → x.attempt ≡ Some a → Tries m a answer n o → Dispatches i m x plain.commit answer n (plain.with_attempt x o)
-commit_turn i m n x a (replied r) o has h =
-    subst (λ d. Follows m d (replied r) n (plain.with_attempt x o)) (sym (ap (λ p. option_map_or (plain.commits m x) p (plain.notice plain.idle x)) has)) (commits_if (plain.decides m a) m n x a r o h.0 h.1 h.2 h.3)
-commit_turn i m n x a (said v) o has h =
-    subst (λ d. Follows m d (said v) n (plain.with_attempt x o)) (sym (ap (λ p. option_map_or (plain.commits m x) p (plain.notice plain.idle x)) has)) (moves_if (plain.decides m a) m n x a v o h.0 h.1 h.2 h.3)
-commit_turn i m n x a no_memory o has h = (
-  ap (λ p. may_want m (option_map_or (plain.commits m x) p (plain.notice plain.idle x))) has ∙ wants_if (plain.decides m a) m x a h.2,
+pub commit_turn : (i : ℕ) (m n : OneStep) (x : Session) (now : ℕ) (a : plain.Attempt) (answer : Answer) (o : Option plain.Attempt) → x.attempt ≡ Some a → Tries m a now answer n o → Dispatches i m x (plain.commit now) answer n (plain.with_attempt x o)
+commit_turn i m n x now a (replied r) o has h =
+    subst (λ d. Follows m d (replied r) n (plain.with_attempt x o)) (sym (ap (λ p. option_map_or (plain.commits m x now) p (plain.notice plain.idle x)) has)) (commits_if (plain.decides m a) m n x now a r o h.0 h.1 h.2 h.3)
+commit_turn i m n x now a (said v) o has h =
+    subst (λ d. Follows m d (said v) n (plain.with_attempt x o)) (sym (ap (λ p. option_map_or (plain.commits m x now) p (plain.notice plain.idle x)) has)) (moves_if (plain.decides m a) m n x now a v o h.0 h.1 h.2 h.3)
+commit_turn i m n x now a no_memory o has h = (
+  ap (λ p. may_want m (option_map_or (plain.commits m x now) p (plain.notice plain.idle x))) has ∙ wants_if (plain.decides m a) m x now a h.2,
   h.0,
   ap (plain.with_attempt x) (h.1 ∙ sym has),
 )
@@ -502,6 +502,14 @@ fetch_refused i m n x k code (inr h) a = cc
 pub fetch_read : (i : ℕ) (m n : OneStep) (x : Session) (k : PlainKey) (f : PlainFetched) → Reads has_document (Ok f) (Ok (desk.fetched (m.logs k))) → n ≡ m → Dispatches i m x (plain.fetch k) (replied (machine.fetched f)) n x
 fetch_read i m n x k f (inl h) a = let w = h.0 in cc
 fetch_read i m n x k f (inr h) a = let e : f ≡ desk.fetched (m.logs k) = cc in (ap (λ g. replied (machine.fetched g)) e, a, refl)
+
+pub at_time_refused : (i : ℕ) (m n : OneStep) (x : Session) (k : PlainKey) (t : Option ℕ) (code : Code) → Reads has_version (Err code) (Ok (desk.at_moment (m.logs k) t)) → n ≡ m → Dispatches i m x (plain.at_time k t) no_memory n x
+at_time_refused i m n x k t code (inl h) a = (h.1, a, refl)
+at_time_refused i m n x k t code (inr h) a = cc
+
+pub at_time_read : (i : ℕ) (m n : OneStep) (x : Session) (k : PlainKey) (t : Option ℕ) (f : PlainFetched) → Reads has_version (Ok f) (Ok (desk.at_moment (m.logs k) t)) → n ≡ m → Dispatches i m x (plain.at_time k t) (replied (machine.timed f)) n x
+at_time_read i m n x k t f (inl h) a = let w = h.0 in cc
+at_time_read i m n x k t f (inr h) a = let e : f ≡ desk.at_moment (m.logs k) t = cc in (ap (λ g. replied (machine.timed g)) e, a, refl)
 
 -- ---- an attempt that is opened
 

@@ -1,15 +1,17 @@
 -- Reads are replays of the logs at the end.
-use Rattle.std.proofs.Common.{◌≡◌, ℕ, ◌+◌, ◌≤◌, List, [], ◌∷◌, length, take, Bool, true, false, cond, nat_lt, Option, Some, None, Ok, Err, IfSome, refl, sym, ap, ◌∙◌, subst, length-append, arith}
+use Rattle.std.proofs.Common.{◌≡◌, ℕ, ◌+◌, ◌≤◌, List, [], ◌∷◌, ◌++◌, suc, length, take, Bool, true, false, cond, nat_lt, Option, Some, None, Ok, Err, IfSome, refl, sym, ap, ◌∙◌, subst, length-append, arith}
 use Rattle.std.proofs.lemmas.List.{take-append-le}
 use Rattle.std.proofs.lemmas.Bool.Decides.{nat_tests}
 use Rattle.std.specs.Option.{unwrap_or}
 use Rattle.sdb_oplog.specs.Plain.{PlainEntry}
 use Rattle.sdb_oplog.specs.Keys.{PlainKey, Logs}
+use Rattle.sdb_oplog.specs.Laws.{version_at_within}
+use Rattle.sdb_oplog.specs.Moments.{version_at}
 use Rattle.sdb_oplog.specs.Snap.{document}
 use Rattle.sdb_oplog.specs.declared.codes.Code.TheVariants.{E4}
 use Rattle.sdb_desk.specs.Machine as desk
 use Rattle.sdb_desk.specs.Machine.{PlainFetched}
-use Rattle.sdb_steps.specs.OneStep.{OneStep, Event, Legal, empty, snapped}
+use Rattle.sdb_steps.specs.OneStep.{OneStep, Event, Legal, empty, snapped, timed}
 use Rattle.sdb_steps.specs.Picks as plain
 use Rattle.sdb_steps.specs.Picks.{Session, Sessions, Act, PlainStep, Answer, replied, said, no_memory, effect, replies_in, Picks, all_fresh}
 use Rattle.sdb_steps.specs.Runs.{IsSteps}
@@ -43,15 +45,32 @@ snapped_is old end k v false g is =
     let within : unwrap_or v (length (old k)) ≤ length (old k) = grind (arith, nat_tests) in
     (early (old k) (end k) (unwrap_or v (length (old k))) g within, named v (length (old k)))
 
+counted_if : (b : Bool) (n k : ℕ) → n ≤ k → cond b n (suc n) ≤ cond b k (suc k)
+counted_if true n k h = h
+counted_if false n k h = omega (arith, h)
+
+-- a longer log has as many entries up to a moment, or more
+counted : (old more : List PlainEntry) (t : ℕ) → version_at old t ≤ version_at (old ++ more) t
+counted [] more t = omega arith
+counted (e ∷ es) more t = counted_if (nat_lt t e.moment) (version_at es t) (version_at (es ++ more) t) (counted es more t)
+
+counted_in : (old new : List PlainEntry) (t : ℕ) → Grows old new → version_at old t ≤ version_at new t
+counted_in old new t g = subst (λ (l : List PlainEntry). version_at old t ≤ version_at l t) (sym g.is) (counted old g.more t)
+
+timed_is : (old end : Logs) (k : PlainKey) (t : Option ℕ) → Grows (old k) (end k) → IsReplay end (plain.at_time k t) (replied (timed (desk.at_moment (old k) t)))
+timed_is old end k None g = (early (old k) (end k) (length (old k)) g (omega arith), tt)
+timed_is old end k (Some t) g = (early (old k) (end k) (version_at (old k) t) g (version_at_within (old k) t), counted_in (old k) (end k) t g)
+
 -- ---- one step, and many
 
 read : (m n : OneStep) (i : ℕ) (x y : Session) (act : Act) (a : Answer) (end : Logs) → Follows m (effect m i x act) a n y → ((k : PlainKey) → Grows (m.logs k) (end k)) → IsReplay end act a
 read m n i x y (plain.begin k src seq v content) a end h g = tt
 read m n i x y plain.work a end h g = tt
-read m n i x y plain.commit a end h g = tt
+read m n i x y (plain.commit now) a end h g = tt
 read m n i x y (plain.fetch k) a end h g = subst (λ (b : Answer). IsReplay end (plain.fetch k) b) (sym h.0) (fetched_is m.logs end k (g k))
 read m n i x y (plain.snapshot k v) a end h g =
     subst (λ (b : Answer). IsReplay end (plain.snapshot k v) b) (sym h.0) (snapped_is m.logs end k v (nat_lt (length (m.logs k)) (unwrap_or v (length (m.logs k)))) (g k) refl)
+read m n i x y (plain.at_time k t) a end h g = subst (λ (b : Answer). IsReplay end (plain.at_time k t) b) (sym h.0) (timed_is m.logs end k t (g k))
 read m n i x y (plain.subscribe k v) a end h g = tt
 read m n i x y (plain.take k max) a end h g = tt
 read m n i x y (plain.unsubscribe k) a end h g = tt
@@ -60,9 +79,10 @@ read m n i x y (plain.forget k) a end h g = tt
 read_none : (end : Logs) (act : Act) → IsReplay end act no_memory
 read_none end (plain.begin k src seq v content) = tt
 read_none end plain.work = tt
-read_none end plain.commit = tt
+read_none end (plain.commit now) = tt
 read_none end (plain.fetch k) = tt
 read_none end (plain.snapshot k v) = tt
+read_none end (plain.at_time k t) = tt
 read_none end (plain.subscribe k v) = tt
 read_none end (plain.take k max) = tt
 read_none end (plain.unsubscribe k) = tt

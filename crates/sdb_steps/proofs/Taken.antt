@@ -95,13 +95,13 @@ sub_work : (x : Session) (o : Option plain.Attempt) → DeedSub x (option_map_or
 sub_work x None = λ j q is. is
 sub_work x (Some a) = sub_worked x a a.worked
 
-sub_commits : (m : OneStep) (x : Session) (a : plain.Attempt) (b : Bool) → DeedSub x (cond b (event (machine.submission a.key a.submission) (with_attempt x None)) (notice plain.moved (with_attempt x (Some (plain.moved_on m a)))))
-sub_commits m x a true = λ j q is. is
-sub_commits m x a false = λ j q is. is
+sub_commits : (m : OneStep) (x : Session) (now : ℕ) (a : plain.Attempt) (b : Bool) → DeedSub x (cond b (event (machine.submission a.key a.submission now) (with_attempt x None)) (notice plain.moved (with_attempt x (Some (plain.moved_on m a)))))
+sub_commits m x now a true = λ j q is. is
+sub_commits m x now a false = λ j q is. is
 
-sub_commit : (m : OneStep) (x : Session) (o : Option plain.Attempt) → DeedSub x (option_map_or (plain.commits m x) o (notice plain.idle x))
-sub_commit m x None = λ j q is. is
-sub_commit m x (Some a) = sub_commits m x a (plain.decides m a)
+sub_commit : (m : OneStep) (x : Session) (now : ℕ) (o : Option plain.Attempt) → DeedSub x (option_map_or (plain.commits m x now) o (notice plain.idle x))
+sub_commit m x now None = λ j q is. is
+sub_commit m x now (Some a) = sub_commits m x now a (plain.decides m a)
 
 shut : (b : Bool) (o : Option Reading) (q : Reading) → cond b None o ≡ Some q → o ≡ Some q
 shut true o q h = cc
@@ -178,9 +178,10 @@ session_step : (m n : OneStep) (i : ℕ) (x y : Session) (act : Act) (a : Answer
 session_step m n i x y (plain.begin k src seq v content) a j es h t =
     sub_follows m n x y (effect m i x (plain.begin k src seq v content)) a j es (sub_begin x (plain.opened m k (plain.submission_of i k src seq v content)) x.attempt) h t
 session_step m n i x y plain.work a j es h t = sub_follows m n x y (effect m i x plain.work) a j es (sub_work x x.attempt) h t
-session_step m n i x y plain.commit a j es h t = sub_follows m n x y (effect m i x plain.commit) a j es (sub_commit m x x.attempt) h t
+session_step m n i x y (plain.commit now) a j es h t = sub_follows m n x y (effect m i x (plain.commit now)) a j es (sub_commit m x now x.attempt) h t
 session_step m n i x y (plain.fetch k) a j es h t = sub_follows m n x y (effect m i x (plain.fetch k)) a j es (λ i q p. p) h t
 session_step m n i x y (plain.snapshot k v) a j es h t = sub_follows m n x y (effect m i x (plain.snapshot k v)) a j es (λ i q p. p) h t
+session_step m n i x y (plain.at_time k u) a j es h t = sub_follows m n x y (effect m i x (plain.at_time k u)) a j es (λ i q p. p) h t
 session_step m n i x y (plain.subscribe k v) a j es h t = subscribe_step m n x y k j v (started m k v) a es refl h t
 session_step m n i x y (plain.take k max) a j es h t = take_step m n x y k j max (x.queues k) a es refl h t
 session_step m n i x y (plain.unsubscribe k) a j es h t = sub_follows m n x y (effect m i x (plain.unsubscribe k)) a j es (sub_unsubscribe x k (x.queues k)) h t
@@ -214,9 +215,10 @@ taken_done m n w v s a f x h put t =
 quiet_none : (k : PlainKey) (act : Act) (es : List PlainEntry) → adds k act no_memory es ≡ es
 quiet_none k (plain.begin q src seq v content) es = refl
 quiet_none k plain.work es = refl
-quiet_none k plain.commit es = refl
+quiet_none k (plain.commit now) es = refl
 quiet_none k (plain.fetch q) es = refl
 quiet_none k (plain.snapshot q v) es = refl
+quiet_none k (plain.at_time q t) es = refl
 quiet_none k (plain.subscribe q v) es = refl
 quiet_none k (plain.take q max) es = refl
 quiet_none k (plain.unsubscribe q) es = refl

@@ -42,17 +42,17 @@ or_false : (b c : Bool) → (b || c) ≡ false → c ≡ false
 or_false true c h = cc
 or_false false c h = h
 
-commits_if : (m : OneStep) (x : Session) (a : Attempt) (b : Bool) → plain.decides m a ≡ b → a.tries < 9
-    → After (cond b (event (machine.submission a.key a.submission) (with_attempt x None)) (notice plain.moved (with_attempt x (Some (plain.moved_on m a)))))
-commits_if m x a true is few = few_none
-commits_if m x a false is few =
+commits_if : (m : OneStep) (x : Session) (now : ℕ) (a : Attempt) (b : Bool) → plain.decides m a ≡ b → a.tries < 9
+    → After (cond b (event (machine.submission a.key a.submission now) (with_attempt x None)) (notice plain.moved (with_attempt x (Some (plain.moved_on m a)))))
+commits_if m x now a true is few = few_none
+commits_if m x now a false is few =
     let other : nat_eq a.tries 8 ≡ false = or_false (nat_eq (length (m.logs a.key)) a.looked) (nat_eq a.tries 8) is in
     let less : a.tries + 1 < 9 = grind (arith, nat_tests) in
     few_some (plain.moved_on m a) less
 
-commits : (m : OneStep) (x : Session) (o : Option Attempt) → x.attempt ≡ o → Few x.attempt → After (option_map_or (plain.commits m x) o (notice plain.idle x))
-commits m x None is h = h
-commits m x (Some a) is h = commits_if m x a (plain.decides m a) refl (h a is)
+commits : (m : OneStep) (x : Session) (now : ℕ) (o : Option Attempt) → x.attempt ≡ o → Few x.attempt → After (option_map_or (plain.commits m x now) o (notice plain.idle x))
+commits m x now None is h = h
+commits m x now (Some a) is h = commits_if m x now a (plain.decides m a) refl (h a is)
 
 subscribes : (x : Session) (k : PlainKey) (v : Option ℕ) (r : Result ℕ Code) → Few x.attempt → After (plain.subscribes x k v r)
 subscribes x k v (Ok start) h = h
@@ -79,9 +79,10 @@ closes x k (Some q) h = h
 few_deed : (m : OneStep) (i : ℕ) (x : Session) (act : Act) → Few x.attempt → After (effect m i x act)
 few_deed m i x (plain.begin k src seq v content) h = begins x (plain.opened m k (plain.submission_of i k src seq v content)) x.attempt h (omega arith)
 few_deed m i x plain.work h = works x x.attempt refl h
-few_deed m i x plain.commit h = commits m x x.attempt refl h
+few_deed m i x (plain.commit now) h = commits m x now x.attempt refl h
 few_deed m i x (plain.fetch k) h = h
 few_deed m i x (plain.snapshot k v) h = h
+few_deed m i x (plain.at_time k t) h = h
 few_deed m i x (plain.subscribe k v) h = subscribes x k v (started m k v) h
 few_deed m i x (plain.take k max) h = takes m x k max (x.queues k) h
 few_deed m i x (plain.unsubscribe k) h = closes x k (x.queues k) h

@@ -30,12 +30,12 @@ Works a (said worked) b = (a.worked ≡ false) × (b ≡ worked_on a)
 Works a (said idle) b = (a.worked ≡ true) × (b ≡ a)
 Works a answer b = ⊥
 
--- a commit of an attempt: it decides, or it finds the log moved, or memory was wanting and nothing has changed: to
--- decide, where it must
-abbrev pub Tries : OneStep → Attempt → Answer → OneStep → Option Attempt → Type 0
-Tries m a no_memory n o =
+-- a commit of an attempt at a moment: it decides, or it finds the log moved, or memory was wanting and nothing has
+-- changed: to decide, where it must
+abbrev pub Tries : OneStep → Attempt → ℕ → Answer → OneStep → Option Attempt → Type 0
+Tries m a now no_memory n o =
     (n ≡ m) × (o ≡ Some a) × (decides m a ≡ true → deciding_takes_memory (m.logs a.key) a.submission ≡ true)
-Tries m a (replied r) n o =
-    (decides m a ≡ true) × (r ≡ reply m (submission a.key a.submission)) × (n ≡ next m (submission a.key a.submission))
-    × (o ≡ None)
-Tries m a (said b) n o = (decides m a ≡ false) × (b ≡ moved) × (n ≡ m) × (o ≡ Some (moved_on m a))
+Tries m a now (replied r) n o =
+    (decides m a ≡ true) × (r ≡ reply m (submission a.key a.submission now))
+    × (n ≡ next m (submission a.key a.submission now)) × (o ≡ None)
+Tries m a now (said b) n o = (decides m a ≡ false) × (b ≡ moved) × (n ≡ m) × (o ≡ Some (moved_on m a))

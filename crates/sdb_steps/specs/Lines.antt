@@ -2,9 +2,10 @@
 --
 -- A step is a JSON object with `s`, the number of its session, and `do`, a text that says which step it is. What it
 -- needs beside these: `begin` the names `c`, `d` and `src`, the number `seq`, a content, and `v` if it names a version;
--- `fetch`, `unsubscribe` and `forget` `c` and `d`; `snapshot` and `subscribe` these, and `v` if they name a version;
--- `take` these and the number `max`; `work` and `commit` nothing. All are read as the members of a message are, and
--- unknown ones are ignored. A line that is no step is answered by its code alone.
+-- `commit` the number `ms` if it names a moment; `fetch`, `unsubscribe` and `forget` `c` and `d`; `snapshot` and
+-- `subscribe` these, and `v` if they name a version; `at` these, and `ts` if it names a moment; `take` these and the
+-- number `max`; `work` nothing. All are read as the members of a message are, and unknown ones are ignored. A line that
+-- is no step is answered by its code alone.
 use Rattle.std.specs.Prelude.{ℕ, List, [], ◌∷◌, ◌++◌, Bool, if◌then◌else◌, nat_lt, bytes_eq, Option, Some, None, Result, Ok, Err, option_and_then, codes}
 use Rattle.std.specs.Option.{option_map_or, ok_or}
 use Rattle.std.specs.Result.{is_ok}
@@ -20,7 +21,7 @@ use Rattle.sdb_oplog.specs.declared.codes.Code.{Code}
 use Rattle.sdb_oplog.specs.declared.codes.Code.TheVariants.{E1, E2, E3, E4, E5, E6, E7, E8, E9, E10, E11}
 use Rattle.sdb_wire.specs.Wire.{count_at, name_at, present, may, key_of, content_of, value_of}
 use Rattle.sdb_wire.specs.Answers.{entry_data}
-use Rattle.sdb_steps.specs.OneStep.{Reply, decided, fetched, snapped, subscribed, taken}
+use Rattle.sdb_steps.specs.OneStep.{Reply, decided, fetched, snapped, timed, subscribed, taken}
 use Rattle.sdb_steps.specs.Picks as plain
 use Rattle.sdb_steps.specs.Picks.{Act, PlainStep, Notice, Answer}
 
@@ -46,6 +47,14 @@ begin_of n d =
     (may count_of (present (codes "v") d)))
     (key_of d)
 
+-- the moment of a commit: the number `ms`, or the first moment where there is no such member
+abbrev pub now_of : Data → Result ℕ Code
+now_of d = option_map_or (λ m. ok_or (count_of m) E1) (get (codes "ms") d) (Ok 0)
+
+-- a try at that moment
+abbrev pub commit_of : ℕ → Data → Result PlainStep Code
+commit_of n d = result_then (λ now. Ok (step n (plain.commit now))) (now_of d)
+
 -- the present document of a key
 abbrev pub fetch_of : ℕ → Data → Result PlainStep Code
 fetch_of n d = result_then (λ k. Ok (step n (plain.fetch k))) (key_of d)
@@ -54,6 +63,12 @@ fetch_of n d = result_then (λ k. Ok (step n (plain.fetch k))) (key_of d)
 abbrev pub snapshot_of : ℕ → Data → Result PlainStep Code
 snapshot_of n d =
     result_then (λ k. result_then (λ v. Ok (step n (plain.snapshot k v))) (may count_of (present (codes "v") d)))
+    (key_of d)
+
+-- the document at the moment `ts`, or the present one
+abbrev pub at_time_of : ℕ → Data → Result PlainStep Code
+at_time_of n d =
+    result_then (λ k. result_then (λ t. Ok (step n (plain.at_time k t))) (may count_of (present (codes "ts") d)))
     (key_of d)
 
 -- a queue from `v` on, or from the present version
@@ -82,13 +97,14 @@ act_of n d =
     option_map_or
     (λ a. if bytes_eq a (codes "begin") then begin_of n d
     else (if bytes_eq a (codes "work") then Ok (step n plain.work)
-    else (if bytes_eq a (codes "commit") then Ok (step n plain.commit)
+    else (if bytes_eq a (codes "commit") then commit_of n d
     else (if bytes_eq a (codes "fetch") then fetch_of n d
     else (if bytes_eq a (codes "snapshot") then snapshot_of n d
+    else (if bytes_eq a (codes "at") then at_time_of n d
     else (if bytes_eq a (codes "subscribe") then subscribe_of n d
     else (if bytes_eq a (codes "take") then take_of n d
     else (if bytes_eq a (codes "unsubscribe") then unsubscribe_of n d
-    else (if bytes_eq a (codes "forget") then forget_of n d else Err E1)))))))))
+    else (if bytes_eq a (codes "forget") then forget_of n d else Err E1))))))))))
     (option_and_then as_str (get (codes "do") d)) (Err E1)
 
 -- the step, or the first code in order
@@ -186,6 +202,7 @@ reply_data n (decided r) = decided_data n r
 reply_data n (fetched f) = document_data (codes "fetch") n f.version f.snapshot
 reply_data n (snapped (Ok f)) = document_data (codes "snapshot") n f.version f.snapshot
 reply_data n (snapped (Err code)) = refused_data (codes "snapshot") n code
+reply_data n (timed f) = document_data (codes "at") n f.version f.snapshot
 reply_data n (subscribed (Ok v)) = started_data n v
 reply_data n (subscribed (Err code)) = refused_data (codes "subscribe") n code
 reply_data n (taken es) = taken_data n es

@@ -9,7 +9,7 @@ use Rattle.sdb_oplog.specs.Decide.{PlainReply, decide}
 use Rattle.sdb_oplog.specs.Refused.{result_then}
 use Rattle.sdb_subscribe.specs.Queue.{queue}
 use Rattle.sdb_desk.specs.Machine as desk
-use Rattle.sdb_desk.specs.Machine.{PlainFetched, start_of, snapshot_at}
+use Rattle.sdb_desk.specs.Machine.{PlainFetched, start_of, snapshot_at, at_moment}
 
 -- the log of each key, and how many subscribes of that key were given a start
 pub record OneStep : Type 0 where
@@ -20,10 +20,13 @@ abbrev pub empty : OneStep
 empty = record { logs = no_logs; given = λ k. 0 }
 
 pub data Event : Type 0 where
-  submission : PlainKey → PlainSubmission → Event
+  -- at a moment
+  submission : PlainKey → PlainSubmission → ℕ → Event
   fetch : PlainKey → Event
   -- the document at a version, or at the present one
   snapshot : PlainKey → Option ℕ → Event
+  -- the document at a moment, or the present one
+  at_time : PlainKey → Option ℕ → Event
   -- from a version on, or from the present one
   subscribe : PlainKey → Option ℕ → Event
   -- of a queue: the entries from this one on, at most so many
@@ -34,6 +37,8 @@ pub data Reply : Type 0 where
   -- the version, and the document there
   fetched : PlainFetched → Reply
   snapped : Result PlainFetched Code → Reply
+  -- the version at a moment, and the document there
+  timed : PlainFetched → Reply
   -- the start
   subscribed : Result ℕ Code → Reply
   taken : List PlainEntry → Reply
@@ -44,9 +49,10 @@ started m k v =
     result_then (λ start. if nat_eq (m.given k) 18446744073709551615 then Err E11 else Ok start) (start_of (m.logs k) v)
 
 abbrev pub reply : OneStep → Event → Reply
-reply m (submission k s) = decided (decide (m.logs k) s).reply
+reply m (submission k s now) = decided (decide (m.logs k) s now).reply
 reply m (fetch k) = fetched (desk.fetched (m.logs k))
 reply m (snapshot k v) = snapped (snapshot_at (m.logs k) v)
+reply m (at_time k t) = timed (at_moment (m.logs k) t)
 reply m (subscribe k v) = subscribed (started m k v)
 reply m (take_from k from n) = taken (queue (m.logs k) from n)
 
@@ -56,9 +62,10 @@ one_given f k q = cond (same_key k q) (f k + 1) (f q)
 
 -- only a submission changes a log, and only a subscribe that is given a start a count
 abbrev pub next : OneStep → Event → OneStep
-next m (submission k s) = record { logs = with_log m.logs k (decide (m.logs k) s).log; given = m.given }
+next m (submission k s now) = record { logs = with_log m.logs k (decide (m.logs k) s now).log; given = m.given }
 next m (fetch k) = m
 next m (snapshot k v) = m
+next m (at_time k t) = m
 next m (subscribe k v) = if is_ok (started m k v) then record { logs = m.logs; given = one_given m.given k } else m
 next m (take_from k from n) = m
 

@@ -9,7 +9,7 @@ use Rattle.sdb_oplog.specs.Keys.{PlainKey, same_key}
 use Rattle.sdb_oplog.specs.Decide.{deciding_takes_memory}
 use Rattle.sdb_subscribe.specs.Queue.{queue}
 use Rattle.sdb_steps.specs.Reading.{Reading, moved as moved_by}
-use Rattle.sdb_desk.specs.Machine.{fetched, snapshot_at, has_document, has_version, is_filled}
+use Rattle.sdb_desk.specs.Machine.{fetched, snapshot_at, at_moment, has_document, has_version, is_filled}
 use Rattle.sdb_steps.specs.OneStep as machine
 use Rattle.sdb_steps.specs.OneStep.{OneStep, Event, Reply, started, after}
 
@@ -55,9 +55,13 @@ pub data Act : Type 0 where
   -- at a key: a source, a number, a version that may be absent, a content
   begin : PlainKey → List ℕ → ℕ → Option ℕ → PlainContent → Act
   work : Act
-  commit : Act
+  -- at a moment
+  commit : ℕ → Act
   fetch : PlainKey → Act
+  -- at a version, or at the present one
   snapshot : PlainKey → Option ℕ → Act
+  -- at a moment, or at the present version
+  at_time : PlainKey → Option ℕ → Act
   subscribe : PlainKey → Option ℕ → Act
   take : PlainKey → ℕ → Act
   unsubscribe : PlainKey → Act
@@ -130,10 +134,10 @@ moved_on m a =
 abbrev pub decides : OneStep → Attempt → Bool
 decides m a = nat_eq (length (m.logs a.key)) a.looked || nat_eq a.tries 8
 
--- and then the attempt is at its end
-abbrev pub commits : OneStep → Session → Attempt → Effect
-commits m x a =
-    if decides m a then event (machine.submission a.key a.submission) (with_attempt x None)
+-- and then the submission is decided at the moment of the commit, and the attempt is at its end
+abbrev pub commits : OneStep → Session → ℕ → Attempt → Effect
+commits m x now a =
+    if decides m a then event (machine.submission a.key a.submission now) (with_attempt x None)
     else notice moved (with_attempt x (Some (moved_on m a)))
 
 -- a start replaces the session's queue of that key
@@ -155,9 +159,10 @@ effect m n x (begin k src seq v content) =
 effect m n x work =
     option_map_or (λ a. if a.worked then notice idle x else notice worked (with_attempt x (Some (worked_on a)))) x.attempt
     (notice idle x)
-effect m n x commit = option_map_or (commits m x) x.attempt (notice idle x)
+effect m n x (commit now) = option_map_or (commits m x now) x.attempt (notice idle x)
 effect m n x (fetch k) = event (machine.fetch k) x
 effect m n x (snapshot k v) = event (machine.snapshot k v) x
+effect m n x (at_time k t) = event (machine.at_time k t) x
 effect m n x (subscribe k v) = subscribes x k v (started m k v)
 effect m n x (take k max) = option_map_or (takes m x k max) (x.queues k) (notice idle x)
 effect m n x (unsubscribe k) = option_map_or (λ q. notice unsubscribed (with_queue x k None)) (x.queues k) (notice idle x)
@@ -168,9 +173,10 @@ effect m n x (forget k) = notice forgotten x
 -- an event where its reply takes memory: not a repeat, E4, E11, a create on a document, a fetch of none, a take of nothing.
 -- Of the others those that copy or keep something
 abbrev pub may_want : OneStep → Effect → Bool
-may_want m (event (machine.submission k s) x) = deciding_takes_memory (m.logs k) s
+may_want m (event (machine.submission k s now) x) = deciding_takes_memory (m.logs k) s
 may_want m (event (machine.fetch k) x) = has_document (fetched (m.logs k))
 may_want m (event (machine.snapshot k v) x) = option_map_or has_version (result_ok (snapshot_at (m.logs k) v)) false
+may_want m (event (machine.at_time k t) x) = has_version (at_moment (m.logs k) t)
 may_want m (event (machine.subscribe k v) x) = is_ok (started m k v)
 may_want m (event (machine.take_from k from max) x) = is_filled (queue (m.logs k) from max)
 may_want m (notice began x) = true

@@ -16,7 +16,7 @@ pub record Begun : Type 0 where
 -- what a session has begun and not yet decided, after one more step
 abbrev pub begun_after : Act → Answer → Option Begun → Option Begun
 begun_after (plain.begin k src seq v content) (said plain.began) b = Some (record { key = k; src = src; seq = seq })
-begun_after plain.commit (replied r) b = None
+begun_after (plain.commit now) (replied r) b = None
 begun_after act answer b = b
 
 -- the first entry with the source and number of what was begun is at v. Never so where nothing was begun
@@ -26,8 +26,8 @@ IsAt logs None v = ⊥
 
 -- a commit that was answered a version, stored or a repeat, where its session has begun b
 abbrev pub IsPlaced : Logs → Option Begun → Act → Answer → Type 0
-IsPlaced logs b plain.commit (replied (decided (stored v missed))) = IsAt logs b v
-IsPlaced logs b plain.commit (replied (decided (repeated v))) = IsAt logs b v
+IsPlaced logs b (plain.commit now) (replied (decided (stored v missed))) = IsAt logs b v
+IsPlaced logs b (plain.commit now) (replied (decided (repeated v))) = IsAt logs b v
 IsPlaced logs b act answer = ⊤
 
 -- what each session has begun, where this one's is now b

@@ -9,7 +9,7 @@ use Rattle.sdb_oplog.specs.Keys.{PlainKey}
 use Rattle.sdb_oplog.specs.Plain.{PlainContent, create, delete, edit, PlainEntry}
 use Rattle.sdb_oplog.specs.declared.codes.Code.TheVariants.{E1, E2, E3, E4, E8}
 use Rattle.sdb_steps.specs.Lines.{step, read_step, answer_text, refusal_text}
-use Rattle.sdb_steps.specs.OneStep.{decided, fetched, snapped, subscribed, taken}
+use Rattle.sdb_steps.specs.OneStep.{decided, fetched, snapped, timed, subscribed, taken}
 use Rattle.sdb_steps.specs.Picks as plain
 use Rattle.sdb_steps.specs.Picks.{replied, said, no_memory}
 
@@ -21,6 +21,7 @@ abbrev at : ℕ → PlainContent → PlainEntry
 at v m =
     record {
       version = v;
+      moment = 0;
       content = m;
       arrived = record { src = codes "a"; seq = 1; version = None; content = m; via = codes "c"; by = 0 };
     }
@@ -42,9 +43,13 @@ pub row_work : read_step (codes "{\"do\":\"work\",\"s\":63}") ≡ Ok (step 63 pl
 unfolding serde_json_on_literals
 row_work = refl
 
-pub row_commit : read_step (codes "{\"s\":1,\"do\":\"commit\",\"other\":[]}") ≡ Ok (step 1 plain.commit)
+pub row_commit : read_step (codes "{\"s\":1,\"do\":\"commit\",\"other\":[]}") ≡ Ok (step 1 (plain.commit 0))
 unfolding serde_json_on_literals
 row_commit = refl
+
+pub row_commit_at : read_step (codes "{\"s\":1,\"do\":\"commit\",\"ms\":100}") ≡ Ok (step 1 (plain.commit 100))
+unfolding serde_json_on_literals
+row_commit_at = refl
 
 pub row_fetch : read_step (codes "{\"s\":1,\"do\":\"fetch\",\"c\":\"c\",\"d\":\"d\"}") ≡ Ok (step 1 (plain.fetch here))
 unfolding serde_json_on_literals
@@ -54,6 +59,16 @@ pub row_snapshot : read_step (codes "{\"s\":1,\"do\":\"snapshot\",\"c\":\"c\",\"
     ≡ Ok (step 1 (plain.snapshot here (Some 7)))
 unfolding serde_json_on_literals
 row_snapshot = refl
+
+pub row_at : read_step (codes "{\"s\":1,\"do\":\"at\",\"c\":\"c\",\"d\":\"d\",\"ts\":150}")
+    ≡ Ok (step 1 (plain.at_time here (Some 150)))
+unfolding serde_json_on_literals
+row_at = refl
+
+pub row_at_present : read_step (codes "{\"s\":1,\"do\":\"at\",\"c\":\"c\",\"d\":\"d\",\"ts\":null}")
+    ≡ Ok (step 1 (plain.at_time here None))
+unfolding serde_json_on_literals
+row_at_present = refl
 
 pub row_subscribe : read_step (codes "{\"s\":1,\"do\":\"subscribe\",\"c\":\"c\",\"d\":\"d\",\"v\":null}")
     ≡ Ok (step 1 (plain.subscribe here None))
@@ -92,6 +107,18 @@ row_no_such_step = refl
 pub row_no_max : read_step (codes "{\"s\":1,\"do\":\"take\",\"c\":\"c\",\"d\":\"d\"}") ≡ Err E1
 unfolding serde_json_on_literals
 row_no_max = refl
+
+pub row_no_moment : read_step (codes "{\"s\":1,\"do\":\"at\",\"c\":\"c\",\"d\":\"d\",\"ts\":\"1\"}") ≡ Err E1
+unfolding serde_json_on_literals
+row_no_moment = refl
+
+pub row_null_moment : read_step (codes "{\"s\":1,\"do\":\"commit\",\"ms\":null}") ≡ Err E1
+unfolding serde_json_on_literals
+row_null_moment = refl
+
+pub row_past_moments : read_step (codes "{\"s\":1,\"do\":\"commit\",\"ms\":9007199254740992}") ≡ Err E1
+unfolding serde_json_on_literals
+row_past_moments = refl
 
 pub row_no_src : read_step (codes "{\"s\":0,\"do\":\"begin\",\"c\":\"c\",\"d\":\"d\",\"seq\":1,\"del\":true}") ≡ Err E1
 unfolding serde_json_on_literals
@@ -168,6 +195,16 @@ row_nothing = refl
 pub row_not_come : answer_text 3 (replied (snapped (Err E4))) ≡ codes "{\"do\":\"snapshot\",\"error\":\"E4\",\"s\":3}"
 unfolding serde_json_on_literals digits
 row_not_come = refl
+
+pub row_timed : answer_text 3 (replied (timed (record { version = 2; snapshot = Some (whole (pos 1)) })))
+    ≡ codes "{\"data\":1,\"do\":\"at\",\"s\":3,\"v\":2}"
+unfolding serde_json_on_literals digits
+row_timed = refl
+
+pub row_too_early : answer_text 3 (replied (timed (record { version = 0; snapshot = None })))
+    ≡ codes "{\"do\":\"at\",\"s\":3,\"type\":null,\"v\":0}"
+unfolding serde_json_on_literals digits
+row_too_early = refl
 
 pub row_started : answer_text 3 (replied (subscribed (Ok 5))) ≡ codes "{\"do\":\"subscribe\",\"s\":3,\"v\":5}"
 unfolding serde_json_on_literals digits

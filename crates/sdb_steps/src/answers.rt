@@ -68,6 +68,7 @@ fn write_answer(session: u64, answer: &StepAnswer, out: &mut Writer) -> Result<(
         StepAnswer::Decided(reply) => write_decided(session, reply, out),
         StepAnswer::Fetched(fetched) => write_document("fetch", session, fetched, out),
         StepAnswer::Snapped(read) => write_snapped(session, read, out),
+        StepAnswer::Timed(fetched) => write_document("at", session, fetched, out),
         StepAnswer::Subscribed(start) => write_subscribed(session, start, out),
         StepAnswer::Taken(entries) => write_taken(session, entries.as_slice(), out),
         StepAnswer::Unsubscribed => write_notice("unsubscribe", session, out),

@@ -16,7 +16,7 @@ ghost use Rattle.sdb_steps.specs.View.{plain_answer};
 use crate::session_state::{OpenAttempt, Phase};
 use crate::step::StepAnswer;
 use sdb_desk::{Attempt, Look, Outcome, Reply, Shard, Work};
-use sdb_oplog::{Code, Key, Submission};
+use sdb_oplog::{Code, Key, Moment, Submission};
 use sdb_submit::{work, work_on};
 use std::alloc::{AllocError, Global};
 
@@ -45,51 +45,51 @@ impl OpenAttempt {
         })
     }
 
-    // Commits: one try, or, after eight, at once.
-    pub(crate) fn commit(self, alloc: Global, shard: &mut Shard) -> Committed
+    // Commits at a moment: one try, or, after eight, at once.
+    pub(crate) fn commit(self, alloc: Global, shard: &mut Shard, now: Moment) -> Committed
         requires { IsLooked (logs_of shard.old) (Some self) }
         ensures looked { IsLooked (logs_of shard.new) result.1 }
-        ensures tries { Tries (core_of shard.old) (plain_attempt self) (plain_answer result.0)
+        ensures tries { Tries (core_of shard.old) (plain_attempt self) now (plain_answer result.0)
             (core_of shard.new) (option_map plain_attempt result.1) }
         ensures queues { queues_of shard.new ≡ queues_of shard.old }
     {
         if self.tries == LAST_TRY {
-            return self.commit_now(shard);
+            return self.commit_now(shard, now);
         }
         let OpenAttempt { key, phase, tries } = self;
         let is_worked = is_worked(&phase);
         match worked(alloc, phase) {
-            Ok(work) => commit_work(shard, key, work, tries, is_worked),
-            Err(phase) => OpenAttempt { key, phase, tries }.commit_unworked(shard),
+            Ok(work) => commit_work(shard, key, work, tries, is_worked, now),
+            Err(phase) => OpenAttempt { key, phase, tries }.commit_unworked(shard, now),
         }
     }
 
     // A try of an attempt that no memory was found to work: it decides where the log is as long as it was
     // looked at.
-    fn commit_unworked(self, shard: &mut Shard) -> Committed
+    fn commit_unworked(self, shard: &mut Shard, now: Moment) -> Committed
         requires few { self.tries < 8 }
         requires looked { IsLooked (logs_of shard.old) (Some self) }
         ensures looked { IsLooked (logs_of shard.new) result.1 }
-        ensures tries { Tries (core_of shard.old) (plain_attempt self) (plain_answer result.0)
+        ensures tries { Tries (core_of shard.old) (plain_attempt self) now (plain_answer result.0)
             (core_of shard.new) (option_map plain_attempt result.1) }
         ensures queues { queues_of shard.new ≡ queues_of shard.old }
     {
         if shard.version(&self.key) != looked_at(&self.phase) {
             return (StepAnswer::NoMemory, Some(self));
         }
-        self.commit_now(shard)
+        self.commit_now(shard, now)
     }
 
-    // Decides the attempt, whatever the log has come to.
-    fn commit_now(self, shard: &mut Shard) -> Committed
+    // Decides the attempt at a moment, whatever the log has come to.
+    fn commit_now(self, shard: &mut Shard, now: Moment) -> Committed
         requires due { decides (core_of shard.old) (plain_attempt self) ≡ true }
         requires looked { IsLooked (logs_of shard.old) (Some self) }
         ensures looked { IsLooked (logs_of shard.new) result.1 }
-        ensures tries { Tries (core_of shard.old) (plain_attempt self) (plain_answer result.0)
+        ensures tries { Tries (core_of shard.old) (plain_attempt self) now (plain_answer result.0)
             (core_of shard.new) (option_map plain_attempt result.1) }
         ensures queues { queues_of shard.new ≡ queues_of shard.old }
     {
-        let reply = shard.commit_now(&self.key, submission_of(&self.phase));
+        let reply = shard.commit_now(&self.key, submission_of(&self.phase), now);
         if is_wanting(&reply) {
             return (StepAnswer::NoMemory, Some(self));
         }
@@ -172,8 +172,15 @@ fn work_phase(alloc: Global, phase: Phase) -> (StepAnswer, Phase)
     }
 }
 
-// One try of a work. Where memory is wanting the attempt is as it was, worked or not.
-fn commit_work(shard: &mut Shard, key: Key, work: Work, tries: u64, is_worked: bool) -> Committed
+// One try of a work, at a moment. Where memory is wanting the attempt is as it was, worked or not.
+fn commit_work(
+    shard: &mut Shard,
+    key: Key,
+    work: Work,
+    tries: u64,
+    is_worked: bool,
+    now: Moment,
+) -> Committed
     requires few { tries < 8 }
     requires looked { IsLook (logs_of shard.old (plain_key key)) work }
     ensures looked { IsLooked (logs_of shard.new) result.1 }
@@ -185,11 +192,11 @@ fn commit_work(shard: &mut Shard, key: Key, work: Work, tries: u64, is_worked: b
           tries = tries;
           worked = is_worked;
         })
-        (plain_answer result.0) (core_of shard.new) (option_map plain_attempt result.1) }
+        now (plain_answer result.0) (core_of shard.new) (option_map plain_attempt result.1) }
     ensures queues { queues_of shard.new ≡ queues_of shard.old }
 {
     let mut work = work;
-    match shard.commit(&key, &mut work) {
+    match shard.commit(&key, &mut work, now) {
         Outcome::Decided(reply) => {
             if is_wanting(&reply) {
                 let phase = put_back(work, is_worked);

@@ -13,7 +13,7 @@ use crate::session_number::SessionNumber;
 use crate::session_state::{OpenAttempt, Session};
 use crate::step::{Step, StepAnswer};
 use sdb_desk::Shard;
-use sdb_oplog::{Code, Content, Key, Submission};
+use sdb_oplog::{Code, Content, Key, Moment, Submission};
 use std::alloc::{AllocError, Global};
 
 // One step of this session.
@@ -48,9 +48,10 @@ pub(crate) fn dispatch(
             begin(shard, session, key, submission)
         }
         Step::Work { .. } => session.work(alloc),
-        Step::Commit { .. } => session.commit(alloc, shard),
+        Step::Commit { now, .. } => session.commit(alloc, shard, *now),
         Step::Fetch { key, .. } => fetch(shard, key),
         Step::Snapshot { key, version, .. } => snapshot(shard, key, *version),
+        Step::AtTime { key, moment, .. } => at_time(shard, key, *moment),
         Step::Subscribe {
             session: number,
             key,
@@ -141,6 +142,19 @@ fn snapshot(shard: &mut Shard, key: &Key, version: Option<u64>) -> StepAnswer
     match shard.snapshot_at(key, version) {
         Ok(fetched) => StepAnswer::Snapped(Ok(fetched)),
         Err(code) => refused_snapshot(code),
+    }
+}
+
+// Reads the document at a moment, or the present one.
+fn at_time(shard: &mut Shard, key: &Key, moment: Option<Moment>) -> StepAnswer
+    ensures dispatches { (i : ℕ) (x : plain.Session) → Dispatches i (core_of shard.old) x
+        (plain.at_time (plain_key key.now) moment) (plain_answer result) (core_of shard.new) x }
+    ensures logs { logs_of shard.new ≡ logs_of shard.old }
+    ensures queues { queues_of shard.new ≡ queues_of shard.old }
+{
+    match shard.at_time(key, moment) {
+        Ok(fetched) => StepAnswer::Timed(fetched),
+        Err(_) => StepAnswer::NoMemory,
     }
 }
 

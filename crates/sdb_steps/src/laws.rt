@@ -38,7 +38,7 @@ pub fn queues_take_all()
 {}
 
 /// What each read of a run was answered is the replay of so many first entries of the log that stands
-/// at the end, at the version that was named.
+/// at the end, at the version that was named, and of none that is later than the moment that was named.
 pub fn reads_are_replays()
     ensures { (steps : List PlainStep) (answers : List Answer) (events : List Event) (w : Sessions) (logs : Logs) →
         Picks steps answers events w → Legal events (replies_in answers) logs → ReplaysAll steps answers logs }
@@ -59,20 +59,22 @@ pub fn stored_once()
     ensures { (log : List PlainEntry) → IsMade log → are_first [] log ≡ true }
 {}
 
-/// A resent operation, whatever its content and version and whatever was stored since, is answered
+/// A resent operation, whatever its content, version and moment and whatever was stored since, is answered
 /// with its first version and changes nothing.
 pub fn resent()
-    ensures { (log missed more : List PlainEntry) (s again : PlainSubmission) (v : ℕ) →
-        (decide log s).reply ≡ stored v missed → again.src ≡ s.src → again.seq ≡ s.seq →
-        decide ((decide log s).log ++ more) again ≡ record { reply = repeated v; log = (decide log s).log ++ more } }
+    ensures { (log missed more : List PlainEntry) (s again : PlainSubmission) (now later v : ℕ) →
+        (decide log s now).reply ≡ stored v missed → again.src ≡ s.src → again.seq ≡ s.seq →
+        decide ((decide log s now).log ++ more) again later ≡
+        record { reply = repeated v; log = (decide log s now).log ++ more } }
 {}
 
 /// A submission with the source and number of an entry of a log that is made is answered with the
 /// place of that entry and changes nothing.
 pub fn repeats_are_answered()
-    ensures { (before later : List PlainEntry) (e : PlainEntry) (again : PlainSubmission) →
+    ensures { (before later : List PlainEntry) (e : PlainEntry) (again : PlainSubmission) (now : ℕ) →
         IsMade (before ++ e ∷ later) → again.src ≡ e.arrived.src → again.seq ≡ e.arrived.seq →
-        decide (before ++ e ∷ later) again ≡ record { reply = repeated (length before); log = before ++ e ∷ later } }
+        decide (before ++ e ∷ later) again now ≡
+        record { reply = repeated (length before); log = before ++ e ∷ later } }
 {}
 
 /// An attempt was tried at most eight times so far: the ninth commit decides.

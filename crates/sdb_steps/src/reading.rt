@@ -2,13 +2,15 @@
 ghost use Rattle.std.specs.Prelude.{◌≡◌, Ok, IfOk, IfErr, option_map};
 ghost use Rattle.serde_json.specs.View.{view as data_view};
 ghost use Rattle.sdb_oplog.specs.Refused.{RefusedBy};
-ghost use Rattle.sdb_steps.specs.Lines.{session_of, begin_of, fetch_of, snapshot_of, subscribe_of, take_of, unsubscribe_of, forget_of, act_of, step_of, read_step};
+ghost use Rattle.sdb_steps.specs.Lines.{session_of, begin_of, now_of, commit_of, fetch_of, snapshot_of, at_time_of, subscribe_of, take_of, unsubscribe_of, forget_of, act_of, step_of, read_step};
 ghost use Rattle.sdb_steps.specs.View.{plain_step};
 
 use crate::session_number::SessionNumber;
 use crate::step::Step;
-use sdb_oplog::Code;
-use sdb_wire::{count_at, key_of, may_count, need_name, read_content, value_of};
+use sdb_oplog::{Code, Moment};
+use sdb_wire::{
+    count_at, key_of, may_count, may_moment, moment_of, need_name, read_content, value_of,
+};
 use serde_json::Value;
 use std::alloc::Global;
 
@@ -47,9 +49,10 @@ fn act_of(alloc: Global, session: SessionNumber, value: &Value) -> Result<Step, 
     match value.get("do").and_then(Value::as_str) {
         Some("begin") => begin_of(alloc, session, value),
         Some("work") => Ok(Step::Work { session }),
-        Some("commit") => Ok(Step::Commit { session }),
+        Some("commit") => commit_of(session, value),
         Some("fetch") => fetch_of(alloc, session, value),
         Some("snapshot") => snapshot_of(alloc, session, value),
+        Some("at") => at_time_of(alloc, session, value),
         Some("subscribe") => subscribe_of(alloc, session, value),
         Some("take") => take_of(alloc, session, value),
         Some("unsubscribe") => unsubscribe_of(alloc, session, value),
@@ -81,6 +84,29 @@ fn begin_of(alloc: Global, session: SessionNumber, value: &Value) -> Result<Step
     })
 }
 
+// The moment of a commit: the first one where it is absent.
+fn now_of(value: &Value) -> Result<Moment, Code>
+    ensures { result ≡ now_of (data_view value.now) }
+{
+    match value.get("ms") {
+        None => Ok(Moment::first()),
+        Some(member) => match moment_of(member) {
+            Some(moment) => Ok(moment),
+            None => Err(Code::E1),
+        },
+    }
+}
+
+fn commit_of(session: SessionNumber, value: &Value) -> Result<Step, Code>
+    ensures ok { IfOk result (λ s. commit_of session.number (data_view value.now) ≡ Ok (plain_step s)) }
+    ensures err { IfErr result (λ code. RefusedBy (commit_of session.number (data_view value.now)) code) }
+{
+    match now_of(value) {
+        Ok(now) => Ok(Step::Commit { session, now }),
+        Err(code) => Err(code),
+    }
+}
+
 fn fetch_of(alloc: Global, session: SessionNumber, value: &Value) -> Result<Step, Code>
     ensures ok { IfOk result (λ s. fetch_of session.number (data_view value.now) ≡ Ok (plain_step s)) }
     ensures err { IfErr result (λ code. RefusedBy (fetch_of session.number (data_view value.now)) code) }
@@ -99,6 +125,21 @@ fn snapshot_of(alloc: Global, session: SessionNumber, value: &Value) -> Result<S
             session,
             key,
             version,
+        }),
+        Err(code) => Err(code),
+    }
+}
+
+fn at_time_of(alloc: Global, session: SessionNumber, value: &Value) -> Result<Step, Code>
+    ensures ok { IfOk result (λ s. at_time_of session.number (data_view value.now) ≡ Ok (plain_step s)) }
+    ensures err { IfErr result (λ code. RefusedBy (at_time_of session.number (data_view value.now)) code) }
+{
+    let key = key_of(alloc, value)?;
+    match may_moment(value, "ts") {
+        Ok(moment) => Ok(Step::AtTime {
+            session,
+            key,
+            moment,
         }),
         Err(code) => Err(code),
     }

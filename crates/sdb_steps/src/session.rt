@@ -16,7 +16,7 @@ use crate::queue_slots::{drop_empty_slot, drop_slot, fill_slot, make_slot, queue
 use crate::session_state::Session;
 use crate::step::StepAnswer;
 use sdb_desk::Shard;
-use sdb_oplog::{Code, Key};
+use sdb_oplog::{Code, Key, Moment};
 use sdb_subscribe::SubId;
 use std::alloc::Global;
 use std::collections::BTreeMap;
@@ -47,19 +47,19 @@ impl Session {
         answer
     }
 
-    // Commits the attempt.
-    pub(crate) fn commit(&mut self, alloc: Global, shard: &mut Shard) -> StepAnswer
+    // Commits the attempt at a moment.
+    pub(crate) fn commit(&mut self, alloc: Global, shard: &mut Shard, now: Moment) -> StepAnswer
         requires { IsLooked (logs_of shard.old) self.old.attempt }
         ensures looked { IsLooked (logs_of shard.new) self.new.attempt }
-        ensures dispatches { (i : ℕ) (q : Queued) → Dispatches i (core_of shard.old) (plain_session q self.old) commit
-            (plain_answer result) (core_of shard.new) (plain_session q self.new) }
+        ensures dispatches { (i : ℕ) (q : Queued) → Dispatches i (core_of shard.old) (plain_session q self.old)
+            (commit now) (plain_answer result) (core_of shard.new) (plain_session q self.new) }
         ensures slots { slots_of self.new ≡ slots_of self.old }
         ensures queues { queues_of shard.new ≡ queues_of shard.old }
     {
         let Some(attempt) = self.attempt.take() else {
             return StepAnswer::Idle;
         };
-        let (answer, left) = attempt.commit(alloc, shard);
+        let (answer, left) = attempt.commit(alloc, shard, now);
         self.attempt = left;
         answer
     }

@@ -4,7 +4,7 @@ ghost use Rattle.sdb_steps.specs.View.{plain_step};
 
 use crate::session_number::SessionNumber;
 use sdb_desk::{Fetched, Reply};
-use sdb_oplog::{Code, Content, Entry, Key};
+use sdb_oplog::{Code, Content, Entry, Key, Moment};
 
 /// What one session does.
 #[derive(Drop)]
@@ -26,9 +26,11 @@ pub enum Step {
     },
     /// Decides the attempt, where the log is as long as it was looked at, and on the ninth try; elsewhere
     /// the log has moved, and is looked at again. An attempt that is not worked is worked first. Idle
-    /// without an attempt.
+    /// without an attempt. What is stored has this moment, or that of the entry before it where that is
+    /// later.
     Commit {
         session: SessionNumber,
+        now: Moment,
     },
     /// Reads the present document.
     Fetch {
@@ -40,6 +42,12 @@ pub enum Step {
         session: SessionNumber,
         key: Key,
         version: Option<u64>,
+    },
+    /// Reads the document at a moment, the present one without.
+    AtTime {
+        session: SessionNumber,
+        key: Key,
+        moment: Option<Moment>,
     },
     /// Opens a queue at a version, at the present one without, in place of the session's queue of this
     /// document.
@@ -81,6 +89,8 @@ pub enum StepAnswer {
     Fetched(Fetched),
     /// A version and the document there, or E4.
     Snapped(Result<Fetched, Code>),
+    /// The version at a moment, and the document there.
+    Timed(Fetched),
     /// The version that the queue starts at, or E4, or E11.
     Subscribed(Result<u64, Code>),
     /// The entries that came.
@@ -103,9 +113,10 @@ impl Step {
         match self {
             Step::Begin { session, .. } => *session,
             Step::Work { session } => *session,
-            Step::Commit { session } => *session,
+            Step::Commit { session, .. } => *session,
             Step::Fetch { session, .. } => *session,
             Step::Snapshot { session, .. } => *session,
+            Step::AtTime { session, .. } => *session,
             Step::Subscribe { session, .. } => *session,
             Step::Take { session, .. } => *session,
             Step::Unsubscribe { session, .. } => *session,

@@ -43,6 +43,9 @@ returns-in-Fetch-clause-leaves c = let s = slots_of c.args.session.now in leaves
 pub returns-in-Snapshot-clause-leaves : goal.returns-in-Snapshot-clause-leaves
 returns-in-Snapshot-clause-leaves c = let s = slots_of c.args.session.now in leaves_all (plain_step c.args.step.now).session (queues_of c.args.shard.now) _ s s c.requires.queues c.snapshot.ensures.queues refl
 
+pub returns-in-AtTime-clause-leaves : goal.returns-in-AtTime-clause-leaves
+returns-in-AtTime-clause-leaves c = let s = slots_of c.args.session.now in leaves_all (plain_step c.args.step.now).session (queues_of c.args.shard.now) _ s s c.requires.queues c.at_time.ensures.queues refl
+
 pub returns-in-Forget-clause-dispatches : goal.returns-in-Forget-clause-dispatches
 returns-in-Forget-clause-dispatches c =
     let m = core_of c.args.shard.now in

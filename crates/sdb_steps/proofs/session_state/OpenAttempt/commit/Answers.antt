@@ -8,5 +8,5 @@ use Rattle.sdb_steps.proofs.session_state.OpenAttempt.commit.Goals as goal
 
 pub returns-in-Err-clause-tries : goal.returns-in-Err-clause-tries
 returns-in-Err-clause-tries c =
-    subst (λ a. Tries (core_of c.args.shard.now) a (plain_answer c.commit_unworked.result.0) (core_of c.commit_unworked.new.shard) (option_map plain_attempt c.commit_unworked.result.1))
+    subst (λ a. Tries (core_of c.args.shard.now) a c.args.now (plain_answer c.commit_unworked.result.0) (core_of c.commit_unworked.new.shard) (option_map plain_attempt c.commit_unworked.result.1))
     (c.in-Err.ensures.err (plain_key c.args.self.key) c.args.self.tries) c.commit_unworked.ensures.tries

@@ -12,17 +12,17 @@ use Rattle.sdb_steps.proofs.session_state.OpenAttempt.commit_now.Goals as goal
 pub returns-then-is_wanting-clause-tries : goal.returns-then-is_wanting-clause-tries
 returns-then-is_wanting-clause-tries c =
     let t = plain_attempt c.args.self in
-    let decided : (s : PlainSubmission) → s ≡ t.submission → Decides (logs_of c.args.shard.now) t.key s (plain_reply c.commit_now-reply.result) (logs_of c.commit_now-reply.new.self) → Decides (logs_of c.args.shard.now) t.key t.submission (plain_reply c.commit_now-reply.result) (logs_of c.commit_now-reply.new.self) =
-    λ s e h. subst (λ x. Decides (logs_of c.args.shard.now) t.key x (plain_reply c.commit_now-reply.result) (logs_of c.commit_now-reply.new.self)) e h in
-    now_wanting c.args.shard.now c.commit_now-reply.new.self t (plain_reply c.commit_now-reply.result) (c.if-is_wanting.ensures.wanting refl) (decided c.submission_of.result.now c.submission_of.ensures c.commit_now-reply.ensures.decides) c.commit_now-reply.ensures.queues
+    let decided : (s : PlainSubmission) → s ≡ t.submission → Decides (logs_of c.args.shard.now) t.key s c.args.now (plain_reply c.commit_now-reply.result) (logs_of c.commit_now-reply.new.self) → Decides (logs_of c.args.shard.now) t.key t.submission c.args.now (plain_reply c.commit_now-reply.result) (logs_of c.commit_now-reply.new.self) =
+    λ s e h. subst (λ x. Decides (logs_of c.args.shard.now) t.key x c.args.now (plain_reply c.commit_now-reply.result) (logs_of c.commit_now-reply.new.self)) e h in
+    now_wanting c.args.shard.now c.commit_now-reply.new.self t c.args.now (plain_reply c.commit_now-reply.result) (c.if-is_wanting.ensures.wanting refl) (decided c.submission_of.result.now c.submission_of.ensures c.commit_now-reply.ensures.decides) c.commit_now-reply.ensures.queues
 
 pub returns-clause-tries : goal.returns-clause-tries
 returns-clause-tries c =
     let t = plain_attempt c.args.self in
-    let decided : (s : PlainSubmission) → s ≡ t.submission → Decides (logs_of c.args.shard.now) t.key s (plain_reply c.commit_now-reply.result) (logs_of c.commit_now-reply.new.self) → Decides (logs_of c.args.shard.now) t.key t.submission (plain_reply c.commit_now-reply.result) (logs_of c.commit_now-reply.new.self) =
-    λ s e h. subst (λ x. Decides (logs_of c.args.shard.now) t.key x (plain_reply c.commit_now-reply.result) (logs_of c.commit_now-reply.new.self)) e h in
-    now_decided c.args.shard.now c.commit_now-reply.new.self t (plain_reply c.commit_now-reply.result) c.requires.due (c.if-is_wanting.ensures.enough refl) (decided c.submission_of.result.now c.submission_of.ensures c.commit_now-reply.ensures.decides) c.commit_now-reply.ensures.queues
+    let decided : (s : PlainSubmission) → s ≡ t.submission → Decides (logs_of c.args.shard.now) t.key s c.args.now (plain_reply c.commit_now-reply.result) (logs_of c.commit_now-reply.new.self) → Decides (logs_of c.args.shard.now) t.key t.submission c.args.now (plain_reply c.commit_now-reply.result) (logs_of c.commit_now-reply.new.self) =
+    λ s e h. subst (λ x. Decides (logs_of c.args.shard.now) t.key x c.args.now (plain_reply c.commit_now-reply.result) (logs_of c.commit_now-reply.new.self)) e h in
+    now_decided c.args.shard.now c.commit_now-reply.new.self t c.args.now (plain_reply c.commit_now-reply.result) c.requires.due (c.if-is_wanting.ensures.enough refl) (decided c.submission_of.result.now c.submission_of.ensures c.commit_now-reply.ensures.decides) c.commit_now-reply.ensures.queues
 
 pub returns-then-is_wanting-clause-looked : goal.returns-then-is_wanting-clause-looked
 returns-then-is_wanting-clause-looked c =
-    looked_now_wanting (logs_of c.args.shard.now) (logs_of c.commit_now-reply.new.self) (plain_attempt c.args.self).key (attempt_in c.args.self.phase) c.submission_of.result.now (plain_reply c.commit_now-reply.result) (c.if-is_wanting.ensures.wanting refl) c.commit_now-reply.ensures.decides c.requires.looked
+    looked_now_wanting (logs_of c.args.shard.now) (logs_of c.commit_now-reply.new.self) (plain_attempt c.args.self).key (attempt_in c.args.self.phase) c.submission_of.result.now c.args.now (plain_reply c.commit_now-reply.result) (c.if-is_wanting.ensures.wanting refl) c.commit_now-reply.ensures.decides c.requires.looked

@@ -7,5 +7,5 @@ use Rattle.sdb_upper_tests.proofs.desk.Board.commit_now.Goals as goal
 pub returns : goal.returns
 returns c =
     λ a h.
-    decided_stays (logs_of c.args.self.now.shard) (logs_of c.commit_now.new.self) (plain_key c.args.self.now.key) c.args.submission (plain_reply c.commit_now.result) a
+    decided_stays (logs_of c.args.self.now.shard) (logs_of c.commit_now.new.self) (plain_key c.args.self.now.key) c.args.submission c.first.result (plain_reply c.commit_now.result) a
     c.commit_now.ensures.decides h

@@ -7,5 +7,5 @@ use Rattle.sdb_upper_tests.proofs.submit.Shared.meddle.Goals as goal
 pub returns-in-Some : goal.returns-in-Some
 returns-in-Some c =
     λ a h.
-    decided_stays (logs_of c.args.self.now.shard) (logs_of c.commit_now.new.self) (plain_key c.args.key.now) c.in-Some.other (plain_reply c.commit_now.result) a
+    decided_stays (logs_of c.args.self.now.shard) (logs_of c.commit_now.new.self) (plain_key c.args.key.now) c.in-Some.other c.first.result (plain_reply c.commit_now.result) a
     c.commit_now.ensures.decides h
