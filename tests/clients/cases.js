@@ -402,6 +402,23 @@ const cases = {
     await assert.rejects(lost, { code: 'ERR_DOC_ALREADY_CREATED' });
   },
 
+  async 'a create that came second: createIfAbsent waits for the first one'() {
+    const client = new Client('ws://test', { source: 'me', WebSocket: ScriptedSocket });
+    const document = client.document(ADDRESS.c, ADDRESS.d);
+    document.subscribe();
+    const socket = lastSocket();
+    socket.open();
+    socket.answer({ a: 's', ...ADDRESS, data: { type: null, v: 0 } });
+    const made = document.createIfAbsent('mine').then(() => document.data);
+    socket.answer(refused('op', 'ERR_DOC_ALREADY_CREATED', { src: 'me', seq: 1 }));
+    await later();
+    assert.deepStrictEqual(socket.taken().slice(-2), [{ a: 'f', ...ADDRESS }, { a: 'f', ...ADDRESS, v: 0 }]);
+    socket.answer({ a: 'f', ...ADDRESS, data: { data: 'theirs', v: 1 } });
+    const create = { type: 'json0', data: 'theirs' };
+    socket.answer({ a: 'op', ...ADDRESS, create, src: 'other', seq: 1, v: 0 }, { a: 'f', ...ADDRESS });
+    assert.strictEqual(await made, 'theirs');
+  },
+
   async 'a create that is refused: createIfAbsent says so'() {
     const client = new Client('ws://test', { source: 'me', WebSocket: ScriptedSocket });
     const document = client.document(ADDRESS.c, ADDRESS.d);
