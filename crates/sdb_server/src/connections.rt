@@ -12,7 +12,7 @@ use crate::visit_threads::VisitThreads;
 use sdb_backend::{Host, Pass};
 use std::alloc::{AllocError, Global};
 use std::io::{Error, ErrorKind};
-use std::net::{TcpListener, TcpStream};
+use std::net::{Net, TcpListener, TcpStream};
 use std::sync::{Arc, Wait};
 use std::thread::Threads;
 use std::time::{Clock, Duration};
@@ -30,7 +30,11 @@ struct Reception<R: Wait> {
     is_accept_failing: bool,
 }
 
-impl<R: Threads + Wait + Clock + Eprint + Drop + Copy + Send + Sync + 'static> Reception<R> {
+impl<R> Reception<R>
+where
+    R: Net<Listener = TcpListener, Stream = TcpStream>,
+    R: Threads + Wait + Clock + Eprint + Drop + Copy + Send + Sync + 'static,
+{
     fn new(
         alloc: Global,
         state: &ServerState<R>,
@@ -269,7 +273,7 @@ impl<R: Threads + Wait + Clock + Eprint + Drop + Copy + Send + Sync + 'static> R
 ///
 /// An error comes where the listener can't be told not to block, or for want of memory, and before
 /// anybody is let in. The listener doesn't block afterwards.
-pub fn listen<R: Threads + Wait + Clock + Eprint + Drop + Copy + Send + Sync + 'static>(
+pub fn listen<R>(
     rt: R,
     alloc: Global,
     listener: &TcpListener,
@@ -277,6 +281,9 @@ pub fn listen<R: Threads + Wait + Clock + Eprint + Drop + Copy + Send + Sync + '
     host: &mut Host,
     connections: Option<u64>,
 ) -> io::Result<()>
+where
+    R: Net<Listener = TcpListener, Stream = TcpStream>,
+    R: Threads + Wait + Clock + Eprint + Drop + Copy + Send + Sync + 'static,
     requires { IsHostOf host.old state.now.value }
     ensures host { IsHostOf host.new state.now.value }
     ensures counted { OnOk result (IsSomeAnd connections (λ count. next_of host.new ≡ next_of host.old + count)) }
@@ -305,15 +312,16 @@ pub fn listen<R: Threads + Wait + Clock + Eprint + Drop + Copy + Send + Sync + '
 /// are what [`Backend::close`](sdb_backend::Backend::close) asks for. They are kept meanwhile.
 ///
 /// An error comes as from `listen`.
-pub fn listen_until_stopped<
-    R: Threads + Wait + Clock + Eprint + Drop + Copy + Send + Sync + 'static,
->(
+pub fn listen_until_stopped<R>(
     rt: R,
     alloc: Global,
     listener: &TcpListener,
     state: &Arc<ServerState<R>, Global>,
     host: &mut Host,
 ) -> io::Result<Vec<Pass>>
+where
+    R: Net<Listener = TcpListener, Stream = TcpStream>,
+    R: Threads + Wait + Clock + Eprint + Drop + Copy + Send + Sync + 'static,
     requires { IsHostOf host.old state.now.value }
     ensures host { IsHostOf host.new state.now.value }
     ensures passes { IfOk result (λ passes. Each (λ p. IsPass p state.now.value.backend) passes.items) }
@@ -324,7 +332,7 @@ pub fn listen_until_stopped<
     for _ in rt.forever() {
         let is_stopped = state.is_stopped();
         if is_stopped {
-            state.end();
+            state.end(&rt);
         }
         if is_stopped && reception.is_empty() {
             return Ok(reception.sessions.into_passes());

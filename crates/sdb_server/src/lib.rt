@@ -2,17 +2,19 @@
 //! clients in and serves each on a thread of its own.
 #![tactic(auto)]
 
-mod answers;
 mod clock;
 mod connections;
 mod deadline_stream;
+mod followers;
 mod journal;
 mod line_session;
 mod opening_handshake;
 mod server_state;
 mod session_end;
 mod session_threads;
+mod socket_sink;
 mod visit_threads;
+mod waking_stream;
 mod websocket_session;
 
 pub use clock::{Clock, ListClock, SystemClock};

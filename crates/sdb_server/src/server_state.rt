@@ -6,14 +6,17 @@ ghost use Rattle.sdb_server.specs.Served.{IsHostOf};
 
 use crate::clock::SystemClock;
 use crate::deadline_stream::DeadlineStream;
+use crate::followers::Followers;
 use crate::opening_handshake::shake_hands;
+use crate::waking_stream::WakingStream;
 use crate::websocket_session::{Served, Service, close_and_drain, serve_until};
 use sdb_backend::{Backend, Pass};
 use sdb_projection::Table;
 use sdb_wire::MESSAGE_LIMIT;
 use std::alloc::{AllocError, Global};
 use std::io;
-use std::net::TcpStream;
+use std::io::{Read, Write};
+use std::net::{Net, TcpStream};
 use std::sync::atomic::{AtomicBool, Ordering};
 use std::sync::{Mutex, Wait};
 use std::time::{Clock, Duration};
@@ -29,7 +32,7 @@ pub(crate) const VISITOR_LIMIT: usize = 64;
 // a turn.
 const BUFFER_SIZE: usize = 16 * 1_024;
 
-// How long a read waits for input.
+// How long a read waits for input, where nothing else is said.
 const READ_TIMEOUT_MS: u64 = 20;
 
 // How long a write waits for a client that doesn't read. Then the connection ends.
@@ -42,6 +45,7 @@ pub struct ServerState<R: Wait> {
     pub(crate) backend: Backend<R>,
     table: Table,
     is_logging: bool,
+    longest_wait: Duration,
     is_stopped: AtomicBool,
     // Nobody more is served.
     is_full: AtomicBool,
@@ -49,6 +53,8 @@ pub struct ServerState<R: Wait> {
     is_ending: AtomicBool,
     // The threads that are about to end.
     ended: Mutex<Vec<Slot>>,
+    // The sessions, which are woken where something is stored.
+    followers: Followers,
 }
 
 /// Which thread it is of those of its kind.
@@ -84,10 +90,12 @@ impl<R: Wait + Drop> ServerState<R> {
             backend,
             table,
             is_logging: false,
+            longest_wait: Duration::from_millis(READ_TIMEOUT_MS),
             is_stopped: AtomicBool::new(false),
             is_full: AtomicBool::new(false),
             is_ending: AtomicBool::new(false),
             ended: Mutex::new(ended),
+            followers: Followers::new(alloc)?,
         })
     }
 
@@ -97,6 +105,16 @@ impl<R: Wait + Drop> ServerState<R> {
         ensures { result.backend ≡ self.backend }
     {
         self.is_logging = is_logging;
+        self
+    }
+
+    /// The same server. Its sessions wait for so long at most, those of a new one for 20 milliseconds, before they
+    /// look by themselves what was stored. What is counted in silent reads takes as much longer.
+    pub fn with_longest_wait(mut self, longest_wait: Duration) -> ServerState<R>
+        ensures backend { result.backend ≡ self.backend }
+        ensures wait { result.longest_wait ≡ longest_wait }
+    {
+        self.longest_wait = longest_wait;
         self
     }
 
@@ -135,9 +153,10 @@ impl<R: Wait + Drop> ServerState<R> {
     }
 
     /// The sessions are to end, and nobody more is served.
-    pub(crate) fn end(&self) {
+    pub(crate) fn end(&self, rt: &R) {
         self.is_ending.store(true, Ordering::SeqCst);
         self.fill();
+        self.followers.wake_all(rt);
     }
 
     /// Notes that the thread is about to end.
@@ -179,26 +198,46 @@ impl<R: Wait + Drop> ServerState<R> {
         }
     }
 
-    /// Serves a client whose handshake is done, by the clock of this runtime.
-    pub(crate) fn serve(&self, rt: &R, alloc: Global, stream: TcpStream, pass: Pass) -> Served
+    /// Serves a client whose handshake is done, in this slot and by the clock of this runtime.
+    pub(crate) fn serve(
+        &self,
+        rt: &R,
+        alloc: Global,
+        slot: usize,
+        stream: TcpStream,
+        pass: Pass,
+    ) -> Served
     where
-        R: Clock,
+        R: Net + Clock,
         requires { IsPass pass self.now.backend }
         ensures { IsPass result.pass self.now.backend }
     {
+        let (stream, waker) = WakingStream::new(rt, alloc, stream, self.longest_wait);
+        let following = self.followers.at(slot);
+        if let Some(following) = following {
+            following.enter(rt, waker);
+        }
         let mut socket = socket_on(alloc, stream);
         let service = Service {
             backend: &self.backend,
             table: &self.table,
             clock: SystemClock::new(rt),
-            is_ending: &self.is_ending,
+            is_ending: Some(&self.is_ending),
+            following,
         };
-        serve_until(rt, alloc, &mut socket, pass, service)
+        let served = serve_until(rt, alloc, &mut socket, pass, service);
+        if let Some(following) = following {
+            following.leave(rt);
+        }
+        served
     }
 }
 
 // The socket of a connection whose handshake is done.
-fn socket_on(alloc: Global, stream: TcpStream) -> WebSocket<DeadlineStream<TcpStream>, NoMask> {
+fn socket_on<S: Read + Write + Drop>(
+    alloc: Global,
+    stream: S,
+) -> WebSocket<DeadlineStream<S>, NoMask> {
     let stream = DeadlineStream::new(stream);
     WebSocket::from_raw_socket(alloc, stream, NoMask, Role::Server, Some(configuration()))
 }

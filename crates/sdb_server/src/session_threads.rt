@@ -10,7 +10,7 @@ use crate::server_state::{CLIENT_LIMIT, ServerState, Slot};
 use crate::websocket_session::Served;
 use sdb_backend::{Backend, Pass};
 use std::alloc::{AllocError, Global};
-use std::net::{Shutdown, TcpStream};
+use std::net::{Net, Shutdown, TcpListener, TcpStream};
 use std::snapshot::Snapshot;
 use std::sync::{Arc, Wait};
 use std::thread;
@@ -124,6 +124,7 @@ impl<R: Wait + Drop> SessionThreads<R> {
     /// connection is closed then.
     pub(crate) fn start(&mut self, rt: R, alloc: Global, place: Place<R>, pass: Pass) -> bool
     where
+        R: Net<Listener = TcpListener, Stream = TcpStream>,
         R: Threads + Clock + Copy + Send + Sync + 'static,
         requires pass { IsPass pass place.state.value.backend }
         ensures backend { AreOf self.old place.state.value.backend → AreOf self.new place.state.value.backend }
@@ -215,7 +216,7 @@ impl<R: Wait + Drop> SessionThreads<R> {
 }
 
 // What a session's thread does: it serves a client, and notes that it is about to end.
-fn serve_in<R: Wait + Clock + Drop>(
+fn serve_in<R: Net<Listener = TcpListener, Stream = TcpStream> + Wait + Clock + Drop>(
     state: Arc<ServerState<R>, Global>,
     rt: R,
     alloc: Global,
@@ -226,7 +227,7 @@ fn serve_in<R: Wait + Clock + Drop>(
     requires { IsPass pass state.value.backend }
     ensures { IsPass result.pass state.value.backend }
 {
-    let served = state.serve(&rt, alloc, stream, pass);
+    let served = state.serve(&rt, alloc, slot, stream, pass);
     state.note_end(&rt, Slot::Session(slot));
     served
 }

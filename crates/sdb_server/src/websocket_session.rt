@@ -4,13 +4,14 @@ ghost use Rattle.sdb_backend.specs.Passes.{number_of, IsPass};
 ghost use Rattle.sdb_server.specs.Served.{KeepsPass};
 
 use crate::TAKE_LIMIT;
-use crate::answers::Answers;
 use crate::clock::Clock;
 use crate::deadline_stream::DeadlineStream;
+use crate::followers::{Following, Group};
 use crate::session_end::SessionEnd;
+use crate::socket_sink::SocketSink;
 use sdb_backend::{Backend, Pass};
 use sdb_projection::Table;
-use sdb_session::Session;
+use sdb_session::{Ended, Session};
 use std::alloc::Global;
 use std::io::{Error as IoError, ErrorKind, Read, Write};
 use std::sync::Wait;
@@ -55,17 +56,21 @@ enum Incoming {
     Control,
     // Nothing, for as long as a read waits.
     Silence,
+    // Nothing yet: something was stored meanwhile, or the server is ending.
+    Waking,
 }
 
 // A client at a socket, and what it is served with.
 #[derive(Drop)]
 struct Client<'a, R: Wait, C, S> {
+    rt: &'a R,
     alloc: Global,
     socket: &'a mut WebSocket<DeadlineStream<S>, NoMask>,
     backend: &'a Backend<R>,
     table: &'a Table,
     clock: C,
-    is_ending: &'a AtomicBool,
+    is_ending: Option<&'a AtomicBool>,
+    following: Option<Following<'a>>,
     pass: Pass,
     session: Session,
     silent_reads: u64,
@@ -82,8 +87,10 @@ pub(crate) struct Service<'a, R: Wait, C> {
     pub(crate) table: &'a Table,
     /// Tells the moments of its messages.
     pub(crate) clock: C,
-    /// Whether the server is ending.
-    pub(crate) is_ending: &'a AtomicBool,
+    /// Whether the server is ending, where there is one.
+    pub(crate) is_ending: Option<&'a AtomicBool>,
+    /// Its place among those that are woken, where it has one.
+    pub(crate) following: Option<Following<'a>>,
 }
 
 /// How a client was served.
@@ -103,34 +110,35 @@ pub(crate) struct Served {
 
 /// Serves a client at a socket until one of both closes it, and gives the pass back. The session's
 /// source is `s` and the number of the pass. Each text message is handled, a binary one answered as E1;
-/// the clock is asked once for each, and what a message submits is stored at that moment. Between two
-/// reads what was stored meanwhile is sent, so the stream's reads should answer `WouldBlock` or `TimedOut`
-/// after some milliseconds without input, as those of a stream do on which
-/// [`set_socket_options`](crate::set_socket_options) was called. A message longer than the socket takes
-/// is answered as E1, and ends the session.
+/// the clock is asked once for each, and what a message submits is stored at that moment. Each answer goes to
+/// the socket as it is made. Between two reads what was stored meanwhile is sent, so the stream's reads should
+/// answer `WouldBlock` or `TimedOut` after some milliseconds without input, as those of a stream do on which
+/// [`set_socket_options`](crate::set_socket_options) was called; one that answers `Interrupted` sooner, so
+/// that this is sent, counts for nothing. A message longer than the socket takes is answered as E1, and ends
+/// the session.
 ///
 /// A client from which 3,000 reads in a row bring nothing is sent a ping, and after 6,000 a close with
 /// the status 1001, as is one that takes too many reads for a message ([`DeadlineStream`]). The session's
 /// queues are closed before anything is waited for at its end.
-pub fn serve<R: Wait + Drop, C: Clock + Drop, S: Read + Write + Drop>(
-    rt: &R,
+pub fn serve<'a, R: Wait + Drop, C: Clock + Drop, S: Read + Write + Drop>(
+    rt: &'a R,
     alloc: Global,
     clock: C,
-    socket: &mut WebSocket<DeadlineStream<S>, NoMask>,
-    backend: &Backend<R>,
+    socket: &'a mut WebSocket<DeadlineStream<S>, NoMask>,
+    backend: &'a Backend<R>,
     pass: Pass,
-    table: &Table,
+    table: &'a Table,
 ) -> Pass
     requires { IsPass pass backend.now }
     ensures pass { IsPass result backend.now }
     ensures number { number_of result ≡ number_of pass }
 {
-    let is_ending = AtomicBool::new(false);
     let service = Service {
         backend,
         table,
         clock,
-        is_ending: &is_ending,
+        is_ending: None,
+        following: None,
     };
     serve_until(rt, alloc, socket, pass, service).pass
 }
@@ -138,7 +146,7 @@ pub fn serve<R: Wait + Drop, C: Clock + Drop, S: Read + Write + Drop>(
 /// Serves a client as [`serve`] does, and also ends its session, with the status 1001, once the server is
 /// ending.
 pub(crate) fn serve_until<'a, R: Wait + Drop, C: Clock + Drop, S: Read + Write + Drop>(
-    rt: &R,
+    rt: &'a R,
     alloc: Global,
     socket: &'a mut WebSocket<DeadlineStream<S>, NoMask>,
     pass: Pass,
@@ -164,21 +172,24 @@ pub(crate) fn serve_until<'a, R: Wait + Drop, C: Clock + Drop, S: Read + Write +
         table,
         clock,
         is_ending,
+        following,
     } = service;
     let mut client = Client {
+        rt,
         alloc,
         socket,
         backend,
         table,
         clock,
         is_ending,
+        following,
         pass,
         session: Session::new(alloc, source),
         silent_reads: 0,
         messages: 0,
         operations: 0,
     };
-    let end = client.converse(rt);
+    let end = client.converse();
     let farewell = client.farewell(end);
     let (socket, served) = client.leave(end);
     say_farewell(alloc, socket, farewell);
@@ -187,14 +198,14 @@ pub(crate) fn serve_until<'a, R: Wait + Drop, C: Clock + Drop, S: Read + Write +
 
 impl<'a, R: Wait + Drop, C: Clock + Drop, S: Read + Write + Drop> Client<'a, R, C, S> {
     // Answers the client until the session ends.
-    fn converse(&mut self, rt: &R) -> SessionEnd
+    fn converse(&mut self) -> SessionEnd
         requires { IsPass self.old.pass self.old.backend.now }
         ensures { KeepsPass self.old.backend.now self.old.pass self.new.backend.now self.new.pass }
     {
         if let Err(end) = self.open() {
             return end;
         }
-        for _ in rt.forever() {
+        for _ in self.rt.forever() {
             if let Err(end) = self.turn() {
                 return end;
             }
@@ -209,6 +220,7 @@ impl<'a, R: Wait + Drop, C: Clock + Drop, S: Read + Write + Drop> Client<'a, R, 
         let opening = self.session.opening()?;
         self.say(opening)?;
         self.socket.flush()?;
+        self.ask_to_be_woken();
         Ok(())
     }
 
@@ -218,16 +230,35 @@ impl<'a, R: Wait + Drop, C: Clock + Drop, S: Read + Write + Drop> Client<'a, R, 
         requires { IsPass self.old.pass self.old.backend.now }
         ensures { KeepsPass self.old.backend.now self.old.pass self.new.backend.now self.new.pass }
     {
-        if self.is_ending.load(Ordering::SeqCst) {
+        if self.is_ending() {
             return Err(SessionEnd::Stopped);
         }
-        let incoming = next_incoming(self.socket)?;
+        let incoming = self.next_incoming()?;
         self.restart_deadline(&incoming);
         self.answer(&incoming)?;
         self.pump()?;
         self.watch(&incoming)?;
         self.socket.flush()?;
         Ok(())
+    }
+
+    fn is_ending(&self) -> bool {
+        match self.is_ending {
+            Some(is_ending) => is_ending.load(Ordering::SeqCst),
+            None => false,
+        }
+    }
+
+    // Whoever is woken has come back from its wait.
+    fn next_incoming(&mut self) -> Result<Incoming, SessionEnd>
+        requires { IsPass self.old.pass self.old.backend.now }
+        ensures { KeepsPass self.old.backend.now self.old.pass self.new.backend.now self.new.pass }
+    {
+        let incoming = next_incoming(self.socket);
+        if let Some(following) = self.following {
+            following.go_on();
+        }
+        incoming
     }
 
     fn answer(&mut self, incoming: &Incoming) -> Result<(), SessionEnd>
@@ -237,31 +268,50 @@ impl<'a, R: Wait + Drop, C: Clock + Drop, S: Read + Write + Drop> Client<'a, R, 
         match incoming {
             Incoming::Text(text) => self.answer_text(text.as_str()),
             Incoming::Binary => self.answer_binary(),
-            Incoming::Control | Incoming::Silence => Ok(()),
+            Incoming::Control | Incoming::Silence | Incoming::Waking => Ok(()),
         }
     }
 
+    // Handles a text at the moment that the clock tells.
     fn answer_text(&mut self, text: &str) -> Result<(), SessionEnd>
         requires { IsPass self.old.pass self.old.backend.now }
         ensures { KeepsPass self.old.backend.now self.old.pass self.new.backend.now self.new.pass }
     {
         self.messages = self.messages.saturating_add(1);
-        let mut answers = Answers::new(self.alloc);
-        self.handle(text, &mut answers)?;
-        self.operations = self.operations.saturating_add(answers.acknowledged);
-        self.say_all(answers.texts)
+        let now = self.clock.now();
+        let (backend, table) = (self.backend, self.table);
+        let mut sink = SocketSink::new(self.socket);
+        let handled = self
+            .session
+            .handle_to(backend, &mut self.pass, table, text, now, &mut sink);
+        let SocketSink {
+            stored,
+            followed,
+            failure,
+            ..
+        } = sink;
+        self.note(stored, followed);
+        said(handled, failure)?;
+        Ok(())
     }
 
-    // Handles a text at the moment that the clock tells.
-    fn handle(&mut self, text: &str, answers: &mut Answers) -> Result<(), SessionEnd>
+    // Follows what was subscribed to, and counts what was stored and wakes those who follow it.
+    fn note(&mut self, stored: Option<Group>, followed: Option<Group>)
         requires { IsPass self.old.pass self.old.backend.now }
         ensures { KeepsPass self.old.backend.now self.old.pass self.new.backend.now self.new.pass }
     {
-        let now = self.clock.now();
-        let (backend, table) = (self.backend, self.table);
-        self.session
-            .handle_to(backend, &mut self.pass, table, text, now, answers)?;
-        Ok(())
+        if stored.is_some() {
+            self.operations = self.operations.saturating_add(1);
+        }
+        let Some(following) = self.following else {
+            return;
+        };
+        if let Some(group) = followed {
+            following.follow(group);
+        }
+        if let Some(group) = stored {
+            following.tell(self.rt, group);
+        }
     }
 
     fn answer_binary(&mut self) -> Result<(), SessionEnd>
@@ -270,26 +320,47 @@ impl<'a, R: Wait + Drop, C: Clock + Drop, S: Read + Write + Drop> Client<'a, R, 
     {
         self.messages = self.messages.saturating_add(1);
         self.clock.now();
-        let mut texts = Vec::new(self.alloc);
-        self.session.refuse_to(&mut texts)?;
-        self.say_all(texts)
+        let mut sink = SocketSink::new(self.socket);
+        let refused = self.session.refuse_to(&mut sink);
+        said(refused, sink.failure)
     }
 
-    // Sends what was stored meanwhile.
+    // What is stored from now on wakes the session. It looks at its queues behind this.
+    fn ask_to_be_woken(&self) {
+        if let Some(following) = self.following {
+            following.wait();
+        }
+    }
+
+    // Sends what was stored meanwhile. Where that is much, the rest of it is sent behind the next read, which
+    // doesn't wait then.
     fn pump(&mut self) -> Result<(), SessionEnd>
         requires { IsPass self.old.pass self.old.backend.now }
         ensures { KeepsPass self.old.backend.now self.old.pass self.new.backend.now self.new.pass }
     {
+        self.ask_to_be_woken();
         for _ in 0..PUMP_LIMIT {
-            let pumped = self
-                .session
-                .pump(self.backend, &mut self.pass, self.table, TAKE_LIMIT)?;
-            self.say_all(pumped.texts)?;
-            if pumped.taken < u128::from(TAKE_LIMIT) {
-                break;
+            if self.pump_once()? < u128::from(TAKE_LIMIT) {
+                return Ok(());
             }
         }
+        if let Some(following) = self.following {
+            following.hurry(self.rt);
+        }
         Ok(())
+    }
+
+    // One take of each queue. How many entries were taken.
+    fn pump_once(&mut self) -> Result<u128, SessionEnd>
+        requires { IsPass self.old.pass self.old.backend.now }
+        ensures { KeepsPass self.old.backend.now self.old.pass self.new.backend.now self.new.pass }
+    {
+        let (backend, table) = (self.backend, self.table);
+        let mut sink = SocketSink::new(self.socket);
+        let pumped = self
+            .session
+            .pump_to(backend, &mut self.pass, table, TAKE_LIMIT, &mut sink);
+        said(pumped, sink.failure)
     }
 
     // What came is whole, so the next message has a deadline of its own.
@@ -298,7 +369,7 @@ impl<'a, R: Wait + Drop, C: Clock + Drop, S: Read + Write + Drop> Client<'a, R, 
         ensures { KeepsPass self.old.backend.now self.old.pass self.new.backend.now self.new.pass }
     {
         match incoming {
-            Incoming::Silence => {}
+            Incoming::Silence | Incoming::Waking => {}
             _ => self.socket.get_mut().restart(),
         }
     }
@@ -310,6 +381,8 @@ impl<'a, R: Wait + Drop, C: Clock + Drop, S: Read + Write + Drop> Client<'a, R, 
     {
         self.silent_reads = match incoming {
             Incoming::Silence => self.silent_reads.saturating_add(1),
+            // What others do says nothing of the client.
+            Incoming::Waking => return Ok(()),
             _ => 0,
         };
         if self.silent_reads == SILENCE_LIMIT_BEFORE_PING {
@@ -317,16 +390,6 @@ impl<'a, R: Wait + Drop, C: Clock + Drop, S: Read + Write + Drop> Client<'a, R, 
         }
         if self.silent_reads >= SILENCE_LIMIT {
             return Err(SessionEnd::Silent);
-        }
-        Ok(())
-    }
-
-    fn say_all(&mut self, texts: Vec<String>) -> Result<(), SessionEnd>
-        requires { IsPass self.old.pass self.old.backend.now }
-        ensures { KeepsPass self.old.backend.now self.old.pass self.new.backend.now self.new.pass }
-    {
-        for text in texts {
-            self.say(text)?;
         }
         Ok(())
     }
@@ -440,7 +503,9 @@ fn next_incoming<S: Read + Write + Drop>(
     match socket.read() {
         Ok(message) => Ok(incoming_of(message)),
         Err(error) => {
-            if finds_nothing(&error) {
+            if is_waking(&error) {
+                Ok(Incoming::Waking)
+            } else if finds_nothing(&error) {
                 Ok(Incoming::Silence)
             } else {
                 Err(error.into())
@@ -454,6 +519,22 @@ fn incoming_of(message: Message) -> Incoming {
         Message::Text(text) => Incoming::Text(text),
         Message::Binary(_) => Incoming::Binary,
         _ => Incoming::Control,
+    }
+}
+
+// An error of the socket ends the session, and else want of memory does.
+fn said<T: Drop>(done: Result<T, Ended>, failure: Option<Error>) -> Result<T, SessionEnd> {
+    match failure {
+        Some(error) => Err(error.into()),
+        None => Ok(done?),
+    }
+}
+
+// Whether the read was woken.
+fn is_waking(error: &Error) -> bool {
+    match error {
+        Error::Io(error) => error.kind() == ErrorKind::Interrupted,
+        _ => false,
     }
 }
 

@@ -64,7 +64,7 @@ pub fn serve_at<R>(
 ) -> anyhow::Result<u8>
 where
     R: AllocGlobal + Input<Reader = StdinLock<'static>> + Print + Eprint,
-    R: Threads + Wait + Clock,
+    R: Net<Listener = TcpListener, Stream = TcpStream> + Threads + Wait + Clock,
     R: Copy + Drop + Send + Sync + 'static,
 {
     match until {
@@ -83,7 +83,8 @@ fn serve_so_many<R>(
     table: Table,
 ) -> anyhow::Result<u8>
 where
-    R: AllocGlobal + Print + Eprint + Threads + Wait + Clock,
+    R: AllocGlobal + Print + Eprint,
+    R: Net<Listener = TcpListener, Stream = TcpStream> + Threads + Wait + Clock,
     R: Copy + Drop + Send + Sync + 'static,
 {
     let alloc = rt.alloc();
@@ -103,7 +104,8 @@ pub fn serve_until_end<R, I>(
     table: Table,
 ) -> anyhow::Result<u8>
 where
-    R: AllocGlobal + Print + Eprint + Threads + Wait + Clock,
+    R: AllocGlobal + Print + Eprint,
+    R: Net<Listener = TcpListener, Stream = TcpStream> + Threads + Wait + Clock,
     R: Copy + Drop + Send + Sync + 'static,
     I: Read + Drop + Send + 'static,
 {

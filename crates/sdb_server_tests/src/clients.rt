@@ -23,7 +23,11 @@ pub(crate) fn connect(rt: HostRuntime, address: SocketAddr) -> Result<TcpStream,
 }
 
 // A client at the address, whose handshake is done.
-fn reach(rt: HostRuntime, alloc: Global, address: SocketAddr) -> Result<Client, &'static str> {
+pub(crate) fn reach(
+    rt: HostRuntime,
+    alloc: Global,
+    address: SocketAddr,
+) -> Result<Client, &'static str> {
     let stream = connect(rt, address)?;
     let request = request_of(alloc, "ws://localhost/").or(Err("no request"))?;
     match client(alloc, rt, request, stream) {
@@ -60,7 +64,7 @@ pub(crate) fn enter(
     come(rt, alloc, address, opening)?.ok_or("sent away")
 }
 
-fn next_message(socket: &mut Client) -> Option<Message> {
+pub(crate) fn next_message(socket: &mut Client) -> Option<Message> {
     socket.read().ok()
 }
 
@@ -68,6 +72,14 @@ fn next_message(socket: &mut Client) -> Option<Message> {
 fn is_text(message: &Message, wanted: &str) -> bool {
     match message {
         Message::Text(text) => text.as_str() == wanted,
+        _ => false,
+    }
+}
+
+// Whether a message asks for a sign of life.
+pub(crate) fn is_ping(message: &Message) -> bool {
+    match message {
+        Message::Ping(_) => true,
         _ => false,
     }
 }

@@ -5,13 +5,17 @@ ghost use Rattle.sdb_backend.specs.declared.seats.Host.{Host as Hosting};
 ghost use Rattle.sdb_server.specs.Served.{IsHostOf};
 
 use crate::clients::{Client, FIRST_OPENING, ask, come, connect, enter, expect, expect_close};
+use crate::wakings::{
+    LONG_WAIT_MS, SHORT_WAIT_MS, USUAL_WAIT_MS, be_pinged, be_soon, be_told_at_once,
+    end_behind_a_message, now,
+};
 use sdb_backend::Backend;
 use sdb_oplog::Log;
 use sdb_projection::Table;
 use sdb_server::{ServerState, listen, listen_until_stopped, set_socket_options};
 use std::alloc::{AllocError, Global};
 use std::io::Write;
-use std::net::{Shutdown, SocketAddr, TcpListener, TcpStream};
+use std::net::{Net, Shutdown, SocketAddr, TcpListener, TcpStream};
 use std::sync::atomic::{AtomicBool, Ordering};
 use std::sync::{Arc, Wait};
 use std::test::Fail;
@@ -31,33 +35,41 @@ const TRY_LIMIT: u64 = 1_000;
 // How many messages a client sends whose server must not end.
 const ROUNDS: u64 = 200;
 
-const FETCH: &str = r#"{"a":"f","c":"b","d":"1"}"#;
+pub(crate) const FETCH: &str = r#"{"a":"f","c":"b","d":"1"}"#;
 
-const FETCHED: &str = r#"{"a":"f","c":"b","d":"1","data":{"type":null,"v":0}}"#;
+pub(crate) const FETCHED: &str = r#"{"a":"f","c":"b","d":"1","data":{"type":null,"v":0}}"#;
 
 const BADLY_FORMED: &str =
     r#"{"error":{"code":"ERR_MESSAGE_BADLY_FORMED","message":"message is badly formed"}}"#;
 
-// A server without documents and projections.
+// A server without documents and projections, whose sessions wait for so long at most.
 fn server<R: Wait + Drop>(
     alloc: Global,
     backend: Backend<R>,
     is_logging: bool,
+    longest_wait: u64,
 ) -> Result<Arc<ServerState<R>, Global>, AllocError>
     ensures { IfOk result (λ s. (h : Hosting) → IsHost h backend → IsHostOf h s.value) }
 {
     let state = ServerState::new(alloc, backend, Table::new(alloc))?.with_log(is_logging);
+    let state = state.with_longest_wait(Duration::from_millis(longest_wait));
     Ok(Arc::new(alloc, state)?)
 }
 
-// Serves so many clients that come to the listener.
-fn serve_clients<R>(rt: R, listener: &TcpListener, connections: u64) -> Result<(), Fail>
+// Serves so many clients that come to the listener, by sessions that wait for so long at most.
+fn serve_clients<R>(
+    rt: R,
+    listener: &TcpListener,
+    connections: u64,
+    longest_wait: u64,
+) -> Result<(), Fail>
 where
-    R: AllocGlobal + Eprint + Threads + Wait + Clock + Drop + Copy + Send + Sync + 'static,
+    R: AllocGlobal + Eprint + Net<Listener = TcpListener, Stream = TcpStream>,
+    R: Threads + Wait + Clock + Drop + Copy + Send + Sync + 'static,
 {
     let alloc = rt.alloc();
     let (backend, mut host) = Backend::new(alloc, rt)?;
-    let state = server(alloc, backend, false)?;
+    let state = server(alloc, backend, false, longest_wait)?;
     listen(rt, alloc, listener, &state, &mut host, Some(connections))?;
     Ok(())
 }
@@ -71,7 +83,7 @@ fn opening(alloc: Global, number: u64) -> Result<String, &'static str> {
     format!(in alloc; "{OPENING_FRONT}{number}{OPENING_BACK}").or(Err("no memory"))
 }
 
-const SECOND_OPENING: &str =
+pub(crate) const SECOND_OPENING: &str =
     r#"{"a":"init","id":"s2","protocol":1,"protocolMinor":1,"type":"http://sharejs.org/types/JSONv0"}"#;
 
 const CREATE: &str =
@@ -83,16 +95,20 @@ const SUBSCRIBE: &str = r#"{"a":"s","c":"b","d":"1","v":null}"#;
 
 const SUBSCRIBED: &str = r#"{"a":"s","c":"b","d":"1","data":{"data":{"n":1},"v":1}}"#;
 
-const EDIT: &str =
+pub(crate) const EDIT: &str =
     r#"{"a":"op","c":"b","d":"1","v":1,"src":"y","seq":1,"op":[{"p":["n"],"na":1}]}"#;
 
-const EDITED: &str = r#"{"a":"op","c":"b","d":"1","seq":1,"src":"y","v":1}"#;
+pub(crate) const EDITED: &str = r#"{"a":"op","c":"b","d":"1","seq":1,"src":"y","v":1}"#;
 
-const FOLLOWED: &str =
+pub(crate) const FOLLOWED: &str =
     r#"{"a":"op","c":"b","d":"1","op":[{"na":1,"p":["n"]}],"seq":1,"src":"y","v":1}"#;
 
 // The first client, which has created the document and follows it.
-fn follow(rt: HostRuntime, alloc: Global, address: SocketAddr) -> Result<Client, &'static str> {
+pub(crate) fn follow(
+    rt: HostRuntime,
+    alloc: Global,
+    address: SocketAddr,
+) -> Result<Client, &'static str> {
     let mut client = enter(rt, alloc, address, FIRST_OPENING)?;
     ask(alloc, &mut client, CREATE, CREATED)?;
     ask(alloc, &mut client, SUBSCRIBE, SUBSCRIBED)?;
@@ -287,6 +303,9 @@ enum Visit {
     SendLargeMessages,
     Stay,
     ComeOddly,
+    BeToldAtOnce,
+    BePinged,
+    EndBehindAMessage,
 }
 
 impl Visit {
@@ -303,21 +322,28 @@ impl Visit {
             Visit::SendLargeMessages => send_large_messages(rt, alloc, address),
             Visit::Stay => stay(rt, alloc, address, has_ended),
             Visit::ComeOddly => come_oddly(rt, alloc, address),
+            Visit::BeToldAtOnce => be_told_at_once(rt, alloc, address),
+            Visit::BePinged => be_pinged(rt, alloc, address),
+            Visit::EndBehindAMessage => end_behind_a_message(rt, alloc, address),
         }
     }
 }
 
 // Two clients edit one document; at most 64 are served, and each slot is given back; a message of a
-// megabyte is taken, and one of a byte more refused; the server waits for its clients, and for nobody else.
+// megabyte is taken, and one of a byte more refused; the server waits for its clients, and for nobody else; who is
+// silent is told at once what is stored, and asked for a sign of life.
 #[test]
 fn clients_over_sockets(rt: HostRuntime) -> Result<(), Fail> {
     let alloc = rt.alloc();
-    for (visit, connections) in [
-        (Visit::EditAndFollow, 2),
-        (Visit::FillAllSlots, ALL),
-        (Visit::SendLargeMessages, 1),
-        (Visit::Stay, 1),
-        (Visit::ComeOddly, 1),
+    for (visit, connections, longest_wait) in [
+        (Visit::EditAndFollow, 2, USUAL_WAIT_MS),
+        (Visit::FillAllSlots, ALL, USUAL_WAIT_MS),
+        (Visit::SendLargeMessages, 1, USUAL_WAIT_MS),
+        (Visit::Stay, 1, USUAL_WAIT_MS),
+        (Visit::ComeOddly, 1, USUAL_WAIT_MS),
+        (Visit::BeToldAtOnce, 2, LONG_WAIT_MS),
+        (Visit::BePinged, 1, SHORT_WAIT_MS),
+        (Visit::EndBehindAMessage, 1, LONG_WAIT_MS),
     ] {
         let listener = TcpListener::bind(&rt, "127.0.0.1:0")?;
         let address = listener.local_addr()?;
@@ -326,14 +352,14 @@ fn clients_over_sockets(rt: HostRuntime) -> Result<(), Fail> {
         let clients = thread::spawn(&rt, move || {
             assert_eq!(rt; visit.carry_out(rt, alloc, address, &seen), Ok(()));
         })?;
-        serve_clients(rt, &listener, connections)?;
+        serve_clients(rt, &listener, connections, longest_wait)?;
         has_ended.store(true, Ordering::SeqCst);
         clients.join(&rt);
     }
     Ok(())
 }
 
-// One client is silent, one follows what a third one edits, and the server is stopped.
+// One client is silent, one follows what a third one edits, and the server is stopped, which doesn't wait for them.
 fn be_stopped<R: Wait + Drop>(
     rt: HostRuntime,
     alloc: Global,
@@ -344,8 +370,10 @@ fn be_stopped<R: Wait + Drop>(
     let mut follower = follow(rt, alloc, address)?;
     edit(rt, alloc, address)?;
     expect(&mut follower, FOLLOWED)?;
+    let began = now(&rt)?;
     state.stop();
     expect_close(&mut follower, CloseCode::Away)?;
+    be_soon(&rt, began)?;
     drop(silent);
     Ok(())
 }
@@ -357,7 +385,7 @@ fn a_server_that_is_stopped(rt: HostRuntime) -> Result<(), Fail> {
     let listener = TcpListener::bind(&rt, "127.0.0.1:0")?;
     let address = listener.local_addr()?;
     let (backend, mut host) = Backend::new(alloc, rt)?;
-    let state = server(alloc, backend, true)?;
+    let state = server(alloc, backend, true, LONG_WAIT_MS)?;
     let theirs = Arc::try_clone(&state)?;
     let clients = thread::spawn(&rt, move || {
         assert_eq!(rt; be_stopped(rt, alloc, address, &theirs), Ok(()));

@@ -13,4 +13,6 @@ mod failing_streams;
 #[cfg(test)]
 mod line_session;
 #[cfg(test)]
+mod wakings;
+#[cfg(test)]
 mod websocket_session;

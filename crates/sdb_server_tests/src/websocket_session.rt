@@ -194,6 +194,70 @@ fn silent_clients(rt: HostRuntime) -> Result<(), Fail> {
     Ok(())
 }
 
+// The stream of a client that is silent for so many reads. Before each of them the reader is woken.
+#[derive(Drop)]
+struct Sleeper {
+    reads: u64,
+    is_woken: bool,
+    told: Vec<u8>,
+}
+
+impl Read for Sleeper {
+    fn read(&mut self, _buf: &mut [u8]) -> io::Result<usize> {
+        if self.reads == 0 {
+            return Err(io::Error::from(ErrorKind::ConnectionReset));
+        }
+        self.is_woken = !self.is_woken;
+        if self.is_woken {
+            return Err(io::Error::from(ErrorKind::Interrupted));
+        }
+        self.reads -= 1;
+        Err(io::Error::from(ErrorKind::WouldBlock))
+    }
+}
+
+impl Write for Sleeper {
+    fn write(&mut self, buf: &[u8]) -> io::Result<usize> {
+        self.told.write(buf)
+    }
+
+    fn flush(&mut self) -> io::Result<()> {
+        Ok(())
+    }
+}
+
+// What a client is told that is silent for so many reads.
+fn told_when_woken<R: AllocGlobal + Wait + Drop + Copy>(
+    rt: R,
+    reads: u64,
+) -> Result<Vec<u8>, Fail> {
+    let (backend, mut host) = Backend::new(rt.alloc(), rt)?;
+    let pass = backend.enter(&mut host)?;
+    let sleeper = Sleeper {
+        reads,
+        is_woken: false,
+        told: Vec::new(rt.alloc()),
+    };
+    let (_, sleeper) = attend(&rt, rt.alloc(), &backend, pass, sleeper);
+    Ok(sleeper.told)
+}
+
+// A wake-up is neither a silence nor a sign of life.
+#[test]
+fn silent_clients_whose_sessions_are_woken(rt: HostRuntime) -> Result<(), Fail> {
+    for (reads, is_pinged, is_ended) in [
+        (2_999, false, false),
+        (3_000, true, false),
+        (5_999, true, false),
+        (6_000, true, true),
+    ] {
+        let told = told_when_woken(rt, reads)?;
+        let wanted = told_in_silence(rt.alloc(), is_pinged, is_ended)?;
+        assert!(rt; told.as_slice() == wanted.as_slice(), "{reads}");
+    }
+    Ok(())
+}
+
 // A binary message and the same as a text.
 fn twice(alloc: Global) -> Result<Vec<u8>, Fail> {
     let mut frames = Vec::new(alloc);
