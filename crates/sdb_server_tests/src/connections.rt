@@ -51,8 +51,8 @@ fn server<R: Wait + Drop>(
 ) -> Result<Arc<ServerState<R>, Global>, AllocError>
     ensures { IfOk result (λ s. (h : Hosting) → IsHost h backend → IsHostOf h s.value) }
 {
-    let state = ServerState::new(alloc, backend, Table::new(alloc))?.with_log(is_logging);
-    let state = state.with_longest_wait(Duration::from_millis(longest_wait));
+    let logging = ServerState::new(alloc, backend, Table::new(alloc))?.with_log(is_logging);
+    let state = logging.with_longest_wait(Duration::from_millis(longest_wait));
     Ok(Arc::new(alloc, state)?)
 }
 
