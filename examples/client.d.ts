@@ -144,6 +144,8 @@ export class Client extends Emitter<ClientEvents> {
   /** Always the same object, until it is destroyed. A projection is named as a collection. */
   document(collection: string, id: string): Document;
   snapshot(collection: string, id: string, version?: number | null): Promise<Snapshot>;
+  /** As it was at a moment of the server's clock, in milliseconds since 1970. */
+  snapshotAtTime(collection: string, id: string, moment?: number | null): Promise<Snapshot>;
   whenNothingPending(): Promise<void>;
 }
 
@@ -178,6 +180,8 @@ export class Document extends Emitter<DocumentEvents> {
   remove(options?: SubmitOptions): Promise<{ version: number }>;
   whenNothingPending(listener?: () => void): Promise<void>;
   snapshot(version?: number | null): Promise<Snapshot>;
+  /** As it was at a moment of the server's clock, in milliseconds since 1970. */
+  snapshotAtTime(moment?: number | null): Promise<Snapshot>;
   operations(from?: number): Promise<Entry[]>;
 }
 

@@ -8,6 +8,7 @@
 'use strict';
 
 const COLLECTION = 'examples';
+const CLOCKS_APART = 86400000; // milliseconds that the server's clock may be ahead
 const NOTICE_STAYS = 10000; // milliseconds for the word that the server was started afresh
 
 const START = {
@@ -322,14 +323,88 @@ class View {
   }
 }
 
+/** The document as it was at any moment of its life, by a slider. It asks over a connection of its own. */
+class Life {
+  constructor(element, address, id) {
+    this.element = element;
+    this.slider = element.querySelector('input');
+    this.client = new Navirotsohy.Client(address);
+    this.id = id;
+    this.birth = null; // milliseconds
+    this.begins = false;
+    this.asked = 0;
+    this.slider.addEventListener('input', () => this.show());
+  }
+
+  at(moment) {
+    return this.client.snapshotAtTime(COLLECTION, this.id, moment);
+  }
+
+  // The document changed: where nothing is shown yet its life begins, and at the slider's end it goes on.
+  async changed() {
+    if (this.birth !== null && this.moment() === null) await this.show();
+    if (this.birth === null && !this.begins) {
+      this.begins = true;
+      await this.begin();
+      this.begins = false;
+    }
+  }
+
+  // No answer tells a moment, so that of the first operation is found by halving.
+  async begin() {
+    if ((await this.at(null)).version === 0) return;
+    let [low, high] = [0, Date.now() + CLOCKS_APART];
+    while (low < high) {
+      const middle = Math.floor((low + high) / 2);
+      if ((await this.at(middle)).version === 0) low = middle + 1;
+      else high = middle;
+    }
+    this.birth = low;
+    this.element.hidden = false;
+    await this.show();
+  }
+
+  // The slider's end is the present.
+  moment() {
+    const { value, max } = this.slider;
+    if (value === max) return null;
+    return Math.floor(this.birth + ((Date.now() - this.birth) * value) / max);
+  }
+
+  // Of the answers to a slider that is moved only the last one is shown.
+  async show() {
+    const number = (this.asked += 1);
+    const moment = this.moment();
+    const { version, data } = await this.at(moment);
+    if (number !== this.asked) return;
+    const when = moment === null ? 'now' : new Date(moment).toLocaleTimeString();
+    this.element.querySelector('output').textContent = `${when}, version ${version}`;
+    this.element.querySelector('.then').textContent = textOf(data);
+  }
+}
+
+// A document of this page, in words.
+function textOf(data) {
+  if (data === undefined) return 'There is no document.';
+  const columns = data.columns.map(({ name, cards }) => {
+    const lines = cards.map(({ title, done, votes }) => `  ${done ? '☑' : '☐'} ${title} (${votes})`);
+    return [name, ...lines].join('\n');
+  });
+  return [data.text.trimEnd(), ...columns].join('\n\n');
+}
+
 function main() {
   const parameters = new URLSearchParams(location.search);
   const server = parameters.get('server') || '127.0.0.1:8080';
   const address = server.includes('://') ? server : `ws://${server}`;
   document.querySelector('.top input').value = server;
+  const id = parameters.get('document') || 'demo';
+  const life = new Life(document.querySelector('.life'), address, id);
   return VIEWS.map((view) => {
-    const made = new View(view, address, parameters.get('document') || 'demo');
+    const made = new View(view, address, id);
     document.querySelector('main').append(made.element);
+    made.shared.on('version', () => life.changed());
+    made.shared.on('load', () => life.changed());
     return made;
   });
 }

@@ -591,6 +591,20 @@ const cases = {
     assert.deepStrictEqual(await none, { version: 0, data: undefined });
   },
 
+  async 'a snapshot at a moment'() {
+    const { client, document, socket } = loaded();
+    const [then, present] = [document.snapshotAtTime(1700000000000), client.snapshotAtTime('b', '2')];
+    const asked = socket.taken();
+    assert.deepStrictEqual(asked.map(({ a, c, d, ts }) => [a, c, d, ts]), [
+      ['nt', 'b', '1', 1700000000000],
+      ['nt', 'b', '2', null],
+    ]);
+    socket.answer({ a: 'nt', data: 'ab', id: asked[0].id, type: 'json0', v: 2 });
+    socket.answer({ a: 'nt', id: asked[1].id, type: null, v: 0 });
+    assert.deepStrictEqual(await then, { version: 2, data: 'ab' });
+    assert.deepStrictEqual(await present, { version: 0, data: undefined });
+  },
+
   async 'the stored operations from a version on'() {
     const { document, socket } = loaded();
     const listing = document.operations(1);

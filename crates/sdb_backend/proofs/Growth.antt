@@ -1,11 +1,13 @@
 -- Each call of the machine extends it, and changes what stands under the caller's number alone.
-use Rattle.std.proofs.Common.{◌≡◌, ◌≢◌, ℕ, ◌+◌, ◌<◌, ◌≤◌, ◌⊎◌, inl, inr, Bool, true, false, cond, List, [], ◌∷◌, ◌++◌, length, nat_eq, nat_lt, Option, Some, None, unwrap_or, Result, Ok, Err, refl, sym, ap, ◌∙◌, subst, arith, append_assoc, append-nil}
+use Rattle.std.proofs.Common.{◌≡◌, ◌≢◌, ℕ, ◌+◌, ◌<◌, ◌≤◌, ◌⊎◌, inl, inr, Bool, true, false, cond, List, [], ◌∷◌, ◌++◌, length, max, nat_eq, nat_lt, Option, Some, None, unwrap_or, Result, Ok, Err, refl, sym, ap, ◌∙◌, subst, arith, append_assoc, append-nil}
 use Rattle.std.proofs.lemmas.Bool.Decides.{eqb_tells}
 use Rattle.std.proofs.lemmas.Bool.{eqb-true, eq-eqb}
+use Rattle.std.proofs.Math.Nat.{le-max_left}
 use Rattle.sdb_oplog.specs.Plain.{PlainEntry, PlainSubmission, PlainContent}
 use Rattle.sdb_oplog.specs.Keys.{PlainKey, Logs, with_log, same_key}
 use Rattle.sdb_oplog.specs.Decide.{PlainReply, stored, repeated, refused, Decided, decide, store, settled, missed, entry_of}
 use Rattle.sdb_oplog.specs.Laws.{decides_repeat, decides_settled}
+use Rattle.sdb_oplog.specs.Moments.{last_moment}
 use Rattle.sdb_oplog.specs.Snap.{stored_at}
 use Rattle.sdb_oplog.specs.declared.codes.Code.{Code}
 use Rattle.sdb_oplog.specs.declared.codes.Code.TheVariants.{E4, E11}
@@ -16,7 +18,7 @@ use Rattle.sdb_desk.specs.Laws.{equal_keys}
 use Rattle.sdb_desk.specs.MapViewLaws.{wrote_at}
 use Rattle.std.specs.Result.{result_ok}
 use Rattle.sdb_desk.specs.Machine.{Machine, PlainAttempt, PlainOutcome, decided, moved as moved_on, Queued, with_queues, closed, start_of, opening, subscribing, subscribing_from, Decides, Commits, Subscribes, Takes, Same, PlainSubscribed}
-use Rattle.sdb_submit.specs.Calls.{PlainCall, look, commit, commit_now, present, fetch, ops_from, snapshot, forget, subscribe, take_next, unsubscribe, AnswerTo, Acts}
+use Rattle.sdb_submit.specs.Calls.{PlainCall, look, commit, commit_now, present, fetch, ops_from, snapshot, at_time, forget, subscribe, take_next, unsubscribe, AnswerTo, Acts}
 use Rattle.sdb_backend.specs.History.{IsLonger, GoesOn, GoOn, Extends, stored_by, mine, own, AddsTo, Part}
 use Rattle.sdb_backend.specs.HistoryLaws.{longer_itself, goes_itself, go_itself}
 
@@ -28,30 +30,30 @@ IsStored (stored v es) = Unit {0}
 IsStored (repeated v) = ⊥
 IsStored (refused code) = ⊥
 
-abbrev pub AddsOne : List PlainEntry → PlainSubmission → PlainReply → List PlainEntry → Type 0
-AddsOne log s r new =
+abbrev pub AddsOne : List PlainEntry → PlainSubmission → ℕ → PlainReply → List PlainEntry → Type 0
+AddsOne log s now r new =
     ((IsStored r → ⊥) × (new ≡ log))
-    ⊎ ((m : PlainContent) × (r ≡ stored (length log) (missed log s)) × (new ≡ log ++ entry_of log s m ∷ []))
+    ⊎ ((m : PlainContent) × (r ≡ stored (length log) (missed log s)) × (new ≡ log ++ entry_of log s now m ∷ []))
 
-store_adds : (log : List PlainEntry) (s : PlainSubmission) (r : Result PlainContent Code) → AddsOne log s (store log s r).reply (store log s r).log
-store_adds log s (Err c) = inl (λ x. x, refl)
-store_adds log s (Ok m) = inr (m, refl, refl)
+store_adds : (log : List PlainEntry) (s : PlainSubmission) (now : ℕ) (r : Result PlainContent Code) → AddsOne log s now (store log s now r).reply (store log s now r).log
+store_adds log s now (Err c) = inl (λ x. x, refl)
+store_adds log s now (Ok m) = inr (m, refl, refl)
 
-adds_by : (log : List PlainEntry) (s : PlainSubmission) (o : Option ℕ) → stored_at s.src s.seq log ≡ o
-    → AddsOne log s (decide log s).reply (decide log s).log
-adds_by log s (Some i) e =
-    let P : Decided → Type 0 = λ d. AddsOne log s d.reply d.log in
-    subst P (sym (decides_repeat log s i e)) (inl (λ x. x, refl))
-adds_by log s None e =
-    let P : Decided → Type 0 = λ d. AddsOne log s d.reply d.log in
-    subst P (sym (decides_settled log s (settled log s) e refl)) (store_adds log s (settled log s))
+adds_by : (log : List PlainEntry) (s : PlainSubmission) (now : ℕ) (o : Option ℕ) → stored_at s.src s.seq log ≡ o
+    → AddsOne log s now (decide log s now).reply (decide log s now).log
+adds_by log s now (Some i) e =
+    let P : Decided → Type 0 = λ d. AddsOne log s now d.reply d.log in
+    subst P (sym (decides_repeat log s now i e)) (inl (λ x. x, refl))
+adds_by log s now None e =
+    let P : Decided → Type 0 = λ d. AddsOne log s now d.reply d.log in
+    subst P (sym (decides_settled log s now (settled log s) e refl)) (store_adds log s now (settled log s))
 
-pub decide_adds : (log : List PlainEntry) (s : PlainSubmission) → AddsOne log s (decide log s).reply (decide log s).log
-decide_adds log s = adds_by log s (stored_at s.src s.seq log) refl
+pub decide_adds : (log : List PlainEntry) (s : PlainSubmission) (now : ℕ) → AddsOne log s now (decide log s now).reply (decide log s now).log
+decide_adds log s now = adds_by log s now (stored_at s.src s.seq log) refl
 
-longer_added : (log : List PlainEntry) (s : PlainSubmission) (r : PlainReply) (new : List PlainEntry) → AddsOne log s r new → IsLonger new log
-longer_added log s r new (inl h) = ([], h.1 ∙ sym (append-nil log))
-longer_added log s r new (inr h) = (entry_of log s h.0 ∷ [], h.2)
+longer_added : (log : List PlainEntry) (s : PlainSubmission) (now : ℕ) (r : PlainReply) (new : List PlainEntry) → AddsOne log s now r new → IsLonger new log
+longer_added log s now r new (inl h) = ([], h.1 ∙ sym (append-nil log))
+longer_added log s now r new (inr h) = (entry_of log s now h.0 ∷ [], h.2)
 
 -- an entry under another number
 past_entry : (b : Bool) (n : ℕ) (e : PlainEntry) (l : List PlainEntry) → nat_eq e.arrived.by n ≡ b → (e.arrived.by ≡ n → ⊥) → cond b (e ∷ l) l ≡ l
@@ -62,9 +64,9 @@ pub stored_other : (n : ℕ) (es : List PlainEntry) (e : PlainEntry) → (e.arri
 stored_other n [] e ne = past_entry (nat_eq e.arrived.by n) n e [] refl ne
 stored_other n (x ∷ es) e ne = ap (λ l. cond (nat_eq x.arrived.by n) (x ∷ l) l) (stored_other n es e ne)
 
-others_added : (j : ℕ) (log : List PlainEntry) (s : PlainSubmission) (r : PlainReply) (new : List PlainEntry) → (s.by ≡ j → ⊥) → AddsOne log s r new → stored_by j log ≡ stored_by j new
-others_added j log s r new ne (inl h) = ap (stored_by j) (sym h.1)
-others_added j log s r new ne (inr h) = sym (stored_other j log (entry_of log s h.0) ne) ∙ ap (stored_by j) (sym h.2)
+others_added : (j : ℕ) (log : List PlainEntry) (s : PlainSubmission) (now : ℕ) (r : PlainReply) (new : List PlainEntry) → (s.by ≡ j → ⊥) → AddsOne log s now r new → stored_by j log ≡ stored_by j new
+others_added j log s now r new ne (inl h) = ap (stored_by j) (sym h.1)
+others_added j log s now r new ne (inr h) = sym (stored_other j log (entry_of log s now h.0) ne) ∙ ap (stored_by j) (sym h.2)
 
 -- ---- what holds of the key that is written and of what stays, holds of each key
 
@@ -81,12 +83,13 @@ at_each R f g k w itself writes e q =
 
 abbrev pub Under : ℕ → PlainCall → Type 0
 Under n (look s) = s.by ≡ n
-Under n (commit a) = a.submission.by ≡ n
-Under n (commit_now s) = s.by ≡ n
+Under n (commit a now) = a.submission.by ≡ n
+Under n (commit_now s now) = s.by ≡ n
 Under n present = Unit {0}
 Under n fetch = Unit {0}
 Under n (ops_from v) = Unit {0}
 Under n (snapshot v) = Unit {0}
+Under n (at_time t) = Unit {0}
 Under n forget = Unit {0}
 Under n (subscribe v) = Unit {0}
 Under n (take_next i max) = Unit {0}
@@ -121,31 +124,31 @@ others_same j m new e k i = ap (λ f. mine j (queue_at i (f k).queues)) (sym e)
 pub same_grown : (n : ℕ) (m new : Machine) → Same m new → Grown n m new
 same_grown n m new h = logs_same n m new (queues_same m new h.1) (λ j ne. others_same j m new h.1) h.0
 
-decided_grown : (n : ℕ) (m new : Machine) (k : PlainKey) (s : PlainSubmission) → s.by ≡ n → new.queues ≡ m.queues
-    → new.logs ≡ with_log m.logs k (decide (m.logs k) s).log → Grown n m new
-decided_grown n m new k s by queues e =
-    let d = decide (m.logs k) s in
+decided_grown : (n : ℕ) (m new : Machine) (k : PlainKey) (s : PlainSubmission) (now : ℕ) → s.by ≡ n → new.queues ≡ m.queues
+    → new.logs ≡ with_log m.logs k (decide (m.logs k) s now).log → Grown n m new
+decided_grown n m new k s now by queues e =
+    let d = decide (m.logs k) s now in
     record {
       extends = record {
-        logs = at_each IsLonger m.logs new.logs k d.log longer_itself (longer_added (m.logs k) s d.reply d.log (decide_adds (m.logs k) s)) e;
+        logs = at_each IsLonger m.logs new.logs k d.log longer_itself (longer_added (m.logs k) s now d.reply d.log (decide_adds (m.logs k) s now)) e;
         queues = queues_same m new queues;
       };
       others = λ j ne. parts j m new
           (λ q. at_each (λ a b. stored_by j b ≡ stored_by j a) m.logs new.logs k d.log (λ a. refl)
-          (others_added j (m.logs k) s d.reply d.log (λ x. ne (sym x ∙ by)) (decide_adds (m.logs k) s)) e q)
+          (others_added j (m.logs k) s now d.reply d.log (λ x. ne (sym x ∙ by)) (decide_adds (m.logs k) s now)) e q)
           (others_same j m new queues);
     }
 
-decides_grown : (n : ℕ) (m new : Machine) (k : PlainKey) (s : PlainSubmission) (r : PlainReply) → s.by ≡ n → new.queues ≡ m.queues
-    → Decides m.logs k s r new.logs → Grown n m new
-decides_grown n m new k s r by queues (inl h) = same_grown n m new (h.1, queues)
-decides_grown n m new k s r by queues (inr h) = decided_grown n m new k s by queues h.1
+decides_grown : (n : ℕ) (m new : Machine) (k : PlainKey) (s : PlainSubmission) (now : ℕ) (r : PlainReply) → s.by ≡ n → new.queues ≡ m.queues
+    → Decides m.logs k s now r new.logs → Grown n m new
+decides_grown n m new k s now r by queues (inl h) = same_grown n m new (h.1, queues)
+decides_grown n m new k s now r by queues (inr h) = decided_grown n m new k s now by queues h.1
 
-commits_grown : (n : ℕ) (m new : Machine) (k : PlainKey) (a : PlainAttempt) (o : PlainOutcome) → a.submission.by ≡ n → new.queues ≡ m.queues
-    → Commits m.logs k a o new.logs → Grown n m new
-commits_grown n m new k a (decided r) by queues (inl h) = same_grown n m new (h.1, queues)
-commits_grown n m new k a (decided r) by queues (inr h) = decided_grown n m new k a.submission by queues h.2
-commits_grown n m new k a (moved_on l) by queues h = same_grown n m new (h.2, queues)
+commits_grown : (n : ℕ) (m new : Machine) (k : PlainKey) (a : PlainAttempt) (now : ℕ) (o : PlainOutcome) → a.submission.by ≡ n → new.queues ≡ m.queues
+    → Commits m.logs k a now o new.logs → Grown n m new
+commits_grown n m new k a now (decided r) by queues (inl h) = same_grown n m new (h.1, queues)
+commits_grown n m new k a now (decided r) by queues (inr h) = decided_grown n m new k a.submission now by queues h.2
+commits_grown n m new k a now (moved_on l) by queues h = same_grown n m new (h.2, queues)
 
 -- ---- calls of queues: each goes on, and what stands under other numbers is the same
 
@@ -268,12 +271,13 @@ queues_grown n m new k w moves queues logs =
 
 pub acts_grown : (n : ℕ) (m : Machine) (k : PlainKey) (c : PlainCall) (a : AnswerTo c) (new : Machine) → Under n c → Acts n m k c a new → Grown n m new
 acts_grown n m k (look s) a new by h = same_grown n m new h.1
-acts_grown n m k (commit w) a new by h = commits_grown n m new k w a by h.1 h.0
-acts_grown n m k (commit_now s) a new by h = decides_grown n m new k s a by h.1 h.0
+acts_grown n m k (commit w now) a new by h = commits_grown n m new k w now a by h.1 h.0
+acts_grown n m k (commit_now s now) a new by h = decides_grown n m new k s now a by h.1 h.0
 acts_grown n m k present a new by h = same_grown n m new h.1
 acts_grown n m k fetch a new by h = same_grown n m new h.1
 acts_grown n m k (ops_from v) a new by h = same_grown n m new h.1
 acts_grown n m k (snapshot v) a new by h = same_grown n m new h.1
+acts_grown n m k (at_time t) a new by h = same_grown n m new h.1
 acts_grown n m k forget a new by h = same_grown n m new h
 acts_grown n m k (subscribe v) a new by h =
     queues_grown n m new k (new.queues k) (moves_subscribes (m.logs k) n v (m.queues k) a (new.queues k) h.0) h.1 h.2
@@ -302,25 +306,27 @@ cond_map : {A B : Type 0} (f : A → B) (b : Bool) (x y : A) (z : B) → f x ≡
 cond_map f true x y z e = e
 cond_map f false x y z e = refl
 
-isnt_stored : (k : PlainKey) (s : PlainSubmission) (r : PlainReply) (old new : Part) → (IsStored r → ⊥) → new ≡ old → AddsTo k s r old new
-isnt_stored k s (stored v es) old new isnt e = absurd (isnt tt)
-isnt_stored k s (repeated v) old new isnt e = e
-isnt_stored k s (refused code) old new isnt e = e
+isnt_stored : (k : PlainKey) (s : PlainSubmission) (now : ℕ) (r : PlainReply) (old new : Part) → (IsStored r → ⊥) → new ≡ old → AddsTo k s now r old new
+isnt_stored k s now (stored v es) old new isnt e = absurd (isnt tt)
+isnt_stored k s now (repeated v) old new isnt e = e
+isnt_stored k s now (refused code) old new isnt e = e
 
 -- the entries that a decision leaves under its number, and no queue is another
-own_adds : (n : ℕ) (m new : Machine) (k : PlainKey) (s : PlainSubmission) (d : Decided) → s.by ≡ n → new.queues ≡ m.queues → new.logs ≡ with_log m.logs k d.log
-    → AddsOne (m.logs k) s d.reply d.log → AddsTo k s d.reply (own n m) (own n new)
-own_adds n m new k s d by queues logs (inl h) =
-    isnt_stored k s d.reply (own n m) (own n new) h.0
+own_adds : (n : ℕ) (m new : Machine) (k : PlainKey) (s : PlainSubmission) (now : ℕ) (d : Decided) → s.by ≡ n → new.queues ≡ m.queues → new.logs ≡ with_log m.logs k d.log
+    → AddsOne (m.logs k) s now d.reply d.log → AddsTo k s now d.reply (own n m) (own n new)
+own_adds n m new k s now d by queues logs (inl h) =
+    isnt_stored k s now d.reply (own n m) (own n new) h.0
     (sym (parts n m new
     (λ q. sym (ap (λ f. stored_by n (f q)) logs ∙ cond_map (stored_by n) (same_key k q) d.log (m.logs q) (stored_by n (m.logs k)) (ap (stored_by n) h.1) ∙ back (same_key k q) q refl))
     (others_same n m new queues))) where
       back : (b : Bool) (q : PlainKey) → same_key k q ≡ b → cond b (stored_by n (m.logs k)) (stored_by n (m.logs q)) ≡ stored_by n (m.logs q)
       back true q e = ap (λ x. stored_by n (m.logs x)) (equal_keys k q e)
       back false q e = refl
-own_adds n m new k s d by queues logs (inr h) =
-    let e = entry_of (m.logs k) s h.0 in
-    subst (λ r. AddsTo k s r (own n m) (own n new)) (sym h.1) (
+own_adds n m new k s now d by queues logs (inr h) =
+    let e = entry_of (m.logs k) s now h.0 in
+    subst (λ r. AddsTo k s now r (own n m) (own n new)) (sym h.1) (
+      max now (last_moment (m.logs k)),
+      le-max_left now (last_moment (m.logs k)),
       h.0,
       λ x. record {
         entries = λ q. (ap (λ f. stored_by n (f q)) logs
@@ -329,10 +335,10 @@ own_adds n m new k s d by queues logs (inr h) =
       },
     )
 
-pub decides_adds : (n : ℕ) (m new : Machine) (k : PlainKey) (s : PlainSubmission) (r : PlainReply) → s.by ≡ n → new.queues ≡ m.queues → Decides m.logs k s r new.logs
-    → AddsTo k s r (own n m) (own n new)
-decides_adds n m new k s r by queues (inl h) =
-    subst (λ r. AddsTo k s r (own n m) (own n new)) (sym h.0) (λ x. own n (record { logs = h.1 x; queues = queues x }))
-decides_adds n m new k s r by queues (inr h) =
-    subst (λ r. AddsTo k s r (own n m) (own n new)) (sym h.0)
-    (own_adds n m new k s (decide (m.logs k) s) by queues h.1 (decide_adds (m.logs k) s))
+pub decides_adds : (n : ℕ) (m new : Machine) (k : PlainKey) (s : PlainSubmission) (now : ℕ) (r : PlainReply) → s.by ≡ n → new.queues ≡ m.queues → Decides m.logs k s now r new.logs
+    → AddsTo k s now r (own n m) (own n new)
+decides_adds n m new k s now r by queues (inl h) =
+    subst (λ r. AddsTo k s now r (own n m) (own n new)) (sym h.0) (λ x. own n (record { logs = h.1 x; queues = queues x }))
+decides_adds n m new k s now r by queues (inr h) =
+    subst (λ r. AddsTo k s now r (own n m) (own n new)) (sym h.0)
+    (own_adds n m new k s now (decide (m.logs k) s now) by queues h.1 (decide_adds (m.logs k) s now))

@@ -50,43 +50,43 @@ after k c e a b p o q h same d =
       (λ j t ne. d.9 j t ne ∙ h.9 j t ne),
     )
 
-module _ (k : PlainKey) (s : PlainSubmission) where
+module _ (k : PlainKey) (s : PlainSubmission) (now : ℕ) where
   abbrev pub OfPass : Calls Pass
   OfPass c p a q = Answered k c p a q
 
   -- the submission is answered as the machine answers it at one history
   abbrev pub InOneStep : Pass → PlainReply → Pass → Type 0
-  InOneStep p r q = Answered k (commit_now s) p r q
+  InOneStep p r q = Answered k (commit_now s now) p r q
 
   abbrev looked_at : PlainLook → PlainAttempt
   looked_at l = record { submission = s; look = l }
 
-  one_step_kept : IsKept OfPass s InOneStep
+  one_step_kept : IsKept OfPass s now InOneStep
   one_step_kept = record {
-    unseen = λ p o q r h d. after k (look s) (commit_now s) None r p o q h h.6.1 d;
-    seen = λ p o q l r h d. after k (look s) (commit_now s) (Some l) r p o q h h.6.1 d;
-    moves = λ p o q l m r h d. after k (commit (looked_at l)) (commit_now s) (moved m) r p o q h (h.6.0.2, h.6.1) d;
+    unseen = λ p o q r h d. after k (look s) (commit_now s now) None r p o q h h.6.1 d;
+    seen = λ p o q l r h d. after k (look s) (commit_now s now) (Some l) r p o q h h.6.1 d;
+    moves = λ p o q l m r h d. after k (commit (looked_at l) now) (commit_now s now) (moved m) r p o q h (h.6.0.2, h.6.1) d;
     wanting = λ p o q l r h d.
-        after k (commit (looked_at l)) (commit_now s) (decided (refused E10)) r p o q h
-        (wanting_unchanged (machine_of h.1.shard).logs (machine_of h.2.shard).logs k (looked_at l) h.6.0, h.6.1) d;
+        after k (commit (looked_at l) now) (commit_now s now) (decided (refused E10)) r p o q h
+        (wanting_unchanged (machine_of h.1.shard).logs (machine_of h.2.shard).logs k (looked_at l) now h.6.0, h.6.1) d;
     at_once = λ p q l r h isnt.
-        (h.0, h.1, h.2, h.3, h.4, h.5, (decided_at_commit (machine_of h.1.shard).logs (machine_of h.2.shard).logs k (looked_at l) r isnt h.6.0, h.6.1), h.7, h.8, h.9);
+        (h.0, h.1, h.2, h.3, h.4, h.5, (decided_at_commit (machine_of h.1.shard).logs (machine_of h.2.shard).logs k (looked_at l) now r isnt h.6.0, h.6.1), h.7, h.8, h.9);
     at_last = λ p q r h. h;
   }
 
-  pub in_one_step : (p q : Pass) (r : PlainReply) → Submits OfPass s p r q → InOneStep p r q
-  in_one_step p q r h = submits_kept OfPass s InOneStep one_step_kept p r q h
+  pub in_one_step : (p q : Pass) (r : PlainReply) → Submits OfPass s now p r q → InOneStep p r q
+  in_one_step p q r h = submits_kept OfPass s now InOneStep one_step_kept p r q h
 
   -- a reply that it is stored adds the one entry
-  pub step_adds : (p q : Pass) (r : PlainReply) → InOneStep p r q → s.by ≡ number_of p → Adds k s p r q
+  pub step_adds : (p q : Pass) (r : PlainReply) → InOneStep p r q → s.by ≡ number_of p → Adds k s now p r q
   step_adds p q r h by =
       let n = number_of p in (
         h.0,
         h.2,
         h.3,
         h.7,
-        subst (λ (o : Part). AddsTo k s r o (own n (machine_of h.2.shard))) (sym h.5)
-            (decides_adds n (machine_of h.1.shard) (machine_of h.2.shard) k s r by h.6.1 h.6.0),
+        subst (λ (o : Part). AddsTo k s now r o (own n (machine_of h.2.shard))) (sym h.5)
+            (decides_adds n (machine_of h.1.shard) (machine_of h.2.shard) k s now r by h.6.1 h.6.0),
       )
 
 -- ---- a take

@@ -29,10 +29,10 @@ abbrev pub IsLookOf : Pass → PlainKey → PlainAttempt → Type 0
 IsLookOf p k a = (x : Held) × HasSeen p k x × IsLook (logs_of x.shard k) a
 
 -- a reply that it is stored adds the one entry to what stands under the number of the pass, and any other adds none
-abbrev pub Adds : PlainKey → PlainSubmission → Pass → PlainReply → Pass → Type 0
-Adds k s p r q =
+abbrev pub Adds : PlainKey → PlainSubmission → ℕ → Pass → PlainReply → Pass → Type 0
+Adds k s now p r q =
     (x new : Held) × HasSeen p k x × HasSeen q k new
-    × AddsTo k s r (own (number_of p) (machine_of x.shard)) (own (number_of p) (machine_of new.shard))
+    × AddsTo k s now r (own (number_of p) (machine_of x.shard)) (own (number_of p) (machine_of new.shard))
 
 -- a take gives what comes next of the queue, from where it stood in what the pass had seen, at a history that extends
 -- it; none where the pass opened no queue of this number

@@ -3,18 +3,18 @@ ghost use Rattle.std.specs.Prelude.{◌≡◌, IfOk, Some, option_map};
 ghost use Rattle.sdb_oplog.specs.Keys.{plain_key};
 ghost use Rattle.sdb_desk.specs.ReplyView.{plain_reply};
 ghost use Rattle.sdb_desk.specs.View.{told_fetched};
-ghost use Rattle.sdb_submit.specs.Calls.{commit_now, snapshot};
+ghost use Rattle.sdb_submit.specs.Calls.{at_time, commit_now, snapshot};
 ghost use Rattle.sdb_backend.specs.Calls.{Answered, IsLookOf, Adds, TakesOn};
 ghost use Rattle.sdb_backend.specs.Passes.{number_of, IsPass};
 
 use crate::backend::Backend;
 use crate::jobs::{
-    Commit, CommitLast, CommitNow, Fetch, Forget, Lend, Look as Looking, Offer, OpsFrom,
-    SnapshotAt, Subscribe, Take, Unsubscribe, Version,
+    AtTime, Commit, CommitLast, CommitNow, Fetch, Forget, Lend, LendThen, LentThen,
+    Look as Looking, Offer, OpsFrom, SnapshotAt, Subscribe, Take, Unsubscribe, Version,
 };
 use crate::seats::Pass;
 use sdb_desk::{Fetched, Lent, Look, Outcome, Reply, Subscribed, Work};
-use sdb_oplog::{Code, Entry, Key, Submission};
+use sdb_oplog::{Code, Entry, Key, Moment, Submission};
 use sdb_submit::{Desk, Gate, submit};
 use sdb_subscribe::SubId;
 use std::alloc::{AllocError, Global};
@@ -42,17 +42,33 @@ impl<R: Wait + Drop> Desk for Backend<R> {
         self.run(pass, key, Looking { key, submission })
     }
 
-    fn commit(&self, pass: &mut Pass, key: &Key, work: &mut Work) -> Outcome {
-        let decision = self.run(pass, key, Commit { key, work: &*work });
+    fn commit(&self, pass: &mut Pass, key: &Key, work: &mut Work, now: Moment) -> Outcome {
+        let commit = Commit {
+            key,
+            work: &*work,
+            now,
+        };
+        let decision = self.run(pass, key, commit);
         work.conclude(self.alloc, decision)
     }
 
-    fn commit_now(&self, pass: &mut Pass, key: &Key, submission: &Submission) -> Reply {
-        self.run(pass, key, CommitNow { key, submission })
+    fn commit_now(
+        &self,
+        pass: &mut Pass,
+        key: &Key,
+        submission: &Submission,
+        now: Moment,
+    ) -> Reply {
+        let commit = CommitNow {
+            key,
+            submission,
+            now,
+        };
+        self.run(pass, key, commit)
     }
 
-    fn commit_last(&self, pass: &mut Pass, key: &Key, work: Work) -> Reply {
-        self.run(pass, key, CommitLast { key, work })
+    fn commit_last(&self, pass: &mut Pass, key: &Key, work: Work, now: Moment) -> Reply {
+        self.run(pass, key, CommitLast { key, work, now })
     }
 
     fn version(&self, pass: &mut Pass, key: &Key) -> u64 {
@@ -76,6 +92,13 @@ impl<R: Wait + Drop> Desk for Backend<R> {
         match version {
             Some(version) => self.snapshot_of(pass, key, version),
             None => self.run(pass, key, SnapshotAt { key, version }),
+        }
+    }
+
+    fn at_time(&self, pass: &mut Pass, key: &Key, moment: Option<Moment>) -> Result<Fetched, Code> {
+        match moment {
+            Some(moment) => self.document_then(pass, key, moment),
+            None => self.run(pass, key, AtTime { key, moment }),
         }
     }
 
@@ -134,9 +157,32 @@ impl<R: Wait + Drop> Backend<R> {
         self.run(pass, key, offer);
         Ok(Fetched { version, snapshot })
     }
+
+    // The version at a moment, and the document there, replayed without the lock as that of a version is. What is
+    // stored meanwhile has a later moment, unless the version was the present one, whose document is lent whole.
+    fn document_then(&self, pass: &mut Pass, key: &Key, moment: Moment) -> Result<Fetched, Code>
+        requires { IsPass pass.old self.now }
+        ensures pass { IsPass pass.new self.now }
+        ensures answered { Answered (plain_key key.now) (at_time (Some moment)) pass.old
+            (told_fetched result) pass.new }
+    {
+        let LentThen { version, lent } = self.run(pass, key, LendThen { key, moment })?;
+        if lent.entries.is_empty() {
+            let Lent { snapshot, .. } = lent;
+            return Ok(Fetched { version, snapshot });
+        }
+        let snapshot = lent.replay(self.alloc)?;
+        let offer = Offer {
+            key,
+            version,
+            snapshot: &snapshot,
+        };
+        self.run(pass, key, offer);
+        Ok(Fetched { version, snapshot })
+    }
 }
 
-/// Submits: the submission is decided in one step, at a history that extends all that the pass has seen.
+/// Submits at a moment: the submission is decided in one step, at a history that extends all that the pass has seen.
 /// A reply that it is stored adds the one entry to what stands under the number of the pass, and any
 /// other adds none.
 pub fn submit_shared<R: Wait + Drop, G: Gate>(
@@ -145,16 +191,17 @@ pub fn submit_shared<R: Wait + Drop, G: Gate>(
     pass: &mut Pass,
     key: &Key,
     submission: &Submission,
+    now: Moment,
     gate: &G,
 ) -> Reply
     requires pass { IsPass pass.old backend.now }
     requires by { submission.now.by ≡ number_of pass.old }
     ensures pass { IsPass pass.new backend.now }
-    ensures decides { Answered (plain_key key.now) (commit_now submission.now) pass.old
+    ensures decides { Answered (plain_key key.now) (commit_now submission.now now) pass.old
         (plain_reply result) pass.new }
-    ensures adds { Adds (plain_key key.now) submission.now pass.old (plain_reply result) pass.new }
+    ensures adds { Adds (plain_key key.now) submission.now now pass.old (plain_reply result) pass.new }
 {
-    submit(alloc, backend, pass, key, submission, gate)
+    submit(alloc, backend, pass, key, submission, now, gate)
 }
 
 /// The next entries of a queue of the pass, at most `max`, from where its last take ended; `None` where

@@ -1,5 +1,6 @@
 //! The calls of the documents, as jobs under a lock. What each does is what the machine does at this call.
 ghost use Rattle.std.specs.Prelude.{◌≡◌, option_map};
+ghost use Rattle.sdb_oplog.specs.Decide.{IsMade};
 ghost use Rattle.sdb_oplog.specs.Keys.{plain_key};
 ghost use Rattle.sdb_desk.specs.ShardView.{machine_of, logs_of};
 ghost use Rattle.sdb_desk.specs.Looked.{IsLook};
@@ -9,12 +10,12 @@ ghost use Rattle.sdb_submit.specs.Calls.{Acts, told_look};
 ghost use Rattle.sdb_submit.specs.Calls as call;
 ghost use Rattle.sdb_value.specs.View.{view};
 ghost use Rattle.sdb_desk.specs.Machine.{Same};
-ghost use Rattle.sdb_backend.specs.Lending.{IsAt, IsLent, told_lent};
+ghost use Rattle.sdb_backend.specs.Lending.{IsAt, IsLent, IsLentThen, told_lent, told_lent_then};
 
 use crate::held::Held;
 use sdb_desk::{Decision, Fetched, Lent, Look as Shown, Reply, Subscribed, Work};
 use sdb_growlock::Job;
-use sdb_oplog::{Code, Entry, Key, Submission};
+use sdb_oplog::{Code, Entry, Key, Moment, Submission};
 use sdb_subscribe::SubId;
 use sdb_value::Json;
 use std::alloc::AllocError;
@@ -41,6 +42,7 @@ impl<'a> Job<Held> for Look<'a> {
 pub(crate) struct CommitNow<'a> {
     pub(crate) key: &'a Key,
     pub(crate) submission: &'a Submission,
+    pub(crate) now: Moment,
 }
 
 impl<'a> Job<Held> for CommitNow<'a> {
@@ -49,17 +51,22 @@ impl<'a> Job<Held> for CommitNow<'a> {
     ghost ready = { λ j n a. j.submission.now.by ≡ n };
 
     ghost does = { λ j n a b r. Acts n (machine_of a.shard) (plain_key j.key.now)
-        (call.commit_now j.submission.now) (plain_reply r) (machine_of b.shard) };
+        (call.commit_now j.submission.now j.now) (plain_reply r) (machine_of b.shard) };
 
     fn run(self, _number: u64, held: &mut Held) -> Reply {
-        let Self { key, submission } = self;
-        held.shard.commit_now(key, submission)
+        let Self {
+            key,
+            submission,
+            now,
+        } = self;
+        held.shard.commit_now(key, submission, now)
     }
 }
 
 pub(crate) struct CommitLast<'a> {
     pub(crate) key: &'a Key,
     pub(crate) work: Work,
+    pub(crate) now: Moment,
 }
 
 impl<'a> Job<Held> for CommitLast<'a> {
@@ -68,11 +75,11 @@ impl<'a> Job<Held> for CommitLast<'a> {
     ghost ready = { λ j n a. j.work.submission.by ≡ n };
 
     ghost does = { λ j n a b r. Acts n (machine_of a.shard) (plain_key j.key.now)
-        (call.commit_now j.work.submission) (plain_reply r) (machine_of b.shard) };
+        (call.commit_now j.work.submission j.now) (plain_reply r) (machine_of b.shard) };
 
     fn run(self, _number: u64, held: &mut Held) -> Reply {
-        let Self { key, work } = self;
-        held.shard.commit_last(key, work)
+        let Self { key, work, now } = self;
+        held.shard.commit_last(key, work, now)
     }
 }
 
@@ -132,6 +139,53 @@ impl<'a> Job<Held> for SnapshotAt<'a> {
     }
 }
 
+pub(crate) struct AtTime<'a> {
+    pub(crate) key: &'a Key,
+    pub(crate) moment: Option<Moment>,
+}
+
+impl<'a> Job<Held> for AtTime<'a> {
+    type Answer = Result<Fetched, Code>;
+
+    ghost ready = { λ j n a. Unit {0} };
+
+    ghost does = { λ j n a b r. Acts n (machine_of a.shard) (plain_key j.key.now)
+        (call.at_time j.moment) (told_fetched r) (machine_of b.shard) };
+
+    fn run(self, _number: u64, held: &mut Held) -> Result<Fetched, Code> {
+        let Self { key, moment } = self;
+        held.shard.at_time(key, moment)
+    }
+}
+
+// What is lent for a moment, and the version at it.
+#[derive(Drop)]
+pub(crate) struct LentThen {
+    pub(crate) version: u64,
+    pub(crate) lent: Lent,
+}
+
+pub(crate) struct LendThen<'a> {
+    pub(crate) key: &'a Key,
+    pub(crate) moment: Moment,
+}
+
+impl<'a> Job<Held> for LendThen<'a> {
+    type Answer = Result<LentThen, Code>;
+
+    ghost ready = { λ j n a. Unit {0} };
+
+    ghost does = { λ j n a b r. IsLentThen (machine_of a.shard) (plain_key j.key.now) j.moment (told_lent_then r)
+        × Same (machine_of a.shard) (machine_of b.shard) };
+
+    fn run(self, _number: u64, held: &mut Held) -> Result<LentThen, Code> {
+        let Self { key, moment } = self;
+        let version = held.shard.version_at(key, Some(moment));
+        let lent = held.shard.lend(key, version)?;
+        Ok(LentThen { version, lent })
+    }
+}
+
 pub(crate) struct Lend<'a> {
     pub(crate) key: &'a Key,
     pub(crate) version: u64,
@@ -164,7 +218,8 @@ impl<'a> Job<Held> for Offer<'a> {
         (option_map view j.snapshot.now) };
 
     ghost does = { λ j n a b r. IsAt (logs_of a.shard (plain_key j.key.now)) j.version
-        (option_map view j.snapshot.now) × Same (machine_of a.shard) (machine_of b.shard) };
+        (option_map view j.snapshot.now) × IsMade (logs_of a.shard (plain_key j.key.now))
+        × Same (machine_of a.shard) (machine_of b.shard) };
 
     fn run(self, _number: u64, held: &mut Held) {
         let Self {
@@ -255,6 +310,7 @@ impl<'a> Job<Held> for Unsubscribe<'a> {
 pub(crate) struct Commit<'a> {
     pub(crate) key: &'a Key,
     pub(crate) work: &'a Work,
+    pub(crate) now: Moment,
 }
 
 impl<'a> Job<Held> for Commit<'a> {
@@ -264,11 +320,11 @@ impl<'a> Job<Held> for Commit<'a> {
         × IsLook (logs_of a.shard (plain_key j.key.now)) j.work.now };
 
     ghost does = { λ j n a b r. Acts n (machine_of a.shard) (plain_key j.key.now)
-        (call.commit j.work.now) (outcome_of j.work.now r) (machine_of b.shard) };
+        (call.commit j.work.now j.now) (outcome_of j.work.now r) (machine_of b.shard) };
 
     fn run(self, _number: u64, held: &mut Held) -> Decision {
-        let Self { key, work } = self;
-        held.shard.decide(key, work)
+        let Self { key, work, now } = self;
+        held.shard.decide(key, work, now)
     }
 }
 

@@ -4,7 +4,7 @@ use crate::random::Random;
 use crate::timing::report;
 use sdb_component::{Component, Op};
 use sdb_desk::Shard;
-use sdb_oplog::{Content, Key, Submission};
+use sdb_oplog::{Content, Key, Moment, Submission};
 use std::alloc::{AllocError, Global};
 use std::time::Instant;
 
@@ -20,7 +20,7 @@ pub(crate) fn measure(rt: &HostRuntime) -> anyhow::Result<()> {
     let key = Key { collection, id };
     let mut shard = Shard::new(alloc);
     let text = Content::create(alloc, text_of(alloc, LENGTH)?)?;
-    drop(shard.commit_now(&key, &submission(alloc, 1, text)?));
+    drop(shard.commit_now(&key, &submission(alloc, 1, text)?, Moment::first()));
     fetches(rt, &mut shard, &key)?;
     edits(rt, &mut shard, &key)?;
     Ok(())
@@ -54,7 +54,7 @@ fn edits(rt: &HostRuntime, shard: &mut Shard, key: &Key) -> anyhow::Result<()> {
     for at in 0..EDITS {
         if let Some(insert) = insert_character(alloc, random.below(LENGTH))? {
             let content = edit(alloc, insert)?;
-            drop(shard.commit_now(key, &submission(alloc, at + 2, content)?));
+            drop(shard.commit_now(key, &submission(alloc, at + 2, content)?, Moment::first()));
         }
         drop(shard.fetch(key));
     }

@@ -11,29 +11,29 @@ use Rattle.sdb_desk.specs.Machine.{PlainAttempt, Decides, Commits, IsFoundRefuse
 use Rattle.sdb_desk.specs.Documents.{RefusedAs}
 use Rattle.sdb_desk.specs.MapViewLaws.{kept_at}
 
-stored_not : (log : List PlainEntry) (s : PlainSubmission) (r : Result PlainContent Code) (code : Code) → (store log s r).reply ≡ refused code → (store log s r).log ≡ log
-stored_not log s (Ok m) code h = cc
-stored_not log s (Err e) code h = refl
+stored_not : (log : List PlainEntry) (s : PlainSubmission) (now : ℕ) (r : Result PlainContent Code) (code : Code) → (store log s now r).reply ≡ refused code → (store log s now r).log ≡ log
+stored_not log s now (Ok m) code h = cc
+stored_not log s now (Err e) code h = refl
 
-first_not : (log : List PlainEntry) (s : PlainSubmission) (code : Code) (o : Option ℕ) → stored_at s.src s.seq log ≡ o → (decide log s).reply ≡ refused code → (decide log s).log ≡ log
-first_not log s code (Some i) e h = ap (λ d. d.log) (decides_repeat log s i e)
-first_not log s code None e h =
-    let d = decides_settled log s (settled log s) e refl in
-    ap (λ x. x.log) d ∙ stored_not log s (settled log s) code (sym (ap (λ x. x.reply) d) ∙ h)
+first_not : (log : List PlainEntry) (s : PlainSubmission) (now : ℕ) (code : Code) (o : Option ℕ) → stored_at s.src s.seq log ≡ o → (decide log s now).reply ≡ refused code → (decide log s now).log ≡ log
+first_not log s now code (Some i) e h = ap (λ d. d.log) (decides_repeat log s now i e)
+first_not log s now code None e h =
+    let d = decides_settled log s now (settled log s) e refl in
+    ap (λ x. x.log) d ∙ stored_not log s now (settled log s) code (sym (ap (λ x. x.reply) d) ∙ h)
 
 -- a refusal leaves the log
-refused_leaves : (log : List PlainEntry) (s : PlainSubmission) (code : Code) → (decide log s).reply ≡ refused code → (decide log s).log ≡ log
-refused_leaves log s code h = first_not log s code (stored_at s.src s.seq log) refl h
+refused_leaves : (log : List PlainEntry) (s : PlainSubmission) (now : ℕ) (code : Code) → (decide log s now).reply ≡ refused code → (decide log s now).log ≡ log
+refused_leaves log s now code h = first_not log s now code (stored_at s.src s.seq log) refl h
 
 -- a decision that leaves the log
-pub leaves : (logs : Logs) (k : PlainKey) (s : PlainSubmission) → (decide (logs k) s).log ≡ logs k → logs ≡ with_log logs k (decide (logs k) s).log
-leaves logs k s e = kept_at logs k (decide (logs k) s).log e
+pub leaves : (logs : Logs) (k : PlainKey) (s : PlainSubmission) (now : ℕ) → (decide (logs k) s now).log ≡ logs k → logs ≡ with_log logs k (decide (logs k) s now).log
+leaves logs k s now e = kept_at logs k (decide (logs k) s now).log e
 
-pub decides_refused_as : (logs new : Logs) (k : PlainKey) (s : PlainSubmission) (code : Code) → RefusedAs (decide (logs k) s).reply code → (code ≡ E10 → deciding_takes_memory (logs k) s ≡ true) → new ≡ logs → Decides logs k s (refused code) new
-decides_refused_as logs new k s code (inl e) takes same = inl (ap refused e, same, takes e)
-decides_refused_as logs new k s code (inr e) takes same = inr (sym e, same ∙ leaves logs k s (refused_leaves (logs k) s code e))
+pub decides_refused_as : (logs new : Logs) (k : PlainKey) (s : PlainSubmission) (now : ℕ) (code : Code) → RefusedAs (decide (logs k) s now).reply code → (code ≡ E10 → deciding_takes_memory (logs k) s ≡ true) → new ≡ logs → Decides logs k s now (refused code) new
+decides_refused_as logs new k s now code (inl e) takes same = inl (ap refused e, same, takes e)
+decides_refused_as logs new k s now code (inr e) takes same = inr (sym e, same ∙ leaves logs k s now (refused_leaves (logs k) s now code e))
 
-pub commits_refused_as : (logs new : Logs) (k : PlainKey) (a : PlainAttempt) (code : Code) → length (logs k) ≡ a.look.version → RefusedAs (decide (logs k) a.submission).reply code
-    → (code ≡ E10 → deciding_takes_memory (logs k) a.submission ≡ true) → (code ≡ E10 → IsFoundRefused (logs k) a → ⊥) → new ≡ logs → Commits logs k a (decided (refused code)) new
-commits_refused_as logs new k a code here (inl e) takes found same = inl (ap refused e, same, inr (here, takes e, found e))
-commits_refused_as logs new k a code here (inr e) takes found same = inr (here, sym e, same ∙ leaves logs k a.submission (refused_leaves (logs k) a.submission code e))
+pub commits_refused_as : (logs new : Logs) (k : PlainKey) (a : PlainAttempt) (now : ℕ) (code : Code) → length (logs k) ≡ a.look.version → RefusedAs (decide (logs k) a.submission now).reply code
+    → (code ≡ E10 → deciding_takes_memory (logs k) a.submission ≡ true) → (code ≡ E10 → IsFoundRefused (logs k) a → ⊥) → new ≡ logs → Commits logs k a now (decided (refused code)) new
+commits_refused_as logs new k a now code here (inl e) takes found same = inl (ap refused e, same, inr (here, takes e, found e))
+commits_refused_as logs new k a now code here (inr e) takes found same = inr (here, sym e, same ∙ leaves logs k a.submission now (refused_leaves (logs k) a.submission now code e))

@@ -32,8 +32,8 @@ begins_snap log v w None kept d snaps e h = ap (λ n. snap (take n log)) h.0 ∙
 begins_snap log v w (Some s) kept d snaps e h = ap (λ n. snap (take n log)) h.0 ∙ (nearest_snap log v kept s snaps e).is ∙ ap Some (sym h.1)
 
 -- a decision keeps the snapshots
-pub decided_snaps : (log : List PlainEntry) (s : PlainSubmission) (kept : List Snapshot) → AreSnapsOf log kept → AreSnapsOf (decide log s).log kept
-decided_snaps log s kept snaps = let g = decide_grows log s in subst (λ l. AreSnapsOf l kept) (sym g.1) (longer_snaps log g.0 kept snaps)
+pub decided_snaps : (log : List PlainEntry) (s : PlainSubmission) (now : ℕ) (kept : List Snapshot) → AreSnapsOf log kept → AreSnapsOf (decide log s now).log kept
+decided_snaps log s now kept snaps = let g = decide_grows log s now in subst (λ l. AreSnapsOf l kept) (sym g.1) (longer_snaps log g.0 kept snaps)
 
 -- what is kept after an offer that may have found no memory
 pub offered_or : {E : Type 0} (log : List PlainEntry) (v : ℕ) (d : Value) (kept other : List Snapshot) (r : Result ⊤ E) → IsSnapOf log (record { version = v; value = d }) → AreSnapsOf log kept
@@ -45,18 +45,18 @@ none_of_more : (log rest : List PlainEntry) → log ++ rest ≡ [] → log ≡ [
 none_of_more [] rest e = refl
 none_of_more (x ∷ log) rest e = cc
 
-decided_filled : (log : List PlainEntry) (s : PlainSubmission) → log ≢ [] → (decide log s).log ≢ []
-decided_filled log s filled none = let g = decide_grows log s in filled (none_of_more log g.0 (sym g.1 ∙ none))
+decided_filled : (log : List PlainEntry) (s : PlainSubmission) (now : ℕ) → log ≢ [] → (decide log s now).log ≢ []
+decided_filled log s now filled none = let g = decide_grows log s now in filled (none_of_more log g.0 (sym g.1 ∙ none))
 
 -- a document after a decision that may have found no memory
-pub decided_document : {A E : Type 0} (log new : List PlainEntry) (s : PlainSubmission) (old present : Option Json) (kept : List Snapshot) (r : Result A E) → OnOk r (new ≡ (decide log s).log) → OnErr r (new ≡ log)
+pub decided_document : {A E : Type 0} (log new : List PlainEntry) (s : PlainSubmission) (now : ℕ) (old present : Option Json) (kept : List Snapshot) (r : Result A E) → OnOk r (new ≡ (decide log s now).log) → OnErr r (new ≡ log)
     → IsMadeDocument new present → IsDocument log old kept → IsDocument new present kept
-decided_document log new s old present kept (Ok x) ok err made d = record {
+decided_document log new s now old present kept (Ok x) ok err made d = record {
   keeps = made;
-  filled = subst (λ l. l ≢ []) (sym ok) (decided_filled log s d.filled);
-  snaps = subst (λ l. AreSnapsOf l kept) (sym ok) (decided_snaps log s kept d.snaps);
+  filled = subst (λ l. l ≢ []) (sym ok) (decided_filled log s now d.filled);
+  snaps = subst (λ l. AreSnapsOf l kept) (sym ok) (decided_snaps log s now kept d.snaps);
 }
-decided_document log new s old present kept (Err e) ok err made d = record {
+decided_document log new s now old present kept (Err e) ok err made d = record {
   keeps = made;
   filled = subst (λ l. l ≢ []) (sym err) d.filled;
   snaps = subst (λ l. AreSnapsOf l kept) (sym err) d.snaps;

@@ -8,6 +8,7 @@ use Rattle.sdb_oplog.specs.Refused.{result_then}
 use Rattle.sdb_oplog.specs.Over.{over_all, carrying_takes_memory}
 use Rattle.sdb_oplog.specs.Decide.{PlainReply, stored, repeated, refused, decide, missed, settling_takes_memory, deciding_takes_memory}
 use Rattle.sdb_oplog.specs.Keys.{PlainKey, Logs, with_at, with_log}
+use Rattle.sdb_oplog.specs.Moments.{version_at}
 use Rattle.sdb_subscribe.specs.Queue.{PlainQueues, opened, taken_by, after_take_by, without_by}
 use Rattle.sdb_oplog.specs.Snap.{becomes, document, stored_at}
 use Rattle.sdb_oplog.specs.declared.codes.Code.{Code}
@@ -61,11 +62,11 @@ working_takes_memory a =
     carrying_takes_memory a.submission.content a.look.missed
     || settling_takes_memory (over_all a.submission.content a.look.missed) a.look.snapshot
 
--- the submission was decided, or memory was wanting for it and nothing has changed
-abbrev pub Decides : Logs → PlainKey → PlainSubmission → PlainReply → Logs → Type 0
-Decides logs k s r new =
+-- the submission was decided at this moment, or memory was wanting for it and nothing has changed
+abbrev pub Decides : Logs → PlainKey → PlainSubmission → ℕ → PlainReply → Logs → Type 0
+Decides logs k s now r new =
     ((r ≡ refused E10) × (new ≡ logs) × (deciding_takes_memory (logs k) s ≡ true))
-    ⊎ ((r ≡ (decide (logs k) s).reply) × (new ≡ with_log logs k (decide (logs k) s).log))
+    ⊎ ((r ≡ (decide (logs k) s now).reply) × (new ≡ with_log logs k (decide (logs k) s now).log))
 
 -- the work found already that the submission is refused, on the way or by the document
 abbrev pub IsFoundRefused : List PlainEntry → PlainAttempt → Type 0
@@ -78,13 +79,13 @@ CommittingTakesMemory log a =
     ((length log ≢ a.look.version) × (looking_takes_memory log a.submission ≡ true))
     ⊎ ((length log ≡ a.look.version) × (deciding_takes_memory log a.submission ≡ true) × (IsFoundRefused log a → ⊥))
 
--- a commit decides where the log is as long as it was looked at. Elsewhere it shows the log afresh and changes nothing
-abbrev pub Commits : Logs → PlainKey → PlainAttempt → PlainOutcome → Logs → Type 0
-Commits logs k a (decided r) new =
+-- a commit decides at this moment where the log is as long as it was looked at. Elsewhere it shows the log afresh and changes nothing
+abbrev pub Commits : Logs → PlainKey → PlainAttempt → ℕ → PlainOutcome → Logs → Type 0
+Commits logs k a now (decided r) new =
     ((r ≡ refused E10) × (new ≡ logs) × CommittingTakesMemory (logs k) a)
-    ⊎ ((length (logs k) ≡ a.look.version) × (r ≡ (decide (logs k) a.submission).reply)
-    × (new ≡ with_log logs k (decide (logs k) a.submission).log))
-Commits logs k a (moved l) new = (length (logs k) ≢ a.look.version) × (l ≡ look_at (logs k) a.submission) × (new ≡ logs)
+    ⊎ ((length (logs k) ≡ a.look.version) × (r ≡ (decide (logs k) a.submission now).reply)
+    × (new ≡ with_log logs k (decide (logs k) a.submission now).log))
+Commits logs k a now (moved l) new = (length (logs k) ≢ a.look.version) × (l ≡ look_at (logs k) a.submission) × (new ≡ logs)
 
 -- a commit leaves the work as it was. Where it is stored, its missed entries are answered, and its submission is left
 abbrev pub Keeps : PlainOutcome → PlainAttempt → PlainAttempt → Type 0
@@ -106,6 +107,14 @@ abbrev pub snapshot_at : List PlainEntry → Option ℕ → Result PlainFetched 
 snapshot_at log v =
     if nat_lt (length log) (unwrap_or v (length log)) then Err E4
     else Ok (record { version = unwrap_or v (length log); snapshot = document (take (unwrap_or v (length log)) log) })
+
+-- the version at a moment, or the length where none is named
+abbrev pub version_then : List PlainEntry → Option ℕ → ℕ
+version_then log t = option_map_or (version_at log) t (length log)
+
+-- that version, and the document there
+abbrev pub at_moment : List PlainEntry → Option ℕ → PlainFetched
+at_moment log t = record { version = version_then log t; snapshot = document (take (version_then log t) log) }
 
 -- ---- queues
 

@@ -1,5 +1,5 @@
 //! One document: its log, and what it makes.
-ghost use Rattle.std.specs.Prelude.{◌≡◌, ◌≢◌, ◌<◌, ◌≤◌, [], ◌∷◌, true, length, take, OnOk, OnErr, IfOk, IfErr, IsErrOf, IfSome, OnSome, IfNone, is_some, Some, Ok, Err, option_map, unwrap_or};
+ghost use Rattle.std.specs.Prelude.{◌≡◌, ◌≢◌, ℕ, ◌<◌, ◌≤◌, [], ◌∷◌, true, length, take, OnOk, OnErr, IfOk, IfErr, IsErrOf, IfSome, OnSome, IfNone, is_some, Some, Ok, Err, option_map, unwrap_or};
 ghost use Rattle.sdb_value.specs.Owns.{is_pointer};
 ghost use Rattle.sdb_value.specs.View.{view};
 ghost use Rattle.sdb_oplog.specs.Decide.{decide, stored, missed, IsMade, storing_takes_memory};
@@ -17,7 +17,7 @@ ghost use Rattle.sdb_desk.specs.Read.{Leaves, Offers, Lends, LendsFrom, Uses};
 
 use crate::attempts::Look;
 use crate::lending::Lent;
-use sdb_oplog::{Code, Content, Entry, Kind, Log, Submission, Unprepared, copy_entries};
+use sdb_oplog::{Code, Content, Entry, Kind, Log, Moment, Submission, Unprepared, copy_entries};
 use sdb_snapcache::Cache;
 use sdb_value::{Json, MAX};
 use std::alloc::{AllocError, Global};
@@ -61,17 +61,26 @@ impl Document {
     pub(crate) fn first(
         alloc: Global,
         submission: Submission,
+        now: Moment,
         content: Option<Content>,
         made: Option<Json>,
     ) -> Result<Document, AllocError>
         requires { Settles [] submission content (option_map view made) }
-        ensures log { IfOk result (λ d. d.log ≡ (decide [] submission).log) }
+        ensures log { IfOk result (λ d. d.log ≡ (decide [] submission now).log) }
         ensures kept { IfOk result (λ d. d.kept ≡ []) }
-        ensures reply { OnOk result ((decide [] submission).reply ≡ stored 0 (missed [] submission)) }
+        ensures reply { OnOk result ((decide [] submission now).reply ≡ stored 0 (missed [] submission)) }
     {
         let mut log = Log::new(alloc);
         let mut present = None;
-        store(alloc, &mut log, &mut present, submission, content, made)?;
+        store(
+            alloc,
+            &mut log,
+            &mut present,
+            submission,
+            now,
+            content,
+            made,
+        )?;
         let cache = Cache::new(alloc);
         Ok(Document {
             log,
@@ -114,23 +123,24 @@ impl Document {
         self.cache.len()
     }
 
-    // Stores what a submission has become, with the document that it makes.
+    // Stores now what a submission has become, with the document that it makes.
     pub(crate) fn store(
         &mut self,
         alloc: Global,
         submission: Submission,
+        now: Moment,
         content: Option<Content>,
         made: Option<Json>,
     ) -> Result<(), AllocError>
         requires { Settles self.old.log submission content (option_map view made) }
-        ensures log { OnOk result (self.new.log ≡ (decide self.old.log submission).log) }
+        ensures log { OnOk result (self.new.log ≡ (decide self.old.log submission now).log) }
         ensures reply { OnOk result
-            ((decide self.old.log submission).reply ≡ stored (length self.old.log) (missed self.old.log submission)) }
+            ((decide self.old.log submission now).reply ≡ stored (length self.old.log) (missed self.old.log submission)) }
         ensures same { OnErr result (self.new.log ≡ self.old.log) }
         ensures kept { self.new.kept ≡ self.old.kept }
     {
         let Document { log, present, .. } = self;
-        store(alloc, log, present, submission, content, made)
+        store(alloc, log, present, submission, now, content, made)
     }
 
     // The document at a version, made of the nearest snapshot that is kept. It is kept then, where there
@@ -160,6 +170,7 @@ impl Document {
         requires { version ≤ length self.old.log }
         ensures lends { IfOk result (λ l. Lends self.old.log version (plain_lent l)) }
         ensures from { IfOk result (λ l. LendsFrom self.old.log self.old.kept version (plain_lent l)) }
+        ensures present { IfOk result (λ l. version ≡ length self.old.log → l.entries.items ≡ []) }
         ensures memory { OnErr result (0 < version) }
         ensures log { self.new.log ≡ self.old.log }
         ensures kept { Uses self.old.log version self.old.kept self.new.kept }
@@ -202,6 +213,7 @@ impl Document {
         requires snapshot { document (take version self.old.log) ≡ option_map (λ v. view v.now) snapshot }
         ensures log { self.new.log ≡ self.old.log }
         ensures kept { Offers version (option_map (λ v. view v.now) snapshot.entry) self.old.kept self.new.kept }
+        ensures made { IsMade self.old.log }
     {
         if let Ok(Some(copy)) = shared_copy_of(alloc, snapshot) {
             let _ = self.cache.offer(version, copy);
@@ -291,11 +303,11 @@ fn share_all(alloc: Global, document: &mut Option<Json>) -> Result<(), AllocErro
     }
 }
 
-// What a submission is answered whatever it asks, where it isn't to be carried: a repeat, a full log, a
-// version too new.
+// What a submission is answered whatever it asks and whenever, where it isn't to be carried: a repeat, a full
+// log, a version too new.
 pub(crate) fn reply_at_sight(log: &Log, submission: &Submission) -> Option<Reply>
-    ensures reply { IfSome result (λ r. plain_reply r ≡ (decide log.now submission.now).reply) }
-    ensures log { OnSome result ((decide log.now submission.now).log ≡ log.now) }
+    ensures reply { (t : ℕ) → IfSome result (λ r. plain_reply r ≡ (decide log.now submission.now t).reply) }
+    ensures log { (t : ℕ) → OnSome result ((decide log.now submission.now t).log ≡ log.now) }
     ensures unstored { IfSome result (λ r. IsUnstored (plain_reply r)) }
     ensures open { IfNone result (IsOpen log.now submission.now) }
 {
@@ -362,20 +374,21 @@ fn store(
     log: &mut Log,
     present: &mut Option<Json>,
     submission: Submission,
+    now: Moment,
     content: Option<Content>,
     made: Option<Json>,
 ) -> Result<(), AllocError>
     requires document { IsMadeDocument log.old present.old }
     requires settles { Settles log.old submission content (option_map view made) }
-    ensures log { OnOk result (log.new ≡ (decide log.old submission).log) }
+    ensures log { OnOk result (log.new ≡ (decide log.old submission now).log) }
     ensures reply { OnOk result
-        ((decide log.old submission).reply ≡ stored (length log.old) (missed log.old submission)) }
+        ((decide log.old submission now).reply ≡ stored (length log.old) (missed log.old submission)) }
     ensures same { OnErr result (log.new ≡ log.old) }
     ensures document { IsMadeDocument log.new present.new }
 {
     match mem::replace(log, Log::new(alloc)).prepare(submission) {
         Ok(prepared) => {
-            *log = prepared.store(content);
+            *log = prepared.store(now, content);
             *present = made;
             Ok(())
         }

@@ -1,5 +1,5 @@
 //! All documents and their queues, by key.
-ghost use Rattle.std.specs.Prelude.{◌≡◌, ◌≢◌, ◌≤◌, ◌<◌, [], true, length, map, is_some, take, IfOk, IfErr, IfSome, OnSome, IfNone, IsErrOf, OnOk, OnErr, Ok, Err, Some, None, option_map, unwrap_or, nat_eq};
+ghost use Rattle.std.specs.Prelude.{◌≡◌, ◌≢◌, ℕ, ◌≤◌, ◌<◌, [], true, length, map, is_some, take, IfOk, IfErr, IfSome, OnSome, IfNone, IsErrOf, OnOk, OnErr, Ok, Err, Some, None, option_map, unwrap_or, nat_eq};
 ghost use Rattle.sdb_oplog.specs.Decide.{decide, stored, missed, IsMade, storing_takes_memory, deciding_takes_memory};
 ghost use Rattle.sdb_oplog.specs.Over.{over_all, carrying_takes_memory};
 ghost use Rattle.sdb_oplog.specs.Keys.{no_logs, with_log, plain_key};
@@ -20,7 +20,7 @@ ghost use Rattle.sdb_desk.specs.Read.{Leaves, Offers, Lends, LendsFrom, Uses};
 ghost use Rattle.sdb_desk.specs.Stored.{AreStored};
 ghost use Rattle.sdb_desk.specs.Looked.{IsLook};
 ghost use Rattle.sdb_desk.specs.Open.{AreOpen};
-ghost use Rattle.sdb_desk.specs.Machine.{IsFoundRefused, look_at, looking_takes_memory, fetched, operations, snapshot_at, start_of, start_free, is_filled, has_document, has_version, no_queues, with_queues, closed, Decides, Commits, Keeps, Reads, Subscribes, Takes};
+ghost use Rattle.sdb_desk.specs.Machine.{IsFoundRefused, look_at, looking_takes_memory, fetched, operations, snapshot_at, start_of, start_free, is_filled, has_document, has_version, version_then, at_moment, no_queues, with_queues, closed, Decides, Commits, Keeps, Reads, Subscribes, Takes};
 ghost use Rattle.sdb_desk.specs.View.{plain_lent, plain_look, plain_outcome, outcome_of, told_fetched, told_entries, told_subscribed, told_taken};
 ghost use Rattle.sdb_desk.specs.ReplyView.{plain_reply};
 
@@ -30,7 +30,7 @@ use crate::document::{
 };
 use crate::lending::{Lent, nothing_lent};
 use crate::topic::Topic;
-use sdb_oplog::{Code, Content, Entry, Key, Log, Submission, copy_entries, over_all};
+use sdb_oplog::{Code, Content, Entry, Key, Log, Moment, Submission, copy_entries, over_all};
 use sdb_subscribe::SubId;
 use sdb_value::Json;
 use std::alloc::{AllocError, Global};
@@ -185,29 +185,30 @@ impl Shard {
     /// Decides the submission of a work, where the log is as long as it was looked at; elsewhere it
     /// shows the log afresh. The look is one at this log, as it is or when it was shorter.
     ///
-    /// Where it is stored, the entries that the look showed as missed are in the answer, and the work
-    /// keeps its submission. In all other cases the work stays as it is.
+    /// Where it is stored, it has this moment, or that of the entry before it where that is later; the entries
+    /// that the look showed as missed are in the answer, and the work keeps its submission. In all other cases
+    /// the work stays as it is.
     ///
     /// `Refused(E10)` is want of memory, and nothing has changed then. A repeat, a full log, a version
     /// above the present one and what the work found refused take none.
-    pub fn commit(&mut self, key: &Key, work: &mut Work) -> Outcome
+    pub fn commit(&mut self, key: &Key, work: &mut Work, now: Moment) -> Outcome
         requires { IsLook (logs_of self.old (plain_key key.now)) work.old }
-        ensures commits { Commits (logs_of self.old) (plain_key key.now) work.old (plain_outcome result)
+        ensures commits { Commits (logs_of self.old) (plain_key key.now) work.old now (plain_outcome result)
             (logs_of self.new) }
         ensures keeps { Keeps (plain_outcome result) work.old work.new }
         ensures kept { kept_of self.new ≡ kept_of self.old }
         ensures queues { queues_of self.new ≡ queues_of self.old }
         ensures rings { Notes (logs_of self.old) (logs_of self.new) (ringed_of self.old) (ringed_of self.new) }
     {
-        let decision = self.decide(key, work);
+        let decision = self.decide(key, work, now);
         work.conclude(self.alloc, decision)
     }
 
     /// Decides a work as [`commit`](Shard::commit) does, and leaves it to the caller to tell the work, by
     /// [`Work::conclude`].
-    pub fn decide(&mut self, key: &Key, work: &Work) -> Decision
+    pub fn decide(&mut self, key: &Key, work: &Work, now: Moment) -> Decision
         requires { IsLook (logs_of self.old (plain_key key.now)) work.now }
-        ensures commits { Commits (logs_of self.old) (plain_key key.now) work.now (outcome_of work.now result)
+        ensures commits { Commits (logs_of self.old) (plain_key key.now) work.now now (outcome_of work.now result)
             (logs_of self.new) }
         ensures kept { kept_of self.new ≡ kept_of self.old }
         ensures queues { queues_of self.new ≡ queues_of self.old }
@@ -222,17 +223,17 @@ impl Shard {
         if let Some(reply) = self.reply_at_sight(key, work.submission()) {
             return Decision::Answers(Outcome::Decided(reply));
         }
-        match self.store_work(key, work) {
+        match self.store_work(key, work, now) {
             Ok(()) => Decision::Stores { v: work.version() },
             Err(code) => Decision::Answers(Outcome::Decided(Reply::Refused(code))),
         }
     }
 
-    /// Decides a submission in one step. `Refused(E10)` is want of memory, and nothing has changed then. A
+    /// Decides a submission at a moment, in one step. `Refused(E10)` is want of memory, and nothing has changed then. A
     /// repeat, a full log, a version above the present one, a create on a document and an edit of none
     /// take none.
-    pub fn commit_now(&mut self, key: &Key, submission: &Submission) -> Reply
-        ensures decides { Decides (logs_of self.old) (plain_key key.now) submission.now (plain_reply result)
+    pub fn commit_now(&mut self, key: &Key, submission: &Submission, now: Moment) -> Reply
+        ensures decides { Decides (logs_of self.old) (plain_key key.now) submission.now now (plain_reply result)
             (logs_of self.new) }
         ensures kept { kept_of self.new ≡ kept_of self.old }
         ensures queues { queues_of self.new ≡ queues_of self.old }
@@ -242,39 +243,39 @@ impl Shard {
             return reply;
         }
         let v = self.version(key);
-        match self.store_now(key, submission) {
+        match self.store_now(key, submission, now) {
             Ok(missed) => Reply::Stored { v, missed },
             Err(code) => Reply::Refused(code),
         }
     }
 
-    /// Decides the submission of a work in one step, whatever was stored since its look: only that is carried
+    /// Decides the submission of a work at a moment, in one step, whatever was stored since its look: only that is carried
     /// over here, and what comes of it is applied to the present document. Where memory is wanting for that it
     /// is decided as [`Shard::commit_now`] does.
-    pub fn commit_last(&mut self, key: &Key, work: Work) -> Reply
-        ensures decides { Decides (logs_of self.old) (plain_key key.now) work.submission (plain_reply result)
+    pub fn commit_last(&mut self, key: &Key, work: Work, now: Moment) -> Reply
+        ensures decides { Decides (logs_of self.old) (plain_key key.now) work.submission now (plain_reply result)
             (logs_of self.new) }
         ensures kept { kept_of self.new ≡ kept_of self.old }
         ensures queues { queues_of self.new ≡ queues_of self.old }
         ensures rings { Notes (logs_of self.old) (logs_of self.new) (ringed_of self.old) (ringed_of self.new) }
     {
         let Ok(look) = self.look(key, work.submission()) else {
-            return self.commit_now(key, work.submission());
+            return self.commit_now(key, work.submission(), now);
         };
         match work.resume(self.alloc, look) {
-            Ok(mut resumed) => match self.commit(key, &mut resumed) {
+            Ok(mut resumed) => match self.commit(key, &mut resumed, now) {
                 Outcome::Decided(reply) => reply,
                 Outcome::Moved(_) => unreachable!(),
             },
-            Err(attempt) => self.commit_now(key, &attempt.submission),
+            Err(attempt) => self.commit_now(key, &attempt.submission, now),
         }
     }
 
-    // What a submission is answered whatever it asks: a repeat, a full log, a version too new.
+    // What a submission is answered whatever it asks and whenever: a repeat, a full log, a version too new.
     fn reply_at_sight(&self, key: &Key, submission: &Submission) -> Option<Reply>
-        ensures reply { IfSome result
-            (λ r. plain_reply r ≡ (decide (logs_of self.now (plain_key key.now)) submission.now).reply) }
-        ensures log { OnSome result ((decide (logs_of self.now (plain_key key.now)) submission.now).log ≡
+        ensures reply { (t : ℕ) → IfSome result
+            (λ r. plain_reply r ≡ (decide (logs_of self.now (plain_key key.now)) submission.now t).reply) }
+        ensures log { (t : ℕ) → OnSome result ((decide (logs_of self.now (plain_key key.now)) submission.now t).log ≡
             logs_of self.now (plain_key key.now)) }
         ensures unstored { IfSome result (λ r. IsUnstored (plain_reply r)) }
         ensures open { IfNone result (IsOpen (logs_of self.now (plain_key key.now)) submission.now) }
@@ -287,17 +288,17 @@ impl Shard {
 
     // Stores what a work has become, with the document that it makes, unless it was refused on the way or by the
     // document.
-    fn store_work(&mut self, key: &Key, work: &Work) -> Result<(), Code>
+    fn store_work(&mut self, key: &Key, work: &Work, now: Moment) -> Result<(), Code>
         requires open { IsOpen (logs_of self.old (plain_key key.now)) work.now.submission }
         requires missed { work.now.look.missed ≡ missed (logs_of self.old (plain_key key.now)) work.now.submission }
         requires snapshot { work.now.look.snapshot ≡ document (logs_of self.old (plain_key key.now)) }
         requires new { work.now.look.repeat ≡ None }
         ensures logs { OnOk result (logs_of self.new ≡ with_log (logs_of self.old) (plain_key key.now)
-            (decide (logs_of self.old (plain_key key.now)) work.now.submission).log) }
-        ensures reply { OnOk result ((decide (logs_of self.old (plain_key key.now)) work.now.submission).reply ≡
+            (decide (logs_of self.old (plain_key key.now)) work.now.submission now).log) }
+        ensures reply { OnOk result ((decide (logs_of self.old (plain_key key.now)) work.now.submission now).reply ≡
             stored (length (logs_of self.old (plain_key key.now))) work.now.look.missed) }
         ensures err { IfErr result
-            (RefusedAs (decide (logs_of self.old (plain_key key.now)) work.now.submission).reply) }
+            (RefusedAs (decide (logs_of self.old (plain_key key.now)) work.now.submission now).reply) }
         ensures memory { IsErrOf result E10 →
             deciding_takes_memory (logs_of self.old (plain_key key.now)) work.now.submission ≡ true }
         ensures found { IsErrOf result E10 → IsFoundRefused (logs_of self.old (plain_key key.now)) work.now → ⊥ }
@@ -308,20 +309,25 @@ impl Shard {
     {
         let content = work.content()?;
         let made = shared_copy_of(self.alloc, work.snapshot()?)?;
-        self.store(key, work.submission(), content, made)?;
+        self.store(key, work.submission(), now, content, made)?;
         Ok(())
     }
 
     // Stores a submission, worked along the entries that it has missed now, and copies these; unless it is
     // refused.
-    fn store_now(&mut self, key: &Key, submission: &Submission) -> Result<Vec<Entry>, Code>
+    fn store_now(
+        &mut self,
+        key: &Key,
+        submission: &Submission,
+        now: Moment,
+    ) -> Result<Vec<Entry>, Code>
         requires { IsOpen (logs_of self.old (plain_key key.now)) submission.now }
         ensures logs { OnOk result (logs_of self.new ≡ with_log (logs_of self.old) (plain_key key.now)
-            (decide (logs_of self.old (plain_key key.now)) submission.now).log) }
-        ensures reply { IfOk result (λ v. (decide (logs_of self.old (plain_key key.now)) submission.now).reply ≡
+            (decide (logs_of self.old (plain_key key.now)) submission.now now).log) }
+        ensures reply { IfOk result (λ v. (decide (logs_of self.old (plain_key key.now)) submission.now now).reply ≡
             stored (length (logs_of self.old (plain_key key.now))) v.items) }
         ensures err { IfErr result
-            (RefusedAs (decide (logs_of self.old (plain_key key.now)) submission.now).reply) }
+            (RefusedAs (decide (logs_of self.old (plain_key key.now)) submission.now now).reply) }
         ensures memory { IsErrOf result E10 →
             deciding_takes_memory (logs_of self.old (plain_key key.now)) submission.now ≡ true }
         ensures same { OnErr result (logs_of self.new ≡ logs_of self.old) }
@@ -332,7 +338,7 @@ impl Shard {
         let content = self.carried(key, submission)?;
         let made = self.made(key, content.as_ref().unwrap_or(submission.content()))?;
         let missed = self.missed(key, submission)?;
-        self.store(key, submission, content.as_ref(), made)?;
+        self.store(key, submission, now, content.as_ref(), made)?;
         Ok(missed)
     }
 
@@ -385,14 +391,15 @@ impl Shard {
         &mut self,
         key: &Key,
         submission: &Submission,
+        now: Moment,
         content: Option<&Content>,
         made: Option<Json>,
     ) -> Result<(), AllocError>
         requires { Settles (logs_of self.old (plain_key key.now)) submission.now
             (option_map (λ c. c.now) content) (option_map view made) }
         ensures logs { OnOk result (logs_of self.new ≡ with_log (logs_of self.old) (plain_key key.now)
-            (decide (logs_of self.old (plain_key key.now)) submission.now).log) }
-        ensures reply { OnOk result ((decide (logs_of self.old (plain_key key.now)) submission.now).reply ≡
+            (decide (logs_of self.old (plain_key key.now)) submission.now now).log) }
+        ensures reply { OnOk result ((decide (logs_of self.old (plain_key key.now)) submission.now now).reply ≡
             stored (length (logs_of self.old (plain_key key.now)))
             (missed (logs_of self.old (plain_key key.now)) submission.now)) }
         ensures same { OnErr result (logs_of self.new ≡ logs_of self.old) }
@@ -403,8 +410,8 @@ impl Shard {
         let submission = submission.try_clone()?;
         let content = copy_content(content)?;
         match self.topics.get_mut(key) {
-            Some(topic) => topic.store(self.alloc, submission, content, made),
-            None => self.store_first(key, submission, content, made),
+            Some(topic) => topic.store(self.alloc, submission, now, content, made),
+            None => self.store_first(key, submission, now, content, made),
         }
     }
 
@@ -413,21 +420,22 @@ impl Shard {
         &mut self,
         key: &Key,
         submission: Submission,
+        now: Moment,
         content: Option<Content>,
         made: Option<Json>,
     ) -> Result<(), AllocError>
         requires nothing { no_topic ≡ topics_of self.old (plain_key key.now) }
         requires settles { Settles [] submission content (option_map view made) }
         ensures logs { OnOk result
-            (logs_of self.new ≡ with_log (logs_of self.old) (plain_key key.now) (decide [] submission).log) }
-        ensures reply { OnOk result ((decide [] submission).reply ≡ stored 0 (missed [] submission)) }
+            (logs_of self.new ≡ with_log (logs_of self.old) (plain_key key.now) (decide [] submission now).log) }
+        ensures reply { OnOk result ((decide [] submission now).reply ≡ stored 0 (missed [] submission)) }
         ensures same { OnErr result (logs_of self.new ≡ logs_of self.old) }
         ensures kept { kept_of self.new ≡ kept_of self.old }
         ensures queues { queues_of self.new ≡ queues_of self.old }
         ensures rings { Notes (logs_of self.old) (logs_of self.new) (ringed_of self.old) (ringed_of self.new) }
     {
         let mut topic = Topic::new(self.alloc);
-        topic.store(self.alloc, submission, content, made)?;
+        topic.store(self.alloc, submission, now, content, made)?;
         self.keep(key, topic)?;
         Ok(())
     }
@@ -519,6 +527,41 @@ impl Shard {
         Ok(Fetched { version, snapshot })
     }
 
+    /// The version at a moment, or the present one where none is named: how many of its operations were stored
+    /// up to then. It is found by halving, and takes no memory.
+    pub fn version_at(&self, key: &Key, moment: Option<Moment>) -> u64
+        ensures { result ≡ version_then (logs_of self.now (plain_key key.now)) moment }
+    {
+        match moment {
+            Some(moment) => match self.find(key) {
+                Some(document) => document.log().version_at(moment),
+                None => 0,
+            },
+            None => self.version(key),
+        }
+    }
+
+    /// The version at a moment, or the present one where none is named, and the document there, made as that of
+    /// [`Shard::snapshot_at`]. E10 is want of memory, at a version above 0.
+    pub fn at_time(&mut self, key: &Key, moment: Option<Moment>) -> Result<Fetched, Code>
+        ensures snapshot { Reads has_version (told_fetched result)
+            (Ok (at_moment (logs_of self.old (plain_key key.now)) moment)) }
+        ensures kept { Leaves (logs_of self.old (plain_key key.now))
+            (version_then (logs_of self.old (plain_key key.now)) moment)
+            (kept_of self.old (plain_key key.now)) (kept_of self.new (plain_key key.now)) }
+        ensures others { kept_of self.new ≡
+            with_kept (kept_of self.old) (plain_key key.now) (kept_of self.new (plain_key key.now)) }
+        ensures logs { logs_of self.new ≡ logs_of self.old }
+        ensures queues { queues_of self.new ≡ queues_of self.old }
+        ensures rings { ringed_of self.new ≡ ringed_of self.old }
+    {
+        let version = self.version_at(key, moment);
+        Ok(Fetched {
+            version,
+            snapshot: self.snapshot_of(key, version)?,
+        })
+    }
+
     // The document at a version, up to the present one.
     fn snapshot_of(&mut self, key: &Key, version: u64) -> Result<Option<Json>, Code>
         requires { version ≤ length (logs_of self.old (plain_key key.now)) }
@@ -547,6 +590,8 @@ impl Shard {
         ensures lends { IfOk result (λ l. Lends (logs_of self.old (plain_key key.now)) version (plain_lent l)) }
         ensures from { IfOk result (λ l. LendsFrom (logs_of self.old (plain_key key.now))
             (kept_of self.old (plain_key key.now)) version (plain_lent l)) }
+        ensures present { IfOk result
+            (λ l. version ≡ length (logs_of self.old (plain_key key.now)) → l.entries.items ≡ []) }
         ensures err { IfErr result (λ code. Reads has_version (Err code)
             (snapshot_at (logs_of self.old (plain_key key.now)) (Some version))) }
         ensures kept { OnOk result (Uses (logs_of self.old (plain_key key.now)) version
@@ -569,6 +614,8 @@ impl Shard {
         ensures lends { IfOk result (λ l. Lends (logs_of self.old (plain_key key.now)) version (plain_lent l)) }
         ensures from { IfOk result (λ l. LendsFrom (logs_of self.old (plain_key key.now))
             (kept_of self.old (plain_key key.now)) version (plain_lent l)) }
+        ensures present { IfOk result
+            (λ l. version ≡ length (logs_of self.old (plain_key key.now)) → l.entries.items ≡ []) }
         ensures memory { OnErr result (0 < version) }
         ensures kept { Uses (logs_of self.old (plain_key key.now)) version
             (kept_of self.old (plain_key key.now)) (kept_of self.new (plain_key key.now)) }
@@ -590,6 +637,7 @@ impl Shard {
         requires reached { version ≤ length (logs_of self.old (plain_key key.now)) }
         requires snapshot { document (take version (logs_of self.old (plain_key key.now))) ≡
             option_map (λ v. view v.now) snapshot }
+        ensures made { IsMade (logs_of self.old (plain_key key.now)) }
         ensures kept { Offers version (option_map (λ v. view v.now) snapshot.entry)
             (kept_of self.old (plain_key key.now)) (kept_of self.new (plain_key key.now)) }
         ensures others { kept_of self.new ≡

@@ -2,7 +2,7 @@
 ghost use Rattle.std.specs.Prelude.{◌≡◌, ◌≢◌, ◌≤◌, ◌<◌, ◌++◌, ◌∷◌, List, [], length, take, is_some, true, IfOk, IfErr, IfSome, OnOk, OnErr, Ok, Err, Some, None, option_map, unwrap_or};
 ghost use Rattle.sdb_value.specs.Owns.{is_pointer};
 ghost use Rattle.sdb_value.specs.View.{view};
-ghost use Rattle.sdb_oplog.specs.Decide.{decide, stored, missed};
+ghost use Rattle.sdb_oplog.specs.Decide.{decide, stored, missed, IsMade};
 ghost use Rattle.sdb_oplog.specs.Plain.{PlainEntry};
 ghost use Rattle.sdb_oplog.specs.Refused.{RefusedBy};
 ghost use Rattle.sdb_oplog.specs.Snap.{document, snap};
@@ -18,7 +18,7 @@ ghost use Rattle.sdb_desk.specs.View.{plain_lent};
 
 use crate::document::Document;
 use crate::lending::{Lent, nothing_lent};
-use sdb_oplog::{Code, Content, Entry, Log, Submission};
+use sdb_oplog::{Code, Content, Entry, Log, Moment, Submission};
 use sdb_subscribe::{Queues, SubId};
 use sdb_value::Json;
 use std::alloc::{AllocError, Global};
@@ -80,17 +80,18 @@ impl Topic {
         &self.queues
     }
 
-    // Stores what a submission has become, with the document that it makes, and tells the rings.
+    // Stores now what a submission has become, with the document that it makes, and tells the rings.
     pub(crate) fn store(
         &mut self,
         alloc: Global,
         submission: Submission,
+        now: Moment,
         content: Option<Content>,
         made: Option<Json>,
     ) -> Result<(), AllocError>
         requires { Settles self.old.document.log submission content (option_map view made) }
-        ensures log { OnOk result (self.new.document.log ≡ (decide self.old.document.log submission).log) }
-        ensures reply { OnOk result ((decide self.old.document.log submission).reply ≡
+        ensures log { OnOk result (self.new.document.log ≡ (decide self.old.document.log submission now).log) }
+        ensures reply { OnOk result ((decide self.old.document.log submission now).reply ≡
             stored (length self.old.document.log) (missed self.old.document.log submission)) }
         ensures same { OnErr result (self.new.document.log ≡ self.old.document.log) }
         ensures kept { self.new.document.kept ≡ self.old.document.kept }
@@ -99,7 +100,7 @@ impl Topic {
             self.old.queues.queues self.new.queues.queues }
     {
         let version = version_of(&self.document);
-        store_in(&mut self.document, alloc, submission, content, made)?;
+        store_in(&mut self.document, alloc, submission, now, content, made)?;
         note(&mut self.queues, &self.document, version);
         Ok(())
     }
@@ -139,6 +140,7 @@ impl Topic {
         ensures lends { IfOk result (λ l. Lends self.old.document.log version (plain_lent l)) }
         ensures from { IfOk result
             (λ l. LendsFrom self.old.document.log self.old.document.kept version (plain_lent l)) }
+        ensures present { IfOk result (λ l. version ≡ length self.old.document.log → l.entries.items ≡ []) }
         ensures memory { OnErr result (0 < version) }
         ensures log { self.new.document.log ≡ self.old.document.log }
         ensures kept { Uses self.old.document.log version self.old.document.kept self.new.document.kept }
@@ -157,6 +159,7 @@ impl Topic {
         ensures log { self.new.document.log ≡ self.old.document.log }
         ensures kept { Offers version (option_map (λ v. view v.now) snapshot.entry)
             self.old.document.kept self.new.document.kept }
+        ensures made { IsMade self.old.document.log }
         ensures queues { self.new.queues ≡ self.old.queues }
     {
         if let Some(document) = &mut self.document {
@@ -246,21 +249,22 @@ fn store_in(
     document: &mut Option<Box<Document>>,
     alloc: Global,
     submission: Submission,
+    now: Moment,
     content: Option<Content>,
     made: Option<Json>,
 ) -> Result<(), AllocError>
     requires { Settles (document_in document.old).log submission content (option_map view made) }
     ensures log { OnOk result
-        ((document_in document.new).log ≡ (decide (document_in document.old).log submission).log) }
-    ensures reply { OnOk result ((decide (document_in document.old).log submission).reply ≡
+        ((document_in document.new).log ≡ (decide (document_in document.old).log submission now).log) }
+    ensures reply { OnOk result ((decide (document_in document.old).log submission now).reply ≡
         stored (length (document_in document.old).log) (missed (document_in document.old).log submission)) }
     ensures same { OnErr result ((document_in document.new).log ≡ (document_in document.old).log) }
     ensures kept { (document_in document.new).kept ≡ (document_in document.old).kept }
 {
     match document {
-        Some(document) => document.store(alloc, submission, content, made),
+        Some(document) => document.store(alloc, submission, now, content, made),
         None => {
-            let first = Document::first(alloc, submission, content, made)?;
+            let first = Document::first(alloc, submission, now, content, made)?;
             *document = Some(boxed(alloc, first)?);
             Ok(())
         }

@@ -2,7 +2,7 @@
 ghost use Rattle.std.specs.Prelude.{◌≡◌};
 
 use sdb_component::Op;
-use sdb_oplog::{Code, Content, Entry, Kind, Log, Submission, copy_entries, over, same_entries};
+use sdb_oplog::{Code, Content, Entry, Kind, Log, Moment, Submission, copy_entries, over, same_entries};
 use sdb_value::Json;
 use std::alloc::Global;
 use std::process::Abort;
@@ -21,9 +21,20 @@ fn a_log(rt: &impl Abort, alloc: Global) -> Log {
     let mut log = Log::new(alloc);
     let content = Content::create(alloc, Json::Bool(true)).expect(rt, "out of memory");
     let create = submission(rt, alloc, 1, content);
-    log.push(Entry::new(0, None, create))
+    log.push(Entry::new(0, Moment::first(), None, create))
         .expect(rt, "out of memory");
     log
+}
+
+// The one entry stands at 0, and nothing before it.
+#[test]
+fn versions_at_moments(rt: HostRuntime) {
+    let last = Moment::new(9_007_199_254_740_991).expect(&rt, "a moment");
+    assert!(rt; Moment::new(9_007_199_254_740_992).is_none());
+    assert!(rt; Moment::at_most_last(u64::MAX).milliseconds() == last.milliseconds());
+    assert!(rt; Log::new(rt.alloc()).version_at(last) == 0);
+    let log = a_log(&rt, rt.alloc());
+    assert!(rt; log.version_at(Moment::first()) == 1 && log.version_at(last) == 1);
 }
 
 fn is_true(document: Option<&Json>) -> bool {
@@ -46,7 +57,7 @@ fn an_entry(rt: &impl Abort, alloc: Global) -> Entry {
     let create = submission(rt, alloc, 1, content)
         .try_clone()
         .expect(rt, "out of memory");
-    Entry::new(5, Some(Content::delete()), create)
+    Entry::new(5, Moment::first(), Some(Content::delete()), create)
 }
 
 #[test]

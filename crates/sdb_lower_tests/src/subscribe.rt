@@ -1,5 +1,5 @@
 //! Queues and their rings. What a take gives is in the tests of `sdb_desk`, where the log is that of a document.
-use sdb_oplog::{Content, Entry, Submission};
+use sdb_oplog::{Content, Entry, Moment, Submission};
 use sdb_subscribe::{Queues, SubId};
 use std::alloc::Global;
 use std::process::Abort;
@@ -8,7 +8,7 @@ fn entry(rt: &impl Abort, alloc: Global, version: u64) -> Entry {
     let src = String::from_str(alloc, "x").expect(rt, "out of memory");
     let via = String::from_str(alloc, "b").expect(rt, "out of memory");
     let submission = Submission::new(alloc, src, version, None, Content::delete(), via, 0);
-    Entry::new(version, None, submission.expect(rt, "out of memory"))
+    Entry::new(version, Moment::first(), None, submission.expect(rt, "out of memory"))
 }
 
 fn opened(rt: &impl Abort, queues: &mut Queues, from: u64) -> SubId {

@@ -1,6 +1,7 @@
 mod Carrying
+mod Used
 pub mod Growing
+pub mod Halving
 pub mod Indexed
 pub mod Logging
 pub mod Numbers
-mod Used

@@ -46,8 +46,8 @@ submission_code =
 
 abbrev pub entry_code : Coded PlainEntry
 entry_code =
-    code_by (ℕ × (PlainContent × PlainSubmission)) (coded× coded_ℕ (coded× content_code submission_code))
-    (λ e. (e.version, (e.content, e.arrived))) (λ p. record { version = p.0; content = p.1.0; arrived = p.1.1 })
+    code_by ((ℕ × ℕ) × (PlainContent × PlainSubmission)) (coded× (coded× coded_ℕ coded_ℕ) (coded× content_code submission_code))
+    (λ e. ((e.version, e.moment), (e.content, e.arrived))) (λ p. record { version = p.0.0; moment = p.0.1; content = p.1.0; arrived = p.1.1 })
     (λ _. refl)
 
 abbrev pub log_code : Coded (List PlainEntry)

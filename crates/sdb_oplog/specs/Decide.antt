@@ -1,9 +1,10 @@
 -- What one submission does to a log: `Decide`. The first case that holds decides.
-use Rattle.std.specs.Prelude.{◌≡◌, ℕ, List, [], ◌∷◌, ◌++◌, length, drop, Bool, true, false, ◌||◌, if◌then◌else◌, nat_eq, nat_lt, Option, Some, None, Result, Ok, Err, unwrap_or}
+use Rattle.std.specs.Prelude.{◌≡◌, ℕ, List, [], ◌∷◌, ◌++◌, length, drop, max, Bool, true, false, ◌||◌, if◌then◌else◌, nat_eq, nat_lt, Option, Some, None, Result, Ok, Err, unwrap_or}
 use Rattle.std.specs.Option.{is_some, option_map_or}
 use Rattle.sdb_value.specs.Value.{Value}
 use Rattle.sdb_oplog.specs.Plain.{PlainContent, create, delete, edit, PlainSubmission, PlainEntry}
 use Rattle.sdb_oplog.specs.Refused.{result_then}
+use Rattle.sdb_oplog.specs.Moments.{last_moment}
 use Rattle.sdb_oplog.specs.Over.{over_all, carrying_takes_memory}
 use Rattle.sdb_oplog.specs.Snap.{becomes, document, stored_at}
 use Rattle.sdb_oplog.specs.declared.codes.Code.{Code}
@@ -47,24 +48,25 @@ settled log s =
     else (if is_newer log s then Err E4
     else (result_then (λ m. effective m (document log)) (over_all s.content (missed log s))))
 
-abbrev pub entry_of : List PlainEntry → PlainSubmission → PlainContent → PlainEntry
-entry_of log s m = record { version = length log; content = m; arrived = s }
+-- stored now, or with the moment of the entry before it where that is later
+abbrev pub entry_of : List PlainEntry → PlainSubmission → ℕ → PlainContent → PlainEntry
+entry_of log s now m = record { version = length log; moment = max now (last_moment log); content = m; arrived = s }
 
 -- a new entry at the end, unless it is refused
-abbrev pub store : List PlainEntry → PlainSubmission → Result PlainContent Code → Decided
-store log s (Err code) = record { reply = refused code; log = log }
-store log s (Ok m) = record { reply = stored (length log) (missed log s); log = log ++ entry_of log s m ∷ [] }
+abbrev pub store : List PlainEntry → PlainSubmission → ℕ → Result PlainContent Code → Decided
+store log s now (Err code) = record { reply = refused code; log = log }
+store log s now (Ok m) = record { reply = stored (length log) (missed log s); log = log ++ entry_of log s now m ∷ [] }
 
--- a repeat, wherever in the log it was stored; or a submission that is settled now
-abbrev pub decide : List PlainEntry → PlainSubmission → Decided
-decide log s =
+-- a repeat, wherever in the log it was stored; or a submission that is settled at this moment
+abbrev pub decide : List PlainEntry → PlainSubmission → ℕ → Decided
+decide log s now =
     option_map_or (λ i. record { reply = repeated i; log = log }) (stored_at s.src s.seq log)
-    (store log s (settled log s))
+    (store log s now (settled log s))
 
--- a log is made where each entry is the one that `decide` stores for its submission on those before it
+-- a log is made where each entry is the one that `decide` stores for its submission, at its moment, on those before it
 abbrev pub MadeFrom : List PlainEntry → List PlainEntry → Type 0
 MadeFrom before [] = Unit {0}
-MadeFrom before (e ∷ es) = ((decide before e.arrived).log ≡ before ++ e ∷ []) × MadeFrom (before ++ e ∷ []) es
+MadeFrom before (e ∷ es) = ((decide before e.arrived e.moment).log ≡ before ++ e ∷ []) × MadeFrom (before ++ e ∷ []) es
 
 abbrev pub IsMade : List PlainEntry → Type 0
 IsMade = MadeFrom []

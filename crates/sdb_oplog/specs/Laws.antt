@@ -1,5 +1,5 @@
 -- Laws of decisions: what is stored, and logs that are made.
-use Rattle.std.proofs.Common.{Bool, ◌||◌, ◌⊎◌, inl, inr, ◌≡◌, ℕ, ◌<◌, ◌≤◌, ◌++◌, List, [], ◌∷◌, length, true, false, cond, Option, Some, None, Result, Ok, Err, refl, sym, ap, ◌∙◌, subst, append_assoc, nat_eq, nat_lt, arith}
+use Rattle.std.proofs.Common.{Bool, ◌||◌, ◌⊎◌, inl, inr, ◌≡◌, ℕ, suc, ◌+◌, ◌<◌, ◌≤◌, ◌++◌, List, [], ◌∷◌, length, true, false, cond, Option, Some, None, Result, Ok, Err, refl, sym, ap, ◌∙◌, subst, append_assoc, length-append, nat_eq, nat_lt, max, arith}
 use Rattle.std.proofs.lemmas.Bool.Decides.{nat_tests}
 use Rattle.std.specs.Option.{is_some, unwrap_or, option_and_then, option_map_or}
 use Rattle.std.specs.Result.{result_ok}
@@ -11,6 +11,7 @@ use Rattle.sdb_transform.specs.declared.side.Side.TheVariants.{Left}
 use Rattle.sdb_apply.specs.Does.{applies}
 use Rattle.sdb_oplog.specs.Plain.{PlainEntry, PlainContent, create, delete, edit, PlainSubmission}
 use Rattle.sdb_oplog.specs.Refused.{result_then, RefusedBy}
+use Rattle.sdb_oplog.specs.Moments.{last_from, last_moment, AreInTime, version_at}
 use Rattle.sdb_oplog.specs.Over.{over, over_all, carrying_takes_memory}
 use Rattle.sdb_oplog.specs.Snap.{edited, becomes, snap_from, snap, document, stored_at}
 use Rattle.sdb_oplog.specs.Decide.{is_full, is_newer, storing_takes_memory, settling_takes_memory, deciding_takes_memory, decide, settled, since, missed, store, entry_of, stored, repeated, refused, MadeFrom, IsMade}
@@ -80,18 +81,18 @@ stored_makes log e d n lives makes = snap_one log e None d lives ∙ ap result_o
 
 -- ---- one submission, by its cases
 
-by_first : (log : List PlainEntry) (s : PlainSubmission) (o : Option ℕ) → stored_at s.src s.seq log ≡ o
-    → decide log s ≡ option_map_or (λ i. record { reply = repeated i; log = log }) o (store log s (settled log s))
-by_first log s o e =
-    ap (λ p. option_map_or (λ i. record { reply = repeated i; log = log }) p (store log s (settled log s))) e
+by_first : (log : List PlainEntry) (s : PlainSubmission) (now : ℕ) (o : Option ℕ) → stored_at s.src s.seq log ≡ o
+    → decide log s now ≡ option_map_or (λ i. record { reply = repeated i; log = log }) o (store log s now (settled log s))
+by_first log s now o e =
+    ap (λ p. option_map_or (λ i. record { reply = repeated i; log = log }) p (store log s now (settled log s))) e
 
-pub decides_repeat : (log : List PlainEntry) (s : PlainSubmission) (i : ℕ) → stored_at s.src s.seq log ≡ Some i
-    → decide log s ≡ record { reply = repeated i; log = log }
-decides_repeat log s i e = by_first log s (Some i) e
+pub decides_repeat : (log : List PlainEntry) (s : PlainSubmission) (now : ℕ) (i : ℕ) → stored_at s.src s.seq log ≡ Some i
+    → decide log s now ≡ record { reply = repeated i; log = log }
+decides_repeat log s now i e = by_first log s now (Some i) e
 
-pub decides_settled : (log : List PlainEntry) (s : PlainSubmission) (r : Result PlainContent Code)
-    → stored_at s.src s.seq log ≡ None → settled log s ≡ r → decide log s ≡ store log s r
-decides_settled log s r first e = by_first log s None first ∙ ap (store log s) e
+pub decides_settled : (log : List PlainEntry) (s : PlainSubmission) (now : ℕ) (r : Result PlainContent Code)
+    → stored_at s.src s.seq log ≡ None → settled log s ≡ r → decide log s now ≡ store log s now r
+decides_settled log s now r first e = by_first log s now None first ∙ ap (store log s now) e
 
 settled_full : (log : List PlainEntry) (s : PlainSubmission) → length log ≡ 9007199254740991 → settled log s ≡ Err E11
 settled_full log s h =
@@ -101,9 +102,9 @@ settled_full log s h =
     (result_then (λ m. result_then (λ d. Ok m) (becomes m (document log)))
     (over_all s.content (missed log s))))) full
 
-pub decides_full : (log : List PlainEntry) (s : PlainSubmission) → stored_at s.src s.seq log ≡ None
-    → length log ≡ 9007199254740991 → decide log s ≡ record { reply = refused E11; log = log }
-decides_full log s first h = decides_settled log s (Err E11) first (settled_full log s h)
+pub decides_full : (log : List PlainEntry) (s : PlainSubmission) (now : ℕ) → stored_at s.src s.seq log ≡ None
+    → length log ≡ 9007199254740991 → decide log s now ≡ record { reply = refused E11; log = log }
+decides_full log s now first h = decides_settled log s now (Err E11) first (settled_full log s h)
 
 has_room : (log : List PlainEntry) (s : PlainSubmission) → length log < 9007199254740991
     → settled log s
@@ -116,11 +117,11 @@ has_room log s h =
     (result_then (λ m. result_then (λ d. Ok m) (becomes m (document log)))
     (over_all s.content (missed log s))))) room
 
-pub decides_newer : (log : List PlainEntry) (s : PlainSubmission) → stored_at s.src s.seq log ≡ None
-    → length log < 9007199254740991 → length log < since log s → decide log s ≡ record { reply = refused E4; log = log }
-decides_newer log s first room h =
+pub decides_newer : (log : List PlainEntry) (s : PlainSubmission) (now : ℕ) → stored_at s.src s.seq log ≡ None
+    → length log < 9007199254740991 → length log < since log s → decide log s now ≡ record { reply = refused E4; log = log }
+decides_newer log s now first room h =
     let newer : nat_lt (length log) (since log s) ≡ true = grind (arith, nat_tests) in
-    decides_settled log s (Err E4) first
+    decides_settled log s now (Err E4) first
     (has_room log s room
     ∙ ap (λ b. cond b (Err E4)
     (result_then (λ m. result_then (λ d. Ok m) (becomes m (document log)))
@@ -137,24 +138,24 @@ is_seen log s r room h e =
     (over_all s.content (missed log s)))) seen
     ∙ ap (result_then (λ m. result_then (λ d. Ok m) (becomes m (document log)))) e
 
-pub decides_over : (log : List PlainEntry) (s : PlainSubmission) (c : Code) → stored_at s.src s.seq log ≡ None
+pub decides_over : (log : List PlainEntry) (s : PlainSubmission) (now : ℕ) (c : Code) → stored_at s.src s.seq log ≡ None
     → length log < 9007199254740991 → since log s ≤ length log → over_all s.content (missed log s) ≡ Err c
-    → decide log s ≡ record { reply = refused c; log = log }
-decides_over log s c first room seen e = decides_settled log s (Err c) first (is_seen log s (Err c) room seen e)
+    → decide log s now ≡ record { reply = refused c; log = log }
+decides_over log s now c first room seen e = decides_settled log s now (Err c) first (is_seen log s (Err c) room seen e)
 
-pub decides_refused : (log : List PlainEntry) (s : PlainSubmission) (m : PlainContent) (c : Code)
+pub decides_refused : (log : List PlainEntry) (s : PlainSubmission) (now : ℕ) (m : PlainContent) (c : Code)
     → stored_at s.src s.seq log ≡ None → length log < 9007199254740991 → since log s ≤ length log
     → over_all s.content (missed log s) ≡ Ok m → becomes m (document log) ≡ Err c
-    → decide log s ≡ record { reply = refused c; log = log }
-decides_refused log s m c first room seen e isnt =
-    decides_settled log s (Err c) first (is_seen log s (Ok m) room seen e ∙ ap (result_then (λ d. Ok m)) isnt)
+    → decide log s now ≡ record { reply = refused c; log = log }
+decides_refused log s now m c first room seen e isnt =
+    decides_settled log s now (Err c) first (is_seen log s (Ok m) room seen e ∙ ap (result_then (λ d. Ok m)) isnt)
 
-pub decides_stored : (log : List PlainEntry) (s : PlainSubmission) (m : PlainContent) (d : Option Value)
+pub decides_stored : (log : List PlainEntry) (s : PlainSubmission) (now : ℕ) (m : PlainContent) (d : Option Value)
     → stored_at s.src s.seq log ≡ None → length log < 9007199254740991 → since log s ≤ length log
     → over_all s.content (missed log s) ≡ Ok m → becomes m (document log) ≡ Ok d
-    → decide log s ≡ record { reply = stored (length log) (missed log s); log = log ++ entry_of log s m ∷ [] }
-decides_stored log s m d first room seen e is =
-    decides_settled log s (Ok m) first (is_seen log s (Ok m) room seen e ∙ ap (result_then (λ d. Ok m)) is)
+    → decide log s now ≡ record { reply = stored (length log) (missed log s); log = log ++ entry_of log s now m ∷ [] }
+decides_stored log s now m d first room seen e is =
+    decides_settled log s now (Ok m) first (is_seen log s (Ok m) room seen e ∙ ap (result_then (λ d. Ok m)) is)
 
 -- ---- logs that are made
 
@@ -163,46 +164,139 @@ append_none [] = refl
 append_none (e ∷ es) = ap (λ l. e ∷ l) (append_none es)
 
 made_more : (before es : List PlainEntry) (e : PlainEntry) → MadeFrom before es
-    → (decide (before ++ es) e.arrived).log ≡ (before ++ es) ++ e ∷ [] → MadeFrom before (es ++ e ∷ [])
+    → (decide (before ++ es) e.arrived e.moment).log ≡ (before ++ es) ++ e ∷ [] → MadeFrom before (es ++ e ∷ [])
 made_more before [] e h k =
-    let P : List PlainEntry → Type 0 = λ l. (decide l e.arrived).log ≡ l ++ e ∷ [] in
+    let P : List PlainEntry → Type 0 = λ l. (decide l e.arrived e.moment).log ≡ l ++ e ∷ [] in
     (subst P (append_none before) k, tt)
 made_more before (x ∷ es) e h k =
-    let P : List PlainEntry → Type 0 = λ l. (decide l e.arrived).log ≡ l ++ e ∷ [] in
+    let P : List PlainEntry → Type 0 = λ l. (decide l e.arrived e.moment).log ≡ l ++ e ∷ [] in
     (h.0, made_more (before ++ x ∷ []) es e h.1 (subst P (sym (append_assoc before (x ∷ []) es)) k))
 
-made_store : (log : List PlainEntry) (s : PlainSubmission) (r : Result PlainContent Code) → IsMade log
-    → decide log s ≡ store log s r → IsMade (store log s r).log
-made_store log s (Err c) h e = h
-made_store log s (Ok m) h e = made_more [] log (entry_of log s m) h (ap (λ d. d.log) e)
+-- the entry's own moment stores the same entry
+own_moment : (log : List PlainEntry) (s : PlainSubmission) (now : ℕ) (m : PlainContent)
+    → entry_of log s (max now (last_moment log)) m ≡ entry_of log s now m
+own_moment log s now m =
+    let e : max (max now (last_moment log)) (last_moment log) ≡ max now (last_moment log) = omega arith in
+    ap (λ k. record { version = length log; moment = k; content = m; arrived = s }) e
 
-made_by : (log : List PlainEntry) (s : PlainSubmission) (o : Option ℕ) → IsMade log → stored_at s.src s.seq log ≡ o
-    → IsMade (option_map_or (λ i. record { reply = repeated i; log = log }) o (store log s (settled log s))).log
-made_by log s (Some i) h e = h
-made_by log s None h e =
-    made_store log s (settled log s) h
-    (ap (λ o. option_map_or (λ i. record { reply = repeated i; log = log }) o (store log s (settled log s))) e)
+made_store : (log : List PlainEntry) (s : PlainSubmission) (now : ℕ) (r : Result PlainContent Code) → IsMade log
+    → ((n : ℕ) → decide log s n ≡ store log s n r) → IsMade (store log s now r).log
+made_store log s now (Err c) h e = h
+made_store log s now (Ok m) h e =
+    made_more [] log (entry_of log s now m) h
+    (ap (λ d. d.log) (e (max now (last_moment log))) ∙ ap (λ x. log ++ x ∷ []) (own_moment log s now m))
+
+made_by : (log : List PlainEntry) (s : PlainSubmission) (now : ℕ) (o : Option ℕ) → IsMade log → stored_at s.src s.seq log ≡ o
+    → IsMade (option_map_or (λ i. record { reply = repeated i; log = log }) o (store log s now (settled log s))).log
+made_by log s now (Some i) h e = h
+made_by log s now None h e =
+    made_store log s now (settled log s) h
+    (λ n. ap (λ o. option_map_or (λ i. record { reply = repeated i; log = log }) o (store log s n (settled log s))) e)
 
 -- a decision keeps a log made
-pub made_decided : (log : List PlainEntry) (s : PlainSubmission) → IsMade log → IsMade (decide log s).log
-made_decided log s h = made_by log s (stored_at s.src s.seq log) h refl
+pub made_decided : (log : List PlainEntry) (s : PlainSubmission) (now : ℕ) → IsMade log → IsMade (decide log s now).log
+made_decided log s now h = made_by log s now (stored_at s.src s.seq log) h refl
 
 -- what is stored stays in front of what is stored later
-grown : (log : List PlainEntry) (s : PlainSubmission) (r : Result PlainContent Code)
-    → (rest : List PlainEntry) × ((store log s r).log ≡ log ++ rest)
-grown log s (Err c) = ([], sym (append_none log))
-grown log s (Ok m) = (entry_of log s m ∷ [], refl)
+grown : (log : List PlainEntry) (s : PlainSubmission) (now : ℕ) (r : Result PlainContent Code)
+    → (rest : List PlainEntry) × ((store log s now r).log ≡ log ++ rest)
+grown log s now (Err c) = ([], sym (append_none log))
+grown log s now (Ok m) = (entry_of log s now m ∷ [], refl)
 
-grown_by : (log : List PlainEntry) (s : PlainSubmission) (o : Option ℕ) → stored_at s.src s.seq log ≡ o
-    → (rest : List PlainEntry) × ((decide log s).log ≡ log ++ rest)
-grown_by log s (Some i) e = ([], ap (λ d. d.log) (decides_repeat log s i e) ∙ sym (append_none log))
-grown_by log s None e =
-    let g = grown log s (settled log s) in (g.0, ap (λ d. d.log) (decides_settled log s (settled log s) e refl) ∙ g.1)
+grown_by : (log : List PlainEntry) (s : PlainSubmission) (now : ℕ) (o : Option ℕ) → stored_at s.src s.seq log ≡ o
+    → (rest : List PlainEntry) × ((decide log s now).log ≡ log ++ rest)
+grown_by log s now (Some i) e = ([], ap (λ d. d.log) (decides_repeat log s now i e) ∙ sym (append_none log))
+grown_by log s now None e =
+    let g = grown log s now (settled log s) in (g.0, ap (λ d. d.log) (decides_settled log s now (settled log s) e refl) ∙ g.1)
 
 -- a decision adds to a log, or leaves it
-pub decide_grows : (log : List PlainEntry) (s : PlainSubmission)
-    → (rest : List PlainEntry) × ((decide log s).log ≡ log ++ rest)
-decide_grows log s = grown_by log s (stored_at s.src s.seq log) refl
+pub decide_grows : (log : List PlainEntry) (s : PlainSubmission) (now : ℕ)
+    → (rest : List PlainEntry) × ((decide log s now).log ≡ log ++ rest)
+decide_grows log s now = grown_by log s now (stored_at s.src s.seq log) refl
+
+-- ---- moments
+
+last_added : (m : ℕ) (es : List PlainEntry) (e : PlainEntry) → last_from m (es ++ e ∷ []) ≡ e.moment
+last_added m [] e = refl
+last_added m (x ∷ es) e = last_added x.moment es e
+
+-- one more entry is in time where it isn't before the last one
+pub one_more_in_time : (m : ℕ) (es : List PlainEntry) (e : PlainEntry) → AreInTime m es → last_from m es ≤ e.moment
+    → AreInTime m (es ++ e ∷ [])
+one_more_in_time m [] e h k = (k, tt)
+one_more_in_time m (x ∷ es) e h k = (h.0, one_more_in_time x.moment es e h.1 k)
+
+no_more : (es : List PlainEntry) (e : PlainEntry) → es ≡ es ++ e ∷ [] → ⊥
+no_more es e h = let n : length es ≡ length es + 1 = ap length h ∙ length-append es (e ∷ []) in omega (arith, n)
+
+store_in_time : (log : List PlainEntry) (e : PlainEntry) (r : Result PlainContent Code)
+    → (store log e.arrived e.moment r).log ≡ log ++ e ∷ [] → last_moment log ≤ e.moment
+store_in_time log e (Err c) h = absurd (no_more log e h)
+store_in_time log e (Ok m) h =
+    let same : max e.moment (last_moment log) ≡ e.moment =
+    sym (last_added 0 log (entry_of log e.arrived e.moment m)) ∙ ap last_moment h ∙ last_added 0 log e in
+    omega (arith, same)
+
+decide_in_time : (log : List PlainEntry) (e : PlainEntry) (o : Option ℕ)
+    → stored_at e.arrived.src e.arrived.seq log ≡ o → (decide log e.arrived e.moment).log ≡ log ++ e ∷ []
+    → last_moment log ≤ e.moment
+decide_in_time log e (Some i) is h =
+    absurd (no_more log e (sym (ap (λ d. d.log) (decides_repeat log e.arrived e.moment i is)) ∙ h))
+decide_in_time log e None is h =
+    store_in_time log e (settled log e.arrived)
+    (sym (ap (λ d. d.log) (decides_settled log e.arrived e.moment (settled log e.arrived) is refl)) ∙ h)
+
+made_from_in_time : (before es : List PlainEntry) → MadeFrom before es → AreInTime (last_moment before) es
+made_from_in_time before [] h = tt
+made_from_in_time before (e ∷ es) h = (
+  decide_in_time before e (stored_at e.arrived.src e.arrived.seq before) refl h.0,
+  subst (λ m. AreInTime m es) (last_added 0 before e) (made_from_in_time (before ++ e ∷ []) es h.1),
+)
+
+-- moments never fall along a log that is made
+pub made_in_time : (log : List PlainEntry) → IsMade log → AreInTime 0 log
+made_in_time log h = made_from_in_time [] log h
+
+at_most_one_more : (b : Bool) (n k : ℕ) → n ≤ k → cond b n (suc n) ≤ suc k
+at_most_one_more true n k h = omega arith
+at_most_one_more false n k h = omega arith
+
+-- the version at a moment is one of the log's
+pub version_at_within : (log : List PlainEntry) (m : ℕ) → version_at log m ≤ length log
+version_at_within [] m = omega arith
+version_at_within (e ∷ es) m =
+    at_most_one_more (nat_lt m e.moment) (version_at es m) (length es) (version_at_within es m)
+
+front_in_time : (m : ℕ) (es more : List PlainEntry) → AreInTime m (es ++ more) → AreInTime m es
+front_in_time m [] more h = tt
+front_in_time m (e ∷ es) more h = (h.0, front_in_time e.moment es more h.1)
+
+-- what is late isn't counted
+none_before : (m : ℕ) (log : List PlainEntry) (t : ℕ) → AreInTime m log → t < m → version_at log t ≡ 0
+none_before m [] t h late = refl
+none_before m (e ∷ es) t h late =
+    let k = h.0 in
+    let after : nat_lt t e.moment ≡ true = grind (arith, nat_tests) in
+    ap (λ b. cond b (version_at es t) (suc (version_at es t))) after
+    ∙ none_before e.moment es t h.1 (omega (arith, k, late))
+
+stays_by : (b : Bool) (m : ℕ) (e : PlainEntry) (es more : List PlainEntry) (t : ℕ) → nat_lt t e.moment ≡ b
+    → AreInTime m (e ∷ (es ++ more)) → cond b (version_at es t) (suc (version_at es t)) < suc (length es)
+    → (version_at es t < length es → version_at (es ++ more) t ≡ version_at es t)
+    → cond b (version_at (es ++ more) t) (suc (version_at (es ++ more) t))
+    ≡ cond b (version_at es t) (suc (version_at es t))
+stays_by false m e es more t is h below further = ap suc (further (omega (arith, below)))
+stays_by true m e es more t is h below further =
+    let late : t < e.moment = grind (arith, nat_tests) in
+    none_before e.moment (es ++ more) t h.1 late
+    ∙ sym (none_before e.moment es t (front_in_time e.moment es more h.1) late)
+
+-- the version at a moment that isn't the present one stays the same as the log goes on
+pub version_stays : (m : ℕ) (log more : List PlainEntry) (t : ℕ) → AreInTime m (log ++ more)
+    → version_at log t < length log → version_at (log ++ more) t ≡ version_at log t
+version_stays m [] more t h below = omega (arith, below)
+version_stays m (e ∷ es) more t h below =
+    stays_by (nat_lt t e.moment) m e es more t refl h below (λ b. version_stays e.moment es more t h.1 b)
 
 -- ---- along stored entries
 
@@ -273,22 +367,23 @@ never_settled log s =
     (never_over_all (missed log s) s.content)
     (λ m. never_then (becomes m (document log)) (λ d. Ok m) (never_becomes m (document log)) (λ d k. cc)))
 
-never_stored : (log : List PlainEntry) (s : PlainSubmission) (r : Result PlainContent Code) → Never r
-    → (store log s r).reply ≡ refused E10 → ⊥
-never_stored log s (Ok m) n h = cc
-never_stored log s (Err e) n h = n (let c : e ≡ E10 = cc in ap Err c)
+never_stored : (log : List PlainEntry) (s : PlainSubmission) (now : ℕ) (r : Result PlainContent Code) → Never r
+    → (store log s now r).reply ≡ refused E10 → ⊥
+never_stored log s now (Ok m) n h = cc
+never_stored log s now (Err e) n h = n (let c : e ≡ E10 = cc in ap Err c)
 
-never_first : (log : List PlainEntry) (s : PlainSubmission) (o : Option ℕ) → stored_at s.src s.seq log ≡ o
-    → (decide log s).reply ≡ refused E10 → ⊥
-never_first log s (Some i) e h =
-    let c : repeated i ≡ refused E10 = sym (ap (λ d. d.reply) (decides_repeat log s i e)) ∙ h in cc
-never_first log s None e h =
-    never_stored log s (settled log s) (never_settled log s)
-    (sym (ap (λ d. d.reply) (decides_settled log s (settled log s) e refl)) ∙ h)
+never_first : (log : List PlainEntry) (s : PlainSubmission) (now : ℕ) (o : Option ℕ) → stored_at s.src s.seq log ≡ o
+    → (decide log s now).reply ≡ refused E10 → ⊥
+never_first log s now (Some i) e h =
+    let c : repeated i ≡ refused E10 = sym (ap (λ d. d.reply) (decides_repeat log s now i e)) ∙ h in cc
+never_first log s now None e h =
+    never_stored log s now (settled log s) (never_settled log s)
+    (sym (ap (λ d. d.reply) (decides_settled log s now (settled log s) e refl)) ∙ h)
 
 -- a decision is never want of memory
-pub decides_never_wanting : (log : List PlainEntry) (s : PlainSubmission) → (decide log s).reply ≡ refused E10 → ⊥
-decides_never_wanting log s = never_first log s (stored_at s.src s.seq log) refl
+pub decides_never_wanting : (log : List PlainEntry) (s : PlainSubmission) (now : ℕ)
+    → (decide log s now).reply ≡ refused E10 → ⊥
+decides_never_wanting log s now = never_first log s now (stored_at s.src s.seq log) refl
 
 -- ---- memory
 

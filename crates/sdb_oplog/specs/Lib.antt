@@ -4,6 +4,7 @@ pub mod Faults
 pub mod Keys
 pub mod Laws
 pub mod Logged
+pub mod Moments
 pub mod Over
 pub mod Placed
 pub mod Plain

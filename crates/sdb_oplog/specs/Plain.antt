@@ -19,6 +19,8 @@ pub record PlainSubmission : Type 0 where
 -- the source, number, via and by of an entry are those of the submission that it came from
 pub record PlainEntry : Type 0 where
   pub version : ℕ
+  -- the moment at which it was stored, in milliseconds
+  pub moment : ℕ
   pub content : PlainContent
   pub arrived : PlainSubmission
 

@@ -19,16 +19,16 @@ abbrev first : PlainSubmission
 first = from (codes "x") 1 None (create (object (member (codes "n") (whole (pos 1)) no_members)))
 
 abbrev one : List PlainEntry
-one = (decide [] first).log
+one = (decide [] first 0).log
 
 abbrev two : List PlainEntry
-two = (decide one (from (codes "x") 2 (Some 1) (at_n (na (pos 1))))).log
+two = (decide one (from (codes "x") 2 (Some 1) (at_n (na (pos 1)))) 0).log
 
 -- a create is stored at 0, an edit at 1; the document is {"n":2}
-pub row_first : (decide [] first).reply ≡ stored 0 []
+pub row_first : (decide [] first 0).reply ≡ stored 0 []
 row_first = refl
 
-pub row_second : (decide one (from (codes "x") 2 (Some 1) (at_n (na (pos 1))))).reply ≡ stored 1 []
+pub row_second : (decide one (from (codes "x") 2 (Some 1) (at_n (na (pos 1)))) 0).reply ≡ stored 1 []
 row_second = refl
 
 pub row_snap : snap two ≡ Some (Some (object (member (codes "n") (whole (pos 2)) no_members)))
@@ -38,33 +38,33 @@ pub row_made : IsMade two
 row_made = (refl, (refl, tt))
 
 -- a repeat has its first version, whatever it asks and at whichever version
-pub row_repeat : (decide two first).reply ≡ repeated 0
+pub row_repeat : (decide two first 0).reply ≡ repeated 0
 row_repeat = refl
 
-pub row_repeat_other : (decide two (from (codes "x") 1 (Some 9) delete)).reply ≡ repeated 0
+pub row_repeat_other : (decide two (from (codes "x") 1 (Some 9) delete) 0).reply ≡ repeated 0
 row_repeat_other = refl
 
 -- the greatest number; a version too new; a create on a document; an edit of none
-pub row_greatest : (decide two (from (codes "y") 2 (Some 2) (at_n (na (pos 9007199254740991))))).reply ≡ refused E8
+pub row_greatest : (decide two (from (codes "y") 2 (Some 2) (at_n (na (pos 9007199254740991)))) 0).reply ≡ refused E8
 row_greatest = refl
 
-pub row_newer : (decide two (from (codes "y") 2 (Some 3) delete)).reply ≡ refused E4
+pub row_newer : (decide two (from (codes "y") 2 (Some 3) delete) 0).reply ≡ refused E4
 row_newer = refl
 
-pub row_created : (decide two (from (codes "y") 2 None (create (whole (pos 1))))).reply ≡ refused E6
+pub row_created : (decide two (from (codes "y") 2 None (create (whole (pos 1)))) 0).reply ≡ refused E6
 row_created = refl
 
-pub row_absent : (decide [] (from (codes "y") 2 None (edit []))).reply ≡ refused E7
+pub row_absent : (decide [] (from (codes "y") 2 None (edit [])) 0).reply ≡ refused E7
 row_absent = refl
 
 -- over a delete an edit is refused, and a delete passes
 abbrev three : List PlainEntry
-three = (decide two (from (codes "y") 1 (Some 2) delete)).log
+three = (decide two (from (codes "y") 1 (Some 2) delete) 0).log
 
-pub row_deleted : (decide three (from (codes "z") 1 (Some 2) (edit []))).reply ≡ refused E5
+pub row_deleted : (decide three (from (codes "z") 1 (Some 2) (edit [])) 0).reply ≡ refused E5
 row_deleted = refl
 
-pub row_delete_again : document (decide three (from (codes "z") 2 (Some 2) delete)).log ≡ None
+pub row_delete_again : document (decide three (from (codes "z") 2 (Some 2) delete) 0).log ≡ None
 row_delete_again = refl
 
 -- the arriving side is left
@@ -72,12 +72,12 @@ abbrev insert_in : List ℕ → ℕ → List ℕ → PlainSubmission
 insert_in s n v = from s n (Some 1) (edit (record { path = []; act = li 0 (text v) } ∷ []))
 
 abbrev made : List PlainEntry
-made = (decide [] (from (codes "x") 1 None (create (list (item (text (codes "x")) no_items))))).log
+made = (decide [] (from (codes "x") 1 None (create (list (item (text (codes "x")) no_items)))) 0).log
 
 abbrev met : List PlainEntry
-met = (decide made (insert_in (codes "y") 1 (codes "A"))).log
+met = (decide made (insert_in (codes "y") 1 (codes "A")) 0).log
 
-pub row_left : document (decide met (insert_in (codes "z") 1 (codes "B"))).log
+pub row_left : document (decide met (insert_in (codes "z") 1 (codes "B")) 0).log
     ≡ Some (list (item (text (codes "B")) (item (text (codes "A")) (item (text (codes "x")) no_items))))
 unfolding cross cross_in
 row_left = refl

@@ -28,6 +28,7 @@ fn same_entry(a: &Entry, b: &Entry) -> bool
     ensures other { IsFalse result → a.now ≡ b.now → ⊥ }
 {
     a.version() == b.version()
+        && a.moment().milliseconds() == b.moment().milliseconds()
         && same_content(a.content(), b.content())
         && same_submission(a.arrived(), b.arrived())
 }

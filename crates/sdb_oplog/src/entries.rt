@@ -2,6 +2,7 @@
 ghost use Rattle.std.specs.Prelude.{◌≡◌, ◌<◌, IfOk, OnErr, length, string_bytes, unwrap_or};
 
 use crate::contents::Content;
+use crate::moments::Moment;
 use std::alloc::{AllocError, Global};
 use std::marker::Model;
 use std::sync::Arc;
@@ -129,11 +130,12 @@ impl Submission {
     }
 }
 
-/// A stored operation: the version that it was applied at, what was applied, and the submission that
-/// it came from, whose source, number, `via` and `by` are its own.
+/// A stored operation: the version that it was applied at, when it was stored, what was applied, and the
+/// submission that it came from, whose source, number, `via` and `by` are its own.
 #[derive(Drop)]
 pub struct Entry {
     version: u64,
+    moment: Moment,
     // none where it is stored as it arrived
     content: Option<Content>,
     arrived: Submission,
@@ -150,23 +152,26 @@ impl Model for Entry {
 
     ghost view = { λ e. record {
       version = e.version;
+      moment = e.moment;
       content = unwrap_or e.content e.arrived.content;
       arrived = e.arrived;
     } };
 }
 
 impl Entry {
-    /// The entry of the content at the version. Without a content it is that of the submission, as it
-    /// arrived.
-    pub fn new(version: u64, content: Option<Content>, arrived: Submission) -> Entry
+    /// The entry of the content at the version, stored at the moment. Without a content it is that of the
+    /// submission, as it arrived.
+    pub fn new(version: u64, moment: Moment, content: Option<Content>, arrived: Submission) -> Entry
         ensures { result ≡ record {
           version = version;
+          moment = moment;
           content = unwrap_or content arrived.content;
           arrived = arrived;
         } }
     {
         Entry {
             version,
+            moment,
             content,
             arrived,
         }
@@ -177,6 +182,13 @@ impl Entry {
         ensures { result ≡ self.now.version }
     {
         self.version
+    }
+
+    /// When it was stored: never before the entry in front of it.
+    pub fn moment(&self) -> Moment
+        ensures { result ≡ self.now.moment }
+    {
+        self.moment
     }
 
     /// What was applied.
@@ -206,7 +218,7 @@ impl Entry {
             None => None,
         };
         let arrived = self.arrived.try_clone()?;
-        Ok(Entry::new(self.version, content, arrived))
+        Ok(Entry::new(self.version, self.moment, content, arrived))
     }
 }
 

@@ -8,6 +8,7 @@ mod entries;
 mod index;
 mod keys;
 mod logs;
+mod moments;
 
 pub use codes::Code;
 pub use comparing::same_entries;
@@ -15,3 +16,4 @@ pub use contents::{Content, Kind, over, over_all};
 pub use entries::{Entry, Submission, copy_entries};
 pub use keys::Key;
 pub use logs::{Log, Prepared, Unprepared};
+pub use moments::Moment;

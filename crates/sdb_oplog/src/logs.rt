@@ -2,6 +2,7 @@
 ghost use Rattle.std.specs.Prelude.{◌≡◌, ◌<◌, ◌≤◌, ℕ, List, [], ◌∷◌, ◌++◌, length, vec_len, vec_capacity, bytes_eq, nat_eq, ◌&&◌, if◌then◌else◌, take, drop, slice_get, true, Some, None, OnOk, OnErr, IfOk, IfErr, option_map, is_some, unwrap_or, IsTrue, ◌↔◌, ◌≢◌};
 ghost use Rattle.sdb_value.specs.View.{view};
 ghost use Rattle.sdb_oplog.specs.Snap.{snap, stored_at, are_first};
+ghost use Rattle.sdb_oplog.specs.Moments.{last_moment, version_at, AreInTime};
 ghost use Rattle.sdb_oplog.specs.Logged.{stored_entry};
 ghost use Rattle.sdb_oplog.specs.Placed.{place_in, HasRoom, IsUsed};
 ghost use Rattle.sdb_oplog.specs.declared.codes.Code.TheVariants.{E10};
@@ -10,12 +11,13 @@ use crate::codes::Code;
 use crate::contents::Content;
 use crate::entries::{Entry, Submission};
 use crate::index::Index;
+use crate::moments::Moment;
 use sdb_value::{Json, MAX};
 use std::alloc::{AllocError, Global};
 use std::marker::Model;
 
 /// A list of entries. The sources and numbers of their submissions differ pairwise, each content has
-/// an effect where it stands, and there are at most [`MAX`] of them.
+/// an effect where it stands, their moments never fall, and there are at most [`MAX`] of them.
 #[derive(Drop)]
 pub struct Log {
     alloc: Global,
@@ -92,6 +94,7 @@ impl Log {
         ensures room { length self.now ≤ MAX }
         ensures lives { is_some (snap self.now) ≡ true }
         ensures first { are_first [] self.now ≡ true }
+        ensures time { AreInTime 0 self.now }
     {
         self.entries.len() as u64
     }
@@ -126,10 +129,30 @@ impl Log {
         self.index.find(src, seq)
     }
 
+    /// The version at a moment: how many entries have a moment that is not above it. It is found by halving,
+    /// since moments never fall.
+    pub fn version_at(&self, moment: Moment) -> u64
+        ensures { result ≡ version_at self.now moment }
+    {
+        let entries = self.entries.as_slice();
+        let mut low = 0;
+        let mut high = entries.len();
+        while low < high {
+            let middle = low + (high - low) / 2;
+            if entries[middle].moment().milliseconds() <= moment.milliseconds() {
+                low = middle + 1;
+            } else {
+                high = middle;
+            }
+        }
+        low as u64
+    }
+
     /// Stores an entry. After want of memory the log is unchanged.
     pub fn push(&mut self, entry: Entry) -> Result<(), AllocError>
         requires first { stored_at entry.arrived.src entry.arrived.seq self.old ≡ None }
         requires lives { is_some (snap (self.old ++ entry ∷ [])) ≡ true }
+        requires time { last_moment self.old ≤ entry.moment }
         requires room { length self.old < MAX }
         ensures ok { OnOk result (self.new ≡ self.old ++ entry ∷ []) }
         ensures err { OnErr result (self.new ≡ self.old) }
@@ -214,12 +237,13 @@ impl Prepared {
         &self.submission
     }
 
-    /// Stores the submission with this content; without one, with the content that arrived.
-    pub fn store(self, content: Option<Content>) -> Log
+    /// Stores the submission with this content; without one, with the content that arrived. Its moment is
+    /// this one, or that of the entry before it where that is later.
+    pub fn store(self, now: Moment, content: Option<Content>) -> Log
         requires first { stored_at self.submission.src self.submission.seq self.log ≡ None }
-        requires lives { is_some (snap (self.log ++ stored_entry self content ∷ [])) ≡ true }
+        requires lives { is_some (snap (self.log ++ stored_entry self now content ∷ [])) ≡ true }
         requires room { length self.log < MAX }
-        ensures { result ≡ self.log ++ stored_entry self content ∷ [] }
+        ensures { result ≡ self.log ++ stored_entry self now content ∷ [] }
     {
         let Prepared {
             alloc,
@@ -228,7 +252,8 @@ impl Prepared {
             submission,
         } = self;
         let version = entries.as_slice().len() as u64;
-        let entry = Entry::new(version, content, submission);
+        let moment = now.max(last_moment(entries.as_slice()));
+        let entry = Entry::new(version, moment, content, submission);
         put(&mut entries, &mut index, entry);
         Log {
             alloc,
@@ -253,6 +278,16 @@ impl Prepared {
             entries,
             index,
         }
+    }
+}
+
+// The moment of the last entry, or the first one where there is none.
+fn last_moment(entries: &[Entry]) -> Moment
+    ensures { result ≡ last_moment entries.now }
+{
+    match entries.last() {
+        Some(entry) => entry.moment(),
+        None => Moment::first(),
     }
 }
 

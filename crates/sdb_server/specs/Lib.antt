@@ -1,3 +1,4 @@
+pub mod Clocks
 pub mod Runs
 pub mod Served
 pub mod Source

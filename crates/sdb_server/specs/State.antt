@@ -1,8 +1,15 @@
 -- The state of the one session over lines.
+use Rattle.std.specs.Prelude.{ℕ, List, Option}
 use Rattle.sdb_desk.specs.ShardView.{machine_of}
 use Rattle.sdb_session.specs.Dialogue.{State}
 use Rattle.sdb_session.specs.View.{plain_session}
+use Rattle.sdb_server.specs.Clocks.{Timed}
 use Rattle.sdb_server.specs.declared.line_session.LineSession.{LineSession}
 
-abbrev pub state_of : LineSession → State
-state_of s = record { machine = machine_of s.shard; session = plain_session s.session }
+module _ {C : Type 0} where
+  abbrev pub state_of : LineSession C → State
+  state_of s = record { machine = machine_of s.shard; session = plain_session s.session }
+
+  -- with the moments that its clock tells from here on
+  abbrev pub timed_by : (C → Option (List ℕ)) → LineSession C → Timed
+  timed_by ahead s = record { state = state_of s; ahead = ahead s.clock }

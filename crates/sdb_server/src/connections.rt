@@ -30,7 +30,7 @@ struct Reception<R: Wait> {
     is_accept_failing: bool,
 }
 
-impl<R: Threads + Wait + Eprint + Drop + Copy + Send + Sync + 'static> Reception<R> {
+impl<R: Threads + Wait + Clock + Eprint + Drop + Copy + Send + Sync + 'static> Reception<R> {
     fn new(
         alloc: Global,
         state: &ServerState<R>,

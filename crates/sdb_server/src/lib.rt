@@ -3,6 +3,7 @@
 #![tactic(auto)]
 
 mod answers;
+mod clock;
 mod connections;
 mod deadline_stream;
 mod journal;
@@ -14,6 +15,7 @@ mod session_threads;
 mod visit_threads;
 mod websocket_session;
 
+pub use clock::{Clock, ListClock, SystemClock};
 pub use connections::{listen, listen_until_stopped};
 pub use deadline_stream::DeadlineStream;
 pub use line_session::run_lines;

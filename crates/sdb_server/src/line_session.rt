@@ -3,13 +3,15 @@ ghost use Rattle.std.specs.Prelude.{◌≡◌, map, OnOk, OnErr, IfOk, IfSome};
 ghost use Rattle.sdb_lines.specs.Counting.{CountsAll};
 ghost use Rattle.sdb_lines.specs.Lines.{reading_of, lines_of};
 ghost use Rattle.sdb_lines.specs.Streams.{Reads, Writes};
-ghost use Rattle.sdb_session.specs.Dialogue.{Dialogue, opening};
+ghost use Rattle.sdb_session.specs.Dialogue.{opening};
 ghost use Rattle.sdb_session.specs.View.{plain_session};
 ghost use Rattle.sdb_server.specs.Runs.{Wrote, WroteFront};
 ghost use Rattle.sdb_server.specs.Source.{is_request};
-ghost use Rattle.sdb_server.specs.State.{state_of};
+ghost use Rattle.sdb_server.specs.Clocks.{TimedDialogue};
+ghost use Rattle.sdb_server.specs.State.{timed_by};
 
 use crate::TAKE_LIMIT;
+use crate::clock::Clock;
 use sdb_desk::Shard;
 use sdb_lines::{Counts, Replier, RunFault, Sink, Source, run_lines as run};
 use sdb_projection::Table;
@@ -20,20 +22,21 @@ use std::alloc::{AllocError, Global};
 // The source of the one session.
 const SOURCE: &str = "s1";
 
-// The one session, with all documents, and the projections through which it sees them.
+// The one session, with all documents, the projections through which it sees them, and its clock.
 #[derive(Drop)]
-struct LineSession<'a> {
+struct LineSession<'a, C> {
     table: &'a Table,
+    clock: C,
     shard: Shard,
     session: Session,
 }
 
-impl Replier for LineSession<'_> {
+impl<C: Clock + Drop> Replier for LineSession<'_, C> {
     ghost opening = { λ s. opening (plain_session s.session).source };
 
-    // as the dialogue answers it, and the projections stay
+    // as the dialogue answers it at the moment that the clock tells, and the projections stay
     ghost takes = { λ s line answer t.
-        Dialogue s.table.now (state_of s) line answer (state_of t) × (t.table ≡ s.table) };
+        TimedDialogue s.table.now (timed_by C.ahead s) line answer (timed_by C.ahead t) × (t.table ≡ s.table) };
 
     ghost is_step = { is_request };
 
@@ -44,10 +47,11 @@ impl Replier for LineSession<'_> {
     fn reply(&mut self, _alloc: Global, line: &str, out: &mut Vec<u8>) -> Result<bool, AllocError> {
         let LineSession {
             table,
+            clock,
             shard,
             session,
         } = self;
-        let is_request = session.handle_to(&Solo, shard, table, line, out)?;
+        let is_request = session.handle_to(&Solo, shard, table, line, clock.now(), out)?;
         session.pump_to(&Solo, shard, table, TAKE_LIMIT, out)?;
         Ok(is_request)
     }
@@ -55,9 +59,11 @@ impl Replier for LineSession<'_> {
     fn reply_unreadable(&mut self, _alloc: Global, out: &mut Vec<u8>) -> Result<(), AllocError> {
         let LineSession {
             table,
+            clock,
             shard,
             session,
         } = self;
+        clock.now();
         session.refuse_to(out)?;
         session.pump_to(&Solo, shard, table, TAKE_LIMIT, out)?;
         Ok(())
@@ -69,24 +75,25 @@ impl Replier for LineSession<'_> {
 /// answers to a line comes what the line stored in documents that the session is subscribed to. An empty
 /// line, one that isn't UTF-8 and one of more than 1,048,576 bytes are E1; a last piece without a line
 /// feed is a line if it isn't empty. The answers to what was read are written and flushed before the
-/// next read.
+/// next read. The clock is asked once for each line, and what the line submits is stored at that moment.
 ///
 /// A request whose call of the documents finds no memory is answered E10 and changes nothing, and the run
 /// goes on. Where a line can't be read, a name not copied or the answer not written for want of memory,
 /// the run ends with [`RunFault::Memory`], and what was written is a front of the whole answer. `lines`
 /// counts the lines, `steps` those that are requests.
-pub fn run_lines<R: Source, W: Sink>(
+pub fn run_lines<C: Clock + Drop, R: Source, W: Sink>(
     alloc: Global,
     table: &Table,
+    clock: C,
     reader: &mut R,
     writer: &mut W,
 ) -> Result<Counts, RunFault>
     ensures whole { OnOk result (IfSome (R.left reader.old) (λ input.
-        Wrote table.now (map reading_of (lines_of input)) (W.contents writer.old) (W.contents writer.new))) }
+        Wrote table.now (C.ahead clock) (map reading_of (lines_of input)) (W.contents writer.old) (W.contents writer.new))) }
     ensures counts { IfOk result (λ counts. IfSome (R.left reader.old) (λ input. CountsAll is_request input counts)) }
     // After a fault a front of the opening and the answers to the first lines was written.
     ensures front { OnErr result (IfSome (R.left reader.old) (λ input.
-        WroteFront table.now (map reading_of (lines_of input)) (W.contents writer.old) (W.contents writer.new))) }
+        WroteFront table.now (C.ahead clock) (map reading_of (lines_of input)) (W.contents writer.old) (W.contents writer.new))) }
     // No read failed, and no write or flush, but for the one that is the fault.
     ensures reads { Reads result (R.calls reader.old) (R.failures reader.old)
         (R.calls reader.new) (R.failures reader.new) }
@@ -94,6 +101,7 @@ pub fn run_lines<R: Source, W: Sink>(
 {
     let mut line_session = LineSession {
         table,
+        clock,
         shard: Shard::new(alloc),
         session: Session::new(alloc, String::from_str(alloc, SOURCE)?),
     };

@@ -4,9 +4,10 @@ ghost use Rattle.sdb_backend.specs.Passes.{IsPass, IsHost};
 ghost use Rattle.sdb_backend.specs.declared.seats.Host.{Host as Hosting};
 ghost use Rattle.sdb_server.specs.Served.{IsHostOf};
 
+use crate::clock::SystemClock;
 use crate::deadline_stream::DeadlineStream;
 use crate::opening_handshake::shake_hands;
-use crate::websocket_session::{Served, close_and_drain, serve_until};
+use crate::websocket_session::{Served, Service, close_and_drain, serve_until};
 use sdb_backend::{Backend, Pass};
 use sdb_projection::Table;
 use sdb_wire::MESSAGE_LIMIT;
@@ -15,7 +16,7 @@ use std::io;
 use std::net::TcpStream;
 use std::sync::atomic::{AtomicBool, Ordering};
 use std::sync::{Mutex, Wait};
-use std::time::Duration;
+use std::time::{Clock, Duration};
 use tungstenite::{CloseCode, NoMask, Role, WebSocket, WebSocketConfig};
 
 /// The most clients that are served at once.
@@ -178,22 +179,21 @@ impl<R: Wait + Drop> ServerState<R> {
         }
     }
 
-    /// Serves a client whose handshake is done.
+    /// Serves a client whose handshake is done, by the clock of this runtime.
     pub(crate) fn serve(&self, rt: &R, alloc: Global, stream: TcpStream, pass: Pass) -> Served
+    where
+        R: Clock,
         requires { IsPass pass self.now.backend }
         ensures { IsPass result.pass self.now.backend }
     {
         let mut socket = socket_on(alloc, stream);
-        let (backend, table) = (&self.backend, &self.table);
-        serve_until(
-            rt,
-            alloc,
-            &mut socket,
-            backend,
-            pass,
-            table,
-            &self.is_ending,
-        )
+        let service = Service {
+            backend: &self.backend,
+            table: &self.table,
+            clock: SystemClock::new(rt),
+            is_ending: &self.is_ending,
+        };
+        serve_until(rt, alloc, &mut socket, pass, service)
     }
 }
 

@@ -15,6 +15,7 @@ use std::snapshot::Snapshot;
 use std::sync::{Arc, Wait};
 use std::thread;
 use std::thread::{Promise, PromisedHandle, Threads};
+use std::time::Clock;
 
 /// That the pass which a thread gives back is one of the backend.
 #[derive(Drop)]
@@ -123,7 +124,7 @@ impl<R: Wait + Drop> SessionThreads<R> {
     /// connection is closed then.
     pub(crate) fn start(&mut self, rt: R, alloc: Global, place: Place<R>, pass: Pass) -> bool
     where
-        R: Threads + Copy + Send + Sync + 'static,
+        R: Threads + Clock + Copy + Send + Sync + 'static,
         requires pass { IsPass pass place.state.value.backend }
         ensures backend { AreOf self.old place.state.value.backend → AreOf self.new place.state.value.backend }
     {
@@ -214,7 +215,7 @@ impl<R: Wait + Drop> SessionThreads<R> {
 }
 
 // What a session's thread does: it serves a client, and notes that it is about to end.
-fn serve_in<R: Wait + Drop>(
+fn serve_in<R: Wait + Clock + Drop>(
     state: Arc<ServerState<R>, Global>,
     rt: R,
     alloc: Global,

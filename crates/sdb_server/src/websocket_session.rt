@@ -5,6 +5,7 @@ ghost use Rattle.sdb_server.specs.Served.{KeepsPass};
 
 use crate::TAKE_LIMIT;
 use crate::answers::Answers;
+use crate::clock::Clock;
 use crate::deadline_stream::DeadlineStream;
 use crate::session_end::SessionEnd;
 use sdb_backend::{Backend, Pass};
@@ -58,17 +59,31 @@ enum Incoming {
 
 // A client at a socket, and what it is served with.
 #[derive(Drop)]
-struct Client<'a, R: Wait, S> {
+struct Client<'a, R: Wait, C, S> {
     alloc: Global,
     socket: &'a mut WebSocket<DeadlineStream<S>, NoMask>,
     backend: &'a Backend<R>,
     table: &'a Table,
+    clock: C,
     is_ending: &'a AtomicBool,
     pass: Pass,
     session: Session,
     silent_reads: u64,
     messages: u64,
     operations: u64,
+}
+
+/// What a client is served with, but for its pass.
+#[derive(Drop)]
+pub(crate) struct Service<'a, R: Wait, C> {
+    /// The documents.
+    pub(crate) backend: &'a Backend<R>,
+    /// The projections through which it sees them.
+    pub(crate) table: &'a Table,
+    /// Tells the moments of its messages.
+    pub(crate) clock: C,
+    /// Whether the server is ending.
+    pub(crate) is_ending: &'a AtomicBool,
 }
 
 /// How a client was served.
@@ -87,8 +102,8 @@ pub(crate) struct Served {
 }
 
 /// Serves a client at a socket until one of both closes it, and gives the pass back. The session's
-/// source is `s` and the number of the pass. Each text message is handled, a binary one answered as E1;
-/// between two reads what was stored meanwhile is sent, so the stream's reads should answer `WouldBlock`
+/// source is `s` and the number of the pass. Each text message is handled, at the moment that the clock
+/// tells, which is asked once for each message, and a binary one answered as E1; between two reads what was stored meanwhile is sent, so the stream's reads should answer `WouldBlock`
 /// or `TimedOut` after some milliseconds without input, as those of a stream do on which
 /// [`set_socket_options`](crate::set_socket_options) was called. A message longer than the socket takes
 /// is answered as E1, and ends the session.
@@ -96,9 +111,10 @@ pub(crate) struct Served {
 /// A client from which 3,000 reads in a row bring nothing is sent a ping, and after 6,000 a close with
 /// the status 1001, as is one that takes too many reads for a message ([`DeadlineStream`]). The session's
 /// queues are closed before anything is waited for at its end.
-pub fn serve<R: Wait + Drop, S: Read + Write + Drop>(
+pub fn serve<R: Wait + Drop, C: Clock + Drop, S: Read + Write + Drop>(
     rt: &R,
     alloc: Global,
+    clock: C,
     socket: &mut WebSocket<DeadlineStream<S>, NoMask>,
     backend: &Backend<R>,
     pass: Pass,
@@ -109,22 +125,26 @@ pub fn serve<R: Wait + Drop, S: Read + Write + Drop>(
     ensures number { number_of result ≡ number_of pass }
 {
     let is_ending = AtomicBool::new(false);
-    serve_until(rt, alloc, socket, backend, pass, table, &is_ending).pass
+    let service = Service {
+        backend,
+        table,
+        clock,
+        is_ending: &is_ending,
+    };
+    serve_until(rt, alloc, socket, pass, service).pass
 }
 
 /// Serves a client as [`serve`] does, and also ends its session, with the status 1001, once the server is
 /// ending.
-pub(crate) fn serve_until<'a, R: Wait + Drop, S: Read + Write + Drop>(
+pub(crate) fn serve_until<'a, R: Wait + Drop, C: Clock + Drop, S: Read + Write + Drop>(
     rt: &R,
     alloc: Global,
     socket: &'a mut WebSocket<DeadlineStream<S>, NoMask>,
-    backend: &'a Backend<R>,
     pass: Pass,
-    table: &'a Table,
-    is_ending: &'a AtomicBool,
+    service: Service<'a, R, C>,
 ) -> Served
-    requires { IsPass pass backend.now }
-    ensures pass { IsPass result.pass backend.now }
+    requires { IsPass pass service.backend.now }
+    ensures pass { IsPass result.pass service.backend.now }
     ensures number { number_of result.pass ≡ number_of pass }
 {
     let number = pass.number();
@@ -138,11 +158,18 @@ pub(crate) fn serve_until<'a, R: Wait + Drop, S: Read + Write + Drop>(
             operations: 0,
         };
     };
+    let Service {
+        backend,
+        table,
+        clock,
+        is_ending,
+    } = service;
     let mut client = Client {
         alloc,
         socket,
         backend,
         table,
+        clock,
         is_ending,
         pass,
         session: Session::new(alloc, source),
@@ -157,7 +184,7 @@ pub(crate) fn serve_until<'a, R: Wait + Drop, S: Read + Write + Drop>(
     served
 }
 
-impl<'a, R: Wait + Drop, S: Read + Write + Drop> Client<'a, R, S> {
+impl<'a, R: Wait + Drop, C: Clock + Drop, S: Read + Write + Drop> Client<'a, R, C, S> {
     // Answers the client until the session ends.
     fn converse(&mut self, rt: &R) -> SessionEnd
         requires { IsPass self.old.pass self.old.backend.now }
@@ -219,9 +246,21 @@ impl<'a, R: Wait + Drop, S: Read + Write + Drop> Client<'a, R, S> {
     {
         self.messages = self.messages.saturating_add(1);
         let mut answers = Answers::new(self.alloc);
-        self.session.handle_to(self.backend, &mut self.pass, self.table, text, &mut answers)?;
+        self.handle(text, &mut answers)?;
         self.operations = self.operations.saturating_add(answers.acknowledged);
         self.say_all(answers.texts)
+    }
+
+    // Handles a text at the moment that the clock tells.
+    fn handle(&mut self, text: &str, answers: &mut Answers) -> Result<(), SessionEnd>
+        requires { IsPass self.old.pass self.old.backend.now }
+        ensures { KeepsPass self.old.backend.now self.old.pass self.new.backend.now self.new.pass }
+    {
+        let now = self.clock.now();
+        let (backend, table) = (self.backend, self.table);
+        self.session
+            .handle_to(backend, &mut self.pass, table, text, now, answers)?;
+        Ok(())
     }
 
     fn answer_binary(&mut self) -> Result<(), SessionEnd>
@@ -229,6 +268,7 @@ impl<'a, R: Wait + Drop, S: Read + Write + Drop> Client<'a, R, S> {
         ensures { KeepsPass self.old.backend.now self.old.pass self.new.backend.now self.new.pass }
     {
         self.messages = self.messages.saturating_add(1);
+        self.clock.now();
         let mut texts = Vec::new(self.alloc);
         self.session.refuse_to(&mut texts)?;
         self.say_all(texts)
@@ -317,6 +357,7 @@ impl<'a, R: Wait + Drop, S: Read + Write + Drop> Client<'a, R, S> {
         requires { IsPass self.old.pass self.old.backend.now }
         ensures { KeepsPass self.old.backend.now self.old.pass self.new.backend.now self.new.pass }
     {
+        self.clock.now();
         let mut texts = Vec::new(self.alloc);
         match self.session.refuse_to(&mut texts) {
             Ok(()) => Farewell::Refusal(texts),

@@ -6,7 +6,7 @@ use clap::{Arg, ArgAction, ArgGroup, ArgMatches, Command, Error};
 use sdb_command_line::{DONE, answer_no_run, end_with, refuse};
 use sdb_lines::{WatchedReader, WatchedWriter};
 use sdb_projection::{Table, TableFault};
-use sdb_server::run_lines;
+use sdb_server::{SystemClock, run_lines};
 use std::alloc::{AllocError, Global};
 use std::io;
 use std::io::{Read, StdinLock};
@@ -202,7 +202,7 @@ where
     R: Copy + Drop + Send + Sync + 'static,
 {
     match job {
-        Job::Lines => Ok(answer_input(&rt, rt.reader(), &table)),
+        Job::Lines => Ok(answer_input(&rt, SystemClock::new(&rt), rt.reader(), &table)),
         Job::Listen {
             address,
             until,
@@ -223,15 +223,16 @@ where
     Ok(refuse(rt, text.as_str())?)
 }
 
-/// Answers the input, lines of one session, on standard output, and gives the status.
-pub fn answer_input<R, I>(rt: &R, input: I, table: &Table) -> u8
+/// Answers the input, lines of one session, on standard output, by this clock, and gives the status.
+pub fn answer_input<R, C, I>(rt: &R, clock: C, input: I, table: &Table) -> u8
 where
     R: AllocGlobal + Print,
+    C: sdb_server::Clock + Drop,
     I: Read + Drop,
 {
     let mut reader = WatchedReader::new(input);
     let mut writer = WatchedWriter::new(io::writer(rt));
-    match run_lines(rt.alloc(), table, &mut reader, &mut writer) {
+    match run_lines(rt.alloc(), table, clock, &mut reader, &mut writer) {
         Ok(_) => DONE,
         Err(fault) => end_with(rt, fault),
     }

@@ -2,6 +2,7 @@
 use sdb_command_line::terminal::{Terminal, words};
 use sdb_command_line::{DONE, FAULT, REFUSED};
 use sdb_projection::{Projection, Table, TableFault};
+use sdb_server::ListClock;
 use sdb_server_command::{
     Asked, Job, Options, Refusal, Until, answer_input, asked_options, asked_run, run, serve_at,
     serve_until_end, table_of,
@@ -300,18 +301,23 @@ impl Alloc for Broken {
     }
 }
 
+// A clock that tells 0.
+fn no_clock(alloc: Global) -> ListClock {
+    ListClock::new(Vec::new(alloc))
+}
+
 #[test]
 fn statuses_of_lines(rt: HostRuntime) -> Result<(), Fail> {
     let alloc = rt.alloc();
     let table = Table::new(alloc);
     let fetch = r#"{"a":"f","c":"b","d":"1"}"#;
     let terminal = Terminal::new(alloc);
-    assert_eq!(rt; answer_input(&terminal, fetch.as_bytes(), &table), DONE);
+    assert_eq!(rt; answer_input(&terminal, no_clock(alloc), fetch.as_bytes(), &table), DONE);
     let fetched = r#"{"a":"f","c":"b","d":"1","data":{"type":null,"v":0}}
 "#;
     assert!(rt; terminal.out.into_inner().as_str().ends_with(fetched));
     let terminal = Terminal::new(alloc);
-    assert_eq!(rt; answer_input(&terminal, Broken { alloc }, &table), FAULT);
+    assert_eq!(rt; answer_input(&terminal, no_clock(alloc), Broken { alloc }, &table), FAULT);
     assert!(rt;
         terminal
             .out
@@ -319,7 +325,7 @@ fn statuses_of_lines(rt: HostRuntime) -> Result<(), Fail> {
             .as_str()
             .ends_with("fault: read\n")
     );
-    let ended = answer_input(&Broken { alloc }, fetch.as_bytes(), &table);
+    let ended = answer_input(&Broken { alloc }, no_clock(alloc), fetch.as_bytes(), &table);
     assert_eq!(rt; ended, FAULT);
     Ok(())
 }

@@ -1,7 +1,9 @@
-//! Sessions over lines whose streams fail. What they are answered is in the lines of the program.
+//! Sessions over lines whose streams fail, and by a clock that is known. What else they are answered is in the lines of
+//! the program.
 use sdb_lines::{RunFault, WatchedReader, WatchedWriter};
+use sdb_oplog::Moment;
 use sdb_projection::Table;
-use sdb_server::run_lines;
+use sdb_server::{ListClock, run_lines};
 use std::alloc::Global;
 use std::io;
 use std::io::{ErrorKind, Read, Write};
@@ -61,7 +63,8 @@ fn run(alloc: Global, reads: usize, calls: usize) -> (Vec<u8>, Option<RunFault>)
     });
     let bytes = Vec::new(alloc);
     let mut writer = WatchedWriter::new(Output { bytes, calls });
-    let ended = run_lines(alloc, &Table::new(alloc), &mut reader, &mut writer);
+    let clock = ListClock::new(Vec::new(alloc));
+    let ended = run_lines(alloc, &Table::new(alloc), clock, &mut reader, &mut writer);
     (writer.stream.bytes, ended.err())
 }
 
@@ -89,4 +92,42 @@ fn an_input_that_fails(rt: HostRuntime) {
             "after {reads}"
         );
     }
+}
+
+// Three submissions, and reads at moments: the second one comes at a moment below that of the first.
+const MOMENTS: &str = r#"{"a":"op","c":"b","d":"1","src":"w","seq":1,"create":{"type":"json0","data":{"n":0}}}
+{"a":"op","c":"b","d":"1","src":"w","seq":2,"op":[{"p":["n"],"na":1}]}
+{"a":"op","c":"b","d":"1","src":"w","seq":3,"op":[{"p":["n"],"na":1}]}
+{"a":"nt","c":"b","d":"1","id":1,"ts":100}
+{"a":"nt","c":"b","d":"1","id":2,"ts":99}
+{"a":"nt","c":"b","d":"1","id":3,"ts":199}
+{"a":"nt","c":"b","d":"1","id":4,"ts":200}
+{"a":"nt","c":"b","d":"1","id":5}
+"#;
+
+const READS: &str = r#"{"a":"op","c":"b","d":"1","seq":3,"src":"w","v":2}
+{"a":"nt","data":{"n":1},"id":1,"type":"http://sharejs.org/types/JSONv0","v":2}
+{"a":"nt","id":2,"type":null,"v":0}
+{"a":"nt","data":{"n":1},"id":3,"type":"http://sharejs.org/types/JSONv0","v":2}
+{"a":"nt","data":{"n":2},"id":4,"type":"http://sharejs.org/types/JSONv0","v":3}
+{"a":"nt","data":{"n":2},"id":5,"type":"http://sharejs.org/types/JSONv0","v":3}
+"#;
+
+// What is written for lines at these moments.
+fn written_by(alloc: Global, clock: ListClock, lines: &str) -> Vec<u8> {
+    let mut reader = WatchedReader::new(lines.as_bytes());
+    let mut writer = WatchedWriter::new(Vec::new(alloc));
+    let _ = run_lines(alloc, &Table::new(alloc), clock, &mut reader, &mut writer);
+    writer.stream
+}
+
+#[test]
+fn documents_at_moments(rt: HostRuntime) {
+    let mut moments = Vec::new(rt.alloc());
+    for milliseconds in [100, 90, 200] {
+        let moment = Moment::new(milliseconds).expect(&rt, "a moment");
+        moments.push(moment).expect(&rt, "out of memory");
+    }
+    let written = written_by(rt.alloc(), ListClock::new(moments), MOMENTS);
+    assert!(rt; written.as_slice().ends_with(READS.as_bytes()));
 }

@@ -2,9 +2,9 @@
 ghost use Rattle.sdb_backend.specs.Passes.{IsPass};
 
 use sdb_backend::{Backend, Pass};
-use sdb_oplog::Key;
+use sdb_oplog::{Key, Moment};
 use sdb_projection::Table;
-use sdb_server::{DeadlineStream, serve};
+use sdb_server::{Clock, DeadlineStream, ListClock, SystemClock, serve};
 use sdb_submit::Desk;
 use sdb_subscribe::SubId;
 use std::alloc::{AllocError, Global};
@@ -109,7 +109,7 @@ fn add_frame(
     Ok(())
 }
 
-// Serves a client with the pass, and gives back the pass and the client's stream.
+// Serves a client with the pass by a clock that tells 0, and gives back the pass and the client's stream.
 pub(crate) fn attend<R: Wait + Drop, S: Read + Write + Drop>(
     rt: &R,
     alloc: Global,
@@ -120,10 +120,25 @@ pub(crate) fn attend<R: Wait + Drop, S: Read + Write + Drop>(
     requires { IsPass pass backend.now }
     ensures { IsPass result.0 backend.now }
 {
+    attend_by(rt, alloc, ListClock::new(Vec::new(alloc)), backend, pass, stream)
+}
+
+// The same by this clock.
+fn attend_by<R: Wait + Drop, C: Clock + Drop, S: Read + Write + Drop>(
+    rt: &R,
+    alloc: Global,
+    clock: C,
+    backend: &Backend<R>,
+    pass: Pass,
+    stream: S,
+) -> (Pass, S)
+    requires { IsPass pass backend.now }
+    ensures { IsPass result.0 backend.now }
+{
     let stream = DeadlineStream::new(stream);
     let mut socket = WebSocket::from_raw_socket(alloc, stream, NoMask, Role::Server, None);
     let table = Table::new(alloc);
-    let pass = serve(rt, alloc, &mut socket, backend, pass, &table);
+    let pass = serve(rt, alloc, clock, &mut socket, backend, pass, &table);
     (pass, socket.into_inner().into_inner())
 }
 
@@ -195,6 +210,68 @@ fn a_binary_message(rt: HostRuntime) -> Result<(), Fail> {
     let told = told(rt, Peer::new(rt.alloc(), 0, sent.as_slice(), 1))?;
     assert!(rt; told.as_slice() == told_of_twice(rt.alloc())?.as_slice());
     Ok(())
+}
+
+const CREATE: &str =
+    r#"{"a":"op","c":"b","create":{"data":{"n":0},"type":"json0"},"d":"1","seq":1,"src":"x","v":null}"#;
+
+const ADD: &str = r#"{"a":"op","c":"b","d":"1","op":[{"na":1,"p":["n"]}],"seq":2,"src":"x","v":null}"#;
+
+const READ: &str = r#"{"a":"nt","c":"b","d":"1","id":1,"ts":100}"#;
+
+// An operation, a binary message, another operation, and a read at a moment.
+fn sent_at_moments(alloc: Global) -> Result<Vec<u8>, Fail> {
+    let mut frames = Vec::new(alloc);
+    for (head, text) in [(TEXT, CREATE), (BINARY, SUBSCRIBE), (TEXT, ADD), (TEXT, READ)] {
+        send(&mut frames, head, text)?;
+    }
+    Ok(frames)
+}
+
+// What is told of these, where the last operation is at a later moment than the one that is read at.
+fn told_at_moments(alloc: Global) -> Result<Vec<u8>, Fail> {
+    let mut frames = Vec::new(alloc);
+    for text in [
+        OPENING,
+        r#"{"a":"op","c":"b","d":"1","seq":1,"src":"x","v":0}"#,
+        BADLY_FORMED,
+        r#"{"a":"op","c":"b","d":"1","seq":2,"src":"x","v":1}"#,
+        r#"{"a":"nt","data":{"n":0},"id":1,"type":"http://sharejs.org/types/JSONv0","v":1}"#,
+    ] {
+        tell(&mut frames, text)?;
+    }
+    Ok(frames)
+}
+
+fn clock_of(alloc: Global, told: &[u64]) -> Result<ListClock, Fail> {
+    let mut moments = Vec::new(alloc);
+    for milliseconds in told {
+        moments.push(Moment::at_most_last(*milliseconds))?;
+    }
+    Ok(ListClock::new(moments))
+}
+
+// The clock is asked for the binary message too: it is that one whose moment is 90.
+#[test]
+fn messages_at_moments(rt: HostRuntime) -> Result<(), Fail> {
+    let alloc = rt.alloc();
+    let sent = sent_at_moments(alloc)?;
+    let clock = clock_of(alloc, &[100, 90, 200])?;
+    let (backend, mut host) = Backend::new(alloc, rt)?;
+    let pass = backend.enter(&mut host)?;
+    let peer = Peer::new(alloc, 0, sent.as_slice(), 1);
+    let (_, peer) = attend_by(&rt, alloc, clock, &backend, pass, peer);
+    assert!(rt; peer.told.as_slice() == told_at_moments(alloc)?.as_slice());
+    Ok(())
+}
+
+// It tells milliseconds, of this century.
+#[test]
+fn the_clock_of_the_machine(rt: HostRuntime) {
+    let mut clock = SystemClock::new(&rt);
+    let milliseconds = clock.now().milliseconds();
+    assert!(rt; milliseconds > 1_700_000_000_000);
+    assert!(rt; milliseconds < 17_000_000_000_000);
 }
 
 pub(crate) fn document(alloc: Global) -> Result<Key, AllocError> {

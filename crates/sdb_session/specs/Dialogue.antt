@@ -1,5 +1,5 @@
--- What one session says to its lines where it is alone with the machine: `Dialogue`. A line is answered in one step; then
--- what waits in the session's queues is pushed.
+-- What one session says to its lines where it is alone with the machine: `Dialogue`. A line is answered in one step, at one
+-- moment; then what waits in the session's queues is pushed.
 use Rattle.std.specs.Prelude.{◌≡◌, ℕ, List, [], ◌∷◌, ◌++◌, if◌then◌else◌, Bool, true, false, not, ◌&&◌, Option, Some, None, unwrap_or, Result, Ok, Err}
 use Rattle.std.specs.Option.{option_map_or}
 use Rattle.std.specs.Result.{is_ok, result_ok}
@@ -9,9 +9,9 @@ use Rattle.sdb_oplog.specs.Plain.{PlainEntry, PlainSubmission}
 use Rattle.sdb_oplog.specs.Keys.{PlainKey, with_log, no_logs}
 use Rattle.sdb_oplog.specs.Decide.{PlainReply, refused, decide, deciding_takes_memory}
 use Rattle.sdb_subscribe.specs.Queue.{taken_by, after_take_by}
-use Rattle.sdb_desk.specs.Machine.{Machine, PlainSubscribed, Subscribing, subscribing, start_of, fetched, operations, snapshot_at, has_document, is_filled, has_version, Queued, no_queues, with_queues, closed}
+use Rattle.sdb_desk.specs.Machine.{Machine, PlainSubscribed, Subscribing, subscribing, start_of, fetched, operations, snapshot_at, at_moment, has_document, is_filled, has_version, Queued, no_queues, with_queues, closed}
 use Rattle.sdb_projection.specs.Table.{PlainProjection}
-use Rattle.sdb_wire.specs.Wire.{PlainEcho, nothing_said, parse_message, PlainRequest, hello, fetch, subscribe, unsubscribe, submit, snapshot}
+use Rattle.sdb_wire.specs.Wire.{PlainEcho, nothing_said, parse_message, PlainRequest, hello, fetch, subscribe, unsubscribe, submit, snapshot, at_time}
 use Rattle.sdb_wire.specs.Answers.{PlainAnswer, init, failed}
 use Rattle.sdb_session.specs.Projections.{base_in, through, permits}
 use Rattle.sdb_session.specs.Sessions.{QueueId, PlainSub, PlainSession, queue_of, is_full}
@@ -76,10 +76,12 @@ abbrev pub read_at : List PlainEntry → (v : Option ℕ) → ReadOf v
 read_at log None = Ok (fetched log)
 read_at log (Some v) = operations log v
 
-abbrev pub decided_at : Bool → Machine → PlainKey → PlainSubmission → (PlainReply × Machine)
-decided_at true m b s =
-    ((decide (m.logs b) s).reply, record { logs = with_log m.logs b (decide (m.logs b) s).log; queues = m.queues })
-decided_at false m b s = (refused E9, m)
+abbrev pub decided_at : Bool → Machine → PlainKey → PlainSubmission → ℕ → (PlainReply × Machine)
+decided_at true m b s now = (
+  (decide (m.logs b) s now).reply,
+  record { logs = with_log m.logs b (decide (m.logs b) s now).log; queues = m.queues },
+)
+decided_at false m b s now = (refused E9, m)
 
 -- the queue is opened, its entries up to the present version are taken, and the old queue of the pair is closed
 abbrev pub joined_at : Machine → PlainKey → Option ℕ → Option QueueId → Result PlainSubscribed Code
@@ -103,22 +105,23 @@ subscribed_at true m b v old = (Err (refused_at (start_of (m.logs b) v)), m)
 subscribed_at false m b v old = joined_at m b v old (opening_at m b v).answer
 
 -- what the machine replies, and the machine after it
-abbrev pub replied : List PlainProjection → State → (r : PlainRequest) → (ReplyTo r × Machine)
-replied t s (hello n) = (tt, s.machine)
-replied t s (fetch k v) = (read_at (s.machine.logs (base_in t k)) v, s.machine)
-replied t s (submit k v n src c) =
-    decided_at (permits (through t k) c) s.machine (base_in t k) (submission_of s.session k v n src c 0)
-replied t s (snapshot k v n) = (snapshot_at (s.machine.logs (base_in t k)) v, s.machine)
-replied t s (subscribe k v) =
+abbrev pub replied : List PlainProjection → State → ℕ → (r : PlainRequest) → (ReplyTo r × Machine)
+replied t s now (hello n) = (tt, s.machine)
+replied t s now (fetch k v) = (read_at (s.machine.logs (base_in t k)) v, s.machine)
+replied t s now (submit k v n src c) =
+    decided_at (permits (through t k) c) s.machine (base_in t k) (submission_of s.session k v n src c 0) now
+replied t s now (snapshot k v n) = (snapshot_at (s.machine.logs (base_in t k)) v, s.machine)
+replied t s now (at_time k m n) = (Ok (at_moment (s.machine.logs (base_in t k)) m), s.machine)
+replied t s now (subscribe k v) =
     subscribed_at (is_full k s.session.subs) s.machine (base_in t k) v (queue_of k s.session.subs)
-replied t s (unsubscribe k) = (tt, closed_machine (queue_of k s.session.subs) s.machine)
+replied t s now (unsubscribe k) = (tt, closed_machine (queue_of k s.session.subs) s.machine)
 
 -- the request is answered by this reply of the machine
 abbrev pub reply_answered : Response → Machine → Transition
 reply_answered u m = record { answers = u.answers; state = record { machine = m; session = u.session } }
 
-abbrev pub request_answered : List PlainProjection → PlainEcho → State → PlainRequest → Transition
-request_answered t e s r = reply_answered (respond e t s.session r (replied t s r).0) (replied t s r).1
+abbrev pub request_answered : List PlainProjection → PlainEcho → State → ℕ → PlainRequest → Transition
+request_answered t e s now r = reply_answered (respond e t s.session r (replied t s now r).0) (replied t s now r).1
 
 -- ---- want of memory
 
@@ -141,6 +144,7 @@ takes_memory t s (submit k v n src c) =
     && deciding_takes_memory (s.machine.logs (base_in t k)) (submission_of s.session k v n src c 0)
 takes_memory t s (snapshot k v n) =
     option_map_or has_version (result_ok (snapshot_at (s.machine.logs (base_in t k)) v)) false
+takes_memory t s (at_time k m n) = has_version (at_moment (s.machine.logs (base_in t k)) m)
 takes_memory t s (subscribe k v) = opens t s k v
 takes_memory t s (unsubscribe k) = false
 
@@ -154,29 +158,30 @@ abbrev pub memory_wanting : PlainEcho → State → Machine → Transition
 memory_wanting e s m =
     record { answers = failed e E10 ∷ []; state = record { machine = m; session = s.session } }
 
-abbrev pub after_opening : List PlainProjection → PlainEcho → State → PlainRequest → Transition
-after_opening t e s (subscribe k v) =
+abbrev pub after_opening : List PlainProjection → PlainEcho → State → ℕ → PlainRequest → Transition
+after_opening t e s now (subscribe k v) =
     if opens t s k v then memory_wanting e s (opened_and_closed s.machine (base_in t k) v)
-    else request_answered t e s (subscribe k v)
-after_opening t e s r = request_answered t e s r
+    else request_answered t e s now (subscribe k v)
+after_opening t e s now r = request_answered t e s now r
 
 -- a request that takes no memory is answered whether there is some or not
-abbrev pub answered_with : Memory → List PlainProjection → PlainEcho → State → PlainRequest → Transition
-answered_with enough t e s r = request_answered t e s r
-answered_with none_before t e s r =
-    if takes_memory t s r then memory_wanting e s s.machine else request_answered t e s r
-answered_with none_after t e s r = after_opening t e s r
+abbrev pub answered_with : Memory → List PlainProjection → PlainEcho → State → ℕ → PlainRequest → Transition
+answered_with enough t e s now r = request_answered t e s now r
+answered_with none_before t e s now r =
+    if takes_memory t s r then memory_wanting e s s.machine else request_answered t e s now r
+answered_with none_after t e s now r = after_opening t e s now r
 
 -- ---- one line
 
-abbrev pub message_answered : List PlainProjection → State → Memory → PlainEcho → Result PlainRequest Code → Transition
-message_answered t s w e (Ok r) = answered_with w t e s r
-message_answered t s w e (Err code) = record { answers = failed e code ∷ []; state = s }
+abbrev pub message_answered : List PlainProjection → State → ℕ → Memory → PlainEcho → Result PlainRequest Code
+    → Transition
+message_answered t s now w e (Ok r) = answered_with w t e s now r
+message_answered t s now w e (Err code) = record { answers = failed e code ∷ []; state = s }
 
 -- a line, or none that isn't UTF-8 or is too long
-abbrev pub answered : List PlainProjection → State → Memory → Option (List ℕ) → Transition
-answered t s w (Some line) = message_answered t s w (parse_message line).echo (parse_message line).request
-answered t s w None = record { answers = failed nothing_said E1 ∷ []; state = s }
+abbrev pub answered : List PlainProjection → State → ℕ → Memory → Option (List ℕ) → Transition
+answered t s now w (Some line) = message_answered t s now w (parse_message line).echo (parse_message line).request
+answered t s now w None = record { answers = failed nothing_said E1 ∷ []; state = s }
 
 -- ---- what waits
 
@@ -203,18 +208,18 @@ pushed t s = record {
 -- ---- the dialogue
 
 -- the line is answered, then what waits is pushed
-abbrev pub step : List PlainProjection → State → Memory → Option (List ℕ) → Transition
-step t s w line = record {
-  answers = (answered t s w line).answers ++ (pushed t (answered t s w line).state).answers;
-  state = (pushed t (answered t s w line).state).state;
+abbrev pub step : List PlainProjection → State → ℕ → Memory → Option (List ℕ) → Transition
+step t s now w line = record {
+  answers = (answered t s now w line).answers ++ (pushed t (answered t s now w line).state).answers;
+  state = (pushed t (answered t s now w line).state).state;
 }
 
--- `Dialogue`: from a state a line is answered by these bytes, and leaves that state
-pub record Dialogue (t : List PlainProjection) (old : State) (line : Option (List ℕ)) (bytes : List ℕ) (new : State)
+-- `Dialogue`: from a state a line at a moment is answered by these bytes, and leaves that state
+pub record Dialogue (t : List PlainProjection) (old : State) (now : ℕ) (line : Option (List ℕ)) (bytes : List ℕ) (new : State)
     : Type 0 where
   pub memory : Memory
-  pub written : bytes ≡ shown (step t old memory line).answers
-  pub left : new ≡ (step t old memory line).state
+  pub written : bytes ≡ shown (step t old now memory line).answers
+  pub left : new ≡ (step t old now memory line).state
 
 -- ---- the beginning
 

@@ -7,10 +7,10 @@ use Rattle.sdb_oplog.specs.Keys.{PlainKey}
 use Rattle.sdb_oplog.specs.Decide.{PlainReply, stored, repeated, refused}
 use Rattle.sdb_desk.specs.Machine.{PlainFetched, PlainSubscribed}
 use Rattle.sdb_projection.specs.Table.{PlainProjection}
-use Rattle.sdb_submit.specs.Calls.{present, fetch as fetch_call, ops_from, snapshot as snapshot_call, subscribe as subscribe_call, take_next, unsubscribe as unsubscribe_call}
+use Rattle.sdb_submit.specs.Calls.{present, fetch as fetch_call, ops_from, snapshot as snapshot_call, at_time as at_time_call, subscribe as subscribe_call, take_next, unsubscribe as unsubscribe_call}
 use Rattle.sdb_submit.specs.Chain.{Calls, Submits}
-use Rattle.sdb_wire.specs.Wire.{PlainEcho, parse_message, PlainRequest, hello, fetch, subscribe, unsubscribe, submit, snapshot}
-use Rattle.sdb_wire.specs.Answers.{PlainAnswer, named, fetched, listed, subscribed, caught_up, unsubscribed, snapshot as snapshot_answer, op_message, acknowledged, failed}
+use Rattle.sdb_wire.specs.Wire.{PlainEcho, parse_message, PlainRequest, hello, fetch, subscribe, unsubscribe, submit, snapshot, at_time}
+use Rattle.sdb_wire.specs.Answers.{PlainAnswer, named, fetched, listed, subscribed, caught_up, unsubscribed, snapshot as snapshot_answer, at_time as at_time_answer, op_message, acknowledged, failed}
 use Rattle.sdb_session.specs.Projections.{seen, seen_value, permits, through, base_in}
 use Rattle.sdb_session.specs.Sessions.{QueueId, PlainSession, queue_of, is_full, with_source, with_sub, without_sub}
 
@@ -31,6 +31,7 @@ ReplyTo (hello n) = Unit {0}
 ReplyTo (fetch k v) = ReadOf v
 ReplyTo (submit k v n src m) = PlainReply
 ReplyTo (snapshot k v n) = Result PlainFetched Code
+ReplyTo (at_time k t n) = Result PlainFetched Code
 ReplyTo (subscribe k v) = Result PlainJoined Code
 ReplyTo (unsubscribe k) = Unit {0}
 
@@ -60,10 +61,10 @@ module _ {P : Type 0} (acts : Calls P) where
   Fetches None p r q = acts fetch_call p r q
   Fetches (Some v) p r q = acts (ops_from v) p r q
 
-  -- the submission is made, unless it isn't permitted
-  abbrev pub Sends : Bool → PlainSubmission → P → PlainReply → P → Type 0
-  Sends true s p r q = Submits acts s p r q
-  Sends false s p r q = (r ≡ refused E9) × (q ≡ p)
+  -- the submission is made at a moment, unless it isn't permitted
+  abbrev pub Sends : Bool → PlainSubmission → ℕ → P → PlainReply → P → Type 0
+  Sends true s now p r q = Submits acts s now p r q
+  Sends false s now p r q = (r ≡ refused E9) × (q ≡ p)
 
   -- a further pair of a session without room
   abbrev pub Refuses : Option ℕ → P → Result PlainJoined Code → P → Type 0
@@ -99,15 +100,17 @@ module _ {P : Type 0} (acts : PlainKey → Calls P) where
   Subscribes true b v old p r q = Refuses (acts b) v p r q
   Subscribes false b v old p r q = Joins b v old p r q
 
-  -- the calls of the desk for one message, through the projections of this table; by is the number of the pass
-  abbrev pub Replies : List PlainProjection → ℕ → PlainSession → (r : PlainRequest) → P → ReplyTo r → P → Type 0
-  Replies t by s (hello n) p r q = q ≡ p
-  Replies t by s (fetch k v) p r q = Fetches (acts (base_in t k)) v p r q
-  Replies t by s (submit k v n src m) p r q =
-      Sends (acts (base_in t k)) (permits (through t k) m) (submission_of s k v n src m by) p r q
-  Replies t by s (snapshot k v n) p r q = acts (base_in t k) (snapshot_call v) p r q
-  Replies t by s (subscribe k v) p r q = Subscribes (is_full k s.subs) (base_in t k) v (queue_of k s.subs) p r q
-  Replies t by s (unsubscribe k) p r q = Closes (queue_of k s.subs) p q
+  -- the calls of the desk for one message, through the projections of this table; by is the number of the pass, now the
+  -- moment at which the message came
+  abbrev pub Replies : List PlainProjection → ℕ → ℕ → PlainSession → (r : PlainRequest) → P → ReplyTo r → P → Type 0
+  Replies t by now s (hello n) p r q = q ≡ p
+  Replies t by now s (fetch k v) p r q = Fetches (acts (base_in t k)) v p r q
+  Replies t by now s (submit k v n src m) p r q =
+      Sends (acts (base_in t k)) (permits (through t k) m) (submission_of s k v n src m by) now p r q
+  Replies t by now s (snapshot k v n) p r q = acts (base_in t k) (snapshot_call v) p r q
+  Replies t by now s (at_time k m n) p r q = acts (base_in t k) (at_time_call m) p r q
+  Replies t by now s (subscribe k v) p r q = Subscribes (is_full k s.subs) (base_in t k) v (queue_of k s.subs) p r q
+  Replies t by now s (unsubscribe k) p r q = Closes (queue_of k s.subs) p q
 
 -- ---- what is answered by the reply
 
@@ -141,6 +144,10 @@ abbrev pub snapshot_says : PlainEcho → Option PlainProjection → ℕ → Resu
 snapshot_says e o n (Ok f) = snapshot_answer n f.version (option_map (seen_value o) f.snapshot) ∷ []
 snapshot_says e o n (Err code) = failed e code ∷ []
 
+abbrev pub moment_says : PlainEcho → Option PlainProjection → ℕ → Result PlainFetched Code → List PlainAnswer
+moment_says e o n (Ok f) = at_time_answer n f.version (option_map (seen_value o) f.snapshot) ∷ []
+moment_says e o n (Err code) = failed e code ∷ []
+
 -- the document, or the stored operations from the version that was asked for
 abbrev pub opened_says : Option PlainProjection → PlainKey → Option ℕ → PlainJoined → List PlainAnswer
 opened_says o k None j = subscribed k j.opened.version (option_map (seen_value o) j.opened.snapshot) ∷ []
@@ -161,29 +168,30 @@ respond e t s (fetch k v) r = record { answers = read_says e (through t k) k v r
 respond e t s (submit k v n src m) r =
     record { answers = reply_says e (through t k) k (unwrap_or src s.source) n r; session = s }
 respond e t s (snapshot k v n) r = record { answers = snapshot_says e (through t k) n r; session = s }
+respond e t s (at_time k m n) r = record { answers = moment_says e (through t k) n r; session = s }
 respond e t s (subscribe k v) r = joined_response e t s k v r
 respond e t s (unsubscribe k) r = record { answers = unsubscribed k ∷ []; session = without_sub s k }
 
--- one message: the desk gives some reply, and the answers and the session are what the session makes of it
+-- one message at a moment: the desk gives some reply, and the answers and the session are what the session makes of it
 module _ {P : Type 0} (acts : PlainKey → Calls P) where
-  abbrev pub Handles : PlainEcho → List PlainProjection → ℕ → PlainSession → PlainRequest → P
+  abbrev pub Handles : PlainEcho → List PlainProjection → ℕ → ℕ → PlainSession → PlainRequest → P
       → (List PlainAnswer → Type 0) → PlainSession → P → Type 0
-  Handles e t by s r p says new q =
+  Handles e t by now s r p says new q =
       (reply : ReplyTo r)
-      × (Replies acts t by s r p reply q × (new ≡ (respond e t s r reply).session)
+      × (Replies acts t by now s r p reply q × (new ≡ (respond e t s r reply).session)
       × says (respond e t s r reply).answers)
 
   -- a text that asks nothing is refused, and nothing has changed
-  abbrev pub Responds : PlainEcho → Result PlainRequest Code → List PlainProjection → ℕ → PlainSession → P
+  abbrev pub Responds : PlainEcho → Result PlainRequest Code → List PlainProjection → ℕ → ℕ → PlainSession → P
       → (List PlainAnswer → Type 0) → PlainSession → P → Type 0
-  Responds e (Ok r) t by s p says new q = Handles e t by s r p says new q
-  Responds e (Err code) t by s p says new q = (q ≡ p) × (new ≡ s) × says (failed e code ∷ [])
+  Responds e (Ok r) t by now s p says new q = Handles e t by now s r p says new q
+  Responds e (Err code) t by now s p says new q = (q ≡ p) × (new ≡ s) × says (failed e code ∷ [])
 
   -- one text
-  abbrev pub Answers : List ℕ → List PlainProjection → ℕ → PlainSession → P → (List PlainAnswer → Type 0) → PlainSession
+  abbrev pub Answers : List ℕ → List PlainProjection → ℕ → ℕ → PlainSession → P → (List PlainAnswer → Type 0) → PlainSession
       → P → Type 0
-  Answers text t by s p says new q =
-      Responds (parse_message text).echo (parse_message text).request t by s p says new q
+  Answers text t by now s p says new q =
+      Responds (parse_message text).echo (parse_message text).request t by now s p says new q
 
 -- what a call did that does so much. After want of memory nothing was done, or all but for what is said
 abbrev pub Handled : {R E S P : Type 0} → Result R E → ((List PlainAnswer → Type 0) → S → P → Type 0)

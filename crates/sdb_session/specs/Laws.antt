@@ -12,15 +12,15 @@ use Rattle.sdb_oplog.specs.Snap.{document}
 use Rattle.sdb_desk.specs.Laws.{queues_kept}
 use Rattle.sdb_desk.specs.Machine.{Machine, Queued, PlainFetched, PlainSubscribed, Decides, start_of, subscribing, subscribing_from, opening as opening_of, with_queues}
 use Rattle.sdb_projection.specs.Table.{PlainProjection}
-use Rattle.sdb_submit.specs.Calls.{Acts, take_next, unsubscribe as unsubscribe_call, subscribe as subscribe_call, snapshot as snapshot_call}
+use Rattle.sdb_submit.specs.Calls.{Acts, take_next, unsubscribe as unsubscribe_call, subscribe as subscribe_call, snapshot as snapshot_call, at_time as at_time_call}
 use Rattle.sdb_submit.specs.Chain.{Calls}
 use Rattle.sdb_submit.specs.Laws.{submits_in_one_step}
-use Rattle.sdb_wire.specs.Wire.{PlainEcho, parse_message, PlainRequest, hello, fetch, subscribe, unsubscribe, submit, snapshot}
+use Rattle.sdb_wire.specs.Wire.{PlainEcho, parse_message, PlainRequest, hello, fetch, subscribe, unsubscribe, submit, snapshot, at_time}
 use Rattle.sdb_wire.specs.Answers.{PlainAnswer, failed}
 use Rattle.sdb_session.specs.Projections.{base_in, through, permits}
 use Rattle.sdb_session.specs.Sessions.{QueueId, PlainSub, PlainSession, queue_of, is_full}
 use Rattle.sdb_session.specs.Written.{pieces_of}
-use Rattle.sdb_session.specs.Handling.{ReadOf, ReplyTo, PlainJoined, respond, submission_of, behind, came, full_code, found_says, listed_says, read_says, reply_says, snapshot_says, joined_response, Fetches, Sends, Refuses, Closes, Begins, Joins, Subscribes, Replies, Responds, Answers}
+use Rattle.sdb_session.specs.Handling.{ReadOf, ReplyTo, PlainJoined, respond, submission_of, behind, came, full_code, found_says, listed_says, read_says, reply_says, snapshot_says, moment_says, joined_response, Fetches, Sends, Refuses, Closes, Begins, Joins, Subscribes, Replies, Responds, Answers}
 use Rattle.sdb_session.specs.Pumps.{PlainTaking, Takes, Pumps, pump_says}
 use Rattle.sdb_session.specs.Dialogue.{alone, State, Transition, Memory, enough, none_before, none_after, opening_at, opened_machine, next_of, after_next, closed_machine, decided_at, joined_at, refused_at, subscribed_at, replied, request_answered, opens, takes_memory, opened_and_closed, memory_wanting, answered_with, message_answered, answered, takings, after_takings, pushed}
 
@@ -165,20 +165,20 @@ module _ {P : Type 0} (machine : P → Machine) where
   abbrev pub IsTransition : Transition → (List PlainAnswer → Type 0) → PlainSession → P → Type 0
   IsTransition x says new q = says x.answers × (state_at q new ≡ x.state)
 
-  abbrev Finds : List PlainProjection → PlainEcho → PlainRequest → PlainSession → P → (List PlainAnswer → Type 0)
+  abbrev Finds : List PlainProjection → PlainEcho → ℕ → PlainRequest → PlainSession → P → (List PlainAnswer → Type 0)
       → PlainSession → P → Type 0
-  Finds t e r s p says new q = (w : Memory) × IsTransition (answered_with w t e (state_at p s) r) says new q
+  Finds t e now r s p says new q = (w : Memory) × IsTransition (answered_with w t e (state_at p s) now r) says new q
 
-  module _ (t : List PlainProjection) (e : PlainEcho) (s : PlainSession) (p : P) (says : List PlainAnswer → Type 0)
-      (new : PlainSession) (q : P) where
+  module _ (t : List PlainProjection) (e : PlainEcho) (now : ℕ) (s : PlainSession) (p : P)
+      (says : List PlainAnswer → Type 0) (new : PlainSession) (q : P) where
     -- a request that found no memory
     wants : (r : PlainRequest) → takes_memory t (state_at p s) r ≡ true → machine q ≡ machine p → new ≡ s
-        → says (failed e E10 ∷ []) → Finds t e r s p says new q
+        → says (failed e E10 ∷ []) → Finds t e now r s p says new q
     wants r h same is said =
         let m = state_at p s in
         let x = memory_wanting e m m.machine in
-        let y = request_answered t e m r in
-        let due : answered_with none_before t e m r ≡ x = ap (λ b. cond b x y) h in (
+        let y = request_answered t e m now r in
+        let due : answered_with none_before t e m now r ≡ x = ap (λ b. cond b x y) h in (
           none_before,
           subst (λ (z : Transition). IsTransition z says new q) (sym due)
               (said, same_state (machine p) (machine q) s new same is),
@@ -190,27 +190,27 @@ module _ {P : Type 0} (machine : P → Machine) where
     -- one that found none when its queue was open
     lates : (k : PlainKey) (v : Option ℕ) → IsOpened k v
         → machine q ≡ opened_and_closed (machine p) (base_in t k) v → new ≡ s → says (failed e E10 ∷ [])
-        → Finds t e (subscribe k v) s p says new q
+        → Finds t e now (subscribe k v) s p says new q
     lates k v h same is said =
         let m = state_at p s in
         let x = memory_wanting e m (opened_and_closed m.machine (base_in t k) v) in
-        let y = request_answered t e m (subscribe k v) in
-        let due : answered_with none_after t e m (subscribe k v) ≡ x = ap (λ b. cond b x y) h in (
+        let y = request_answered t e m now (subscribe k v) in
+        let due : answered_with none_after t e m now (subscribe k v) ≡ x = ap (λ b. cond b x y) h in (
           none_after,
           subst (λ (z : Transition). IsTransition z says new q) (sym due)
               (said, same_state (opened_and_closed (machine p) (base_in t k) v) (machine q) s new same is),
         )
 
     -- one that found enough: the reply is the machine's
-    replies : (r : PlainRequest) (reply : ReplyTo r) → reply ≡ (replied t (state_at p s) r).0
-        → machine q ≡ (replied t (state_at p s) r).1 → new ≡ (respond e t s r reply).session
-        → says (respond e t s r reply).answers → Finds t e r s p says new q
+    replies : (r : PlainRequest) (reply : ReplyTo r) → reply ≡ (replied t (state_at p s) now r).0
+        → machine q ≡ (replied t (state_at p s) now r).1 → new ≡ (respond e t s r reply).session
+        → says (respond e t s r reply).answers → Finds t e now r s p says new q
     replies r reply due after is said =
         let m = state_at p s in (
           enough,
           (
             subst (λ (x : ReplyTo r). says (respond e t s r x).answers) due said,
-            same_state (replied t m r).1 (machine q) (respond e t s r (replied t m r).0).session new after
+            same_state (replied t m now r).1 (machine q) (respond e t s r (replied t m now r).0).session new after
                 (is ∙ ap (λ (x : ReplyTo r). (respond e t s r x).session) due),
           ),
         )
@@ -222,7 +222,7 @@ module _ {P : Type 0} (machine : P → Machine) where
     pass_same h = ap machine h
 
     fetch_said : (k : PlainKey) (v : Option ℕ) (r : ReadOf v) → Fetches (MachineActs (base_in t k)) v p r q → new ≡ s
-        → says (read_says e (through t k) k v r) → Finds t e (fetch k v) s p says new q
+        → says (read_says e (through t k) k v r) → Finds t e now (fetch k v) s p says new q
     fetch_said k None r (inl h, (l, z)) is said =
         wants (fetch k None) h.1 (same_at l z) is
         (subst (λ (x : Result PlainFetched Code). says (found_says e (through t k) k x)) h.0 said)
@@ -235,28 +235,37 @@ module _ {P : Type 0} (machine : P → Machine) where
     snapshot_said : (k : PlainKey) (v : Option ℕ) (n : ℕ) (r : Result PlainFetched Code)
         → Acts alone (machine p) (base_in t k) (snapshot_call v) r (machine q) → new ≡ s
         → says (snapshot_says e (through t k) n r)
-        → Finds t e (snapshot k v n) s p says new q
+        → Finds t e now (snapshot k v n) s p says new q
     snapshot_said k v n r (inl h, (l, z)) is said =
         wants (snapshot k v n) h.1 (same_at l z) is
         (subst (λ (x : Result PlainFetched Code). says (snapshot_says e (through t k) n x)) h.0 said)
     snapshot_said k v n r (inr h, (l, z)) is said = replies (snapshot k v n) r h (same_at l z) is said
+
+    at_time_said : (k : PlainKey) (m : Option ℕ) (n : ℕ) (r : Result PlainFetched Code)
+        → Acts alone (machine p) (base_in t k) (at_time_call m) r (machine q) → new ≡ s
+        → says (moment_says e (through t k) n r)
+        → Finds t e now (at_time k m n) s p says new q
+    at_time_said k m n r (inl h, (l, z)) is said =
+        wants (at_time k m n) h.1 (same_at l z) is
+        (subst (λ (x : Result PlainFetched Code). says (moment_says e (through t k) n x)) h.0 said)
+    at_time_said k m n r (inr h, (l, z)) is said = replies (at_time k m n) r h (same_at l z) is said
 
     -- ---- submissions
 
     abbrev Decided : Bool → PlainKey → PlainSubmission → PlainReply → Type 0
     Decided b k u r =
         ((r ≡ refused E10) × (machine q ≡ machine p) × ((b && deciding_takes_memory ((machine p).logs k) u) ≡ true))
-        ⊎ ((r ≡ (decided_at b (machine p) k u).0) × (machine q ≡ (decided_at b (machine p) k u).1))
+        ⊎ ((r ≡ (decided_at b (machine p) k u now).0) × (machine q ≡ (decided_at b (machine p) k u now).1))
 
     in_one_step : (k : PlainKey) (u : PlainSubmission) (r : PlainReply)
-        → Decides (machine p).logs k u r (machine q).logs × ((machine q).queues ≡ (machine p).queues)
+        → Decides (machine p).logs k u now r (machine q).logs × ((machine q).queues ≡ (machine p).queues)
         → Decided true k u r
     in_one_step k u r (inl h, z) = inl (h.0, same_machine (machine p) (machine q) h.1 z, h.2)
-    in_one_step k u r (inr h, z) = inr (h.0, same_machine (decided_at true (machine p) k u).1 (machine q) h.1 z)
+    in_one_step k u r (inr h, z) = inr (h.0, same_machine (decided_at true (machine p) k u now).1 (machine q) h.1 z)
 
-    decides : (b : Bool) (k : PlainKey) (u : PlainSubmission) (r : PlainReply) → Sends (MachineActs k) b u p r q
+    decides : (b : Bool) (k : PlainKey) (u : PlainSubmission) (r : PlainReply) → Sends (MachineActs k) b u now p r q
         → Decided b k u r
-    decides true k u r h = in_one_step k u r (submits_in_one_step machine alone k u p q r h)
+    decides true k u r h = in_one_step k u r (submits_in_one_step machine alone k u now p q r h)
     decides false k u r h = inr (h.0, pass_same h.1)
 
     abbrev sent : PlainKey → Option ℕ → ℕ → Option (List ℕ) → PlainContent → PlainSubmission
@@ -265,16 +274,16 @@ module _ {P : Type 0} (machine : P → Machine) where
     submit_by : (k : PlainKey) (v : Option ℕ) (n : ℕ) (src : Option (List ℕ)) (c : PlainContent) (r : PlainReply)
         → Decided (permits (through t k) c) (base_in t k) (sent k v n src c) r → new ≡ s
         → says (reply_says e (through t k) k (unwrap_or src s.source) n r)
-        → Finds t e (submit k v n src c) s p says new q
+        → Finds t e now (submit k v n src c) s p says new q
     submit_by k v n src c r (inl h) is said =
         wants (submit k v n src c) h.2 h.1 is
         (subst (λ x. says (reply_says e (through t k) k (unwrap_or src s.source) n x)) h.0 said)
     submit_by k v n src c r (inr h) is said = replies (submit k v n src c) r h.0 h.1 is said
 
     submit_said : (k : PlainKey) (v : Option ℕ) (n : ℕ) (src : Option (List ℕ)) (c : PlainContent) (r : PlainReply)
-        → Sends (MachineActs (base_in t k)) (permits (through t k) c) (sent k v n src c) p r q → new ≡ s
+        → Sends (MachineActs (base_in t k)) (permits (through t k) c) (sent k v n src c) now p r q → new ≡ s
         → says (reply_says e (through t k) k (unwrap_or src s.source) n r)
-        → Finds t e (submit k v n src c) s p says new q
+        → Finds t e now (submit k v n src c) s p says new q
     submit_said k v n src c r h is said =
         submit_by k v n src c r (decides (permits (through t k) c) (base_in t k) (sent k v n src c) r h) is said
 
@@ -282,7 +291,7 @@ module _ {P : Type 0} (machine : P → Machine) where
 
     unsubscribe_said : (k : PlainKey) (r : Unit {0}) → machine q ≡ closed_machine (queue_of k s.subs) (machine p)
         → new ≡ (respond e t s (unsubscribe k) r).session → says (respond e t s (unsubscribe k) r).answers
-        → Finds t e (unsubscribe k) s p says new q
+        → Finds t e now (unsubscribe k) s p says new q
     unsubscribe_said k r after is said = replies (unsubscribe k) r refl after is said
 
     -- ---- queues that are opened
@@ -305,7 +314,7 @@ module _ {P : Type 0} (machine : P → Machine) where
 
     joined_says : (b : Bool) (k : PlainKey) (v : Option ℕ) (r : Result PlainJoined Code) → is_full k s.subs ≡ b
         → Joined b k v r → new ≡ (joined_response e t s k v r).session → says (joined_response e t s k v r).answers
-        → Finds t e (subscribe k v) s p says new q
+        → Finds t e now (subscribe k v) s p says new q
     joined_says b k v r full (inl h) is said =
         let D : Bool → Type 0 = λ x. Due x k v r in
         let d = subst D (sym full) h in
@@ -400,27 +409,28 @@ module _ {P : Type 0} (machine : P → Machine) where
 
     -- ---- all messages
 
-    request_said : (r : PlainRequest) (reply : ReplyTo r) → Replies MachineActs t 0 s r p reply q
-        → new ≡ (respond e t s r reply).session → says (respond e t s r reply).answers → Finds t e r s p says new q
+    request_said : (r : PlainRequest) (reply : ReplyTo r) → Replies MachineActs t 0 now s r p reply q
+        → new ≡ (respond e t s r reply).session → says (respond e t s r reply).answers → Finds t e now r s p says new q
     request_said (hello n) r h is said = replies (hello n) r refl (pass_same h) is said
     request_said (fetch k v) r h is said = fetch_said k v r h is said
     request_said (submit k v n src c) r h is said = submit_said k v n src c r h is said
     request_said (snapshot k v n) r h is said = snapshot_said k v n r h is said
+    request_said (at_time k m n) r h is said = at_time_said k m n r h is said
     request_said (subscribe k v) r h is said =
         joined_says (is_full k s.subs) k v r refl (subscribes (is_full k s.subs) k v r h) is said
     request_said (unsubscribe k) r h is said = unsubscribe_said k r (closes (queue_of k s.subs) p h) is said
 
-    message_said : (r : Result PlainRequest Code) → Responds MachineActs e r t 0 s p says new q
-        → (w : Memory) × IsTransition (message_answered t (state_at p s) w e r) says new q
+    message_said : (r : Result PlainRequest Code) → Responds MachineActs e r t 0 now s p says new q
+        → (w : Memory) × IsTransition (message_answered t (state_at p s) now w e r) says new q
     message_said (Ok r) (reply, (h, is, said)) = request_said r reply h is said
     message_said (Err code) h = (enough, (h.2, same_state (machine p) (machine q) s new (pass_same h.0) h.1))
 
   -- what answers one text is the dialogue's answer
-  pub answers_said : (text : List ℕ) (t : List PlainProjection) (s : PlainSession) (p : P)
-      (says : List PlainAnswer → Type 0) (new : PlainSession) (q : P) → Answers MachineActs text t 0 s p says new q
-      → (w : Memory) × IsTransition (answered t (state_at p s) w (Some text)) says new q
-  answers_said text t s p says new q h =
-      message_said t (parse_message text).echo s p says new q (parse_message text).request h
+  pub answers_said : (text : List ℕ) (t : List PlainProjection) (now : ℕ) (s : PlainSession) (p : P)
+      (says : List PlainAnswer → Type 0) (new : PlainSession) (q : P) → Answers MachineActs text t 0 now s p says new q
+      → (w : Memory) × IsTransition (answered t (state_at p s) now w (Some text)) says new q
+  answers_said text t now s p says new q h =
+      message_said t (parse_message text).echo now s p says new q (parse_message text).request h
 
   -- ---- pumps
 

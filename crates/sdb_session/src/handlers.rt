@@ -1,15 +1,15 @@
 //! The handlers of the requests: the calls of a desk, and the answers.
-ghost use Rattle.std.specs.Prelude.{◌≡◌, ◌<◌, ◌∷◌, [], IfOk, OnOk, Ok, Err, Option, option_map, string_bytes, map};
+ghost use Rattle.std.specs.Prelude.{◌≡◌, ℕ, ◌<◌, ◌∷◌, [], IfOk, OnOk, Ok, Err, Option, option_map, string_bytes, map};
 ghost use Rattle.indexmap.specs.IndexMap.{spare};
 ghost use Rattle.sdb_desk.specs.View.{told_fetched};
 ghost use Rattle.sdb_oplog.specs.Keys.{plain_key};
-ghost use Rattle.sdb_session.specs.Handling.{Closes, Handled, Handles, Begins, Joins, Refuses, found_says, listed_says, opened_says, snapshot_says, submission_of};
+ghost use Rattle.sdb_session.specs.Handling.{Closes, Handled, Handles, Begins, Joins, Refuses, found_says, listed_says, opened_says, snapshot_says, moment_says, submission_of};
 ghost use Rattle.sdb_session.specs.Sessions.{is_full, put, queue_of, with_source, with_sub, without_sub};
 ghost use Rattle.sdb_session.specs.View.{plain_joined, plain_opened, plain_queue, plain_session, plain_through, shown_of, told_came, told_joined, Says, Wrote};
 ghost use Rattle.sdb_value.specs.View.{view};
-ghost use Rattle.sdb_wire.specs.Answers.{fetched, named, snapshot as snapshot_answer, unsubscribed};
+ghost use Rattle.sdb_wire.specs.Answers.{fetched, named, snapshot as snapshot_answer, at_time as moment_answer, unsubscribed};
 ghost use Rattle.sdb_wire.specs.View.{plain_request};
-ghost use Rattle.sdb_wire.specs.Wire.{PlainEcho, fetch, snapshot, submit, subscribe};
+ghost use Rattle.sdb_wire.specs.Wire.{PlainEcho, fetch, snapshot, at_time, submit, subscribe};
 
 use crate::projected::{base_key, base_or, moved_key, permits, seen_document};
 use crate::replies::{refuse, say, say_list, say_opened, say_reply};
@@ -17,7 +17,7 @@ use crate::reply_sink::ReplySink;
 use crate::session::{SUBSCRIPTION_LIMIT, Session};
 use crate::subscriptions::{Joined, Subscription, close, first_count, take};
 use sdb_desk::{Fetched, Subscribed};
-use sdb_oplog::{Code, Content, Entry, Key, Submission};
+use sdb_oplog::{Code, Content, Entry, Key, Moment, Submission};
 use sdb_projection::{Projection, Table};
 use sdb_submit::{Desk, NoGate, submit};
 use sdb_value::Json;
@@ -25,9 +25,10 @@ use sdb_wire::{Answer, Request};
 use serde_json::Value;
 use std::alloc::{AllocError, Global};
 
-// What a message submits: its version, number, source and content.
+// What a message submits, and when: its version, number, source and content.
 #[derive(Drop)]
 pub(crate) struct Sent {
+    pub now: Moment,
     pub version: Option<u64>,
     pub seq: u64,
     pub src: Option<String>,
@@ -42,6 +43,14 @@ pub(crate) struct SnapshotRequest {
     pub id: u64,
 }
 
+// Which document a message asks for, at which moment, and the number that the answer shows again.
+#[derive(Drop)]
+pub(crate) struct MomentRequest {
+    pub key: Key,
+    pub moment: Option<Moment>,
+    pub id: u64,
+}
+
 impl Session {
     // Answers a request.
     pub(crate) fn answer_request<D: Desk, O: ReplySink>(
@@ -51,13 +60,14 @@ impl Session {
         table: &Table,
         message: Option<&Value>,
         request: Request,
+        now: Moment,
         out: &mut O,
     ) -> Result<(), AllocError>
         requires takes { D.takes desk.now pass.old }
         ensures takes { D.takes desk.now pass.new }
         ensures number { D.number desk.now pass.new ≡ D.number desk.now pass.old }
         ensures handled { Handled result
-            (Handles (D.acts desk.now) (shown_of message.entry) table.now (D.number desk.now pass.old)
+            (Handles (D.acts desk.now) (shown_of message.entry) table.now (D.number desk.now pass.old) now
             (plain_session self.old) (plain_request request) pass.old)
             (Wrote O.pieces (O.written out.old) (O.written out.new))
             (plain_session self.old) pass.old (plain_session self.new) pass.new }
@@ -76,6 +86,7 @@ impl Session {
                 content,
             } => {
                 let sent = Sent {
+                    now,
                     version,
                     seq,
                     src,
@@ -86,6 +97,10 @@ impl Session {
             Request::Snapshot { key, version, id } => {
                 let asked = SnapshotRequest { key, version, id };
                 self.snapshot(desk, pass, table, message, asked, out)
+            }
+            Request::AtTime { key, moment, id } => {
+                let asked = MomentRequest { key, moment, id };
+                self.at_time(desk, pass, table, message, asked, out)
             }
             Request::Subscribe { key, version } => {
                 self.subscribe(desk, pass, table, message, key, version, out)
@@ -124,8 +139,8 @@ impl Session {
         requires takes { D.takes desk.now pass.old }
         ensures takes { D.takes desk.now pass.new }
         ensures number { D.number desk.now pass.new ≡ D.number desk.now pass.old }
-        ensures handled { Handled result
-            (Handles (D.acts desk.now) (shown_of message.entry) table.now (D.number desk.now pass.old)
+        ensures handled { (t : ℕ) → Handled result
+            (Handles (D.acts desk.now) (shown_of message.entry) table.now (D.number desk.now pass.old) t
             (plain_session self.now) (fetch (plain_key key.now) version) pass.old)
             (Wrote O.pieces (O.written out.old) (O.written out.new))
             (plain_session self.now) pass.old (plain_session self.now) pass.new }
@@ -149,8 +164,8 @@ impl Session {
         requires takes { D.takes desk.now pass.old }
         ensures takes { D.takes desk.now pass.new }
         ensures number { D.number desk.now pass.new ≡ D.number desk.now pass.old }
-        ensures handled { Handled result
-            (Handles (D.acts desk.now) (shown_of message.entry) table.now (D.number desk.now pass.old)
+        ensures handled { (t : ℕ) → Handled result
+            (Handles (D.acts desk.now) (shown_of message.entry) table.now (D.number desk.now pass.old) t
             (plain_session self.now) (fetch (plain_key key.now) None) pass.old)
             (Wrote O.pieces (O.written out.old) (O.written out.new))
             (plain_session self.now) pass.old (plain_session self.now) pass.new }
@@ -178,8 +193,8 @@ impl Session {
         requires takes { D.takes desk.now pass.old }
         ensures takes { D.takes desk.now pass.new }
         ensures number { D.number desk.now pass.new ≡ D.number desk.now pass.old }
-        ensures handled { Handled result
-            (Handles (D.acts desk.now) (shown_of message.entry) table.now (D.number desk.now pass.old)
+        ensures handled { (t : ℕ) → Handled result
+            (Handles (D.acts desk.now) (shown_of message.entry) table.now (D.number desk.now pass.old) t
             (plain_session self.now) (fetch (plain_key key.now) (Some from)) pass.old)
             (Wrote O.pieces (O.written out.old) (O.written out.new))
             (plain_session self.now) pass.old (plain_session self.now) pass.new }
@@ -211,7 +226,7 @@ impl Session {
         ensures takes { D.takes desk.now pass.new }
         ensures number { D.number desk.now pass.new ≡ D.number desk.now pass.old }
         ensures handled { Handled result
-            (Handles (D.acts desk.now) (shown_of message.entry) table.now (D.number desk.now pass.old)
+            (Handles (D.acts desk.now) (shown_of message.entry) table.now (D.number desk.now pass.old) sent.now
             (plain_session self.now)
             (submit (plain_key key.now) sent.version sent.seq (option_map string_bytes sent.src) sent.content) pass.old)
             (Wrote O.pieces (O.written out.old) (O.written out.new))
@@ -223,8 +238,9 @@ impl Session {
         }
         let moved = moved_key(projection, key)?;
         let base = base_or(&moved, key);
+        let now = sent.now;
         let submission = self.submission(key, sent, desk.by(pass))?;
-        let reply = submit(self.alloc, desk, pass, base, &submission, &NoGate);
+        let reply = submit(self.alloc, desk, pass, base, &submission, now, &NoGate);
         say_reply(
             self.alloc,
             projection,
@@ -246,6 +262,7 @@ impl Session {
             seq,
             src,
             content,
+            ..
         } = sent;
         let src = match src {
             Some(given) => given,
@@ -268,8 +285,8 @@ impl Session {
         requires takes { D.takes desk.now pass.old }
         ensures takes { D.takes desk.now pass.new }
         ensures number { D.number desk.now pass.new ≡ D.number desk.now pass.old }
-        ensures handled { Handled result
-            (Handles (D.acts desk.now) (shown_of message.entry) table.now (D.number desk.now pass.old)
+        ensures handled { (t : ℕ) → Handled result
+            (Handles (D.acts desk.now) (shown_of message.entry) table.now (D.number desk.now pass.old) t
             (plain_session self.now) (snapshot (plain_key asked.key) asked.version asked.id) pass.old)
             (Wrote O.pieces (O.written out.old) (O.written out.new))
             (plain_session self.now) pass.old (plain_session self.now) pass.new }
@@ -280,6 +297,35 @@ impl Session {
         let base = base_or(&moved, &key);
         match desk.snapshot_at(pass, base, version) {
             Ok(found) => say_snapshot(self.alloc, projection, id, found, out),
+            Err(code) => refuse(self.alloc, message, code, out),
+        }
+    }
+
+    // Writes the document at a moment.
+    fn at_time<D: Desk, O: ReplySink>(
+        &self,
+        desk: &D,
+        pass: &mut D::Pass,
+        table: &Table,
+        message: Option<&Value>,
+        asked: MomentRequest,
+        out: &mut O,
+    ) -> Result<(), AllocError>
+        requires takes { D.takes desk.now pass.old }
+        ensures takes { D.takes desk.now pass.new }
+        ensures number { D.number desk.now pass.new ≡ D.number desk.now pass.old }
+        ensures handled { (t : ℕ) → Handled result
+            (Handles (D.acts desk.now) (shown_of message.entry) table.now (D.number desk.now pass.old) t
+            (plain_session self.now) (at_time (plain_key asked.key) asked.moment asked.id) pass.old)
+            (Wrote O.pieces (O.written out.old) (O.written out.new))
+            (plain_session self.now) pass.old (plain_session self.now) pass.new }
+    {
+        let MomentRequest { key, moment, id } = asked;
+        let projection = table.find(key.collection.as_str());
+        let moved = moved_key(projection, &key)?;
+        let base = base_or(&moved, &key);
+        match desk.at_time(pass, base, moment) {
+            Ok(found) => say_moment(self.alloc, projection, id, found, out),
             Err(code) => refuse(self.alloc, message, code, out),
         }
     }
@@ -298,8 +344,8 @@ impl Session {
         requires takes { D.takes desk.now pass.old }
         ensures takes { D.takes desk.now pass.new }
         ensures number { D.number desk.now pass.new ≡ D.number desk.now pass.old }
-        ensures handled { Handled result
-            (Handles (D.acts desk.now) (shown_of message.entry) table.now (D.number desk.now pass.old)
+        ensures handled { (t : ℕ) → Handled result
+            (Handles (D.acts desk.now) (shown_of message.entry) table.now (D.number desk.now pass.old) t
             (plain_session self.old) (subscribe (plain_key key) version) pass.old)
             (Wrote O.pieces (O.written out.old) (O.written out.new))
             (plain_session self.old) pass.old (plain_session self.new) pass.new }
@@ -505,6 +551,38 @@ fn say_document_at<'a, O: ReplySink>(
         (snapshot_answer id version (option_map (λ d. view d.now) document.entry) ∷ [])) }
 {
     let answer = Answer::Snapshot {
+        id,
+        version,
+        document,
+    };
+    say(alloc, &answer, out)
+}
+
+fn say_moment<O: ReplySink>(
+    alloc: Global,
+    projection: Option<&Projection>,
+    id: u64,
+    found: Fetched,
+    out: &mut O,
+) -> Result<(), AllocError>
+    ensures { (e : PlainEcho) → OnOk result (Wrote O.pieces (O.written out.old) (O.written out.new)
+        (moment_says e (plain_through projection.entry) id (told_fetched (Ok found)))) }
+{
+    let document = seen_document(alloc, projection, found.snapshot)?;
+    say_document_then(alloc, id, found.version, document.as_ref(), out)
+}
+
+fn say_document_then<'a, O: ReplySink>(
+    alloc: Global,
+    id: u64,
+    version: u64,
+    document: Option<&'a Json>,
+    out: &mut O,
+) -> Result<(), AllocError>
+    ensures { OnOk result (Wrote O.pieces (O.written out.old) (O.written out.new)
+        (moment_answer id version (option_map (λ d. view d.now) document.entry) ∷ [])) }
+{
+    let answer = Answer::AtTime {
         id,
         version,
         document,

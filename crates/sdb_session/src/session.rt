@@ -11,7 +11,7 @@ use crate::replies::{refuse, say};
 use crate::reply_sink::ReplySink;
 use crate::subscriptions::Subscription;
 use indexmap::IndexMap;
-use sdb_oplog::{Code, Key};
+use sdb_oplog::{Code, Key, Moment};
 use sdb_projection::Table;
 use sdb_submit::Desk;
 use sdb_wire::{Answer, Message, no_echo, parse_message, reply_text};
@@ -83,13 +83,14 @@ impl Session {
         )
     }
 
-    /// The texts that answer one message, in order; see [`Session::handle_to`].
+    /// The texts that answer one message that came at this moment, in order; see [`Session::handle_to`].
     pub fn handle<D: Desk>(
         &mut self,
         desk: &D,
         pass: &mut D::Pass,
         table: &Table,
         text: &str,
+        now: Moment,
     ) -> Result<Vec<String>, Ended>
         requires takes { D.takes desk.now pass.old }
         ensures takes { D.takes desk.now pass.new }
@@ -100,19 +101,20 @@ impl Session {
         ensures asks { has_ended self.old ≡ true →
             (pass.new ≡ pass.old) × (plain_session self.new ≡ plain_session self.old) }
         ensures handled { Handled result
-            (Answers (D.acts desk.now) text.now table.now (D.number desk.now pass.old)
+            (Answers (D.acts desk.now) text.now table.now (D.number desk.now pass.old) now
             (plain_session self.old) pass.old)
             (λ answers. IfOk result (λ texts. map string_bytes texts.items ≡ map answer_text answers))
             (plain_session self.old) pass.old (plain_session self.new) pass.new }
     {
         let mut texts = Vec::new(self.alloc);
-        match self.handle_to(desk, pass, table, text, &mut texts) {
+        match self.handle_to(desk, pass, table, text, now, &mut texts) {
             Ok(_) => Ok(texts),
             Err(ended) => Err(ended),
         }
     }
 
-    /// Writes the answers to one message, in order, and says whether it is a request.
+    /// Writes the answers to one message, in order, and says whether it is a request. What it submits is stored at
+    /// the moment at which it came.
     ///
     /// A message whose call of the desk finds no memory is answered E10 and changes nothing but, where its
     /// queue was open, the next number of queues. Where memory is wanting to read a message, to copy a
@@ -124,6 +126,7 @@ impl Session {
         pass: &mut D::Pass,
         table: &Table,
         text: &str,
+        now: Moment,
         out: &mut O,
     ) -> Result<bool, Ended>
         requires takes { D.takes desk.now pass.old }
@@ -137,7 +140,7 @@ impl Session {
             (pass.new ≡ pass.old) × (plain_session self.new ≡ plain_session self.old) }
         // After an error nothing was done, or all that the message does but for its answers.
         ensures handled { Handled result
-            (Answers (D.acts desk.now) text.now table.now (D.number desk.now pass.old)
+            (Answers (D.acts desk.now) text.now table.now (D.number desk.now pass.old) now
             (plain_session self.old) pass.old)
             (Wrote O.pieces (O.written out.old) (O.written out.new))
             (plain_session self.old) pass.old (plain_session self.new) pass.new }
@@ -145,7 +148,7 @@ impl Session {
         if let Some(ended) = self.ended {
             return Err(ended);
         }
-        match self.answer(desk, pass, table, text, out) {
+        match self.answer(desk, pass, table, text, now, out) {
             Ok(is_request) => Ok(is_request),
             Err(error) => Err(self.end_by(error)),
         }
@@ -157,6 +160,7 @@ impl Session {
         pass: &mut D::Pass,
         table: &Table,
         text: &str,
+        now: Moment,
         out: &mut O,
     ) -> Result<bool, AllocError>
         requires takes { D.takes desk.now pass.old }
@@ -165,7 +169,7 @@ impl Session {
         ensures request { IfOk result (λ b. b ≡ is_ok (parse_message text.now).request) }
         ensures ended { self.new.ended ≡ self.old.ended }
         ensures handled { Handled result
-            (Answers (D.acts desk.now) text.now table.now (D.number desk.now pass.old)
+            (Answers (D.acts desk.now) text.now table.now (D.number desk.now pass.old) now
             (plain_session self.old) pass.old)
             (Wrote O.pieces (O.written out.old) (O.written out.new))
             (plain_session self.old) pass.old (plain_session self.new) pass.new }
@@ -174,7 +178,7 @@ impl Session {
         let message = json.as_ref();
         match request {
             Ok(request) => {
-                self.answer_request(desk, pass, table, message, request, out)?;
+                self.answer_request(desk, pass, table, message, request, now, out)?;
                 Ok(true)
             }
             Err(code) => {

@@ -11,6 +11,7 @@ entry n m =
     record {
       version = n;
       content = m;
+      moment = 0;
       arrived = record { src = codes "x"; seq = n; version = None; content = m; via = codes "b"; by = 0 };
     }
 

@@ -7,36 +7,36 @@ use Rattle.sdb_desk.specs.Machine.{PlainLook, PlainAttempt, decided, moved}
 use Rattle.sdb_submit.specs.Calls.{commit, commit_now}
 use Rattle.sdb_submit.specs.Chain.{Calls, Tries}
 
-module _ {P : Type 0} (acts : Calls P) (s : PlainSubmission) where
+module _ {P : Type 0} (acts : Calls P) (s : PlainSubmission) (now : ℕ) where
   -- the tries that are left lead to this reply
   abbrev pub Left : ℕ → PlainLook → P → PlainReply → P → Type 0
-  Left = Tries acts s
+  Left = Tries acts s now
 
-  pub by_none : (n : ℕ) (l : PlainLook) (p q : P) (r : PlainReply) → n ≡ 0 → acts (commit_now s) p r q → Left n l p r q
+  pub by_none : (n : ℕ) (l : PlainLook) (p q : P) (r : PlainReply) → n ≡ 0 → acts (commit_now s now) p r q → Left n l p r q
   unfolding Tries
-  by_none n l p q r e h = subst (λ (m : ℕ). Tries acts s m l p r q) (sym e) h
+  by_none n l p q r e h = subst (λ (m : ℕ). Tries acts s now m l p r q) (sym e) h
 
   -- the same of a submission that is this one
-  pub by_last : (n : ℕ) (l : PlainLook) (p q : P) (r : PlainReply) (x : PlainSubmission) → n ≡ 0 → x ≡ s → acts (commit_now x) p r q → Left n l p r q
-  by_last n l p q r x e is h = by_none n l p q r e (subst (λ (y : PlainSubmission). acts (commit_now y) p r q) is h)
+  pub by_last : (n : ℕ) (l : PlainLook) (p q : P) (r : PlainReply) (x : PlainSubmission) → n ≡ 0 → x ≡ s → acts (commit_now x now) p r q → Left n l p r q
+  by_last n l p q r x e is h = by_none n l p q r e (subst (λ (y : PlainSubmission). acts (commit_now y now) p r q) is h)
 
-  pub by_unworked : (n k : ℕ) (l : PlainLook) (p q : P) (r : PlainReply) → n ≡ suc k → acts (commit_now s) p r q → Left n l p r q
+  pub by_unworked : (n k : ℕ) (l : PlainLook) (p q : P) (r : PlainReply) → n ≡ suc k → acts (commit_now s now) p r q → Left n l p r q
   unfolding Tries
-  by_unworked n k l p q r e h = subst (λ (m : ℕ). Tries acts s m l p r q) (sym e) (inl h)
+  by_unworked n k l p q r e h = subst (λ (m : ℕ). Tries acts s now m l p r q) (sym e) (inl h)
 
-  pub by_decided : (n k : ℕ) (l : PlainLook) (a : PlainAttempt) (p q : P) (r : PlainReply) → n ≡ suc k → a ≡ record { submission = s; look = l } → acts (commit a) p (decided r) q → r ≢ refused E10 → Left n l p r q
+  pub by_decided : (n k : ℕ) (l : PlainLook) (a : PlainAttempt) (p q : P) (r : PlainReply) → n ≡ suc k → a ≡ record { submission = s; look = l } → acts (commit a now) p (decided r) q → r ≢ refused E10 → Left n l p r q
   unfolding Tries
   by_decided n k l a p q r e is h isnt =
-      subst (λ (m : ℕ). Tries acts s m l p r q) (sym e) (inr (inl (subst (λ (a : PlainAttempt). acts (commit a) p (decided r) q) is h, isnt)))
+      subst (λ (m : ℕ). Tries acts s now m l p r q) (sym e) (inr (inl (subst (λ (a : PlainAttempt). acts (commit a now) p (decided r) q) is h, isnt)))
 
-  pub by_wanting : (n k : ℕ) (l : PlainLook) (a : PlainAttempt) (p o q : P) (r w : PlainReply) → n ≡ suc k → a ≡ record { submission = s; look = l } → acts (commit a) p (decided w) o → w ≡ refused E10 → acts (commit_now s) o r q → Left n l p r q
+  pub by_wanting : (n k : ℕ) (l : PlainLook) (a : PlainAttempt) (p o q : P) (r w : PlainReply) → n ≡ suc k → a ≡ record { submission = s; look = l } → acts (commit a now) p (decided w) o → w ≡ refused E10 → acts (commit_now s now) o r q → Left n l p r q
   unfolding Tries
-  by_wanting n k l a p o q r w e is h wants now =
-      let here : acts (commit (record { submission = s; look = l })) p (decided (refused E10)) o =
-      subst (λ (v : PlainReply). acts (commit (record { submission = s; look = l })) p (decided v) o) wants (subst (λ (a : PlainAttempt). acts (commit a) p (decided w) o) is h) in
-      subst (λ (m : ℕ). Tries acts s m l p r q) (sym e) (inr (inr (inl (o, (here, now)))))
+  by_wanting n k l a p o q r w e is h wants last =
+      let here : acts (commit (record { submission = s; look = l }) now) p (decided (refused E10)) o =
+      subst (λ (v : PlainReply). acts (commit (record { submission = s; look = l }) now) p (decided v) o) wants (subst (λ (a : PlainAttempt). acts (commit a now) p (decided w) o) is h) in
+      subst (λ (m : ℕ). Tries acts s now m l p r q) (sym e) (inr (inr (inl (o, (here, last)))))
 
-  pub by_moved : (n k : ℕ) (l m : PlainLook) (a : PlainAttempt) (p o q : P) (r : PlainReply) → n ≡ suc k → a ≡ record { submission = s; look = l } → acts (commit a) p (moved m) o → Left k m o r q → Left n l p r q
+  pub by_moved : (n k : ℕ) (l m : PlainLook) (a : PlainAttempt) (p o q : P) (r : PlainReply) → n ≡ suc k → a ≡ record { submission = s; look = l } → acts (commit a now) p (moved m) o → Left k m o r q → Left n l p r q
   unfolding Tries
   by_moved n k l m a p o q r e is h t =
-      subst (λ (m : ℕ). Tries acts s m l p r q) (sym e) (inr (inr (inr (m, (o, (subst (λ (a : PlainAttempt). acts (commit a) p (moved m) o) is h, t))))))
+      subst (λ (m : ℕ). Tries acts s now m l p r q) (sym e) (inr (inr (inr (m, (o, (subst (λ (a : PlainAttempt). acts (commit a now) p (moved m) o) is h, t))))))

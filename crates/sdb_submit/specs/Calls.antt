@@ -6,14 +6,15 @@ use Rattle.sdb_oplog.specs.Decide.{PlainReply}
 use Rattle.sdb_oplog.specs.Keys.{PlainKey}
 use Rattle.sdb_oplog.specs.declared.codes.Code.{Code}
 use Rattle.sdb_subscribe.specs.Queue.{queue_at, is_owned}
-use Rattle.sdb_desk.specs.Machine.{PlainLook, PlainAttempt, PlainOutcome, decided, moved, PlainFetched, PlainSubscribed, Machine, Same, look_at, looking_takes_memory, is_filled, has_document, has_version, fetched, operations, snapshot_at, with_queues, closed, Commits, Decides, Reads, Subscribes, Takes}
+use Rattle.sdb_desk.specs.Machine.{PlainLook, PlainAttempt, PlainOutcome, decided, moved, PlainFetched, PlainSubscribed, Machine, Same, look_at, looking_takes_memory, is_filled, has_document, has_version, fetched, operations, snapshot_at, at_moment, with_queues, closed, Commits, Decides, Reads, Subscribes, Takes}
 use Rattle.sdb_desk.specs.View.{plain_look}
 use Rattle.sdb_desk.specs.declared.attempts.Look.{Look}
 
 pub data PlainCall : Type 0 where
   look : PlainSubmission → PlainCall
-  commit : PlainAttempt → PlainCall
-  commit_now : PlainSubmission → PlainCall
+  -- at a moment
+  commit : PlainAttempt → ℕ → PlainCall
+  commit_now : PlainSubmission → ℕ → PlainCall
   -- the present version
   present : PlainCall
   fetch : PlainCall
@@ -21,6 +22,8 @@ pub data PlainCall : Type 0 where
   ops_from : ℕ → PlainCall
   -- at a version, or at the present one
   snapshot : Option ℕ → PlainCall
+  -- at a moment, or at the present version
+  at_time : Option ℕ → PlainCall
   -- the kept snapshots go
   forget : PlainCall
   -- a queue from a version on, or from the present one
@@ -33,12 +36,13 @@ pub data PlainCall : Type 0 where
 -- what each call answers. A look and a take answer none where memory is wanting
 abbrev pub AnswerTo : PlainCall → Type 0
 AnswerTo (look s) = Option PlainLook
-AnswerTo (commit a) = PlainOutcome
-AnswerTo (commit_now s) = PlainReply
+AnswerTo (commit a now) = PlainOutcome
+AnswerTo (commit_now s now) = PlainReply
 AnswerTo present = ℕ
 AnswerTo fetch = Result PlainFetched Code
 AnswerTo (ops_from v) = Result (List PlainEntry) Code
 AnswerTo (snapshot v) = Result PlainFetched Code
+AnswerTo (at_time t) = Result PlainFetched Code
 AnswerTo forget = Unit {0}
 AnswerTo (subscribe v) = Result PlainSubscribed Code
 AnswerTo (take_next n max) = Option (Option (List PlainEntry))
@@ -62,12 +66,13 @@ Looks log s (Some l) = l ≡ look_at log s
 -- changes those of its key
 abbrev pub Acts : ℕ → Machine → PlainKey → (c : PlainCall) → AnswerTo c → Machine → Type 0
 Acts by m k (look s) o new = Looks (m.logs k) s o × Same m new
-Acts by m k (commit a) o new = Commits m.logs k a o new.logs × (new.queues ≡ m.queues)
-Acts by m k (commit_now s) r new = Decides m.logs k s r new.logs × (new.queues ≡ m.queues)
+Acts by m k (commit a now) o new = Commits m.logs k a now o new.logs × (new.queues ≡ m.queues)
+Acts by m k (commit_now s now) r new = Decides m.logs k s now r new.logs × (new.queues ≡ m.queues)
 Acts by m k present v new = (v ≡ length (m.logs k)) × Same m new
 Acts by m k fetch r new = Reads has_document r (Ok (fetched (m.logs k))) × Same m new
 Acts by m k (ops_from v) r new = Reads is_filled r (operations (m.logs k) v) × Same m new
 Acts by m k (snapshot v) r new = Reads has_version r (snapshot_at (m.logs k) v) × Same m new
+Acts by m k (at_time t) r new = Reads has_version r (Ok (at_moment (m.logs k) t)) × Same m new
 Acts by m k forget u new = Same m new
 Acts by m k (subscribe v) r new =
     Subscribes (m.logs k) by v (m.queues k) r (new.queues k)

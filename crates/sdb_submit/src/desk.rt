@@ -4,10 +4,10 @@ ghost use Rattle.sdb_oplog.specs.Keys.{PlainKey, plain_key};
 ghost use Rattle.sdb_desk.specs.Machine.{Keeps, PlainAttempt};
 ghost use Rattle.sdb_desk.specs.View.{plain_look, plain_outcome, told_fetched, told_entries, told_subscribed, told_taken};
 ghost use Rattle.sdb_desk.specs.ReplyView.{plain_reply};
-ghost use Rattle.sdb_submit.specs.Calls.{PlainCall, look, commit, commit_now, present, fetch, ops_from, snapshot, forget, subscribe, take_next, unsubscribe, AnswerTo, IfMoved, told_look};
+ghost use Rattle.sdb_submit.specs.Calls.{PlainCall, look, commit, commit_now, present, fetch, ops_from, snapshot, at_time, forget, subscribe, take_next, unsubscribe, AnswerTo, IfMoved, told_look};
 
 use sdb_desk::{Fetched, Look, Outcome, Reply, Subscribed, Work};
-use sdb_oplog::{Code, Entry, Key, Submission};
+use sdb_oplog::{Code, Entry, Key, Moment, Submission};
 use sdb_subscribe::SubId;
 use std::alloc::AllocError;
 
@@ -45,9 +45,15 @@ pub trait Desk {
             (record { submission = submission.now; look = plain_look l }) pass.new) }
         ensures acts { acts self.now (plain_key key.now) (look submission.now) pass.old (told_look result) pass.new };
 
-    /// Decides the submission of the work, if the log stands as it was looked at. The look is one that the
+    /// Decides the submission of the work at a moment, if the log stands as it was looked at. The look is one that the
     /// pass has seen, as is the one that is shown where the log has moved.
-    fn commit(&self, pass: &mut Self::Pass, key: &Key, work: &mut Work) -> Outcome
+    fn commit(
+        &self,
+        pass: &mut Self::Pass,
+        key: &Key,
+        work: &mut Work,
+        now: Moment,
+    ) -> Outcome
         requires takes { takes self.now pass.old }
         requires by { work.old.submission.by ≡ number self.now pass.old }
         requires looked { looked self.now (plain_key key.now) work.old pass.old }
@@ -56,24 +62,31 @@ pub trait Desk {
         ensures keeps { Keeps (plain_outcome result) work.old work.new }
         ensures looked { IfMoved (plain_outcome result) (λ l. looked self.now (plain_key key.now)
             (record { submission = work.old.submission; look = l }) pass.new) }
-        ensures acts { acts self.now (plain_key key.now) (commit work.old) pass.old (plain_outcome result) pass.new };
+        ensures acts { acts self.now (plain_key key.now) (commit work.old now) pass.old
+            (plain_outcome result) pass.new };
 
-    /// Decides a submission.
-    fn commit_now(&self, pass: &mut Self::Pass, key: &Key, submission: &Submission) -> Reply
+    /// Decides a submission at a moment.
+    fn commit_now(
+        &self,
+        pass: &mut Self::Pass,
+        key: &Key,
+        submission: &Submission,
+        now: Moment,
+    ) -> Reply
         requires takes { takes self.now pass.old }
         requires by { submission.now.by ≡ number self.now pass.old }
         ensures takes { takes self.now pass.new }
         ensures number { number self.now pass.new ≡ number self.now pass.old }
-        ensures acts { acts self.now (plain_key key.now) (commit_now submission.now) pass.old
+        ensures acts { acts self.now (plain_key key.now) (commit_now submission.now now) pass.old
             (plain_reply result) pass.new };
 
-    /// Decides the submission of a work, whatever has been stored since its look: only that is carried over.
-    fn commit_last(&self, pass: &mut Self::Pass, key: &Key, work: Work) -> Reply
+    /// Decides the submission of a work at a moment, whatever has been stored since its look: only that is carried over.
+    fn commit_last(&self, pass: &mut Self::Pass, key: &Key, work: Work, now: Moment) -> Reply
         requires takes { takes self.now pass.old }
         requires by { work.submission.by ≡ number self.now pass.old }
         ensures takes { takes self.now pass.new }
         ensures number { number self.now pass.new ≡ number self.now pass.old }
-        ensures acts { acts self.now (plain_key key.now) (commit_now work.submission) pass.old
+        ensures acts { acts self.now (plain_key key.now) (commit_now work.submission now) pass.old
             (plain_reply result) pass.new };
 
     /// The present version; 0 where there is no document yet. It takes no memory.
@@ -109,6 +122,18 @@ pub trait Desk {
         ensures takes { takes self.now pass.new }
         ensures number { number self.now pass.new ≡ number self.now pass.old }
         ensures acts { acts self.now (plain_key key.now) (snapshot version) pass.old (told_fetched result) pass.new };
+
+    /// The version at a moment, or the present one where none is named, and the document there; or E10.
+    fn at_time(
+        &self,
+        pass: &mut Self::Pass,
+        key: &Key,
+        moment: Option<Moment>,
+    ) -> Result<Fetched, Code>
+        requires { takes self.now pass.old }
+        ensures takes { takes self.now pass.new }
+        ensures number { number self.now pass.new ≡ number self.now pass.old }
+        ensures acts { acts self.now (plain_key key.now) (at_time moment) pass.old (told_fetched result) pass.new };
 
     /// Lets the snapshots go that are kept of the document. It takes no memory.
     fn forget(&self, pass: &mut Self::Pass, key: &Key)

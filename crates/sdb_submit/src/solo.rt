@@ -7,7 +7,7 @@ ghost use Rattle.sdb_submit.specs.Calls.{Acts, forget};
 
 use crate::desk::Desk;
 use sdb_desk::{Fetched, Look, Outcome, Reply, Shard, Subscribed, Work};
-use sdb_oplog::{Code, Entry, Key, Submission};
+use sdb_oplog::{Code, Entry, Key, Moment, Submission};
 use sdb_subscribe::SubId;
 use std::alloc::AllocError;
 
@@ -35,16 +35,22 @@ impl Desk for Solo {
         pass.look(key, submission)
     }
 
-    fn commit(&self, pass: &mut Shard, key: &Key, work: &mut Work) -> Outcome {
-        pass.commit(key, work)
+    fn commit(&self, pass: &mut Shard, key: &Key, work: &mut Work, now: Moment) -> Outcome {
+        pass.commit(key, work, now)
     }
 
-    fn commit_now(&self, pass: &mut Shard, key: &Key, submission: &Submission) -> Reply {
-        pass.commit_now(key, submission)
+    fn commit_now(
+        &self,
+        pass: &mut Shard,
+        key: &Key,
+        submission: &Submission,
+        now: Moment,
+    ) -> Reply {
+        pass.commit_now(key, submission, now)
     }
 
-    fn commit_last(&self, pass: &mut Shard, key: &Key, work: Work) -> Reply {
-        pass.commit_last(key, work)
+    fn commit_last(&self, pass: &mut Shard, key: &Key, work: Work, now: Moment) -> Reply {
+        pass.commit_last(key, work, now)
     }
 
     fn version(&self, pass: &mut Shard, key: &Key) -> u64 {
@@ -66,6 +72,15 @@ impl Desk for Solo {
         version: Option<u64>,
     ) -> Result<Fetched, Code> {
         pass.snapshot_at(key, version)
+    }
+
+    fn at_time(
+        &self,
+        pass: &mut Shard,
+        key: &Key,
+        moment: Option<Moment>,
+    ) -> Result<Fetched, Code> {
+        pass.at_time(key, moment)
     }
 
     fn forget(&self, pass: &mut Shard, key: &Key)

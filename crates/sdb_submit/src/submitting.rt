@@ -9,10 +9,10 @@ ghost use Rattle.sdb_submit.specs.Chain.{Submits};
 use crate::desk::{Desk, Gate};
 use crate::working::next_work;
 use sdb_desk::{Outcome, Reply};
-use sdb_oplog::{Code, Key, Submission};
+use sdb_oplog::{Code, Key, Moment, Submission};
 use std::alloc::Global;
 
-/// Submits: a look, then up to eight tries of work and commit, and at last a commit that decides. A try
+/// Submits at a moment, one for all its tries: a look, then up to eight tries of work and commit, and at last a commit that decides. A try
 /// that found the log moved goes on from there, and the last commit from what was worked till then. Refusals
 /// and repeats are decided at a commit too.
 ///
@@ -25,6 +25,7 @@ pub fn submit<D: Desk, G: Gate>(
     pass: &mut D::Pass,
     key: &Key,
     submission: &Submission,
+    now: Moment,
     gate: &G,
 ) -> Reply
     requires takes { D.takes desk.now pass.old }
@@ -32,21 +33,21 @@ pub fn submit<D: Desk, G: Gate>(
     ensures takes { D.takes desk.now pass.new }
     ensures number { D.number desk.now pass.new ≡ D.number desk.now pass.old }
     ensures chain { let k = plain_key key.now in
-        Submits (D.acts desk.now k) submission.now pass.old (plain_reply result) pass.new }
+        Submits (D.acts desk.now k) submission.now now pass.old (plain_reply result) pass.new }
 {
     let Ok(mut look) = desk.look(pass, key, submission) else {
-        return desk.commit_now(pass, key, submission);
+        return desk.commit_now(pass, key, submission, now);
     };
     let mut last = None;
     for try_no in 1..=8 {
         let Some(mut worked) = next_work(alloc, submission, last, look) else {
-            return desk.commit_now(pass, key, submission);
+            return desk.commit_now(pass, key, submission, now);
         };
         gate.before_commit(try_no);
-        match desk.commit(pass, key, &mut worked) {
+        match desk.commit(pass, key, &mut worked, now) {
             Outcome::Decided(reply) => {
                 if is_wanting(&reply) {
-                    return desk.commit_now(pass, key, submission);
+                    return desk.commit_now(pass, key, submission, now);
                 }
                 return reply;
             }
@@ -57,8 +58,8 @@ pub fn submit<D: Desk, G: Gate>(
         }
     }
     match next_work(alloc, submission, last, look) {
-        Some(worked) => desk.commit_last(pass, key, worked),
-        None => desk.commit_now(pass, key, submission),
+        Some(worked) => desk.commit_last(pass, key, worked, now),
+        None => desk.commit_now(pass, key, submission, now),
     }
 }
 

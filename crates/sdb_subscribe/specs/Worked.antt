@@ -11,6 +11,7 @@ entry n =
     record {
       version = n;
       content = delete;
+      moment = 0;
       arrived = record { src = codes "x"; seq = n; version = None; content = delete; via = codes "b"; by = 0 };
     }
 

@@ -5,7 +5,7 @@ ghost use Rattle.sdb_backend.specs.Passes.{number_of, IsHost, IsPass};
 use crate::parts::{adding, counted, creating, key, stored, submission};
 use sdb_backend::{Audit, Backend, Host, Pass, Refused, Why, submit_shared, take_shared};
 use sdb_desk::Reply;
-use sdb_oplog::{Content, Entry, Key, Log, Submission};
+use sdb_oplog::{Content, Entry, Key, Log, Moment, Submission};
 use sdb_submit::{Desk, Gate, NoGate, submit};
 use sdb_subscribe::SubId;
 use std::alloc::Global;
@@ -78,7 +78,7 @@ fn create<R: Wait + Drop>(
     ensures { IsPass pass.new backend.now }
 {
     let submission = through(rt, alloc, pass, 1, None, creating(rt, alloc));
-    let reply = submit(alloc, backend, pass, key, &submission, &NoGate);
+    let reply = submit(alloc, backend, pass, key, &submission, Moment::first(), &NoGate);
     assert!(rt; stored(&reply) == Some((0, 0)));
 }
 
@@ -94,6 +94,60 @@ fn fetched<R: Wait + Drop>(
 {
     let fetched = backend.fetch(pass, key).expect(rt, "out of memory");
     counted(fetched.snapshot.as_ref())
+}
+
+// Adds one at this moment.
+fn add_at<R: Wait + Drop>(
+    rt: &impl Abort,
+    alloc: Global,
+    backend: &Backend<R>,
+    pass: &mut Pass,
+    key: &Key,
+    (seq, milliseconds): (u64, u64),
+)
+    requires { IsPass pass.old backend.now }
+    ensures { IsPass pass.new backend.now }
+{
+    let submission = through(rt, alloc, pass, seq, None, adding(rt, alloc, 1));
+    let now = Moment::new(milliseconds).expect(rt, "a moment");
+    let reply = submit(alloc, backend, pass, key, &submission, now, &NoGate);
+    assert!(rt; stored(&reply) == Some((seq - 1, 0)));
+}
+
+// The version at a moment, and the number there.
+fn at<R: Wait + Drop>(
+    rt: &impl Abort,
+    backend: &Backend<R>,
+    pass: &mut Pass,
+    key: &Key,
+    moment: Option<Moment>,
+) -> (u64, Option<i64>)
+    requires { IsPass pass.old backend.now }
+    ensures { IsPass pass.new backend.now }
+{
+    let fetched = backend.at_time(pass, key, moment).expect(rt, "out of memory");
+    (fetched.version, counted(fetched.snapshot.as_ref()))
+}
+
+// An old moment is replayed without the lock, the present one is lent whole.
+#[test]
+fn documents_at_moments(rt: HostRuntime) {
+    let alloc = rt.alloc();
+    let Room {
+        backend,
+        first: mut pass,
+        ..
+    } = opened(&rt, alloc, rt);
+    let key = key(&rt, alloc, "1");
+    create(&rt, alloc, &backend, &mut pass, &key);
+    add_at(&rt, alloc, &backend, &mut pass, &key, (2, 100));
+    add_at(&rt, alloc, &backend, &mut pass, &key, (3, 200));
+    let first = at(&rt, &backend, &mut pass, &key, Moment::new(99));
+    let second = at(&rt, &backend, &mut pass, &key, Moment::new(199));
+    let third = at(&rt, &backend, &mut pass, &key, Moment::new(200));
+    let present = at(&rt, &backend, &mut pass, &key, None);
+    assert!(rt; first == (1, Some(0)) && second == (2, Some(1)));
+    assert!(rt; third == (3, Some(2)) && present == third);
 }
 
 // Holds the first try until another submission was answered, for so many turns at most, and notes the
@@ -138,7 +192,7 @@ fn submit_quick<R: Wait + Drop>(
     ensures { IsPass result.0 backend.now }
 {
     wait_for(last, 1);
-    let reply = submit(alloc, backend, &mut pass, key, submission, &NoGate);
+    let reply = submit(alloc, backend, &mut pass, key, submission, Moment::first(), &NoGate);
     answered.store(1, Ordering::SeqCst);
     (pass, stored(&reply))
 }
@@ -158,7 +212,7 @@ fn submit_held<R: Wait + Drop>(
     ensures { IsPass result.0 backend.now }
 {
     let gate = Held { answered, last };
-    let reply = submit(alloc, backend, &mut pass, key, submission, &gate);
+    let reply = submit(alloc, backend, &mut pass, key, submission, Moment::first(), &gate);
     (pass, stored(&reply))
 }
 
@@ -234,7 +288,8 @@ fn edit<R: Wait + Drop>(
     requires by { submission.now.by ≡ number_of pass.old }
     ensures { IsPass pass.new backend.now }
 {
-    let reply = submit(alloc, backend, pass, key, submission, &NoGate);
+    let now = Moment::first();
+    let reply = submit(alloc, backend, pass, key, submission, now, &NoGate);
     let (version, _) = stored(&reply).expect(rt, "stored");
     read_back(rt, backend, pass, key, submission, version);
     reply
@@ -434,7 +489,7 @@ fn store_many<R: Wait + Drop>(
 {
     for seq in 1..=MANY {
         let submission = through(rt, alloc, &pass, seq, None, adding(rt, alloc, 1));
-        let reply = submit_shared(alloc, backend, &mut pass, key, &submission, &NoGate);
+        let reply = submit_shared(alloc, backend, &mut pass, key, &submission, Moment::first(), &NoGate);
         assert!(rt; stored(&reply).is_some(), "{seq}");
     }
     pass

@@ -6,7 +6,7 @@ ghost use Rattle.sdb_upper_tests.specs.Seen.{IsSeen, StaySeen};
 
 use crate::parts::{adds, editing, key, number, stored, submission};
 use sdb_desk::{Attempt, Look, Outcome, Reply, Shard, Subscribed, Work};
-use sdb_oplog::{Code, Content, Entry, Key, Submission};
+use sdb_oplog::{Code, Content, Entry, Key, Moment, Submission};
 use sdb_subscribe::SubId;
 use sdb_value::{Json, Whole};
 use std::alloc::Global;
@@ -110,20 +110,36 @@ impl Board {
         worked(rt, self.alloc, self.attempt(rt, edit))
     }
 
+    // Adds one at this moment, as the first edit of the source.
+    fn put_at(&mut self, rt: &impl Abort, src: &str, milliseconds: u64) {
+        let edit = self.edit(rt, src, None, 1);
+        let reply = self
+            .shard
+            .commit_now(&self.key, &edit, moment(rt, milliseconds));
+        stored(&reply).expect(rt, "out of memory, or not stored");
+    }
+
+    // The version at a moment, and the number there.
+    fn at(&mut self, rt: &impl Abort, at: Option<Moment>) -> (u64, Option<i64>) {
+        let fetched = self.shard.at_time(&self.key, at).expect(rt, "out of memory");
+        (fetched.version, number(fetched.snapshot.as_ref()))
+    }
+
     fn commit_now(&mut self, submission: Submission) -> Reply
         ensures { StaySeen (plain_key self.old.key) self.old.shard (plain_key self.new.key) self.new.shard }
     {
-        self.shard.commit_now(&self.key, &submission)
+        self.shard
+            .commit_now(&self.key, &submission, Moment::first())
     }
 
     fn commit(&mut self, mut work: Work) -> Outcome
         requires { IsSeen (plain_key self.old.key) self.old.shard work }
     {
-        self.shard.commit(&self.key, &mut work)
+        self.shard.commit(&self.key, &mut work, Moment::first())
     }
 
     fn commit_last(&mut self, work: Work) -> Reply {
-        self.shard.commit_last(&self.key, work)
+        self.shard.commit_last(&self.key, work, Moment::first())
     }
 
     // The version, and the number there.
@@ -131,6 +147,10 @@ impl Board {
         let fetched = self.shard.fetch(&self.key).expect(rt, "out of memory");
         (fetched.version, number(fetched.snapshot.as_ref()))
     }
+}
+
+fn moment(rt: &impl Abort, milliseconds: u64) -> Moment {
+    Moment::new(milliseconds).expect(rt, "a moment")
 }
 
 pub(crate) fn worked(rt: &impl Abort, alloc: Global, attempt: Attempt) -> Work
@@ -169,6 +189,22 @@ fn moved(outcome: &Outcome) -> Option<(u64, usize)> {
         Outcome::Decided(_) => None,
         Outcome::Moved(look) => Some((look.version, look.missed.len())),
     }
+}
+
+// The document is made at 0. Two edits have one moment, and the one of a moment below has it too.
+#[test]
+fn documents_at_moments(rt: HostRuntime) {
+    let mut board = Board::new(&rt, rt.alloc());
+    for (src, milliseconds) in [("x", 100), ("y", 90), ("z", 200)] {
+        board.put_at(&rt, src, milliseconds);
+    }
+    for (milliseconds, version) in [(0, 1), (99, 1), (100, 3), (199, 3), (200, 4), (201, 4)] {
+        let there = board.at(&rt, Some(moment(&rt, milliseconds)));
+        assert!(rt; there == (version, Some(version as i64 - 1)), "at {milliseconds}");
+    }
+    assert!(rt; board.at(&rt, None) == (4, Some(3)));
+    board.key = key(&rt, rt.alloc(), "none");
+    assert!(rt; board.at(&rt, Some(moment(&rt, 5))) == (0, None));
 }
 
 #[test]
@@ -429,8 +465,10 @@ fn a_queue_is_known_under_its_number(rt: HostRuntime) {
 fn a_work_is_stored_once(rt: HostRuntime) {
     let mut board = Board::new(&rt, rt.alloc());
     let mut work = board.work(&rt, "x", 1, 5);
-    assert!(rt; decided(&board.shard.commit(&board.key, &mut work)) == Some((1, 0)));
-    let second = board.shard.commit_now(&board.key, work.submission());
+    assert!(rt; decided(&board.shard.commit(&board.key, &mut work, Moment::first())) == Some((1, 0)));
+    let second = board
+        .shard
+        .commit_now(&board.key, work.submission(), Moment::first());
     assert!(rt; repeated(&second) == Some(1));
     assert!(rt; board.present(&rt) == (2, Some(5)));
 }

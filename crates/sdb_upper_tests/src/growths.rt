@@ -10,7 +10,7 @@ use crate::projection::titles;
 use crate::session::{FETCH, Room, SUBSCRIBE, named};
 use sdb_component::{Act, Component};
 use sdb_desk::{Outcome, Reply, Subscribed, Work};
-use sdb_oplog::{Code, Content, Submission};
+use sdb_oplog::{Code, Content, Moment, Submission};
 use sdb_projection::{Table, TableFault};
 use sdb_session::Session;
 use sdb_submit::Solo;
@@ -88,7 +88,7 @@ fn commit(board: &mut Board, work: &mut Work) -> Answered
     requires { IsSeen (plain_key board.old.key) board.old.shard work.old }
     ensures { IfNone result (IsSeen (plain_key board.new.key) board.new.shard work.new) }
 {
-    match board.shard.commit(&board.key, work) {
+    match board.shard.commit(&board.key, work, Moment::first()) {
         Outcome::Decided(Reply::Stored { v, missed }) => Some((v, missed.len())),
         Outcome::Decided(Reply::Repeat { .. }) => None,
         Outcome::Decided(Reply::Refused(_)) => None,
@@ -151,7 +151,7 @@ fn a_commit_to_a_log_that_has_moved(rt: HostRuntime) {
 }
 
 fn commit_now(board: &mut Board, submission: &Submission) -> Answered {
-    stored(&board.shard.commit_now(&board.key, submission))
+    stored(&board.shard.commit_now(&board.key, submission, Moment::first()))
 }
 
 // Commits in one step between marks, and once more where there was no memory and all was as before then.
@@ -190,7 +190,7 @@ fn commit_last_again(rt: &impl Abort, board: &mut Board, work: Work) -> Answered
     let submission = work.submission().try_clone().expect(rt, "out of memory");
     let before = present(rt, board);
     mark(rt, board.alloc);
-    let first = stored(&board.shard.commit_last(&board.key, work));
+    let first = stored(&board.shard.commit_last(&board.key, work, Moment::first()));
     mark(rt, board.alloc);
     if first.is_some() {
         return first;
@@ -304,7 +304,7 @@ fn a_projection(rt: HostRuntime) {
 // Whether the session has ended by a message.
 fn ends(session: &mut Session, room: &mut Room, message: &str) -> bool {
     session
-        .handle(&Solo, &mut room.shard, &room.table, message)
+        .handle(&Solo, &mut room.shard, &room.table, message, Moment::first())
         .is_err()
 }
 

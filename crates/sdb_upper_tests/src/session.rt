@@ -2,6 +2,7 @@
 //! end closes its queues is in the tests of the server.
 use crate::parts::text;
 use sdb_desk::Shard;
+use sdb_oplog::Moment;
 use sdb_projection::Table;
 use sdb_session::Session;
 use sdb_submit::Solo;
@@ -29,7 +30,7 @@ impl Room {
 
     // Whether the message is answered by this text alone.
     fn answers(&mut self, session: &mut Session, text: &str, wanted: &str) -> bool {
-        match session.handle(&Solo, &mut self.shard, &self.table, text) {
+        match session.handle(&Solo, &mut self.shard, &self.table, text, Moment::first()) {
             Ok(texts) => matches!(texts.as_slice(), [only] if only.as_str() == wanted),
             Err(_) => false,
         }

@@ -10,7 +10,7 @@ ghost use Rattle.sdb_upper_tests.specs.Seen.{StaySeen};
 
 use crate::parts::{adding, counted, creating, key, stored, submission};
 use sdb_desk::{Fetched, Look, Outcome, Reply, Shard, Subscribed, Work};
-use sdb_oplog::{Code, Entry, Key, Submission};
+use sdb_oplog::{Code, Entry, Key, Moment, Submission};
 use sdb_submit::{Desk, Gate, Solo, submit};
 use sdb_subscribe::SubId;
 use std::alloc::{AllocError, Global};
@@ -55,7 +55,7 @@ impl Shared {
         ensures { StaySeen (plain_key key.now) self.old.shard (plain_key key.now) self.new.shard }
     {
         if let Some(other) = self.others.pop() {
-            let _ = self.shard.commit_now(key, &other);
+            let _ = self.shard.commit_now(key, &other, Moment::first());
         }
     }
 }
@@ -82,17 +82,23 @@ impl Desk for Meddling {
         pass.shard.look(key, submission)
     }
 
-    fn commit(&self, pass: &mut Shared, key: &Key, work: &mut Work) -> Outcome {
+    fn commit(&self, pass: &mut Shared, key: &Key, work: &mut Work, now: Moment) -> Outcome {
         pass.meddle(key);
-        pass.shard.commit(key, work)
+        pass.shard.commit(key, work, now)
     }
 
-    fn commit_now(&self, pass: &mut Shared, key: &Key, submission: &Submission) -> Reply {
-        pass.shard.commit_now(key, submission)
+    fn commit_now(
+        &self,
+        pass: &mut Shared,
+        key: &Key,
+        submission: &Submission,
+        now: Moment,
+    ) -> Reply {
+        pass.shard.commit_now(key, submission, now)
     }
 
-    fn commit_last(&self, pass: &mut Shared, key: &Key, work: Work) -> Reply {
-        pass.shard.commit_last(key, work)
+    fn commit_last(&self, pass: &mut Shared, key: &Key, work: Work, now: Moment) -> Reply {
+        pass.shard.commit_last(key, work, now)
     }
 
     fn version(&self, pass: &mut Shared, key: &Key) -> u64 {
@@ -114,6 +120,15 @@ impl Desk for Meddling {
         version: Option<u64>,
     ) -> Result<Fetched, Code> {
         pass.shard.snapshot_at(key, version)
+    }
+
+    fn at_time(
+        &self,
+        pass: &mut Shared,
+        key: &Key,
+        moment: Option<Moment>,
+    ) -> Result<Fetched, Code> {
+        pass.shard.at_time(key, moment)
     }
 
     fn forget(&self, pass: &mut Shared, key: &Key) {
@@ -159,7 +174,7 @@ fn hundred(rt: &impl Abort, alloc: Global) -> Submission
 fn started(rt: &impl Abort, alloc: Global, key: &Key) -> Shard {
     let mut shard = Shard::new(alloc);
     let create = submission(rt, alloc, "w", 0, None, creating(rt, alloc), 0);
-    drop(shard.commit_now(key, &create));
+    drop(shard.commit_now(key, &create, Moment::first()));
     shard
 }
 
@@ -178,7 +193,15 @@ fn one_caller_commits_once(rt: HostRuntime) {
     let key = key(&rt, rt.alloc(), "1");
     let mut shard = started(&rt, rt.alloc(), &key);
     let (submission, gate) = (hundred(&rt, rt.alloc()), Tries::new());
-    let reply = submit(rt.alloc(), &Solo, &mut shard, &key, &submission, &gate);
+    let reply = submit(
+        rt.alloc(),
+        &Solo,
+        &mut shard,
+        &key,
+        &submission,
+        Moment::first(),
+        &gate,
+    );
     assert!(rt; stored(&reply) == Some((1, 0)));
     assert!(rt; gate.digits.get() == 1);
 }
@@ -192,7 +215,8 @@ fn with_others(rt: &impl Abort, alloc: Global, key: &Key) -> Shared {
 
 // What is answered to the submission, where others store before each try.
 fn submitted(rt: &impl Abort, alloc: Global, pass: &mut Shared, key: &Key, gate: &Tries) -> Reply {
-    submit(alloc, &Meddling, pass, key, &hundred(rt, alloc), gate)
+    let now = Moment::first();
+    submit(alloc, &Meddling, pass, key, &hundred(rt, alloc), now, gate)
 }
 
 // The version, and the number at `n`.

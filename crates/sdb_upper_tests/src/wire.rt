@@ -1,7 +1,7 @@
 //! `sdb_wire`: what no program calls, and what none of their lines can show. All else is in the lines of the
 //! two programs.
 use crate::parts::{submission, text};
-use sdb_oplog::{Code, Content, Entry};
+use sdb_oplog::{Code, Content, Entry, Moment};
 use sdb_value::Json;
 use sdb_wire::{
     Answer, Echo, MESSAGE_LIMIT, Request, entry_value, no_echo, read_content, read_message,
@@ -71,7 +71,7 @@ fn errors_are_told(rt: HostRuntime) {
 // Whether what is stored at version 4 of submission 7 from x is this value.
 fn is_shown(rt: &impl Abort, alloc: Global, content: Content, wanted: &str) -> bool {
     let arrived = submission(rt, alloc, "x", 7, None, content, 7);
-    let value = entry_value(alloc, &Entry::new(4, None, arrived)).expect(rt, "out of memory");
+    let value = entry_value(alloc, &Entry::new(4, Moment::first(), None, arrived)).expect(rt, "out of memory");
     value.to_string(alloc).expect(rt, "out of memory").as_str() == wanted
 }
 

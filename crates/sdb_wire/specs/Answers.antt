@@ -29,6 +29,8 @@ pub data PlainAnswer : Type 0 where
   unsubscribed : PlainKey → PlainAnswer
   -- the number of the request, a version, and the document there
   snapshot : ℕ → ℕ → Option Value → PlainAnswer
+  -- the same, to a request that names a moment
+  at_time : ℕ → ℕ → Option Value → PlainAnswer
   -- a stored operation
   op_message : PlainKey → PlainEntry → PlainAnswer
   -- a submission of this source and number is stored at this version
@@ -124,7 +126,7 @@ entry_data e = object (entry_members e e.content)
 
 -- an entry that shows this content in place of its own
 abbrev pub with_content : PlainEntry → PlainContent → PlainEntry
-with_content e m = record { version = e.version; content = m; arrived = e.arrived }
+with_content e m = record { version = e.version; moment = e.moment; content = m; arrived = e.arrived }
 
 -- ---- answers that differ by their word
 
@@ -149,6 +151,19 @@ key_data a k = object (
     (member (codes "c") (string k.collection)
     (member (codes "d") (string k.id) no_members)))
 
+abbrev pub version_data : List ℕ → ℕ → ℕ → Option Value → Data
+version_data a n v None = object (
+    member (codes "a") (string a)
+    (member (codes "id") (number (unsigned n))
+    (member (codes "type") null
+    (member (codes "v") (number (unsigned v)) no_members))))
+version_data a n v (Some d) = object (
+    member (codes "a") (string a)
+    (member (codes "data") (to_data d)
+    (member (codes "id") (number (unsigned n))
+    (member (codes "type") type_data
+    (member (codes "v") (number (unsigned v)) no_members)))))
+
 -- ---- answers
 
 abbrev pub answer_data : PlainAnswer → Data
@@ -159,17 +174,8 @@ answer_data (listed k) = key_data (codes "f") k
 answer_data (subscribed k v d) = document_data (codes "s") k v d
 answer_data (caught_up k) = key_data (codes "s") k
 answer_data (unsubscribed k) = key_data (codes "u") k
-answer_data (snapshot n v None) = object (
-    member (codes "a") (string (codes "nf"))
-    (member (codes "id") (number (unsigned n))
-    (member (codes "type") null
-    (member (codes "v") (number (unsigned v)) no_members))))
-answer_data (snapshot n v (Some d)) = object (
-    member (codes "a") (string (codes "nf"))
-    (member (codes "data") (to_data d)
-    (member (codes "id") (number (unsigned n))
-    (member (codes "type") type_data
-    (member (codes "v") (number (unsigned v)) no_members)))))
+answer_data (snapshot n v d) = version_data (codes "nf") n v d
+answer_data (at_time n v d) = version_data (codes "nt") n v d
 answer_data (op_message k e) = object (
     member (codes "a") (string (codes "op"))
     (content_members k e.content (op_tail e)))

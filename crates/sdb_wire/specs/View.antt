@@ -8,14 +8,14 @@ use Rattle.sdb_value.specs.View.{view}
 use Rattle.sdb_oplog.specs.Keys.{plain_key}
 use Rattle.sdb_oplog.specs.declared.codes.Code.{Code}
 use Rattle.sdb_oplog.specs.declared.codes.Code.TheVariants.{E10}
-use Rattle.sdb_wire.specs.Wire.{PlainRequest, hello, fetch, subscribe, unsubscribe, submit, snapshot as asks_snapshot, PlainEcho, said, nothing_said, PlainWord, text, count, PlainBadMessage, with_echo, message_of, PlainMessage}
-use Rattle.sdb_wire.specs.Answers.{PlainAnswer, init, named, fetched, listed, subscribed, caught_up, unsubscribed, snapshot, op_message, with_content, acknowledged, failed}
+use Rattle.sdb_wire.specs.Wire.{PlainRequest, hello, fetch, subscribe, unsubscribe, submit, snapshot as asks_snapshot, at_time as asks_at_time, PlainEcho, said, nothing_said, PlainWord, text, count, PlainBadMessage, with_echo, message_of, PlainMessage}
+use Rattle.sdb_wire.specs.Answers.{PlainAnswer, init, named, fetched, listed, subscribed, caught_up, unsubscribed, snapshot, at_time, op_message, with_content, acknowledged, failed}
 use Rattle.sdb_wire.specs.declared.requests.Word.{Word}
 use Rattle.sdb_wire.specs.declared.requests.Word.TheVariants.{Text, Count}
 use Rattle.sdb_wire.specs.declared.requests.Echo.{Echo}
 use Rattle.sdb_wire.specs.declared.requests.BadMessage.{BadMessage}
 use Rattle.sdb_wire.specs.declared.requests.Request.{Request}
-use Rattle.sdb_wire.specs.declared.requests.Request.TheVariants.{Hello, Fetch, Subscribe, Unsubscribe, Submit, Snapshot}
+use Rattle.sdb_wire.specs.declared.requests.Request.TheVariants.{Hello, Fetch, Subscribe, Unsubscribe, Submit, Snapshot, AtTime}
 use Rattle.sdb_wire.specs.declared.requests.Message.{Message}
 use Rattle.sdb_wire.specs.declared.requests.Answer.{Answer}
 use Rattle.sdb_wire.specs.declared.requests.Answer.TheVariants.{Init, Named, Fetched, Listed, Subscribed, CaughtUp, Unsubscribed, OpMessage, Acknowledged, Failed}
@@ -42,6 +42,7 @@ plain_request (Subscribe k v) = subscribe (plain_key k) v
 plain_request (Unsubscribe k) = unsubscribe (plain_key k)
 plain_request (Submit k v n s m) = submit (plain_key k) v n (option_map string_bytes s) m
 plain_request (Snapshot k v n) = asks_snapshot (plain_key k) v n
+plain_request (AtTime k t n) = asks_at_time (plain_key k) t n
 
 abbrev pub asked : Result Request Code → Result PlainRequest Code
 asked (Ok r) = Ok (plain_request r)
@@ -63,6 +64,7 @@ plain_answer (Subscribed k v d) = subscribed (plain_key k.now) v (option_map (λ
 plain_answer (CaughtUp k) = caught_up (plain_key k.now)
 plain_answer (Unsubscribed k) = unsubscribed (plain_key k.now)
 plain_answer (answer.Snapshot n v d) = snapshot n v (option_map (λ j. view j.now) d)
+plain_answer (answer.AtTime n v d) = at_time n v (option_map (λ j. view j.now) d)
 plain_answer (OpMessage k e c) = op_message (plain_key k.now) (with_content e.now c.now)
 plain_answer (Acknowledged k src seq v) = acknowledged (plain_key k.now) src.now seq v
 plain_answer (Failed echo code) = failed (plain_echo echo.now) code

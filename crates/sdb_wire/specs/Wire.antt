@@ -116,6 +116,8 @@ pub data PlainRequest : Type 0 where
   submit : PlainKey → Option ℕ → ℕ → Option (List ℕ) → PlainContent → PlainRequest
   -- the document at a version, or the present one, and the number that the answer shows again
   snapshot : PlainKey → Option ℕ → ℕ → PlainRequest
+  -- the document at a moment, or the present one, and the number that the answer shows again
+  at_time : PlainKey → Option ℕ → ℕ → PlainRequest
 
 abbrev pub key_of : Data → Result PlainKey Code
 key_of d =
@@ -152,6 +154,13 @@ snapshot_of d =
     (may count_of (present (codes "v") d)))
     (key_of d)
 
+abbrev pub at_time_of : Data → Result PlainRequest Code
+at_time_of d =
+    result_then (λ k. result_then (λ t. result_then (λ n. Ok (at_time k t n))
+    (ok_or (count_at (codes "id") d) E1))
+    (may count_of (present (codes "ts") d)))
+    (key_of d)
+
 abbrev pub message_of : Data → Result PlainRequest Code
 message_of d =
     option_map_or
@@ -160,7 +169,8 @@ message_of d =
     else (if bytes_eq a (codes "s") then subscribe_of d
     else (if bytes_eq a (codes "u") then unsubscribe_of d
     else (if bytes_eq a (codes "op") then submit_of d
-    else (if bytes_eq a (codes "nf") then snapshot_of d else Err E1))))))
+    else (if bytes_eq a (codes "nf") then snapshot_of d
+    else (if bytes_eq a (codes "nt") then at_time_of d else Err E1)))))))
     (name_at (codes "a") d) (Err E1)
 
 -- ---- texts

@@ -10,7 +10,7 @@ ghost use Rattle.sdb_wire.specs.Wire.{as_name, as_word, count_at, name_at, word_
 ghost use Rattle.sdb_wire.specs.View.{plain_word, plain_echo};
 
 use crate::requests::{Echo, NAME_LIMIT, Word};
-use sdb_oplog::Code;
+use sdb_oplog::{Code, Moment};
 use sdb_value::count_of;
 use serde_json::Value;
 use std::alloc::{AllocError, Global};
@@ -80,6 +80,26 @@ pub fn may_count(value: &Value, key: &str) -> Result<Option<u64>, Code>
         None => Ok(None),
         Some(member) => match count_of(member) {
             Some(n) => Ok(Some(n)),
+            None => Err(Code::E1),
+        },
+    }
+}
+
+/// The moment of so many milliseconds as a JSON value says: a whole number from 0 to 9007199254740991.
+pub fn moment_of(value: &Value) -> Option<Moment>
+    ensures { result ≡ count_of (data_view value.now) }
+{
+    Moment::new(count_of(value)?)
+}
+
+/// A moment that may be absent or null. E1 where it is none of these.
+pub fn may_moment(value: &Value, key: &str) -> Result<Option<Moment>, Code>
+    ensures { result ≡ may count_of (present key.now (data_view value.now)) }
+{
+    match present(value, key) {
+        None => Ok(None),
+        Some(member) => match moment_of(member) {
+            Some(moment) => Ok(Some(moment)),
             None => Err(Code::E1),
         },
     }

@@ -3,11 +3,11 @@ ghost use Rattle.std.specs.Prelude.{◌≡◌, ◌⊎◌, Ok, IfOk, IfErr, optio
 ghost use Rattle.serde_json.specs.View.{view as data_view};
 ghost use Rattle.sdb_oplog.specs.Keys.{plain_key};
 ghost use Rattle.sdb_oplog.specs.Refused.{RefusedBy};
-ghost use Rattle.sdb_wire.specs.Wire.{key_of, hello_of, fetch_of, subscribe_of, unsubscribe_of, submit_of, snapshot_of, message_of, content_of, is_deletion, creation, created, edition, wire, parse_message, value_of, echo_of, said, nothing_said};
+ghost use Rattle.sdb_wire.specs.Wire.{key_of, hello_of, fetch_of, subscribe_of, unsubscribe_of, submit_of, snapshot_of, at_time_of, message_of, content_of, is_deletion, creation, created, edition, wire, parse_message, value_of, echo_of, said, nothing_said};
 ghost use Rattle.sdb_wire.specs.View.{plain_request, plain_echo, plain_message, echo_from, IsFault, IsFaultOf};
 
 use crate::codes::refusal;
-use crate::members::{count_at, may_count, may_name, name_at, need_name, present, said};
+use crate::members::{count_at, may_count, may_moment, may_name, name_at, need_name, present, said};
 use crate::requests::{BadMessage, Echo, MESSAGE_LIMIT, Message, Request, TYPE};
 use sdb_component::read_op;
 use sdb_oplog::{Code, Content, Key};
@@ -129,6 +129,7 @@ fn message_of(alloc: Global, value: &Value) -> Result<Request, Code>
         Some("u") => unsubscribe_of(alloc, value),
         Some("op") => submit_of(alloc, value),
         Some("nf") => snapshot_of(alloc, value),
+        Some("nt") => at_time_of(alloc, value),
         _ => Err(Code::E1),
     }
 }
@@ -215,6 +216,20 @@ fn snapshot_of(alloc: Global, value: &Value) -> Result<Request, Code>
         return Err(Code::E1);
     };
     Ok(Request::Snapshot { key, version, id })
+}
+
+fn at_time_of(alloc: Global, value: &Value) -> Result<Request, Code>
+    ensures ok { IfOk result (λ r. at_time_of (data_view value.now) ≡ Ok (plain_request r)) }
+    ensures err { IfErr result (λ code. RefusedBy (at_time_of (data_view value.now)) code) }
+{
+    let key = key_of(alloc, value)?;
+    let Ok(moment) = may_moment(value, "ts") else {
+        return Err(Code::E1);
+    };
+    let Some(id) = count_at(value, "id") else {
+        return Err(Code::E1);
+    };
+    Ok(Request::AtTime { key, moment, id })
 }
 
 /// The one content of a message: an operation, a create or a delete. Another number of them is E1, as

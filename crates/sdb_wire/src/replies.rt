@@ -7,7 +7,7 @@ ghost use Rattle.serde_json.specs.Data.{Members};
 ghost use Rattle.sdb_value.specs.Printed.{data_tokens, object_rest};
 ghost use Rattle.sdb_value.specs.View.{view};
 ghost use Rattle.sdb_oplog.specs.Keys.{plain_key};
-ghost use Rattle.sdb_wire.specs.Answers.{answer_text, answer_tokens, greeting_data, document_data, key_data, snapshot, op_message, with_content, acknowledged, failed, snapshot_data, create_data, content_members, entry_data, entry_members, op_tail, error_data, some_member};
+ghost use Rattle.sdb_wire.specs.Answers.{answer_text, answer_tokens, greeting_data, document_data, version_data, key_data, op_message, with_content, acknowledged, failed, snapshot_data, create_data, content_members, entry_data, entry_members, op_tail, error_data, some_member};
 ghost use Rattle.sdb_wire.specs.View.{plain_answer, plain_echo, plain_word};
 
 use crate::codes::{code_name, code_text};
@@ -82,7 +82,12 @@ fn write_answer(answer: &Answer<'_>, out: &mut Writer) -> Result<(), AllocError>
             id,
             version,
             document,
-        } => write_snapshot_at(*id, *version, *document, out),
+        } => write_snapshot_at("nf", *id, *version, *document, out),
+        Answer::AtTime {
+            id,
+            version,
+            document,
+        } => write_snapshot_at("nt", *id, *version, *document, out),
         Answer::OpMessage {
             key,
             entry,
@@ -199,33 +204,36 @@ fn write_key(kind: &str, key: &Key, out: &mut Writer) -> Result<(), AllocError>
 
 // The document at a version, or that there is none.
 fn write_snapshot_at(
+    word: &str,
     id: u64,
     version: u64,
     document: Option<&Json>,
     out: &mut Writer,
 ) -> Result<(), AllocError>
     ensures tokens { OnOk result (out.new.tokens
-        ≡ out.old.tokens ++ answer_tokens (snapshot id version (option_map (λ d. view d.now) document.entry))) }
+        ≡ out.old.tokens ++ data_tokens
+        (version_data word.now id version (option_map (λ d. view d.now) document.entry))) }
     ensures before { out.new.before ≡ out.old.before }
 {
     match document {
-        Some(json) => write_document_at(id, version, json, out),
-        None => write_nothing_at(id, version, out),
+        Some(json) => write_document_at(word, id, version, json, out),
+        None => write_nothing_at(word, id, version, out),
     }
 }
 
 fn write_document_at(
+    word: &str,
     id: u64,
     version: u64,
     document: &Json,
     out: &mut Writer,
 ) -> Result<(), AllocError>
     ensures tokens { OnOk result (out.new.tokens
-        ≡ out.old.tokens ++ answer_tokens (snapshot id version (Some (view document.now)))) }
+        ≡ out.old.tokens ++ data_tokens (version_data word.now id version (Some (view document.now)))) }
     ensures before { out.new.before ≡ out.old.before }
 {
     out.begin_object()?;
-    write_text("a", "nf", out)?;
+    write_text("a", word, out)?;
     out.key("data")?;
     write_value(document, out)?;
     write_count("id", id, out)?;
@@ -234,12 +242,18 @@ fn write_document_at(
     out.end_object()
 }
 
-fn write_nothing_at(id: u64, version: u64, out: &mut Writer) -> Result<(), AllocError>
-    ensures tokens { OnOk result (out.new.tokens ≡ out.old.tokens ++ answer_tokens (snapshot id version None)) }
+fn write_nothing_at(
+    word: &str,
+    id: u64,
+    version: u64,
+    out: &mut Writer,
+) -> Result<(), AllocError>
+    ensures tokens { OnOk result (out.new.tokens ≡
+        out.old.tokens ++ data_tokens (version_data word.now id version None)) }
     ensures before { out.new.before ≡ out.old.before }
 {
     out.begin_object()?;
-    write_text("a", "nf", out)?;
+    write_text("a", word, out)?;
     write_count("id", id, out)?;
     out.key("type")?;
     out.null()?;

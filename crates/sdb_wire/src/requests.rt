@@ -1,5 +1,5 @@
 //! What a message asks, and what an error shows of it.
-use sdb_oplog::{Code, Content, Entry, Key};
+use sdb_oplog::{Code, Content, Entry, Key, Moment};
 use sdb_value::Json;
 use serde_json::Value;
 
@@ -68,6 +68,12 @@ pub enum Request {
         version: Option<u64>,
         id: u64,
     },
+    /// The document at a moment, or the present one; `id` is the number that the answer shows again.
+    AtTime {
+        key: Key,
+        moment: Option<Moment>,
+        id: u64,
+    },
 }
 
 /// Why a message asks nothing, and what the error shows of it. E10 is want of memory.
@@ -122,6 +128,12 @@ pub enum Answer<'a> {
     },
     /// The document at a version: the number of the request, the version, the document.
     Snapshot {
+        id: u64,
+        version: u64,
+        document: Option<&'a Json>,
+    },
+    /// The document at a moment: the number of the request, the version there, the document.
+    AtTime {
         id: u64,
         version: u64,
         document: Option<&'a Json>,

@@ -36,5 +36,5 @@ returns-clause-answered g c =
     let first : Answered k forget c.args.pass.now tt c.run.new.pass =
     (d.0, d.1, d.2, d.3, d.4, d.5, d.6.1, d.7, c.run.ensures.number, c.run.ensures.others) in
     let second : Answered k (snapshot (Some v)) c.run.new.pass (Ok (record { version = v; snapshot = s })) c.run-2.new.pass =
-    (e.0, e.1, e.2, e.3, e.4, e.5, read_at (number_of c.run.new.pass) (machine_of e.1.shard) (machine_of e.2.shard) k v s e.6.0 e.6.1, e.7, c.run-2.ensures.number, c.run-2.ensures.others) in
+    (e.0, e.1, e.2, e.3, e.4, e.5, read_at (number_of c.run.new.pass) (machine_of e.1.shard) (machine_of e.2.shard) k v s e.6.0 e.6.2, e.7, c.run-2.ensures.number, c.run-2.ensures.others) in
     after k forget (snapshot (Some v)) tt (Ok (record { version = v; snapshot = s })) c.args.pass.now c.run.new.pass c.run-2.new.pass first d.6.1 second

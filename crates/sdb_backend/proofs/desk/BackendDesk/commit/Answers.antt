@@ -29,4 +29,4 @@ returns-clause-looked g c =
     let a = c.args.work.now in
     let o = outcome_of a c.run-decision.result in
     subst (λ (r : PlainOutcome). IfMoved r (λ l. IsLookOf c.run-decision.new.pass k (record { submission = a.submission; look = l }))) (sym c.conclude.ensures.outcome)
-    (map_moved o (λ l h. (d.2, d.7, h)) (moved_looked (logs_of d.1.shard) (logs_of d.2.shard) k a o d.6.0))
+    (map_moved o (λ l h. (d.2, d.7, h)) (moved_looked (logs_of d.1.shard) (logs_of d.2.shard) k a c.args.now o d.6.0))

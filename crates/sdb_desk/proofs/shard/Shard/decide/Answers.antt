@@ -10,14 +10,15 @@ returns-in-Some-clause-commits c =
     let logs = logs_of c.args.self.now in
     let k = plain_key c.args.key.now in
     let s = c.submission-2.ensures in
+    let t = c.args.now in
     inr (
       sym c.version.ensures ∙ c.if-version.false ∙ c.version-2.ensures,
-      c.in-Some.ensures.reply ∙ ap (λ x. (decide (logs k) x).reply) s,
-      leaves logs k c.args.work.now.submission (ap (λ x. (decide (logs k) x).log) (sym s) ∙ c.in-Some.ensures.log),
+      c.in-Some.ensures.reply t ∙ ap (λ x. (decide (logs k) x t).reply) s,
+      leaves logs k c.args.work.now.submission t (ap (λ x. (decide (logs k) x t).log) (sym s) ∙ c.in-Some.ensures.log t),
     )
 
 pub returns-in-Err-store_work-clause-commits : goal.returns-in-Err-store_work-clause-commits
 returns-in-Err-store_work-clause-commits c =
-    commits_refused_as (logs_of c.args.self.now) (logs_of c.store_work.new.self) (plain_key c.args.key.now) c.args.work.now c.in-Err-store_work.code
+    commits_refused_as (logs_of c.args.self.now) (logs_of c.store_work.new.self) (plain_key c.args.key.now) c.args.work.now c.args.now c.in-Err-store_work.code
     (sym c.version.ensures ∙ c.if-version.false ∙ c.version-2.ensures) c.in-Err-store_work.ensures.err
     (λ e. c.in-Err-store_work.ensures.memory (ap Err e)) (λ e. c.in-Err-store_work.ensures.found (ap Err e)) c.in-Err-store_work.ensures.same

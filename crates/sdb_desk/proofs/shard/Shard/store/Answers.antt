@@ -21,7 +21,7 @@ returns-in-Some-clause-logs c =
     let found = held_found no_topic es c.args.key.now old c.in-Some.ensures.value in
     let wrote = write_through no_topic es _ c.args.key.now old new c.in-Some.ensures.value (c.get_mut.follows.holds new).0 in
     on_ok c.store.result (λ e. written (λ t. t.document.log) f g k new wrote
-    ∙ ap (with_log (logs_of c.args.self.now) k) (e ∙ ap (λ t. (decide t.document.log c.in_ok-submission.submission).log) found ∙ ap (λ s. (decide (logs_of c.args.self.now k) s).log) c.in_ok-submission.ensures)) c.store.ensures.log
+    ∙ ap (with_log (logs_of c.args.self.now) k) (e ∙ ap (λ t. (decide t.document.log c.in_ok-submission.submission c.args.now).log) found ∙ ap (λ s. (decide (logs_of c.args.self.now k) s c.args.now).log) c.in_ok-submission.ensures)) c.store.ensures.log
 
 pub returns-in-Some-clause-same : goal.returns-in-Some-clause-same
 returns-in-Some-clause-same c =

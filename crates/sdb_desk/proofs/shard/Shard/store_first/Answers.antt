@@ -22,7 +22,7 @@ returns-in_err-keep-clause-queues c =
 pub returns-clause-logs : goal.returns-clause-logs
 returns-clause-logs c =
     written (λ t. t.document.log) (topics_of c.args.self.now) (topics_of c.keep.new.self) (plain_key c.args.key.now) c.store.new.self c.in_ok-keep.ensures.ok
-    ∙ ap (with_log (logs_of c.args.self.now) (plain_key c.args.key.now)) (c.in_ok-store.ensures.log ∙ ap (λ t. (decide t.document.log c.args.submission).log) c.new-topic.ensures)
+    ∙ ap (with_log (logs_of c.args.self.now) (plain_key c.args.key.now)) (c.in_ok-store.ensures.log ∙ ap (λ t. (decide t.document.log c.args.submission c.args.now).log) c.new-topic.ensures)
 
 pub returns-clause-kept : goal.returns-clause-kept
 returns-clause-kept c =

@@ -10,15 +10,15 @@ use Rattle.sdb_server.proofs.LineAnswers.{line_taken}
 use Rattle.sdb_server.proofs.line_session.LineSessionReplier.reply.Goals as goal
 
 pub returns-clause-answer : goal.returns-clause-answer
-returns-clause-answer c =
+returns-clause-answer g c =
     let t = c.args.self.now.table.now in
     let old = c.args.out.now.items in
     let between = c.handle_to.new.out.items in
     let new = c.pump_to.new.out.items in
     let s = plain_session c.handle_to.new.self in
-    let h = answers_said machine_of c.args.line.now t (plain_session c.args.self.now.session) c.args.self.now.shard (Wrote line_of old between) s c.handle_to.new.pass c.in_ok-is_request.ensures.handled in
+    let h = answers_said machine_of c.args.line.now t c.now.result (plain_session c.args.self.now.session) c.args.self.now.shard (Wrote line_of old between) s c.handle_to.new.pass c.in_ok-is_request.ensures.handled in
     let p = pumps_said machine_of t s c.handle_to.new.pass _ (Wrote line_of between new) c.pump_to.new.pass c.in_ok-pump_to.ensures.pumps in
     let mid : State = record { machine = machine_of c.handle_to.new.pass; session = s } in
     let last : State = record { machine = machine_of c.pump_to.new.pass; session = plain_session c.pump_to.new.self } in
-    line_taken t (state_of c.args.self.now) mid last h.0 (Some c.args.line.now) old between new h.1.0 h.1.1 p.0
-    (ap (λ (x : PlainSession). record { machine = machine_of c.pump_to.new.pass; session = x }) c.pump_to.ensures.session ∙ p.1) refl
+    line_taken t (state_of c.args.self.now) mid last (g.C.Clock.ahead c.args.self.now.clock) (g.C.Clock.ahead c.now.new.self) c.now.result h.0 (Some c.args.line.now) old between new h.1.0 h.1.1 p.0
+    (ap (λ (x : PlainSession). record { machine = machine_of c.pump_to.new.pass; session = x }) c.pump_to.ensures.session ∙ p.1) c.now.ensures refl

@@ -10,7 +10,7 @@ use Rattle.sdb_wire.specs.Wire.{snapshot}
 use Rattle.sdb_session.proofs.session.Session.snapshot.Goals as goal
 
 pub returns-in-Ok-clause-handled : goal.returns-in-Ok-clause-handled
-returns-in-Ok-clause-handled g c =
+returns-in-Ok-clause-handled g c = λ now.
     let k = plain_key c.args.asked.key in
     let t = c.args.table.now in
     let e = shown_of c.args.message in
@@ -22,6 +22,6 @@ returns-in-Ok-clause-handled g c =
     let wrote = Wrote g.O.ReplySink.pieces (g.O.ReplySink.written c.args.out.now) (g.O.ReplySink.written c.say_snapshot.new.out) in
     let seen : o ≡ through t k = c.find-projection.ensures ∙ ap (λ n. projection_of n t) c.as_str.ensures.value in
     let r = told_fetched (Ok c.in-Ok.found) in
-    handled_by (g.D.Desk.acts c.args.desk.now) e t by s (snapshot k v id) c.args.pass.now c.say_snapshot.result wrote s c.snapshot_at.new.pass
-    (snapshot_handles (g.D.Desk.acts c.args.desk.now) e t by s c.args.pass.now c.snapshot_at.new.pass (Says c.say_snapshot.result wrote) k o seen
+    handled_by (g.D.Desk.acts c.args.desk.now) e t by now s (snapshot k v id) c.args.pass.now c.say_snapshot.result wrote s c.snapshot_at.new.pass
+    (snapshot_handles (g.D.Desk.acts c.args.desk.now) e t by now s c.args.pass.now c.snapshot_at.new.pass (Says c.say_snapshot.result wrote) k o seen
     v id (plain_key c.base_or-base.result.now) r (c.base_or-base.ensures ∙ c.in_ok-moved.ensures) c.in-Ok.ensures.acts (on_says c.say_snapshot.result wrote (snapshot_says e o id r) (c.say_snapshot.ensures e)))

@@ -6,4 +6,4 @@ use Rattle.sdb_submit.proofs.solo.SoloDesk.commit.Goals as goal
 
 pub returns-clause-looked : goal.returns-clause-looked
 returns-clause-looked c =
-    moved_looked (logs_of c.args.pass.now) (logs_of c.commit.new.self) (plain_key c.args.key.now) c.args.work.now (plain_outcome c.commit.result) c.commit.ensures.commits
+    moved_looked (logs_of c.args.pass.now) (logs_of c.commit.new.self) (plain_key c.args.key.now) c.args.work.now c.args.now (plain_outcome c.commit.result) c.commit.ensures.commits

@@ -1,0 +1,21 @@
+-- Moments of a log: whole milliseconds, which never fall along it.
+use Rattle.std.specs.Prelude.{ℕ, suc, ◌≤◌, List, [], ◌∷◌, if◌then◌else◌, nat_lt, ⊤}
+use Rattle.sdb_oplog.specs.Plain.{PlainEntry}
+
+-- the moment of the last entry, or this one where there is none
+abbrev pub last_from : ℕ → List PlainEntry → ℕ
+last_from m [] = m
+last_from m (e ∷ es) = last_from e.moment es
+
+abbrev pub last_moment : List PlainEntry → ℕ
+last_moment = last_from 0
+
+-- no entry's moment is below that of the one before it, the first one's not below this one
+abbrev pub AreInTime : ℕ → List PlainEntry → Type 0
+AreInTime m [] = ⊤
+AreInTime m (e ∷ es) = (m ≤ e.moment) × AreInTime e.moment es
+
+-- the version at a moment: how many entries have a moment that is not above it
+abbrev pub version_at : List PlainEntry → ℕ → ℕ
+version_at [] m = 0
+version_at (e ∷ es) m = if nat_lt m e.moment then version_at es m else suc (version_at es m)
