@@ -134,8 +134,8 @@ impl Document {
     ) -> Result<(), AllocError>
         requires { Settles self.old.log submission content (option_map view made) }
         ensures log { OnOk result (self.new.log ≡ (decide self.old.log submission now).log) }
-        ensures reply { OnOk result
-            ((decide self.old.log submission now).reply ≡ stored (length self.old.log) (missed self.old.log submission)) }
+        ensures reply { OnOk result ((decide self.old.log submission now).reply ≡
+            stored (length self.old.log) (missed self.old.log submission)) }
         ensures same { OnErr result (self.new.log ≡ self.old.log) }
         ensures kept { self.new.kept ≡ self.old.kept }
     {

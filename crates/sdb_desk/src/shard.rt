@@ -249,9 +249,9 @@ impl Shard {
         }
     }
 
-    /// Decides the submission of a work at a moment, in one step, whatever was stored since its look: only that is carried
-    /// over here, and what comes of it is applied to the present document. Where memory is wanting for that it
-    /// is decided as [`Shard::commit_now`] does.
+    /// Decides the submission of a work at a moment, in one step, whatever was stored since its look: only
+    /// that is carried over here, and what comes of it is applied to the present document. Where memory is
+    /// wanting for that it is decided as [`Shard::commit_now`] does.
     pub fn commit_last(&mut self, key: &Key, work: Work, now: Moment) -> Reply
         ensures decides { Decides (logs_of self.old) (plain_key key.now) work.submission now (plain_reply result)
             (logs_of self.new) }

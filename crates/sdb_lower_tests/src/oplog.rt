@@ -2,7 +2,9 @@
 ghost use Rattle.std.specs.Prelude.{◌≡◌};
 
 use sdb_component::Op;
-use sdb_oplog::{Code, Content, Entry, Kind, Log, Moment, Submission, copy_entries, over, same_entries};
+use sdb_oplog::{
+    Code, Content, Entry, Kind, Log, Moment, Submission, copy_entries, over, same_entries,
+};
 use sdb_value::Json;
 use std::alloc::Global;
 use std::process::Abort;

@@ -8,7 +8,12 @@ fn entry(rt: &impl Abort, alloc: Global, version: u64) -> Entry {
     let src = String::from_str(alloc, "x").expect(rt, "out of memory");
     let via = String::from_str(alloc, "b").expect(rt, "out of memory");
     let submission = Submission::new(alloc, src, version, None, Content::delete(), via, 0);
-    Entry::new(version, Moment::first(), None, submission.expect(rt, "out of memory"))
+    Entry::new(
+        version,
+        Moment::first(),
+        None,
+        submission.expect(rt, "out of memory"),
+    )
 }
 
 fn opened(rt: &impl Abort, queues: &mut Queues, from: u64) -> SubId {

@@ -88,12 +88,12 @@ pub fn run_lines<C: Clock + Drop, R: Source, W: Sink>(
     reader: &mut R,
     writer: &mut W,
 ) -> Result<Counts, RunFault>
-    ensures whole { OnOk result (IfSome (R.left reader.old) (λ input.
-        Wrote table.now (C.ahead clock) (map reading_of (lines_of input)) (W.contents writer.old) (W.contents writer.new))) }
+    ensures whole { OnOk result (IfSome (R.left reader.old) (λ input. Wrote table.now (C.ahead clock)
+        (map reading_of (lines_of input)) (W.contents writer.old) (W.contents writer.new))) }
     ensures counts { IfOk result (λ counts. IfSome (R.left reader.old) (λ input. CountsAll is_request input counts)) }
     // After a fault a front of the opening and the answers to the first lines was written.
-    ensures front { OnErr result (IfSome (R.left reader.old) (λ input.
-        WroteFront table.now (C.ahead clock) (map reading_of (lines_of input)) (W.contents writer.old) (W.contents writer.new))) }
+    ensures front { OnErr result (IfSome (R.left reader.old) (λ input. WroteFront table.now (C.ahead clock)
+        (map reading_of (lines_of input)) (W.contents writer.old) (W.contents writer.new))) }
     // No read failed, and no write or flush, but for the one that is the fault.
     ensures reads { Reads result (R.calls reader.old) (R.failures reader.old)
         (R.calls reader.new) (R.failures reader.new) }

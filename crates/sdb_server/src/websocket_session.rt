@@ -102,9 +102,10 @@ pub(crate) struct Served {
 }
 
 /// Serves a client at a socket until one of both closes it, and gives the pass back. The session's
-/// source is `s` and the number of the pass. Each text message is handled, at the moment that the clock
-/// tells, which is asked once for each message, and a binary one answered as E1; between two reads what was stored meanwhile is sent, so the stream's reads should answer `WouldBlock`
-/// or `TimedOut` after some milliseconds without input, as those of a stream do on which
+/// source is `s` and the number of the pass. Each text message is handled, a binary one answered as E1;
+/// the clock is asked once for each, and what a message submits is stored at that moment. Between two
+/// reads what was stored meanwhile is sent, so the stream's reads should answer `WouldBlock` or `TimedOut`
+/// after some milliseconds without input, as those of a stream do on which
 /// [`set_socket_options`](crate::set_socket_options) was called. A message longer than the socket takes
 /// is answered as E1, and ends the session.
 ///

@@ -312,12 +312,18 @@ fn statuses_of_lines(rt: HostRuntime) -> Result<(), Fail> {
     let table = Table::new(alloc);
     let fetch = r#"{"a":"f","c":"b","d":"1"}"#;
     let terminal = Terminal::new(alloc);
-    assert_eq!(rt; answer_input(&terminal, no_clock(alloc), fetch.as_bytes(), &table), DONE);
+    assert_eq!(rt;
+        answer_input(&terminal, no_clock(alloc), fetch.as_bytes(), &table),
+        DONE
+    );
     let fetched = r#"{"a":"f","c":"b","d":"1","data":{"type":null,"v":0}}
 "#;
     assert!(rt; terminal.out.into_inner().as_str().ends_with(fetched));
     let terminal = Terminal::new(alloc);
-    assert_eq!(rt; answer_input(&terminal, no_clock(alloc), Broken { alloc }, &table), FAULT);
+    assert_eq!(rt;
+        answer_input(&terminal, no_clock(alloc), Broken { alloc }, &table),
+        FAULT
+    );
     assert!(rt;
         terminal
             .out

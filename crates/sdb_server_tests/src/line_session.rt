@@ -95,7 +95,8 @@ fn an_input_that_fails(rt: HostRuntime) {
 }
 
 // Three submissions, and reads at moments: the second one comes at a moment below that of the first.
-const MOMENTS: &str = r#"{"a":"op","c":"b","d":"1","src":"w","seq":1,"create":{"type":"json0","data":{"n":0}}}
+const MOMENTS: &str =
+    r#"{"a":"op","c":"b","d":"1","src":"w","seq":1,"create":{"type":"json0","data":{"n":0}}}
 {"a":"op","c":"b","d":"1","src":"w","seq":2,"op":[{"p":["n"],"na":1}]}
 {"a":"op","c":"b","d":"1","src":"w","seq":3,"op":[{"p":["n"],"na":1}]}
 {"a":"nt","c":"b","d":"1","id":1,"ts":100}

@@ -120,7 +120,14 @@ pub(crate) fn attend<R: Wait + Drop, S: Read + Write + Drop>(
     requires { IsPass pass backend.now }
     ensures { IsPass result.0 backend.now }
 {
-    attend_by(rt, alloc, ListClock::new(Vec::new(alloc)), backend, pass, stream)
+    attend_by(
+        rt,
+        alloc,
+        ListClock::new(Vec::new(alloc)),
+        backend,
+        pass,
+        stream,
+    )
 }
 
 // The same by this clock.
@@ -215,14 +222,20 @@ fn a_binary_message(rt: HostRuntime) -> Result<(), Fail> {
 const CREATE: &str =
     r#"{"a":"op","c":"b","create":{"data":{"n":0},"type":"json0"},"d":"1","seq":1,"src":"x","v":null}"#;
 
-const ADD: &str = r#"{"a":"op","c":"b","d":"1","op":[{"na":1,"p":["n"]}],"seq":2,"src":"x","v":null}"#;
+const ADD: &str =
+    r#"{"a":"op","c":"b","d":"1","op":[{"na":1,"p":["n"]}],"seq":2,"src":"x","v":null}"#;
 
 const READ: &str = r#"{"a":"nt","c":"b","d":"1","id":1,"ts":100}"#;
 
 // An operation, a binary message, another operation, and a read at a moment.
 fn sent_at_moments(alloc: Global) -> Result<Vec<u8>, Fail> {
     let mut frames = Vec::new(alloc);
-    for (head, text) in [(TEXT, CREATE), (BINARY, SUBSCRIBE), (TEXT, ADD), (TEXT, READ)] {
+    for (head, text) in [
+        (TEXT, CREATE),
+        (BINARY, SUBSCRIBE),
+        (TEXT, ADD),
+        (TEXT, READ),
+    ] {
         send(&mut frames, head, text)?;
     }
     Ok(frames)

@@ -47,13 +47,7 @@ pub trait Desk {
 
     /// Decides the submission of the work at a moment, if the log stands as it was looked at. The look is one that the
     /// pass has seen, as is the one that is shown where the log has moved.
-    fn commit(
-        &self,
-        pass: &mut Self::Pass,
-        key: &Key,
-        work: &mut Work,
-        now: Moment,
-    ) -> Outcome
+    fn commit(&self, pass: &mut Self::Pass, key: &Key, work: &mut Work, now: Moment) -> Outcome
         requires takes { takes self.now pass.old }
         requires by { work.old.submission.by ≡ number self.now pass.old }
         requires looked { looked self.now (plain_key key.now) work.old pass.old }
@@ -80,7 +74,8 @@ pub trait Desk {
         ensures acts { acts self.now (plain_key key.now) (commit_now submission.now now) pass.old
             (plain_reply result) pass.new };
 
-    /// Decides the submission of a work at a moment, whatever has been stored since its look: only that is carried over.
+    /// Decides the submission of a work at a moment, whatever has been stored since its look: only that is
+    /// carried over.
     fn commit_last(&self, pass: &mut Self::Pass, key: &Key, work: Work, now: Moment) -> Reply
         requires takes { takes self.now pass.old }
         requires by { work.submission.by ≡ number self.now pass.old }

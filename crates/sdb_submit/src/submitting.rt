@@ -12,9 +12,9 @@ use sdb_desk::{Outcome, Reply};
 use sdb_oplog::{Code, Key, Moment, Submission};
 use std::alloc::Global;
 
-/// Submits at a moment, one for all its tries: a look, then up to eight tries of work and commit, and at last a commit that decides. A try
-/// that found the log moved goes on from there, and the last commit from what was worked till then. Refusals
-/// and repeats are decided at a commit too.
+/// Submits at a moment, one for all its tries: a look, then up to eight tries of work and commit, and at
+/// last a commit that decides. A try that found the log moved goes on from there, and the last commit from
+/// what was worked till then. Refusals and repeats are decided at a commit too.
 ///
 /// The reply is that of the call that decided. Where memory is wanting for a look, for work or for a
 /// commit, a commit decides at once, which answers E10 only where a decision takes memory itself: nothing

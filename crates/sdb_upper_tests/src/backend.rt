@@ -78,7 +78,15 @@ fn create<R: Wait + Drop>(
     ensures { IsPass pass.new backend.now }
 {
     let submission = through(rt, alloc, pass, 1, None, creating(rt, alloc));
-    let reply = submit(alloc, backend, pass, key, &submission, Moment::first(), &NoGate);
+    let reply = submit(
+        alloc,
+        backend,
+        pass,
+        key,
+        &submission,
+        Moment::first(),
+        &NoGate,
+    );
     assert!(rt; stored(&reply) == Some((0, 0)));
 }
 
@@ -125,7 +133,9 @@ fn at<R: Wait + Drop>(
     requires { IsPass pass.old backend.now }
     ensures { IsPass pass.new backend.now }
 {
-    let fetched = backend.at_time(pass, key, moment).expect(rt, "out of memory");
+    let fetched = backend
+        .at_time(pass, key, moment)
+        .expect(rt, "out of memory");
     (fetched.version, counted(fetched.snapshot.as_ref()))
 }
 
@@ -192,7 +202,15 @@ fn submit_quick<R: Wait + Drop>(
     ensures { IsPass result.0 backend.now }
 {
     wait_for(last, 1);
-    let reply = submit(alloc, backend, &mut pass, key, submission, Moment::first(), &NoGate);
+    let reply = submit(
+        alloc,
+        backend,
+        &mut pass,
+        key,
+        submission,
+        Moment::first(),
+        &NoGate,
+    );
     answered.store(1, Ordering::SeqCst);
     (pass, stored(&reply))
 }
@@ -212,7 +230,15 @@ fn submit_held<R: Wait + Drop>(
     ensures { IsPass result.0 backend.now }
 {
     let gate = Held { answered, last };
-    let reply = submit(alloc, backend, &mut pass, key, submission, Moment::first(), &gate);
+    let reply = submit(
+        alloc,
+        backend,
+        &mut pass,
+        key,
+        submission,
+        Moment::first(),
+        &gate,
+    );
     (pass, stored(&reply))
 }
 
@@ -489,7 +515,15 @@ fn store_many<R: Wait + Drop>(
 {
     for seq in 1..=MANY {
         let submission = through(rt, alloc, &pass, seq, None, adding(rt, alloc, 1));
-        let reply = submit_shared(alloc, backend, &mut pass, key, &submission, Moment::first(), &NoGate);
+        let reply = submit_shared(
+            alloc,
+            backend,
+            &mut pass,
+            key,
+            &submission,
+            Moment::first(),
+            &NoGate,
+        );
         assert!(rt; stored(&reply).is_some(), "{seq}");
     }
     pass

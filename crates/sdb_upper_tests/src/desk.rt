@@ -121,7 +121,10 @@ impl Board {
 
     // The version at a moment, and the number there.
     fn at(&mut self, rt: &impl Abort, at: Option<Moment>) -> (u64, Option<i64>) {
-        let fetched = self.shard.at_time(&self.key, at).expect(rt, "out of memory");
+        let fetched = self
+            .shard
+            .at_time(&self.key, at)
+            .expect(rt, "out of memory");
         (fetched.version, number(fetched.snapshot.as_ref()))
     }
 
@@ -200,7 +203,10 @@ fn documents_at_moments(rt: HostRuntime) {
     }
     for (milliseconds, version) in [(0, 1), (99, 1), (100, 3), (199, 3), (200, 4), (201, 4)] {
         let there = board.at(&rt, Some(moment(&rt, milliseconds)));
-        assert!(rt; there == (version, Some(version as i64 - 1)), "at {milliseconds}");
+        assert!(rt;
+            there == (version, Some(version as i64 - 1)),
+            "at {milliseconds}"
+        );
     }
     assert!(rt; board.at(&rt, None) == (4, Some(3)));
     board.key = key(&rt, rt.alloc(), "none");
@@ -465,7 +471,9 @@ fn a_queue_is_known_under_its_number(rt: HostRuntime) {
 fn a_work_is_stored_once(rt: HostRuntime) {
     let mut board = Board::new(&rt, rt.alloc());
     let mut work = board.work(&rt, "x", 1, 5);
-    assert!(rt; decided(&board.shard.commit(&board.key, &mut work, Moment::first())) == Some((1, 0)));
+    assert!(rt;
+        decided(&board.shard.commit(&board.key, &mut work, Moment::first())) == Some((1, 0))
+    );
     let second = board
         .shard
         .commit_now(&board.key, work.submission(), Moment::first());

@@ -151,7 +151,11 @@ fn a_commit_to_a_log_that_has_moved(rt: HostRuntime) {
 }
 
 fn commit_now(board: &mut Board, submission: &Submission) -> Answered {
-    stored(&board.shard.commit_now(&board.key, submission, Moment::first()))
+    stored(
+        &board
+            .shard
+            .commit_now(&board.key, submission, Moment::first()),
+    )
 }
 
 // Commits in one step between marks, and once more where there was no memory and all was as before then.
@@ -304,7 +308,13 @@ fn a_projection(rt: HostRuntime) {
 // Whether the session has ended by a message.
 fn ends(session: &mut Session, room: &mut Room, message: &str) -> bool {
     session
-        .handle(&Solo, &mut room.shard, &room.table, message, Moment::first())
+        .handle(
+            &Solo,
+            &mut room.shard,
+            &room.table,
+            message,
+            Moment::first(),
+        )
         .is_err()
 }
 

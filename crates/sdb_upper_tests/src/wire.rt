@@ -71,7 +71,10 @@ fn errors_are_told(rt: HostRuntime) {
 // Whether what is stored at version 4 of submission 7 from x is this value.
 fn is_shown(rt: &impl Abort, alloc: Global, content: Content, wanted: &str) -> bool {
     let arrived = submission(rt, alloc, "x", 7, None, content, 7);
-    let value = entry_value(alloc, &Entry::new(4, Moment::first(), None, arrived)).expect(rt, "out of memory");
+    let value = entry_value(alloc, &Entry::new(4, Moment::first(), None, arrived)).expect(
+        rt,
+        "out of memory",
+    );
     value.to_string(alloc).expect(rt, "out of memory").as_str() == wanted
 }
 

@@ -7,7 +7,9 @@ ghost use Rattle.sdb_wire.specs.Wire.{key_of, hello_of, fetch_of, subscribe_of, 
 ghost use Rattle.sdb_wire.specs.View.{plain_request, plain_echo, plain_message, echo_from, IsFault, IsFaultOf};
 
 use crate::codes::refusal;
-use crate::members::{count_at, may_count, may_moment, may_name, name_at, need_name, present, said};
+use crate::members::{
+    count_at, may_count, may_moment, may_name, name_at, need_name, present, said,
+};
 use crate::requests::{BadMessage, Echo, MESSAGE_LIMIT, Message, Request, TYPE};
 use sdb_component::read_op;
 use sdb_oplog::{Code, Content, Key};

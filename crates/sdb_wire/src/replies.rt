@@ -242,12 +242,7 @@ fn write_document_at(
     out.end_object()
 }
 
-fn write_nothing_at(
-    word: &str,
-    id: u64,
-    version: u64,
-    out: &mut Writer,
-) -> Result<(), AllocError>
+fn write_nothing_at(word: &str, id: u64, version: u64, out: &mut Writer) -> Result<(), AllocError>
     ensures tokens { OnOk result (out.new.tokens ≡
         out.old.tokens ++ data_tokens (version_data word.now id version None)) }
     ensures before { out.new.before ≡ out.old.before }
