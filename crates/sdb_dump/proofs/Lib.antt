@@ -1,0 +1,16 @@
+pub mod Accepting
+pub mod Acts
+pub mod Back
+pub mod Checks
+pub mod Components
+pub mod Cutting
+pub mod Decided
+pub mod Effects
+pub mod Feeds
+pub mod Grid
+pub mod Lines
+pub mod Listing
+pub mod Places
+pub mod PrintedTexts
+pub mod Stages
+pub mod Values

@@ -1,0 +1,12 @@
+pub mod Accepted
+pub mod Cut
+pub mod Dumps
+pub mod Exact
+pub mod Fits
+pub mod Lines
+pub mod Listed
+pub mod Printed
+pub mod Sound
+pub mod Stages
+pub mod Within
+pub mod Worked

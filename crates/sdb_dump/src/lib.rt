@@ -1,0 +1,4 @@
+//! Dumps: the text of all that is stored, and a checker of such texts.
+#![tactic(auto)]
+
+pub mod laws;
