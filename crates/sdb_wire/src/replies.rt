@@ -347,7 +347,8 @@ fn write_content(key: &Key, content: &Content, out: &mut Writer) -> Result<(), A
     }
 }
 
-fn write_create(value: &Json, out: &mut Writer) -> Result<(), AllocError>
+/// Writes the data of a create, and the type, behind what is written.
+pub fn write_create(value: &Json, out: &mut Writer) -> Result<(), AllocError>
     ensures tokens { OnOk result (out.new.tokens ≡ out.old.tokens ++ data_tokens (create_data (view value.now))) }
     ensures before { out.new.before ≡ out.old.before }
     ensures err { OnErr result (WritesFront out.old.tokens out.new.tokens
