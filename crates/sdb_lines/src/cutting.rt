@@ -120,8 +120,8 @@ fn hold(held: &mut Vec<u8>, piece: &[u8]) -> Result<(), AllocError>
     held.extend_from_slice(&piece[..taken])
 }
 
-// Writes all of the output.
-fn write_out<W: Sink>(out: &mut Vec<u8>, writer: &mut W) -> Result<(), RunFault>
+/// Writes all of the output, which is empty then. A fault is that of a write, and a front of it was written.
+pub fn write_out<W: Sink>(out: &mut Vec<u8>, writer: &mut W) -> Result<(), RunFault>
     ensures empty { OnOk result (out.new.items ≡ []) }
     ensures wrote { OnOk result (Appends (W.contents writer.old) (W.contents writer.new) out.old.items) }
     ensures front { OnErr result (AppendsFront (W.contents writer.old) (W.contents writer.new) out.old.items) }
@@ -141,8 +141,8 @@ fn write_out<W: Sink>(out: &mut Vec<u8>, writer: &mut W) -> Result<(), RunFault>
     Ok(())
 }
 
-// Where the first line feed is.
-fn first_line_feed(bytes: &[u8]) -> Option<usize>
+/// Where the first line feed is.
+pub fn first_line_feed(bytes: &[u8]) -> Option<usize>
     ensures found { IfSome result (λ at. (at < length bytes.now) × All (λ x. x ≢ 10) (take at bytes.now)
         × (bytes.now ≡ take at bytes.now ++ 10 ∷ drop (at + 1) bytes.now)) }
     ensures fits { IfSome result (λ at. at + 1 < 2 ^ 64) }

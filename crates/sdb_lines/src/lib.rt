@@ -9,6 +9,6 @@ pub mod cutting;
 pub mod runner;
 pub mod streams;
 
-pub use cutting::{LINE_LIMIT, Replier};
+pub use cutting::{LINE_LIMIT, Replier, first_line_feed, write_out};
 pub use runner::{Counts, READ_LIMIT, RunFault, run_lines};
 pub use streams::{Sink, Source, WatchedReader, WatchedWriter};
