@@ -15,7 +15,7 @@ use Rattle.sdb_oplog.specs.Snap.{becomes, document}
 use Rattle.sdb_oplog.specs.Decide.{decide, settled, since, missed, entry_of, MadeFrom, IsMade}
 use Rattle.sdb_oplog.specs.declared.codes.Code.{Code}
 use Rattle.sdb_oplog.specs.declared.codes.Code.TheVariants.{E4, E11}
-use Rattle.sdb_dump.specs.Lines.{DumpVersion}
+use Rattle.sdb_dump.specs.declared.version.DumpVersion.{DumpVersion}
 use Rattle.sdb_dump.specs.Within.{FitsKey, FitsContent, FitsMoment, FitsSubmission, FitsEntry}
 use Rattle.sdb_dump.specs.Dumps.{PlainLine, log_in, follows, IsNext, AreNext, stored_by, dump_lines, check}
 use Rattle.sdb_dump.proofs.Checks.{check_sound, check_complete}

@@ -61,9 +61,11 @@ pieces : (p q before : ℕ) (d : List ℕ) (o : Option ℕ) → cut_at d before 
 pieces p q before d None e u h k some less = tt
 pieces p q before d (Some i) e u h k some less =
     let b = cut_boundary d before i u e in
-    let front = cut_front d before i e in
-    ((h, (IsUtf8-take d i u b, some_units (take i d) (omega (arith, front, some)))), omega arith,
-    ((k, (IsUtf8-drop d i u b, some_units (drop i d) (omega (arith, front, units_split i d, less)))), omega arith, tt))
+    let front = cut_front d before i e in (
+      (h, (IsUtf8-take d i u b, some_units (take i d) (omega (arith, front, some)))),
+      omega arith,
+      ((k, (IsUtf8-drop d i u b, some_units (drop i d) (omega (arith, front, units_split i d, less)))), omega arith, tt),
+    )
 
 rest_fits : (p : ℕ) (s : List ℕ) → IsCount p → IsUtf8 s → AllFit 1 (unless_empty p s)
 rest_fits p [] h u = tt
@@ -216,12 +218,14 @@ moved_fits c o rest s (Some None) e h k g = tt
 moved_fits c o rest s (Some (Some t)) e h k g =
     let after = fit_front o.path (s ∷ rest) (subst FitSteps e h.path) in
     let was : length c.path ≡ length o.path + suc (length rest) = ap length e ∙ length-append o.path (s ∷ rest) in
-    let now : length (o.path ++ t ∷ rest) ≡ length o.path + suc (length rest) = length-append o.path (t ∷ rest) in
-    (record {
-      path = fit_with o.path rest t k.path g after.1;
-      short = omega (arith, whole_length (o.path ++ t ∷ rest) c.act, whole_length c.path c.act, was, now, h.short);
-      act = h.act;
-    }, tt)
+    let now : length (o.path ++ t ∷ rest) ≡ length o.path + suc (length rest) = length-append o.path (t ∷ rest) in (
+      record {
+        path = fit_with o.path rest t k.path g after.1;
+        short = omega (arith, whole_length (o.path ++ t ∷ rest) c.act, whole_length c.path c.act, was, now, h.short);
+        act = h.act;
+      },
+      tt,
+    )
 
 below_fits : (side : Side) (c o : PlainComponent) (p : List PlainStep) → c.path ≡ o.path ++ p → FitsComponent 100 c → FitsComponent 100 o → Opt (FitComponents 100) (below side c o p)
 below_fits side c o [] e h k =

@@ -10,7 +10,9 @@ use Rattle.json.specs.Print.{escape_byte}
 use Rattle.sdb_oplog.specs.Keys.{PlainKey}
 use Rattle.sdb_oplog.specs.Plain.{PlainContent, PlainSubmission, PlainEntry}
 use Rattle.sdb_oplog.specs.Decide.{decide, entry_of}
-use Rattle.sdb_dump.specs.Lines.{DumpVersion, one, two, shown_moment, line_text, PlainRead, read_line, needs}
+use Rattle.sdb_dump.specs.declared.version.DumpVersion.{DumpVersion}
+use Rattle.sdb_dump.specs.declared.version.DumpVersion.TheVariants.{One, Two}
+use Rattle.sdb_dump.specs.Lines.{shown_moment, line_text, PlainRead, read_line, needs}
 use Rattle.sdb_dump.specs.Dumps.{PlainLine, head_text, count_text, text_of, dump_lines, log_in, follows, read_of, IsNext, AreNext, stored_by, line_if, entered_after, enter, over, check_from, check}
 use Rattle.sdb_dump.specs.Exact.{AreLinesOf}
 use Rattle.sdb_dump.proofs.Decided.{stored_from, stored_is}
@@ -150,24 +152,24 @@ headed v l ls rest xs is e =
     let g : xs ≡ r.more = r.all in
     (ap₂ (λ a b. a ∷ b) (equal_bytes l (head_text v) is) (r.lines ∙ ap (λ y. map (text_of v) y ++ count_text (length xs) ∷ []) (sym g)), r.ended, subst (AreNext v []) (sym g) r.next)
 
-head_sound : (a b : Bool) (l : List ℕ) (ls : List (List ℕ)) (rest : List ℕ) (xs : List PlainLine) → bytes_eq l (head_text one) ≡ a → bytes_eq l (head_text two) ≡ b
-    → (if a then check_from one [] 2 ls rest else (if b then check_from two [] 2 ls rest else Err 1)) ≡ Ok xs → (v : DumpVersion) × AreLinesOf v xs (l ∷ ls) rest
-head_sound true b l ls rest xs is other e = (one, headed one l ls rest xs is e)
-head_sound false true l ls rest xs isnt is e = (two, headed two l ls rest xs is e)
+head_sound : (a b : Bool) (l : List ℕ) (ls : List (List ℕ)) (rest : List ℕ) (xs : List PlainLine) → bytes_eq l (head_text One) ≡ a → bytes_eq l (head_text Two) ≡ b
+    → (if a then check_from One [] 2 ls rest else (if b then check_from Two [] 2 ls rest else Err 1)) ≡ Ok xs → (v : DumpVersion) × AreLinesOf v xs (l ∷ ls) rest
+head_sound true b l ls rest xs is other e = (One, headed One l ls rest xs is e)
+head_sound false true l ls rest xs isnt is e = (Two, headed Two l ls rest xs is e)
 head_sound false false l ls rest xs isnt is e = cc
 
 pub check_sound : (ls : List (List ℕ)) (rest : List ℕ) (xs : List PlainLine) → check ls rest ≡ Ok xs → (v : DumpVersion) × AreLinesOf v xs ls rest
 check_sound [] rest xs e = cc
-check_sound (l ∷ ls) rest xs e = head_sound (bytes_eq l (head_text one)) (bytes_eq l (head_text two)) l ls rest xs refl refl e
+check_sound (l ∷ ls) rest xs e = head_sound (bytes_eq l (head_text One)) (bytes_eq l (head_text Two)) l ls rest xs refl refl e
 
-two_isnt_one : bytes_eq (head_text two) (head_text one) ≡ false
+two_isnt_one : bytes_eq (head_text Two) (head_text One) ≡ false
 unfolding escape_byte digits
 two_isnt_one = refl
 
 pub check_complete : (v : DumpVersion) (xs : List PlainLine) → AreNext v [] xs → check (dump_lines v xs) [] ≡ Ok xs
-check_complete one xs h =
-    ap (λ b. if b then check_from one [] 2 (map (text_of one) xs ++ count_text (length xs) ∷ []) [] else (if bytes_eq (head_text one) (head_text two) then check_from two [] 2 (map (text_of one) xs ++ count_text (length xs) ∷ []) [] else Err 1)) (same_bytes (head_text one))
-    ∙ from_complete one [] xs 2 h
-check_complete two xs h =
-    ap₂ (λ a b. if a then check_from one [] 2 (map (text_of two) xs ++ count_text (length xs) ∷ []) [] else (if b then check_from two [] 2 (map (text_of two) xs ++ count_text (length xs) ∷ []) [] else Err 1)) two_isnt_one (same_bytes (head_text two))
-    ∙ from_complete two [] xs 2 h
+check_complete One xs h =
+    ap (λ b. if b then check_from One [] 2 (map (text_of One) xs ++ count_text (length xs) ∷ []) [] else (if bytes_eq (head_text One) (head_text Two) then check_from Two [] 2 (map (text_of One) xs ++ count_text (length xs) ∷ []) [] else Err 1)) (same_bytes (head_text One))
+    ∙ from_complete One [] xs 2 h
+check_complete Two xs h =
+    ap₂ (λ a b. if a then check_from One [] 2 (map (text_of Two) xs ++ count_text (length xs) ∷ []) [] else (if b then check_from Two [] 2 (map (text_of Two) xs ++ count_text (length xs) ∷ []) [] else Err 1)) two_isnt_one (same_bytes (head_text Two))
+    ∙ from_complete Two [] xs 2 h

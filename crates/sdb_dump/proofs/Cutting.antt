@@ -5,7 +5,9 @@ use Rattle.std.proofs.lemmas.Bool.Decides.{nat_tests}
 use Rattle.sdb_dump.specs.Dumps.{PlainLine, head_text, count_text, text_of, dump_lines, ended_lines, dump_text, check}
 use Rattle.sdb_dump.specs.Accepted.{AllWithin, IsDump}
 use Rattle.sdb_dump.proofs.Accepting.{AllFit, all_fit, dumps_accepted, accepted_dumps}
-use Rattle.sdb_dump.specs.Lines.{DumpVersion, one, two, number_of, shown_moment, line_data}
+use Rattle.sdb_dump.specs.declared.version.DumpVersion.{DumpVersion}
+use Rattle.sdb_dump.specs.declared.version.DumpVersion.TheVariants.{One, Two}
+use Rattle.sdb_dump.specs.Lines.{number_of, shown_moment, line_data}
 use Rattle.sdb_dump.proofs.Lines.{line_sound, shown_counts}
 use Rattle.sdb_dump.specs.Sound.{IsSound}
 use Rattle.json.proofs.Printed.Utf8.{are_ascii, IsUtf8-are_ascii}
@@ -53,8 +55,8 @@ one_member : (k : List ℕ) (n : ℕ) → are_ascii k ≡ true → n < 2 ^ 64 �
 one_member k n e h = (IsUtf8-are_ascii k e, h, tt, tt)
 
 small : (v : DumpVersion) → number_of v < 2 ^ 64
-small one = omega arith
-small two = omega arith
+small One = omega arith
+small Two = omega arith
 
 dump_are_lines : (v : DumpVersion) (xs : List PlainLine) → IsDump xs → AllWithin v xs → length xs < 2 ^ 64 → AreLines (dump_lines v xs)
 dump_are_lines v xs d f few = (

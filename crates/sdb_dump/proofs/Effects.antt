@@ -63,21 +63,24 @@ Made u a e = IsWellFormed e × (depth e ≤ max (depth u) (50 + length (last_ste
 
 insert_fits : (i : ℕ) (v : Value) (ds : Items) → FitsValue 50 v → AreWellFormed ds → Opt (λ es. AreWellFormed es × (items_depth es ≤ max (items_depth ds) 50)) (insert_item i v ds)
 insert_fits i v ds h k =
-    opt_if (λ es. AreWellFormed es × (items_depth es ≤ max (items_depth ds) 50)) (nat_le i (count ds)) (Some (join (take_items i ds) (item v (drop_items i ds)))) None
-    (join_well (take_items i ds) (item v (drop_items i ds)) (take_well i ds k) (h.0, drop_well i ds k),
-    omega (arith, join_deep (take_items i ds) (item v (drop_items i ds)), take_deep i ds, drop_deep i ds, h.1)) tt
+    opt_if (λ es. AreWellFormed es × (items_depth es ≤ max (items_depth ds) 50)) (nat_le i (count ds)) (Some (join (take_items i ds) (item v (drop_items i ds)))) None (
+      join_well (take_items i ds) (item v (drop_items i ds)) (take_well i ds k) (h.0, drop_well i ds k),
+      omega (arith, join_deep (take_items i ds) (item v (drop_items i ds)), take_deep i ds, drop_deep i ds, h.1),
+    ) tt
 
 replace_fits : (i : ℕ) (v : Value) (ds : Items) → FitsValue 50 v → AreWellFormed ds → Opt (λ es. AreWellFormed es × (items_depth es ≤ max (items_depth ds) 50)) (replace_item i v ds)
 replace_fits i v ds h k =
-    opt_if (λ es. AreWellFormed es × (items_depth es ≤ max (items_depth ds) 50)) (nat_lt i (count ds)) (Some (join (take_items i ds) (item v (drop_items (suc i) ds)))) None
-    (join_well (take_items i ds) (item v (drop_items (suc i) ds)) (take_well i ds k) (h.0, drop_well (suc i) ds k),
-    omega (arith, join_deep (take_items i ds) (item v (drop_items (suc i) ds)), take_deep i ds, drop_deep (suc i) ds, h.1)) tt
+    opt_if (λ es. AreWellFormed es × (items_depth es ≤ max (items_depth ds) 50)) (nat_lt i (count ds)) (Some (join (take_items i ds) (item v (drop_items (suc i) ds)))) None (
+      join_well (take_items i ds) (item v (drop_items (suc i) ds)) (take_well i ds k) (h.0, drop_well (suc i) ds k),
+      omega (arith, join_deep (take_items i ds) (item v (drop_items (suc i) ds)), take_deep i ds, drop_deep (suc i) ds, h.1),
+    ) tt
 
 remove_fits : (i : ℕ) (ds : Items) → AreWellFormed ds → Opt (λ es. AreWellFormed es × (items_depth es ≤ max (items_depth ds) 50)) (remove_item i ds)
 remove_fits i ds k =
-    opt_if (λ es. AreWellFormed es × (items_depth es ≤ max (items_depth ds) 50)) (nat_lt i (count ds)) (Some (join (take_items i ds) (drop_items (suc i) ds))) None
-    (join_well (take_items i ds) (drop_items (suc i) ds) (take_well i ds k) (drop_well (suc i) ds k),
-    omega (arith, join_deep (take_items i ds) (drop_items (suc i) ds), take_deep i ds, drop_deep (suc i) ds)) tt
+    opt_if (λ es. AreWellFormed es × (items_depth es ≤ max (items_depth ds) 50)) (nat_lt i (count ds)) (Some (join (take_items i ds) (drop_items (suc i) ds))) None (
+      join_well (take_items i ds) (drop_items (suc i) ds) (take_well i ds k) (drop_well (suc i) ds k),
+      omega (arith, join_deep (take_items i ds) (drop_items (suc i) ds), take_deep i ds, drop_deep (suc i) ds),
+    ) tt
 
 abbrev Within : Items → Items → Type 0
 Within ds es = AreWellFormed es × (items_depth es ≤ max (items_depth ds) 50)

@@ -26,7 +26,9 @@ use Rattle.sdb_dump.proofs.PrintedTexts.{utf8_compact}
 use Rattle.sdb_dump.proofs.Values.{value_sound, value_deep, profile_back}
 use Rattle.sdb_dump.proofs.Components.{count_back, op_back, op_sound, op_deep}
 use Rattle.sdb_dump.specs.Dumps.{PlainLine, text_of, read_of}
-use Rattle.sdb_dump.specs.Lines.{DumpVersion, one, two, shown_moment, version_data, arrived_members, arrived_data, moment_then, with_content, line_tail, line_data, line_text, needs, arrived_of, submission_of, PlainRead, moment_of, line_of, read_line}
+use Rattle.sdb_dump.specs.declared.version.DumpVersion.{DumpVersion}
+use Rattle.sdb_dump.specs.declared.version.DumpVersion.TheVariants.{One, Two}
+use Rattle.sdb_dump.specs.Lines.{shown_moment, version_data, arrived_members, arrived_data, moment_then, with_content, line_tail, line_data, line_text, needs, arrived_of, submission_of, PlainRead, moment_of, line_of, read_line}
 use Rattle.sdb_dump.specs.Within.{FitsName, FitsKey, FitsMoment, MayCount, FitsContent, IsFew, FitsSubmission, FitsEntry}
 
 -- ---- sound
@@ -88,9 +90,12 @@ pub line_sound : (v : DumpVersion) (k : PlainKey) (e : PlainEntry) (o : Option �
     → IsSound (line_data k e o)
 line_sound v k e o f h g =
     let s = h.arrived in
-    let came = arrived_sound e.arrived.content (version_data e.arrived.version) s.content (version_sound e.arrived.version s.version) in
-    (word _ refl, came, (refl, arrived_first k e.content o e),
-    (word _ refl, count_sound e.arrived.by s.by, by_first k e.content o e, mid_sound v k e.content o e f h.content g h))
+    let came = arrived_sound e.arrived.content (version_data e.arrived.version) s.content (version_sound e.arrived.version s.version) in (
+      word _ refl,
+      came,
+      (refl, arrived_first k e.content o e),
+      (word _ refl, count_sound e.arrived.by s.by, by_first k e.content o e, mid_sound v k e.content o e f h.content g h),
+    )
 
 -- ---- deep
 
@@ -174,19 +179,33 @@ shown_moment_at k (edit op) n e = refl
 
 moment_back : (v : DumpVersion) (k : PlainKey) (e : PlainEntry) → FitsMoment v e.moment
     → moment_of v (line_data k e (shown_moment v e.moment)) ≡ Some e.moment
-moment_back one k e h = ap Some (sym h)
-moment_back two k e h = rw (shown_moment_at k e.content e.moment e, count_back e.moment h) refl
+moment_back One k e h = ap Some (sym h)
+moment_back Two k e h = rw (shown_moment_at k e.content e.moment e, count_back e.moment h) refl
 
 line_by : (v : DumpVersion) (d : Data) (k : PlainKey) (e : PlainEntry) → Has d k e → moment_of v d ≡ Some e.moment → FitsKey k → FitsSubmission e.arrived
     → line_of v d ≡ Some (record { key = k; submission = e.arrived; moment = e.moment })
 line_by v d k e has then f s =
-    rw (has.2, has.3, name_back k.collection f.collection, name_back k.id f.id,
-    has.0, arrived_back e.arrived s, has.4, count_back e.arrived.seq s.seq, has.5, name_back e.arrived.src s.src,
-    has.6, name_back e.arrived.via s.via, has.1, count_back e.arrived.by s.by, then) refl
+    rw (
+      has.2,
+      has.3,
+      name_back k.collection f.collection,
+      name_back k.id f.id,
+      has.0,
+      arrived_back e.arrived s,
+      has.4,
+      count_back e.arrived.seq s.seq,
+      has.5,
+      name_back e.arrived.src s.src,
+      has.6,
+      name_back e.arrived.via s.via,
+      has.1,
+      count_back e.arrived.by s.by,
+      then,
+    ) refl
 
 pub shown_counts : (v : DumpVersion) (m : ℕ) → FitsMoment v m → MayCount (shown_moment v m)
-shown_counts one m h = tt
-shown_counts two m h = h
+shown_counts One m h = tt
+shown_counts Two m h = h
 
 pub line_reads_back : (v : DumpVersion) (x : PlainLine) → FitsKey x.key → FitsEntry v x.entry → read_line v (text_of v x) ≡ Some (read_of x)
 line_reads_back v x f h =

@@ -2,7 +2,8 @@
 use Rattle.std.proofs.Common.{◌≡◌, ℕ, suc, ◌+◌, List, [], ◌∷◌, ◌++◌, length, Bool, true, false, bytes_eq, Option, Some, None, Ok, Err, refl, sym, ap, ◌∙◌, arith, length-append}
 use Rattle.std.specs.Prelude.{⊤, if◌then◌else◌, Result}
 use Rattle.std.specs.Option.{option_map_or}
-use Rattle.sdb_dump.specs.Lines.{DumpVersion, one, two}
+use Rattle.sdb_dump.specs.declared.version.DumpVersion.{DumpVersion}
+use Rattle.sdb_dump.specs.declared.version.DumpVersion.TheVariants.{One, Two}
 use Rattle.sdb_dump.specs.Dumps.{PlainLine, head_text, count_text, enter, over, check_from, check}
 use Rattle.sdb_dump.specs.Stages.{PlainStage, head, body, done, wrong, after_line, after, ended, staged}
 
@@ -32,13 +33,13 @@ staged_from v [] rest xs = refl
 staged_from v (l ∷ ls) rest xs = line_from v (bytes_eq l (count_text (length xs))) (enter v xs l) xs ls rest (staged_from v ls rest)
 
 head_from : (a b : Bool) (ls : List (List ℕ)) (rest : List ℕ)
-    → staged (if a then body one [] else (if b then body two [] else wrong 1)) ls rest
-    ≡ (if a then check_from one [] 2 ls rest else (if b then check_from two [] 2 ls rest else Err 1))
-head_from true b ls rest = staged_from one ls rest []
-head_from false true ls rest = staged_from two ls rest []
+    → staged (if a then body One [] else (if b then body Two [] else wrong 1)) ls rest
+    ≡ (if a then check_from One [] 2 ls rest else (if b then check_from Two [] 2 ls rest else Err 1))
+head_from true b ls rest = staged_from One ls rest []
+head_from false true ls rest = staged_from Two ls rest []
 head_from false false ls rest = wrong_stays 1 ls rest
 
 -- line by line, the answer is the same
 pub staged_is : (ls : List (List ℕ)) (rest : List ℕ) → staged head ls rest ≡ check ls rest
 staged_is [] rest = refl
-staged_is (l ∷ ls) rest = head_from (bytes_eq l (head_text one)) (bytes_eq l (head_text two)) ls rest
+staged_is (l ∷ ls) rest = head_from (bytes_eq l (head_text One)) (bytes_eq l (head_text Two)) ls rest

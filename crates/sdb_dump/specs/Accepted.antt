@@ -6,7 +6,7 @@ use Rattle.sdb_transform.specs.Transform.{transform}
 use Rattle.sdb_oplog.specs.Keys.{PlainKey}
 use Rattle.sdb_oplog.specs.Decide.{IsMade}
 use Rattle.sdb_dump.specs.Fits.{FitsComponent, FitComponents}
-use Rattle.sdb_dump.specs.Lines.{DumpVersion}
+use Rattle.sdb_dump.specs.declared.version.DumpVersion.{DumpVersion}
 use Rattle.sdb_dump.specs.Within.{FitsKey, FitsMoment, FitsSubmission}
 use Rattle.sdb_dump.specs.Dumps.{PlainLine, log_in, follows, dump_lines, check}
 

@@ -1,6 +1,6 @@
 -- A text, cut at its line feeds.
 use Rattle.std.specs.Prelude.{◌≡◌, ◌≢◌, ◌<◌, ◌^◌, length, ℕ, List, [], ◌∷◌, ◌++◌, ◌==◌, if◌then◌else◌, Result, Ok, ⊤}
-use Rattle.sdb_dump.specs.Lines.{DumpVersion}
+use Rattle.sdb_dump.specs.declared.version.DumpVersion.{DumpVersion}
 use Rattle.sdb_dump.specs.Dumps.{PlainLine, dump_text, check}
 use Rattle.sdb_dump.specs.Accepted.{AllWithin, IsDump}
 

@@ -11,7 +11,9 @@ use Rattle.sdb_oplog.specs.Keys.{PlainKey, Logs, key_cmp, same_key}
 use Rattle.sdb_oplog.specs.Plain.{PlainContent, PlainSubmission, PlainEntry}
 use Rattle.sdb_oplog.specs.declared.codes.Code.{Code}
 use Rattle.sdb_oplog.specs.Snap.{stored_at}
-use Rattle.sdb_dump.specs.Lines.{DumpVersion, one, two, number_of, shown_moment, line_text, PlainRead, read_line, needs}
+use Rattle.sdb_dump.specs.declared.version.DumpVersion.{DumpVersion}
+use Rattle.sdb_dump.specs.declared.version.DumpVersion.TheVariants.{One, Two}
+use Rattle.sdb_dump.specs.Lines.{number_of, shown_moment, line_text, PlainRead, read_line, needs}
 
 -- an entry of the log of a key
 pub record PlainLine : Type 0 where
@@ -112,5 +114,5 @@ check_from v xs n (l ∷ ls) rest =
 abbrev pub check : List (List ℕ) → List ℕ → Result (List PlainLine) ℕ
 check [] rest = Err 1
 check (l ∷ ls) rest =
-    if bytes_eq l (head_text one) then check_from one [] 2 ls rest
-    else (if bytes_eq l (head_text two) then check_from two [] 2 ls rest else Err 1)
+    if bytes_eq l (head_text One) then check_from One [] 2 ls rest
+    else (if bytes_eq l (head_text Two) then check_from Two [] 2 ls rest else Err 1)

@@ -1,7 +1,8 @@
 -- Laws of the lines of a dump.
 use Rattle.std.specs.Prelude.{◌≡◌, ℕ, List, [], Some, Ok}
 use Rattle.sdb_dump.specs.Dumps.{PlainLine, text_of, read_of, dump_lines, AreNext, check}
-use Rattle.sdb_dump.specs.Lines.{DumpVersion, read_line}
+use Rattle.sdb_dump.specs.declared.version.DumpVersion.{DumpVersion}
+use Rattle.sdb_dump.specs.Lines.{read_line}
 use Rattle.sdb_dump.specs.Within.{FitsKey, FitsEntry}
 
 -- the line of an entry is read as what it was made of

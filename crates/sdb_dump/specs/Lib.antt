@@ -8,5 +8,6 @@ pub mod Listed
 pub mod Printed
 pub mod Sound
 pub mod Stages
+pub mod View
 pub mod Within
 pub mod Worked

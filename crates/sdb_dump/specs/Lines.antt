@@ -12,21 +12,19 @@ use Rattle.sdb_oplog.specs.Keys.{PlainKey}
 use Rattle.sdb_oplog.specs.Plain.{PlainContent, create, delete, edit, PlainSubmission, PlainEntry}
 use Rattle.sdb_value.specs.Profile.{count_of}
 use Rattle.sdb_wire.specs.Answers.{create_data}
+use Rattle.sdb_dump.specs.declared.version.DumpVersion.{DumpVersion}
+use Rattle.sdb_dump.specs.declared.version.DumpVersion.TheVariants.{One, Two}
 use Rattle.sdb_wire.specs.Wire.{key_of, name_at, count_at, may, present, content_of}
 
 -- the first version of a dump shows no moments, and they are 0; the second one shows them
-pub data DumpVersion : Type 0 where
-  one : DumpVersion
-  two : DumpVersion
-
 abbrev pub number_of : DumpVersion → ℕ
-number_of one = 1
-number_of two = 2
+number_of One = 1
+number_of Two = 2
 
 -- the moment, where the dump shows it
 abbrev pub shown_moment : DumpVersion → ℕ → Option ℕ
-shown_moment one m = None
-shown_moment two m = Some m
+shown_moment One m = None
+shown_moment Two m = Some m
 
 -- ---- what is printed. Members stand in the order of their bytes
 
@@ -101,8 +99,8 @@ submission_of d =
 
 -- 0 where the dump shows no moments
 abbrev pub moment_of : DumpVersion → Data → Option ℕ
-moment_of one d = Some 0
-moment_of two d = count_at (codes "m") d
+moment_of One d = Some 0
+moment_of Two d = count_at (codes "m") d
 
 -- what a line says: a submission of a key, and the moment at which it was stored
 pub record PlainRead : Type 0 where

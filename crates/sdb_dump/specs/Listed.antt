@@ -4,7 +4,7 @@ use Rattle.std.specs.declared.cmp.Ordering.TheVariants.{Less}
 use Rattle.sdb_oplog.specs.Decide.{IsMade}
 use Rattle.sdb_oplog.specs.Keys.{PlainKey, Logs, key_cmp, same_key}
 use Rattle.sdb_oplog.specs.Plain.{PlainEntry}
-use Rattle.sdb_dump.specs.Lines.{DumpVersion}
+use Rattle.sdb_dump.specs.declared.version.DumpVersion.{DumpVersion}
 use Rattle.sdb_dump.specs.Dumps.{PlainLine, log_in, dump_text}
 use Rattle.sdb_dump.specs.Accepted.{IsDump}
 

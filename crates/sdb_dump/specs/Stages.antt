@@ -1,7 +1,8 @@
 -- A checker of lines that come one after the other.
 use Rattle.std.specs.Prelude.{◌≡◌, ℕ, ◌+◌, List, [], ◌∷◌, ◌++◌, length, if◌then◌else◌, bytes_eq, Bool, true, false, Option, Some, None, Result, Ok, Err}
 use Rattle.std.specs.Option.{option_map_or}
-use Rattle.sdb_dump.specs.Lines.{DumpVersion, one, two}
+use Rattle.sdb_dump.specs.declared.version.DumpVersion.{DumpVersion}
+use Rattle.sdb_dump.specs.declared.version.DumpVersion.TheVariants.{One, Two}
 use Rattle.sdb_dump.specs.Dumps.{PlainLine, head_text, count_text, enter, check}
 
 -- before the head, before the count, behind it; or the number of the first line that isn't right
@@ -18,7 +19,7 @@ after_line v xs (Some x) = body v (xs ++ x ∷ [])
 -- after one more line
 abbrev pub after : PlainStage → List ℕ → PlainStage
 after head l =
-    if bytes_eq l (head_text one) then body one [] else (if bytes_eq l (head_text two) then body two [] else wrong 1)
+    if bytes_eq l (head_text One) then body One [] else (if bytes_eq l (head_text Two) then body Two [] else wrong 1)
 after (body v xs) l =
     if bytes_eq l (count_text (length xs)) then done xs else after_line v xs (enter v xs l)
 after (done xs) l = wrong (length xs + 3)

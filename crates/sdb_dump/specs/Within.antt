@@ -4,7 +4,8 @@ use Rattle.std.specs.Str.{IsUtf8}
 use Rattle.sdb_oplog.specs.Keys.{PlainKey}
 use Rattle.sdb_oplog.specs.Plain.{PlainContent, create, delete, edit, PlainSubmission, PlainEntry}
 use Rattle.sdb_dump.specs.Fits.{IsCount, FitsValue, FitComponents}
-use Rattle.sdb_dump.specs.Lines.{DumpVersion, one, two}
+use Rattle.sdb_dump.specs.declared.version.DumpVersion.{DumpVersion}
+use Rattle.sdb_dump.specs.declared.version.DumpVersion.TheVariants.{One, Two}
 
 -- 1 to 200 bytes of UTF-8
 pub record FitsName (s : List ℕ) : Type 0 where
@@ -43,8 +44,8 @@ pub record FitsSubmission (s : PlainSubmission) : Type 0 where
 
 -- a moment is a number that may be shown, and 0 where it isn't shown
 abbrev pub FitsMoment : DumpVersion → ℕ → Type 0
-FitsMoment one m = m ≡ 0
-FitsMoment two m = IsCount m
+FitsMoment One m = m ≡ 0
+FitsMoment Two m = IsCount m
 
 pub record FitsEntry (v : DumpVersion) (e : PlainEntry) : Type 0 where
   pub version : IsCount e.version

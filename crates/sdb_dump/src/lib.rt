@@ -2,3 +2,7 @@
 #![tactic(auto)]
 
 pub mod laws;
+mod lines;
+mod version;
+
+pub use version::DumpVersion;
