@@ -1,4 +1,6 @@
 pub mod Accepted
+pub mod Checks
+pub mod Faults
 pub mod Cut
 pub mod Dumps
 pub mod Exact
@@ -8,6 +10,7 @@ pub mod Listed
 pub mod Printed
 pub mod Sound
 pub mod Stages
+pub mod Text
 pub mod View
 pub mod Within
 pub mod Worked

@@ -1,8 +1,12 @@
 //! Dumps: the text of all that is stored, and a checker of such texts.
 #![tactic(auto)]
 
+mod checking;
 pub mod laws;
 mod lines;
+mod stream;
 mod version;
 
+pub use checking::{Checked, DumpFault};
+pub use stream::check_dump;
 pub use version::DumpVersion;
