@@ -7,6 +7,7 @@ pub mod Cutting
 pub mod Decided
 pub mod Effects
 pub mod Feeds
+pub mod Going
 pub mod Grid
 pub mod Lines
 pub mod Listing

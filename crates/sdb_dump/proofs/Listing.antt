@@ -1,6 +1,6 @@
 -- The lines of made logs, key by key, are a dump that has these logs.
 use Rattle.std.proofs.Common.{◌≡◌, ℕ, List, [], ◌∷◌, ◌++◌, Bool, true, false, cond, Ordering, Less, Equal, Greater, nat_cmp, is_eq, refl, sym, ap, ap₂, ◌∙◌, subst, append_assoc, append-nil}
-use Rattle.std.specs.Prelude.{⊤, if◌then◌else◌}
+use Rattle.std.specs.Prelude.{⊤, ◌||◌, if◌then◌else◌}
 use Rattle.std.specs.Ordering.{ordering_then, ordering_reverse, is_lt}
 use Rattle.std.specs.Cmp.Lexicographic.{slice_cmp}
 use Rattle.std.proofs.lemmas.Cmp.{nat_list_cmp_total, tied_itself}
@@ -10,7 +10,12 @@ use Rattle.sdb_oplog.specs.Decide.{IsMade}
 use Rattle.sdb_dump.specs.Dumps.{PlainLine, log_in, follows}
 use Rattle.sdb_dump.specs.Accepted.{AscendFrom, IsDump}
 use Rattle.sdb_dump.proofs.Accepting.{equal_keys}
-use Rattle.sdb_dump.specs.Listed.{of_log, of_logs, IsBelowAll, Ascend, stands, AreKeys}
+use Rattle.sdb_dump.specs.Listed.{of_log, of_logs}
+use Rattle.sdb_desk.specs.Machine.{is_filled}
+use Rattle.sdb_desk.specs.Stored.{AreStored}
+use Rattle.std.specs.List.{AllByRecursion}
+use Rattle.std.specs.List.Sorted.{IsStrictlySortedBy}
+use Rattle.std.specs.Set.{is_member}
 
 -- ---- keys
 
@@ -26,6 +31,16 @@ turned a b =
 
 tied : (a : PlainKey) → key_cmp a a ≡ Equal
 tied a = rw (tied_itself nat_list_cmp_total a.collection, tied_itself nat_list_cmp_total a.id) refl
+
+-- the key is below each of these
+abbrev IsBelowAll : PlainKey → List PlainKey → Type 0
+IsBelowAll k ks = AllByRecursion (λ j. key_cmp k j ≡ Less) ks
+
+abbrev Ascend : List PlainKey → Type 0
+Ascend = IsStrictlySortedBy key_cmp
+
+abbrev stands : List PlainKey → PlainKey → Bool
+stands = is_member same_key
 
 -- ---- the log of a key
 
@@ -45,10 +60,10 @@ log_of j (x ∷ es) k false e = ap (λ b. cond b (x ∷ log_in (of_log j es) k) 
 
 not_later : (k : PlainKey) (ks : List PlainKey) → IsBelowAll k ks → stands ks k ≡ false
 not_later k [] h = refl
-not_later k (j ∷ ks) h = ap (λ o. cond (is_eq o) true (stands ks k)) h.0 ∙ not_later k ks h.1
+not_later k (j ∷ ks) h = ap (λ o. is_eq o || stands ks k) h.0 ∙ not_later k ks h.1
 
 log_first : (f : Logs) (j : PlainKey) (ks : List PlainKey) (k : PlainKey) (b : Bool) → same_key k j ≡ b → Ascend (j ∷ ks) → log_in (of_logs f ks) k ≡ cond (stands ks k) (f k) []
-    → log_in (of_log j (f j)) k ++ log_in (of_logs f ks) k ≡ cond (cond b true (stands ks k)) (f k) []
+    → log_in (of_log j (f j)) k ++ log_in (of_logs f ks) k ≡ cond (b || stands ks k) (f k) []
 log_first f j ks k true e h below =
     let g : k ≡ j = equal_keys k j e in
     let none : stands ks k ≡ false = subst (λ q. stands ks q ≡ false) (sym g) (not_later j ks h.0) in
@@ -60,12 +75,13 @@ log_all f [] k h = refl
 log_all f (j ∷ ks) k h =
     log_append (of_log j (f j)) (of_logs f ks) k ∙ log_first f j ks k (same_key k j) refl h (log_all f ks k h.1)
 
-whole_log : (f : Logs) (k : PlainKey) (b : Bool) → (b ≡ false → f k ≡ []) → cond b (f k) [] ≡ f k
-whole_log f k true h = refl
-whole_log f k false h = sym (h refl)
+whole_log : (es : List PlainEntry) (b : Bool) → b ≡ is_filled es → cond b es [] ≡ es
+whole_log es true e = refl
+whole_log [] false e = refl
+whole_log (x ∷ es) false e = cc
 
-logs_are : (f : Logs) (ks : List PlainKey) → AreKeys f ks → (k : PlainKey) → log_in (of_logs f ks) k ≡ f k
-logs_are f ks h k = log_all f ks k h.ascend ∙ whole_log f k (stands ks k) (h.whole k)
+logs_are : (f : Logs) (ks : List PlainKey) → AreStored f ks → (k : PlainKey) → log_in (of_logs f ks) k ≡ f k
+logs_are f ks h k = log_all f ks k h.in_order ∙ whole_log (f k) (stands ks k) (h.whole k)
 
 -- ---- in order
 
@@ -99,9 +115,9 @@ ready_first : (ks : List PlainKey) → Ready [] ks
 ready_first [] = tt
 ready_first (k ∷ ks) = (refl, ready_first ks)
 
-pub logs_are_dumped : (f : Logs) (ks : List PlainKey) → AreKeys f ks → ((k : PlainKey) → IsMade (f k))
+pub logs_are_dumped : (f : Logs) (ks : List PlainKey) → AreStored f ks → ((k : PlainKey) → IsMade (f k))
     → IsDump (of_logs f ks) × ((k : PlainKey) → log_in (of_logs f ks) k ≡ f k)
 logs_are_dumped f ks h m = (
-  record { ascends = ascends f ks [] h.ascend (ready_first ks); made = λ k. subst IsMade (sym (logs_are f ks h k)) (m k) },
+  record { ascends = ascends f ks [] h.in_order (ready_first ks); made = λ k. subst IsMade (sym (logs_are f ks h k)) (m k) },
   logs_are f ks h,
 )
