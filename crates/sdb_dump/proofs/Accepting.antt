@@ -20,7 +20,7 @@ use Rattle.sdb_dump.specs.Within.{FitsKey, FitsContent, FitsMoment, FitsSubmissi
 use Rattle.sdb_dump.specs.Dumps.{PlainLine, log_in, follows, IsNext, AreNext, stored_by, dump_lines, check}
 use Rattle.sdb_dump.proofs.Checks.{check_sound, check_complete}
 use Rattle.sdb_dump.proofs.Decided.{Stored, stored_from, stored_is}
-use Rattle.sdb_dump.proofs.Lines.{line_reads_back}
+use Rattle.sdb_dump.proofs.ReadBack.{line_reads_back}
 use Rattle.sdb_dump.specs.Accepted.{AscendFrom, AllWithin, IsDump}
 use Rattle.sdb_dump.proofs.Grid.{Okay, AllContents, settled_fits}
 

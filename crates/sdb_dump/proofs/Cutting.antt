@@ -8,7 +8,7 @@ use Rattle.sdb_dump.proofs.Accepting.{AllFit, all_fit, dumps_accepted, accepted_
 use Rattle.sdb_dump.specs.declared.version.DumpVersion.{DumpVersion}
 use Rattle.sdb_dump.specs.declared.version.DumpVersion.TheVariants.{One, Two}
 use Rattle.sdb_dump.specs.Lines.{number_of, shown_moment, line_data}
-use Rattle.sdb_dump.proofs.Lines.{line_sound, shown_counts}
+use Rattle.sdb_dump.proofs.ReadBack.{line_sound, shown_counts}
 use Rattle.sdb_dump.specs.Sound.{IsSound}
 use Rattle.json.proofs.Printed.Utf8.{are_ascii, IsUtf8-are_ascii}
 use Rattle.serde_json.specs.Data.{Data, number, unsigned, object, no_members, member}

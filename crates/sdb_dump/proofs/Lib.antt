@@ -9,7 +9,7 @@ pub mod Effects
 pub mod Feeds
 pub mod Going
 pub mod Grid
-pub mod Lines
+pub mod ReadBack
 pub mod Listing
 pub mod Places
 pub mod PrintedTexts
