@@ -213,7 +213,7 @@ impl Checker {
         let Some(entry) = self.shard.log(key).and_then(|log| log.get(at)) else {
             return Ok(false);
         };
-        if entry.moment() != moment {
+        if entry.moment().milliseconds() != moment.milliseconds() {
             return Ok(false);
         }
         Ok(line_text(self.alloc, version, key, entry)?.as_slice() == line)
