@@ -5,7 +5,7 @@ use Rattle.std.specs.Option.{option_map_or}
 use Rattle.std.proofs.lemmas.Bool.{leb-true, leb-false}
 use Rattle.std.proofs.lemmas.Str.{IsUtf8-append, IsUtf8-take, IsUtf8-drop}
 use Rattle.sdb_value.specs.Value.{Value, PlainStep, key, index, same_text}
-use Rattle.sdb_value.specs.Text.{units, cut_at}
+use Rattle.sdb_text.specs.Text.{units, cut_at}
 use Rattle.sdb_component.specs.Plain.{PlainAct, na, si, sd, li, ld, lr, oi, od, or, PlainComponent}
 use Rattle.sdb_component.specs.Prints.{last_step, whole_path}
 use Rattle.sdb_apply.specs.Does.{does}

@@ -10,7 +10,7 @@ use Rattle.std.proofs.lemmas.Cmp.{nat_list_cmp_total}
 use Rattle.std.proofs.lemmas.Str.{IsUtf8-append, IsUtf8-take, IsUtf8-drop}
 use Rattle.std.proofs.lemmas.Int.{ints}
 use Rattle.sdb_value.specs.Value.{Value, null, truth, whole, text, list, object, Items, no_items, item, Members, no_members, member, PlainStep, key, index, item_at, member_at, set_item, set_member, same_text, put, without, count, take_items, drop_items, join, insert_item, remove_item, replace_item, depth, items_depth, members_depth, one, with_one, at, with}
-use Rattle.sdb_value.specs.Text.{cut_at, insert_text, remove_text}
+use Rattle.sdb_text.specs.Text.{cut_at, insert_text, remove_text}
 use Rattle.sdb_value.specs.Profile.{in_range}
 use Rattle.sdb_value.specs.WellFormed.{IsInRange, IsBelow, IsWellFormed, AreWellFormed, MembersWellFormed}
 use Rattle.sdb_value.proofs.Texts.{char_boundary, other_end}

@@ -184,7 +184,7 @@ moment_back Two k e h = rw (shown_moment_at k e.content e.moment e, count_back e
 
 line_by : (v : DumpVersion) (d : Data) (k : PlainKey) (e : PlainEntry) → Has d k e → moment_of v d ≡ Some e.moment → FitsKey k → FitsSubmission e.arrived
     → line_of v d ≡ Some (record { key = k; submission = e.arrived; moment = e.moment })
-line_by v d k e has then f s =
+line_by v d k e has when f s =
     rw (
       has.2,
       has.3,
@@ -200,7 +200,7 @@ line_by v d k e has then f s =
       name_back e.arrived.via s.via,
       has.1,
       count_back e.arrived.by s.by,
-      then,
+      when,
     ) refl
 
 pub shown_counts : (v : DumpVersion) (m : ℕ) → FitsMoment v m → MayCount (shown_moment v m)

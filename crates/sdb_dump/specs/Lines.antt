@@ -87,15 +87,18 @@ abbrev pub arrived_of : Data → Option (PlainContent × Option ℕ)
 arrived_of d =
     needs (λ m. needs (λ v. Some (m, v)) (result_ok (may count_of (present (codes "v") d)))) (result_ok (content_of d))
 
-abbrev pub submission_of : Data → Option PlainSubmission
-submission_of d =
-    needs (λ a. needs (λ n. needs (λ s. needs (λ w. needs (λ b.
+-- who sent it, and through which collection
+abbrev pub sent_of : Data → PlainContent × Option ℕ → ℕ → Option PlainSubmission
+sent_of d a n =
+    needs (λ s. needs (λ w. needs (λ b.
     Some (record { src = s; seq = n; version = a.1; content = a.0; via = w; by = b }))
     (count_at (codes "by") d))
     (name_at (codes "via") d))
-    (name_at (codes "src") d))
-    (count_at (codes "seq") d))
-    (needs arrived_of (get (codes "arrived") d))
+    (name_at (codes "src") d)
+
+abbrev pub submission_of : Data → Option PlainSubmission
+submission_of d =
+    needs (λ a. needs (sent_of d a) (count_at (codes "seq") d)) (needs arrived_of (get (codes "arrived") d))
 
 -- 0 where the dump shows no moments
 abbrev pub moment_of : DumpVersion → Data → Option ℕ

@@ -3,7 +3,7 @@ ghost use Rattle.std.specs.Prelude.{◌≡◌, ◌+◌, ◌^◌, ◌<◌, ◌≤
 ghost use Rattle.sdb_oplog.specs.Keys.{plain_key};
 ghost use Rattle.sdb_oplog.specs.Plain.{PlainEntry};
 ghost use Rattle.sdb_desk.specs.ShardView.{logs_of};
-ghost use Rattle.std.specs.Slice.{slice_get};
+ghost use Rattle.std.specs.List.{slice_get};
 ghost use Rattle.sdb_dump.specs.Checks.{Checks, Enters, HasAll, Holds};
 ghost use Rattle.sdb_dump.specs.Dumps.{PlainLine, count_text, enter, entered_after, follows, text_of};
 ghost use Rattle.sdb_dump.specs.Faults.{IsFault, IsWrong};

@@ -5,7 +5,7 @@ ghost use Rattle.serde_json.specs.Data.{Data, Members, member, no_members};
 ghost use Rattle.serde_json.specs.View.{view as data_view};
 ghost use Rattle.sdb_value.specs.Printed.{data_tokens, object_rest};
 ghost use Rattle.sdb_oplog.specs.Keys.{plain_key};
-ghost use Rattle.sdb_dump.specs.Lines.{shown_moment, arrived_members, arrived_data, moment_then, with_content, line_tail, line_data, line_text, arrived_of, submission_of, moment_of, line_of, read_line};
+ghost use Rattle.sdb_dump.specs.Lines.{shown_moment, arrived_members, arrived_data, moment_then, with_content, line_tail, line_data, line_text, arrived_of, sent_of, submission_of, moment_of, line_of, read_line};
 ghost use Rattle.sdb_dump.specs.View.{plain_line, OnlyMemory};
 
 use crate::version::DumpVersion;
@@ -59,12 +59,19 @@ fn write_line(
     out.key("arrived")?;
     write_arrived(entry.arrived(), out)?;
     write_count("by", entry.arrived().by(), out)?;
-    let moment = match version {
-        DumpVersion::One => None,
-        DumpVersion::Two => Some(entry.moment()),
-    };
+    let moment = shown_moment(version, entry.moment());
     write_content(key, entry.content(), moment, out)?;
     write_tail(entry, out)
+}
+
+// The moment, where the dump shows it.
+fn shown_moment(version: DumpVersion, moment: Moment) -> Option<Moment>
+    ensures { result ≡ shown_moment version moment }
+{
+    match version {
+        DumpVersion::One => None,
+        DumpVersion::Two => Some(moment),
+    }
 }
 
 // The content as it came, and the version.
@@ -221,9 +228,22 @@ fn submission_of(alloc: Global, value: &Value) -> Result<Option<Submission>, All
     let Some((content, version)) = arrived_of(alloc, arrived)? else {
         return Ok(None);
     };
-    let Some(seq) = count_at(value, "seq") else {
-        return Ok(None);
-    };
+    match count_at(value, "seq") {
+        Some(seq) => sent_of(alloc, value, content, version, seq),
+        None => Ok(None),
+    }
+}
+
+// The submission, with who sent it and through which collection.
+fn sent_of(
+    alloc: Global,
+    value: &Value,
+    content: Content,
+    version: Option<u64>,
+    seq: u64,
+) -> Result<Option<Submission>, AllocError>
+    ensures { IfOk result (λ s. s ≡ sent_of (data_view value.now) (content, version) seq) }
+{
     let Some(src) = unless_refused(need_name(alloc, value, "src"))? else {
         return Ok(None);
     };

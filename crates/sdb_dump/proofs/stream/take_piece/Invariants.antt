@@ -6,7 +6,7 @@ use Rattle.sdb_dump.proofs.stream.take_piece.Given as goal
 
 -- the lines so far were taken, and what is left is answered as all is
 abbrev pub invariant-loop-at : goal.invariant-loop-at
-invariant-loop-at g l = record {
+invariant-loop-at l = record {
   few : l.checker.entries + length l.rest ≤ l.initial.checker.entries + length l.initial.rest;
   taken : (s : PlainStage) → Checks l.initial.checker s
       → (t : PlainStage) × Checks l.checker t
@@ -14,4 +14,4 @@ invariant-loop-at g l = record {
 }
 
 abbrev pub decreases-loop-at : goal.decreases-loop-at
-decreases-loop-at g l = length l.rest
+decreases-loop-at l = length l.rest
