@@ -39,7 +39,7 @@ equal_keys a b e =
     let h = both_equal (slice_cmp nat_cmp a.collection b.collection) (slice_cmp nat_cmp a.id b.id) e in
     ap₂ (λ c i. record { collection = c; id = i }) (equal_texts a.collection b.collection h.0) (equal_texts a.id b.id h.1)
 
-same_as_itself : (k : PlainKey) → same_key k k ≡ true
+pub same_as_itself : (k : PlainKey) → same_key k k ≡ true
 same_as_itself k = rw (tied_itself nat_list_cmp_total k.collection, tied_itself nat_list_cmp_total k.id) refl
 
 -- ---- the log of a key, a line longer
@@ -48,7 +48,7 @@ either_more : (b : Bool) (y : PlainLine) (es fs more : List PlainEntry) → fs �
 either_more true y es fs more e = ap (λ l. y.entry ∷ l) e
 either_more false y es fs more e = e
 
-log_more : (before : List PlainLine) (x : PlainLine) (k : PlainKey) → log_in (before ++ x ∷ []) k ≡ log_in before k ++ cond (same_key k x.key) (x.entry ∷ []) []
+pub log_more : (before : List PlainLine) (x : PlainLine) (k : PlainKey) → log_in (before ++ x ∷ []) k ≡ log_in before k ++ cond (same_key k x.key) (x.entry ∷ []) []
 log_more [] x k = refl
 log_more (y ∷ before) x k = either_more (same_key k y.key) y (log_in before k) (log_in (before ++ x ∷ []) k) (cond (same_key k x.key) (x.entry ∷ []) []) (log_more before x k)
 
@@ -161,4 +161,5 @@ pub accepted_dumps : (ls : List (List ℕ)) (rest : List ℕ) (xs : List PlainLi
     → (v : DumpVersion) × (ls ≡ dump_lines v xs) × (rest ≡ []) × IsDump xs
 accepted_dumps ls rest xs e =
     let s = check_sound ls rest xs e in
-    (s.0, s.1, s.2, record { ascends = all_ascend s.0 [] xs s.3; made = all_made s.0 [] xs s.3 })
+    let lines = s.1 in
+    (s.0, lines.0, lines.1, record { ascends = all_ascend s.0 [] xs lines.2; made = all_made s.0 [] xs lines.2 })

@@ -4,14 +4,14 @@ use Rattle.std.specs.Prelude.{⊤, if◌then◌else◌, nat_lt, nat_le, nat_eq, 
 use Rattle.std.specs.Option.{option_map_or}
 use Rattle.std.proofs.lemmas.Bool.{leb-true, leb-false}
 use Rattle.std.proofs.lemmas.Str.{IsUtf8-append, IsUtf8-take, IsUtf8-drop}
-use Rattle.sdb_value.specs.Value.{Value, PlainStep, key, index, same_text}
+use Rattle.sdb_value.specs.Value.{Value, PlainStep, key, index, same_text, same_step}
 use Rattle.sdb_text.specs.Text.{units, cut_at}
 use Rattle.sdb_component.specs.Plain.{PlainAct, na, si, sd, li, ld, lr, oi, od, or, PlainComponent}
 use Rattle.sdb_component.specs.Prints.{last_step, whole_path}
 use Rattle.sdb_apply.specs.Does.{does}
 use Rattle.sdb_transform.specs.declared.side.Side.{Side}
 use Rattle.sdb_transform.specs.declared.side.Side.TheVariants.{Left, Right}
-use Rattle.sdb_transform.specs.Transform.{Acts, raised, left_or, as_it_is, dropped, over, sd_split, sd_without, unless_empty, at_path, with_removed, updated, Moved, moved, below, above, under_removed, removes, behind, same_step, index_over, key_over, step_over, transform, put_over_put}
+use Rattle.sdb_transform.specs.Transform.{Acts, raised, left_or, as_it_is, dropped, over, sd_split, sd_without, unless_empty, at_path, with_removed, updated, Moved, moved, below, above, under_removed, removes, behind, index_over, key_over, step_over, transform, put_over_put}
 use Rattle.sdb_transform.proofs.Behind.{behind_is}
 use Rattle.sdb_transform.proofs.Cuts.{cut_front, units_split}
 use Rattle.sdb_dump.specs.Fits.{IsCount, FitsValue, FitsText, FitsStep, FitSteps, FitsAct, FitsComponent, FitComponents}

@@ -11,7 +11,7 @@ use Rattle.sdb_dump.specs.Dumps.{entry_if, stored_by}
 not_longer : (log : List PlainEntry) (e : PlainEntry) → log ≡ log ++ e ∷ [] → ⊥
 not_longer log e h = let g : length log ≡ length log + 1 = ap length h ∙ length-append log (e ∷ []) in omega (arith, g)
 
-abbrev from_parts : Option ℕ → List PlainEntry → PlainSubmission → ℕ → Result PlainContent Code → Decided
+abbrev pub from_parts : Option ℕ → List PlainEntry → PlainSubmission → ℕ → Result PlainContent Code → Decided
 from_parts o log s now r = option_map_or (λ i. record { reply = repeated i; log = log }) o (store log s now r)
 
 same_end : (log : List PlainEntry) (e f : PlainEntry) → log ++ e ∷ [] ≡ log ++ f ∷ [] → e ≡ f

@@ -11,8 +11,8 @@ use Rattle.sdb_value.specs.Value.{Value, null, truth, whole, text, list, object,
 use Rattle.sdb_text.specs.Text.{cut_at, insert_text, remove_text}
 use Rattle.sdb_value.specs.Profile.{in_range}
 use Rattle.sdb_value.specs.WellFormed.{IsInRange, IsWellFormed, AreWellFormed, MembersWellFormed}
-use Rattle.sdb_value.proofs.Texts.{char_boundary, other_end}
-use Rattle.sdb_value.proofs.Cuts.{cut_split}
+use Rattle.sdb_text.proofs.Texts.{char_boundary, other_end}
+use Rattle.sdb_text.proofs.Cuts.{cut_split}
 use Rattle.sdb_component.specs.Plain.{PlainAct, na, si, sd, li, ld, lr, oi, od, or, PlainComponent}
 use Rattle.sdb_component.specs.Prints.{last_step, whole_path}
 use Rattle.sdb_apply.specs.Does.{effect, does}

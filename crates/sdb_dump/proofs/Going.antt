@@ -1,7 +1,7 @@
 -- How the check of a text goes on at a piece of it, and how it ends.
 use Rattle.std.proofs.Common.{◌≡◌, ◌≢◌, ℕ, ◌+◌, ◌-◌, List, [], ◌∷◌, ◌++◌, Some, None, take, drop, length, All, refl, ap, sym, ◌∙◌, subst, append_assoc, append-nil, arith, ne_eqb, IfSome}
 use Rattle.std.specs.declared.option.Option.{Option}
-use Rattle.std.specs.Prelude.{⊤, Ok, Err}
+use Rattle.std.specs.Prelude.{⊤, Result, Ok, Err, IfOk, IfErr}
 use Rattle.std.specs.Io.KnownBytes.{Consumes, IsAtEnd}
 use Rattle.std.proofs.KnownBytes.{Consumes-trans, Consumes-whole}
 use Rattle.std.proofs.lemmas.List.{take_rest}
@@ -126,3 +126,13 @@ module _ {left left' : Option (List ℕ)} {c : Checker} {held : List ℕ} (left'
 
   pub went_refused : (f : DumpFault) → ((s : PlainStage) → Checks c s → IsFault f (ended s held)) → IfSome left (λ text. IsFault f (check_text text))
   went_refused f h = at_end (λ text. IsFault f (check_text text)) (subst (IsFault f) all (h w.stage w.checks))
+
+-- ---- results
+
+pub if_ok_then : {A E : Type 0} {P Q : A → Type 0} (r : Result A E) → ((x : A) → P x → Q x) → IfOk r P → IfOk r Q
+if_ok_then (Ok x) f h = f x h
+if_ok_then (Err e) f h = tt
+
+pub if_err_then : {A E : Type 0} {P Q : E → Type 0} (r : Result A E) → ((e : E) → P e → Q e) → IfErr r P → IfErr r Q
+if_err_then (Ok x) f h = tt
+if_err_then (Err e) f h = f e h

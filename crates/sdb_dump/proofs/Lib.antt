@@ -6,7 +6,9 @@ pub mod Components
 pub mod Cutting
 pub mod Decided
 pub mod Effects
+pub mod Entering
 pub mod Feeds
+pub mod Following
 pub mod Going
 pub mod Grid
 pub mod ReadBack

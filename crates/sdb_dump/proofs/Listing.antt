@@ -64,6 +64,7 @@ not_later k (j ∷ ks) h = ap (λ o. is_eq o || stands ks k) h.0 ∙ not_later k
 
 log_first : (f : Logs) (j : PlainKey) (ks : List PlainKey) (k : PlainKey) (b : Bool) → same_key k j ≡ b → Ascend (j ∷ ks) → log_in (of_logs f ks) k ≡ cond (stands ks k) (f k) []
     → log_in (of_log j (f j)) k ++ log_in (of_logs f ks) k ≡ cond (b || stands ks k) (f k) []
+unfolding IsStrictlySortedBy
 log_first f j ks k true e h below =
     let g : k ≡ j = equal_keys k j e in
     let none : stands ks k ≡ false = subst (λ q. stands ks q ≡ false) (sym g) (not_later j ks h.0) in
@@ -71,6 +72,7 @@ log_first f j ks k true e h below =
 log_first f j ks k false e h below = ap₂ (λ a b. a ++ b) (log_of j (f j) k false e) below
 
 log_all : (f : Logs) (ks : List PlainKey) (k : PlainKey) → Ascend ks → log_in (of_logs f ks) k ≡ cond (stands ks k) (f k) []
+unfolding IsStrictlySortedBy
 log_all f [] k h = refl
 log_all f (j ∷ ks) k h =
     log_append (of_log j (f j)) (of_logs f ks) k ∙ log_first f j ks k (same_key k j) refl h (log_all f ks k h.1)
@@ -108,6 +110,7 @@ ascend_log f k ks (e ∷ es) before h r a next =
     (h, ascend_log f k ks es (before ++ x ∷ []) (follows_last before x k ∙ ap (λ o. if is_lt o then false else true) (tied k)) (ready_after before x ks a) a next)
 
 ascends : (f : Logs) (ks : List PlainKey) (before : List PlainLine) → Ascend ks → Ready before ks → AscendFrom before (of_logs f ks)
+unfolding IsStrictlySortedBy
 ascends f [] before h r = tt
 ascends f (k ∷ ks) before h r = ascend_log f k ks (f k) before r.0 r.1 h.0 (λ b q. ascends f ks b h.1 q)
 

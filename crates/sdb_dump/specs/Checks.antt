@@ -1,7 +1,10 @@
 -- What a checker of lines holds, and how far it is.
-use Rattle.std.specs.Prelude.{◌≡◌, ℕ, List, [], ◌∷◌, ◌++◌, length, Bool, true, false, Option, Some, None, option_map, Result, Ok}
+use Rattle.std.specs.Prelude.{◌≡◌, ℕ, List, [], ◌∷◌, ◌++◌, length, Bool, true, false, Option, Some, None, option_map, Result, Ok, Err, ⊤}
 use Rattle.sdb_desk.specs.ShardView.{logs_of}
+use Rattle.sdb_oplog.specs.Decide.{PlainReply, stored, repeated, refused}
 use Rattle.sdb_oplog.specs.Keys.{PlainKey, plain_key}
+use Rattle.sdb_oplog.specs.declared.codes.Code.TheVariants.{E10}
+use Rattle.std.specs.declared.alloc.AllocError.{AllocError}
 use Rattle.sdb_dump.specs.Dumps.{PlainLine, log_in}
 use Rattle.sdb_dump.specs.Stages.{PlainStage, head, body, done, wrong}
 use Rattle.sdb_dump.specs.declared.checking.Checked.{Checked}
@@ -48,3 +51,10 @@ Enters false o c xs = o ≡ None
 pub record HasAll (c : Checked) (xs : List PlainLine) : Type 0 where
   pub logs : (k : PlainKey) → logs_of c.shard k ≡ log_in xs k
   pub counted : c.entries ≡ length xs
+
+-- the version at which it was stored, or none where it wasn't; nothing is said where memory was wanting
+abbrev pub IsStoredAt : PlainReply → Result (Option ℕ) AllocError → Type 0
+IsStoredAt r (Err e) = ⊤
+IsStoredAt (stored v missed) (Ok o) = o ≡ Some v
+IsStoredAt (repeated v) (Ok o) = o ≡ None
+IsStoredAt (refused c) (Ok o) = (o ≡ None) × (c ≡ E10 → ⊥)

@@ -116,3 +116,8 @@ check [] rest = Err 1
 check (l ∷ ls) rest =
     if bytes_eq l (head_text One) then check_from One [] 2 ls rest
     else (if bytes_eq l (head_text Two) then check_from Two [] 2 ls rest else Err 1)
+
+-- the version of the dump that begins with this line
+abbrev pub version_of : List ℕ → Option DumpVersion
+version_of l =
+    if bytes_eq l (head_text One) then Some One else (if bytes_eq l (head_text Two) then Some Two else None)

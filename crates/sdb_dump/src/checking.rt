@@ -4,8 +4,9 @@ ghost use Rattle.sdb_oplog.specs.Keys.{plain_key};
 ghost use Rattle.sdb_oplog.specs.Plain.{PlainEntry};
 ghost use Rattle.sdb_desk.specs.ShardView.{logs_of};
 ghost use Rattle.std.specs.List.{slice_get};
-ghost use Rattle.sdb_dump.specs.Checks.{Checks, Enters, HasAll, Holds};
-ghost use Rattle.sdb_dump.specs.Dumps.{PlainLine, count_text, enter, entered_after, follows, text_of};
+ghost use Rattle.sdb_desk.specs.ReplyView.{plain_reply};
+ghost use Rattle.sdb_dump.specs.Checks.{Checks, Enters, HasAll, Holds, IsStoredAt};
+ghost use Rattle.sdb_dump.specs.Dumps.{PlainLine, count_text, enter, entered_after, follows, text_of, version_of};
 ghost use Rattle.sdb_dump.specs.Faults.{IsFault, IsWrong};
 ghost use Rattle.sdb_dump.specs.View.{plain_line};
 ghost use Rattle.sdb_dump.specs.Stages.{PlainStage, after, ended};
@@ -82,7 +83,8 @@ pub(crate) struct Checker {
 
 impl Checker {
     pub fn new(alloc: Global) -> Checker
-        ensures { Checks result PlainStage.head }
+        ensures checks { Checks result PlainStage.head }
+        ensures none { result.entries ≡ 0 }
     {
         Checker {
             alloc,
@@ -113,10 +115,8 @@ impl Checker {
         ensures taken { OnOk result ((s : PlainStage) → Checks self.old s → Checks self.new (after s line.now)) }
         ensures wrong { IfErr result (λ f. (s : PlainStage) → Checks self.old s → IsWrong f (after s line.now)) }
     {
-        let version = match line {
-            br#"{"dump":1}"# => DumpVersion::One,
-            br#"{"dump":2}"# => DumpVersion::Two,
-            _ => return Err(DumpFault::Wrong { line: 1 }),
+        let Some(version) = version_of(line) else {
+            return Err(DumpFault::Wrong { line: 1 });
         };
         self.stage = Stage::Body(version);
         Ok(())
@@ -134,10 +134,12 @@ impl Checker {
             self.stage = Stage::Nothing;
             return Ok(());
         }
-        if !self.enter(version, line)? {
-            return Err(self.wrong_at(2));
+        let wrong = self.wrong_at(2);
+        if self.enter(version, line)? {
+            Ok(())
+        } else {
+            Err(wrong)
         }
-        Ok(())
     }
 
     // Enters the entry that the line is of. False where it is of none that is stored next.
@@ -175,16 +177,14 @@ impl Checker {
         if !self.follows(&key) {
             return Ok(false);
         }
-        match self.shard.commit_now(&key, &submission, moment) {
-            Reply::Stored { v, .. } => {
-                let is_right = self.is_line(version, line, &key, v, moment)?;
-                self.last = Some(key);
-                self.entries += 1;
-                Ok(is_right)
-            }
-            Reply::Refused(Code::E10) => Err(AllocError),
-            _ => Ok(false),
-        }
+        let reply = self.shard.commit_now(&key, &submission, moment);
+        let Some(at) = stored_version(&reply)? else {
+            return Ok(false);
+        };
+        let is_right = self.is_line(version, line, &key, at, moment)?;
+        self.last = Some(key);
+        self.entries += 1;
+        Ok(is_right)
     }
 
     // Whether the key is not below that of the line before.
@@ -192,7 +192,7 @@ impl Checker {
         ensures { (xs : List PlainLine) → Holds self.now xs → result ≡ follows xs (plain_key key.now) }
     {
         match &self.last {
-            Some(last) => key >= last,
+            Some(last) => !key.cmp(last).is_lt(),
             None => true,
         }
     }
@@ -256,6 +256,30 @@ impl Checker {
         DumpFault::Wrong {
             line: self.entries + behind,
         }
+    }
+}
+
+// The version at which it was stored, if it was; only a want of memory is an error.
+fn stored_version(reply: &Reply) -> Result<Option<u64>, AllocError>
+    ensures { IsStoredAt (plain_reply reply.now) result }
+{
+    match reply {
+        Reply::Stored { v, .. } => Ok(Some(*v)),
+        Reply::Refused(Code::E10) => Err(AllocError),
+        Reply::Repeat { .. } | Reply::Refused(_) => Ok(None),
+    }
+}
+
+// The version of the dump that begins with this line.
+fn version_of(line: &[u8]) -> Option<DumpVersion>
+    ensures { result ≡ version_of line.now }
+{
+    if line == br#"{"dump":1}"#.as_slice() {
+        Some(DumpVersion::One)
+    } else if line == br#"{"dump":2}"#.as_slice() {
+        Some(DumpVersion::Two)
+    } else {
+        None
     }
 }
 
