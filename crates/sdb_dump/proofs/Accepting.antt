@@ -1,5 +1,5 @@
 -- A checker accepts the dumps of made logs within the limits, and no other lines.
-use Rattle.std.proofs.Common.{◌≡◌, ℕ, zero, suc, ◌+◌, ◌<◌, ◌≤◌, List, [], ◌∷◌, ◌++◌, length, Bool, true, false, cond, Option, Some, None, Ok, Err, Ordering, Less, Equal, Greater, nat_cmp, is_eq, refl, sym, ap, ap₂, ◌∙◌, subst, arith, append-nil, length-append}
+use Rattle.std.proofs.Common.{◌≡◌, ℕ, ◌<◌, ◌≤◌, List, [], ◌∷◌, ◌++◌, length, Bool, true, false, cond, Ok, Err, Ordering, Less, Equal, Greater, nat_cmp, is_eq, refl, sym, ap, ap₂, ◌∙◌, subst, arith, append-nil, length-append}
 use Rattle.std.specs.Prelude.{⊤, if◌then◌else◌, nat_eq, nat_lt, Result}
 use Rattle.std.specs.Ordering.{ordering_then}
 use Rattle.std.specs.Cmp.Lexicographic.{slice_cmp}
@@ -7,19 +7,19 @@ use Rattle.std.proofs.lemmas.Cmp.{nat_list_cmp_total, tied_itself}
 use Rattle.std.proofs.lemmas.Bool.Decides.{nat_tests}
 use Rattle.std.proofs.lemmas.Map.Text.{is_eq-slice_cmp}
 use Rattle.std.proofs.lemmas.Slice.Eq.{bytes_eq-Decides}
-use Rattle.sdb_oplog.specs.Keys.{PlainKey, same_key, key_cmp}
+use Rattle.sdb_oplog.specs.Keys.{PlainKey, same_key}
 use Rattle.sdb_oplog.specs.Plain.{PlainContent, PlainSubmission, PlainEntry}
 use Rattle.sdb_oplog.specs.Over.{over_all}
 use Rattle.sdb_oplog.specs.Refused.{result_then}
 use Rattle.sdb_oplog.specs.Snap.{becomes, document}
-use Rattle.sdb_oplog.specs.Decide.{decide, settled, since, missed, entry_of, MadeFrom, IsMade}
+use Rattle.sdb_oplog.specs.Decide.{decide, settled, since, missed, MadeFrom}
 use Rattle.sdb_oplog.specs.declared.codes.Code.{Code}
 use Rattle.sdb_oplog.specs.declared.codes.Code.TheVariants.{E4, E11}
 use Rattle.sdb_dump.specs.declared.version.DumpVersion.{DumpVersion}
 use Rattle.sdb_dump.specs.Within.{FitsKey, FitsContent, FitsMoment, FitsSubmission, FitsEntry}
-use Rattle.sdb_dump.specs.Dumps.{PlainLine, log_in, follows, IsNext, AreNext, stored_by, dump_lines, check}
+use Rattle.sdb_dump.specs.Dumps.{PlainLine, log_in, IsNext, AreNext, dump_lines, check}
 use Rattle.sdb_dump.proofs.Checks.{check_sound, check_complete}
-use Rattle.sdb_dump.proofs.Decided.{Stored, stored_from, stored_is}
+use Rattle.sdb_dump.proofs.Decided.{stored_from, stored_is}
 use Rattle.sdb_dump.proofs.ReadBack.{line_reads_back}
 use Rattle.sdb_dump.specs.Accepted.{AscendFrom, AllWithin, IsDump}
 use Rattle.sdb_dump.proofs.Grid.{Okay, AllContents, settled_fits}

@@ -1,5 +1,5 @@
 -- What stands for a component that fits, fits.
-use Rattle.std.proofs.Common.{◌≡◌, ℕ, zero, suc, ◌+◌, ◌-◌, ◌<◌, ◌≤◌, min, max, List, [], ◌∷◌, ◌++◌, length, map, take, drop, Bool, true, false, Option, Some, None, IsUtf8, refl, sym, ap, ◌∙◌, subst, arith, length-append}
+use Rattle.std.proofs.Common.{◌≡◌, ℕ, suc, ◌+◌, ◌-◌, ◌<◌, ◌≤◌, min, List, [], ◌∷◌, ◌++◌, length, map, take, drop, Bool, true, false, Option, Some, None, IsUtf8, refl, ap, ◌∙◌, subst, arith, length-append}
 use Rattle.std.specs.Prelude.{⊤, if◌then◌else◌, nat_lt, nat_le, nat_eq, option_map, option_and_then}
 use Rattle.std.specs.Option.{option_map_or}
 use Rattle.std.proofs.lemmas.Bool.{leb-true, leb-false}
@@ -11,11 +11,11 @@ use Rattle.sdb_component.specs.Prints.{last_step, whole_path}
 use Rattle.sdb_apply.specs.Does.{does}
 use Rattle.sdb_transform.specs.declared.side.Side.{Side}
 use Rattle.sdb_transform.specs.declared.side.Side.TheVariants.{Left, Right}
-use Rattle.sdb_transform.specs.Transform.{Acts, raised, left_or, as_it_is, dropped, over, sd_split, sd_without, unless_empty, at_path, with_removed, updated, Moved, moved, below, above, under_removed, removes, behind, index_over, key_over, step_over, transform, put_over_put}
+use Rattle.sdb_transform.specs.Transform.{Acts, raised, left_or, as_it_is, dropped, over, sd_split, sd_without, unless_empty, at_path, with_removed, updated, Moved, moved, below, above, under_removed, removes, behind, step_over, transform, put_over_put}
 use Rattle.sdb_transform.proofs.Behind.{behind_is}
 use Rattle.sdb_transform.proofs.Cuts.{cut_front, units_split}
-use Rattle.sdb_dump.specs.Fits.{IsCount, FitsValue, FitsText, FitsStep, FitSteps, FitsAct, FitsComponent, FitComponents}
-use Rattle.sdb_dump.proofs.Places.{Opt, opt_then, opt_map, opt_if, opt_at}
+use Rattle.sdb_dump.specs.Fits.{IsCount, FitsValue, FitsStep, FitSteps, FitsAct, FitsComponent, FitComponents}
+use Rattle.sdb_dump.proofs.Places.{Opt, opt_then, opt_map, opt_at}
 use Rattle.sdb_dump.proofs.Effects.{cut_boundary, does_fits}
 
 -- each act fits, and has a last step only where n says so

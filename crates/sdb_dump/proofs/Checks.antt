@@ -1,18 +1,17 @@
 -- A checker's entries are exactly those whose dump the lines are.
-use Rattle.std.proofs.Common.{◌≡◌, ℕ, zero, suc, ◌+◌, List, [], ◌∷◌, ◌++◌, length, map, Bool, true, false, Option, Some, None, Ok, Err, bytes_eq, refl, sym, ap, ap₂, ◌∙◌, subst, arith, append_assoc, append-nil}
-use Rattle.std.specs.Prelude.{if◌then◌else◌, ◌&&◌, nat_eq, Result, ⊤}
+use Rattle.std.proofs.Common.{◌≡◌, ℕ, ◌+◌, List, [], ◌∷◌, ◌++◌, length, map, Bool, true, false, Option, Some, None, Ok, Err, bytes_eq, refl, sym, ap, ap₂, ◌∙◌, subst, arith, append_assoc, append-nil}
+use Rattle.std.specs.Prelude.{if◌then◌else◌, ◌&&◌, nat_eq}
 use Rattle.std.proofs.lemmas.Bool.{and_parts}
 use Rattle.std.proofs.lemmas.Bool.Decides.{nat_tests}
 use Rattle.std.specs.Option.{option_map_or}
 use Rattle.std.proofs.lemmas.Slice.Eq.{bytes_eq-Decides}
 use Rattle.std.specs.Fmt.{digits}
 use Rattle.json.specs.Print.{escape_byte}
-use Rattle.sdb_oplog.specs.Keys.{PlainKey}
-use Rattle.sdb_oplog.specs.Plain.{PlainContent, PlainSubmission, PlainEntry}
-use Rattle.sdb_oplog.specs.Decide.{decide, entry_of}
+use Rattle.sdb_oplog.specs.Plain.{PlainEntry}
+use Rattle.sdb_oplog.specs.Decide.{decide}
 use Rattle.sdb_dump.specs.declared.version.DumpVersion.{DumpVersion}
 use Rattle.sdb_dump.specs.declared.version.DumpVersion.TheVariants.{One, Two}
-use Rattle.sdb_dump.specs.Lines.{shown_moment, line_text, PlainRead, read_line, needs}
+use Rattle.sdb_dump.specs.Lines.{PlainRead, read_line, needs}
 use Rattle.sdb_dump.specs.Dumps.{PlainLine, head_text, count_text, text_of, dump_lines, log_in, follows, read_of, IsNext, AreNext, stored_by, line_if, entered_after, enter, over, check_from, check}
 use Rattle.sdb_dump.specs.Exact.{AreLinesOf}
 use Rattle.sdb_dump.proofs.Decided.{stored_from, stored_is}

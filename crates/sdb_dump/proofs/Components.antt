@@ -1,20 +1,18 @@
 -- The data of an operation are sound, and read as the operation.
-use Rattle.std.proofs.Common.{◌≡◌, ℕ, zero, suc, ℤ, ◌<◌, ◌≤◌, List, [], ◌∷◌, ◌++◌, length, Option, Some, None, Bool, true, false, IsUtf8, refl, sym, ap, ◌∙◌, arith, append-nil, length-append}
-use Rattle.std.specs.Prelude.{◌^◌, if◌then◌else◌, nat_lt, codes, ⊤}
-use Rattle.std.specs.Option.{option_map, option_and_then}
+use Rattle.std.proofs.Common.{◌≡◌, ℕ, suc, ◌<◌, ◌≤◌, List, [], ◌∷◌, ◌++◌, length, Some, None, true, false, IsUtf8, refl, ap, ◌∙◌, arith, append-nil}
+use Rattle.std.specs.Prelude.{if◌then◌else◌, nat_lt, codes}
+use Rattle.std.specs.Option.{option_map}
 use Rattle.std.proofs.lemmas.Bool.Decides.{nat_tests}
-use Rattle.std.proofs.lemmas.Str.{IsUtf8-append}
 use Rattle.json.proofs.Printed.Utf8.{are_ascii, IsUtf8-are_ascii}
 use Rattle.serde_json.specs.Data as raw
 use Rattle.serde_json.specs.Data.{Data}
-use Rattle.serde_json.specs.Find.{of_integer, as_number}
-use Rattle.sdb_value.specs.Value.{Value, PlainStep, key, index}
-use Rattle.sdb_value.specs.Profile.{count_of, whole_of, in_profile, to_data}
+use Rattle.sdb_value.specs.Value.{PlainStep, key, index}
+use Rattle.sdb_value.specs.Profile.{count_of}
 use Rattle.sdb_component.specs.Plain.{PlainAct, na, si, sd, li, ld, lr, oi, od, or, PlainComponent}
 use Rattle.sdb_component.specs.Prints.{step_data, path_items, path_data, last_step, whole_path, act_members, component_data, component_items, op_data}
-use Rattle.sdb_component.specs.Reads.{step_of, steps_of, size, path_of, index_last, key_last, at_index, at_key, unless_empty, one, both, shaped, shape_of, component_of, components_of, op_of}
+use Rattle.sdb_component.specs.Reads.{step_of, steps_of, size, path_of, index_last, key_last, unless_empty, one, component_of, components_of, op_of}
 use Rattle.sdb_dump.specs.Sound.{IsSound, AreSound, MembersSound}
-use Rattle.sdb_dump.specs.Fits.{IsCount, FitsValue, FitsText, FitsStep, FitSteps, FitsAct, FitsComponent, FitComponents}
+use Rattle.sdb_dump.specs.Fits.{IsCount, FitsStep, FitSteps, FitsAct, FitsComponent, FitComponents}
 use Rattle.sdb_dump.proofs.Values.{integer_sound, integer_back, value_sound, value_deep, profile_back}
 
 -- ---- paths

@@ -1,8 +1,8 @@
 -- A text is accepted exactly where it is a dump.
-use Rattle.std.proofs.Common.{◌≡◌, ◌≢◌, ℕ, zero, suc, ◌+◌, ◌<◌, ◌≤◌, List, [], ◌∷◌, ◌++◌, length, map, Bool, true, false, ◌==◌, None, Ok, refl, sym, ap, ap₂, ◌∙◌, subst, arith, append_assoc, append-nil, ne_eqb}
+use Rattle.std.proofs.Common.{◌≡◌, ℕ, ◌<◌, List, [], ◌∷◌, ◌++◌, length, map, Bool, true, false, ◌==◌, Ok, refl, sym, ap, ap₂, ◌∙◌, arith, append_assoc, append-nil, ne_eqb}
 use Rattle.std.specs.Prelude.{⊤, ◌^◌, codes, if◌then◌else◌}
 use Rattle.std.proofs.lemmas.Bool.Decides.{nat_tests}
-use Rattle.sdb_dump.specs.Dumps.{PlainLine, head_text, count_text, text_of, dump_lines, ended_lines, dump_text, check}
+use Rattle.sdb_dump.specs.Dumps.{PlainLine, count_text, text_of, dump_lines, ended_lines, dump_text, check}
 use Rattle.sdb_dump.specs.Accepted.{AllWithin, IsDump}
 use Rattle.sdb_dump.proofs.Accepting.{AllFit, all_fit, dumps_accepted, accepted_dumps}
 use Rattle.sdb_dump.specs.declared.version.DumpVersion.{DumpVersion}
@@ -11,8 +11,8 @@ use Rattle.sdb_dump.specs.Lines.{number_of, shown_moment, line_data}
 use Rattle.sdb_dump.proofs.ReadBack.{line_sound, shown_counts}
 use Rattle.sdb_dump.specs.Sound.{IsSound}
 use Rattle.json.proofs.Printed.Utf8.{are_ascii, IsUtf8-are_ascii}
-use Rattle.serde_json.specs.Data.{Data, number, unsigned, object, no_members, member}
-use Rattle.sdb_dump.specs.Cut.{Lines, first, cut, check_text, IsLine}
+use Rattle.serde_json.specs.Data.{number, unsigned, object, no_members, member}
+use Rattle.sdb_dump.specs.Cut.{first, cut, check_text, IsLine}
 use Rattle.sdb_dump.proofs.Feeds.{compact_line}
 
 -- ---- the lines, put together again, are the text

@@ -1,23 +1,22 @@
 -- What an act makes of a value is well formed, and not too deep.
-use Rattle.std.proofs.Common.{◌≡◌, ℕ, zero, suc, ◌+◌, ◌-◌, ◌<◌, ◌≤◌, max, ℤ, pos, negsuc, List, [], ◌∷◌, ◌++◌, length, take, drop, Bool, true, false, Option, Some, None, IsUtf8, refl, sym, ap, ◌∙◌, subst, arith}
-use Rattle.std.specs.Prelude.{⊤, if◌then◌else◌, nat_lt, nat_le, nat_eq, int_lt, ◌+ℤ◌, ◌≤ℤ◌, option_map, option_and_then}
-use Rattle.std.specs.Option.{option_map_or}
+use Rattle.std.proofs.Common.{◌≡◌, ℕ, suc, ◌+◌, ◌≤◌, max, ℤ, pos, negsuc, List, ◌++◌, length, take, drop, Bool, true, false, Option, Some, None, IsUtf8, refl, arith}
+use Rattle.std.specs.Prelude.{if◌then◌else◌, nat_lt, nat_le, nat_eq, int_lt, ◌+ℤ◌, option_map, option_and_then}
 use Rattle.std.specs.List.{insert_slice, remove_range, starts_with}
 use Rattle.std.specs.Str.{IsCharBoundary}
 use Rattle.std.specs.String.Boundary.{IsSplitPoint}
 use Rattle.std.proofs.lemmas.Str.{IsUtf8-append, IsUtf8-take, IsUtf8-drop}
 use Rattle.std.proofs.lemmas.Int.{ints}
-use Rattle.sdb_value.specs.Value.{Value, null, truth, whole, text, list, object, Items, no_items, item, Members, put, without, count, take_items, drop_items, join, insert_item, remove_item, replace_item, depth, items_depth, members_depth, at, with}
+use Rattle.sdb_value.specs.Value.{Value, whole, text, list, object, Items, item, count, take_items, drop_items, join, insert_item, remove_item, replace_item, depth, items_depth, at, with}
 use Rattle.sdb_text.specs.Text.{cut_at, insert_text, remove_text}
 use Rattle.sdb_value.specs.Profile.{in_range}
-use Rattle.sdb_value.specs.WellFormed.{IsInRange, IsWellFormed, AreWellFormed, MembersWellFormed}
+use Rattle.sdb_value.specs.WellFormed.{IsInRange, IsWellFormed, AreWellFormed}
 use Rattle.sdb_text.proofs.Texts.{char_boundary, other_end}
 use Rattle.sdb_text.proofs.Cuts.{cut_split}
 use Rattle.sdb_component.specs.Plain.{PlainAct, na, si, sd, li, ld, lr, oi, od, or, PlainComponent}
-use Rattle.sdb_component.specs.Prints.{last_step, whole_path}
+use Rattle.sdb_component.specs.Prints.{last_step}
 use Rattle.sdb_apply.specs.Does.{effect, does}
-use Rattle.sdb_dump.specs.Fits.{FitsValue, FitsAct, FitsComponent}
-use Rattle.sdb_dump.proofs.Places.{Opt, opt_then, opt_map, opt_if, opt_at, take_well, drop_well, join_well, take_deep, drop_deep, join_deep, put_well, put_deep, without_well, without_deep, at_below, with_fills}
+use Rattle.sdb_dump.specs.Fits.{FitsValue, FitsAct}
+use Rattle.sdb_dump.proofs.Places.{Opt, opt_then, opt_map, opt_if, take_well, drop_well, join_well, take_deep, drop_deep, join_deep, put_well, put_deep, without_well, without_deep, at_below, with_fills}
 
 -- ---- numbers
 

@@ -1,14 +1,13 @@
 -- A line that is entered.
-use Rattle.std.proofs.Common.{◌≡◌, ℕ, suc, ◌+◌, ◌<◌, List, [], ◌∷◌, ◌++◌, length, Bool, true, false, ◌&&◌, bytes_eq, nat_eq, cond, Option, Some, None, Ok, Err, inl, inr, refl, sym, ap, ap₂, ◌∙◌, subst, arith, append-nil, length-append, get_or}
+use Rattle.std.proofs.Common.{◌≡◌, ℕ, ◌+◌, ◌<◌, List, [], ◌∷◌, ◌++◌, length, Bool, true, false, ◌&&◌, bytes_eq, nat_eq, cond, Option, Some, None, Ok, Err, inl, inr, refl, sym, ap, ap₂, ◌∙◌, subst, arith, append-nil, length-append}
 use Rattle.std.specs.Prelude.{if◌then◌else◌, Result, option_map}
 use Rattle.std.specs.List.{slice_get}
-use Rattle.std.specs.declared.alloc.AllocError.{AllocError}
 use Rattle.std.proofs.Math.Seq.{get_or-append_seam}
 use Rattle.std.proofs.lemmas.Bool.{cases_Bool}
 use Rattle.std.proofs.lemmas.Option.{slice_get-get_or}
 use Rattle.sdb_desk.specs.Machine.{Decides}
 use Rattle.sdb_desk.specs.ShardView.{logs_of}
-use Rattle.sdb_oplog.specs.Decide.{PlainReply, stored, repeated, refused, Decided, decide, settled, store, entry_of}
+use Rattle.sdb_oplog.specs.Decide.{PlainReply, stored, repeated, refused, settled, entry_of}
 use Rattle.sdb_oplog.specs.Keys.{PlainKey, Logs, plain_key, same_key, with_log}
 use Rattle.sdb_oplog.specs.Plain.{PlainContent, PlainSubmission, PlainEntry}
 use Rattle.sdb_oplog.specs.Snap.{stored_at}

@@ -1,15 +1,15 @@
 -- How the check of a text goes on at a piece of it, and how it ends.
-use Rattle.std.proofs.Common.{◌≡◌, ◌≢◌, ℕ, ◌+◌, ◌-◌, List, [], ◌∷◌, ◌++◌, Some, None, take, drop, length, All, refl, ap, sym, ◌∙◌, subst, append_assoc, append-nil, arith, ne_eqb, IfSome}
+use Rattle.std.proofs.Common.{◌≡◌, ◌≢◌, ℕ, ◌+◌, ◌-◌, List, [], ◌∷◌, ◌++◌, Some, None, take, drop, length, All, refl, ap, sym, ◌∙◌, subst, append_assoc, append-nil, ne_eqb, IfSome}
 use Rattle.std.specs.declared.option.Option.{Option}
-use Rattle.std.specs.Prelude.{⊤, Result, Ok, Err, IfOk, IfErr}
+use Rattle.std.specs.Prelude.{Result, Ok, Err, IfOk, IfErr}
 use Rattle.std.specs.Io.KnownBytes.{Consumes, IsAtEnd}
 use Rattle.std.proofs.KnownBytes.{Consumes-trans, Consumes-whole}
 use Rattle.std.proofs.lemmas.List.{take_rest}
 use Rattle.std.proofs.lemmas.List.Elements.{All-head, All-tail}
 use Rattle.sdb_dump.specs.Checks.{Checks, HasAll}
-use Rattle.sdb_dump.specs.Cut.{Lines, first, cut, check_text}
+use Rattle.sdb_dump.specs.Cut.{first, cut, check_text}
 use Rattle.sdb_dump.specs.Faults.{IsFault, IsWrong}
-use Rattle.sdb_dump.specs.Stages.{PlainStage, head, wrong, after, ended, staged}
+use Rattle.sdb_dump.specs.Stages.{PlainStage, head, after, ended, staged}
 use Rattle.sdb_dump.specs.Text.{answer_of, GoesOn, Accepts}
 use Rattle.sdb_dump.specs.declared.checking.Checked.{Checked}
 use Rattle.sdb_dump.specs.declared.checking.Checker.{Checker}

@@ -1,12 +1,11 @@
 -- Operations that fit, carried past one another, fit; so does what becomes of a content.
-use Rattle.std.proofs.Common.{◌≡◌, ℕ, zero, suc, ◌+◌, ◌≤◌, List, [], ◌∷◌, ◌++◌, length, drop, Bool, true, false, Option, Some, None, Ok, Err, refl, ap, subst, arith}
-use Rattle.std.specs.Prelude.{⊤, if◌then◌else◌, nat_eq, nat_lt, option_map, Result}
+use Rattle.std.proofs.Common.{ℕ, zero, suc, List, [], ◌∷◌, ◌++◌, length, drop, Bool, true, false, Option, Some, None, Ok, Err, refl, arith}
+use Rattle.std.specs.Prelude.{⊤, if◌then◌else◌, nat_eq, nat_lt, Result}
 use Rattle.std.specs.Option.{option_map_or}
 use Rattle.sdb_component.specs.Plain.{PlainAct, na, si, sd, li, ld, lr, oi, od, or, PlainComponent}
-use Rattle.sdb_component.specs.Weighs.{weigh}
 use Rattle.sdb_transform.specs.declared.side.Side.TheVariants.{Left, Right}
 use Rattle.sdb_transform.specs.Transform.{transform, behind}
-use Rattle.sdb_transform.specs.Grid.{Crossing, and_then, joined, cross_in, cross, crossing, carried}
+use Rattle.sdb_transform.specs.Grid.{Crossing, and_then, cross_in, cross, crossing, carried}
 use Rattle.sdb_oplog.specs.Plain.{PlainContent, create, delete, edit, PlainSubmission, PlainEntry}
 use Rattle.sdb_oplog.specs.Over as oplog
 use Rattle.sdb_oplog.specs.Over.{edit_over, over_all}
@@ -15,7 +14,7 @@ use Rattle.sdb_oplog.specs.Snap.{becomes, document}
 use Rattle.sdb_oplog.specs.Decide.{since, missed, settled}
 use Rattle.sdb_oplog.specs.declared.codes.Code.{Code}
 use Rattle.sdb_oplog.specs.declared.codes.Code.TheVariants.{E4, E8, E11}
-use Rattle.sdb_dump.specs.Fits.{FitsValue, FitsAct, FitsComponent, FitComponents}
+use Rattle.sdb_dump.specs.Fits.{FitsAct, FitComponents}
 use Rattle.sdb_dump.specs.Within.{FitsContent}
 use Rattle.sdb_dump.proofs.Places.{Opt, opt_map}
 use Rattle.sdb_dump.proofs.Acts.{either}

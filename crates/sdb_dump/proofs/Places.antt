@@ -1,24 +1,12 @@
 -- A change of one place keeps a value well formed, and no deeper than the place and what is put there.
-use Rattle.std.proofs.Common.{◌≡◌, ℕ, zero, suc, ◌+◌, ◌-◌, ◌<◌, ◌≤◌, max, ℤ, pos, negsuc, List, [], ◌∷◌, ◌++◌, length, take, drop, Bool, true, false, cond, Option, Some, None, IsUtf8, Ordering, Less, Equal, Greater, nat_cmp, refl, sym, ap, ◌∙◌, subst, arith}
-use Rattle.std.specs.Prelude.{⊤, if◌then◌else◌, nat_lt, nat_le, nat_eq, int_lt, ◌+ℤ◌, ◌≤ℤ◌, option_map, option_and_then}
+use Rattle.std.proofs.Common.{◌≡◌, ℕ, zero, suc, ◌+◌, ◌≤◌, max, List, [], ◌∷◌, length, Bool, true, false, cond, Option, Some, None, IsUtf8, Ordering, Less, Equal, Greater, nat_cmp, refl, ap, ◌∙◌, subst, arith}
+use Rattle.std.specs.Prelude.{⊤, if◌then◌else◌, option_map, option_and_then}
 use Rattle.std.specs.Option.{option_map_or}
 use Rattle.std.specs.Ordering.{match_ordering, ordering_reverse}
 use Rattle.std.specs.Cmp.Lexicographic.{slice_cmp}
-use Rattle.std.specs.List.{insert_slice, remove_range, starts_with}
-use Rattle.std.specs.Str.{IsCharBoundary}
 use Rattle.std.proofs.lemmas.Cmp.{nat_list_cmp_total}
-use Rattle.std.proofs.lemmas.Str.{IsUtf8-append, IsUtf8-take, IsUtf8-drop}
-use Rattle.std.proofs.lemmas.Int.{ints}
-use Rattle.sdb_value.specs.Value.{Value, null, truth, whole, text, list, object, Items, no_items, item, Members, no_members, member, PlainStep, key, index, item_at, member_at, set_item, set_member, same_text, put, without, count, take_items, drop_items, join, insert_item, remove_item, replace_item, depth, items_depth, members_depth, one, with_one, at, with}
-use Rattle.sdb_text.specs.Text.{cut_at, insert_text, remove_text}
-use Rattle.sdb_value.specs.Profile.{in_range}
-use Rattle.sdb_value.specs.WellFormed.{IsInRange, IsBelow, IsWellFormed, AreWellFormed, MembersWellFormed}
-use Rattle.sdb_text.proofs.Texts.{char_boundary, other_end}
-use Rattle.sdb_text.proofs.Cuts.{cut_split}
-use Rattle.sdb_component.specs.Plain.{PlainAct, na, si, sd, li, ld, lr, oi, od, or, PlainComponent}
-use Rattle.sdb_component.specs.Prints.{last_step}
-use Rattle.sdb_apply.specs.Does.{effect, does}
-use Rattle.sdb_dump.specs.Fits.{FitsValue, FitsAct}
+use Rattle.sdb_value.specs.Value.{Value, null, truth, whole, text, list, object, Items, no_items, item, Members, no_members, member, PlainStep, key, index, item_at, member_at, set_item, set_member, same_text, put, without, take_items, drop_items, join, depth, items_depth, members_depth, one, with_one, at, with}
+use Rattle.sdb_value.specs.WellFormed.{IsBelow, IsWellFormed, AreWellFormed, MembersWellFormed}
 
 -- ---- what there is, if anything, has the property
 

@@ -1,13 +1,12 @@
 -- The compact text of sound data is UTF-8.
-use Rattle.std.proofs.Common.{◌≡◌, ℕ, pos, negsuc, ◌<◌, List, [], ◌∷◌, ◌++◌, Bool, true, false, IsUtf8, decimal, refl, arith}
-use Rattle.std.specs.Fmt.{signed_decimal}
+use Rattle.std.proofs.Common.{ℕ, pos, negsuc, List, [], ◌∷◌, Bool, true, false, IsUtf8, refl, arith}
 use Rattle.std.proofs.lemmas.Str.{IsUtf8-append, IsUtf8-nil, IsUtf8-from_ascii}
 use Rattle.std.proofs.lemmas.Fmt.{IsAscii-decimal, IsAscii-signed}
 use Rattle.json.specs.Print.{quoted}
-use Rattle.json.proofs.Printed.Utf8.{IsUtf8-are_ascii, IsUtf8-quoted, IsUtf8-key, IsUtf8-boolean}
+use Rattle.json.proofs.Printed.Utf8.{IsUtf8-are_ascii, IsUtf8-quoted, IsUtf8-boolean}
 use Rattle.serde_json.specs.Data.{Num, unsigned, negative, float, Data, null, boolean, number, string, array, object, Items, no_items, item, Members, no_members, member}
 use Rattle.serde_json.specs.Written.{number_text, comma_if, compact_text, items_text, members_text}
-use Rattle.sdb_dump.specs.Sound.{IsWhole, IsBelow, IsSound, AreSound, MembersSound}
+use Rattle.sdb_dump.specs.Sound.{IsWhole, IsSound, AreSound, MembersSound}
 
 comma : (b : Bool) → IsUtf8 (comma_if b)
 comma true = IsUtf8-are_ascii (44 ∷ []) refl

@@ -1,8 +1,6 @@
 -- The line of an entry is read as the submission that came.
-use Rattle.std.proofs.Common.{◌≡◌, ℕ, suc, ◌+◌, ◌<◌, ◌≤◌, List, [], ◌∷◌, length, Option, Some, None, Bool, true, false, IsUtf8, Ok, refl, sym, ap, ◌∙◌, arith}
-use Rattle.std.specs.Prelude.{◌^◌, ◌&&◌, if◌then◌else◌, nat_lt, codes, ⊤, Result}
-use Rattle.std.specs.Option.{option_map, option_and_then, option_map_or}
-use Rattle.std.specs.Result.{result_ok}
+use Rattle.std.proofs.Common.{◌≡◌, ℕ, ◌+◌, ◌<◌, ◌≤◌, List, length, Option, Some, None, true, IsUtf8, Ok, refl, sym, ap, ◌∙◌, arith}
+use Rattle.std.specs.Prelude.{◌^◌, if◌then◌else◌, nat_lt, codes}
 use Rattle.std.proofs.lemmas.Bool.Decides.{nat_tests}
 use Rattle.json.proofs.Printed.Utf8.{are_ascii, IsUtf8-are_ascii}
 use Rattle.serde_json.specs.Data as raw
@@ -11,13 +9,12 @@ use Rattle.serde_json.specs.Find.{get}
 use Rattle.serde_json.specs.Read.{read, max_depth}
 use Rattle.serde_json.specs.Written.{compact_text}
 use Rattle.sdb_value.specs.Value as value
-use Rattle.sdb_value.specs.Profile.{count_of, to_data, in_profile}
-use Rattle.sdb_component.specs.Prints.{component_items, op_data}
-use Rattle.sdb_component.specs.Reads.{op_of}
+use Rattle.sdb_value.specs.Profile.{count_of}
+use Rattle.sdb_component.specs.Prints.{op_data}
 use Rattle.sdb_oplog.specs.Keys.{PlainKey}
 use Rattle.sdb_oplog.specs.Plain.{PlainContent, create, delete, edit, PlainSubmission, PlainEntry}
-use Rattle.sdb_wire.specs.Answers.{create_data, type_data}
-use Rattle.sdb_wire.specs.Wire.{as_name, key_of, name_at, count_at, may, present, content_of, created}
+use Rattle.sdb_wire.specs.Answers.{create_data}
+use Rattle.sdb_wire.specs.Wire.{as_name, may, present, content_of}
 use Rattle.sdb_dump.specs.Sound.{IsSound, MembersSound, IsBelow}
 use Rattle.sdb_dump.specs.Fits.{IsCount, FitsValue, FitComponents}
 use Rattle.std.proofs.lemmas.Str.{is_utf8-from_IsUtf8}
@@ -28,7 +25,7 @@ use Rattle.sdb_dump.proofs.Components.{count_back, op_back, op_sound, op_deep}
 use Rattle.sdb_dump.specs.Dumps.{PlainLine, text_of, read_of}
 use Rattle.sdb_dump.specs.declared.version.DumpVersion.{DumpVersion}
 use Rattle.sdb_dump.specs.declared.version.DumpVersion.TheVariants.{One, Two}
-use Rattle.sdb_dump.specs.Lines.{shown_moment, version_data, arrived_members, arrived_data, moment_then, with_content, line_tail, line_data, line_text, needs, arrived_of, submission_of, PlainRead, moment_of, line_of, read_line}
+use Rattle.sdb_dump.specs.Lines.{shown_moment, version_data, arrived_members, arrived_data, with_content, line_tail, line_data, needs, arrived_of, moment_of, line_of, read_line}
 use Rattle.sdb_dump.specs.Within.{FitsName, FitsKey, FitsMoment, MayCount, FitsContent, IsFew, FitsSubmission, FitsEntry}
 
 -- ---- sound

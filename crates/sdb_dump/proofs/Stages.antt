@@ -1,11 +1,11 @@
 -- Stages, and the check of all lines at once.
-use Rattle.std.proofs.Common.{◌≡◌, ℕ, suc, ◌+◌, List, [], ◌∷◌, ◌++◌, length, Bool, true, false, bytes_eq, Option, Some, None, Ok, Err, refl, sym, ap, ◌∙◌, arith, length-append}
-use Rattle.std.specs.Prelude.{⊤, if◌then◌else◌, Result}
+use Rattle.std.proofs.Common.{◌≡◌, ℕ, ◌+◌, List, [], ◌∷◌, ◌++◌, length, Bool, true, false, bytes_eq, Option, Some, None, Err, refl, ap, ◌∙◌, arith, length-append}
+use Rattle.std.specs.Prelude.{if◌then◌else◌}
 use Rattle.std.specs.Option.{option_map_or}
 use Rattle.sdb_dump.specs.declared.version.DumpVersion.{DumpVersion}
 use Rattle.sdb_dump.specs.declared.version.DumpVersion.TheVariants.{One, Two}
 use Rattle.sdb_dump.specs.Dumps.{PlainLine, head_text, count_text, enter, over, check_from, check}
-use Rattle.sdb_dump.specs.Stages.{PlainStage, head, body, done, wrong, after_line, after, ended, staged}
+use Rattle.sdb_dump.specs.Stages.{head, body, done, wrong, after_line, staged}
 
 -- once a line isn't right, its number is the answer
 pub wrong_stays : (n : ℕ) (ls : List (List ℕ)) (rest : List ℕ) → staged (wrong n) ls rest ≡ Err n

@@ -1,12 +1,11 @@
 -- The data of a value are sound, as deep, and read as the value.
-use Rattle.std.proofs.Common.{◌≡◌, ℕ, zero, suc, ℤ, pos, negsuc, ◌<◌, ◌≤◌, List, Option, Some, None, Bool, true, false, refl, ap, ◌∙◌, arith}
-use Rattle.std.specs.Prelude.{int_lt, ◌≤ℤ◌, ◌^◌, if◌then◌else◌, nat_lt}
+use Rattle.std.proofs.Common.{◌≡◌, ℕ, suc, ℤ, pos, negsuc, ◌≤◌, List, Some, None, false, refl, ap, ◌∙◌, arith}
+use Rattle.std.specs.Prelude.{◌≤ℤ◌, if◌then◌else◌, nat_lt}
 use Rattle.std.specs.Option.{option_map, option_and_then}
 use Rattle.std.proofs.lemmas.Bool.Decides.{nat_tests}
 use Rattle.serde_json.specs.Data as raw
 use Rattle.serde_json.specs.Find.{of_integer}
 use Rattle.sdb_value.specs.Value.{Value, null, truth, whole, text, list, object, Items, no_items, item, Members, no_members, member, depth, items_depth, members_depth}
-use Rattle.sdb_value.specs.Profile as profile
 use Rattle.sdb_value.specs.Profile.{in_range, whole_of, of_data, of_items, of_members, in_profile, to_data, to_items, to_members}
 use Rattle.sdb_value.specs.WellFormed.{IsInRange, IsBelow, IsWellFormed, AreWellFormed, MembersWellFormed}
 use Rattle.sdb_dump.specs.Sound as sound

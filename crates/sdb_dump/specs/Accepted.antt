@@ -1,5 +1,5 @@
 -- What is stored stays within limits that a reader takes, so each dump of made logs is accepted.
-use Rattle.std.specs.Prelude.{◌≡◌, ℕ, List, [], ◌∷◌, ◌++◌, true, Option, Some, Ok, ⊤}
+use Rattle.std.specs.Prelude.{◌≡◌, ℕ, List, [], ◌∷◌, ◌++◌, true, Some, Ok, ⊤}
 use Rattle.sdb_component.specs.Plain.{PlainComponent}
 use Rattle.sdb_transform.specs.declared.side.Side.{Side}
 use Rattle.sdb_transform.specs.Transform.{transform}

@@ -2,7 +2,7 @@
 use Rattle.std.specs.Prelude.{◌≡◌, ℕ, List, [], ◌∷◌, ◌++◌, length, Bool, true, false, Option, Some, None, option_map, Result, Ok, Err, ⊤}
 use Rattle.sdb_desk.specs.ShardView.{logs_of}
 use Rattle.sdb_oplog.specs.Decide.{PlainReply, stored, repeated, refused}
-use Rattle.sdb_oplog.specs.Keys.{PlainKey, plain_key}
+use Rattle.sdb_oplog.specs.Keys.{PlainKey, Logs, plain_key}
 use Rattle.sdb_oplog.specs.declared.codes.Code.TheVariants.{E10}
 use Rattle.std.specs.declared.alloc.AllocError.{AllocError}
 use Rattle.sdb_dump.specs.Dumps.{PlainLine, log_in}
@@ -47,9 +47,13 @@ abbrev pub Enters : Bool → Option PlainLine → Checker → List PlainLine →
 Enters true o c xs = (x : PlainLine) × (o ≡ Some x) × Holds c (xs ++ x ∷ [])
 Enters false o c xs = o ≡ None
 
+-- the logs of what was accepted
+abbrev pub logs_in : Checked → Logs
+logs_in c = logs_of c.shard
+
 -- what was accepted has these entries
 pub record HasAll (c : Checked) (xs : List PlainLine) : Type 0 where
-  pub logs : (k : PlainKey) → logs_of c.shard k ≡ log_in xs k
+  pub logs : (k : PlainKey) → logs_in c k ≡ log_in xs k
   pub counted : c.entries ≡ length xs
 
 -- the version at which it was stored, or none where it wasn't; nothing is said where memory was wanting

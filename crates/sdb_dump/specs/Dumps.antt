@@ -1,13 +1,11 @@
 -- The text of a dump, and what a checker makes of a text.
-use Rattle.std.specs.Prelude.{◌≡◌, ℕ, ◌+◌, List, [], ◌∷◌, ◌++◌, Bool, true, false, cond, if◌then◌else◌, length, map, decimal, nat_eq, ◌&&◌, bytes_eq, codes, Option, Some, None, Result, Ok, Err, ⊤}
-use Rattle.std.specs.Option.{option_map, option_map_or, is_none}
-use Rattle.std.specs.Result.{result_ok}
-use Rattle.std.specs.declared.cmp.Ordering.{Ordering}
+use Rattle.std.specs.Prelude.{◌≡◌, ℕ, ◌+◌, List, [], ◌∷◌, ◌++◌, Bool, true, false, cond, if◌then◌else◌, length, map, nat_eq, ◌&&◌, bytes_eq, codes, Option, Some, None, Result, Ok, Err, ⊤}
+use Rattle.std.specs.Option.{option_map_or}
 use Rattle.std.specs.Ordering.{is_lt}
-use Rattle.serde_json.specs.Data.{Data, number, unsigned, object, no_members, member}
+use Rattle.serde_json.specs.Data.{number, unsigned, object, no_members, member}
 use Rattle.serde_json.specs.Written.{compact_text}
-use Rattle.sdb_oplog.specs.Decide.{decide, Decided, PlainReply, stored, repeated, refused, settled, entry_of, IsMade}
-use Rattle.sdb_oplog.specs.Keys.{PlainKey, Logs, key_cmp, same_key}
+use Rattle.sdb_oplog.specs.Decide.{decide, settled, entry_of}
+use Rattle.sdb_oplog.specs.Keys.{PlainKey, key_cmp, same_key}
 use Rattle.sdb_oplog.specs.Plain.{PlainContent, PlainSubmission, PlainEntry}
 use Rattle.sdb_oplog.specs.declared.codes.Code.{Code}
 use Rattle.sdb_oplog.specs.Snap.{stored_at}
@@ -81,10 +79,14 @@ entry_if None log s now (Ok m) = Some (entry_of log s now m)
 abbrev pub stored_by : List PlainEntry → PlainSubmission → ℕ → Option PlainEntry
 stored_by log s now = entry_if (stored_at s.src s.seq log) log s now (settled log s)
 
+-- the entry of the key has this moment, and its line is this text
+abbrev pub is_line_of : DumpVersion → List ℕ → PlainKey → ℕ → PlainEntry → Bool
+is_line_of v line k m e = nat_eq e.moment m && bytes_eq (text_of v (record { key = k; entry = e })) line
+
 -- this entry, if it has the moment that was read, and its line is this text
 abbrev pub line_if : DumpVersion → List ℕ → PlainRead → PlainEntry → Option PlainLine
 line_if v line r e =
-    if nat_eq e.moment r.moment && bytes_eq (text_of v (record { key = r.key; entry = e })) line
+    if is_line_of v line r.key r.moment e
     then Some (record { key = r.key; entry = e })
     else None
 

@@ -1,6 +1,5 @@
 -- The line of a stored entry, and which submission a line is read as.
-use Rattle.std.specs.Prelude.{ℕ, List, true, if◌then◌else◌, Option, Some, None, Result, codes}
-use Rattle.std.specs.Option.{option_map, option_and_then}
+use Rattle.std.specs.Prelude.{ℕ, List, true, if◌then◌else◌, Option, Some, None, codes}
 use Rattle.std.specs.Result.{result_ok}
 use Rattle.std.specs.Str.{is_utf8}
 use Rattle.serde_json.specs.Data.{Data, null, boolean, number, unsigned, string, object, Members, no_members, member}

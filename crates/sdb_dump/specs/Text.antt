@@ -1,5 +1,5 @@
 -- How the check of a text goes on at a piece of it.
-use Rattle.std.specs.Prelude.{◌≡◌, ℕ, List, [], ◌++◌, Result, Ok, Err}
+use Rattle.std.specs.Prelude.{◌≡◌, ℕ, List, ◌++◌, Result, Ok}
 use Rattle.sdb_dump.specs.Checks.{Checks, HasAll}
 use Rattle.sdb_dump.specs.Cut.{cut, check_text}
 use Rattle.sdb_dump.specs.Dumps.{PlainLine}

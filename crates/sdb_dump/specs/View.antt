@@ -1,5 +1,5 @@
 -- What the code's types stand for.
-use Rattle.std.specs.Prelude.{◌≡◌, ⊤, Option, Some, None, Result, Ok, Err}
+use Rattle.std.specs.Prelude.{◌≡◌, Option, Some, None, Result, Ok, Err}
 use Rattle.std.specs.declared.alloc.AllocError.{AllocError}
 use Rattle.sdb_oplog.specs.Keys.{plain_key}
 use Rattle.sdb_oplog.specs.declared.codes.Code.{Code}

@@ -1,11 +1,11 @@
 -- Rows: lines of dumps, and what a checker answers.
-use Rattle.std.specs.Prelude.{◌≡◌, ℕ, List, [], ◌∷◌, Option, Some, None, Ok, Err, codes, pos, refl}
+use Rattle.std.specs.Prelude.{◌≡◌, ℕ, List, [], ◌∷◌, None, Ok, Err, codes, pos, refl}
 use Rattle.std.specs.Fmt.{digits}
 use Rattle.std.specs.Str.{chars, is_utf8}
 use Rattle.serde_json.proofs.OnLiterals.{serde_json_on_literals}
 use Rattle.sdb_value.specs.Value.{whole, object, member, no_members}
 use Rattle.sdb_oplog.specs.Keys.{PlainKey}
-use Rattle.sdb_oplog.specs.Plain.{create, PlainSubmission, PlainEntry}
+use Rattle.sdb_oplog.specs.Plain.{create, PlainSubmission}
 use Rattle.sdb_dump.specs.declared.version.DumpVersion.TheVariants.{One, Two}
 use Rattle.sdb_dump.specs.Dumps.{PlainLine, head_text, count_text, text_of, dump_text, check}
 

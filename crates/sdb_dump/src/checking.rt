@@ -5,8 +5,9 @@ ghost use Rattle.sdb_oplog.specs.Plain.{PlainEntry};
 ghost use Rattle.sdb_desk.specs.ShardView.{logs_of};
 ghost use Rattle.std.specs.List.{slice_get};
 ghost use Rattle.sdb_desk.specs.ReplyView.{plain_reply};
-ghost use Rattle.sdb_dump.specs.Checks.{Checks, Enters, HasAll, Holds, IsStoredAt};
-ghost use Rattle.sdb_dump.specs.Dumps.{PlainLine, count_text, enter, entered_after, follows, text_of, version_of};
+ghost use Rattle.sdb_oplog.specs.Decide.{IsMade};
+ghost use Rattle.sdb_dump.specs.Checks.{Checks, Enters, HasAll, Holds, IsStoredAt, logs_in};
+ghost use Rattle.sdb_dump.specs.Dumps.{PlainLine, count_text, enter, entered_after, follows, is_line_of, version_of};
 ghost use Rattle.sdb_dump.specs.Faults.{IsFault, IsWrong};
 ghost use Rattle.sdb_dump.specs.View.{plain_line};
 ghost use Rattle.sdb_dump.specs.Stages.{PlainStage, after, ended};
@@ -16,7 +17,8 @@ ghost use Rattle.sdb_dump.specs.declared.checking.DumpFault.TheVariants.{Memory,
 use crate::lines::{Line, line_text, read_line};
 use crate::version::DumpVersion;
 use sdb_desk::{Reply, Shard};
-use sdb_oplog::{Code, Key, Log, Moment};
+use sdb_oplog::{Key, Log, Moment};
+use sdb_wire::refusal;
 use std::alloc::{AllocError, Global};
 use thiserror::Error;
 
@@ -57,7 +59,8 @@ pub struct Checked {
 impl Checked {
     /// The log of the document, if something is stored of it.
     pub fn log(&self, key: &Key) -> Option<&Log>
-        ensures { unwrap_or (option_map (λ l. l.now) result) [] ≡ logs_of self.now.shard (plain_key key.now) }
+        ensures log { unwrap_or (option_map (λ l. l.now) result) [] ≡ logs_in self.now (plain_key key.now) }
+        ensures made { IsMade (logs_in self.now (plain_key key.now)) }
     {
         self.shard.log(key)
     }
@@ -208,7 +211,7 @@ impl Checker {
     ) -> Result<bool, AllocError>
         ensures { IfOk result (λ b. (e : PlainEntry) →
             slice_get (logs_of self.now.shard (plain_key key.now)) at ≡ Some e →
-            b ≡ (nat_eq e.moment moment && bytes_eq (text_of version (record { key = plain_key key.now; entry = e })) line.now)) }
+            b ≡ is_line_of version line.now (plain_key key.now) moment e) }
     {
         let Some(entry) = self.shard.log(key).and_then(|log| log.get(at)) else {
             return Ok(false);
@@ -265,8 +268,11 @@ fn stored_version(reply: &Reply) -> Result<Option<u64>, AllocError>
 {
     match reply {
         Reply::Stored { v, .. } => Ok(Some(*v)),
-        Reply::Refused(Code::E10) => Err(AllocError),
-        Reply::Repeat { .. } | Reply::Refused(_) => Ok(None),
+        Reply::Repeat { .. } => Ok(None),
+        Reply::Refused(code) => {
+            refusal(*code)?;
+            Ok(None)
+        }
     }
 }
 

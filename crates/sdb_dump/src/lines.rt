@@ -13,8 +13,8 @@ use json::Writer;
 use sdb_component::write_op;
 use sdb_oplog::{Code, Content, Entry, Key, Kind, Moment, Submission};
 use sdb_wire::{
-    count_at, key_of, may_count, moment_of as moment_in, need_name, read_content, write_count,
-    write_create, write_text,
+    count_at, key_of, may_count, moment_of as moment_in, need_name, read_content, refusal,
+    write_count, write_create, write_text,
 };
 use serde_json::Value;
 use std::alloc::{AllocError, Global};
@@ -275,7 +275,9 @@ fn unless_refused<T: Drop>(read: Result<T, Code>) -> Result<Option<T>, AllocErro
 {
     match read {
         Ok(value) => Ok(Some(value)),
-        Err(Code::E10) => Err(AllocError),
-        Err(_) => Ok(None),
+        Err(code) => {
+            refusal(code)?;
+            Ok(None)
+        }
     }
 }

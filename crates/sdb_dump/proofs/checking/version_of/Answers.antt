@@ -1,4 +1,4 @@
-use Rattle.std.proofs.Common.{◌≡◌, List, ℕ, Bool, true, false, bytes_eq, Some, None, refl, sym, ap, ap₂, ◌∙◌}
+use Rattle.std.proofs.Common.{◌≡◌, true, false, bytes_eq, Some, None, sym, ap, ap₂, ◌∙◌}
 use Rattle.std.specs.Prelude.{if◌then◌else◌}
 use Rattle.sdb_dump.specs.Dumps.{head_text}
 use Rattle.sdb_dump.specs.declared.version.DumpVersion.TheVariants.{One, Two}

@@ -1,13 +1,12 @@
-use Rattle.std.proofs.Common.{◌≡◌, arith, Ok, Err, take, ap, sym, ◌∙◌, subst, length-take, refl}
+use Rattle.std.proofs.Common.{◌≡◌, arith, Ok, Err, take, ap, sym, ◌∙◌, subst, length-take}
 use Rattle.std.proofs.lemmas.Result.{err_from_is_err_and}
-use Rattle.std.specs.Prelude.{IfOk, IfErr, IfSome}
+use Rattle.std.specs.Prelude.{IfErr, IfSome}
 use Rattle.std.proofs.Common.{List}
 use Rattle.sdb_dump.specs.Checks.{Checks, HasAll}
 use Rattle.sdb_dump.specs.Cut.{check_text}
 use Rattle.sdb_dump.specs.Dumps.{PlainLine}
 use Rattle.sdb_dump.specs.Stages.{PlainStage, ended}
 use Rattle.sdb_dump.specs.Faults.{IsFault}
-use Rattle.sdb_dump.specs.Text.{Accepts}
 use Rattle.sdb_dump.proofs.Going.{went_start, went_on, went_wrong, went_accepted, went_refused, if_ok_then, if_err_then}
 use Rattle.sdb_dump.proofs.stream.check_dump.Goals as goal
 

@@ -1,5 +1,5 @@
 use Rattle.std.proofs.Common.{sym, ◌∙◌}
-use Rattle.sdb_dump.proofs.Following.{head_taken, head_wrong}
+use Rattle.sdb_dump.proofs.Following.{head_taken}
 use Rattle.sdb_dump.proofs.checking.Checker.take_head.Goals as goal
 
 pub returns-clause-taken : goal.returns-clause-taken
