@@ -70,6 +70,17 @@ function insert(at, text) {
   return [{ p: [at], si: text }];
 }
 
+// A client that follows a document that doesn't exist yet.
+function absent() {
+  const client = new Client('ws://test', { source: 'me', WebSocket: ScriptedSocket });
+  const document = client.document(ADDRESS.c, ADDRESS.d);
+  document.subscribe();
+  const socket = lastSocket();
+  socket.open();
+  socket.answer({ a: 's', ...ADDRESS, data: { type: null, v: 0 } });
+  return { document, socket };
+}
+
 // A client that has loaded the text `abc` at version 3, and the events that its document has told.
 function loaded(data = 'abc') {
   const client = new Client('ws://test', { source: 'me', WebSocket: ScriptedSocket, retryDelay: SOON });
@@ -403,12 +414,7 @@ const cases = {
   },
 
   async 'a create that came second: createIfAbsent waits for the first one'() {
-    const client = new Client('ws://test', { source: 'me', WebSocket: ScriptedSocket });
-    const document = client.document(ADDRESS.c, ADDRESS.d);
-    document.subscribe();
-    const socket = lastSocket();
-    socket.open();
-    socket.answer({ a: 's', ...ADDRESS, data: { type: null, v: 0 } });
+    const { document, socket } = absent();
     const made = document.createIfAbsent('mine').then(() => document.data);
     socket.answer(refused('op', 'ERR_DOC_ALREADY_CREATED', { src: 'me', seq: 1 }));
     await later();
@@ -420,12 +426,7 @@ const cases = {
   },
 
   async 'a create that is refused: createIfAbsent says so'() {
-    const client = new Client('ws://test', { source: 'me', WebSocket: ScriptedSocket });
-    const document = client.document(ADDRESS.c, ADDRESS.d);
-    document.subscribe();
-    const socket = lastSocket();
-    socket.open();
-    socket.answer({ a: 's', ...ADDRESS, data: { type: null, v: 0 } });
+    const { document, socket } = absent();
     const made = document.createIfAbsent('mine');
     socket.answer(refused('op', 'ERR_LIMIT', { src: 'me', seq: 1 }));
     await assert.rejects(made, { code: 'ERR_LIMIT' });
