@@ -22,10 +22,10 @@ on_says (Ok x) f a h = h
 on_says (Err x) f a h = tt
 
 -- after want of memory nothing is said
-pub handled_by : {P : Type 0} {A E : Type 0} {b : P → P → Type 0} (acts : PlainKey → Calls P) (e : PlainEcho) (t : List PlainProjection) (by now : ℕ) (s : PlainSession) (r : PlainRequest) (p : P) (x : Result A E) (f : List PlainAnswer → Type 0) (new : PlainSession) (q : P)
+pub handled_by : {P : Type 0} {A E : Type 0} (b : P → P → Type 0) (acts : PlainKey → Calls P) (e : PlainEcho) (t : List PlainProjection) (by now : ℕ) (s : PlainSession) (r : PlainRequest) (p : P) (x : Result A E) (f : List PlainAnswer → Type 0) (new : PlainSession) (q : P)
     → Handles acts e t by now s r p (Says x f) new q → Handled x (Handles acts e t by now s r p) b f s p new q
-handled_by acts e t by now s r p (Ok x) f new q h = h
-handled_by acts e t by now s r p (Err x) f new q h = inr h
+handled_by b acts e t by now s r p (Ok x) f new q h = h
+handled_by b acts e t by now s r p (Err x) f new q h = inr h
 
 pub says_on : {A E : Type 0} (r : Result A E) (f : List PlainAnswer → Type 0) (a : List PlainAnswer) → Says r f a → OnOk r (f a)
 says_on (Ok x) f a h = h
@@ -86,15 +86,15 @@ module _ {P : Type 0} (acts : PlainKey → Calls P) (e : PlainEcho) (t : List Pl
 
 -- ---- requests that broke off
 
-module _ {P A E : Type 0} (acts : PlainKey → Calls P) (e : PlainEcho) (t : List PlainProjection) (by now : ℕ) (s : PlainSession) (p q : P) (f : List PlainAnswer → Type 0) (k : PlainKey) (o : Option PlainProjection) (seen : o ≡ through t k) (b : PlainKey) (base : b ≡ base_of o k) (x : E) where
+module _ {P : Type 0} (acts : PlainKey → Calls P) (t : List PlainProjection) (p q : P) (k : PlainKey) (o : Option PlainProjection) (seen : o ≡ through t k) (b : PlainKey) (base : b ≡ base_of o k) where
   there : b ≡ base_in t k
   there = base ∙ ap (λ y. base_of y k) seen
 
-  pub lists_broken : (from : ℕ) (new : PlainSession) → new ≡ s → ListsSome (acts b) from p q → Handled {R = A} (Err x) (Handles acts e t by now s (fetch k (Some from)) p) (Breaks acts t (fetch k (Some from))) f s p new q
-  lists_broken from new is h = inl (is, inr (subst (λ y. ListsSome (acts y) from p q) there h))
+  pub lists_broken : (from : ℕ) → ListsSome (acts b) from p q → Breaks acts t (fetch k (Some from)) p q
+  lists_broken from h = subst (λ y. ListsSome (acts y) from p q) there h
 
-  pub joins_broken : (v : Option ℕ) (new : PlainSession) → new ≡ s → JoinsSome acts b v p q → Handled {R = A} (Err x) (Handles acts e t by now s (subscribe k v) p) (Breaks acts t (subscribe k v)) f s p new q
-  joins_broken v new is h = inl (is, inr (subst (λ y. JoinsSome acts y v p q) there h))
+  pub joins_broken : (v : Option ℕ) → JoinsSome acts b v p q → Breaks acts t (subscribe k v) p q
+  joins_broken v h = subst (λ y. JoinsSome acts y v p q) there h
 
 -- ---- other words for what is said
 

@@ -1,4 +1,4 @@
-pub mod Batches
+pub mod BatchChains
 pub mod Handling
 pub mod Pairs
 pub mod Taking

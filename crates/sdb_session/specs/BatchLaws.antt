@@ -38,9 +38,10 @@ waiting_behind log a b w =
     let rest = drop from log in
     let first = take a rest in
     let long : length first ≡ min a (length rest) = length-take a rest in
+    let sum : from + length first ≡ w.start + (w.taken + length first) = omega arith in
     let on : drop a rest ≡ drop (w.start + (w.taken + length first)) log =
     sym (drop_min a rest) ∙ ap (λ n. drop n rest) (sym long) ∙ sym (drop_on from (length first) log)
-    ∙ ap (λ n. drop n log) (omega arith) in
+    ∙ ap (λ n. drop n log) sum in
     take-add a b rest ∙ ap (λ l. first ++ take b l) on
 
 moved_behind : (log : List PlainEntry) (a b : ℕ) (w : PlainQueue) → moved log (a + b) w ≡ moved log b (moved log a w)
@@ -64,13 +65,12 @@ with_same n w (q ∷ qs) h = by_case (nat_eq n q.0) h (with_same n w qs) where
 
 with_twice : (n : ℕ) (v w : PlainQueue) (qs : Queues) → with_queue n v (with_queue n w qs) ≡ with_queue n v qs
 with_twice n v w [] = refl
-with_twice n v w (q ∷ qs) = by_case (nat_eq n q.0) refl where
-  by_case : (b : Bool) → nat_eq n q.0 ≡ b
+with_twice n v w (q ∷ qs) = by_case (nat_eq n q.0) refl (with_twice n v w qs) where
+  by_case : (b : Bool) → nat_eq n q.0 ≡ b → with_queue n v (with_queue n w qs) ≡ with_queue n v qs
       → with_queue n v (cond b ((q.0, w) ∷ qs) (q ∷ with_queue n w qs)) ≡ cond b ((q.0, v) ∷ qs) (q ∷ with_queue n v qs)
-  by_case true is = ap (λ b. cond b ((q.0, v) ∷ qs) ((q.0, w) ∷ with_queue n v qs)) is
-  by_case false is =
-      ap (λ b. cond b ((q.0, v) ∷ with_queue n w qs) (q ∷ with_queue n v (with_queue n w qs))) is
-      ∙ ap (λ l. q ∷ l) (with_twice n v w qs)
+  by_case true is below = ap (λ b. cond b ((q.0, v) ∷ qs) ((q.0, w) ∷ with_queue n v qs)) is
+  by_case false is below =
+      ap (λ b. cond b ((q.0, v) ∷ with_queue n w qs) (q ∷ with_queue n v (with_queue n w qs))) is ∙ ap (λ l. q ∷ l) below
 
 abbrev given_of : List PlainEntry → ℕ → ℕ → Option PlainQueue → List PlainEntry
 given_of log by max o = unwrap_or (cond (is_mine by o) (option_map (waiting log max) o) None) []

@@ -126,9 +126,11 @@ same_of_same : (m n o : Machine) → Same m n → Same n o → Same m o
 same_of_same m n o a b = (b.0 ∙ a.0, b.1 ∙ a.1)
 
 pub drop_on : {A : Type 0} (v w : ℕ) (l : List A) → drop (v + w) l ≡ drop w (drop v l)
-drop_on zero w l = ap (λ n. drop n l) (omega arith)
-drop_on (suc v) w [] = ap (λ n. drop n []) (omega arith) ∙ drop-nil (suc (v + w)) ∙ sym (drop-nil w)
-drop_on (suc v) w (x ∷ l) = ap (λ n. drop n (x ∷ l)) (omega arith) ∙ drop_on v w l
+drop_on zero w l = let none : zero + w ≡ w = omega arith in ap (λ n. drop n l) none
+drop_on (suc v) w [] = drop-nil (suc v + w) ∙ sym (drop-nil w)
+drop_on (suc v) w (x ∷ l) =
+    let one : suc v + w ≡ suc (v + w) = omega arith in
+    ap (λ n. drop n (x ∷ l)) one ∙ drop_on v w l
 
 pub filled_long : (es : List PlainEntry) → is_filled es ≡ true → 0 < length es
 filled_long [] h = cc

@@ -22,7 +22,7 @@ returns-then-is_full-clause-handled g c = λ now.
     let code = c.full_code-code.result in
     let wrote = Wrote g.O.ReplySink.pieces (g.O.ReplySink.written c.args.out.now) (g.O.ReplySink.written c.refuse.new.out) in
     let seen : o ≡ through t k = c.find-projection.ensures ∙ ap (λ n. projection_of n t) c.as_str.ensures.value in
-    handled_by (g.D.Desk.acts c.args.desk.now) e t by now s (subscribe k v) c.args.pass.now c.refuse.result wrote s c.full_code-code.new.pass
+    handled_by _ (g.D.Desk.acts c.args.desk.now) e t by now s (subscribe k v) c.args.pass.now c.refuse.result wrote s c.full_code-code.new.pass
     (full_handles (g.D.Desk.acts c.args.desk.now) e t by now s c.args.pass.now c.full_code-code.new.pass (Says c.refuse.result wrote) k o seen
     v b code (sym c.is_full.ensures ∙ c.if-is_full.true) c.in_ok-base.ensures c.full_code-code.ensures.refuses (on_says c.refuse.result wrote (failed e code ∷ []) c.refuse.ensures))
 
@@ -40,7 +40,7 @@ returns-in-Err-clause-handled g c = λ now.
     let new = plain_session c.join.new.self in
     let wrote = Wrote g.O.ReplySink.pieces (g.O.ReplySink.written c.args.out.now) (g.O.ReplySink.written c.refuse-in-Err.new.out) in
     let seen : o ≡ through t k = c.find-projection.ensures ∙ ap (λ n. projection_of n t) c.as_str.ensures.value in
-    handled_by (g.D.Desk.acts c.args.desk.now) e t by now s (subscribe k v) c.args.pass.now c.refuse-in-Err.result wrote new c.join.new.pass
+    handled_by _ (g.D.Desk.acts c.args.desk.now) e t by now s (subscribe k v) c.args.pass.now c.refuse-in-Err.result wrote new c.join.new.pass
     (not_joined_handles (g.D.Desk.acts c.args.desk.now) e t by now s c.args.pass.now c.join.new.pass (Says c.refuse-in-Err.result wrote) k o seen
     v b new (sym c.is_full.ensures ∙ c.if-is_full.false) c.in_ok-base.ensures code c.in-Err.ensures.session c.in-Err.ensures.joins (on_says c.refuse-in-Err.result wrote (failed e code ∷ []) c.refuse-in-Err.ensures))
 
@@ -59,6 +59,6 @@ returns-in-Ok-clause-handled g c = λ now.
     let wrote = Wrote g.O.ReplySink.pieces (g.O.ReplySink.written c.args.out.now) (g.O.ReplySink.written c.follow.new.out) in
     let seen : o ≡ through t k = c.find-projection.ensures ∙ ap (λ n. projection_of n t) c.as_str.ensures.value in
     let is = c.follow.ensures.session ∙ ap (λ x. with_sub x k (record { base = b; id = j.opened.id })) c.in-Ok.ensures.session in
-    handled_by (g.D.Desk.acts c.args.desk.now) e t by now s (subscribe k v) c.args.pass.now c.follow.result wrote new c.join.new.pass
+    handled_by _ (g.D.Desk.acts c.args.desk.now) e t by now s (subscribe k v) c.args.pass.now c.follow.result wrote new c.join.new.pass
     (joined_handles (g.D.Desk.acts c.args.desk.now) e t by now s c.args.pass.now c.join.new.pass (Says c.follow.result wrote) k o seen
     v b new (sym c.is_full.ensures ∙ c.if-is_full.false) c.in_ok-base.ensures j is c.in-Ok.ensures.joins c.follow.ensures.says)

@@ -1,6 +1,8 @@
 -- Batches, one more behind the others.
-use Rattle.std.proofs.Common.{◌≡◌, ℕ, ◌+◌, ◌<◌, ◌≤◌, ◌⊎◌, List, [], ◌∷◌, ◌++◌, map, Option, Some, None, Result, Ok, Err, refl, sym, ap, ◌∙◌, subst, append_assoc, inl, inr, arith}
+use Rattle.std.proofs.Common.{◌≡◌, ℕ, ◌+◌, ◌<◌, ◌≤◌, ◌⊎◌, Bool, true, false, cond, nat_eq, List, [], ◌∷◌, ◌++◌, map, Option, Some, None, Result, Ok, Err, refl, sym, ap, ◌∙◌, subst, append_assoc, inl, inr, arith}
+use Rattle.std.proofs.lemmas.Bool.{eqb-true}
 use Rattle.std.proofs.lemmas.List.{append-nil, map-append}
+use Rattle.std.specs.declared.alloc.AllocError.{AllocError}
 use Rattle.sdb_oplog.specs.Plain.{PlainEntry}
 use Rattle.sdb_oplog.specs.Keys.{PlainKey}
 use Rattle.sdb_oplog.specs.declared.codes.Code.TheVariants.{E10}
@@ -9,6 +11,9 @@ use Rattle.sdb_projection.specs.Table.{PlainProjection}
 use Rattle.sdb_submit.specs.Calls.{present, ops_between, take_next}
 use Rattle.sdb_submit.specs.Chain.{Calls, PlainBatch, sizes, entries_of, came, ReadsIn, TakesIn, TakesSome, Lists, ListsSome}
 use Rattle.sdb_wire.specs.Answers.{PlainAnswer}
+use Rattle.sdb_session.specs.Batches.{Unlisted, Untaken}
+use Rattle.sdb_session.specs.declared.batches.BatchFault.{BatchFault}
+use Rattle.sdb_session.specs.declared.batches.BatchFault.TheVariants.{Refused, Memory}
 use Rattle.sdb_session.specs.Handling.{PlainJoined, messages, last_says, opened_says}
 use Rattle.sdb_session.specs.View.{Says, Wrote}
 use Rattle.sdb_session.specs.Written.{pieces_of}
@@ -94,3 +99,64 @@ messages_more f o k old mid new xs x first last =
     both
     ∙ ap (λ l. old ++ pieces_of f l) (sym (map-append _ (entries_of xs) x.entries))
     ∙ ap (λ l. old ++ pieces_of f (messages o k l)) (sym (entries_more xs x))
+
+-- ---- batches that find no memory
+
+module _ {P : Type 0} (acts : Calls P) where
+  reads_nothing : (v : ℕ) (xs : List PlainBatch) (p q : P) → xs ≡ [] → ReadsIn acts v xs p q → q ≡ p
+  unfolding ReadsIn
+  reads_nothing v [] p q e h = h
+  reads_nothing v (x ∷ xs) p q e h = cc
+
+  takes_nothing : (n : ℕ) (xs : List PlainBatch) (p q : P) → xs ≡ [] → TakesIn acts n xs p q → q ≡ p
+  unfolding TakesIn
+  takes_nothing n [] p q e h = h
+  takes_nothing n (x ∷ xs) p q e h = cc
+
+  first_of : (xs : List PlainBatch) (n m : ℕ) → (xs ≡ []) ⊎ (n < m) → m ≡ n → xs ≡ []
+  first_of xs n m (inl e) is = e
+  first_of xs n m (inr lt) is = absurd (omega (arith, lt, is))
+
+  -- the first of a list refuses it, and a later one breaks it off
+  pub listing_wants : (says : List PlainEntry → Type 0) (v next end last : ℕ) (xs : List PlainBatch) (p o m q : P) (f : BatchFault)
+      (e : AllocError) → f ≡ cond (nat_eq next v) (Refused E10) (Memory e) → acts present p last o → ReadsIn acts v xs o m
+      → next ≡ v + sizes xs → (xs ≡ []) ⊎ (v < next) → end ≤ last → acts (ops_between next end) m None q
+      → (xs ≡ [] → says []) → Unlisted acts v says p f q
+  listing_wants says v next end last xs p o m q f e is at reads from started within wants nothing =
+      subst (λ (g : BatchFault). Unlisted acts v says p g q) (sym is) (by_case (nat_eq next v) refl) where
+        by_case : (b : Bool) → nat_eq next v ≡ b → Unlisted acts v says p (cond b (Refused E10) (Memory e)) q
+        by_case true same =
+            let here : next ≡ v = eqb-true next v same in
+            let none : xs ≡ [] = first_of xs v next started here in
+            let alone : m ≡ o = reads_nothing v xs o m none reads in
+            let one : acts (ops_between v end) o None q =
+            subst (λ y. acts (ops_between v end) y None q) alone
+            (subst (λ n. acts (ops_between n end) m None q) here wants) in
+            (inr (last, (end, (o, (at, one, within, refl)))), nothing none)
+        by_case false later =
+            let one : acts (ops_between (v + sizes xs) end) m None q =
+            subst (λ n. acts (ops_between n end) m None q) from wants in
+            (last, (xs, (o, (m, (at, reads, inr (end, one))))))
+
+  -- the same of what is taken of a queue
+  pub taking_wants : (says : List PlainEntry → Type 0) (n count left size : ℕ) (xs : List PlainBatch) (p m q : P) (f : BatchFault)
+      (e : AllocError) (a : Option (Option (List PlainEntry))) → f ≡ cond (nat_eq left count) (Refused E10) (Memory e)
+      → TakesIn acts n xs p m → (xs ≡ []) ⊎ (left < count) → acts (take_next n size) m a q → came a ≡ None
+      → (xs ≡ [] → says []) → Untaken acts n says p f q
+  taking_wants says n count left size xs p m q f e a is takes started wants none nothing =
+      subst (λ (g : BatchFault). Untaken acts n says p g q) (sym is) (by_case (nat_eq left count) refl) where
+        one : acts (take_next n size) m None q
+        one = subst (λ b. acts (take_next n size) m b q) (came_none a none) wants
+
+        by_case : (b : Bool) → nat_eq left count ≡ b
+            → Untaken acts n says p (cond b (Refused E10) (Memory e)) q
+        by_case true same =
+            let first : xs ≡ [] = first_of xs left count started (sym (eqb-true left count same)) in
+            let alone : m ≡ p = takes_nothing n xs p m first takes in
+            (refl, (size, subst (λ y. acts (take_next n size) y None q) alone one), nothing first)
+        by_case false later = (xs, (m, (takes, inr (size, one))))
+
+-- nothing is said of none
+pub none_said : {A : Type 0} (f : PlainAnswer → List A) (o : Option PlainProjection) (k : PlainKey) (old new : List A)
+    (xs : List PlainBatch) → Wrote f old new (messages o k (entries_of xs)) → xs ≡ [] → Wrote f old new (messages o k [])
+none_said f o k old new xs h e = h ∙ ap (λ l. old ++ pieces_of f (messages o k (entries_of l))) e
