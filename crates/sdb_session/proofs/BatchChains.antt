@@ -8,13 +8,14 @@ use Rattle.sdb_oplog.specs.Keys.{PlainKey}
 use Rattle.sdb_oplog.specs.declared.codes.Code.TheVariants.{E10}
 use Rattle.sdb_desk.specs.Machine.{PlainSubscribed}
 use Rattle.sdb_projection.specs.Table.{PlainProjection}
-use Rattle.sdb_submit.specs.Calls.{present, ops_between, take_next}
+use Rattle.sdb_submit.specs.Calls.{present, ops_between, take_next, subscribe as subscribe_call, unsubscribe as unsubscribe_call}
 use Rattle.sdb_submit.specs.Chain.{Calls, PlainBatch, sizes, entries_of, came, ReadsIn, TakesIn, TakesSome, Lists, ListsSome}
 use Rattle.sdb_wire.specs.Answers.{PlainAnswer}
-use Rattle.sdb_session.specs.Batches.{Unlisted, Untaken}
+use Rattle.sdb_session.specs.Batches.{Unlisted, Untaken, Taking, Beginning, Unbegun, Unjoined}
 use Rattle.sdb_session.specs.declared.batches.BatchFault.{BatchFault}
 use Rattle.sdb_session.specs.declared.batches.BatchFault.TheVariants.{Refused, Memory}
-use Rattle.sdb_session.specs.Handling.{PlainJoined, messages, last_says, opened_says}
+use Rattle.sdb_session.specs.Handling.{PlainJoined, behind, messages, last_says, opened_says}
+use Rattle.sdb_session.specs.Sessions.{QueueId}
 use Rattle.sdb_session.specs.View.{Says, Wrote}
 use Rattle.sdb_session.specs.Written.{pieces_of}
 use Rattle.sdb_session.proofs.Taking.{pieces_more}
@@ -160,3 +161,23 @@ module _ {P : Type 0} (acts : Calls P) where
 pub none_said : {A : Type 0} (f : PlainAnswer → List A) (o : Option PlainProjection) (k : PlainKey) (old new : List A)
     (xs : List PlainBatch) → Wrote f old new (messages o k (entries_of xs)) → xs ≡ [] → Wrote f old new (messages o k [])
 none_said f o k old new xs h e = h ∙ ap (λ l. old ++ pieces_of f (messages o k (entries_of l))) e
+
+-- ---- a queue that was opened
+
+module _ {P : Type 0} (acts : PlainKey → Calls P) where
+  -- begins with what was taken of it
+  pub begins_by : {A : Type 0} (b : PlainKey) (v : Option ℕ) (o : PlainSubscribed) (count : ℕ) (says : List PlainEntry → Type 0)
+      (p q : P) (r : Result A BatchFault) → count ≡ behind v o.version → Taking (acts b) o.id count says p r q
+      → Beginning acts b v o says p r q
+  begins_by b v o count says p q (Ok x) is (xs, (takes, sum, none, said)) =
+      (entries_of xs, ((xs, (takes, sum ∙ is, refl)), (λ e. none (is ∙ ap (λ w. behind w o.version) e)), said))
+  begins_by b v o count says p q (Err (Refused code)) is (due, wants, said) = (due, inr wants, said)
+  begins_by b v o count says p q (Err (Memory e)) is h = h
+
+  -- and is closed again
+  pub unjoined_by : (b : PlainKey) (v : Option ℕ) (old : Option QueueId) (o : PlainSubscribed) (says : List PlainEntry → Type 0)
+      (p m n q : P) (f : BatchFault) → acts b (subscribe_call v) p (Ok o) m → Unbegun acts b v o says m f n
+      → acts b (unsubscribe_call o.id) n tt q → Unjoined acts b v old says p f q
+  unjoined_by b v old o says p m n q (Refused code) opens (due, begins, said) ends =
+      (inr (o, (m, (n, (opens, begins, ends, due)))), said)
+  unjoined_by b v old o says p m n q (Memory e) opens takes ends = (o, (m, (n, (opens, takes, ends))))
