@@ -1,10 +1,11 @@
-use Rattle.std.proofs.Common.{◌≡◌, List, ◌∷◌, [], ap, ◌∙◌, sym, inl, inr, subst}
+use Rattle.std.proofs.Common.{◌≡◌, List, ◌∷◌, [], ap, ◌∙◌, sym, inl, inr, subst, OnOk}
 use Rattle.sdb_oplog.specs.Keys.{plain_key}
 use Rattle.sdb_projection.specs.Table.{projection_of}
 use Rattle.sdb_session.specs.Projections.{through}
 use Rattle.sdb_session.specs.Sessions.{queue_of, with_sub}
 use Rattle.sdb_session.specs.View.{plain_opened, plain_session, plain_through, shown_of, Says, Wrote}
 use Rattle.sdb_oplog.specs.Plain.{PlainEntry}
+use Rattle.sdb_oplog.specs.declared.codes.Code.{Code}
 use Rattle.sdb_session.specs.Batches.{Unjoined}
 use Rattle.sdb_session.specs.declared.batches.BatchFault.{BatchFault}
 use Rattle.sdb_session.specs.Handling.{PlainJoined, messages}
@@ -53,7 +54,9 @@ returns-in-Err-Refused-clause-handled g c = λ now.
     let says : List PlainEntry → Type 0 = λ l. Wrote f before mid (messages o k l) in
     let U : BatchFault → Type 0 = λ x. Unjoined acts b v (queue_of k s.subs) says c.args.pass.now x c.join.new.pass in
     let none = subst U c.in-Err-Refused.field-0-is c.in-Err-Refused.ensures.joins in
-    let said = says_behind f before mid after r [] (failed e code ∷ []) none.1 (on_says r (Wrote f mid after) (failed e code ∷ []) c.refuse-in-Err-Refused.ensures) in
+    let R : Code → Type 0 = λ x. OnOk r (Wrote f mid after (failed e x ∷ [])) in
+    let refused = subst R c.in-Err-Refused.code-is c.refuse-in-Err-Refused.ensures in
+    let said = says_behind f before mid after r [] (failed e code ∷ []) none.1 (on_says r (Wrote f mid after) (failed e code ∷ []) refused) in
     handled_by _ acts e t by now s (subscribe k v) c.args.pass.now r (Wrote f before after) new c.join.new.pass
     (not_joined_handles acts e t by now s c.args.pass.now c.join.new.pass (Says r (Wrote f before after)) k o seen
     v b new (sym c.is_full.ensures ∙ c.if-is_full.false) c.in_ok-base.ensures code c.in-Err-Refused.ensures.session none.0 said)
