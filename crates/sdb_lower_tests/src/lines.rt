@@ -170,9 +170,9 @@ fn run_over(alloc: Global, input: &[u8]) -> (Result<Counts, RunFault>, Vec<u8>) 
 #[test]
 fn answers_every_line(rt: HostRuntime) {
     let (ended, writer) = run_slowly(rt.alloc(), None, Trouble::Nothing);
-    assert!(rt; ended == Ok(COUNTS));
-    assert!(rt; writer.taken.as_slice() == OUTPUT);
-    assert!(rt; writer.flushed == OUTPUT.len());
+    assert!(rt;
+        ended == Ok(COUNTS) && writer.taken.as_slice() == OUTPUT && writer.flushed == OUTPUT.len()
+    );
 }
 
 // Whether these bytes are answered so, with these counts.
@@ -183,11 +183,13 @@ fn is_answered(alloc: Global, input: &[u8], output: &[u8], lines: u64, steps: u6
 
 #[test]
 fn ends_lines_at_line_feeds(rt: HostRuntime) {
-    assert!(rt; is_answered(rt.alloc(), b"", b"0\n", 0, 0));
-    assert!(rt; is_answered(rt.alloc(), b"\n", b"0\n0\n", 1, 0));
-    assert!(rt; is_answered(rt.alloc(), b"ab\r\n\n", b"0\n3\n3\n", 2, 1));
-    assert!(rt; is_answered(rt.alloc(), b"a\n\nb", b"0\n1\n1\n1\n", 3, 2));
-    assert!(rt; is_answered(rt.alloc(), b"\xc3\n\xc3\xa9\n", b"0\nbad\n2\n", 2, 1));
+    assert!(rt;
+        is_answered(rt.alloc(), b"", b"0\n", 0, 0)
+            && is_answered(rt.alloc(), b"\n", b"0\n0\n", 1, 0)
+            && is_answered(rt.alloc(), b"ab\r\n\n", b"0\n3\n3\n", 2, 1)
+            && is_answered(rt.alloc(), b"a\n\nb", b"0\n1\n1\n1\n", 3, 2)
+            && is_answered(rt.alloc(), b"\xc3\n\xc3\xa9\n", b"0\nbad\n2\n", 2, 1)
+    );
 }
 
 // Whether the read of this number fails once this is written and flushed.
@@ -200,12 +202,14 @@ fn fails_at_read(alloc: Global, k: u64, shown: &[u8]) -> bool {
 
 #[test]
 fn tells_of_a_failed_read(rt: HostRuntime) {
-    assert!(rt; fails_at_read(rt.alloc(), 1, b"0\n"));
-    assert!(rt; fails_at_read(rt.alloc(), 2, b"0\n"));
-    assert!(rt; fails_at_read(rt.alloc(), 3, b"0\n3\n"));
-    assert!(rt; fails_at_read(rt.alloc(), 6, b"0\n3\n5\n"));
-    assert!(rt; fails_at_read(rt.alloc(), 7, b"0\n3\n5\n5\n"));
-    assert!(rt; fails_at_read(rt.alloc(), 10, b"0\n3\n5\n5\nbad\n"));
+    assert!(rt;
+        fails_at_read(rt.alloc(), 1, b"0\n")
+            && fails_at_read(rt.alloc(), 2, b"0\n")
+            && fails_at_read(rt.alloc(), 3, b"0\n3\n")
+            && fails_at_read(rt.alloc(), 6, b"0\n3\n5\n")
+            && fails_at_read(rt.alloc(), 7, b"0\n3\n5\n5\n")
+            && fails_at_read(rt.alloc(), 10, b"0\n3\n5\n5\nbad\n")
+    );
 }
 
 // How many bytes were written before the trouble, if they are the first of the answer.
@@ -305,9 +309,7 @@ fn flushes_before_each_read(rt: HostRuntime) {
         flushed: Cell::new(0),
     };
     let (ended, is_early) = run_waiting(rt.alloc(), &flow);
-    assert!(rt; ended == Ok(COUNTS));
-    assert!(rt; !is_early);
-    assert!(rt; flow.flushed.get() == OUTPUT.len());
+    assert!(rt; ended == Ok(COUNTS) && !is_early && flow.flushed.get() == OUTPUT.len());
 }
 
 // Answers these bytes, and tells the most that was written at once.
@@ -328,8 +330,7 @@ fn writes_before_much_is_pending(rt: HostRuntime) {
     // One read gives all these lines, each with an answer of two bytes.
     let input = vec![in rt.alloc(); b'\n'; 50_000].expect(&rt, "out of memory");
     let (ended, most) = run_widely(rt.alloc(), input.as_slice(), &flow);
-    assert!(rt; ended.is_ok());
-    assert!(rt; (flow.written.get(), most) == (100_002, 65_536));
+    assert!(rt; ended.is_ok() && (flow.written.get(), most) == (100_002, 65_536));
 }
 
 #[test]
@@ -337,6 +338,8 @@ fn prints_faults(rt: HostRuntime) {
     let read = "the input could not be read to its end";
     assert!(rt; says(&rt, rt.alloc(), &RunFault::Read, read));
     let write = "an answer could not be written";
-    assert!(rt; says(&rt, rt.alloc(), &RunFault::Write, write));
-    assert!(rt; says(&rt, rt.alloc(), &RunFault::Memory, "out of memory"));
+    assert!(rt;
+        says(&rt, rt.alloc(), &RunFault::Write, write)
+            && says(&rt, rt.alloc(), &RunFault::Memory, "out of memory")
+    );
 }

@@ -229,12 +229,14 @@ fn holds(rt: &impl Abort, alloc: Global, row: &[Value]) -> bool {
 
 #[test]
 fn each_row_of_the_table_holds(rt: HostRuntime) {
-    assert!(rt; each_row(&rt, rt.alloc(), WORKED, holds) == 6);
-    assert!(rt; each_row(&rt, rt.alloc(), CASE_1, holds) == 11);
-    assert!(rt; each_row(&rt, rt.alloc(), CASE_2, holds) == 27);
-    assert!(rt; each_row(&rt, rt.alloc(), LISTS, holds) == 34);
-    assert!(rt; each_row(&rt, rt.alloc(), OBJECTS, holds) == 22);
-    assert!(rt; each_row(&rt, rt.alloc(), TEXTS, holds) == 34);
+    assert!(rt;
+        each_row(&rt, rt.alloc(), WORKED, holds) == 6
+            && each_row(&rt, rt.alloc(), CASE_1, holds) == 11
+            && each_row(&rt, rt.alloc(), CASE_2, holds) == 27
+            && each_row(&rt, rt.alloc(), LISTS, holds) == 34
+            && each_row(&rt, rt.alloc(), OBJECTS, holds) == 22
+            && each_row(&rt, rt.alloc(), TEXTS, holds) == 34
+    );
     assert!(rt; each_row(&rt, rt.alloc(), OTHERS, holds) == 21);
 }
 
@@ -338,8 +340,10 @@ fn is_left_as(rt: &impl Abort, alloc: Global, side: Side, wanted: &str) -> bool 
 
 #[test]
 fn an_operation_is_transformed_as_either_side(rt: HostRuntime) {
-    assert!(rt; is_left_as(&rt, rt.alloc(), Side::Left, r#"[{"li":"B","p":[0]}]"#));
-    assert!(rt; is_left_as(&rt, rt.alloc(), Side::Right, r#"[{"li":"B","p":[1]}]"#));
+    assert!(rt;
+        is_left_as(&rt, rt.alloc(), Side::Left, r#"[{"li":"B","p":[0]}]"#)
+            && is_left_as(&rt, rt.alloc(), Side::Right, r#"[{"li":"B","p":[1]}]"#)
+    );
 }
 
 const BELOW: &str = r#"[{"p":[3,0,0],"si":"yy"},{"li":1,"p":[3,1]},{"li":2,"p":[0]}]"#;
@@ -375,6 +379,8 @@ fn a_removed_value_meets_edits_below_it(rt: HostRuntime) {
 #[test]
 fn faults_are_named(rt: HostRuntime) {
     let refused = "operation can not be applied";
-    assert!(rt; says(&rt, rt.alloc(), &Fault::NotTransformed, refused));
-    assert!(rt; says(&rt, rt.alloc(), &Fault::Memory, "out of memory"));
+    assert!(rt;
+        says(&rt, rt.alloc(), &Fault::NotTransformed, refused)
+            && says(&rt, rt.alloc(), &Fault::Memory, "out of memory")
+    );
 }

@@ -11,52 +11,45 @@ use std::alloc::Global;
 use std::fmt::Display;
 use std::io;
 use std::net::TcpListener;
-use std::test::Fail;
+use std::process::Abort;
+
+fn words_of(rt: &impl Abort, alloc: Global, line: &str) -> Vec<String> {
+    words(alloc, line).expect(rt, "out of memory")
+}
+
+fn asked(rt: &impl Abort, alloc: Global, line: &str) -> Option<Options> {
+    asked_options(alloc, words_of(rt, alloc, line).as_slice()).ok()
+}
+
+// How many fields the projection shows.
+fn shown_by(table: &Table, name: &str) -> Option<usize> {
+    let projection: Option<&Projection> = table.find(name);
+    Some(projection?.fields.len())
+}
 
 #[test]
-fn command_lines(rt: HostRuntime) -> Result<(), Fail> {
-    let alloc = rt.alloc();
-    let given = words(
-        alloc,
-        "sdb_server --lines --projection t=b:title,,n --projection u=c:x",
-    )?;
-    let Ok(asked) = asked_options(alloc, given.as_slice()) else {
-        return Err("refused".into());
-    };
+fn command_lines(rt: HostRuntime) {
+    let line = "sdb_server --lines --projection t=b:title,,n --projection u=c:x";
+    let asked = asked(&rt, rt.alloc(), line).expect(&rt, "a run");
     assert!(rt; asked.job == Some(Job::Lines));
-    let table = asked.table?;
-    let fields = table
-        .find("t")
-        .map_or(0, |projection: &Projection| -> usize {
-            projection.fields.len()
-        });
-    assert!(rt; fields == 2);
-    assert!(rt; table.find("u").is_some());
-    Ok(())
+    let table = asked.table.ok().expect(&rt, "a table");
+    assert!(rt; shown_by(&table, "t") == Some(2) && shown_by(&table, "u") == Some(1));
 }
 
 // The port, how long, and whether with a log, where a command line asks to listen.
-fn asked_to_listen(alloc: Global, line: &str) -> Result<Option<(u16, Until, bool)>, Fail> {
-    let given = words(alloc, line)?;
-    match asked_options(alloc, given.as_slice()) {
-        Ok(
-            Options {
-                job: Some(
-                    Job::Listen {
-                        address,
-                        until,
-                        is_logging,
-                    },
-                ),
-                ..
-            },
-        ) => Ok(Some((address.port(), until, is_logging))),
-        _ => Ok(None),
+fn asked_to_listen(rt: &impl Abort, alloc: Global, line: &str) -> Option<(u16, Until, bool)> {
+    match asked(rt, alloc, line)?.job? {
+        Job::Listen {
+            address,
+            until,
+            is_logging,
+        } => Some((address.port(), until, is_logging)),
+        Job::Lines => None,
     }
 }
 
 #[test]
-fn addresses_and_how_long(rt: HostRuntime) -> Result<(), Fail> {
+fn addresses_and_how_long(rt: HostRuntime) {
     for (line, wanted) in [
         (
             "sdb_server --listen 127.0.0.1:8080 --connections 2",
@@ -93,18 +86,26 @@ fn addresses_and_how_long(rt: HostRuntime) -> Result<(), Fail> {
             None,
         ),
     ] {
-        assert!(rt; asked_to_listen(rt.alloc(), line)? == wanted, "{line}");
+        assert!(rt; asked_to_listen(&rt, rt.alloc(), line) == wanted, "{line}");
     }
-    Ok(())
 }
 
-// A name of so many times this letter.
-fn name(alloc: Global, letter: char, length: usize) -> Result<String, Fail> {
-    let mut name = String::new(alloc);
-    for _ in 0..length {
-        name.push(letter)?;
+// The text, with so many times this letter behind it.
+fn add(rt: &impl Abort, text: &mut String, letter: char, count: usize) {
+    for _ in 0..count {
+        text.push(letter).expect(rt, "out of memory");
     }
-    Ok(name)
+}
+
+// A projection whose name and whose collection's name are so long, and that shows the field x.
+fn named(rt: &impl Abort, alloc: Global, name: usize, collection: usize) -> String {
+    let mut text = String::new(alloc);
+    add(rt, &mut text, 'p', name);
+    add(rt, &mut text, '=', 1);
+    add(rt, &mut text, 'c', collection);
+    add(rt, &mut text, ':', 1);
+    add(rt, &mut text, 'x', 1);
+    text
 }
 
 // Why a projection is refused.
@@ -127,23 +128,18 @@ fn projections_that_are_refused(rt: HostRuntime) {
 }
 
 #[test]
-fn names_of_projections_have_at_most_200_bytes(rt: HostRuntime) -> Result<(), Fail> {
-    let alloc = rt.alloc();
-    for (projection, collection, refusal) in [
+fn names_of_projections_have_at_most_200_bytes(rt: HostRuntime) {
+    for (name, collection, refusal) in [
         (200, 200, None),
         (201, 200, Some(Refusal::Name)),
         (200, 201, Some(Refusal::Name)),
     ] {
-        let mut text = name(alloc, 'p', projection)?;
-        text.push('=')?;
-        text.push_str(name(alloc, 'c', collection)?.as_str())?;
-        text.push_str(":x")?;
+        let text = named(&rt, rt.alloc(), name, collection);
         assert!(rt;
-            refusal_of(alloc, text.as_str()) == refusal,
-            "{projection} and {collection}"
+            refusal_of(rt.alloc(), text.as_str()) == refusal,
+            "{name} and {collection}"
         );
     }
-    Ok(())
 }
 
 const TWO_JOBS: &str = "error: the argument '--lines' cannot be used with '--listen <ADDR>'\n";
@@ -155,20 +151,27 @@ const NO_FORM: &str = "error: a projection is NAME=COLLECTION:FIELD,..\n";
 const NO_NAME: &str =
     "error: the name of a projection and that of its collection have 1 to 200 bytes\n";
 
-// How a command line that asks for no run is answered: the status, and what is printed.
-fn answered(alloc: Global, line: &str) -> Result<(Option<u8>, Terminal), Fail> {
-    let given = words(alloc, line)?;
-    let terminal = Terminal::new(alloc);
-    let status = match asked_run(&terminal, given.as_slice())? {
+// The status of a command line that asks for no run.
+fn status_of(rt: &impl Abort, terminal: &Terminal, words: &[String]) -> Option<u8> {
+    match asked_run(terminal, words).expect(rt, "out of memory") {
         Asked::Run(..) => None,
         Asked::Nothing(status) => Some(status),
-    };
-    Ok((status, terminal))
+    }
 }
 
-// The command line is looked at first, then the address, then the projections in their order.
+// How a command line that asks for no run is answered: the status, and what is printed on standard output and on
+// standard error.
+fn answered(rt: &impl Abort, alloc: Global, line: &str) -> (Option<u8>, String, String) {
+    let given = words_of(rt, alloc, line);
+    let terminal = Terminal::new(alloc);
+    let status = status_of(rt, &terminal, given.as_slice());
+    (status, terminal.out.into_inner(), terminal.err.into_inner())
+}
+
+// A refused command line is one line on standard error, which begins like this. The command line is looked at first,
+// then the address, then the projections in their order.
 #[test]
-fn which_refusal_is_told(rt: HostRuntime) -> Result<(), Fail> {
+fn command_lines_that_are_refused(rt: HostRuntime) {
     for (line, told) in [
         ("sdb_server --listen nowhere --projection t", NO_ADDRESS),
         ("sdb_server --listen 127.0.0.1:0 --projection t", NO_FORM),
@@ -184,87 +187,64 @@ fn which_refusal_is_told(rt: HostRuntime) -> Result<(), Fail> {
             "sdb_server --lines --listen nowhere --projection t",
             TWO_JOBS,
         ),
+        ("sdb_server --lines --port", ""),
+        ("sdb_server", ""),
+        ("sdb_server --lines --listen 127.0.0.1:0", TWO_JOBS),
+        ("sdb_server --lines --connections 1", ""),
+        ("sdb_server --lines --until-eof", ""),
+        ("sdb_server --lines --log", ""),
+        ("sdb_server --until-eof", ""),
+        (
+            "sdb_server --listen 127.0.0.1:0 --until-eof --connections 1",
+            "",
+        ),
+        ("sdb_server --listen 127.0.0.1:0 --connections 0", ""),
+        ("sdb_server more", ""),
     ] {
-        let (status, terminal) = answered(rt.alloc(), line)?;
-        assert!(rt; status == Some(REFUSED), "{line}");
-        assert!(rt; terminal.err.into_inner().as_str() == told, "{line}");
-        assert!(rt; terminal.out.into_inner().is_empty(), "{line}");
-    }
-    Ok(())
-}
-
-#[test]
-fn a_refused_command_line_is_one_line_on_standard_error(rt: HostRuntime) -> Result<(), Fail> {
-    for line in [
-        "sdb_server --lines --port",
-        "sdb_server",
-        "sdb_server --lines --listen 127.0.0.1:0",
-        "sdb_server --lines --connections 1",
-        "sdb_server --lines --until-eof",
-        "sdb_server --lines --log",
-        "sdb_server --until-eof",
-        "sdb_server --listen 127.0.0.1:0 --until-eof --connections 1",
-        "sdb_server --listen 127.0.0.1:0 --connections 0",
-        "sdb_server more",
-    ] {
-        let (status, terminal) = answered(rt.alloc(), line)?;
-        assert!(rt; status == Some(REFUSED), "{line}");
+        let (status, out, err) = answered(&rt, rt.alloc(), line);
+        let is_one_line = err.as_str().lines().count() == 1 && err.as_str().starts_with(told);
         assert!(rt;
-            terminal.err.into_inner().as_str().lines().count() == 1,
+            status == Some(REFUSED) && out.is_empty() && is_one_line,
             "{line}"
         );
-        assert!(rt; terminal.out.into_inner().is_empty(), "{line}");
     }
-    Ok(())
 }
 
+// The version is one line.
 #[test]
-fn help_is_printed(rt: HostRuntime) -> Result<(), Fail> {
-    let (status, terminal) = answered(rt.alloc(), "sdb_server --help")?;
-    assert!(rt; status == Some(DONE));
-    assert!(rt; terminal.err.into_inner().is_empty());
-    assert!(rt; !terminal.out.into_inner().is_empty());
-    Ok(())
-}
-
-#[test]
-fn the_version_is_one_line(rt: HostRuntime) -> Result<(), Fail> {
-    let (status, terminal) = answered(rt.alloc(), "sdb_server --version")?;
-    assert!(rt; status == Some(DONE));
-    assert!(rt; terminal.err.into_inner().is_empty());
-    assert!(rt; terminal.out.into_inner().as_str() == "sdb_server 1.0.0\n");
-    Ok(())
-}
-
-#[test]
-fn a_server_that_nobody_is_to_come_to(rt: HostRuntime) -> Result<(), Fail> {
-    let listener = TcpListener::bind(&rt, "127.0.0.1:0")?;
-    let table = Table::new(rt.alloc());
-    let status = serve_at(rt, &listener, Until::Served(0), false, table)?;
-    assert!(rt; status == DONE);
-    Ok(())
+fn help_and_the_version_are_printed(rt: HostRuntime) {
+    let (status, out, err) = answered(&rt, rt.alloc(), "sdb_server --help");
+    assert!(rt; status == Some(DONE) && err.is_empty() && !out.is_empty());
+    let (status, out, err) = answered(&rt, rt.alloc(), "sdb_server --version");
+    assert!(rt; status == Some(DONE) && err.is_empty() && out.as_str() == "sdb_server 1.0.0\n");
 }
 
 const TWO_LINES: &[u8] = b"one\ntwo\n";
 
+// A server that nobody is to come to, and one whose input has ended.
 #[test]
-fn a_server_whose_input_has_ended(rt: HostRuntime) -> Result<(), Fail> {
-    let listener = TcpListener::bind(&rt, "127.0.0.1:0")?;
-    let table = Table::new(rt.alloc());
-    let status = serve_until_end(rt, &listener, TWO_LINES, false, table)?;
-    assert!(rt; status == DONE);
-    Ok(())
+fn servers_that_end(rt: HostRuntime) {
+    let listener = TcpListener::bind(&rt, "127.0.0.1:0").expect(&rt, "a port");
+    let status = serve_at(
+        rt,
+        &listener,
+        Until::Served(0),
+        false,
+        Table::new(rt.alloc()),
+    );
+    assert!(rt; status.ok() == Some(DONE));
+    let status = serve_until_end(rt, &listener, TWO_LINES, false, Table::new(rt.alloc()));
+    assert!(rt; status.ok() == Some(DONE));
 }
 
 #[test]
-fn a_port_that_is_taken(rt: HostRuntime) -> Result<(), Fail> {
+fn a_port_that_is_taken(rt: HostRuntime) {
     let alloc = rt.alloc();
-    let listener = TcpListener::bind(&rt, "127.0.0.1:0")?;
-    let address = listener.local_addr()?;
-    let line = format!(in alloc; "sdb_server --listen {address} --connections 1")?;
-    let given = words(alloc, line.as_str())?;
-    assert_eq!(rt; run(rt, given.as_slice())?, FAULT);
-    Ok(())
+    let listener = TcpListener::bind(&rt, "127.0.0.1:0").expect(&rt, "a port");
+    let address = listener.local_addr().expect(&rt, "an address");
+    let line = format!(in alloc; "sdb_server --listen {address} --connections 1");
+    let given = words_of(&rt, alloc, line.expect(&rt, "out of memory").as_str());
+    assert!(rt; run(rt, given.as_slice()).ok() == Some(FAULT));
 }
 
 // An input and an output that fail at once.
@@ -306,32 +286,22 @@ fn no_clock(alloc: Global) -> ListClock {
     ListClock::new(Vec::new(alloc))
 }
 
-#[test]
-fn statuses_of_lines(rt: HostRuntime) -> Result<(), Fail> {
-    let alloc = rt.alloc();
-    let table = Table::new(alloc);
-    let fetch = r#"{"a":"f","c":"b","d":"1"}"#;
-    let terminal = Terminal::new(alloc);
-    assert_eq!(rt;
-        answer_input(&terminal, no_clock(alloc), fetch.as_bytes(), &table),
-        DONE
-    );
-    let fetched = r#"{"a":"f","c":"b","d":"1","data":{"type":null,"v":0}}
+const LINE: &[u8] = br#"{"a":"f","c":"b","d":"1"}"#;
+
+const FETCHED: &str = r#"{"a":"f","c":"b","d":"1","data":{"type":null,"v":0}}
 "#;
-    assert!(rt; terminal.out.into_inner().as_str().ends_with(fetched));
+
+// Whether the run over the input ends with this status, and what is printed ends like this.
+fn ends_with(alloc: Global, input: impl io::Read + Drop, status: u8, told: &str) -> bool {
     let terminal = Terminal::new(alloc);
-    assert_eq!(rt;
-        answer_input(&terminal, no_clock(alloc), Broken { alloc }, &table),
-        FAULT
-    );
-    assert!(rt;
-        terminal
-            .out
-            .into_inner()
-            .as_str()
-            .ends_with("fault: read\n")
-    );
-    let ended = answer_input(&Broken { alloc }, no_clock(alloc), fetch.as_bytes(), &table);
-    assert_eq!(rt; ended, FAULT);
-    Ok(())
+    answer_input(&terminal, no_clock(alloc), input, &Table::new(alloc)) == status
+        && terminal.out.into_inner().as_str().ends_with(told)
+}
+
+#[test]
+fn statuses_of_lines(rt: HostRuntime) {
+    let (alloc, table) = (rt.alloc(), Table::new(rt.alloc()));
+    assert!(rt; ends_with(alloc, LINE, DONE, FETCHED));
+    assert!(rt; ends_with(alloc, Broken { alloc }, FAULT, "fault: read\n"));
+    assert!(rt; answer_input(&Broken { alloc }, no_clock(alloc), LINE, &table) == FAULT);
 }
