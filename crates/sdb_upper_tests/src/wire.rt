@@ -64,8 +64,10 @@ const WANTING: &str = r#"{"error":{"code":"ERR_OUT_OF_MEMORY","message":"out of 
 #[test]
 fn errors_are_told(rt: HostRuntime) {
     let text = r#"{"a":"f","c":"b","id":7}"#;
-    assert!(rt; is_refused(&rt, rt.alloc(), text, BADLY_FORMED));
-    assert!(rt; is_told(&rt, rt.alloc(), &no_echo(), Code::E10, WANTING));
+    assert!(rt;
+        is_refused(&rt, rt.alloc(), text, BADLY_FORMED)
+            && is_told(&rt, rt.alloc(), &no_echo(), Code::E10, WANTING)
+    );
 }
 
 // Whether what is stored at version 4 of submission 7 from x is this value.
@@ -94,8 +96,10 @@ const EDITED: &str = r#"{"op":[{"na":2,"p":[]}],"seq":7,"src":"x","v":4}"#;
 #[test]
 fn entries_are_values(rt: HostRuntime) {
     let create = Content::create(rt.alloc(), Json::Null).expect(&rt, "out of memory");
-    assert!(rt; is_shown(&rt, rt.alloc(), create, CREATED));
-    assert!(rt; is_shown(&rt, rt.alloc(), Content::delete(), DELETED));
+    assert!(rt;
+        is_shown(&rt, rt.alloc(), create, CREATED)
+            && is_shown(&rt, rt.alloc(), Content::delete(), DELETED)
+    );
     let edit = content(&rt, rt.alloc(), r#"{"op":[{"na":2,"p":[]}]}"#);
     assert!(rt; is_shown(&rt, rt.alloc(), edit, EDITED));
 }
