@@ -192,6 +192,21 @@ fn a_document_is_shown(rt: HostRuntime) {
     }
 }
 
+// How many operations are stored from the version on.
+fn listed(board: &Board, version: u64) -> Result<usize, Code> {
+    match board.shard.ops_from(&board.key, version) {
+        Ok(ops) => Ok(ops.len()),
+        Err(code) => Err(code),
+    }
+}
+
+#[test]
+fn operations_are_listed_from_a_version(rt: HostRuntime) {
+    let board = Board::new(&rt, rt.alloc());
+    assert!(rt; listed(&board, 0) == Ok(1));
+    assert!(rt; listed(&board, 2) == Err(Code::E4));
+}
+
 fn number_at(rt: &impl Abort, board: &mut Board, version: u64) -> Option<i64> {
     let fetched = board.shard.snapshot_at(&board.key, Some(version));
     number(fetched.expect(rt, "a snapshot").snapshot.as_ref())

@@ -85,14 +85,11 @@ fn a_session_takes_what_is_stored(rt: HostRuntime) {
     let mut first = named(&rt, rt.alloc(), "s1");
     let mut second = named(&rt, rt.alloc(), "s2");
     let opening = first.opening().expect(&rt, "out of memory");
-    assert!(rt;
-        opening.as_str() == OPENING
-            && room.answers(&mut first, SUBSCRIBE, SUBSCRIBED)
-            && room.answers(&mut second, SUBSCRIBE, SUBSCRIBED)
-    );
+    assert!(rt; opening.as_str() == OPENING);
+    assert!(rt; room.answers(&mut first, SUBSCRIBE, SUBSCRIBED));
+    assert!(rt; room.answers(&mut second, SUBSCRIBE, SUBSCRIBED));
     store(&rt, rt.alloc(), &mut room, &mut first);
-    assert!(rt;
-        room.pumped(&mut first) == Some((1, 0)) && room.pumped(&mut second) == Some((1, 1))
-    );
+    assert!(rt; room.pumped(&mut first) == Some((1, 0)));
+    assert!(rt; room.pumped(&mut second) == Some((1, 1)));
     fetch(&rt, rt.alloc(), &mut room, &mut second);
 }
