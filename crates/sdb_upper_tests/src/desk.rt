@@ -4,11 +4,10 @@ ghost use Rattle.sdb_oplog.specs.Keys.{plain_key};
 ghost use Rattle.sdb_desk.specs.View.{plain_attempt};
 ghost use Rattle.sdb_upper_tests.specs.Seen.{IsSeen, StaySeen};
 
-use crate::parts::{adds, editing, key, number, stored, submission};
+use crate::parts::{content, key, number, stored, submission};
 use sdb_desk::{Attempt, Outcome, Reply, Shard, Work};
 use sdb_oplog::{Code, Content, Entry, Key, Moment, Submission};
 use sdb_subscribe::SubId;
-use sdb_value::{Json, Whole};
 use std::alloc::Global;
 use std::process::Abort;
 
@@ -39,9 +38,8 @@ impl Board {
 
     // Makes the document.
     fn make(&mut self, rt: &impl Abort) {
-        let zero = Json::Int(Whole::new(0).expect(rt, "a whole number"));
-        let content = Content::create(self.alloc, zero).expect(rt, "out of memory");
-        self.put(rt, submission(rt, self.alloc, "w", 1, None, content, 0));
+        let zero = content(rt, self.alloc, r#"{"create":{"type":"json0","data":0}}"#);
+        self.put(rt, submission(rt, self.alloc, "w", 1, None, zero, 0));
     }
 
     // Stores the submission.
@@ -60,7 +58,8 @@ impl Board {
         version: Option<u64>,
         amount: i64,
     ) -> Submission {
-        let edit = editing(rt, self.alloc, adds(rt, Vec::new(self.alloc), amount));
+        let edit = format!(in self.alloc; r#"{{"op":[{{"p":[],"na":{amount}}}]}}"#);
+        let edit = content(rt, self.alloc, edit.expect(rt, "out of memory").as_str());
         submission(rt, self.alloc, src, seq, version, edit, 0)
     }
 

@@ -5,12 +5,11 @@ ghost use Rattle.sdb_oplog.specs.Keys.{plain_key};
 ghost use Rattle.sdb_upper_tests.specs.Seen.{IsSeen, StaySeen};
 
 use crate::desk::{Board, worked};
-use crate::parts::{editing, stored, submission};
+use crate::parts::{content, stored, submission};
 use crate::projection::titles;
 use crate::session::{FETCH, Room, SUBSCRIBE, named};
-use sdb_component::{Act, Component};
 use sdb_desk::{Outcome, Reply, Subscribed, Work};
-use sdb_oplog::{Code, Content, Moment, Submission};
+use sdb_oplog::{Code, Moment, Submission};
 use sdb_projection::{Table, TableFault};
 use sdb_session::Session;
 use sdb_submit::Solo;
@@ -27,16 +26,13 @@ fn mark(rt: &impl Abort, alloc: Global) -> usize {
 
 // Makes the document a list of one null.
 fn creating(rt: &impl Abort, alloc: Global, src: &str) -> Submission {
-    let mut items = Vec::new(alloc);
-    items.push(Json::Null).expect(rt, "out of memory");
-    let content = Content::create(alloc, Json::list(items)).expect(rt, "out of memory");
+    let content = content(rt, alloc, r#"{"create":{"type":"json0","data":[null]}}"#);
     submission(rt, alloc, src, 1, None, content, 0)
 }
 
 // Puts one more null into that list.
 fn adding(rt: &impl Abort, alloc: Global, src: &str, version: Option<u64>) -> Submission {
-    let component = Component::new(Vec::new(alloc), Act::Li(0, Json::Null));
-    let content = editing(rt, alloc, component);
+    let content = content(rt, alloc, r#"{"op":[{"p":[0],"li":null}]}"#);
     submission(rt, alloc, src, 1, version, content, 0)
 }
 
