@@ -1,5 +1,5 @@
 //! Tests of `sdb_lines`: what no clause says of a run over lines.
-ghost use Rattle.std.specs.Prelude.{◌≡◌, ◌∷◌, [], ◌++◌, decimal, OnOk};
+ghost use Rattle.std.specs.Prelude.{◌∷◌, []};
 ghost use Rattle.sdb_lower_tests.specs.LongestLine.{TakesLine, has_bytes};
 
 use crate::texts::says;
@@ -9,36 +9,27 @@ use std::cell::Cell;
 use std::io;
 use std::io::{ErrorKind, Read, Write};
 
-// Answers a line with the length of the longest line so far, and `bad` to one that can't be read.
+// Answers a line with the digit that is the length of the longest line so far, or 9, and `bad` to one that can't be
+// read.
 #[derive(Drop)]
 struct Longest {
-    longest: usize,
-}
-
-impl Longest {
-    fn append(&self, alloc: Global, out: &mut Vec<u8>) -> Result<(), AllocError>
-        ensures { OnOk result (out.new.items ≡ out.old.items ++ (decimal self.now.longest ++ 10 ∷ [])) }
-    {
-        let text = self.longest.to_string(alloc)?;
-        out.extend_from_slice(text.as_bytes())?;
-        out.extend_from_slice(b"\n")
-    }
+    digit: u8,
 }
 
 impl Replier for Longest {
-    ghost opening = { λ s. decimal s.longest ++ 10 ∷ [] };
+    ghost opening = { λ s. s.digit ∷ 10 ∷ [] };
 
-    ghost takes = { λ s line answer t. TakesLine s.longest line answer t.longest };
+    ghost takes = { λ s line answer t. TakesLine s.digit line answer t.digit };
 
     ghost is_step = { has_bytes };
 
-    fn open(&self, alloc: Global, out: &mut Vec<u8>) -> Result<(), AllocError> {
-        self.append(alloc, out)
+    fn open(&self, _alloc: Global, out: &mut Vec<u8>) -> Result<(), AllocError> {
+        out.extend_from_slice(&[self.digit, b'\n'])
     }
 
-    fn reply(&mut self, alloc: Global, line: &str, out: &mut Vec<u8>) -> Result<bool, AllocError> {
-        self.longest = self.longest.max(line.len());
-        self.append(alloc, out)?;
+    fn reply(&mut self, _alloc: Global, line: &str, out: &mut Vec<u8>) -> Result<bool, AllocError> {
+        self.digit = self.digit.max(b'0' + line.len().min(9) as u8);
+        out.extend_from_slice(&[self.digit, b'\n'])?;
         Ok(!line.is_empty())
     }
 
@@ -151,7 +142,7 @@ fn run_slowly(
     fails_at: Option<u64>,
     trouble: Trouble,
 ) -> (Result<Counts, RunFault>, Narrow) {
-    let mut machine = Longest { longest: 0 };
+    let mut machine = Longest { digit: b'0' };
     let mut reader = WatchedReader::new(Slow::new(INPUT, fails_at));
     let mut writer = WatchedWriter::new(Narrow::new(alloc, trouble));
     let ended = run_lines(alloc, &mut machine, &mut reader, &mut writer);
@@ -160,7 +151,7 @@ fn run_slowly(
 
 // Answers these bytes.
 fn run_over(alloc: Global, input: &[u8]) -> (Result<Counts, RunFault>, Vec<u8>) {
-    let mut machine = Longest { longest: 0 };
+    let mut machine = Longest { digit: b'0' };
     let mut reader = WatchedReader::new(input);
     let mut writer = WatchedWriter::new(Vec::new(alloc));
     let ended = run_lines(alloc, &mut machine, &mut reader, &mut writer);
@@ -291,7 +282,7 @@ impl<'a> Write for Wide<'a> {
 
 // Answers the input, and tells whether a read came too early.
 fn run_waiting<'a>(alloc: Global, flow: &'a Flow) -> (Result<Counts, RunFault>, bool) {
-    let mut machine = Longest { longest: 0 };
+    let mut machine = Longest { digit: b'0' };
     let mut reader = WatchedReader::new(Waiting {
         bytes: INPUT,
         flow,
@@ -314,7 +305,7 @@ fn flushes_before_each_read(rt: HostRuntime) {
 
 // Answers these bytes, and tells the most that was written at once.
 fn run_widely(alloc: Global, input: &[u8], flow: &Flow) -> (Result<Counts, RunFault>, usize) {
-    let mut machine = Longest { longest: 0 };
+    let mut machine = Longest { digit: b'0' };
     let mut reader = WatchedReader::new(input);
     let mut writer = WatchedWriter::new(Wide { flow, most: 0 });
     let ended = run_lines(alloc, &mut machine, &mut reader, &mut writer);

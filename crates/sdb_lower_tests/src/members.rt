@@ -1,6 +1,7 @@
 //! Members of an object, beside a map.
 
 use crate::pieces::Number;
+use crate::texts::text_of;
 use sdb_members::Members;
 use sdb_pieces::Share;
 use std::alloc::Global;
@@ -10,7 +11,7 @@ use std::process::Abort;
 // A key, of five thousand and three.
 fn name(rt: &impl Abort, alloc: Global, step: u64) -> String {
     let number = step.wrapping_mul(7919) % 5_003;
-    format!(in alloc; "{number}").expect(rt, "out of memory")
+    text_of(rt, alloc, &number)
 }
 
 // Whether the key had the same value in both, and has it now.

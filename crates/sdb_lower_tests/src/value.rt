@@ -2,7 +2,9 @@
 ghost use Rattle.std.specs.Prelude.{◌≡◌, OnOk, ⊤};
 ghost use Rattle.sdb_value.specs.View.{view};
 
-use crate::texts::{each_row, extended, is_shown, json, json_of, parsed, says, shown, text_of};
+use crate::texts::{
+    add, each_row, extended, is_shown, joined, json, json_of, parsed, says, shown, text_of,
+};
 use json::Writer;
 use sdb_pieces::Share;
 use sdb_value::{
@@ -477,8 +479,12 @@ fn numbered(rt: &impl Abort, alloc: Global, with_odd: bool) -> String {
     let mut text = extended(rt, alloc, r#"{"k100":100"#, "", 0);
     for number in 101_u64..1_000 {
         if with_odd || number % 2 == 0 {
-            let member = format!(in alloc; r#","k{number}":{number}"#).expect(rt, "out of memory");
-            text.push_str(member.as_str()).expect(rt, "out of memory");
+            let number = text_of(rt, alloc, &number);
+            add(
+                rt,
+                &mut text,
+                &[r#","k"#, number.as_str(), r#"":"#, number.as_str()],
+            );
         }
     }
     extended(rt, alloc, text.as_str(), "}", 1)
@@ -489,7 +495,7 @@ fn change_odd(rt: &impl Abort, alloc: Global, object: &mut Json, back: bool) {
     let members = object_mut(object).expect(rt, "an object");
     for half in 50_i64..500 {
         let number = half.wrapping_mul(2).wrapping_add(1);
-        let key = format!(in alloc; "k{number}").expect(rt, "out of memory");
+        let key = joined(rt, alloc, "k", &[text_of(rt, alloc, &number).as_str()]);
         if back {
             let value = Json::Int(Whole::new(number).expect(rt, "a number"));
             put_member(alloc, members, key, value).expect(rt, "out of memory");
