@@ -1,5 +1,7 @@
 """Runs the programs over generated input, in turn, and prints what they took: the best of fifteen runs each."""
+import json
 import os
+import random
 import subprocess
 import sys
 import tempfile
@@ -83,6 +85,46 @@ def subscriptions():
         print(f"a line after which nothing waits in {subscribed} subscriptions: {idle / lines * 1e6:.2f} microseconds")
 
 
+# Prints what the program measures of these lines, each a value of JSON.
+def measured(title, part, lines):
+    given = "".join(json.dumps(line, ensure_ascii=False, separators=(",", ":")) + "\n" for line in lines)
+    said = subprocess.run([BENCH, part], input=given.encode(), stdout=subprocess.PIPE, check=True).stdout.decode()
+    for line in said.splitlines():
+        print(f"{title}: {line}", flush=True)
+
+
+# A value, and so many operations of one component.
+def edited(value, count, component):
+    return [value, *([component()] for _ in range(count))]
+
+
+def calls():
+    at, inserts = random.Random(1), 100_000
+    for length in (250_000, 500_000, 1_000_000):
+        into = edited("a" * length, inserts, lambda: {"p": [at.randrange(length)], "si": "b"})
+        measured(f"a character into a text of {length}", "apply", into)
+    for length in (25_000, 50_000, 100_000):
+        into = edited([{"n": 1}] * length, inserts, lambda: {"p": [at.randrange(length)], "li": {"n": 1}})
+        measured(f"an object into a list of {length}", "apply", into)
+    for length in (1_000, 10_000, 100_000):
+        # at random keys among twice as many as the object has at first
+        into = edited({f"k{key}": None for key in range(length)}, inserts, lambda: {"p": [f"k{at.randrange(2 * length)}"], "oi": None})
+        measured(f"a key into an object of {length}", "apply", into)
+    length = 10_000_000
+    measured(f"a text of {length}", "fetch", edited("a" * length, 10_000, lambda: {"p": [at.randrange(length)], "si": "b"}))
+    path = ["board", 3, "notes"]
+    members = {f"m{number}": 1 for number in range(1_000)}
+    for title, component, other in [
+        ("a text insert past another", {"p": [*path, 9], "si": "x"}, {"p": [*path, 5], "si": "x"}),
+        ("a list insert past another, 3 steps deep", {"p": [*path, 9], "li": 1}, {"p": [*path, 5], "li": 1}),
+        ("an edit into a removed value of 1,000 members", {"p": [*path, "k"], "od": members}, {"p": [*path, "k", "m500"], "oi": 1}),
+    ]:
+        measured(title, "transform", [None, [component], [other]])
+    for title, insert in [("256 text inserts", {"si": "x"}), ("256 list inserts", {"li": 1})]:
+        operation = [{"p": [*path, index], **insert} for index in range(256)]
+        measured(title, "cross", [None, operation, operation])
+
+
 def main():
     compare("1,000 documents", "lines.py", 100_000)
     compare("one text, 8 sources up to 8 versions behind", "trace.py", 100_000)
@@ -92,9 +134,8 @@ def main():
     long_logs()
     pairs()
     snapshots()
-    sys.stdout.flush()
-    for part in ("apply", "fetch", "transform", "lock"):
-        subprocess.run([BENCH, part], check=True)
+    calls()
+    subprocess.run([BENCH, "lock"], check=True)
 
 
 if __name__ == "__main__":

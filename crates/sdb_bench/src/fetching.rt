@@ -1,34 +1,36 @@
-//! Fetches of a document of 10 MB, and of one that is edited between them.
-use crate::applying::{insert_character, text_of};
-use crate::random::Random;
+//! Fetches of a document, and of the same one that is edited between them.
+use crate::input::read;
 use crate::timing::report;
-use sdb_component::{Component, Op};
+use sdb_component::Op;
 use sdb_desk::Shard;
 use sdb_oplog::{Content, Key, Moment, Submission};
 use std::alloc::{AllocError, Global};
 use std::time::Instant;
 
-const LENGTH: u64 = 10_000_000;
-
 const FETCHES: u64 = 1_000_000;
-
-const EDITS: u64 = 10_000;
 
 pub(crate) fn measure(rt: &HostRuntime) -> anyhow::Result<()> {
     let alloc = rt.alloc();
     let (collection, id) = (String::from_str(alloc, "b")?, String::from_str(alloc, "1")?);
     let key = Key { collection, id };
     let mut shard = Shard::new(alloc);
-    let text = Content::create(alloc, text_of(alloc, LENGTH)?)?;
-    drop(shard.commit_now(&key, &submission(alloc, 1, text)?, Moment::first()));
+    let (value, ops) = read(rt)?;
+    commit(alloc, &mut shard, &key, 1, Content::create(alloc, value)?)?;
     fetches(rt, &mut shard, &key)?;
-    edits(rt, &mut shard, &key)?;
-    Ok(())
+    edits(rt, &mut shard, &key, ops)
 }
 
-fn submission(alloc: Global, seq: u64, content: Content) -> Result<Submission, AllocError> {
+fn commit(
+    alloc: Global,
+    shard: &mut Shard,
+    key: &Key,
+    seq: u64,
+    content: Content,
+) -> Result<(), AllocError> {
     let (src, via) = (String::from_str(alloc, "x")?, String::from_str(alloc, "b")?);
-    Submission::new(alloc, src, seq, None, content, via, 0)
+    let submission = Submission::new(alloc, src, seq, None, content, via, 0)?;
+    drop(shard.commit_now(key, &submission, Moment::first()));
+    Ok(())
 }
 
 fn fetches(rt: &HostRuntime, shard: &mut Shard, key: &Key) -> anyhow::Result<()> {
@@ -36,29 +38,20 @@ fn fetches(rt: &HostRuntime, shard: &mut Shard, key: &Key) -> anyhow::Result<()>
     for _ in 0..FETCHES {
         drop(shard.fetch(key));
     }
-    let name = format!(in rt.alloc(); "a fetch of a text of {LENGTH}")?;
-    report(rt, name.as_str(), start, FETCHES)?;
+    report(rt, "a fetch", start, FETCHES)?;
     Ok(())
 }
 
-fn edit(alloc: Global, insert: Component) -> Result<Content, AllocError> {
-    let mut components = Vec::new(alloc);
-    components.push(insert)?;
-    Content::edit(alloc, Op::new(components))
-}
-
-fn edits(rt: &HostRuntime, shard: &mut Shard, key: &Key) -> anyhow::Result<()> {
+fn edits(rt: &HostRuntime, shard: &mut Shard, key: &Key, ops: Vec<Op>) -> anyhow::Result<()> {
     let alloc = rt.alloc();
-    let mut random = Random::new();
+    let count = ops.len() as u64;
     let start = Instant::now(rt)?;
-    for at in 0..EDITS {
-        if let Some(insert) = insert_character(alloc, random.below(LENGTH))? {
-            let content = edit(alloc, insert)?;
-            drop(shard.commit_now(key, &submission(alloc, at + 2, content)?, Moment::first()));
-        }
+    let mut seq: u64 = 1;
+    for op in ops {
+        seq = seq.saturating_add(1);
+        commit(alloc, shard, key, seq, Content::edit(alloc, op)?)?;
         drop(shard.fetch(key));
     }
-    let name = format!(in alloc; "a character into a text of {LENGTH}, and a fetch")?;
-    report(rt, name.as_str(), start, EDITS)?;
+    report(rt, "an edit and a fetch", start, count)?;
     Ok(())
 }

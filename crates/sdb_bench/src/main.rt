@@ -1,13 +1,14 @@
-//! What the calls of the lower crates cost, a pass that only reads and prints JSON, and a WebSocket
-//! server that only echoes. The scripts `bench/run` and `bench/sockets` build it and name the results.
+//! What calls of the lower crates cost, a pass that only reads and prints JSON, and a WebSocket server that only
+//! echoes. What the calls are given is read from standard input. The scripts `bench/run` and `bench/sockets` build it,
+//! make its input and name the results.
 #![tactic(auto)]
 
 mod applying;
 mod echoing;
 mod fetching;
+mod input;
 mod json;
 mod locking;
-mod random;
 mod timing;
 mod transforming;
 
@@ -25,11 +26,12 @@ fn main(rt: HostRuntime) -> anyhow::Result<ExitCode> {
         ("json", None) => json::pass(&rt)?,
         ("apply", None) => applying::measure(&rt)?,
         ("fetch", None) => fetching::measure(&rt)?,
-        ("transform", None) => transforming::measure(&rt)?,
+        ("transform", None) => transforming::carry(&rt)?,
+        ("cross", None) => transforming::cross_once(&rt)?,
         ("lock", None) => locking::measure(&rt, &rt)?,
         ("echo", Some(address)) => echoing::serve(rt, address.as_str())?,
         _ => {
-            eprintln!(rt; "sdb_bench: json, apply, fetch, transform, lock or echo ADDR")?;
+            eprintln!(rt; "sdb_bench: json, apply, fetch, transform, cross, lock or echo ADDR")?;
             return Ok(ExitCode::from(2));
         }
     }

@@ -11,8 +11,6 @@ mod grows;
 mod lock;
 mod parts;
 mod rule;
-#[cfg(test)]
-mod tests;
 mod view;
 
 pub use grows::{Grows, Job};

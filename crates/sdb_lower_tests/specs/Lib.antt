@@ -1,1 +1,2 @@
 pub mod LongestLine
+pub mod Tally

@@ -131,15 +131,19 @@ fn one_component_is_applied(rt: HostRuntime) {
     let insert = one(&rt, rt.alloc(), r#"[{"p":["l",1],"li":2}]"#);
     let past = one(&rt, rt.alloc(), r#"[{"p":["l",3],"li":4}]"#);
     let mut value = json(&rt, rt.alloc(), r#"{"l":[1]}"#);
-    assert!(rt; apply_one(rt.alloc(), &mut value, &insert).is_ok());
-    assert!(rt; is_shown(&rt, rt.alloc(), &value, r#"{"l":[1,2]}"#));
-    assert!(rt; apply_one(rt.alloc(), &mut value, &past).is_err());
-    assert!(rt; is_shown(&rt, rt.alloc(), &value, r#"{"l":[1,2]}"#));
+    assert!(rt;
+        apply_one(rt.alloc(), &mut value, &insert).is_ok()
+            && is_shown(&rt, rt.alloc(), &value, r#"{"l":[1,2]}"#)
+            && apply_one(rt.alloc(), &mut value, &past).is_err()
+            && is_shown(&rt, rt.alloc(), &value, r#"{"l":[1,2]}"#)
+    );
 }
 
 #[test]
 fn faults_are_named(rt: HostRuntime) {
     let refused = "operation can not be applied";
-    assert!(rt; says(&rt, rt.alloc(), &ApplyFault::NotApplied, refused));
-    assert!(rt; says(&rt, rt.alloc(), &ApplyFault::Memory, "out of memory"));
+    assert!(rt;
+        says(&rt, rt.alloc(), &ApplyFault::NotApplied, refused)
+            && says(&rt, rt.alloc(), &ApplyFault::Memory, "out of memory")
+    );
 }

@@ -69,14 +69,19 @@ fn a_copy_is_the_same(rt: HostRuntime) {
     let copy = op(&rt, rt.alloc(), NINE)
         .try_clone(rt.alloc())
         .expect(&rt, "out of memory");
-    assert!(rt; is_spelled(&rt, rt.alloc(), &copy, &parsed(&rt, rt.alloc(), NINE)));
-    assert!(rt; copy.components().len() == 9 && weight(&copy) == 11);
+    assert!(rt;
+        is_spelled(&rt, rt.alloc(), &copy, &parsed(&rt, rt.alloc(), NINE))
+            && copy.components().len() == 9
+            && weight(&copy) == 11
+    );
 }
 
 #[test]
 fn faults_are_named(rt: HostRuntime) {
-    assert!(rt; says(&rt, rt.alloc(), &OpFault::Form, "operation is badly formed"));
-    assert!(rt; says(&rt, rt.alloc(), &OpFault::Memory, "out of memory"));
+    assert!(rt;
+        says(&rt, rt.alloc(), &OpFault::Form, "operation is badly formed")
+            && says(&rt, rt.alloc(), &OpFault::Memory, "out of memory")
+    );
 }
 
 // Rows of an operation of one component, and how much there is to copy of it.

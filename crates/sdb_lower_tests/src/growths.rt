@@ -55,9 +55,11 @@ fn an_apply_whole(rt: HostRuntime) {
     let outcome = apply_whole(rt.alloc(), &mut value, &op);
     mark(&rt, rt.alloc());
     if let Err(fault) = outcome {
-        assert!(rt; fault == ApplyFault::Memory);
-        assert!(rt; is_shown(&rt, rt.alloc(), &value, VALUES[0]));
-        assert!(rt; apply_whole(rt.alloc(), &mut value, &op).is_ok());
+        assert!(rt;
+            fault == ApplyFault::Memory
+                && is_shown(&rt, rt.alloc(), &value, VALUES[0])
+                && apply_whole(rt.alloc(), &mut value, &op).is_ok()
+        );
     }
     assert!(rt; is_shown(&rt, rt.alloc(), &value, VALUES[3]));
 }
@@ -92,6 +94,5 @@ fn a_cross(rt: HostRuntime) {
     let after = r#"[{"li":1,"p":["l",0]},{"p":["t",0],"si":"ab"}]"#;
     assert!(rt; is_printed(&rt, rt.alloc(), &crossed.left, after));
     let after = r#"[{"li":2,"p":["l",1]},{"p":["t",2],"si":"c"}]"#;
-    assert!(rt; is_printed(&rt, rt.alloc(), &crossed.right, after));
-    assert!(rt; crossed.pairs == 4);
+    assert!(rt; is_printed(&rt, rt.alloc(), &crossed.right, after) && crossed.pairs == 4);
 }

@@ -1,5 +1,5 @@
 //! Tests of `sdb_lines`: what no clause says of a run over lines.
-ghost use Rattle.std.specs.Prelude.{◌≡◌, ◌∷◌, [], ◌++◌, decimal, OnOk};
+ghost use Rattle.std.specs.Prelude.{◌∷◌, []};
 ghost use Rattle.sdb_lower_tests.specs.LongestLine.{TakesLine, has_bytes};
 
 use crate::texts::says;
@@ -9,36 +9,27 @@ use std::cell::Cell;
 use std::io;
 use std::io::{ErrorKind, Read, Write};
 
-// Answers a line with the length of the longest line so far, and `bad` to one that can't be read.
+// Answers a line with the digit that is the length of the longest line so far, or 9, and `bad` to one that can't be
+// read.
 #[derive(Drop)]
 struct Longest {
-    longest: usize,
-}
-
-impl Longest {
-    fn append(&self, alloc: Global, out: &mut Vec<u8>) -> Result<(), AllocError>
-        ensures { OnOk result (out.new.items ≡ out.old.items ++ (decimal self.now.longest ++ 10 ∷ [])) }
-    {
-        let text = self.longest.to_string(alloc)?;
-        out.extend_from_slice(text.as_bytes())?;
-        out.extend_from_slice(b"\n")
-    }
+    digit: u8,
 }
 
 impl Replier for Longest {
-    ghost opening = { λ s. decimal s.longest ++ 10 ∷ [] };
+    ghost opening = { λ s. s.digit ∷ 10 ∷ [] };
 
-    ghost takes = { λ s line answer t. TakesLine s.longest line answer t.longest };
+    ghost takes = { λ s line answer t. TakesLine s.digit line answer t.digit };
 
     ghost is_step = { has_bytes };
 
-    fn open(&self, alloc: Global, out: &mut Vec<u8>) -> Result<(), AllocError> {
-        self.append(alloc, out)
+    fn open(&self, _alloc: Global, out: &mut Vec<u8>) -> Result<(), AllocError> {
+        out.extend_from_slice(&[self.digit, b'\n'])
     }
 
-    fn reply(&mut self, alloc: Global, line: &str, out: &mut Vec<u8>) -> Result<bool, AllocError> {
-        self.longest = self.longest.max(line.len());
-        self.append(alloc, out)?;
+    fn reply(&mut self, _alloc: Global, line: &str, out: &mut Vec<u8>) -> Result<bool, AllocError> {
+        self.digit = self.digit.max(b'0' + line.len().min(9) as u8);
+        out.extend_from_slice(&[self.digit, b'\n'])?;
         Ok(!line.is_empty())
     }
 
@@ -151,7 +142,7 @@ fn run_slowly(
     fails_at: Option<u64>,
     trouble: Trouble,
 ) -> (Result<Counts, RunFault>, Narrow) {
-    let mut machine = Longest { longest: 0 };
+    let mut machine = Longest { digit: b'0' };
     let mut reader = WatchedReader::new(Slow::new(INPUT, fails_at));
     let mut writer = WatchedWriter::new(Narrow::new(alloc, trouble));
     let ended = run_lines(alloc, &mut machine, &mut reader, &mut writer);
@@ -160,7 +151,7 @@ fn run_slowly(
 
 // Answers these bytes.
 fn run_over(alloc: Global, input: &[u8]) -> (Result<Counts, RunFault>, Vec<u8>) {
-    let mut machine = Longest { longest: 0 };
+    let mut machine = Longest { digit: b'0' };
     let mut reader = WatchedReader::new(input);
     let mut writer = WatchedWriter::new(Vec::new(alloc));
     let ended = run_lines(alloc, &mut machine, &mut reader, &mut writer);
@@ -170,9 +161,9 @@ fn run_over(alloc: Global, input: &[u8]) -> (Result<Counts, RunFault>, Vec<u8>) 
 #[test]
 fn answers_every_line(rt: HostRuntime) {
     let (ended, writer) = run_slowly(rt.alloc(), None, Trouble::Nothing);
-    assert!(rt; ended == Ok(COUNTS));
-    assert!(rt; writer.taken.as_slice() == OUTPUT);
-    assert!(rt; writer.flushed == OUTPUT.len());
+    assert!(rt;
+        ended == Ok(COUNTS) && writer.taken.as_slice() == OUTPUT && writer.flushed == OUTPUT.len()
+    );
 }
 
 // Whether these bytes are answered so, with these counts.
@@ -183,11 +174,13 @@ fn is_answered(alloc: Global, input: &[u8], output: &[u8], lines: u64, steps: u6
 
 #[test]
 fn ends_lines_at_line_feeds(rt: HostRuntime) {
-    assert!(rt; is_answered(rt.alloc(), b"", b"0\n", 0, 0));
-    assert!(rt; is_answered(rt.alloc(), b"\n", b"0\n0\n", 1, 0));
-    assert!(rt; is_answered(rt.alloc(), b"ab\r\n\n", b"0\n3\n3\n", 2, 1));
-    assert!(rt; is_answered(rt.alloc(), b"a\n\nb", b"0\n1\n1\n1\n", 3, 2));
-    assert!(rt; is_answered(rt.alloc(), b"\xc3\n\xc3\xa9\n", b"0\nbad\n2\n", 2, 1));
+    assert!(rt;
+        is_answered(rt.alloc(), b"", b"0\n", 0, 0)
+            && is_answered(rt.alloc(), b"\n", b"0\n0\n", 1, 0)
+            && is_answered(rt.alloc(), b"ab\r\n\n", b"0\n3\n3\n", 2, 1)
+            && is_answered(rt.alloc(), b"a\n\nb", b"0\n1\n1\n1\n", 3, 2)
+            && is_answered(rt.alloc(), b"\xc3\n\xc3\xa9\n", b"0\nbad\n2\n", 2, 1)
+    );
 }
 
 // Whether the read of this number fails once this is written and flushed.
@@ -200,12 +193,14 @@ fn fails_at_read(alloc: Global, k: u64, shown: &[u8]) -> bool {
 
 #[test]
 fn tells_of_a_failed_read(rt: HostRuntime) {
-    assert!(rt; fails_at_read(rt.alloc(), 1, b"0\n"));
-    assert!(rt; fails_at_read(rt.alloc(), 2, b"0\n"));
-    assert!(rt; fails_at_read(rt.alloc(), 3, b"0\n3\n"));
-    assert!(rt; fails_at_read(rt.alloc(), 6, b"0\n3\n5\n"));
-    assert!(rt; fails_at_read(rt.alloc(), 7, b"0\n3\n5\n5\n"));
-    assert!(rt; fails_at_read(rt.alloc(), 10, b"0\n3\n5\n5\nbad\n"));
+    assert!(rt;
+        fails_at_read(rt.alloc(), 1, b"0\n")
+            && fails_at_read(rt.alloc(), 2, b"0\n")
+            && fails_at_read(rt.alloc(), 3, b"0\n3\n")
+            && fails_at_read(rt.alloc(), 6, b"0\n3\n5\n")
+            && fails_at_read(rt.alloc(), 7, b"0\n3\n5\n5\n")
+            && fails_at_read(rt.alloc(), 10, b"0\n3\n5\n5\nbad\n")
+    );
 }
 
 // How many bytes were written before the trouble, if they are the first of the answer.
@@ -287,7 +282,7 @@ impl<'a> Write for Wide<'a> {
 
 // Answers the input, and tells whether a read came too early.
 fn run_waiting<'a>(alloc: Global, flow: &'a Flow) -> (Result<Counts, RunFault>, bool) {
-    let mut machine = Longest { longest: 0 };
+    let mut machine = Longest { digit: b'0' };
     let mut reader = WatchedReader::new(Waiting {
         bytes: INPUT,
         flow,
@@ -305,14 +300,12 @@ fn flushes_before_each_read(rt: HostRuntime) {
         flushed: Cell::new(0),
     };
     let (ended, is_early) = run_waiting(rt.alloc(), &flow);
-    assert!(rt; ended == Ok(COUNTS));
-    assert!(rt; !is_early);
-    assert!(rt; flow.flushed.get() == OUTPUT.len());
+    assert!(rt; ended == Ok(COUNTS) && !is_early && flow.flushed.get() == OUTPUT.len());
 }
 
 // Answers these bytes, and tells the most that was written at once.
 fn run_widely(alloc: Global, input: &[u8], flow: &Flow) -> (Result<Counts, RunFault>, usize) {
-    let mut machine = Longest { longest: 0 };
+    let mut machine = Longest { digit: b'0' };
     let mut reader = WatchedReader::new(input);
     let mut writer = WatchedWriter::new(Wide { flow, most: 0 });
     let ended = run_lines(alloc, &mut machine, &mut reader, &mut writer);
@@ -328,8 +321,7 @@ fn writes_before_much_is_pending(rt: HostRuntime) {
     // One read gives all these lines, each with an answer of two bytes.
     let input = vec![in rt.alloc(); b'\n'; 50_000].expect(&rt, "out of memory");
     let (ended, most) = run_widely(rt.alloc(), input.as_slice(), &flow);
-    assert!(rt; ended.is_ok());
-    assert!(rt; (flow.written.get(), most) == (100_002, 65_536));
+    assert!(rt; ended.is_ok() && (flow.written.get(), most) == (100_002, 65_536));
 }
 
 #[test]
@@ -337,6 +329,8 @@ fn prints_faults(rt: HostRuntime) {
     let read = "the input could not be read to its end";
     assert!(rt; says(&rt, rt.alloc(), &RunFault::Read, read));
     let write = "an answer could not be written";
-    assert!(rt; says(&rt, rt.alloc(), &RunFault::Write, write));
-    assert!(rt; says(&rt, rt.alloc(), &RunFault::Memory, "out of memory"));
+    assert!(rt;
+        says(&rt, rt.alloc(), &RunFault::Write, write)
+            && says(&rt, rt.alloc(), &RunFault::Memory, "out of memory")
+    );
 }

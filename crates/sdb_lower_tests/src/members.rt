@@ -1,6 +1,7 @@
 //! Members of an object, beside a map.
 
 use crate::pieces::Number;
+use crate::texts::text_of;
 use sdb_members::Members;
 use sdb_pieces::Share;
 use std::alloc::Global;
@@ -10,7 +11,7 @@ use std::process::Abort;
 // A key, of five thousand and three.
 fn name(rt: &impl Abort, alloc: Global, step: u64) -> String {
     let number = step.wrapping_mul(7919) % 5_003;
-    format!(in alloc; "{number}").expect(rt, "out of memory")
+    text_of(rt, alloc, &number)
 }
 
 // Whether the key had the same value in both, and has it now.
@@ -86,8 +87,7 @@ fn members_in_blocks_are_those_of_a_map(rt: HostRuntime) {
     let mut plain = BTreeMap::new(rt.alloc());
     let mut members = Members::new(rt.alloc());
     put_all(&rt, rt.alloc(), &mut members, &mut plain);
-    assert!(rt; members.values.part_count() > 70);
-    assert!(rt; is(&members, &plain));
+    assert!(rt; members.values.part_count() > 70 && is(&members, &plain));
     take_all(&rt, rt.alloc(), &mut members, &mut plain);
     assert!(rt; is(&members, &plain));
 }
@@ -104,9 +104,7 @@ fn a_copy_with_shared_keys_is_changed_apart(rt: HostRuntime) {
     let copy = members.share(rt.alloc()).expect(&rt, "out of memory");
     assert!(rt; is(&copy, &plain));
     take_all(&rt, rt.alloc(), &mut members, &mut plain);
-    assert!(rt; is(&members, &plain));
-    assert!(rt; copy.get("17").is_some());
-    assert!(rt; copy.keys.len() == 5_003);
+    assert!(rt; is(&members, &plain) && copy.get("17").is_some() && copy.keys.len() == 5_003);
 }
 
 #[test]
@@ -117,9 +115,9 @@ fn members_of_a_map_are_found(rt: HostRuntime) {
         drop(added.expect(&rt, "out of memory"));
     }
     let members = Members::from_map(rt.alloc(), plain).expect(&rt, "out of memory");
-    assert!(rt; members.keys.len() == 300);
-    assert!(rt; members.values.part_count() == 5);
+    assert!(rt; members.keys.len() == 300 && members.values.part_count() == 5);
     let second = name(&rt, rt.alloc(), 1);
-    assert!(rt; members.get(second.as_str()).map(|number| number.0) == Some(1));
-    assert!(rt; members.get("").is_none());
+    assert!(rt;
+        members.get(second.as_str()).map(|number| number.0) == Some(1) && members.get("").is_none()
+    );
 }

@@ -32,9 +32,11 @@ fn a_log(rt: &impl Abort, alloc: Global) -> Log {
 #[test]
 fn versions_at_moments(rt: HostRuntime) {
     let last = Moment::new(9_007_199_254_740_991).expect(&rt, "a moment");
-    assert!(rt; Moment::new(9_007_199_254_740_992).is_none());
-    assert!(rt; Moment::at_most_last(u64::MAX).milliseconds() == last.milliseconds());
-    assert!(rt; Log::new(rt.alloc()).version_at(last) == 0);
+    assert!(rt;
+        Moment::new(9_007_199_254_740_992).is_none()
+            && Moment::at_most_last(u64::MAX).milliseconds() == last.milliseconds()
+            && Log::new(rt.alloc()).version_at(last) == 0
+    );
     let log = a_log(&rt, rt.alloc());
     assert!(rt; log.version_at(Moment::first()) == 1 && log.version_at(last) == 1);
 }
@@ -48,9 +50,11 @@ fn is_true(document: Option<&Json>) -> bool {
 fn a_log_is_replayed(rt: HostRuntime) {
     assert!(rt; Log::new(rt.alloc()).is_empty());
     let log = a_log(&rt, rt.alloc());
-    assert!(rt; log.replay(0).expect(&rt, "out of memory").is_none());
-    assert!(rt; log.len() == 1);
-    assert!(rt; is_true(log.replay(1).expect(&rt, "out of memory").as_ref()));
+    assert!(rt;
+        log.replay(0).expect(&rt, "out of memory").is_none()
+            && log.len() == 1
+            && is_true(log.replay(1).expect(&rt, "out of memory").as_ref())
+    );
 }
 
 // An entry whose submission creates and whose content deletes.
@@ -69,8 +73,10 @@ fn entries_are_compared(rt: HostRuntime) {
         .push(an_entry(&rt, rt.alloc()))
         .expect(&rt, "out of memory");
     let copies = copy_entries(rt.alloc(), entries.as_slice()).expect(&rt, "out of memory");
-    assert!(rt; same_entries(entries.as_slice(), copies.as_slice()));
-    assert!(rt; !same_entries(entries.as_slice(), &[]));
+    assert!(rt;
+        same_entries(entries.as_slice(), copies.as_slice())
+            && !same_entries(entries.as_slice(), &[])
+    );
 }
 
 fn is_delete(passed: &Result<Content, Code>) -> bool {
@@ -87,6 +93,8 @@ fn a_content_over_another(rt: HostRuntime) {
         "out of memory",
     );
     let delete = Content::delete();
-    assert!(rt; matches!(over(rt.alloc(), &edit, &delete), Err(Code::E5)));
-    assert!(rt; is_delete(&over(rt.alloc(), &delete, &edit)));
+    assert!(rt;
+        matches!(over(rt.alloc(), &edit, &delete), Err(Code::E5))
+            && is_delete(&over(rt.alloc(), &delete, &edit))
+    );
 }

@@ -96,8 +96,7 @@ fn a_list_of_many_blocks_is_that_of_a_vector(rt: HostRuntime) {
     let mut plain = Vec::new(rt.alloc());
     let mut list = Pieces::from_vec(Vec::new(rt.alloc()));
     put_all(&rt, rt.alloc(), &mut list, &mut plain);
-    assert!(rt; list.part_count() > 3);
-    assert!(rt; is(&rt, rt.alloc(), &list, &plain));
+    assert!(rt; list.part_count() > 3 && is(&rt, rt.alloc(), &list, &plain));
     take_all(&rt, rt.alloc(), &mut list, &mut plain);
     assert!(rt; is(&rt, rt.alloc(), &list, &plain));
 }
@@ -117,14 +116,12 @@ fn shared(rt: &impl Abort, alloc: Global, list: Pieces<Number>) -> Pieces<Number
 fn change_apart(rt: &impl Abort, alloc: Global, list: &mut Pieces<Number>, plain: &mut Vec<u64>) {
     let copy = list.share(alloc).expect(rt, "out of memory");
     let before = numbers(rt, alloc, &copy);
-    assert!(rt; take(rt, alloc, list, plain, 5));
-    assert!(rt; put(rt, alloc, list, plain, 77));
+    assert!(rt; take(rt, alloc, list, plain, 5) && put(rt, alloc, list, plain, 77));
     drop(
         list.replace(alloc, 1_500, Number(1))
             .expect(rt, "out of memory"),
     );
-    assert!(rt; is(rt, alloc, &copy, &before));
-    assert!(rt; !is(rt, alloc, list, &before));
+    assert!(rt; is(rt, alloc, &copy, &before) && !is(rt, alloc, list, &before));
 }
 
 // A list in one block, which was made beside the vector.
@@ -138,8 +135,7 @@ fn one_block(rt: &impl Abort, alloc: Global, plain: &mut Vec<u64>) -> Pieces<Num
 fn copies_are_changed_apart(rt: HostRuntime) {
     let mut plain = Vec::new(rt.alloc());
     let mut list = one_block(&rt, rt.alloc(), &mut plain);
-    assert!(rt; list.part_count() == 1);
-    assert!(rt; is(&rt, rt.alloc(), &list, &plain));
+    assert!(rt; list.part_count() == 1 && is(&rt, rt.alloc(), &list, &plain));
     change_apart(&rt, rt.alloc(), &mut list, &mut plain);
 }
 
@@ -163,8 +159,12 @@ fn changed(list: &mut Pieces<Number>, index: usize) -> bool {
 #[test]
 fn an_item_is_changed_in_place(rt: HostRuntime) {
     let mut list = short(&rt, rt.alloc());
-    assert!(rt; changed(&mut list, 1) && !changed(&mut list, 2));
-    assert!(rt; list.get(1).map(|item| item.0) == Some(9) && list.get(2).is_none());
+    assert!(rt;
+        changed(&mut list, 1)
+            && !changed(&mut list, 2)
+            && list.get(1).map(|item| item.0) == Some(9)
+            && list.get(2).is_none()
+    );
     let mut list = shared(&rt, rt.alloc(), list);
     assert!(rt; !changed(&mut list, 1));
 }

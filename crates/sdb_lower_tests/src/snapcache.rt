@@ -31,18 +31,19 @@ fn nine(rt: &impl Abort, alloc: Global) -> Cache {
 #[test]
 fn a_new_cache_has_nothing(rt: HostRuntime) {
     let mut cache = Cache::new(rt.alloc());
-    assert!(rt; cache.len() == 0);
-    assert!(rt; cache.nearest(9).is_none());
+    assert!(rt; cache.len() == 0 && cache.nearest(9).is_none());
 }
 
 // Of nine the last eight are there.
 #[test]
 fn eight_are_kept(rt: HostRuntime) {
     let mut cache = nine(&rt, rt.alloc());
-    assert!(rt; cache.len() == MOST);
-    assert!(rt; cache.nearest(1).is_none());
-    assert!(rt; is_found(&rt, &mut cache, 2, 2, 2));
-    assert!(rt; is_found(&rt, &mut cache, 100, 9, 9));
+    assert!(rt;
+        cache.len() == MOST
+            && cache.nearest(1).is_none()
+            && is_found(&rt, &mut cache, 2, 2, 2)
+            && is_found(&rt, &mut cache, 100, 9, 9)
+    );
 }
 
 // The one that was found stays, and the next goes.
@@ -53,14 +54,12 @@ fn the_least_recently_used_goes(rt: HostRuntime) {
     cache
         .offer(10, number(&rt, 10))
         .expect(&rt, "out of memory");
-    assert!(rt; cache.len() == MOST);
-    assert!(rt; is_found(&rt, &mut cache, 3, 2, 2));
+    assert!(rt; cache.len() == MOST && is_found(&rt, &mut cache, 3, 2, 2));
 }
 
 #[test]
 fn a_cache_forgets(rt: HostRuntime) {
     let mut cache = nine(&rt, rt.alloc());
     cache.forget();
-    assert!(rt; cache.len() == 0);
-    assert!(rt; cache.nearest(9).is_none());
+    assert!(rt; cache.len() == 0 && cache.nearest(9).is_none());
 }

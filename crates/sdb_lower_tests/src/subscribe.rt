@@ -39,8 +39,9 @@ fn a_closed_queue_is_unknown(rt: HostRuntime) {
     let mut queues = Queues::new(rt.alloc());
     let id = opened(&rt, &mut queues, 0);
     queues.close(0, id);
-    assert!(rt; queues.count() == 0 && queues.ringed(id).is_none());
-    assert!(rt; opened(&rt, &mut queues, 0) != id);
+    assert!(rt;
+        queues.count() == 0 && queues.ringed(id).is_none() && opened(&rt, &mut queues, 0) != id
+    );
 }
 
 #[test]

@@ -108,10 +108,12 @@ fn shared(rt: &impl Abort, alloc: Global) -> Text {
 // The copy stays as it was where the text is changed.
 fn change_apart(rt: &impl Abort, alloc: Global, text: &mut Text, copy: &Text) {
     let before = copy.to_string(alloc).expect(rt, "out of memory");
-    assert!(rt; text.insert(alloc, 3_000, "x").expect(rt, "out of memory"));
-    assert!(rt; text.remove(alloc, 0, "a").expect(rt, "out of memory"));
-    assert!(rt; is(rt, alloc, copy, before.as_str()));
-    assert!(rt; !text.same(copy));
+    assert!(rt;
+        text.insert(alloc, 3_000, "x").expect(rt, "out of memory")
+            && text.remove(alloc, 0, "a").expect(rt, "out of memory")
+            && is(rt, alloc, copy, before.as_str())
+            && !text.same(copy)
+    );
 }
 
 #[test]

@@ -87,6 +87,20 @@ pub(crate) fn extended(
     text
 }
 
+// Puts the parts behind the text.
+pub(crate) fn add(rt: &impl Abort, text: &mut String, parts: &[&str]) {
+    for part in parts {
+        text.push_str(part).expect(rt, "out of memory");
+    }
+}
+
+// The front, and the parts behind it.
+pub(crate) fn joined(rt: &impl Abort, alloc: Global, front: &str, parts: &[&str]) -> String {
+    let mut text = text_of(rt, alloc, &front);
+    add(rt, &mut text, parts);
+    text
+}
+
 // Asserts of each row of the table, a JSON array of such arrays, that it holds, and counts them.
 pub(crate) fn each_row<R: Abort, F: Fn(&R, Global, &[Value]) -> bool>(
     rt: &R,

@@ -1,5 +1,7 @@
 //! `sdb_transform`: components and operations carried past one another.
-use crate::texts::{component, each_row, extended, is_op, is_printed, op, op_of, says};
+use crate::texts::{
+    add, component, each_row, extended, is_op, is_printed, joined, op, op_of, says, text_of,
+};
 use sdb_component::{Component, Op};
 use sdb_transform::{Fault, Side, cross, transform, transform_one};
 use serde_json::Value;
@@ -229,12 +231,14 @@ fn holds(rt: &impl Abort, alloc: Global, row: &[Value]) -> bool {
 
 #[test]
 fn each_row_of_the_table_holds(rt: HostRuntime) {
-    assert!(rt; each_row(&rt, rt.alloc(), WORKED, holds) == 6);
-    assert!(rt; each_row(&rt, rt.alloc(), CASE_1, holds) == 11);
-    assert!(rt; each_row(&rt, rt.alloc(), CASE_2, holds) == 27);
-    assert!(rt; each_row(&rt, rt.alloc(), LISTS, holds) == 34);
-    assert!(rt; each_row(&rt, rt.alloc(), OBJECTS, holds) == 22);
-    assert!(rt; each_row(&rt, rt.alloc(), TEXTS, holds) == 34);
+    assert!(rt;
+        each_row(&rt, rt.alloc(), WORKED, holds) == 6
+            && each_row(&rt, rt.alloc(), CASE_1, holds) == 11
+            && each_row(&rt, rt.alloc(), CASE_2, holds) == 27
+            && each_row(&rt, rt.alloc(), LISTS, holds) == 34
+            && each_row(&rt, rt.alloc(), OBJECTS, holds) == 22
+            && each_row(&rt, rt.alloc(), TEXTS, holds) == 34
+    );
     assert!(rt; each_row(&rt, rt.alloc(), OTHERS, holds) == 21);
 }
 
@@ -280,11 +284,15 @@ fn one_refusal_refuses_all(rt: HostRuntime) {
 
 // The component, and 99 with this member behind it, at 1, 2 and so on or at 197, 195 and so on.
 fn followed(rt: &impl Abort, alloc: Global, first: &str, member: &str, is_falling: bool) -> String {
-    let mut text = String::from_str(alloc, first).expect(rt, "out of memory");
+    let mut text = text_of(rt, alloc, &first);
     for i in 1..100_u64 {
         let at = if is_falling { 199 - 2 * i } else { i };
-        let next = format!(in alloc; ",{{\"p\":[{at}],{member}}}").expect(rt, "out of memory");
-        text.push_str(next.as_str()).expect(rt, "out of memory");
+        let at = text_of(rt, alloc, &at);
+        add(
+            rt,
+            &mut text,
+            &[r#",{"p":["#, at.as_str(), "],", member, "}"],
+        );
     }
     text
 }
@@ -293,15 +301,6 @@ fn followed(rt: &impl Abort, alloc: Global, first: &str, member: &str, is_fallin
 fn around(rt: &impl Abort, alloc: Global, front: &str, letters: u64, end: &str) -> String {
     let text = extended(rt, alloc, front, "x", letters);
     extended(rt, alloc, text.as_str(), end, 1)
-}
-
-// The front, and the parts behind it.
-fn joined(rt: &impl Abort, alloc: Global, front: &str, parts: &[&str]) -> String {
-    let mut text = String::from_str(alloc, front).expect(rt, "out of memory");
-    for part in parts {
-        text.push_str(part).expect(rt, "out of memory");
-    }
-    text
 }
 
 // A row of a delete of 200 letters that inserts cut, the last one first.
@@ -338,8 +337,10 @@ fn is_left_as(rt: &impl Abort, alloc: Global, side: Side, wanted: &str) -> bool 
 
 #[test]
 fn an_operation_is_transformed_as_either_side(rt: HostRuntime) {
-    assert!(rt; is_left_as(&rt, rt.alloc(), Side::Left, r#"[{"li":"B","p":[0]}]"#));
-    assert!(rt; is_left_as(&rt, rt.alloc(), Side::Right, r#"[{"li":"B","p":[1]}]"#));
+    assert!(rt;
+        is_left_as(&rt, rt.alloc(), Side::Left, r#"[{"li":"B","p":[0]}]"#)
+            && is_left_as(&rt, rt.alloc(), Side::Right, r#"[{"li":"B","p":[1]}]"#)
+    );
 }
 
 const BELOW: &str = r#"[{"p":[3,0,0],"si":"yy"},{"li":1,"p":[3,1]},{"li":2,"p":[0]}]"#;
@@ -375,6 +376,8 @@ fn a_removed_value_meets_edits_below_it(rt: HostRuntime) {
 #[test]
 fn faults_are_named(rt: HostRuntime) {
     let refused = "operation can not be applied";
-    assert!(rt; says(&rt, rt.alloc(), &Fault::NotTransformed, refused));
-    assert!(rt; says(&rt, rt.alloc(), &Fault::Memory, "out of memory"));
+    assert!(rt;
+        says(&rt, rt.alloc(), &Fault::NotTransformed, refused)
+            && says(&rt, rt.alloc(), &Fault::Memory, "out of memory")
+    );
 }

@@ -2,7 +2,9 @@
 ghost use Rattle.std.specs.Prelude.{◌≡◌, OnOk, ⊤};
 ghost use Rattle.sdb_value.specs.View.{view};
 
-use crate::texts::{each_row, extended, is_shown, json, json_of, parsed, says, shown, text_of};
+use crate::texts::{
+    add, each_row, extended, is_shown, joined, json, json_of, parsed, says, shown, text_of,
+};
 use json::Writer;
 use sdb_pieces::Share;
 use sdb_value::{
@@ -51,8 +53,10 @@ const PRINTED: &str =
 #[test]
 fn a_value_is_read_and_printed(rt: HostRuntime) {
     let value = json(&rt, rt.alloc(), READ);
-    assert!(rt; is_shown(&rt, rt.alloc(), &value, PRINTED));
-    assert!(rt; written(&rt, rt.alloc(), &value).as_slice() == PRINTED.as_bytes());
+    assert!(rt;
+        is_shown(&rt, rt.alloc(), &value, PRINTED)
+            && written(&rt, rt.alloc(), &value).as_slice() == PRINTED.as_bytes()
+    );
 }
 
 #[test]
@@ -88,8 +92,10 @@ fn other_numbers_are_refused(rt: HostRuntime) {
 
 #[test]
 fn depth_is_counted(rt: HostRuntime) {
-    assert!(rt; json(&rt, rt.alloc(), r#""a""#).depth() == 0);
-    assert!(rt; json(&rt, rt.alloc(), r#"{"a":[1],"b":{"c":[]}}"#).depth() == 3);
+    assert!(rt;
+        json(&rt, rt.alloc(), r#""a""#).depth() == 0
+            && json(&rt, rt.alloc(), r#"{"a":[1],"b":{"c":[]}}"#).depth() == 3
+    );
     let text = deep(&rt, rt.alloc(), 50);
     let value = json(&rt, rt.alloc(), text.as_str());
     assert!(rt; value.depth() == 50 && is_shown(&rt, rt.alloc(), &value, text.as_str()));
@@ -133,9 +139,11 @@ fn is_number(_rt: &impl Abort, _alloc: Global, row: &[Value]) -> bool {
 #[test]
 fn numbers_are_read(rt: HostRuntime) {
     each_row(&rt, rt.alloc(), NUMBERS, is_number);
-    assert!(rt; count_of(&parsed(&rt, rt.alloc(), NUMBERS)).is_none());
-    assert!(rt; MAX == 9007199254740991);
-    assert!(rt; Whole::MAX == 9007199254740991);
+    assert!(rt;
+        count_of(&parsed(&rt, rt.alloc(), NUMBERS)).is_none()
+            && MAX == 9007199254740991
+            && Whole::MAX == 9007199254740991
+    );
 }
 
 fn sum(a: i64, b: i64) -> Option<i64> {
@@ -144,12 +152,14 @@ fn sum(a: i64, b: i64) -> Option<i64> {
 
 #[test]
 fn whole_numbers_stay_in_range(rt: HostRuntime) {
-    assert!(rt; Whole::new(9007199254740992).is_none());
-    assert!(rt; Whole::new(-9007199254740992).is_none());
-    assert!(rt; sum(Whole::MAX, 0) == Some(Whole::MAX));
-    assert!(rt; sum(Whole::MAX, 1).is_none());
-    assert!(rt; sum(-Whole::MAX, -1).is_none());
-    assert!(rt; sum(Whole::MAX, -1) == Some(9007199254740990));
+    assert!(rt;
+        Whole::new(9007199254740992).is_none()
+            && Whole::new(-9007199254740992).is_none()
+            && sum(Whole::MAX, 0) == Some(Whole::MAX)
+            && sum(Whole::MAX, 1).is_none()
+            && sum(-Whole::MAX, -1).is_none()
+            && sum(Whole::MAX, -1) == Some(9007199254740990)
+    );
     assert!(rt; sum(3, -5) == Some(-2));
 }
 
@@ -196,16 +206,16 @@ fn sizes_are_counted_up_to_a_limit(rt: HostRuntime) {
 #[test]
 fn faults_are_named(rt: HostRuntime) {
     let number = "a number is not whole or too large";
-    assert!(rt; says(&rt, rt.alloc(), &ValueFault::Number, number));
     assert!(rt;
-        says(
-            &rt,
-            rt.alloc(),
-            &ValueFault::Depth,
-            "a value nests too deep"
-        )
+        says(&rt, rt.alloc(), &ValueFault::Number, number)
+            && says(
+                &rt,
+                rt.alloc(),
+                &ValueFault::Depth,
+                "a value nests too deep"
+            )
+            && says(&rt, rt.alloc(), &ValueFault::Memory, "out of memory")
     );
-    assert!(rt; says(&rt, rt.alloc(), &ValueFault::Memory, "out of memory"));
 }
 
 const PLACED: &str = r#"{"a":[1,{"b":"x"}],"c":null,"d":true}"#;
@@ -321,18 +331,22 @@ fn put_null(rt: &impl Abort, alloc: Global, value: &mut Json, steps: &str) -> Op
 fn one_place_is_changed(rt: HostRuntime) {
     let mut value = json(&rt, rt.alloc(), r#"{"a":[1,{"b":[[]]}],"c":2}"#);
     let after = r#"{"a":[1,{"b":null}],"c":2}"#;
-    assert!(rt; put_null(&rt, rt.alloc(), &mut value, r#"["a",1,"b"]"#) == Some(2));
-    assert!(rt; is_shown(&rt, rt.alloc(), &value, after));
-    assert!(rt; put_null(&rt, rt.alloc(), &mut value, r#"["a",2]"#).is_none());
-    assert!(rt; put_null(&rt, rt.alloc(), &mut value, r#"["b"]"#).is_none());
-    assert!(rt; is_shown(&rt, rt.alloc(), &value, after));
+    assert!(rt;
+        put_null(&rt, rt.alloc(), &mut value, r#"["a",1,"b"]"#) == Some(2)
+            && is_shown(&rt, rt.alloc(), &value, after)
+            && put_null(&rt, rt.alloc(), &mut value, r#"["a",2]"#).is_none()
+            && put_null(&rt, rt.alloc(), &mut value, r#"["b"]"#).is_none()
+            && is_shown(&rt, rt.alloc(), &value, after)
+    );
 }
 
 #[test]
 fn the_whole_value_is_changed(rt: HostRuntime) {
     let mut value = json(&rt, rt.alloc(), r#"{"a":[1,{"b":null}],"c":2}"#);
-    assert!(rt; put_null(&rt, rt.alloc(), &mut value, "[]") == Some(3));
-    assert!(rt; is_shown(&rt, rt.alloc(), &value, "null"));
+    assert!(rt;
+        put_null(&rt, rt.alloc(), &mut value, "[]") == Some(3)
+            && is_shown(&rt, rt.alloc(), &value, "null")
+    );
 }
 
 // Asserts where the text is cut at each offset.
@@ -344,9 +358,7 @@ fn assert_cuts(rt: &impl Abort, text: &str, cuts: &[(u64, Option<usize>)]) {
 
 #[test]
 fn texts_are_measured(rt: HostRuntime) {
-    assert!(rt; units("") == 0);
-    assert!(rt; units("a😀b") == 4);
-    assert!(rt; units("aé€") == 3);
+    assert!(rt; units("") == 0 && units("a😀b") == 4 && units("aé€") == 3);
     let cuts = [
         (0, Some(0)),
         (1, Some(1)),
@@ -411,8 +423,10 @@ fn pairs_are_measured(rt: HostRuntime) {
 
 fn change_items(rt: &impl Abort, alloc: Global, items: &mut List) {
     let inserted = insert_item(alloc, items, 3, json(rt, alloc, "4"));
-    assert!(rt; inserted.expect(rt, "out of memory"));
-    assert!(rt; remove_item(alloc, items, 0).expect(rt, "out of memory"));
+    assert!(rt;
+        inserted.expect(rt, "out of memory")
+            && remove_item(alloc, items, 0).expect(rt, "out of memory")
+    );
     let replaced = replace_item(alloc, items, 1, json(rt, alloc, r#""q""#));
     assert!(rt; replaced.expect(rt, "out of memory"));
 }
@@ -453,13 +467,11 @@ fn a_text_is_changed_in_place(rt: HostRuntime) {
         inside
             .insert(rt.alloc(), 3, "xy")
             .expect(&rt, "out of memory")
+            && inside
+                .remove(rt.alloc(), 1, "😀x")
+                .expect(&rt, "out of memory")
+            && is_shown(&rt, rt.alloc(), &text, r#""ayb""#)
     );
-    assert!(rt;
-        inside
-            .remove(rt.alloc(), 1, "😀x")
-            .expect(&rt, "out of memory")
-    );
-    assert!(rt; is_shown(&rt, rt.alloc(), &text, r#""ayb""#));
 }
 
 // The text of an object with a member for each number from 100 to 999, or for each even one.
@@ -467,8 +479,12 @@ fn numbered(rt: &impl Abort, alloc: Global, with_odd: bool) -> String {
     let mut text = extended(rt, alloc, r#"{"k100":100"#, "", 0);
     for number in 101_u64..1_000 {
         if with_odd || number % 2 == 0 {
-            let member = format!(in alloc; r#","k{number}":{number}"#).expect(rt, "out of memory");
-            text.push_str(member.as_str()).expect(rt, "out of memory");
+            let number = text_of(rt, alloc, &number);
+            add(
+                rt,
+                &mut text,
+                &[r#","k"#, number.as_str(), r#"":"#, number.as_str()],
+            );
         }
     }
     extended(rt, alloc, text.as_str(), "}", 1)
@@ -479,7 +495,7 @@ fn change_odd(rt: &impl Abort, alloc: Global, object: &mut Json, back: bool) {
     let members = object_mut(object).expect(rt, "an object");
     for half in 50_i64..500 {
         let number = half.wrapping_mul(2).wrapping_add(1);
-        let key = format!(in alloc; "k{number}").expect(rt, "out of memory");
+        let key = joined(rt, alloc, "k", &[text_of(rt, alloc, &number).as_str()]);
         if back {
             let value = Json::Int(Whole::new(number).expect(rt, "a number"));
             put_member(alloc, members, key, value).expect(rt, "out of memory");
@@ -499,16 +515,17 @@ fn a_wide_object_is_changed_beside_its_copy(rt: HostRuntime) {
     change_odd(&rt, rt.alloc(), &mut object, false);
     assert!(rt; is_shown(&rt, rt.alloc(), &object, half.as_str()));
     change_odd(&rt, rt.alloc(), &mut object, true);
-    assert!(rt; is_shown(&rt, rt.alloc(), &object, whole.as_str()));
-    assert!(rt; is_shown(&rt, rt.alloc(), &copy, whole.as_str()));
+    assert!(rt;
+        is_shown(&rt, rt.alloc(), &object, whole.as_str())
+            && is_shown(&rt, rt.alloc(), &copy, whole.as_str())
+    );
 }
 
 #[test]
 fn members_are_a_value_again(rt: HostRuntime) {
     let object = json(&rt, rt.alloc(), r#"{"a":null}"#);
     let members = object.members().expect(&rt, "an object");
-    assert!(rt; members.get("a").expect(&rt, "a member").is_null());
-    assert!(rt; !object.is_null());
+    assert!(rt; members.get("a").expect(&rt, "a member").is_null() && !object.is_null());
     let pointer = members.share(rt.alloc()).expect(&rt, "out of memory");
     assert!(rt; same_value(&object, &Json::of_members(pointer)));
 }
@@ -527,10 +544,12 @@ fn wide(rt: &impl Abort, alloc: Global) -> Json {
 
 // Puts null at some places.
 fn change_some(rt: &impl Abort, alloc: Global, value: &mut Json) {
-    assert!(rt; put_null(rt, alloc, value, r#"["l",700,"n",0]"#) == Some(0));
-    assert!(rt; put_null(rt, alloc, value, r#"["l",1400]"#).is_some());
-    assert!(rt; put_null(rt, alloc, value, r#"["o","k500"]"#) == Some(0));
-    assert!(rt; put_null(rt, alloc, value, r#"["t"]"#) == Some(0));
+    assert!(rt;
+        put_null(rt, alloc, value, r#"["l",700,"n",0]"#) == Some(0)
+            && put_null(rt, alloc, value, r#"["l",1400]"#).is_some()
+            && put_null(rt, alloc, value, r#"["o","k500"]"#) == Some(0)
+            && put_null(rt, alloc, value, r#"["t"]"#) == Some(0)
+    );
 }
 
 // Whether a copy takes the same changes once more.
@@ -548,8 +567,10 @@ fn copies_of_a_value_are_changed_apart(rt: HostRuntime) {
     let mut first = shared.try_clone(rt.alloc()).expect(&rt, "out of memory");
     let second = first.try_clone(rt.alloc()).expect(&rt, "out of memory");
     change_some(&rt, rt.alloc(), &mut first);
-    assert!(rt; is_changed_again(&rt, rt.alloc(), &first));
-    assert!(rt; same_value(&value, &second));
-    assert!(rt; same_value(&shared, &second));
-    assert!(rt; !same_value(&first, &second));
+    assert!(rt;
+        is_changed_again(&rt, rt.alloc(), &first)
+            && same_value(&value, &second)
+            && same_value(&shared, &second)
+            && !same_value(&first, &second)
+    );
 }

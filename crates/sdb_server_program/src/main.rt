@@ -2,6 +2,9 @@
 //! session on standard input and output.
 #![tactic(auto)]
 
+#[cfg(test)]
+mod command_line;
+
 use sdb_server_command::run;
 use std::env;
 use std::process::ExitCode;

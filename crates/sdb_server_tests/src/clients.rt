@@ -1,6 +1,7 @@
-//! Clients over sockets.
+//! Clients over sockets. What can't be had, and what isn't answered as it has to be, ends the test.
 use std::alloc::Global;
 use std::net::{SocketAddr, TcpStream};
+use std::process::Abort;
 use std::time::Duration;
 use tungstenite::handshake::client::request_of;
 use tungstenite::{CloseCode, Message, RandomKeys, WebSocket, client};
@@ -15,71 +16,64 @@ pub(crate) type Client = WebSocket<TcpStream, RandomKeys<HostRuntime>>;
 const PATIENCE: u64 = 20;
 
 // A connection to the address, over which nothing was sent yet.
-pub(crate) fn connect(rt: HostRuntime, address: SocketAddr) -> Result<TcpStream, &'static str> {
-    let stream = TcpStream::connect(&rt, address).or(Err("no connection"))?;
+pub(crate) fn connect(abort: &impl Abort, rt: HostRuntime, address: SocketAddr) -> TcpStream {
+    let stream = TcpStream::connect(&rt, address).expect(abort, "a connection");
     let patience = Some(Duration::from_secs(PATIENCE));
-    stream.set_read_timeout(patience).or(Err("no patience"))?;
-    Ok(stream)
+    stream.set_read_timeout(patience).expect(abort, "patience");
+    stream
 }
 
 // A client at the address, whose handshake is done.
 pub(crate) fn reach(
+    abort: &impl Abort,
     rt: HostRuntime,
     alloc: Global,
     address: SocketAddr,
-) -> Result<Client, &'static str> {
-    let stream = connect(rt, address)?;
-    let request = request_of(alloc, "ws://localhost/").or(Err("no request"))?;
-    match client(alloc, rt, request, stream) {
-        Ok((socket, _)) => Ok(socket),
-        Err(_) => Err("no handshake"),
+) -> Client {
+    let request = request_of(alloc, "ws://localhost/").ok();
+    let request = request.expect(abort, "a request");
+    match client(alloc, rt, request, connect(abort, rt, address)) {
+        Ok((socket, _)) => socket,
+        Err(_) => panic!(abort; "no handshake"),
     }
 }
 
 // A client at the address, which has read the opening text. None where it is told to come again.
 pub(crate) fn come(
+    abort: &impl Abort,
     rt: HostRuntime,
     alloc: Global,
     address: SocketAddr,
     opening: &str,
-) -> Result<Option<Client>, &'static str> {
-    let mut socket = reach(rt, alloc, address)?;
-    let message = next_message(&mut socket).ok_or("no message")?;
+) -> Option<Client> {
+    let mut socket = reach(abort, rt, alloc, address);
+    let message = next_message(abort, &mut socket);
     if is_text(&message, opening) {
-        return Ok(Some(socket));
+        return Some(socket);
     }
-    if is_close(&message, CloseCode::Again) {
-        return Ok(None);
-    }
-    Err("no opening")
+    assert!(abort; is_close(&message, CloseCode::Again));
+    None
 }
 
 // A client at the address, which has read the opening text.
 pub(crate) fn enter(
+    abort: &impl Abort,
     rt: HostRuntime,
     alloc: Global,
     address: SocketAddr,
     opening: &str,
-) -> Result<Client, &'static str> {
-    come(rt, alloc, address, opening)?.ok_or("sent away")
+) -> Client {
+    come(abort, rt, alloc, address, opening).expect(abort, "a slot")
 }
 
-pub(crate) fn next_message(socket: &mut Client) -> Option<Message> {
-    socket.read().ok()
+pub(crate) fn next_message(abort: &impl Abort, socket: &mut Client) -> Message {
+    socket.read().ok().expect(abort, "a message")
 }
 
 // Whether a message is this text.
 fn is_text(message: &Message, wanted: &str) -> bool {
     match message {
         Message::Text(text) => text.as_str() == wanted,
-        _ => false,
-    }
-}
-
-// Whether a message asks for a sign of life.
-pub(crate) fn is_ping(message: &Message) -> bool {
-    match message {
-        Message::Ping(_) => true,
         _ => false,
     }
 }
@@ -93,35 +87,24 @@ fn is_close(message: &Message, wanted: CloseCode) -> bool {
 }
 
 // Reads the next message, which has to be this text.
-pub(crate) fn expect(socket: &mut Client, wanted: &str) -> Result<(), &'static str> {
-    let message = next_message(socket).ok_or("no message")?;
-    if is_text(&message, wanted) {
-        Ok(())
-    } else {
-        Err("another message")
-    }
+pub(crate) fn expect(abort: &impl Abort, socket: &mut Client, wanted: &str) {
+    assert!(abort; is_text(&next_message(abort, socket), wanted), "{wanted}");
 }
 
 // Reads the next message, which has to be a close with this code.
-pub(crate) fn expect_close(socket: &mut Client, wanted: CloseCode) -> Result<(), &'static str> {
-    let message = next_message(socket).ok_or("no message")?;
-    if is_close(&message, wanted) {
-        Ok(())
-    } else {
-        Err("another message")
-    }
+pub(crate) fn expect_close(abort: &impl Abort, socket: &mut Client, wanted: CloseCode) {
+    assert!(abort; is_close(&next_message(abort, socket), wanted));
 }
 
-// Sends a text, and expects this answer.
-pub(crate) fn ask(
-    alloc: Global,
-    socket: &mut Client,
-    text: &str,
-    answer: &str,
-) -> Result<(), &'static str> {
-    let message = Message::text(alloc, text).or(Err("no memory"))?;
-    if socket.send(message).is_err() {
-        return Err("not sent");
+pub(crate) fn say(abort: &impl Abort, alloc: Global, socket: &mut Client, text: &str) {
+    let message = Message::text(alloc, text).ok().expect(abort, "a message");
+    assert!(abort; socket.send(message).is_ok());
+}
+
+// Sends each text, and expects its answer.
+pub(crate) fn ask(abort: &impl Abort, alloc: Global, socket: &mut Client, texts: &[(&str, &str)]) {
+    for (text, answer) in texts {
+        say(abort, alloc, socket, text);
+        expect(abort, socket, answer);
     }
-    expect(socket, answer)
 }

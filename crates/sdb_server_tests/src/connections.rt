@@ -16,6 +16,7 @@ use sdb_server::{ServerState, listen, listen_until_stopped, set_socket_options};
 use std::alloc::{AllocError, Global};
 use std::io::Write;
 use std::net::{Net, Shutdown, SocketAddr, TcpListener, TcpStream};
+use std::process::Abort;
 use std::sync::atomic::{AtomicBool, Ordering};
 use std::sync::{Arc, Wait};
 use std::test::Fail;
@@ -62,7 +63,7 @@ fn serve_clients<R>(
     listener: &TcpListener,
     connections: u64,
     longest_wait: u64,
-) -> Result<(), Fail>
+) -> io::Result<()>
 where
     R: AllocGlobal + Eprint + Net<Listener = TcpListener, Stream = TcpStream>,
     R: Threads + Wait + Clock + Drop + Copy + Send + Sync + 'static,
@@ -70,8 +71,7 @@ where
     let alloc = rt.alloc();
     let (backend, mut host) = Backend::new(alloc, rt)?;
     let state = server(alloc, backend, false, longest_wait)?;
-    listen(rt, alloc, listener, &state, &mut host, Some(connections))?;
-    Ok(())
+    listen(rt, alloc, listener, &state, &mut host, Some(connections))
 }
 
 const OPENING_FRONT: &str = r#"{"a":"init","id":"s"#;
@@ -79,8 +79,8 @@ const OPENING_FRONT: &str = r#"{"a":"init","id":"s"#;
 const OPENING_BACK: &str =
     r#"","protocol":1,"protocolMinor":1,"type":"http://sharejs.org/types/JSONv0"}"#;
 
-fn opening(alloc: Global, number: u64) -> Result<String, &'static str> {
-    format!(in alloc; "{OPENING_FRONT}{number}{OPENING_BACK}").or(Err("no memory"))
+fn opening(abort: &impl Abort, alloc: Global, number: u64) -> String {
+    format!(in alloc; "{OPENING_FRONT}{number}{OPENING_BACK}").expect(abort, "out of memory")
 }
 
 pub(crate) const SECOND_OPENING: &str =
@@ -105,194 +105,177 @@ pub(crate) const FOLLOWED: &str =
 
 // The first client, which has created the document and follows it.
 pub(crate) fn follow(
+    abort: &impl Abort,
     rt: HostRuntime,
     alloc: Global,
     address: SocketAddr,
-) -> Result<Client, &'static str> {
-    let mut client = enter(rt, alloc, address, FIRST_OPENING)?;
-    ask(alloc, &mut client, CREATE, CREATED)?;
-    ask(alloc, &mut client, SUBSCRIBE, SUBSCRIBED)?;
-    Ok(client)
+) -> Client {
+    let mut client = enter(abort, rt, alloc, address, FIRST_OPENING);
+    let texts = [(CREATE, CREATED), (SUBSCRIBE, SUBSCRIBED)];
+    ask(abort, alloc, &mut client, &texts);
+    client
 }
 
-// The second client edits the document, and goes.
-fn edit(rt: HostRuntime, alloc: Global, address: SocketAddr) -> Result<(), &'static str> {
-    let mut client = enter(rt, alloc, address, SECOND_OPENING)?;
-    ask(alloc, &mut client, EDIT, EDITED)
-}
-
-// One client follows what another one edits.
-fn edit_and_follow(
+// The second client edits the document that the first one follows, and goes.
+fn edit(
+    abort: &impl Abort,
     rt: HostRuntime,
     alloc: Global,
     address: SocketAddr,
-) -> Result<(), &'static str> {
-    let mut follower = follow(rt, alloc, address)?;
-    edit(rt, alloc, address)?;
-    expect(&mut follower, FOLLOWED)
+    follower: &mut Client,
+) {
+    let mut client = enter(abort, rt, alloc, address, SECOND_OPENING);
+    ask(abort, alloc, &mut client, &[(EDIT, EDITED)]);
+    expect(abort, follower, FOLLOWED);
 }
 
 // A client that comes until it is served.
 fn come_again(
+    abort: &impl Abort,
     rt: HostRuntime,
     alloc: Global,
     address: SocketAddr,
     opening: &str,
-) -> Result<Client, &'static str> {
+) -> Client {
     for _ in 0..TRY_LIMIT {
-        if let Some(client) = come(rt, alloc, address, opening)? {
-            return Ok(client);
+        if let Some(client) = come(abort, rt, alloc, address, opening) {
+            return client;
         }
     }
-    Err("no slot")
+    panic!(abort; "no slot")
 }
 
 // Closes a connection, and waits until the server has closed it too.
-fn leave(mut client: Client) -> Result<(), &'static str> {
-    if client.close(None).is_err() {
-        return Err("not closed");
-    }
+fn leave(abort: &impl Abort, mut client: Client) {
+    assert!(abort; client.close(None).is_ok());
     for _ in 0..TRY_LIMIT {
         if client.read().is_err() {
-            return Ok(());
+            return;
         }
     }
-    Err("not closed by the server")
+    panic!(abort; "not closed by the server");
 }
 
 // A client in each slot.
 fn enter_all(
+    abort: &impl Abort,
     rt: HostRuntime,
     alloc: Global,
     address: SocketAddr,
-) -> Result<Vec<Client>, &'static str> {
+) -> Vec<Client> {
     let mut clients = Vec::new(alloc);
     for number in 1..=SLOTS {
-        let opening = opening(alloc, number)?;
-        clients
-            .push(enter(rt, alloc, address, opening.as_str())?)
-            .or(Err("no memory"))?;
+        let opening = opening(abort, alloc, number);
+        let client = enter(abort, rt, alloc, address, opening.as_str());
+        clients.push(client).expect(abort, "out of memory");
     }
-    Ok(clients)
+    clients
 }
 
 // Some come while all slots are taken.
-fn be_sent_away(rt: HostRuntime, alloc: Global, address: SocketAddr) -> Result<(), &'static str> {
+fn be_sent_away(abort: &impl Abort, rt: HostRuntime, alloc: Global, address: SocketAddr) {
     for _ in 0..3 {
-        if come(rt, alloc, address, "")?.is_some() {
-            return Err("one too many is served");
-        }
+        assert!(abort; come(abort, rt, alloc, address, "").is_none());
     }
-    Ok(())
 }
 
 // Each leaves, and another one takes the slot and keeps it.
 fn take_turns(
+    abort: &impl Abort,
     rt: HostRuntime,
     alloc: Global,
     address: SocketAddr,
     mut first: Vec<Client>,
-) -> Result<(), &'static str> {
+) {
     let mut next = Vec::new(alloc);
     for number in SLOTS + 1..=ALL {
-        leave(first.pop().ok_or("nobody is left")?)?;
-        let opening = opening(alloc, number)?;
-        next.push(come_again(rt, alloc, address, opening.as_str())?)
-            .or(Err("no memory"))?;
+        leave(abort, first.pop().expect(abort, "a client"));
+        let opening = opening(abort, alloc, number);
+        let client = come_again(abort, rt, alloc, address, opening.as_str());
+        next.push(client).expect(abort, "out of memory");
     }
-    Ok(())
 }
 
 // All slots are taken, some are rejected, and then each slot is left and taken by another one.
-fn fill_all_slots(rt: HostRuntime, alloc: Global, address: SocketAddr) -> Result<(), &'static str> {
-    let clients = enter_all(rt, alloc, address)?;
-    be_sent_away(rt, alloc, address)?;
-    take_turns(rt, alloc, address, clients)
-}
-
-// A fetch of so many bytes.
-fn padded(alloc: Global, length: usize) -> Result<String, &'static str> {
-    let mut text = String::from_str(alloc, FETCH).or(Err("no memory"))?;
-    for _ in text.len()..length {
-        text.push(' ').or(Err("no memory"))?;
-    }
-    Ok(text)
+fn fill_all_slots(abort: &impl Abort, rt: HostRuntime, alloc: Global, address: SocketAddr) {
+    let clients = enter_all(abort, rt, alloc, address);
+    be_sent_away(abort, rt, alloc, address);
+    take_turns(abort, rt, alloc, address, clients);
 }
 
 // Sends a fetch of so many bytes.
-fn ask_padded(
-    alloc: Global,
-    client: &mut Client,
-    length: usize,
-    answer: &str,
-) -> Result<(), &'static str> {
-    let text = padded(alloc, length)?;
-    ask(alloc, client, text.as_str(), answer)
+fn ask_padded(abort: &impl Abort, alloc: Global, client: &mut Client, length: usize, answer: &str) {
+    let mut text = String::from_str(alloc, FETCH).expect(abort, "out of memory");
+    for _ in text.len()..length {
+        text.push(' ').expect(abort, "out of memory");
+    }
+    ask(abort, alloc, client, &[(text.as_str(), answer)]);
 }
 
-fn send_large_messages(
-    rt: HostRuntime,
-    alloc: Global,
-    address: SocketAddr,
-) -> Result<(), &'static str> {
-    let mut client = enter(rt, alloc, address, FIRST_OPENING)?;
-    for length in [65_536, 65_537, 1_048_576] {
-        ask_padded(alloc, &mut client, length, FETCHED)?;
+fn send_large_messages(abort: &impl Abort, rt: HostRuntime, alloc: Global, address: SocketAddr) {
+    let mut client = enter(abort, rt, alloc, address, FIRST_OPENING);
+    for (length, answer) in [
+        (65_536, FETCHED),
+        (65_537, FETCHED),
+        (1_048_576, FETCHED),
+        (1_048_577, BADLY_FORMED),
+    ] {
+        ask_padded(abort, alloc, &mut client, length, answer);
     }
-    ask_padded(alloc, &mut client, 1_048_577, BADLY_FORMED)?;
-    expect_close(&mut client, CloseCode::Size)
+    expect_close(abort, &mut client, CloseCode::Size);
 }
 
 // Sends messages to a server that must not end meanwhile.
 fn stay(
+    abort: &impl Abort,
     rt: HostRuntime,
     alloc: Global,
     address: SocketAddr,
     has_ended: &AtomicBool,
-) -> Result<(), &'static str> {
-    let mut client = enter(rt, alloc, address, FIRST_OPENING)?;
+) {
+    let mut client = enter(abort, rt, alloc, address, FIRST_OPENING);
     for _ in 0..ROUNDS {
-        ask(alloc, &mut client, FETCH, FETCHED)?;
-        if has_ended.load(Ordering::SeqCst) {
-            return Err("the server has ended");
-        }
+        ask(abort, alloc, &mut client, &[(FETCH, FETCHED)]);
+        assert!(abort; !has_ended.load(Ordering::SeqCst));
     }
-    Ok(())
 }
 
 const PLAIN_REQUEST: &[u8] = b"GET / HTTP/1.1\r\nHost: localhost\r\n\r\n";
 
-// A request for no WebSocket is answered what this is, and the connection is closed.
-fn ask_plainly(rt: HostRuntime, alloc: Global, address: SocketAddr) -> Result<(), &'static str> {
-    let mut stream = connect(rt, address)?;
-    stream.write_all(PLAIN_REQUEST).or(Err("not sent"))?;
-    stream.shutdown(Shutdown::Write).or(Err("not ended"))?;
-    let answer = io::read_to_string(alloc, stream).or(Err("no answer"))?;
-    let (head, body) = answer
-        .as_str()
-        .split_once("\r\n\r\n")
-        .ok_or("no end of the head")?;
-    let length = format!(in alloc; "Content-Length: {}", body.len()).or(Err("no memory"))?;
+// What a request for no WebSocket is answered.
+fn answered_plainly(
+    abort: &impl Abort,
+    rt: HostRuntime,
+    alloc: Global,
+    address: SocketAddr,
+) -> String {
+    let mut stream = connect(abort, rt, address);
+    assert!(abort;
+        stream.write_all(PLAIN_REQUEST).is_ok() && stream.shutdown(Shutdown::Write).is_ok()
+    );
+    io::read_to_string(alloc, stream).expect(abort, "an answer")
+}
+
+// It is answered what this is, and the connection is closed.
+fn ask_plainly(abort: &impl Abort, rt: HostRuntime, alloc: Global, address: SocketAddr) {
+    let answer = answered_plainly(abort, rt, alloc, address);
+    let parts = answer.as_str().split_once("\r\n\r\n");
+    let (head, body) = parts.expect(abort, "the end of the head");
+    let length = format!(in alloc; "Content-Length: {}", body.len()).expect(abort, "out of memory");
     let is_said = body.starts_with("This is a ShareDB server.") && body.ends_with('\n');
-    let mut lines = head.lines();
-    let is_refused = lines.next() == Some("HTTP/1.1 426 Upgrade Required");
+    let is_refused = head.lines().next() == Some("HTTP/1.1 426 Upgrade Required");
     let is_named = head.contains("\r\nUpgrade: websocket\r\n");
-    if is_said && is_refused && is_named && head.contains(length.as_str()) {
-        Ok(())
-    } else {
-        Err("another answer")
-    }
+    assert!(abort; is_said && is_refused && is_named && head.contains(length.as_str()));
 }
 
 // Who sends nothing, or no handshake, takes no number.
-fn come_oddly(rt: HostRuntime, alloc: Global, address: SocketAddr) -> Result<(), &'static str> {
-    let silent = connect(rt, address)?;
-    ask_plainly(rt, alloc, address)?;
-    let mut client = enter(rt, alloc, address, FIRST_OPENING)?;
-    ask(alloc, &mut client, FETCH, FETCHED)?;
-    leave(client)?;
+fn come_oddly(abort: &impl Abort, rt: HostRuntime, alloc: Global, address: SocketAddr) {
+    let silent = connect(abort, rt, address);
+    ask_plainly(abort, rt, alloc, address);
+    let mut client = enter(abort, rt, alloc, address, FIRST_OPENING);
+    ask(abort, alloc, &mut client, &[(FETCH, FETCHED)]);
+    leave(abort, client);
     drop(silent);
-    Ok(())
 }
 
 // What the clients of a server do.
@@ -311,20 +294,29 @@ enum Visit {
 impl Visit {
     fn carry_out(
         self,
+        abort: &impl Abort,
         rt: HostRuntime,
         alloc: Global,
         address: SocketAddr,
         has_ended: &AtomicBool,
-    ) -> Result<(), &'static str> {
+    ) {
         match self {
-            Visit::EditAndFollow => edit_and_follow(rt, alloc, address),
-            Visit::FillAllSlots => fill_all_slots(rt, alloc, address),
-            Visit::SendLargeMessages => send_large_messages(rt, alloc, address),
-            Visit::Stay => stay(rt, alloc, address, has_ended),
-            Visit::ComeOddly => come_oddly(rt, alloc, address),
-            Visit::BeToldAtOnce => be_told_at_once(rt, alloc, address),
-            Visit::BePinged => be_pinged(rt, alloc, address),
-            Visit::EndBehindAMessage => end_behind_a_message(rt, alloc, address),
+            Visit::EditAndFollow => {
+                edit(
+                    abort,
+                    rt,
+                    alloc,
+                    address,
+                    &mut follow(abort, rt, alloc, address),
+                )
+            }
+            Visit::FillAllSlots => fill_all_slots(abort, rt, alloc, address),
+            Visit::SendLargeMessages => send_large_messages(abort, rt, alloc, address),
+            Visit::Stay => stay(abort, rt, alloc, address, has_ended),
+            Visit::ComeOddly => come_oddly(abort, rt, alloc, address),
+            Visit::BeToldAtOnce => be_told_at_once(abort, rt, alloc, address),
+            Visit::BePinged => be_pinged(abort, rt, alloc, address),
+            Visit::EndBehindAMessage => end_behind_a_message(abort, rt, alloc, address),
         }
     }
 }
@@ -333,7 +325,7 @@ impl Visit {
 // megabyte is taken, and one of a byte more refused; the server waits for its clients, and for nobody else; who is
 // silent is told at once what is stored, and asked for a sign of life.
 #[test]
-fn clients_over_sockets(rt: HostRuntime) -> Result<(), Fail> {
+fn clients_over_sockets(rt: HostRuntime) {
     let alloc = rt.alloc();
     for (visit, connections, longest_wait) in [
         (Visit::EditAndFollow, 2, USUAL_WAIT_MS),
@@ -345,37 +337,35 @@ fn clients_over_sockets(rt: HostRuntime) -> Result<(), Fail> {
         (Visit::BePinged, 1, SHORT_WAIT_MS),
         (Visit::EndBehindAMessage, 1, LONG_WAIT_MS),
     ] {
-        let listener = TcpListener::bind(&rt, "127.0.0.1:0")?;
-        let address = listener.local_addr()?;
-        let has_ended = Arc::new(alloc, AtomicBool::new(false))?;
-        let seen = Arc::try_clone(&has_ended)?;
-        let clients = thread::spawn(&rt, move || {
-            assert_eq!(rt; visit.carry_out(rt, alloc, address, &seen), Ok(()));
-        })?;
-        serve_clients(rt, &listener, connections, longest_wait)?;
-        has_ended.store(true, Ordering::SeqCst);
+        let listener = TcpListener::bind(&rt, "127.0.0.1:0").expect(&rt, "a port");
+        let address = listener.local_addr().expect(&rt, "an address");
+        let ended = Arc::new(alloc, AtomicBool::new(false)).expect(&rt, "out of memory");
+        let seen = Arc::try_clone(&ended).expect(&rt, "one more");
+        let clients = thread::spawn(&rt, move || visit.carry_out(&rt, rt, alloc, address, &seen));
+        let clients = clients.expect(&rt, "a thread");
+        let served = serve_clients(rt, &listener, connections, longest_wait);
+        assert!(rt; served.is_ok());
+        ended.store(true, Ordering::SeqCst);
         clients.join(&rt);
     }
-    Ok(())
 }
 
 // One client is silent, one follows what a third one edits, and the server is stopped, which doesn't wait for them.
 fn be_stopped<R: Wait + Drop>(
+    abort: &impl Abort,
     rt: HostRuntime,
     alloc: Global,
     address: SocketAddr,
     state: &ServerState<R>,
-) -> Result<(), &'static str> {
-    let silent = connect(rt, address)?;
-    let mut follower = follow(rt, alloc, address)?;
-    edit(rt, alloc, address)?;
-    expect(&mut follower, FOLLOWED)?;
-    let began = now(&rt)?;
+) {
+    let silent = connect(abort, rt, address);
+    let mut follower = follow(abort, rt, alloc, address);
+    edit(abort, rt, alloc, address, &mut follower);
+    let began = now(abort, rt);
     state.stop();
-    expect_close(&mut follower, CloseCode::Away)?;
-    be_soon(&rt, began)?;
+    expect_close(abort, &mut follower, CloseCode::Away);
+    be_soon(abort, rt, began);
     drop(silent);
-    Ok(())
 }
 
 // All passes come back from a server that is stopped, no queue is left, and what was stored is there.
@@ -387,12 +377,10 @@ fn a_server_that_is_stopped(rt: HostRuntime) -> Result<(), Fail> {
     let (backend, mut host) = Backend::new(alloc, rt)?;
     let state = server(alloc, backend, true, LONG_WAIT_MS)?;
     let theirs = Arc::try_clone(&state)?;
-    let clients = thread::spawn(&rt, move || {
-        assert_eq!(rt; be_stopped(rt, alloc, address, &theirs), Ok(()));
-    })?;
+    let clients = thread::spawn(&rt, move || be_stopped(&rt, rt, alloc, address, &theirs))?;
     let passes = listen_until_stopped(rt, alloc, &listener, &state, &mut host)?;
     clients.join(&rt);
-    assert!(rt; passes.len() == 2);
+    let passes_back = passes.len();
     let Ok(state) = Arc::try_unwrap(state) else {
         return Err("somebody is still served".into());
     };
@@ -400,19 +388,21 @@ fn a_server_that_is_stopped(rt: HostRuntime) -> Result<(), Fail> {
         return Err("not closed".into());
     };
     let keys = audit.documents()?;
-    assert!(rt; keys.len() == 1 && audit.queues() == 0);
-    let log = keys.first().and_then(|key| audit.log(key));
-    assert!(rt; log.map(Log::len) == Some(2));
+    let length = keys.first().and_then(|key| audit.log(key)).map(Log::len);
+    assert!(rt; (passes_back, keys.len(), audit.queues(), length) == (2, 1, 0, Some(2)));
     Ok(())
 }
 
 #[test]
-fn how_long_a_socket_waits(rt: HostRuntime) -> Result<(), Fail> {
-    let listener = TcpListener::bind(&rt, "127.0.0.1:0")?;
-    let stream = TcpStream::connect(&rt, listener.local_addr()?)?;
-    set_socket_options(&stream)?;
-    assert!(rt; stream.nodelay()?);
-    assert_eq!(rt; stream.read_timeout()?, Some(Duration::from_millis(20)));
-    assert_eq!(rt; stream.write_timeout()?, Some(Duration::from_secs(10)));
-    Ok(())
+fn how_long_a_socket_waits(rt: HostRuntime) {
+    let listener = TcpListener::bind(&rt, "127.0.0.1:0").expect(&rt, "a port");
+    let address = listener.local_addr().expect(&rt, "an address");
+    let stream = TcpStream::connect(&rt, address).expect(&rt, "a connection");
+    assert!(rt; set_socket_options(&stream).is_ok() && stream.nodelay().ok() == Some(true));
+    let read = stream.read_timeout().ok();
+    let write = stream.write_timeout().ok();
+    assert!(rt;
+        read == Some(Some(Duration::from_millis(20)))
+            && write == Some(Some(Duration::from_secs(10)))
+    );
 }

@@ -3,14 +3,15 @@
 ghost use Rattle.sdb_backend.specs.Passes.{IsHost, IsPass};
 
 use crate::websocket_session::{
-    AWAY_FRAME, BADLY_FORMED, OPENING, SUBSCRIBE, SUBSCRIBED, TEXT, attend, document, send, tell,
+    AWAY_FRAME, BADLY_FORMED, OPENING, SUBSCRIBE, SUBSCRIBED, TEXT, add, attend, attend_first,
+    clock_of, document, sent, told,
 };
 use sdb_backend::{Audit, Backend, Host, Pass};
-use std::alloc::{AllocGlobal, Global};
+use std::alloc::Global;
 use std::io;
 use std::io::{ErrorKind, Read, Write};
+use std::process::Abort;
 use std::sync::Wait;
-use std::test::Fail;
 
 // The stream of a client that sends these bytes and takes what it is told, so many at a time, and fails
 // after so many calls.
@@ -66,50 +67,33 @@ const CREATE: &str =
 
 const CREATED: &str = r#"{"a":"op","c":"b","d":"1","seq":1,"src":"x","v":0}"#;
 
-// A text for each, as a client sends it.
-fn sent(alloc: Global, texts: &[&str]) -> Result<Vec<u8>, Fail> {
-    let mut frames = Vec::new(alloc);
-    for text in texts {
-        send(&mut frames, TEXT, text)?;
-    }
-    Ok(frames)
-}
-
-// A text for each, as a server sends it.
-fn told(alloc: Global, texts: &[&str]) -> Result<Vec<u8>, Fail> {
-    let mut frames = Vec::new(alloc);
-    for text in texts {
-        tell(&mut frames, text)?;
-    }
-    Ok(frames)
-}
-
 // The audit, once both are handed back.
 fn ended<R: Wait + Drop>(
+    rt: &impl Abort,
     alloc: Global,
     backend: Backend<R>,
     host: Host,
     first: Pass,
     second: Pass,
-) -> Result<Audit, Fail>
+) -> Audit
     requires host { IsHost host backend }
     requires first { IsPass first backend }
     requires second { IsPass second backend }
 {
     let mut passes = Vec::new(alloc);
-    passes.push(first)?;
-    passes.push(second)?;
+    passes.push(first).expect(rt, "out of memory");
+    passes.push(second).expect(rt, "out of memory");
     match backend.close(host, passes) {
-        Ok(audit) => Ok(audit),
-        Err(_) => Err("not closed".into()),
+        Ok(audit) => audit,
+        Err(_) => panic!(rt; "not closed"),
     }
 }
 
 // Whether the document is made, by one entry, and no queue is open.
-fn is_made_once(alloc: Global, audit: &Audit) -> Result<bool, Fail> {
-    let key = document(alloc)?;
-    let log = audit.log(&key).ok_or("no document")?;
-    Ok(log.len() == 1 && audit.queues() == 0)
+fn is_made_once(rt: &impl Abort, alloc: Global, audit: &Audit) -> bool {
+    let key = document(rt, alloc);
+    let log = audit.log(&key).expect(rt, "a document");
+    log.len() == 1 && audit.queues() == 0
 }
 
 // Whether the one is a front of the other: behind the whole a close may be told.
@@ -119,68 +103,66 @@ fn agree(whole: &[u8], told: &[u8]) -> bool {
 
 // Whether a client is told a front of the whole, another one then has the same document acknowledged, and
 // it is stored once.
-fn is_stored_once<R: AllocGlobal + Wait + Drop + Copy>(
+fn is_stored_once<R: Wait + Drop + Copy>(
+    abort: &impl Abort,
+    alloc: Global,
     rt: R,
     stream: Stream<'_>,
-) -> Result<bool, Fail> {
-    let alloc = rt.alloc();
-    let create = sent(alloc, &[CREATE])?;
-    let (backend, mut host) = Backend::new(alloc, rt)?;
-    let (first, second) = (backend.enter(&mut host)?, backend.enter(&mut host)?);
-    let (first, stream) = attend(&rt, alloc, &backend, first, stream);
+) -> bool {
+    let (backend, mut host) = Backend::new(alloc, rt).expect(abort, "out of memory");
+    let first = backend.enter(&mut host).expect(abort, "a pass");
+    let second = backend.enter(&mut host).expect(abort, "a pass");
+    let clock = clock_of(abort, alloc, &[]);
+    let (first, stream) = attend(&rt, alloc, clock, &backend, first, stream);
+    let create = sent(abort, alloc, &[(TEXT, CREATE)]);
     let other = Stream::new(alloc, create.as_slice(), 4096, 100);
-    let (second, other) = attend(&rt, alloc, &backend, second, other);
-    let whole = told(alloc, &[OPENING, SUBSCRIBED, CREATED])?;
-    let is_front = agree(whole.as_slice(), stream.told.as_slice());
-    let is_told = other.told.as_slice().ends_with(CREATED.as_bytes());
-    let audit = ended(alloc, backend, host, first, second)?;
-    Ok(is_front && is_told && is_made_once(alloc, &audit)?)
+    let clock = clock_of(abort, alloc, &[]);
+    let (second, other) = attend(&rt, alloc, clock, &backend, second, other);
+    let audit = ended(abort, alloc, backend, host, first, second);
+    let whole = told(abort, alloc, &[OPENING, SUBSCRIBED, CREATED], &[]);
+    agree(whole.as_slice(), stream.told.as_slice())
+        && other.told.as_slice().ends_with(CREATED.as_bytes())
+        && is_made_once(abort, alloc, &audit)
 }
 
 #[test]
-fn a_client_whose_stream_fails(rt: HostRuntime) -> Result<(), Fail> {
-    let sent = sent(rt.alloc(), &[SUBSCRIBE, CREATE])?;
+fn a_client_whose_stream_fails(rt: HostRuntime) {
+    let alloc = rt.alloc();
+    let sent = sent(&rt, alloc, &[(TEXT, SUBSCRIBE), (TEXT, CREATE)]);
     for (at_once, most) in [(0, 8), (1, 360), (7, 100), (4096, 12)] {
         for calls in 0..most {
-            let stream = Stream::new(rt.alloc(), sent.as_slice(), at_once, calls);
+            let stream = Stream::new(alloc, sent.as_slice(), at_once, calls);
             assert!(rt;
-                is_stored_once(rt, stream)?,
+                is_stored_once(&rt, alloc, rt, stream),
                 "{at_once} at a time, {calls} calls"
             );
         }
     }
-    Ok(())
 }
 
 // A text of so many bytes, as a client sends it, with the mask 0.
-fn long_text(alloc: Global, length: u16) -> Result<Vec<u8>, Fail> {
+fn long_text(rt: &impl Abort, alloc: Global, length: u16) -> Vec<u8> {
     let mut frame = Vec::new(alloc);
-    let low = u8::try_from(length % 256)?;
-    frame.extend_from_slice(&[TEXT, 0xFE, (length >> 8) as u8, low, 0, 0, 0, 0])?;
+    let (high, low) = ((length >> 8) as u8, (length % 256) as u8);
+    add(rt, &mut frame, &[TEXT, 0xFE, high, low, 0, 0, 0, 0]);
     for _ in 0..length {
-        frame.push(b'x')?;
+        frame.push(b'x').expect(rt, "out of memory");
     }
-    Ok(frame)
+    frame
 }
 
-// What a client is told that sends it a byte at a time.
-fn told_by_bytes<R: AllocGlobal + Wait + Drop + Copy>(rt: R, length: u16) -> Result<Vec<u8>, Fail> {
-    let alloc = rt.alloc();
-    let text = long_text(alloc, length)?;
-    let (backend, mut host) = Backend::new(alloc, rt)?;
-    let pass = backend.enter(&mut host)?;
-    let stream = Stream::new(alloc, text.as_slice(), 1, u64::MAX);
-    let (_, stream) = attend(&rt, alloc, &backend, pass, stream);
-    Ok(stream.told)
-}
-
+// A client sends a message of so many bytes, a byte at a time.
 #[test]
-fn a_message_takes_a_thousand_reads_at_most(rt: HostRuntime) -> Result<(), Fail> {
+fn a_message_takes_a_thousand_reads_at_most(rt: HostRuntime) {
     let alloc = rt.alloc();
-    let answered = told(alloc, &[OPENING, BADLY_FORMED])?;
-    assert!(rt; told_by_bytes(rt, 992)?.as_slice() == answered.as_slice());
-    let mut away = told(alloc, &[OPENING])?;
-    away.extend_from_slice(AWAY_FRAME)?;
-    assert!(rt; told_by_bytes(rt, 993)?.as_slice() == away.as_slice());
-    Ok(())
+    for (length, texts, behind) in [
+        (992, &[OPENING, BADLY_FORMED] as &[&str], &[] as &[u8]),
+        (993, &[OPENING], AWAY_FRAME),
+    ] {
+        let text = long_text(&rt, alloc, length);
+        let stream = Stream::new(alloc, text.as_slice(), 1, u64::MAX);
+        let stream = attend_first(&rt, alloc, rt, clock_of(&rt, alloc, &[]), stream);
+        let wanted = told(&rt, alloc, texts, behind);
+        assert!(rt; stream.told.as_slice() == wanted.as_slice(), "{length}");
+    }
 }

@@ -1,11 +1,9 @@
-//! Tests of the server's public calls, a module for each file of `sdb_server`, and of its command line. They
-//! stand in a crate of their own, so that the server isn't proved a second time for its tests.
+//! Tests of the server's public calls, a module for each file of `sdb_server`. They stand in a crate of their own, so
+//! that the server isn't proved a second time for its tests.
 #![tactic(auto)]
 
 #[cfg(test)]
 mod clients;
-#[cfg(test)]
-mod command_line;
 #[cfg(test)]
 mod connections;
 #[cfg(test)]

@@ -68,30 +68,28 @@ fn run(alloc: Global, reads: usize, calls: usize) -> (Vec<u8>, Option<RunFault>)
     (writer.stream.bytes, ended.err())
 }
 
+// Whether the run ends with this fault, and a front of the whole is written.
+fn ends_with(alloc: Global, reads: usize, calls: usize, fault: RunFault) -> bool {
+    let (written, ended) = run(alloc, reads, calls);
+    ended == Some(fault) && WHOLE.as_bytes().starts_with(written.as_slice())
+}
+
 #[test]
-fn an_output_that_fails(rt: HostRuntime) {
+fn streams_that_fail(rt: HostRuntime) {
     for calls in 0..20 {
-        let (written, fault) = run(rt.alloc(), 100, calls);
-        assert!(rt; fault == Some(RunFault::Write), "after {calls}");
         assert!(rt;
-            WHOLE.as_bytes().starts_with(written.as_slice()),
+            ends_with(rt.alloc(), 100, calls, RunFault::Write),
             "after {calls}"
+        );
+    }
+    for reads in 0..5 {
+        assert!(rt;
+            ends_with(rt.alloc(), reads, 100, RunFault::Read),
+            "after {reads}"
         );
     }
     let (written, fault) = run(rt.alloc(), 100, 100);
     assert!(rt; fault.is_none() && written.as_slice() == WHOLE.as_bytes());
-}
-
-#[test]
-fn an_input_that_fails(rt: HostRuntime) {
-    for reads in 0..5 {
-        let (written, fault) = run(rt.alloc(), reads, 100);
-        assert!(rt; fault == Some(RunFault::Read), "after {reads}");
-        assert!(rt;
-            WHOLE.as_bytes().starts_with(written.as_slice()),
-            "after {reads}"
-        );
-    }
 }
 
 // Three submissions, and reads at moments: the second one comes at a moment below that of the first.

@@ -1,4 +1,4 @@
-//! Sessions whose clients are no sockets.
+//! Sessions whose clients are no sockets. What can't be had ends the test.
 ghost use Rattle.sdb_backend.specs.Passes.{IsPass};
 
 use sdb_backend::{Backend, Pass};
@@ -7,29 +7,33 @@ use sdb_projection::Table;
 use sdb_server::{Clock, DeadlineStream, ListClock, SystemClock, serve};
 use sdb_submit::Desk;
 use sdb_subscribe::SubId;
-use std::alloc::{AllocError, Global};
+use std::alloc::Global;
 use std::io;
 use std::io::{ErrorKind, Read, Write};
+use std::process::Abort;
 use std::sync::Wait;
-use std::test::Fail;
 use tungstenite::{NoMask, Role, WebSocket};
 
 // The stream of a client that is silent for so many reads, sends these bytes, is silent for so many
-// reads again, and is gone then.
+// reads again, and is gone then. Before each read the reader is woken, or never.
 #[derive(Drop)]
 struct Peer<'a> {
     before: u64,
     bytes: &'a [u8],
     behind: u64,
+    wakes: bool,
+    is_woken: bool,
     told: Vec<u8>,
 }
 
 impl<'a> Peer<'a> {
-    fn new(alloc: Global, before: u64, bytes: &'a [u8], behind: u64) -> Peer<'a> {
+    fn new(alloc: Global, before: u64, bytes: &'a [u8], behind: u64, wakes: bool) -> Peer<'a> {
         Peer {
             before,
             bytes,
             behind,
+            wakes,
+            is_woken: false,
             told: Vec::new(alloc),
         }
     }
@@ -37,6 +41,10 @@ impl<'a> Peer<'a> {
 
 impl Read for Peer<'_> {
     fn read(&mut self, buf: &mut [u8]) -> io::Result<usize> {
+        self.is_woken = self.wakes && !self.is_woken;
+        if self.is_woken {
+            return Err(io::Error::from(ErrorKind::Interrupted));
+        }
         if self.before > 0 {
             self.before -= 1;
             return Err(io::Error::from(ErrorKind::WouldBlock));
@@ -78,63 +86,66 @@ pub(crate) const TEXT: u8 = 0x81;
 
 const BINARY: u8 = 0x82;
 
-const PONG: u8 = 0x8A;
-
 const PING_FRAME: &[u8] = &[0x89, 0];
 
 // A close with the code 1001.
 pub(crate) const AWAY_FRAME: &[u8] = &[0x88, 2, 0x03, 0xE9];
 
-// Adds a frame as a client sends it, with the mask 0.
-pub(crate) fn send(frames: &mut Vec<u8>, head: u8, payload: &str) -> Result<(), Fail> {
-    add_frame(frames, head, 0x80, &[0; 4], payload)
+// A ping, and such a close.
+const PING_AND_AWAY: &[u8] = &[0x89, 0, 0x88, 2, 0x03, 0xE9];
+
+// A pong as a client sends it, with the mask 0.
+const PONG_FRAME: &[u8] = &[0x8A, 0x80, 0, 0, 0, 0];
+
+pub(crate) fn add(rt: &impl Abort, frames: &mut Vec<u8>, bytes: &[u8]) {
+    frames.extend_from_slice(bytes).expect(rt, "out of memory");
 }
 
-// Adds a text as a server sends it.
-pub(crate) fn tell(frames: &mut Vec<u8>, text: &str) -> Result<(), Fail> {
-    add_frame(frames, TEXT, 0, &[], text)
+// Adds a frame with this first byte. What a client sends is masked, with the mask 0.
+fn add_frame(rt: &impl Abort, frames: &mut Vec<u8>, head: u8, is_sent: bool, payload: &str) {
+    let length = u8::try_from(payload.len()).expect(rt, "a short payload");
+    if is_sent {
+        add(rt, frames, &[head, 0x80 | length, 0, 0, 0, 0]);
+    } else {
+        add(rt, frames, &[head, length]);
+    }
+    add(rt, frames, payload.as_bytes());
 }
 
-fn add_frame(
-    frames: &mut Vec<u8>,
-    head: u8,
-    masked: u8,
-    mask: &[u8],
-    payload: &str,
-) -> Result<(), Fail> {
-    let length = u8::try_from(payload.len())?;
-    frames.extend_from_slice(&[head, masked | length])?;
-    frames.extend_from_slice(mask)?;
-    frames.extend_from_slice(payload.as_bytes())?;
-    Ok(())
+// A frame for each, as a client sends it.
+pub(crate) fn sent(rt: &impl Abort, alloc: Global, messages: &[(u8, &str)]) -> Vec<u8> {
+    let mut frames = Vec::new(alloc);
+    for (head, text) in messages {
+        add_frame(rt, &mut frames, *head, true, text);
+    }
+    frames
 }
 
-// Serves a client with the pass by a clock that tells 0, and gives back the pass and the client's stream.
+// A text for each, as a server sends it, and these bytes behind them.
+pub(crate) fn told(rt: &impl Abort, alloc: Global, texts: &[&str], behind: &[u8]) -> Vec<u8> {
+    let mut frames = Vec::new(alloc);
+    for text in texts {
+        add_frame(rt, &mut frames, TEXT, false, text);
+    }
+    add(rt, &mut frames, behind);
+    frames
+}
+
+// A clock that tells these milliseconds, and 0 then.
+pub(crate) fn clock_of(rt: &impl Abort, alloc: Global, told: &[u64]) -> ListClock {
+    let mut moments = Vec::new(alloc);
+    for milliseconds in told {
+        let moment = Moment::at_most_last(*milliseconds);
+        moments.push(moment).expect(rt, "out of memory");
+    }
+    ListClock::new(moments)
+}
+
+// Serves a client with the pass by this clock, and gives back the pass and the client's stream.
 pub(crate) fn attend<R: Wait + Drop, S: Read + Write + Drop>(
     rt: &R,
     alloc: Global,
-    backend: &Backend<R>,
-    pass: Pass,
-    stream: S,
-) -> (Pass, S)
-    requires { IsPass pass backend.now }
-    ensures { IsPass result.0 backend.now }
-{
-    attend_by(
-        rt,
-        alloc,
-        ListClock::new(Vec::new(alloc)),
-        backend,
-        pass,
-        stream,
-    )
-}
-
-// The same by this clock.
-fn attend_by<R: Wait + Drop, C: Clock + Drop, S: Read + Write + Drop>(
-    rt: &R,
-    alloc: Global,
-    clock: C,
+    clock: ListClock,
     backend: &Backend<R>,
     pass: Pass,
     stream: S,
@@ -149,138 +160,45 @@ fn attend_by<R: Wait + Drop, C: Clock + Drop, S: Read + Write + Drop>(
     (pass, socket.into_inner().into_inner())
 }
 
-// What the first client of a server is told.
-fn told<R: AllocGlobal + Wait + Drop + Copy>(rt: R, peer: Peer<'_>) -> Result<Vec<u8>, Fail> {
-    let (backend, mut host) = Backend::new(rt.alloc(), rt)?;
-    let pass = backend.enter(&mut host)?;
-    let (_, peer) = attend(&rt, rt.alloc(), &backend, pass, peer);
-    Ok(peer.told)
-}
-
-// What a silent client is told.
-fn told_in_silence(alloc: Global, is_pinged: bool, is_ended: bool) -> Result<Vec<u8>, Fail> {
-    let mut frames = Vec::new(alloc);
-    tell(&mut frames, OPENING)?;
-    if is_pinged {
-        frames.extend_from_slice(PING_FRAME)?;
-    }
-    if is_ended {
-        frames.extend_from_slice(AWAY_FRAME)?;
-    }
-    Ok(frames)
-}
-
-// A pong, with the mask 0.
-const PONG_FRAME: &[u8] = &[PONG, 0x80, 0, 0, 0, 0];
-
-#[test]
-fn silent_clients(rt: HostRuntime) -> Result<(), Fail> {
-    for (before, bytes, behind, is_pinged, is_ended) in [
-        (0, &[] as &[u8], 2_999, false, false),
-        (0, &[], 3_000, true, false),
-        (0, &[], 5_999, true, false),
-        (0, &[], 6_000, true, true),
-        (0, &[], 7_000, true, true),
-        (2_999, PONG_FRAME, 2_999, false, false),
-        (5_999, PONG_FRAME, 2_999, true, false),
-    ] {
-        let told = told(rt, Peer::new(rt.alloc(), before, bytes, behind))?;
-        let wanted = told_in_silence(rt.alloc(), is_pinged, is_ended)?;
-        assert!(rt;
-            told.as_slice() == wanted.as_slice(),
-            "{before} and {behind}"
-        );
-    }
-    Ok(())
-}
-
-// The stream of a client that is silent for so many reads. Before each of them the reader is woken.
-#[derive(Drop)]
-struct Sleeper {
-    reads: u64,
-    is_woken: bool,
-    told: Vec<u8>,
-}
-
-impl Read for Sleeper {
-    fn read(&mut self, _buf: &mut [u8]) -> io::Result<usize> {
-        if self.reads == 0 {
-            return Err(io::Error::from(ErrorKind::ConnectionReset));
-        }
-        self.is_woken = !self.is_woken;
-        if self.is_woken {
-            return Err(io::Error::from(ErrorKind::Interrupted));
-        }
-        self.reads -= 1;
-        Err(io::Error::from(ErrorKind::WouldBlock))
-    }
-}
-
-impl Write for Sleeper {
-    fn write(&mut self, buf: &[u8]) -> io::Result<usize> {
-        self.told.write(buf)
-    }
-
-    fn flush(&mut self) -> io::Result<()> {
-        Ok(())
-    }
-}
-
-// What a client is told that is silent for so many reads.
-fn told_when_woken<R: AllocGlobal + Wait + Drop + Copy>(
+// Serves the first client of a server by this clock, and gives back its stream.
+pub(crate) fn attend_first<R: Wait + Drop + Copy, S: Read + Write + Drop>(
+    abort: &impl Abort,
+    alloc: Global,
     rt: R,
-    reads: u64,
-) -> Result<Vec<u8>, Fail> {
-    let (backend, mut host) = Backend::new(rt.alloc(), rt)?;
-    let pass = backend.enter(&mut host)?;
-    let sleeper = Sleeper {
-        reads,
-        is_woken: false,
-        told: Vec::new(rt.alloc()),
-    };
-    let (_, sleeper) = attend(&rt, rt.alloc(), &backend, pass, sleeper);
-    Ok(sleeper.told)
+    clock: ListClock,
+    stream: S,
+) -> S {
+    let (backend, mut host) = Backend::new(alloc, rt).expect(abort, "out of memory");
+    let pass = backend.enter(&mut host).expect(abort, "a pass");
+    attend(&rt, alloc, clock, &backend, pass, stream).1
 }
 
 // A wake-up is neither a silence nor a sign of life.
 #[test]
-fn silent_clients_whose_sessions_are_woken(rt: HostRuntime) -> Result<(), Fail> {
-    for (reads, is_pinged, is_ended) in [
-        (2_999, false, false),
-        (3_000, true, false),
-        (5_999, true, false),
-        (6_000, true, true),
+fn silent_clients(rt: HostRuntime) {
+    let alloc = rt.alloc();
+    for (before, bytes, behind, wakes, wanted) in [
+        (0, &[] as &[u8], 2_999, false, &[] as &[u8]),
+        (0, &[], 3_000, false, PING_FRAME),
+        (0, &[], 5_999, false, PING_FRAME),
+        (0, &[], 6_000, false, PING_AND_AWAY),
+        (0, &[], 7_000, false, PING_AND_AWAY),
+        (2_999, PONG_FRAME, 2_999, false, &[]),
+        (5_999, PONG_FRAME, 2_999, false, PING_FRAME),
+        (0, &[], 2_999, true, &[]),
+        (0, &[], 3_000, true, PING_FRAME),
+        (0, &[], 5_999, true, PING_FRAME),
+        (0, &[], 6_000, true, PING_AND_AWAY),
     ] {
-        let told = told_when_woken(rt, reads)?;
-        let wanted = told_in_silence(rt.alloc(), is_pinged, is_ended)?;
-        assert!(rt; told.as_slice() == wanted.as_slice(), "{reads}");
+        let clock = clock_of(&rt, alloc, &[]);
+        let peer = Peer::new(alloc, before, bytes, behind, wakes);
+        let peer = attend_first(&rt, alloc, rt, clock, peer);
+        let wanted = told(&rt, alloc, &[OPENING], wanted);
+        assert!(rt;
+            peer.told.as_slice() == wanted.as_slice(),
+            "{before} and {behind}, {wakes}"
+        );
     }
-    Ok(())
-}
-
-// A binary message and the same as a text.
-fn twice(alloc: Global) -> Result<Vec<u8>, Fail> {
-    let mut frames = Vec::new(alloc);
-    send(&mut frames, BINARY, SUBSCRIBE)?;
-    send(&mut frames, TEXT, SUBSCRIBE)?;
-    Ok(frames)
-}
-
-// What is told of these.
-fn told_of_twice(alloc: Global) -> Result<Vec<u8>, Fail> {
-    let mut frames = Vec::new(alloc);
-    for text in [OPENING, BADLY_FORMED, SUBSCRIBED] {
-        tell(&mut frames, text)?;
-    }
-    Ok(frames)
-}
-
-#[test]
-fn a_binary_message(rt: HostRuntime) -> Result<(), Fail> {
-    let sent = twice(rt.alloc())?;
-    let told = told(rt, Peer::new(rt.alloc(), 0, sent.as_slice(), 1))?;
-    assert!(rt; told.as_slice() == told_of_twice(rt.alloc())?.as_slice());
-    Ok(())
 }
 
 const CREATE: &str =
@@ -291,108 +209,107 @@ const ADD: &str =
 
 const READ: &str = r#"{"a":"nt","c":"b","d":"1","id":1,"ts":100}"#;
 
+// A binary message and the same as a text.
+const TWICE: &[(u8, &str)] = &[(BINARY, SUBSCRIBE), (TEXT, SUBSCRIBE)];
+
+const TOLD_OF_TWICE: &[&str] = &[OPENING, BADLY_FORMED, SUBSCRIBED];
+
 // An operation, a binary message, another operation, and a read at a moment.
-fn sent_at_moments(alloc: Global) -> Result<Vec<u8>, Fail> {
-    let mut frames = Vec::new(alloc);
-    for (head, text) in [
-        (TEXT, CREATE),
-        (BINARY, SUBSCRIBE),
-        (TEXT, ADD),
-        (TEXT, READ),
-    ] {
-        send(&mut frames, head, text)?;
-    }
-    Ok(frames)
-}
+const AT_MOMENTS: &[(u8, &str)] = &[
+    (TEXT, CREATE),
+    (BINARY, SUBSCRIBE),
+    (TEXT, ADD),
+    (TEXT, READ),
+];
 
-// What is told of these, where the last operation is at a later moment than the one that is read at.
-fn told_at_moments(alloc: Global) -> Result<Vec<u8>, Fail> {
-    let mut frames = Vec::new(alloc);
-    for text in [
-        OPENING,
-        r#"{"a":"op","c":"b","d":"1","seq":1,"src":"x","v":0}"#,
-        BADLY_FORMED,
-        r#"{"a":"op","c":"b","d":"1","seq":2,"src":"x","v":1}"#,
-        r#"{"a":"nt","data":{"n":0},"id":1,"type":"http://sharejs.org/types/JSONv0","v":1}"#,
-    ] {
-        tell(&mut frames, text)?;
-    }
-    Ok(frames)
-}
+// The last operation is at a later moment than the one that is read at.
+const TOLD_AT_MOMENTS: &[&str] = &[
+    OPENING,
+    r#"{"a":"op","c":"b","d":"1","seq":1,"src":"x","v":0}"#,
+    BADLY_FORMED,
+    r#"{"a":"op","c":"b","d":"1","seq":2,"src":"x","v":1}"#,
+    r#"{"a":"nt","data":{"n":0},"id":1,"type":"http://sharejs.org/types/JSONv0","v":1}"#,
+];
 
-fn clock_of(alloc: Global, told: &[u64]) -> Result<ListClock, Fail> {
-    let mut moments = Vec::new(alloc);
-    for milliseconds in told {
-        moments.push(Moment::at_most_last(*milliseconds))?;
-    }
-    Ok(ListClock::new(moments))
-}
-
-// The clock is asked for the binary message too: it is that one whose moment is 90.
+// A binary message is refused, and the clock is asked for it too: in the second row it is that one whose moment
+// is 90.
 #[test]
-fn messages_at_moments(rt: HostRuntime) -> Result<(), Fail> {
+fn binary_messages_and_moments(rt: HostRuntime) {
     let alloc = rt.alloc();
-    let sent = sent_at_moments(alloc)?;
-    let clock = clock_of(alloc, &[100, 90, 200])?;
-    let (backend, mut host) = Backend::new(alloc, rt)?;
-    let pass = backend.enter(&mut host)?;
-    let peer = Peer::new(alloc, 0, sent.as_slice(), 1);
-    let (_, peer) = attend_by(&rt, alloc, clock, &backend, pass, peer);
-    assert!(rt; peer.told.as_slice() == told_at_moments(alloc)?.as_slice());
-    Ok(())
+    for (moments, messages, texts) in [
+        (&[] as &[u64], TWICE, TOLD_OF_TWICE),
+        (&[100, 90, 200], AT_MOMENTS, TOLD_AT_MOMENTS),
+    ] {
+        let sent = sent(&rt, alloc, messages);
+        let clock = clock_of(&rt, alloc, moments);
+        let peer = Peer::new(alloc, 0, sent.as_slice(), 1, false);
+        let peer = attend_first(&rt, alloc, rt, clock, peer);
+        let wanted = told(&rt, alloc, texts, &[]);
+        assert!(rt; peer.told.as_slice() == wanted.as_slice());
+    }
 }
 
 // It tells milliseconds, of this century.
 #[test]
 fn the_clock_of_the_machine(rt: HostRuntime) {
-    let mut clock = SystemClock::new(&rt);
-    let milliseconds = clock.now().milliseconds();
-    assert!(rt; milliseconds > 1_700_000_000_000);
-    assert!(rt; milliseconds < 17_000_000_000_000);
+    let milliseconds = SystemClock::new(&rt).now().milliseconds();
+    assert!(rt; milliseconds > 1_700_000_000_000 && milliseconds < 17_000_000_000_000);
 }
 
-pub(crate) fn document(alloc: Global) -> Result<Key, AllocError> {
-    Ok(Key {
-        collection: String::from_str(alloc, "b")?,
-        id: String::from_str(alloc, "1")?,
-    })
+pub(crate) fn document(rt: &impl Abort, alloc: Global) -> Key {
+    Key {
+        collection: String::from_str(alloc, "b").expect(rt, "out of memory"),
+        id: String::from_str(alloc, "1").expect(rt, "out of memory"),
+    }
 }
 
-// The number of the first queue of a document, which is the same at every backend.
-fn first_queue<R: AllocGlobal + Wait + Drop>(rt: R, key: &Key) -> Result<SubId, Fail> {
-    let (backend, mut host) = Backend::new(rt.alloc(), rt)?;
-    let mut pass = backend.enter(&mut host)?;
-    Ok(backend.subscribe(&mut pass, key, None)?.id)
-}
-
-fn one_subscribe(alloc: Global) -> Result<Vec<u8>, Fail> {
-    let mut frames = Vec::new(alloc);
-    send(&mut frames, TEXT, SUBSCRIBE)?;
-    Ok(frames)
-}
-
-// Whether the queue is gone, and another one is opened.
-fn is_gone<R: Wait + Drop>(
+// The queue that is opened at the present.
+fn opened<R: Wait + Drop>(
+    rt: &impl Abort,
     backend: &Backend<R>,
     pass: &mut Pass,
     key: &Key,
-    first: SubId,
-) -> Result<bool, Fail>
+) -> SubId
     requires { IsPass pass.old backend.now }
+    ensures { IsPass pass.new backend.now }
 {
-    let is_gone = backend.take(pass, key, first, 1)?.is_none();
-    let second = backend.subscribe(pass, key, None)?.id;
-    Ok(is_gone && second != first && backend.take(pass, key, second, 1)?.is_some())
+    backend.subscribe(pass, key, None).expect(rt, "a queue").id
 }
 
+// Whether the queue is open.
+fn is_open<R: Wait + Drop>(
+    rt: &impl Abort,
+    backend: &Backend<R>,
+    pass: &mut Pass,
+    key: &Key,
+    id: SubId,
+) -> bool
+    requires { IsPass pass.old backend.now }
+    ensures { IsPass pass.new backend.now }
+{
+    let taken = backend.take(pass, key, id, 1);
+    taken.expect(rt, "out of memory").is_some()
+}
+
+// The number of the first queue of a document, which is the same at every backend.
+fn first_queue<R: Wait + Drop>(abort: &impl Abort, alloc: Global, rt: R, key: &Key) -> SubId {
+    let (backend, mut host) = Backend::new(alloc, rt).expect(abort, "out of memory");
+    let mut pass = backend.enter(&mut host).expect(abort, "a pass");
+    opened(abort, &backend, &mut pass, key)
+}
+
+// Its queue is gone, and another one is opened.
 #[test]
-fn a_session_that_has_ended_has_no_queue(rt: HostRuntime) -> Result<(), Fail> {
-    let (key, sent) = (document(rt.alloc())?, one_subscribe(rt.alloc())?);
-    let first = first_queue(rt, &key)?;
-    let (backend, mut host) = Backend::new(rt.alloc(), rt)?;
-    let pass = backend.enter(&mut host)?;
-    let peer = Peer::new(rt.alloc(), 0, sent.as_slice(), 1);
-    let (mut pass, _) = attend(&rt, rt.alloc(), &backend, pass, peer);
-    assert!(rt; is_gone(&backend, &mut pass, &key, first)?);
-    Ok(())
+fn a_session_that_has_ended_has_no_queue(rt: HostRuntime) {
+    let (alloc, key) = (rt.alloc(), document(&rt, rt.alloc()));
+    let first = first_queue(&rt, alloc, rt, &key);
+    let sent = sent(&rt, alloc, &[(TEXT, SUBSCRIBE)]);
+    let (backend, mut host) = Backend::new(alloc, rt).expect(&rt, "out of memory");
+    let pass = backend.enter(&mut host).expect(&rt, "a pass");
+    let peer = Peer::new(alloc, 0, sent.as_slice(), 1, false);
+    let clock = clock_of(&rt, alloc, &[]);
+    let (mut pass, _) = attend(&rt, alloc, clock, &backend, pass, peer);
+    let is_gone = !is_open(&rt, &backend, &mut pass, &key, first);
+    let second = opened(&rt, &backend, &mut pass, &key);
+    assert!(rt; is_gone && second != first && is_open(&rt, &backend, &mut pass, &key, second));
 }

@@ -1,25 +1,17 @@
 //! The command line, and what it asks for.
-use clap::{Command, Error};
-use sdb_command_line::{DONE, answer_no_run, end_with};
+use sdb_command_line::{DONE, answer_no_run, end_with, read_no_option};
 use sdb_lines::{WatchedReader, WatchedWriter};
-use std::alloc::Global;
 use std::io;
 
-// Takes a command line without an option. Help and what is refused are errors.
-pub(crate) fn read_words(alloc: Global, words: &[String]) -> Result<(), Error> {
-    let command = Command::new(alloc, "sdb_steps_program").about(
-        "Answers lines on standard input, each a step of one of 64 sessions on JSON documents",
-    );
-    let _ = command.try_get_matches_from(words)?;
-    Ok(())
-}
+const ABOUT: &str =
+    "Answers lines on standard input, each a step of one of 64 sessions on JSON documents";
 
 // Does what the words ask for, and gives the status.
 pub(crate) fn run<R>(rt: &R, words: &[String]) -> anyhow::Result<u8>
 where
     R: AllocGlobal + Input + Print + Eprint,
 {
-    match read_words(rt.alloc(), words) {
+    match read_no_option(rt.alloc(), "sdb_steps_program", ABOUT, words) {
         Ok(()) => Ok(answer_input(rt)),
         Err(error) => answer_no_run(rt, &error),
     }

@@ -3,8 +3,6 @@
 #![tactic(auto)]
 
 mod command;
-#[cfg(test)]
-mod tests;
 
 use std::env;
 use std::process::ExitCode;

@@ -157,8 +157,9 @@ fn documents_at_moments(rt: HostRuntime) {
     let second = at(&rt, &backend, &mut pass, &key, Moment::new(199));
     let third = at(&rt, &backend, &mut pass, &key, Moment::new(200));
     let present = at(&rt, &backend, &mut pass, &key, None);
-    assert!(rt; first == (1, Some(0)) && second == (2, Some(1)));
-    assert!(rt; third == (3, Some(2)) && present == third);
+    assert!(rt;
+        first == (1, Some(0)) && second == (2, Some(1)) && third == (3, Some(2)) && present == third
+    );
 }
 
 // Holds the first try until another submission was answered, for so many turns at most, and notes the
@@ -271,10 +272,12 @@ fn nobody_waits_for_a_submission_that_is_held(rt: HostRuntime) {
             ensures { IsPass result.0 backend }
         { submit_quick(alloc, &backend, quick, &key, &second, &answered, &last) },
     );
-    assert!(rt; early == Some((1, 0)));
-    assert!(rt; last.load(Ordering::SeqCst) == 2);
-    assert!(rt; late == Some((2, 1)));
-    assert!(rt; fetched(&rt, &backend, &mut slow, &key) == Some(15));
+    assert!(rt;
+        early == Some((1, 0))
+            && last.load(Ordering::SeqCst) == 2
+            && late == Some((2, 1))
+            && fetched(&rt, &backend, &mut slow, &key) == Some(15)
+    );
 }
 
 fn is_of(entry: &Entry, source: &str, seq: u64) -> bool {
@@ -598,8 +601,12 @@ fn count_of(log: &Log, source: &str) -> u64 {
 // Asserts that the document has all edits of both.
 fn assert_both(rt: &impl Abort, audit: &Audit, key: &Key) {
     let log = audit.log(key).expect(rt, "a log");
-    assert!(rt; count_of(log, "x1") == MANY && count_of(log, "x2") == MANY);
-    assert!(rt; log.len() == 2 * MANY + 1 && replayed(rt, log) == Some(200));
+    assert!(rt;
+        count_of(log, "x1") == MANY
+            && count_of(log, "x2") == MANY
+            && log.len() == 2 * MANY + 1
+            && replayed(rt, log) == Some(200)
+    );
 }
 
 #[test]

@@ -5,12 +5,11 @@ ghost use Rattle.sdb_oplog.specs.Keys.{plain_key};
 ghost use Rattle.sdb_upper_tests.specs.Seen.{IsSeen, StaySeen};
 
 use crate::desk::{Board, worked};
-use crate::parts::{editing, stored, submission};
+use crate::parts::{content, stored, submission};
 use crate::projection::titles;
 use crate::session::{FETCH, Room, SUBSCRIBE, named};
-use sdb_component::{Act, Component};
 use sdb_desk::{Outcome, Reply, Subscribed, Work};
-use sdb_oplog::{Code, Content, Moment, Submission};
+use sdb_oplog::{Code, Moment, Submission};
 use sdb_projection::{Table, TableFault};
 use sdb_session::Session;
 use sdb_submit::Solo;
@@ -27,16 +26,13 @@ fn mark(rt: &impl Abort, alloc: Global) -> usize {
 
 // Makes the document a list of one null.
 fn creating(rt: &impl Abort, alloc: Global, src: &str) -> Submission {
-    let mut items = Vec::new(alloc);
-    items.push(Json::Null).expect(rt, "out of memory");
-    let content = Content::create(alloc, Json::list(items)).expect(rt, "out of memory");
+    let content = content(rt, alloc, r#"{"create":{"type":"json0","data":[null]}}"#);
     submission(rt, alloc, src, 1, None, content, 0)
 }
 
 // Puts one more null into that list.
 fn adding(rt: &impl Abort, alloc: Global, src: &str, version: Option<u64>) -> Submission {
-    let component = Component::new(Vec::new(alloc), Act::Li(0, Json::Null));
-    let content = editing(rt, alloc, component);
+    let content = content(rt, alloc, r#"{"op":[{"p":[0],"li":null}]}"#);
     submission(rt, alloc, src, 1, version, content, 0)
 }
 
@@ -123,8 +119,9 @@ fn assert_commit(
 )
     requires { IsSeen (plain_key board.old.key) board.old.shard work }
 {
-    assert!(rt; commit_again(rt, board, &mut work) == Some(answered));
-    assert!(rt; present(rt, board) == state);
+    assert!(rt;
+        commit_again(rt, board, &mut work) == Some(answered) && present(rt, board) == state
+    );
 }
 
 #[test]
@@ -177,16 +174,20 @@ fn commit_now_again(rt: &impl Abort, board: &mut Board, submission: &Submission)
 fn a_first_commit_in_one_step(rt: HostRuntime) {
     let mut board = Board::empty(&rt, rt.alloc());
     let submission = creating(&rt, rt.alloc(), "x");
-    assert!(rt; commit_now_again(&rt, &mut board, &submission) == Some((0, 0)));
-    assert!(rt; present(&rt, &mut board) == (1, Some(1)));
+    assert!(rt;
+        commit_now_again(&rt, &mut board, &submission) == Some((0, 0))
+            && present(&rt, &mut board) == (1, Some(1))
+    );
 }
 
 #[test]
 fn a_commit_in_one_step(rt: HostRuntime) {
     let mut board = full(&rt, rt.alloc());
     let submission = adding(&rt, rt.alloc(), "x", Some(3));
-    assert!(rt; commit_now_again(&rt, &mut board, &submission) == Some((4, 1)));
-    assert!(rt; present(&rt, &mut board) == (5, Some(5)));
+    assert!(rt;
+        commit_now_again(&rt, &mut board, &submission) == Some((4, 1))
+            && present(&rt, &mut board) == (5, Some(5))
+    );
 }
 
 // Decides a work at last between marks, and its submission once more where there was no memory.
@@ -211,8 +212,10 @@ fn a_last_commit(rt: HostRuntime) {
     let mut board = full(&rt, rt.alloc());
     let work = late_work(&rt, &board);
     board.put(&rt, adding(&rt, rt.alloc(), "y", None));
-    assert!(rt; commit_last_again(&rt, &mut board, work) == Some((5, 2)));
-    assert!(rt; present(&rt, &mut board) == (6, Some(6)));
+    assert!(rt;
+        commit_last_again(&rt, &mut board, work) == Some((5, 2))
+            && present(&rt, &mut board) == (6, Some(6))
+    );
 }
 
 // The document at version 3, replayed between marks, and once more where there was no memory.
@@ -235,8 +238,9 @@ fn replayed(board: &mut Board) -> Result<Option<usize>, Code> {
 #[test]
 fn a_replay(rt: HostRuntime) {
     let mut board = full(&rt, rt.alloc());
-    assert!(rt; replay_again(&rt, &mut board) == Some(3));
-    assert!(rt; present(&rt, &mut board) == (4, Some(4)));
+    assert!(rt;
+        replay_again(&rt, &mut board) == Some(3) && present(&rt, &mut board) == (4, Some(4))
+    );
 }
 
 // Opens a queue at version 1 between marks, at the second time where the first one finds no memory.
@@ -275,8 +279,11 @@ fn take_again(rt: &impl Abort, board: &mut Board, id: SubId) -> usize {
 fn a_subscribe(rt: HostRuntime) {
     let mut board = full(&rt, rt.alloc());
     let opened = subscribe_again(&rt, &mut board);
-    assert!(rt; opened.version == 4 && count(opened.snapshot.as_ref()) == Some(4));
-    assert!(rt; take(&rt, &mut board, opened.id) == 3);
+    assert!(rt;
+        opened.version == 4
+            && count(opened.snapshot.as_ref()) == Some(4)
+            && take(&rt, &mut board, opened.id) == 3
+    );
 }
 
 #[test]
@@ -284,8 +291,7 @@ fn a_take(rt: HostRuntime) {
     let mut board = full(&rt, rt.alloc());
     let opened = board.shard.subscribe(&board.key, 0, Some(0));
     let id = opened.expect(&rt, "out of memory").id;
-    assert!(rt; take_again(&rt, &mut board, id) == 4);
-    assert!(rt; take(&rt, &mut board, id) == 0);
+    assert!(rt; take_again(&rt, &mut board, id) == 4 && take(&rt, &mut board, id) == 0);
 }
 
 // Adds a projection between marks, at the second time where the first one finds no memory.

@@ -2,12 +2,12 @@
 //! can't be had, for want of memory or by a fault of the test, ends the test where it is asked for.
 ghost use Rattle.std.specs.Prelude.{◌≡◌};
 
-use sdb_component::{Act, Component, Op};
 use sdb_desk::Reply;
 use sdb_oplog::{Content, Key, Submission};
-use sdb_value::{Json, Step, Whole};
+use sdb_value::Json;
+use sdb_wire::read_content;
+use serde_json::Value;
 use std::alloc::Global;
-use std::collections::BTreeMap;
 use std::process::Abort;
 
 pub(crate) fn text(rt: &impl Abort, alloc: Global, text: &str) -> String {
@@ -22,42 +22,21 @@ pub(crate) fn key(rt: &impl Abort, alloc: Global, id: &str) -> Key {
     }
 }
 
-// The path to the member.
-pub(crate) fn at(rt: &impl Abort, alloc: Global, member: &str) -> Vec<Step> {
-    let mut path = Vec::new(alloc);
-    path.push(Step::Key(text(rt, alloc, member)))
-        .expect(rt, "out of memory");
-    path
-}
-
-// Adds to the number at the path.
-pub(crate) fn adds(rt: &impl Abort, path: Vec<Step>, amount: i64) -> Component {
-    Component::new(
-        path,
-        Act::Na(Whole::new(amount).expect(rt, "a whole number")),
-    )
-}
-
-// An edit of one component.
-pub(crate) fn editing(rt: &impl Abort, alloc: Global, component: Component) -> Content {
-    let mut components = Vec::new(alloc);
-    components.push(component).expect(rt, "out of memory");
-    Content::edit(alloc, Op::new(components)).expect(rt, "out of memory")
+// The content that a text of JSON is.
+pub(crate) fn content(rt: &impl Abort, alloc: Global, text: &str) -> Content {
+    let value = Value::from_str(alloc, text).expect(rt, "out of memory or no JSON");
+    read_content(alloc, &value).expect(rt, "out of memory or no content")
 }
 
 // Adds to the number at `n`.
 pub(crate) fn adding(rt: &impl Abort, alloc: Global, amount: i64) -> Content {
-    editing(rt, alloc, adds(rt, at(rt, alloc, "n"), amount))
+    let edit = format!(in alloc; r#"{{"op":[{{"p":["n"],"na":{amount}}}]}}"#);
+    content(rt, alloc, edit.expect(rt, "out of memory").as_str())
 }
 
 // Makes the document `{"n":0}`.
 pub(crate) fn creating(rt: &impl Abort, alloc: Global) -> Content {
-    let mut members = BTreeMap::new(alloc);
-    let zero = Json::Int(Whole::new(0).expect(rt, "a whole number"));
-    let added: Result<_, _> = members.insert(text(rt, alloc, "n"), zero);
-    drop(added.expect(rt, "out of memory"));
-    let object = Json::object(alloc, members).expect(rt, "out of memory");
-    Content::create(alloc, object).expect(rt, "out of memory")
+    content(rt, alloc, r#"{"create":{"type":"json0","data":{"n":0}}}"#)
 }
 
 // A submission of the source, through b and the pass of the number.

@@ -1,8 +1,8 @@
 //! `sdb_projection`: tables that refuse, and an operation alone. All else is in the lines of the server.
-use crate::parts::{adds, at, text};
-use sdb_component::{Act, Component, Op};
+use crate::parts::text;
+use sdb_component::read_op;
 use sdb_projection::{Projection, Table, TableFault, project_op};
-use sdb_value::Json;
+use serde_json::Value;
 use std::alloc::Global;
 use std::collections::BTreeSet;
 use std::process::Abort;
@@ -23,23 +23,12 @@ fn no_fields(rt: &impl Abort, alloc: Global, name: &str, base: &str) -> Projecti
     }
 }
 
-// Adds below `n`, and gives `title` null.
-fn op(rt: &impl Abort, alloc: Global) -> Op {
-    let put = Component::new(
-        Vec::new(alloc),
-        Act::Oi(text(rt, alloc, "title"), Json::Null),
-    );
-    let mut components = Vec::new(alloc);
-    components
-        .push(adds(rt, at(rt, alloc, "n"), 1))
-        .expect(rt, "out of memory");
-    components.push(put).expect(rt, "out of memory");
-    Op::new(components)
-}
-
 #[test]
 fn an_operation_shows_what_leads_to_fields(rt: HostRuntime) {
-    let (op, titles) = (op(&rt, rt.alloc()), titles(&rt, rt.alloc(), "t", "b"));
+    let titles = titles(&rt, rt.alloc(), "t", "b");
+    let op = r#"[{"p":["n"],"na":1},{"p":["title"],"oi":null}]"#;
+    let value = Value::from_str(rt.alloc(), op).expect(&rt, "out of memory or no JSON");
+    let op = read_op(rt.alloc(), &value).expect(&rt, "out of memory or no operation");
     let shown = project_op(rt.alloc(), &titles, &op).expect(&rt, "out of memory");
     assert!(rt; shown.components().len() == 1);
 }

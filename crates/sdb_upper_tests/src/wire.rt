@@ -1,13 +1,10 @@
 //! `sdb_wire`: what no program calls, and what none of their lines can show. All else is in the lines of the
 //! two programs.
-use crate::parts::{submission, text};
+use crate::parts::{content, submission, text};
 use sdb_oplog::{Code, Content, Entry, Moment};
-use sdb_value::Json;
 use sdb_wire::{
-    Answer, Echo, MESSAGE_LIMIT, Request, entry_value, no_echo, read_content, read_message,
-    reply_text,
+    Answer, Echo, MESSAGE_LIMIT, Request, entry_value, no_echo, read_message, reply_text,
 };
-use serde_json::Value;
 use std::alloc::Global;
 use std::process::Abort;
 
@@ -64,8 +61,10 @@ const WANTING: &str = r#"{"error":{"code":"ERR_OUT_OF_MEMORY","message":"out of 
 #[test]
 fn errors_are_told(rt: HostRuntime) {
     let text = r#"{"a":"f","c":"b","id":7}"#;
-    assert!(rt; is_refused(&rt, rt.alloc(), text, BADLY_FORMED));
-    assert!(rt; is_told(&rt, rt.alloc(), &no_echo(), Code::E10, WANTING));
+    assert!(rt;
+        is_refused(&rt, rt.alloc(), text, BADLY_FORMED)
+            && is_told(&rt, rt.alloc(), &no_echo(), Code::E10, WANTING)
+    );
 }
 
 // Whether what is stored at version 4 of submission 7 from x is this value.
@@ -78,12 +77,6 @@ fn is_shown(rt: &impl Abort, alloc: Global, content: Content, wanted: &str) -> b
     value.to_string(alloc).expect(rt, "out of memory").as_str() == wanted
 }
 
-// The content that the text is.
-fn content(rt: &impl Abort, alloc: Global, text: &str) -> Content {
-    let value = Value::from_str(alloc, text).expect(rt, "out of memory or no JSON");
-    read_content(alloc, &value).expect(rt, "out of memory or no content")
-}
-
 const CREATED: &str =
     r#"{"create":{"data":null,"type":"http://sharejs.org/types/JSONv0"},"seq":7,"src":"x","v":4}"#;
 
@@ -93,9 +86,15 @@ const EDITED: &str = r#"{"op":[{"na":2,"p":[]}],"seq":7,"src":"x","v":4}"#;
 
 #[test]
 fn entries_are_values(rt: HostRuntime) {
-    let create = Content::create(rt.alloc(), Json::Null).expect(&rt, "out of memory");
-    assert!(rt; is_shown(&rt, rt.alloc(), create, CREATED));
-    assert!(rt; is_shown(&rt, rt.alloc(), Content::delete(), DELETED));
+    let create = content(
+        &rt,
+        rt.alloc(),
+        r#"{"create":{"type":"json0","data":null}}"#,
+    );
+    assert!(rt;
+        is_shown(&rt, rt.alloc(), create, CREATED)
+            && is_shown(&rt, rt.alloc(), Content::delete(), DELETED)
+    );
     let edit = content(&rt, rt.alloc(), r#"{"op":[{"na":2,"p":[]}]}"#);
     assert!(rt; is_shown(&rt, rt.alloc(), edit, EDITED));
 }

@@ -1,6 +1,6 @@
 -- A number that is added to a list of numbers.
 use Rattle.std.proofs.Common.{◌≡◌, ◌≢◌, ℕ, Bool, true, false, cond, List, [], ◌∷◌, ◌++◌, eqb, ne_eqb, sym, ap, ◌∙◌}
-use Rattle.sdb_growlock.specs.Tally.{those}
+use Rattle.sdb_lower_tests.specs.Tally.{those}
 
 those_else : (k n : ℕ) (l : List ℕ) → n ≢ k → those k (l ++ n ∷ []) ≡ those k l
 those_else k n [] ne = ap (λ (b : Bool). cond b (n ∷ []) []) (ne_eqb n k ne)

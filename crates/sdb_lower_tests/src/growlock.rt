@@ -1,10 +1,9 @@
-//! Two threads that let one list grow.
+//! `sdb_growlock`: two threads that let one list grow.
 ghost use Rattle.std.specs.Prelude.{◌≡◌, ℕ, ◌++◌, ◌∷◌, [], true};
 ghost use Rattle.sdb_growlock.specs.Words.{IsOf, number, next};
 
-use crate::{GrowLock, Grows, Job, Seat};
+use sdb_growlock::{GrowLock, Grows, Job, Seat};
 use std::sync::Wait;
-use std::test::Fail;
 use std::thread;
 
 // How often each thread adds its number.
@@ -19,7 +18,7 @@ struct Tally {
 impl Grows for Tally {
     ghost use Rattle.std.specs.Prelude.{◌≡◌, []};
     ghost use Rattle.std.proofs.Common.{◌∙◌, refl, sym};
-    ghost use Rattle.sdb_growlock.specs.Tally.{those, GoesOn, goes_on_itself, goes_on_further};
+    ghost use Rattle.sdb_lower_tests.specs.Tally.{those, GoesOn, goes_on_itself, goes_on_further};
 
     ghost extends = { λ new old. GoesOn new.numbers.items old.numbers.items };
 
@@ -75,21 +74,16 @@ fn count(tally: &Tally, number: u64) -> usize {
 }
 
 #[test]
-fn what_two_threads_add_is_all_there(rt: HostRuntime) -> Result<(), Fail> {
+fn what_two_threads_add_is_all_there(rt: HostRuntime) {
     let alloc = rt.alloc();
-    let empty = Tally {
-        numbers: Vec::new(alloc),
+    let numbers = Vec::new(alloc);
+    let Ok((lock, mut first)) = GrowLock::new(alloc, Tally { numbers }) else {
+        panic!(rt; "no memory");
     };
-    let Ok((lock, mut first)) = GrowLock::new(alloc, empty) else {
-        return Err("no memory".into());
+    let (Ok(one), Ok(two)) = (lock.split(&mut first), lock.split(&mut first)) else {
+        panic!(rt; "no seat");
     };
-    let Ok(one) = lock.split(&mut first) else {
-        return Err("no seat".into());
-    };
-    let Ok(two) = lock.split(&mut first) else {
-        return Err("no seat".into());
-    };
-    let mut seats = Vec::with_capacity(alloc, 3)?;
+    let mut seats = Vec::with_capacity(alloc, 3).expect(&rt, "out of memory");
     let (one, two) = thread::join(
         &rt,
         || add_all(&rt, &lock, one),
@@ -98,9 +92,9 @@ fn what_two_threads_add_is_all_there(rt: HostRuntime) -> Result<(), Fail> {
     seats.push_reserved(first);
     seats.push_reserved(one.0);
     seats.push_reserved(two.0);
-    assert!(rt; (one.1, two.1) == (TIMES, TIMES));
     let tally = lock.close(seats);
-    assert!(rt; tally.numbers.len() == 2_000);
-    assert!(rt; count(&tally, 1) == 1_000 && count(&tally, 2) == 1_000);
-    Ok(())
+    let counts = (count(&tally, 1), count(&tally, 2));
+    assert!(rt;
+        (one.1, two.1, counts) == (TIMES, TIMES, (1_000, 1_000)) && tally.numbers.len() == 2_000
+    );
 }

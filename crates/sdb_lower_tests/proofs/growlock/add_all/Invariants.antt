@@ -1,10 +1,10 @@
 use Rattle.std.proofs.Common.{◌≡◌}
-use Rattle.sdb_growlock.specs.Words.{number, next}
-use Rattle.sdb_growlock.proofs.tests.add_all.Given as goal
+use Rattle.sdb_growlock.specs.Words.{IsOf, number, next}
+use Rattle.sdb_lower_tests.proofs.growlock.add_all.Given as goal
 
 abbrev pub invariant-loop : goal.invariant-loop
 invariant-loop g l = record {
-  table : l.seat.inner.table_id ≡ l.initial.seat.inner.table_id;
+  own : IsOf l.seat l.initial.lock;
   number : number l.seat ≡ number l.initial.seat;
   next : next l.seat ≡ next l.initial.seat;
 }
