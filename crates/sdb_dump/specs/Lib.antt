@@ -1,0 +1,17 @@
+pub mod Accepted
+pub mod Checks
+pub mod Faults
+pub mod Cut
+pub mod Dumps
+pub mod Exact
+pub mod Fits
+pub mod Lines
+pub mod Listed
+pub mod Printed
+pub mod Sound
+pub mod Stages
+pub mod Text
+pub mod View
+pub mod Within
+pub mod Worked
+pub mod Written

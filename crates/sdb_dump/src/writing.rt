@@ -1,0 +1,106 @@
+//! Writes the dump of what is stored.
+ghost use Rattle.std.specs.Prelude.{◌≡◌, ℕ, ◌++◌, ◌⊎◌, ⊥, List, [], Option, IfOk, IfSome, OnOk, OnErr, IsErrOf, length, map, option_map, true, unwrap_or};
+ghost use Rattle.sdb_lines.specs.Fronts.{AppendsFront};
+ghost use Rattle.sdb_lines.specs.Streams.{Writes, failures_after};
+ghost use Rattle.sdb_oplog.specs.Keys.{Logs, plain_key};
+ghost use Rattle.sdb_desk.specs.ShardView.{logs_of};
+ghost use Rattle.sdb_desk.specs.Stored.{AreStored};
+ghost use Rattle.sdb_dump.specs.Written.{Adds, log_text, HasEntries, WroteDump, WroteFront};
+
+use crate::checking::count_text;
+use crate::lines::append_line;
+use crate::version::DumpVersion;
+use sdb_desk::Shard;
+use sdb_lines::{RunFault, Sink, write_out};
+use sdb_oplog::{Entry, Key, Log};
+use std::alloc::{AllocError, Global};
+
+// The output, in bytes, that is written at a time: 64 KiB.
+const OUTPUT_LIMIT: usize = 65_536;
+
+/// The documents that something is stored of.
+pub trait Documents {
+    // The log of each key.
+    ghost logs: { Self → Logs };
+
+    /// Their keys, each once, by the bytes of the collection, then of the id. It fails only for want of memory.
+    fn keys(&self) -> Result<Vec<Key>, AllocError>
+        ensures { IfOk result (λ keys. AreStored (logs self.now) (map plain_key keys.items)) };
+
+    /// The log of the document, if something is stored of it.
+    fn log(&self, key: &Key) -> Option<&Log>
+        ensures { unwrap_or (option_map (λ l. l.now) result) [] ≡ logs self.now (plain_key key.now) };
+}
+
+impl Documents for Shard {
+    ghost logs = { logs_of };
+
+    fn keys(&self) -> Result<Vec<Key>, AllocError> {
+        self.documents()
+    }
+
+    fn log(&self, key: &Key) -> Option<&Log> {
+        Shard::log(self, key)
+    }
+}
+
+/// Writes the dump of the second version of all that is stored, flushes it, and answers how many entries it has.
+/// It is written in pieces of 64 KiB or a line more.
+pub fn write_dump<D: Documents, W: Sink>(
+    alloc: Global,
+    documents: &D,
+    writer: &mut W,
+) -> Result<u128, RunFault>
+    ensures whole { OnOk result
+        (WroteDump (D.logs documents.now) (W.contents writer.old) (W.contents writer.new)) }
+    ensures entries { IfOk result (λ n. HasEntries (D.logs documents.now) n) }
+    // After a fault nothing was written, or a front of the dump.
+    ensures front { OnErr result
+        (WroteFront (D.logs documents.now) (W.contents writer.old) (W.contents writer.new)) }
+    // No write or flush failed, but for the one that is the fault.
+    ensures writes { Writes result (W.failures writer.old) (W.failures writer.new) }
+    ensures read { IsErrOf result RunFault.Read → ⊥ }
+{
+    let keys = documents.keys()?;
+    let mut out = Vec::with_capacity(alloc, OUTPUT_LIMIT)?;
+    out.extend_from_slice(b"{\"dump\":2}\n")?;
+    let mut entries: u128 = 0;
+    for key in keys.iter() {
+        if let Some(log) = documents.log(key) {
+            write_log(alloc, key, log.entries_from(0), &mut out, writer)?;
+            entries += log.len() as u128;
+        }
+    }
+    out.extend_from_slice(count_text(alloc, entries)?.as_bytes())?;
+    out.extend_from_slice(b"\n")?;
+    write_out(&mut out, writer)?;
+    writer.push_out().map_err(|_| RunFault::Write)?;
+    Ok(entries)
+}
+
+// Adds the lines of these entries of the document to the output, and writes it once there is much of it.
+fn write_log<W: Sink>(
+    alloc: Global,
+    key: &Key,
+    entries: &[Entry],
+    out: &mut Vec<u8>,
+    writer: &mut W,
+) -> Result<(), RunFault>
+    ensures adds { OnOk result (Adds (W.contents writer.old) (W.contents writer.new)
+        out.old.items out.new.items (log_text (plain_key key.now) entries.now)) }
+    ensures front { OnErr result (AppendsFront (W.contents writer.old) (W.contents writer.new)
+        (out.old.items ++ log_text (plain_key key.now) entries.now)) }
+    ensures writes { (W.failures writer.new ≡ W.failures writer.old) ⊎ IsErrOf result RunFault.Write }
+    ensures write { IsErrOf result RunFault.Write →
+        W.failures writer.new ≡ failures_after true (W.failures writer.old) }
+    ensures read { IsErrOf result RunFault.Read → ⊥ }
+{
+    for entry in entries {
+        append_line(alloc, DumpVersion::Two, key, entry, out)?;
+        out.extend_from_slice(b"\n")?;
+        if out.len() >= OUTPUT_LIMIT {
+            write_out(out, writer)?;
+        }
+    }
+    Ok(())
+}
