@@ -4,8 +4,8 @@ use Rattle.std.specs.Io.KnownBytes.{Appends}
 use Rattle.sdb_desk.specs.Stored.{AreStored}
 use Rattle.sdb_lines.specs.Fronts.{AppendsFront}
 use Rattle.sdb_oplog.specs.Keys.{PlainKey, Logs}
-use Rattle.sdb_dump.specs.declared.version.DumpVersion.TheVariants.{Two}
 use Rattle.sdb_oplog.specs.Plain.{PlainEntry}
+use Rattle.sdb_dump.specs.declared.version.DumpVersion.TheVariants.{Two}
 use Rattle.sdb_dump.specs.Dumps.{text_of, ended_lines}
 use Rattle.sdb_dump.specs.Listed.{of_log, of_logs, DumpText}
 
@@ -13,11 +13,11 @@ use Rattle.sdb_dump.specs.Listed.{of_log, of_logs, DumpText}
 abbrev pub log_text : PlainKey → List PlainEntry → List ℕ
 log_text k es = ended_lines (map (text_of Two) (of_log k es))
 
--- known bytes grew by what was pending and this text, but for the end of it, which is pending now
-pub record Adds (old new : Option (List ℕ)) (before pending text : List ℕ) : Type 0 where
+-- known bytes grew by all but for the end of it, which is left
+pub record WroteBut (old new : Option (List ℕ)) (all left : List ℕ) : Type 0 where
   pub written : List ℕ
   pub wrote : Appends old new written
-  pub parts : before ++ text ≡ written ++ pending
+  pub parts : all ≡ written ++ left
 
 -- known bytes grew by the dump of these logs
 abbrev pub WroteDump : Logs → Option (List ℕ) → Option (List ℕ) → Type 0

@@ -1,16 +1,14 @@
 //! Writes the dump of what is stored.
-ghost use Rattle.std.specs.Prelude.{◌≡◌, ℕ, ◌++◌, ◌⊎◌, ⊥, List, [], Option, IfOk, IfSome, OnOk, OnErr, IsErrOf, length, map, option_map, true, unwrap_or};
+ghost use Rattle.std.specs.Prelude.{◌≡◌, ℕ, ◌++◌, ◌⊎◌, List, [], Option, IfOk, IfSome, OnOk, OnErr, IsErrOf, length, map, option_map, true, unwrap_or};
 ghost use Rattle.sdb_lines.specs.Fronts.{AppendsFront};
 ghost use Rattle.sdb_lines.specs.Streams.{Writes, failures_after};
 ghost use Rattle.sdb_oplog.specs.Keys.{Logs, plain_key};
-ghost use Rattle.sdb_desk.specs.ShardView.{logs_of};
 ghost use Rattle.sdb_desk.specs.Stored.{AreStored};
-ghost use Rattle.sdb_dump.specs.Written.{Adds, log_text, HasEntries, WroteDump, WroteFront};
+ghost use Rattle.sdb_dump.specs.Written.{HasEntries, WroteBut, WroteDump, WroteFront, log_text};
 
 use crate::checking::count_text;
 use crate::lines::append_line;
 use crate::version::DumpVersion;
-use sdb_desk::Shard;
 use sdb_lines::{RunFault, Sink, write_out};
 use sdb_oplog::{Entry, Key, Log};
 use std::alloc::{AllocError, Global};
@@ -30,18 +28,6 @@ pub trait Documents {
     /// The log of the document, if something is stored of it.
     fn log(&self, key: &Key) -> Option<&Log>
         ensures { unwrap_or (option_map (λ l. l.now) result) [] ≡ logs self.now (plain_key key.now) };
-}
-
-impl Documents for Shard {
-    ghost logs = { logs_of };
-
-    fn keys(&self) -> Result<Vec<Key>, AllocError> {
-        self.documents()
-    }
-
-    fn log(&self, key: &Key) -> Option<&Log> {
-        Shard::log(self, key)
-    }
 }
 
 /// Writes the dump of the second version of all that is stored, flushes it, and answers how many entries it has.
@@ -86,8 +72,8 @@ fn write_log<W: Sink>(
     out: &mut Vec<u8>,
     writer: &mut W,
 ) -> Result<(), RunFault>
-    ensures adds { OnOk result (Adds (W.contents writer.old) (W.contents writer.new)
-        out.old.items out.new.items (log_text (plain_key key.now) entries.now)) }
+    ensures wrote { OnOk result (WroteBut (W.contents writer.old) (W.contents writer.new)
+        (out.old.items ++ log_text (plain_key key.now) entries.now) out.new.items) }
     ensures front { OnErr result (AppendsFront (W.contents writer.old) (W.contents writer.new)
         (out.old.items ++ log_text (plain_key key.now) entries.now)) }
     ensures writes { (W.failures writer.new ≡ W.failures writer.old) ⊎ IsErrOf result RunFault.Write }
@@ -98,9 +84,22 @@ fn write_log<W: Sink>(
     for entry in entries {
         append_line(alloc, DumpVersion::Two, key, entry, out)?;
         out.extend_from_slice(b"\n")?;
-        if out.len() >= OUTPUT_LIMIT {
-            write_out(out, writer)?;
-        }
+        write_much(out, writer)?;
     }
     Ok(())
+}
+
+// Writes the output once there is much of it.
+fn write_much<W: Sink>(out: &mut Vec<u8>, writer: &mut W) -> Result<(), RunFault>
+    ensures wrote { OnOk result (WroteBut (W.contents writer.old) (W.contents writer.new)
+        out.old.items out.new.items) }
+    ensures front { OnErr result (AppendsFront (W.contents writer.old) (W.contents writer.new) out.old.items) }
+    ensures unfailed { OnOk result (W.failures writer.new ≡ W.failures writer.old) }
+    ensures fault { OnErr result (IsErrOf result RunFault.Write
+        × (W.failures writer.new ≡ failures_after true (W.failures writer.old))) }
+{
+    if out.len() < OUTPUT_LIMIT {
+        return Ok(());
+    }
+    write_out(out, writer)
 }
