@@ -1,15 +1,18 @@
 -- A dump that is written piece by piece.
-use Rattle.std.proofs.Common.{◌≡◌, ℕ, ◌+◌, List, [], ◌∷◌, ◌++◌, length, map, Option, None, Some, Result, Ok, Err, OnOk, OnErr, refl, sym, ap, ◌∙◌, subst, arith, append_assoc, append-nil, length-append}
+use Rattle.std.proofs.Common.{◌≡◌, ℕ, ◌+◌, List, [], ◌∷◌, ◌++◌, length, map, Option, None, Some, Result, Ok, Err, OnOk, OnErr, ◌⊎◌, inl, inr, codes, refl, sym, ap, ◌∙◌, subst, arith, append_assoc, append-nil, length-append}
+use Rattle.std.specs.Fmt.{digits}
 use Rattle.std.specs.Io.KnownBytes.{Appends}
 use Rattle.std.proofs.KnownBytes.{Appends-nil, Appends-trans}
 use Rattle.std.proofs.lemmas.List.{map-append}
+use Rattle.json.specs.Print.{escape_byte}
 use Rattle.sdb_lines.specs.Fronts.{AppendsFront}
 use Rattle.sdb_oplog.specs.Keys.{PlainKey, Logs}
 use Rattle.sdb_oplog.specs.Plain.{PlainEntry}
 use Rattle.sdb_dump.specs.declared.version.DumpVersion.TheVariants.{Two}
-use Rattle.sdb_dump.specs.Dumps.{text_of, ended_lines}
+use Rattle.sdb_dump.specs.Dumps.{text_of, head_text, count_text, ended_lines, dump_text}
 use Rattle.sdb_dump.specs.Listed.{of_log, of_logs}
-use Rattle.sdb_dump.specs.Written.{WroteBut, log_text}
+use Rattle.sdb_dump.specs.Written.{WroteBut, WroteDump, WroteFront, log_text, logs_text}
+use Rattle.sdb_desk.specs.Stored.{AreStored}
 
 -- ---- what was written, and what is left
 
@@ -56,18 +59,12 @@ log_first k out e es =
     let line = text_of Two (record { key = k; entry = e }) in
     sym (append_assoc out line (10 ∷ log_text k es)) ∙ sym (append_assoc (out ++ line) (10 ∷ []) (log_text k es))
 
--- the lines of these logs, and then these lines
-abbrev pub logs_text : Logs → List PlainKey → List ℕ → List ℕ
-logs_text f ks last = ended_lines (map (text_of Two) (of_logs f ks)) ++ last
-
 -- a log, and those behind it
-pub logs_first : (f : Logs) (k : PlainKey) (ks : List PlainKey) (out last : List ℕ) → out ++ logs_text f (k ∷ ks) last ≡ (out ++ log_text k (f k)) ++ logs_text f ks last
-logs_first f k ks out last =
-    let these = log_text k (f k) in
-    let others = ended_lines (map (text_of Two) (of_logs f ks)) in
-    let e : ended_lines (map (text_of Two) (of_logs f (k ∷ ks))) ≡ these ++ others =
+pub logs_first : (f : Logs) (k : PlainKey) (ks : List PlainKey) (out : List ℕ) → out ++ logs_text f (k ∷ ks) ≡ (out ++ log_text k (f k)) ++ logs_text f ks
+logs_first f k ks out =
+    let e : logs_text f (k ∷ ks) ≡ log_text k (f k) ++ logs_text f ks =
     ap ended_lines (map-append (text_of Two) (of_log k (f k)) (of_logs f ks)) ∙ ended_more (map (text_of Two) (of_log k (f k))) (map (text_of Two) (of_logs f ks)) in
-    ap (λ l. out ++ (l ++ last)) e ∙ ap (λ l. out ++ l) (append_assoc these others last) ∙ sym (append_assoc out these (others ++ last))
+    ap (λ l. out ++ l) e ∙ sym (append_assoc out (log_text k (f k)) (logs_text f ks))
 
 of_log_len : (k : PlainKey) (es : List PlainEntry) → length (of_log k es) ≡ length es
 of_log_len k [] = refl
@@ -76,7 +73,60 @@ of_log_len k (e ∷ es) = omega (arith, of_log_len k es)
 pub len_first : (f : Logs) (k : PlainKey) (ks : List PlainKey) → length (of_logs f (k ∷ ks)) ≡ length (f k) + length (of_logs f ks)
 len_first f k ks = omega (arith, length-append (of_log k (f k)) (of_logs f ks), of_log_len k (f k))
 
+-- ---- the whole
+
+pub head_is : codes "{\"dump\":2}\n" ≡ head_text Two ++ 10 ∷ []
+unfolding escape_byte digits
+head_is = refl
+
+abbrev pub last_line : ℕ → List ℕ
+last_line n = count_text n ++ 10 ∷ []
+
+dump_is : (f : Logs) (ks : List PlainKey) (head : List ℕ) → head ≡ head_text Two ++ 10 ∷ [] → (head ++ logs_text f ks) ++ last_line (length (of_logs f ks)) ≡ dump_text Two (of_logs f ks)
+dump_is f ks head e =
+    let xs = of_logs f ks in
+    ap (λ h. (h ++ logs_text f ks) ++ last_line (length xs)) e
+    ∙ append_assoc (head_text Two ++ 10 ∷ []) (logs_text f ks) (last_line (length xs))
+    ∙ append_assoc (head_text Two) (10 ∷ []) (logs_text f ks ++ last_line (length xs))
+    ∙ ap (λ l. head_text Two ++ 10 ∷ l) (sym (ended_more (map (text_of Two) xs) (count_text (length xs) ∷ [])))
+
+front_more : (old new : Option (List ℕ)) (text more : List ℕ) → AppendsFront old new text → AppendsFront old new (text ++ more)
+front_more old new text more (bytes, w, (rest, is)) = (bytes, w, (rest ++ more, ap (λ l. l ++ more) is ∙ append_assoc bytes rest more))
+
+module _ (f : Logs) (ks : List PlainKey) (stored : AreStored f ks) (head : List ℕ) (first : head ≡ head_text Two ++ 10 ∷ []) (old : Option (List ℕ)) where
+  pub all_wrote : (mid new : Option (List ℕ)) (out last : List ℕ) (n : ℕ) → WroteBut old mid (head ++ logs_text f ks) out → n ≡ length (of_logs f ks) → last ≡ out ++ (count_text n ++ 10 ∷ []) → Appends mid new last → WroteDump f old new
+  all_wrote mid new out last n a count is w = (
+    dump_text Two (of_logs f ks),
+    (ks, stored, refl),
+    subst (Appends old new) (ap (λ l. a.written ++ l) is ∙ sym (append_assoc a.written out (last_line n)) ∙ ap (λ l. l ++ last_line n) (sym a.parts) ∙ ap (λ m. (head ++ logs_text f ks) ++ last_line m) count ∙ dump_is f ks head first) (Appends-trans old mid new a.written last a.wrote w),
+  )
+
+  front_wrote : (new : Option (List ℕ)) → AppendsFront old new (head ++ logs_text f ks) → WroteFront f old new
+  front_wrote new w = inr (dump_text Two (of_logs f ks), (ks, stored, refl), subst (AppendsFront old new) (dump_is f ks head first) (front_more old new (head ++ logs_text f ks) (last_line (length (of_logs f ks))) w))
+
+  pub logs_front : (new : Option (List ℕ)) → AppendsFront old new (head ++ logs_text f ks) → WroteFront f old new
+  logs_front = front_wrote
+
+  pub but_wrote : (new : Option (List ℕ)) (out : List ℕ) → WroteBut old new (head ++ logs_text f ks) out → WroteFront f old new
+  but_wrote new out a = front_wrote new (but_some a)
+
+  pub last_front : (mid new : Option (List ℕ)) (out last : List ℕ) (n : ℕ) → WroteBut old mid (head ++ logs_text f ks) out → n ≡ length (of_logs f ks) → last ≡ out ++ (count_text n ++ 10 ∷ []) → AppendsFront mid new last → WroteFront f old new
+  last_front mid new out last n a count is (bytes, w, (rest, e)) = inr (
+    dump_text Two (of_logs f ks),
+    (ks, stored, refl),
+    (
+      a.written ++ bytes,
+      Appends-trans old mid new a.written bytes a.wrote w,
+      (rest, sym (dump_is f ks head first) ∙ ap (λ m. (head ++ logs_text f ks) ++ last_line m) (sym count) ∙ ap (λ l. l ++ last_line n) a.parts ∙ append_assoc a.written out (last_line n) ∙ ap (λ l. a.written ++ l) (sym is ∙ e) ∙ sym (append_assoc a.written bytes rest)),
+    ),
+  )
+
 -- ---- results
+
+-- what holds but for an error holds where there is none
+pub no_error : {A E P : Type 0} {x : A} {e : E} → P ⊎ (◌≡◌ {A = Result A E} (Ok x) (Err e)) → P
+no_error (inl p) = p
+no_error (inr q) = cc
 
 pub on_any_err : {A E P : Type 0} (r : Result A E) → P → OnErr r P
 on_any_err (Ok x) p = tt

@@ -13,6 +13,10 @@ use Rattle.sdb_dump.specs.Listed.{of_log, of_logs, DumpText}
 abbrev pub log_text : PlainKey → List PlainEntry → List ℕ
 log_text k es = ended_lines (map (text_of Two) (of_log k es))
 
+-- the lines of the logs of these keys
+abbrev pub logs_text : Logs → List PlainKey → List ℕ
+logs_text f ks = ended_lines (map (text_of Two) (of_logs f ks))
+
 -- known bytes grew by all but for the end of it, which is left
 pub record WroteBut (old new : Option (List ℕ)) (all left : List ℕ) : Type 0 where
   pub written : List ℕ

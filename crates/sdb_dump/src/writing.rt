@@ -1,10 +1,13 @@
 //! Writes the dump of what is stored.
-ghost use Rattle.std.specs.Prelude.{◌≡◌, ℕ, ◌++◌, ◌⊎◌, List, [], Option, IfOk, IfSome, OnOk, OnErr, IsErrOf, length, map, option_map, true, unwrap_or};
+ghost use Rattle.std.specs.Prelude.{◌≡◌, ℕ, ◌++◌, ◌∷◌, ◌⊎◌, List, [], Option, IfOk, IfSome, OnOk, OnErr, IsErrOf, length, map, option_map, true, unwrap_or};
+ghost use Rattle.std.specs.Io.KnownBytes.{Appends};
 ghost use Rattle.sdb_lines.specs.Fronts.{AppendsFront};
 ghost use Rattle.sdb_lines.specs.Streams.{Writes, failures_after};
 ghost use Rattle.sdb_oplog.specs.Keys.{Logs, plain_key};
 ghost use Rattle.sdb_desk.specs.Stored.{AreStored};
-ghost use Rattle.sdb_dump.specs.Written.{HasEntries, WroteBut, WroteDump, WroteFront, log_text};
+ghost use Rattle.sdb_dump.specs.Dumps.{count_text};
+ghost use Rattle.sdb_dump.specs.Listed.{of_logs};
+ghost use Rattle.sdb_dump.specs.Written.{HasEntries, WroteBut, WroteDump, WroteFront, log_text, logs_text};
 
 use crate::checking::count_text;
 use crate::lines::append_line;
@@ -50,18 +53,48 @@ pub fn write_dump<D: Documents, W: Sink>(
     let keys = documents.keys()?;
     let mut out = Vec::with_capacity(alloc, OUTPUT_LIMIT)?;
     out.extend_from_slice(b"{\"dump\":2}\n")?;
-    let mut entries: u128 = 0;
-    for key in keys.iter() {
-        if let Some(log) = documents.log(key) {
-            write_log(alloc, key, log.entries_from(0), &mut out, writer)?;
-            entries += log.len() as u128;
-        }
-    }
-    out.extend_from_slice(count_text(alloc, entries)?.as_bytes())?;
-    out.extend_from_slice(b"\n")?;
-    write_out(&mut out, writer)?;
-    writer.push_out().map_err(|_| RunFault::Write)?;
+    let entries = write_logs(alloc, documents, keys.as_slice(), &mut out, writer)?;
+    add_count(alloc, entries, &mut out)?;
+    show(out, writer)?;
     Ok(entries)
+}
+
+// Adds the lines of the logs of these documents to the output, and writes it once there is much of it. It answers
+// how many lines they are.
+fn write_logs<D: Documents, W: Sink>(
+    alloc: Global,
+    documents: &D,
+    keys: &[Key],
+    out: &mut Vec<u8>,
+    writer: &mut W,
+) -> Result<u128, RunFault>
+    ensures wrote { OnOk result (WroteBut (W.contents writer.old) (W.contents writer.new)
+        (out.old.items ++ logs_text (D.logs documents.now) (map plain_key keys.now)) out.new.items) }
+    ensures counted { IfOk result (λ n. n ≡ length (of_logs (D.logs documents.now) (map plain_key keys.now))) }
+    ensures front { OnErr result (AppendsFront (W.contents writer.old) (W.contents writer.new)
+        (out.old.items ++ logs_text (D.logs documents.now) (map plain_key keys.now))) }
+    ensures writes { (W.failures writer.new ≡ W.failures writer.old) ⊎ IsErrOf result RunFault.Write }
+    ensures write { IsErrOf result RunFault.Write →
+        W.failures writer.new ≡ failures_after true (W.failures writer.old) }
+    ensures read { IsErrOf result RunFault.Read → ⊥ }
+{
+    let mut count: u128 = 0;
+    for key in keys {
+        let entries = entries_of(documents, key);
+        write_log(alloc, key, entries, out, writer)?;
+        count += entries.len() as u128;
+    }
+    Ok(count)
+}
+
+// The entries of the document's log.
+fn entries_of<'a, D: Documents>(documents: &'a D, key: &Key) -> &'a [Entry]
+    ensures { result.now ≡ D.logs documents.now (plain_key key.now) }
+{
+    match documents.log(key) {
+        Some(log) => log.entries_from(0),
+        None => &[],
+    }
 }
 
 // Adds the lines of these entries of the document to the output, and writes it once there is much of it.
@@ -102,4 +135,25 @@ fn write_much<W: Sink>(out: &mut Vec<u8>, writer: &mut W) -> Result<(), RunFault
         return Ok(());
     }
     write_out(out, writer)
+}
+
+// Adds the line of the count to the output.
+fn add_count(alloc: Global, count: u128, out: &mut Vec<u8>) -> Result<(), AllocError>
+    ensures { OnOk result (out.new.items ≡ out.old.items ++ (count_text count ++ 10 ∷ [])) }
+{
+    let line = count_text(alloc, count)?;
+    out.extend_from_slice(line.as_bytes())?;
+    out.extend_from_slice(b"\n")
+}
+
+// Writes all of the output, and flushes it.
+fn show<W: Sink>(mut out: Vec<u8>, writer: &mut W) -> Result<(), RunFault>
+    ensures wrote { OnOk result (Appends (W.contents writer.old) (W.contents writer.new) out.items) }
+    ensures front { OnErr result (AppendsFront (W.contents writer.old) (W.contents writer.new) out.items) }
+    ensures unfailed { OnOk result (W.failures writer.new ≡ W.failures writer.old) }
+    ensures fault { OnErr result (IsErrOf result RunFault.Write
+        × (W.failures writer.new ≡ failures_after true (W.failures writer.old))) }
+{
+    write_out(&mut out, writer)?;
+    writer.push_out().map_err(|_| RunFault::Write)
 }
