@@ -1,5 +1,5 @@
 //! Command lines.
-use crate::command::read_words;
+use crate::command::{Job, asked_job};
 use sdb_command_line::terminal::{Terminal, words};
 use sdb_command_line::{DONE, REFUSED, answer_no_run};
 use std::alloc::Global;
@@ -7,16 +7,25 @@ use std::test::Fail;
 
 // How a command line that asks for no run ends; `None` if it asks for one.
 fn ended(alloc: Global, terminal: &Terminal, words: &[String]) -> Option<u8> {
-    match read_words(alloc, words) {
-        Ok(()) => None,
+    match asked_job(alloc, words) {
+        Ok(_) => None,
         Err(error) => answer_no_run(terminal, &error).ok(),
     }
 }
 
 #[test]
-fn no_words_ask_for_a_run(rt: HostRuntime) -> Result<(), Fail> {
-    let given = words(rt.alloc(), "sdb_steps_program")?;
-    assert!(rt; read_words(rt.alloc(), given.as_slice()).is_ok());
+fn a_job_is_asked_for(rt: HostRuntime) -> Result<(), Fail> {
+    for (line, job) in [
+        ("sdb_steps_program", Job::Answer),
+        ("sdb_steps_program --dump", Job::Dump),
+        ("sdb_steps_program --check", Job::Check),
+    ] {
+        let given = words(rt.alloc(), line)?;
+        assert!(rt;
+            asked_job(rt.alloc(), given.as_slice()).ok() == Some(job),
+            "{line}"
+        );
+    }
     Ok(())
 }
 
@@ -35,6 +44,7 @@ fn a_refused_command_line_is_one_line_on_standard_error(rt: HostRuntime) -> Resu
     for line in [
         "sdb_steps_program --lines",
         "sdb_steps_program more",
+        "sdb_steps_program --dump --check",
         "sdb_steps_program -",
     ] {
         let given = words(rt.alloc(), line)?;
