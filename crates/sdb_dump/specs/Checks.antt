@@ -1,6 +1,7 @@
 -- What a checker of lines holds, and how far it is.
 use Rattle.std.specs.Prelude.{◌≡◌, ℕ, List, [], ◌∷◌, ◌++◌, length, Bool, true, false, Option, Some, None, option_map, Result, Ok, Err, ⊤}
 use Rattle.sdb_desk.specs.ShardView.{logs_of}
+use Rattle.sdb_desk.specs.Stored.{AreStored}
 use Rattle.sdb_oplog.specs.Decide.{PlainReply, stored, repeated, refused}
 use Rattle.sdb_oplog.specs.Keys.{PlainKey, Logs, plain_key}
 use Rattle.sdb_oplog.specs.declared.codes.Code.TheVariants.{E10}
@@ -55,6 +56,7 @@ logs_in c = logs_of c.shard
 pub record HasAll (c : Checked) (xs : List PlainLine) : Type 0 where
   pub logs : (k : PlainKey) → logs_in c k ≡ log_in xs k
   pub counted : c.entries ≡ length xs
+  pub documents : (ks : List PlainKey) × AreStored (logs_in c) ks × (c.documents ≡ length ks)
 
 -- the version at which it was stored, or none where it wasn't; nothing is said where memory was wanting
 abbrev pub IsStoredAt : PlainReply → Result (Option ℕ) AllocError → Type 0

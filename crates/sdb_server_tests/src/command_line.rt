@@ -73,8 +73,13 @@ fn addresses_and_how_long(rt: HostRuntime) -> Result<(), Fail> {
         ),
         (
             "sdb_server --until-eof --log --listen 127.0.0.1:0",
-            Some((0, Until::Eof, true)),
+            Some((0, Until::Eof { is_dumping: false }, true)),
         ),
+        (
+            "sdb_server --dump --until-eof --listen 127.0.0.1:0",
+            Some((0, Until::Eof { is_dumping: true }, false)),
+        ),
+        ("sdb_server --listen 127.0.0.1:0 --dump", None),
         ("sdb_server --listen 127.0.0.1:0 --connections 0", None),
         (
             "sdb_server --listen 127.0.0.1:0 --connections 1",
@@ -251,7 +256,7 @@ const TWO_LINES: &[u8] = b"one\ntwo\n";
 fn a_server_whose_input_has_ended(rt: HostRuntime) -> Result<(), Fail> {
     let listener = TcpListener::bind(&rt, "127.0.0.1:0")?;
     let table = Table::new(rt.alloc());
-    let status = serve_until_end(rt, &listener, TWO_LINES, false, table)?;
+    let status = serve_until_end(rt, &listener, TWO_LINES, false, true, table)?;
     assert!(rt; status == DONE);
     Ok(())
 }

@@ -25,7 +25,7 @@ pub use laws::{
 };
 pub use reading::read_step;
 pub use running::{Ran, run, run_steps};
+pub use sdb_dump::{Checked, DumpFault, check_dump};
 pub use session_number::{SESSIONS, SessionNumber};
 pub use step::{Step, StepAnswer};
-pub use sdb_dump::{Checked, DumpFault, check_dump};
 pub use world::World;
