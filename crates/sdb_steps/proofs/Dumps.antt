@@ -32,7 +32,7 @@ record Went (m : OneStep) (w : Sessions) (readings : List (Result PlainStep Code
   pub nothing : text ≡ []
 
 one_more : (r : Result PlainStep Code) (m o n : OneStep) (w u v : Sessions) (readings : List (Result PlainStep Code)) (answer more text : List ℕ) → TakesUnanswered r m w answer o u → text ≡ answer ++ more → Went o u readings more n v → Went m w (r ∷ readings) text n v
-one_more (Ok s) m o n w u v readings answer more text (none, a, step) is t = record {
+one_more (Ok s) m o n w u v readings answer more text (none, (a, step)) is t = record {
   answers = a ∷ t.answers;
   steps = (o, u, step, t.steps);
   nothing = is ∙ ap (λ (b : List ℕ). b ++ more) none ∙ t.nothing;

@@ -10,7 +10,7 @@ const NOTHING: &str = r#"{"dump":2}
 
 const CREATE: &str =
     r#"{"s":0,"do":"begin","c":"b","d":"1","src":"w","seq":1,"create":{"type":"http://sharejs.org/types/JSONv0","data":{"n":0}}}
-{"s":0,"do":"commit","m":100}
+{"s":0,"do":"commit","ms":100}
 {"s":0,"do":"no step"}"#;
 
 const CREATED: &str = r#"{"dump":2}
