@@ -1,16 +1,21 @@
 -- The lines of made logs, key by key, are a dump that has these logs.
-use Rattle.std.proofs.Common.{◌≡◌, List, [], ◌∷◌, ◌++◌, Bool, true, false, cond, Ordering, Less, Equal, Greater, nat_cmp, is_eq, refl, sym, ap, ap₂, ◌∙◌, subst, append-nil}
+use Rattle.std.proofs.Common.{◌≡◌, List, [], ◌∷◌, ◌++◌, Bool, true, false, cond, Ordering, Less, Equal, Greater, nat_cmp, is_eq, length, refl, sym, ap, ap₂, ◌∙◌, subst, append-nil}
 use Rattle.std.specs.Prelude.{⊤, ◌||◌, if◌then◌else◌}
 use Rattle.std.specs.Ordering.{ordering_then, ordering_reverse, is_lt}
+use Rattle.std.specs.Cmp.{IsTotalOrder, then_total, on_total}
 use Rattle.std.specs.Cmp.Lexicographic.{slice_cmp}
 use Rattle.std.proofs.lemmas.Cmp.{nat_list_cmp_total, tied_itself}
 use Rattle.sdb_oplog.specs.Keys.{PlainKey, Logs, key_cmp, same_key}
 use Rattle.sdb_oplog.specs.Plain.{PlainEntry}
 use Rattle.sdb_oplog.specs.Decide.{IsMade}
-use Rattle.sdb_dump.specs.Dumps.{PlainLine, log_in, follows}
-use Rattle.sdb_dump.specs.Accepted.{AscendFrom, IsDump}
-use Rattle.sdb_dump.proofs.Accepting.{equal_keys}
-use Rattle.sdb_dump.specs.Listed.{of_log, of_logs}
+use Rattle.sdb_dump.specs.declared.version.DumpVersion.{DumpVersion}
+use Rattle.sdb_dump.specs.Dumps.{PlainLine, log_in, follows, dump_text}
+use Rattle.sdb_dump.specs.Accepted.{AllWithin, AscendFrom, IsDump}
+use Rattle.sdb_dump.specs.Cut.{check_text}
+use Rattle.sdb_dump.specs.Listed.{of_log, of_logs, DumpText}
+use Rattle.sdb_dump.specs.OfLogs.{TextIsOfLogs}
+use Rattle.sdb_dump.proofs.Accepting.{equal_keys, same_as_itself}
+use Rattle.sdb_dump.proofs.Cutting.{text_accepted, text_only}
 use Rattle.sdb_desk.specs.Machine.{is_filled}
 use Rattle.sdb_desk.specs.Stored.{AreStored}
 use Rattle.std.specs.List.{AllByRecursion}
@@ -124,3 +129,122 @@ logs_are_dumped f ks h m = (
   record { ascends = ascends f ks [] h.in_order (ready_first ks); made = λ k. subst IsMade (sym (logs_are f ks h k)) (m k) },
   logs_are f ks h,
 )
+
+-- ---- a dump is that of its logs
+
+keys_total : IsTotalOrder key_cmp
+keys_total = then_total (on_total (λ (k : PlainKey). k.collection) nat_list_cmp_total) (on_total (λ (k : PlainKey). k.id) nat_list_cmp_total)
+
+-- no key is below that of the line before
+abbrev Rises : List PlainLine → Type 0
+Rises [] = ⊤
+Rises (x ∷ []) = ⊤
+Rises (x ∷ y ∷ xs) = (is_lt (key_cmp y.key x.key) ≡ false) × Rises (y ∷ xs)
+
+not_below : (b : Bool) → (if b then false else true) ≡ true → b ≡ false
+not_below true e = cc
+not_below false e = refl
+
+rises : (before : List PlainLine) (x : PlainLine) (xs : List PlainLine) → AscendFrom (before ++ x ∷ []) xs → Rises (x ∷ xs)
+rises before x [] h = tt
+rises before x (y ∷ xs) h = (not_below (is_lt (key_cmp y.key x.key)) (sym (follows_last before x y.key) ∙ h.0), rises (before ++ x ∷ []) y xs h.1)
+
+less_of : (o : Ordering) → is_eq o ≡ false → is_lt (ordering_reverse o) ≡ false → o ≡ Less
+less_of Less e h = refl
+less_of Equal e h = cc
+less_of Greater e h = cc
+
+below_all : (a b : PlainKey) (ks : List PlainKey) → key_cmp a b ≡ Less → IsBelowAll b ks → IsBelowAll a ks
+below_all a b [] e h = tt
+below_all a b (k ∷ ks) e h = (keys_total.trans a b k e h.0, below_all a b ks e h.1)
+
+same_logs : (f g : Logs) (j : PlainKey) (ks : List PlainKey) → IsBelowAll j ks → ((k : PlainKey) → same_key k j ≡ false → f k ≡ g k) → of_logs f ks ≡ of_logs g ks
+same_logs f g j [] h e = refl
+same_logs f g j (k ∷ ks) h e =
+    let other : same_key k j ≡ false = ap is_eq (turned k j ∙ ap ordering_reverse h.0) in
+    ap₂ (λ es l. of_log k es ++ l) (e k other) (same_logs f g j ks h.1 e)
+
+-- these keys are those of the entries, and the entries are those of their logs
+record Sorted (xs : List PlainLine) (ks : List PlainKey) : Type 0 where
+  pub order : Ascend ks
+  pub whole : (k : PlainKey) → stands ks k ≡ is_filled (log_in xs k)
+  pub list : of_logs (log_in xs) ks ≡ xs
+
+filled_more : (b : Bool) (e : PlainEntry) (es : List PlainEntry) → is_filled (cond b (e ∷ es) es) ≡ (b || is_filled es)
+filled_more true e es = refl
+filled_more false e es = refl
+
+or_twice : (b c : Bool) → (b || c) ≡ (b || (b || c))
+or_twice true c = refl
+or_twice false c = refl
+
+empty_log : (es : List PlainEntry) → false ≡ is_filled es → es ≡ []
+empty_log [] e = refl
+empty_log (x ∷ es) e = cc
+
+-- the log of the first entry's key, and those of the others
+log_here : (x : PlainLine) (xs : List PlainLine) → log_in (x ∷ xs) x.key ≡ x.entry ∷ log_in xs x.key
+log_here x xs = ap (λ b. cond b (x.entry ∷ log_in xs x.key) (log_in xs x.key)) (same_as_itself x.key)
+
+logs_there : (x : PlainLine) (xs : List PlainLine) (ks : List PlainKey) → IsBelowAll x.key ks → of_logs (log_in (x ∷ xs)) ks ≡ of_logs (log_in xs) ks
+logs_there x xs ks h = same_logs (log_in (x ∷ xs)) (log_in xs) x.key ks h (λ k e. ap (λ b. cond b (x.entry ∷ log_in xs k) (log_in xs k)) e)
+
+sorted_same : (x : PlainLine) (xs : List PlainLine) (js : List PlainKey) → Sorted xs (x.key ∷ js) → Sorted (x ∷ xs) (x.key ∷ js)
+unfolding IsStrictlySortedBy
+sorted_same x xs js s = record {
+  order = s.order;
+  whole = λ k. or_twice (same_key k x.key) (stands js k) ∙ ap (λ c. same_key k x.key || c) (s.whole k) ∙ sym (filled_more (same_key k x.key) x.entry (log_in xs k));
+  list = ap₂ (λ es l. of_log x.key es ++ l) (log_here x xs) (logs_there x xs js s.order.0) ∙ ap (λ l. x ∷ l) s.list;
+}
+
+sorted_new : (x : PlainLine) (xs : List PlainLine) (ks : List PlainKey) → IsBelowAll x.key ks → Sorted xs ks → Sorted (x ∷ xs) (x.key ∷ ks)
+unfolding IsStrictlySortedBy
+sorted_new x xs ks h s =
+    let none : log_in xs x.key ≡ [] = empty_log (log_in xs x.key) (sym (not_later x.key ks h) ∙ s.whole x.key) in
+    record {
+      order = (h, s.order);
+      whole = λ k. ap (λ c. same_key k x.key || c) (s.whole k) ∙ sym (filled_more (same_key k x.key) x.entry (log_in xs k));
+      list = ap₂ (λ es l. of_log x.key es ++ l) (log_here x xs ∙ ap (λ es. x.entry ∷ es) none) (logs_there x xs ks h) ∙ ap (λ l. x ∷ l) s.list;
+    }
+
+sorted_none : Sorted [] []
+unfolding IsStrictlySortedBy
+sorted_none = record { order = tt; whole = λ k. refl; list = refl }
+
+sorted_more : (x : PlainLine) (xs : List PlainLine) (j : PlainKey) (js : List PlainKey) (b : Bool) → same_key x.key j ≡ b → is_lt (key_cmp j x.key) ≡ false → Sorted xs (j ∷ js) → (ks : List PlainKey) × Sorted (x ∷ xs) (x.key ∷ ks)
+unfolding IsStrictlySortedBy
+sorted_more x xs j js true e h s = (js, sorted_same x xs js (subst (λ q. Sorted xs (q ∷ js)) (sym (equal_keys x.key j e)) s))
+sorted_more x xs j js false e h s =
+    let less = less_of (key_cmp x.key j) e (ap is_lt (sym (turned j x.key)) ∙ h) in
+    (j ∷ js, sorted_new x xs (j ∷ js) (less, below_all x.key j js less s.order.0) s)
+
+sorted_all : (x : PlainLine) (xs : List PlainLine) → Rises (x ∷ xs) → (ks : List PlainKey) × Sorted (x ∷ xs) (x.key ∷ ks)
+sorted_all x [] r = ([], sorted_new x [] [] tt sorted_none)
+sorted_all x (y ∷ ys) r =
+    let (js, s) = sorted_all y ys r.1 in
+    sorted_more x (y ∷ ys) y.key js (same_key x.key y.key) refl r.0 s
+
+pub dump_of_logs : (v : DumpVersion) (xs : List PlainLine) → IsDump xs → DumpText v (log_in xs) (dump_text v xs)
+dump_of_logs v [] d = ([], record { in_order = sorted_none.order; whole = sorted_none.whole }, refl)
+dump_of_logs v (x ∷ xs) d =
+    let (ks, s) = sorted_all x xs (rises [] x xs d.ascends.1) in
+    (x.key ∷ ks, record { in_order = s.order; whole = s.whole }, ap (dump_text v) (sym s.list))
+
+within_append : (v : DumpVersion) (xs ys : List PlainLine) → AllWithin v xs → AllWithin v ys → AllWithin v (xs ++ ys)
+within_append v [] ys h k = k
+within_append v (x ∷ xs) ys h k = (h.0, h.1, h.2, within_append v xs ys h.3 k)
+
+within_logs : (v : DumpVersion) (f : Logs) (ks : List PlainKey) → ((k : PlainKey) → AllWithin v (of_log k (f k))) → AllWithin v (of_logs f ks)
+within_logs v f [] h = tt
+within_logs v f (k ∷ ks) h = within_append v (of_log k (f k)) (of_logs f ks) (h k) (within_logs v f ks h)
+
+pub text_is_of_logs : TextIsOfLogs
+text_is_of_logs = record {
+  accepted = λ v f text h (ks, stored, is).
+      let xs = of_logs f ks in
+      let d = logs_are_dumped f ks stored h.made in
+      (xs, ap check_text is ∙ text_accepted v xs d.0 (within_logs v f ks h.within) (h.few (length xs) (ks, stored, refl)), d.1);
+  only = λ text xs e.
+      let (v, is, d) = text_only text xs e in
+      (v, subst (DumpText v (log_in xs)) (sym is) (dump_of_logs v xs d), d.made);
+}

@@ -7,6 +7,7 @@ pub mod Exact
 pub mod Fits
 pub mod Lines
 pub mod Listed
+pub mod OfLogs
 pub mod Printed
 pub mod Sound
 pub mod Stages

@@ -3,6 +3,7 @@ ghost use Rattle.sdb_dump.specs.Accepted.{TransformFits, DumpsAreAccepted, Accep
 ghost use Rattle.sdb_dump.specs.Cut.{TextIsExact};
 ghost use Rattle.sdb_dump.specs.Exact.{Exact, LineReadsBack};
 ghost use Rattle.sdb_dump.specs.Listed.{LogsAreDumped};
+ghost use Rattle.sdb_dump.specs.OfLogs.{TextIsOfLogs};
 ghost use Rattle.sdb_dump.specs.Printed.{PrintedReadsBack, PrintedIsText};
 ghost use Rattle.sdb_dump.specs.Stages.{StagesAreCheck};
 
@@ -46,4 +47,10 @@ pub fn logs_are_dumped()
 /// A text is accepted exactly where it is a dump.
 pub fn text_is_exact()
     ensures { TextIsExact }
+{}
+
+/// A text is accepted exactly where it is the dump of made logs within the limits, which it gives; only that what is
+/// accepted is within the limits is not said.
+pub fn text_is_of_logs()
+    ensures { TextIsOfLogs }
 {}
