@@ -1,12 +1,13 @@
 -- A dump that is written piece by piece.
-use Rattle.std.proofs.Common.{◌≡◌, ℕ, ◌+◌, List, [], ◌∷◌, ◌++◌, length, map, Option, None, Some, Result, Ok, Err, OnOk, OnErr, ◌⊎◌, inl, inr, codes, refl, sym, ap, ◌∙◌, subst, arith, append_assoc, append-nil, length-append}
+use Rattle.std.proofs.Common.{◌≡◌, ℕ, ◌+◌, List, [], ◌∷◌, ◌++◌, length, map, drop, get_or, ◌<◌, Option, None, Some, Result, Ok, Err, OnOk, OnErr, ◌⊎◌, inl, inr, codes, refl, sym, ap, ◌∙◌, subst, arith, append_assoc, append-nil, length-append}
 use Rattle.std.specs.Fmt.{digits}
 use Rattle.std.specs.Io.KnownBytes.{Appends}
 use Rattle.std.proofs.KnownBytes.{Appends-nil, Appends-trans}
-use Rattle.std.proofs.lemmas.List.{map-append}
+use Rattle.std.proofs.lemmas.List.{map-append, drop_more}
 use Rattle.json.specs.Print.{escape_byte}
 use Rattle.sdb_lines.specs.Fronts.{AppendsFront}
-use Rattle.sdb_oplog.specs.Keys.{PlainKey, Logs}
+use Rattle.sdb_oplog.specs.Keys.{PlainKey, Logs, plain_key}
+use Rattle.sdb_oplog.specs.declared.keys.Key.{Key}
 use Rattle.sdb_oplog.specs.Plain.{PlainEntry}
 use Rattle.sdb_dump.specs.declared.version.DumpVersion.TheVariants.{Two}
 use Rattle.sdb_dump.specs.Dumps.{text_of, head_text, count_text, ended_lines, dump_text}
@@ -53,25 +54,44 @@ ended_more : (ls ms : List (List ℕ)) → ended_lines (ls ++ ms) ≡ ended_line
 ended_more [] ms = refl
 ended_more (l ∷ ls) ms = ap (λ r. l ++ 10 ∷ r) (ended_more ls ms) ∙ sym (append_assoc l (10 ∷ ended_lines ls) (ended_lines ms))
 
--- an entry, and those behind it
-pub log_first : (k : PlainKey) (out : List ℕ) (e : PlainEntry) (es : List PlainEntry) → out ++ log_text k (e ∷ es) ≡ ((out ++ text_of Two (record { key = k; entry = e })) ++ 10 ∷ []) ++ log_text k es
-log_first k out e es =
-    let line = text_of Two (record { key = k; entry = e }) in
-    sym (append_assoc out line (10 ∷ log_text k es)) ∙ sym (append_assoc (out ++ line) (10 ∷ []) (log_text k es))
+-- the lines of the entries from the i-th on, once that of this one is pending too
+pub entry_left : (k : PlainKey) (es : List PlainEntry) (i : ℕ) (e : PlainEntry) (out line pending : List ℕ) → i < length es → e ≡ get_or es i e
+    → line ≡ out ++ text_of Two (record { key = k; entry = e }) → pending ≡ line ++ 10 ∷ [] → out ++ log_text k (drop i es) ≡ pending ++ log_text k (drop (i + 1) es)
+entry_left k es i e out line pending lt at more end =
+    let text = text_of Two (record { key = k; entry = e }) in
+    let rest = log_text k (drop (i + 1) es) in
+    let here : drop i es ≡ e ∷ drop (i + 1) es = drop_more es i e lt ∙ ap (λ y. y ∷ drop (i + 1) es) (sym at) in
+    ap (λ l. out ++ log_text k l) here ∙ sym (append_assoc out text (10 ∷ rest)) ∙ ap (λ l. l ++ 10 ∷ rest) (sym more)
+    ∙ sym (append_assoc line (10 ∷ []) rest) ∙ ap (λ l. l ++ rest) (sym end)
 
--- a log, and those behind it
-pub logs_first : (f : Logs) (k : PlainKey) (ks : List PlainKey) (out : List ℕ) → out ++ logs_text f (k ∷ ks) ≡ (out ++ log_text k (f k)) ++ logs_text f ks
-logs_first f k ks out =
-    let e : logs_text f (k ∷ ks) ≡ log_text k (f k) ++ logs_text f ks =
-    ap ended_lines (map-append (text_of Two) (of_log k (f k)) (of_logs f ks)) ∙ ended_more (map (text_of Two) (of_log k (f k))) (map (text_of Two) (of_logs f ks)) in
-    ap (λ l. out ++ l) e ∙ sym (append_assoc out (log_text k (f k)) (logs_text f ks))
+logs_first : (f : Logs) (k : PlainKey) (ks : List PlainKey) → logs_text f (k ∷ ks) ≡ log_text k (f k) ++ logs_text f ks
+logs_first f k ks =
+    ap ended_lines (map-append (text_of Two) (of_log k (f k)) (of_logs f ks)) ∙ ended_more (map (text_of Two) (of_log k (f k))) (map (text_of Two) (of_logs f ks))
+
+keys_first : (keys : List Key) (i : ℕ) (key : Key) → i < length keys → key ≡ get_or keys i key → map plain_key (drop i keys) ≡ plain_key key ∷ map plain_key (drop (i + 1) keys)
+keys_first keys i key lt at = ap (map plain_key) (drop_more keys i key lt ∙ ap (λ y. y ∷ drop (i + 1) keys) (sym at))
+
+-- the lines of the logs of the keys from the i-th on, and how many they are
+pub log_left : (f : Logs) (keys : List Key) (i : ℕ) (key : Key) (es : List PlainEntry) (out : List ℕ) → i < length keys → key ≡ get_or keys i key → es ≡ f (plain_key key)
+    → out ++ logs_text f (map plain_key (drop i keys)) ≡ (out ++ log_text (plain_key key) es) ++ logs_text f (map plain_key (drop (i + 1) keys))
+log_left f keys i key es out lt at is =
+    let k = plain_key key in
+    let rest = map plain_key (drop (i + 1) keys) in
+    ap (λ ks. out ++ logs_text f ks) (keys_first keys i key lt at) ∙ ap (λ l. out ++ l) (logs_first f k rest)
+    ∙ ap (λ l. out ++ (log_text k l ++ logs_text f rest)) (sym is) ∙ sym (append_assoc out (log_text k es) (logs_text f rest))
 
 of_log_len : (k : PlainKey) (es : List PlainEntry) → length (of_log k es) ≡ length es
 of_log_len k [] = refl
 of_log_len k (e ∷ es) = omega (arith, of_log_len k es)
 
-pub len_first : (f : Logs) (k : PlainKey) (ks : List PlainKey) → length (of_logs f (k ∷ ks)) ≡ length (f k) + length (of_logs f ks)
-len_first f k ks = omega (arith, length-append (of_log k (f k)) (of_logs f ks), of_log_len k (f k))
+pub count_left : (f : Logs) (keys : List Key) (i : ℕ) (key : Key) (es : List PlainEntry) (count all : ℕ) → i < length keys → key ≡ get_or keys i key → es ≡ f (plain_key key)
+    → count + length (of_logs f (map plain_key (drop i keys))) ≡ all → count + length es + length (of_logs f (map plain_key (drop (i + 1) keys))) ≡ all
+count_left f keys i key es count all lt at is h =
+    let k = plain_key key in
+    let rest = map plain_key (drop (i + 1) keys) in
+    let e : length (of_logs f (map plain_key (drop i keys))) ≡ length (of_log k (f k) ++ of_logs f rest) = ap (λ ks. length (of_logs f ks)) (keys_first keys i key lt at) in
+    let n : length es ≡ length (f k) = ap length is in
+    omega (arith, h, e, n, length-append (of_log k (f k)) (of_logs f rest), of_log_len k (f k))
 
 -- ---- the whole
 

@@ -9,5 +9,5 @@ returns-clause-accepted c = λ xs h.
     record {
       logs = h.logs;
       counted = h.counted;
-      documents = (map plain_key keys, c.in_ok-documents.ensures, c.len-documents.ensures ∙ sym (length-map keys plain_key));
+      documents = (map plain_key keys, c.in_ok-documents.ensures, c.len-documents.ensures ∙ c.in_ok-documents.field-0.ok.0 ∙ sym (length-map keys plain_key));
     }
