@@ -15,7 +15,7 @@ use Rattle.sdb_steps.specs.WorldView.{machine_of, sessions_of}
 use Rattle.sdb_steps.specs.Lines.{reading_step, steps_in}
 use Rattle.sdb_steps.specs.OneStep.{OneStep, empty}
 use Rattle.sdb_steps.specs.Picks.{Sessions, PlainStep, Answer, all_fresh}
-use Rattle.sdb_steps.specs.Runs.{IsSteps, IsRun}
+use Rattle.sdb_steps.specs.Runs.{IsStep, IsSteps, IsRun}
 use Rattle.sdb_steps.specs.Written.{TakesUnanswered, Leaves, WroteWorld, WroteWorldFront}
 use Rattle.sdb_steps.specs.declared.dumping.Unanswered.{Unanswered}
 use Rattle.sdb_steps.proofs.Runs.{run_none, run_on, legal_run}
@@ -24,6 +24,10 @@ use Rattle.sdb_steps.proofs.Runs.{run_none, run_on, legal_run}
 abbrev pub Takes : Unanswered → Option (List ℕ) → List ℕ → Unanswered → Type 0
 Takes w line answer v =
     TakesUnanswered (reading_step line) (machine_of w.world) (sessions_of w.world) answer (machine_of v.world) (sessions_of v.world)
+
+-- a step is taken, whatever its answer
+pub unanswered : (r : Result PlainStep Code) (s : PlainStep) (m n : OneStep) (w v : Sessions) (a : Answer) → r ≡ Ok s → IsStep m w s a n v → TakesUnanswered r m w [] n v
+unanswered r s m n w v a e h = subst (λ (q : Result PlainStep Code). TakesUnanswered q m w [] n v) (sym e) (refl, (a, h))
 
 -- the steps among these readings, with some answers, of which nothing was written
 record Went (m : OneStep) (w : Sessions) (readings : List (Result PlainStep Code)) (text : List ℕ) (n : OneStep) (v : Sessions) : Type 0 where

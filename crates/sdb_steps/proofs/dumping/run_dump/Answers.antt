@@ -15,12 +15,12 @@ returns-in_err-run_lines-clause-front g c =
 pub returns-clause-whole : goal.returns-clause-whole
 returns-clause-whole g c =
     if_ok_both c.dump.result _ _ (λ wrote n counted. IfSome_then (g.R.Source.left c.args.reader.now) c.in_ok-run_lines.ensures.whole
-    (λ input a. dumped _ c.run_lines.new.machine (map reading_of (lines_of input)) _ _ _ n c.in_ok-machine.ensures.machine c.in_ok-machine.ensures.sessions a wrote counted)) c.dump.ensures.whole c.dump.ensures.entries
+    (λ input a. dumped _ c.run_lines.new.machine (map reading_of (lines_of input)) _ _ _ n c.in_ok-new.ensures.machine c.in_ok-new.ensures.sessions a wrote counted)) c.dump.ensures.whole c.dump.ensures.entries
 
 pub returns-clause-front : goal.returns-clause-front
 returns-clause-front g c =
     on_err c.dump.result (λ wrote. IfSome_then (g.R.Source.left c.args.reader.now) c.in_ok-run_lines.ensures.whole
-    (λ input a. dumped_front _ c.run_lines.new.machine (map reading_of (lines_of input)) _ _ _ c.in_ok-machine.ensures.machine c.in_ok-machine.ensures.sessions a wrote)) c.dump.ensures.front
+    (λ input a. dumped_front _ c.run_lines.new.machine (map reading_of (lines_of input)) _ _ _ c.in_ok-new.ensures.machine c.in_ok-new.ensures.sessions a wrote)) c.dump.ensures.front
 
 pub returns-clause-reads : goal.returns-clause-reads
 returns-clause-reads g c = reads_on c.dump.result _ _ _ _ c.in_ok-run_lines.ensures.reads c.dump.ensures.read
