@@ -18,7 +18,7 @@ use Rattle.sdb_desk.specs.Laws.{equal_keys}
 use Rattle.sdb_desk.specs.MapViewLaws.{wrote_at}
 use Rattle.std.specs.Result.{result_ok}
 use Rattle.sdb_desk.specs.Machine.{Machine, PlainAttempt, PlainOutcome, decided, moved as moved_on, Queued, with_queues, closed, start_of, opening, subscribing, subscribing_from, Decides, Commits, Subscribes, Takes, Same, PlainSubscribed}
-use Rattle.sdb_submit.specs.Calls.{PlainCall, look, commit, commit_now, present, fetch, ops_from, snapshot, at_time, forget, subscribe, take_next, unsubscribe, AnswerTo, Acts}
+use Rattle.sdb_submit.specs.Calls.{PlainCall, look, commit, commit_now, present, fetch, ops_from, ops_between, snapshot, at_time, forget, subscribe, take_next, unsubscribe, AnswerTo, Acts}
 use Rattle.sdb_backend.specs.History.{IsLonger, GoesOn, GoOn, Extends, stored_by, mine, own, AddsTo, Part}
 use Rattle.sdb_backend.specs.HistoryLaws.{longer_itself, goes_itself, go_itself}
 
@@ -88,6 +88,7 @@ Under n (commit_now s now) = s.by ≡ n
 Under n present = Unit {0}
 Under n fetch = Unit {0}
 Under n (ops_from v) = Unit {0}
+Under n (ops_between v w) = Unit {0}
 Under n (snapshot v) = Unit {0}
 Under n (at_time t) = Unit {0}
 Under n forget = Unit {0}
@@ -276,6 +277,7 @@ acts_grown n m k (commit_now s now) a new by h = decides_grown n m new k s now a
 acts_grown n m k present a new by h = same_grown n m new h.1
 acts_grown n m k fetch a new by h = same_grown n m new h.1
 acts_grown n m k (ops_from v) a new by h = same_grown n m new h.1
+acts_grown n m k (ops_between v w) a new by h = same_grown n m new h.1
 acts_grown n m k (snapshot v) a new by h = same_grown n m new h.1
 acts_grown n m k (at_time t) a new by h = same_grown n m new h.1
 acts_grown n m k forget a new by h = same_grown n m new h

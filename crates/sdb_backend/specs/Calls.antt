@@ -1,11 +1,12 @@
 -- What a call by a pass is answered.
-use Rattle.std.specs.Prelude.{◌≡◌, ℕ, List, Option, option_map}
+use Rattle.std.specs.Prelude.{◌≡◌, ℕ, List, Option, option_map, Result}
 use Rattle.sdb_oplog.specs.Plain.{PlainEntry, PlainSubmission}
 use Rattle.sdb_oplog.specs.Keys.{PlainKey, shard_of}
 use Rattle.sdb_oplog.specs.Decide.{PlainReply}
+use Rattle.sdb_oplog.specs.declared.codes.Code.{Code}
 use Rattle.sdb_subscribe.specs.Queue.{waiting}
 use Rattle.sdb_desk.specs.Looked.{IsLook}
-use Rattle.sdb_desk.specs.Machine.{PlainAttempt}
+use Rattle.sdb_desk.specs.Machine.{PlainAttempt, Reads, is_filled, operations}
 use Rattle.sdb_desk.specs.ShardView.{machine_of, logs_of}
 use Rattle.sdb_submit.specs.Calls.{PlainCall, AnswerTo, Acts}
 use Rattle.sdb_locks.specs.Words.{OnlyAt}
@@ -40,3 +41,13 @@ abbrev pub TakesOn : PlainKey → ℕ → ℕ → Pass → Option (List PlainEnt
 TakesOn k id max p r q =
     (x h new : Held) × HasSeen p k x × HasSeen q k new × Extends (machine_of h.shard) (machine_of x.shard)
     × (r ≡ option_map (waiting (logs_of h.shard k) max) ((own (number_of p) (machine_of x.shard)).queues k id))
+
+-- operations that are listed are those that the machine answers at one history, which extends what the pass had seen. What
+-- the pass has seen then extends that history, and holds under its number just what stood there
+abbrev pub ListedAt : PlainKey → ℕ → Pass → Result (List PlainEntry) Code → Pass → Type 0
+ListedAt k v p r q =
+    (x h new : Held) × HasSeen p k x × Extends (machine_of h.shard) (machine_of x.shard)
+    × (own (number_of p) (machine_of x.shard) ≡ own (number_of p) (machine_of h.shard))
+    × Reads is_filled r (operations (logs_of h.shard k) v)
+    × HasSeen q k new × Extends (machine_of new.shard) (machine_of h.shard)
+    × (own (number_of p) (machine_of h.shard) ≡ own (number_of p) (machine_of new.shard))

@@ -5,4 +5,5 @@ pub mod History
 pub mod HistoryLaws
 pub mod Left
 pub mod Lending
+pub mod Listings
 pub mod Passes

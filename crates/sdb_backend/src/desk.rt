@@ -10,7 +10,7 @@ ghost use Rattle.sdb_backend.specs.Passes.{number_of, IsPass};
 use crate::backend::Backend;
 use crate::jobs::{
     AtTime, Commit, CommitLast, CommitNow, Fetch, Forget, Lend, LendThen, LentThen,
-    Look as Looking, Offer, OpsFrom, SnapshotAt, Subscribe, Take, Unsubscribe, Version,
+    Look as Looking, Offer, OpsBetween, OpsFrom, SnapshotAt, Subscribe, Take, Unsubscribe, Version,
 };
 use crate::seats::Pass;
 use sdb_desk::{Fetched, Lent, Look, Outcome, Reply, Subscribed, Work};
@@ -81,6 +81,16 @@ impl<R: Wait + Drop> Desk for Backend<R> {
 
     fn ops_from(&self, pass: &mut Pass, key: &Key, version: u64) -> Result<Vec<Entry>, Code> {
         self.run(pass, key, OpsFrom { key, version })
+    }
+
+    fn ops_between(
+        &self,
+        pass: &mut Pass,
+        key: &Key,
+        from: u64,
+        to: u64,
+    ) -> Result<Vec<Entry>, AllocError> {
+        self.run(pass, key, OpsBetween { key, from, to })
     }
 
     fn snapshot_at(

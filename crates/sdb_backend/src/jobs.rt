@@ -6,7 +6,7 @@ ghost use Rattle.sdb_desk.specs.ShardView.{machine_of, logs_of};
 ghost use Rattle.sdb_desk.specs.Looked.{IsLook};
 ghost use Rattle.sdb_desk.specs.View.{outcome_of, told_fetched, told_entries, told_subscribed, told_taken};
 ghost use Rattle.sdb_desk.specs.ReplyView.{plain_reply};
-ghost use Rattle.sdb_submit.specs.Calls.{Acts, told_look};
+ghost use Rattle.sdb_submit.specs.Calls.{Acts, told_copies, told_look};
 ghost use Rattle.sdb_submit.specs.Calls as call;
 ghost use Rattle.sdb_value.specs.View.{view};
 ghost use Rattle.sdb_desk.specs.Machine.{Same};
@@ -117,6 +117,26 @@ impl<'a> Job<Held> for OpsFrom<'a> {
     fn run(self, _number: u64, held: &mut Held) -> Result<Vec<Entry>, Code> {
         let Self { key, version } = self;
         held.shard.ops_from(key, version)
+    }
+}
+
+pub(crate) struct OpsBetween<'a> {
+    pub(crate) key: &'a Key,
+    pub(crate) from: u64,
+    pub(crate) to: u64,
+}
+
+impl<'a> Job<Held> for OpsBetween<'a> {
+    type Answer = Result<Vec<Entry>, AllocError>;
+
+    ghost ready = { λ j n a. Unit {0} };
+
+    ghost does = { λ j n a b r. Acts n (machine_of a.shard) (plain_key j.key.now)
+        (call.ops_between j.from j.to) (told_copies r) (machine_of b.shard) };
+
+    fn run(self, _number: u64, held: &mut Held) -> Result<Vec<Entry>, AllocError> {
+        let Self { key, from, to } = self;
+        held.shard.ops_between(key, from, to)
     }
 }
 

@@ -6,10 +6,10 @@ pub mod terminal;
 
 ghost use Rattle.std.specs.Prelude.{◌≡◌, ◌⊎◌, IfOk};
 
+use clap::Error;
 use clap::error::ErrorKind;
-use clap::{Command, Error};
 use sdb_lines::RunFault;
-use std::alloc::{AllocError, Global};
+use std::alloc::AllocError;
 use std::io;
 
 /// The status of a run that reached the end of its input, and of help.
@@ -20,18 +20,6 @@ pub const FAULT: u8 = 1;
 
 /// The status of a refused command line.
 pub const REFUSED: u8 = 2;
-
-/// Reads the command line of a program that has no option. Help and what is refused are errors.
-pub fn read_no_option(
-    alloc: Global,
-    name: &str,
-    about: &str,
-    words: &[String],
-) -> Result<(), Error> {
-    let command = Command::new(alloc, name).about(about);
-    let _ = command.try_get_matches_from(words)?;
-    Ok(())
-}
 
 /// Answers a command line that asks for no run, and gives the status: help goes to standard output, and why
 /// it is refused to standard error, as one line. Want of memory is neither, and an error here; so is an

@@ -102,6 +102,10 @@ fetched log = record { version = length log; snapshot = document log }
 abbrev pub operations : List PlainEntry → ℕ → Result (List PlainEntry) Code
 operations log v = if nat_lt (length log) v then Err E4 else Ok (drop v log)
 
+-- the entries from a version on, before another one, as far as the log has come
+abbrev pub between : List PlainEntry → ℕ → ℕ → List PlainEntry
+between log from to = drop from (take to log)
+
 -- a version, or the length where none is named, and the document there, if the log has come so far
 abbrev pub snapshot_at : List PlainEntry → Option ℕ → Result PlainFetched Code
 snapshot_at log v =

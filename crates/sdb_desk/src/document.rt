@@ -6,7 +6,7 @@ ghost use Rattle.sdb_oplog.specs.Decide.{decide, stored, missed, IsMade, storing
 ghost use Rattle.sdb_oplog.specs.Refused.{RefusedBy};
 ghost use Rattle.sdb_oplog.specs.Snap.{becomes, document, snap};
 ghost use Rattle.sdb_oplog.specs.declared.codes.Code.TheVariants.{E10};
-ghost use Rattle.sdb_desk.specs.Machine.{look_at, looking_takes_memory};
+ghost use Rattle.sdb_desk.specs.Machine.{between, look_at, looking_takes_memory};
 ghost use Rattle.sdb_desk.specs.View.{plain_lent, plain_look};
 ghost use Rattle.sdb_desk.specs.ReplyView.{plain_reply};
 ghost use Rattle.sdb_snapcache.specs.Kept.{nearest, used_for};
@@ -434,4 +434,13 @@ pub(crate) fn missed_of<'l>(log: &'l Log, submission: &Submission) -> &'l [Entry
     let version = log.len();
     let since = submission.version().unwrap_or(version).min(version);
     log.entries_from(since)
+}
+
+// The entries from a version on, before another one, as far as the log has come.
+pub(crate) fn entries_between(log: &Log, from: u64, to: u64) -> &[Entry]
+    ensures { result.now ≡ between log.now from to }
+{
+    let end = to.min(log.len());
+    let start = from.min(end);
+    &log.entries_from(start)[..(end - start) as usize]
 }

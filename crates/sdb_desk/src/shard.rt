@@ -20,13 +20,13 @@ ghost use Rattle.sdb_desk.specs.Read.{Leaves, Offers, Lends, LendsFrom, Uses};
 ghost use Rattle.sdb_desk.specs.Stored.{AreStored};
 ghost use Rattle.sdb_desk.specs.Looked.{IsLook};
 ghost use Rattle.sdb_desk.specs.Open.{AreOpen};
-ghost use Rattle.sdb_desk.specs.Machine.{IsFoundRefused, look_at, looking_takes_memory, fetched, operations, snapshot_at, start_of, start_free, is_filled, has_document, has_version, version_then, at_moment, no_queues, with_queues, closed, Decides, Commits, Keeps, Reads, Subscribes, Takes};
+ghost use Rattle.sdb_desk.specs.Machine.{IsFoundRefused, look_at, looking_takes_memory, fetched, operations, between, snapshot_at, start_of, start_free, is_filled, has_document, has_version, version_then, at_moment, no_queues, with_queues, closed, Decides, Commits, Keeps, Reads, Subscribes, Takes};
 ghost use Rattle.sdb_desk.specs.View.{plain_lent, plain_look, plain_outcome, outcome_of, told_fetched, told_entries, told_subscribed, told_taken};
 ghost use Rattle.sdb_desk.specs.ReplyView.{plain_reply};
 
 use crate::attempts::{Look, Work};
 use crate::document::{
-    Document, Reply, look_at, made_of, missed_of, reply_at_sight, shared_copy_of,
+    Document, Reply, entries_between, look_at, made_of, missed_of, reply_at_sight, shared_copy_of,
 };
 use crate::lending::{Lent, nothing_lent};
 use crate::topic::Topic;
@@ -495,6 +495,20 @@ impl Shard {
             Some(document) => {
                 Ok(copy_entries(self.alloc, document.log().entries_from(version))?)
             }
+            None => Ok(Vec::new(self.alloc)),
+        }
+    }
+
+    /// Copies of the stored operations from a version on, before the version `to`, as far as there are any. It
+    /// fails only for want of memory, where there are.
+    pub fn ops_between(&self, key: &Key, from: u64, to: u64) -> Result<Vec<Entry>, AllocError>
+        ensures entries { IfOk result
+            (λ es. es.items ≡ between (logs_of self.now (plain_key key.now)) from to) }
+        ensures memory { OnErr result
+            (is_filled (between (logs_of self.now (plain_key key.now)) from to) ≡ true) }
+    {
+        match self.find(key) {
+            Some(document) => copy_entries(self.alloc, entries_between(document.log(), from, to)),
             None => Ok(Vec::new(self.alloc)),
         }
     }

@@ -138,7 +138,9 @@ where
         ensures sessions { Keeps self.old.sessions self.new.sessions }
         ensures entered { self.new.entered ≡ self.old.entered }
     {
-        if !self.visits.has_room() {
+        let has_room = self.visits.has_room();
+        state.note_crowd(!has_room);
+        if !has_room {
             return false;
         }
         match listener.accept() {

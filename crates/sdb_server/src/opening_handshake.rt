@@ -10,6 +10,9 @@ use tungstenite::{Error, HandshakeError, NoCallback};
 // How many reads that find nothing a handshake may take: with a read timeout of 20 milliseconds ten seconds.
 const HANDSHAKE_SILENCE_LIMIT: u64 = 500;
 
+// How many where others wait for its place: one second.
+const CROWDED_SILENCE_LIMIT: u64 = 50;
+
 // The answer to a request that isn't the handshake of a WebSocket.
 const UPGRADE_REQUIRED: &str = "HTTP/1.1 426 Upgrade Required\r\n\
     Upgrade: websocket\r\n\
@@ -32,14 +35,16 @@ enum Greeting {
 }
 
 /// Does a server's handshake, and gives the stream back where it is done. What is no handshake is
-/// answered 426. It is given up where the client takes too long, or nobody is served any more.
+/// answered 426. It is given up where the client takes too long, sooner where it is crowded, or nobody is
+/// served any more.
 pub(crate) fn shake_hands<S: Read + Write + Drop>(
     alloc: Global,
     stream: S,
     is_full: &AtomicBool,
+    is_crowded: &AtomicBool,
 ) -> Option<S> {
     let mut stream = DeadlineStream::new(stream);
-    match greet(alloc, &mut stream, is_full) {
+    match greet(alloc, &mut stream, is_full, is_crowded) {
         Greeting::Done => Some(stream.into_inner()),
         Greeting::OtherRequest => {
             stream.restart();
@@ -56,15 +61,17 @@ fn greet<S: Read + Write + Drop>(
     alloc: Global,
     stream: &mut DeadlineStream<S>,
     is_full: &AtomicBool,
+    is_crowded: &AtomicBool,
 ) -> Greeting {
     let mut handshake = start(alloc, stream, NoCallback, None);
-    for _ in 0..HANDSHAKE_SILENCE_LIMIT {
+    for silent_reads in 1..=HANDSHAKE_SILENCE_LIMIT {
         match handshake.handshake() {
             Ok(_) => return Greeting::Done,
             Err(HandshakeError::Interrupted(rest)) => handshake = rest,
             Err(HandshakeError::Failure(error)) => return greeting_of(&error),
         }
-        if is_full.load(Ordering::SeqCst) {
+        let is_late = CROWDED_SILENCE_LIMIT <= silent_reads && is_crowded.load(Ordering::SeqCst);
+        if is_late || is_full.load(Ordering::SeqCst) {
             return Greeting::GivenUp;
         }
     }

@@ -49,6 +49,8 @@ pub struct ServerState<R: Wait> {
     is_stopped: AtomicBool,
     // Nobody more is served.
     is_full: AtomicBool,
+    // There is no place for one more handshake.
+    is_crowded: AtomicBool,
     // The sessions are to end.
     is_ending: AtomicBool,
     // The threads that are about to end.
@@ -93,6 +95,7 @@ impl<R: Wait + Drop> ServerState<R> {
             longest_wait: Duration::from_millis(READ_TIMEOUT_MS),
             is_stopped: AtomicBool::new(false),
             is_full: AtomicBool::new(false),
+            is_crowded: AtomicBool::new(false),
             is_ending: AtomicBool::new(false),
             ended: Mutex::new(ended),
             followers: Followers::new(alloc)?,
@@ -152,6 +155,12 @@ impl<R: Wait + Drop> ServerState<R> {
         self.is_full.store(true, Ordering::SeqCst);
     }
 
+    /// Whether there is no place for one more handshake. Where there is none, those that last for long are given
+    /// up sooner.
+    pub(crate) fn note_crowd(&self, is_crowded: bool) {
+        self.is_crowded.store(is_crowded, Ordering::SeqCst);
+    }
+
     /// The sessions are to end, and nobody more is served.
     pub(crate) fn end(&self, rt: &R) {
         self.is_ending.store(true, Ordering::SeqCst);
@@ -180,7 +189,7 @@ impl<R: Wait + Drop> ServerState<R> {
         match visit {
             Visit::Greet => {
                 set_socket_options(&stream).ok()?;
-                shake_hands(alloc, stream, &self.is_full)
+                shake_hands(alloc, stream, &self.is_full, &self.is_crowded)
             }
             Visit::SendAway => {
                 close_and_drain(&mut socket_on(alloc, stream), self.refusal());

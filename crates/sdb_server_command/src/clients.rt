@@ -1,12 +1,15 @@
 //! Clients at an address, for as long as it is asked for.
 ghost use Rattle.std.specs.Prelude.{IfOk};
+ghost use Rattle.sdb_backend.specs.Audited.{audited};
 ghost use Rattle.sdb_backend.specs.Passes.{IsHost};
 ghost use Rattle.sdb_backend.specs.declared.seats.Host.{Host as Hosting};
 ghost use Rattle.sdb_server.specs.Served.{IsHostOf};
 
 use sdb_backend::{Audit, Backend, Refused, Why};
-use sdb_command_line::{DONE, FAULT};
-use sdb_oplog::Log;
+use sdb_command_line::{DONE, FAULT, end_with};
+use sdb_dump::{Documents, write_dump};
+use sdb_lines::WatchedWriter;
+use sdb_oplog::{Key, Log};
 use sdb_projection::Table;
 use sdb_server::{ServerState, listen, listen_until_stopped};
 use std::alloc::{AllocError, Global};
@@ -28,7 +31,10 @@ pub enum Until {
     /// Until so many were served, from 1 to 1,000,000, and have gone.
     Served(u64),
     /// Until the end of standard input.
-    Eof,
+    Eof {
+        /// Whether the dump of what is stored is written then.
+        is_dumping: bool,
+    },
 }
 
 // Serves clients at the address.
@@ -70,7 +76,9 @@ where
     match until {
         Until::Never => serve_so_many(rt, listener, None, is_logging, table),
         Until::Served(count) => serve_so_many(rt, listener, Some(count), is_logging, table),
-        Until::Eof => serve_until_end(rt, listener, rt.reader(), is_logging, table),
+        Until::Eof { is_dumping } => {
+            serve_until_end(rt, listener, rt.reader(), is_logging, is_dumping, table)
+        }
     }
 }
 
@@ -95,12 +103,14 @@ where
     Ok(DONE)
 }
 
-/// Serves the clients that come to the listener until the input ends, and tells on standard error what was stored.
+/// Serves the clients that come to the listener until the input ends, and tells on standard error how much was
+/// stored. The dump of it is written to standard output where that is asked for.
 pub fn serve_until_end<R, I>(
     rt: R,
     listener: &TcpListener,
     input: I,
     is_logging: bool,
+    is_dumping: bool,
     table: Table,
 ) -> anyhow::Result<u8>
 where
@@ -121,7 +131,7 @@ where
     let passes = listen_until_stopped(rt, alloc, listener, &state, &mut host)?;
     waiting.join(&rt);
     match Arc::try_unwrap(state) {
-        Ok(state) => tell_close(&rt, state.into_backend().close(host, passes)),
+        Ok(state) => tell_close(&rt, state.into_backend().close(host, passes), is_dumping),
         Err(_) => tell_close_fault(&rt, "somebody is still served"),
     }
 }
@@ -153,20 +163,52 @@ fn skip_all<I: Read + Drop>(mut input: I) {
 }
 
 // Tells how a backend was closed, and gives the status.
-fn tell_close<R: Wait + Drop>(
-    rt: &impl Eprint,
-    closed: Result<Audit, Refused<R>>,
+fn tell_close<R: AllocGlobal + Print + Eprint, W: Wait + Drop>(
+    rt: &R,
+    closed: Result<Audit, Refused<W>>,
+    is_dumping: bool,
 ) -> anyhow::Result<u8> {
     match closed {
-        Ok(audit) => {
-            let (documents, operations) = count_stored(&audit)?;
-            eprintln!(rt; "ended: {documents} documents, {operations} operations")?;
-            Ok(DONE)
-        }
+        Ok(audit) => tell_stored(rt, &audit, is_dumping),
         Err(refused) => match refused.why {
             Why::Missing => tell_close_fault(rt, "a pass is missing"),
             Why::Memory => tell_close_fault(rt, "out of memory"),
         },
+    }
+}
+
+// Tells how much is stored, writes its dump where that is asked for, and gives the status.
+fn tell_stored<R>(rt: &R, audit: &Audit, is_dumping: bool) -> anyhow::Result<u8>
+where
+    R: AllocGlobal + Print + Eprint,
+{
+    let (documents, operations) = count_stored(audit)?;
+    eprintln!(rt; "ended: {documents} documents, {operations} operations")?;
+    if !is_dumping {
+        return Ok(DONE);
+    }
+    let mut writer = WatchedWriter::new(io::writer(rt));
+    match write_dump(rt.alloc(), &AuditDocuments { audit }, &mut writer) {
+        Ok(_) => Ok(DONE),
+        Err(fault) => Ok(end_with(rt, fault)),
+    }
+}
+
+// The documents of an audit.
+#[derive(Drop)]
+struct AuditDocuments<'a> {
+    audit: &'a Audit,
+}
+
+impl<'a> Documents for AuditDocuments<'a> {
+    ghost logs = { λ d. audited d.audit.now };
+
+    fn keys(&self) -> Result<Vec<Key>, AllocError> {
+        self.audit.documents()
+    }
+
+    fn log(&self, key: &Key) -> Option<&Log> {
+        self.audit.log(key)
     }
 }
 

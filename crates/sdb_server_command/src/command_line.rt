@@ -24,6 +24,7 @@ const CONNECTION_LIMIT: u64 = 1_000_000;
 fn command<'a>(alloc: Global) -> Result<Command<'a>, AllocError> {
     let connections = connections_option(alloc)?;
     let until_eof = until_eof_option(alloc)?;
+    let dump = dump_option(alloc)?;
     let log = log_option(alloc)?;
     let job = job_group(alloc)?;
     Command::new(alloc, "sdb_server")
@@ -33,6 +34,7 @@ fn command<'a>(alloc: Global) -> Result<Command<'a>, AllocError> {
         .arg(listen_option(alloc))?
         .arg(connections)?
         .arg(until_eof)?
+        .arg(dump)?
         .arg(log)?
         .arg(projection_option(alloc))?
         .group(job)
@@ -72,6 +74,14 @@ fn until_eof_option<'a>(alloc: Global) -> Result<Arg<'a>, AllocError> {
         .requires_arg("listen")?
         .conflicts_with("lines")?
         .conflicts_with("connections")
+}
+
+fn dump_option<'a>(alloc: Global) -> Result<Arg<'a>, AllocError> {
+    let dump = Arg::new(alloc, "dump")
+        .long("dump")
+        .help("With --until-eof, writes at the end the dump of what is stored")
+        .action(ArgAction::SetTrue);
+    dump.requires_arg("until-eof")
 }
 
 fn log_option<'a>(alloc: Global) -> Result<Arg<'a>, AllocError> {
@@ -153,7 +163,9 @@ fn asked_job(matches: &ArgMatches<'_>) -> Option<Job> {
 
 fn asked_until(matches: &ArgMatches<'_>) -> Until {
     if matches.get_flag("until-eof") {
-        return Until::Eof;
+        return Until::Eof {
+            is_dumping: matches.get_flag("dump"),
+        };
     }
     match matches.get_one::<u64>("connections") {
         Some(count) => Until::Served(count),

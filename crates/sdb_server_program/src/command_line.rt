@@ -66,8 +66,13 @@ fn addresses_and_how_long(rt: HostRuntime) {
         ),
         (
             "sdb_server --until-eof --log --listen 127.0.0.1:0",
-            Some((0, Until::Eof, true)),
+            Some((0, Until::Eof { is_dumping: false }, true)),
         ),
+        (
+            "sdb_server --dump --until-eof --listen 127.0.0.1:0",
+            Some((0, Until::Eof { is_dumping: true }, false)),
+        ),
+        ("sdb_server --listen 127.0.0.1:0 --dump", None),
         ("sdb_server --listen 127.0.0.1:0 --connections 0", None),
         (
             "sdb_server --listen 127.0.0.1:0 --connections 1",
@@ -233,7 +238,14 @@ fn servers_that_end(rt: HostRuntime) {
         Table::new(rt.alloc()),
     );
     assert!(rt; status.ok() == Some(DONE));
-    let status = serve_until_end(rt, &listener, TWO_LINES, false, Table::new(rt.alloc()));
+    let status = serve_until_end(
+        rt,
+        &listener,
+        TWO_LINES,
+        false,
+        true,
+        Table::new(rt.alloc()),
+    );
     assert!(rt; status.ok() == Some(DONE));
 }
 

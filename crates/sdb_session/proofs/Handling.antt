@@ -7,25 +7,25 @@ use Rattle.sdb_oplog.specs.Keys.{PlainKey}
 use Rattle.sdb_oplog.specs.Decide.{PlainReply, refused}
 use Rattle.sdb_desk.specs.Machine.{PlainFetched}
 use Rattle.sdb_projection.specs.Table.{PlainProjection}
-use Rattle.sdb_submit.specs.Calls.{fetch as fetch_call, ops_from, snapshot as snapshot_call, at_time as at_time_call}
-use Rattle.sdb_submit.specs.Chain.{Calls, Submits}
+use Rattle.sdb_submit.specs.Calls.{fetch as fetch_call, snapshot as snapshot_call, at_time as at_time_call}
+use Rattle.sdb_submit.specs.Chain.{Calls, Submits, Lists, ListsSome}
 use Rattle.sdb_session.specs.Written.{pieces_of, text_of}
 use Rattle.sdb_wire.specs.Wire.{PlainEcho, parse_message, PlainRequest, fetch, submit, snapshot, at_time, subscribe}
 use Rattle.sdb_wire.specs.Answers.{PlainAnswer, answer_text, failed}
 use Rattle.sdb_session.specs.Projections.{base_of, base_in, through, permits}
 use Rattle.sdb_session.specs.Sessions.{PlainSession, queue_of, is_full, with_sub}
 use Rattle.sdb_session.specs.View.{Says}
-use Rattle.sdb_session.specs.Handling.{PlainJoined, Sends, Refuses, Joins, Subscribes, submission_of, found_says, listed_says, reply_says, snapshot_says, moment_says, opened_says, Handled, Handles, Responds, Answers}
+use Rattle.sdb_session.specs.Handling.{PlainJoined, Sends, Refuses, Joins, Subscribes, submission_of, found_says, listed_says, reply_says, snapshot_says, moment_says, opened_says, Breaks, JoinsSome, Handled, Handles, Responds, Answers}
 
 pub on_says : {A E : Type 0} (r : Result A E) (f : List PlainAnswer → Type 0) (a : List PlainAnswer) → OnOk r (f a) → Says r f a
 on_says (Ok x) f a h = h
 on_says (Err x) f a h = tt
 
 -- after want of memory nothing is said
-pub handled_by : {P : Type 0} {A E : Type 0} (acts : PlainKey → Calls P) (e : PlainEcho) (t : List PlainProjection) (by now : ℕ) (s : PlainSession) (r : PlainRequest) (p : P) (x : Result A E) (f : List PlainAnswer → Type 0) (new : PlainSession) (q : P)
-    → Handles acts e t by now s r p (Says x f) new q → Handled x (Handles acts e t by now s r p) f s p new q
-handled_by acts e t by now s r p (Ok x) f new q h = h
-handled_by acts e t by now s r p (Err x) f new q h = inr h
+pub handled_by : {P : Type 0} {A E : Type 0} (b : P → P → Type 0) (acts : PlainKey → Calls P) (e : PlainEcho) (t : List PlainProjection) (by now : ℕ) (s : PlainSession) (r : PlainRequest) (p : P) (x : Result A E) (f : List PlainAnswer → Type 0) (new : PlainSession) (q : P)
+    → Handles acts e t by now s r p (Says x f) new q → Handled x (Handles acts e t by now s r p) b f s p new q
+handled_by b acts e t by now s r p (Ok x) f new q h = h
+handled_by b acts e t by now s r p (Err x) f new q h = inr h
 
 pub says_on : {A E : Type 0} (r : Result A E) (f : List PlainAnswer → Type 0) (a : List PlainAnswer) → Says r f a → OnOk r (f a)
 says_on (Ok x) f a h = h
@@ -40,9 +40,9 @@ module _ {P : Type 0} (acts : PlainKey → Calls P) (e : PlainEcho) (t : List Pl
   found_handles b r base h said =
       (r, (subst (λ x. acts x fetch_call p r q) (here b base) h, refl, subst (λ x. says (found_says e x k r)) seen said))
 
-  pub listed_handles : (from : ℕ) (b : PlainKey) (r : Result (List PlainEntry) Code) → b ≡ base_of o k → acts b (ops_from from) p r q → says (listed_says e o k r) → Handles acts e t by now s (fetch k (Some from)) p says s q
+  pub listed_handles : (from : ℕ) (b : PlainKey) (r : Result (List PlainEntry) Code) → b ≡ base_of o k → Lists (acts b) from p r q → says (listed_says e o k r) → Handles acts e t by now s (fetch k (Some from)) p says s q
   listed_handles from b r base h said =
-      (r, (subst (λ x. acts x (ops_from from) p r q) (here b base) h, refl, subst (λ x. says (listed_says e x k r)) seen said))
+      (r, (subst (λ x. Lists (acts x) from p r q) (here b base) h, refl, subst (λ x. says (listed_says e x k r)) seen said))
 
   pub snapshot_handles : (v : Option ℕ) (n : ℕ) (b : PlainKey) (r : Result PlainFetched Code) → b ≡ base_of o k → acts b (snapshot_call v) p r q → says (snapshot_says e o n r) → Handles acts e t by now s (snapshot k v n) p says s q
   snapshot_handles v n b r base h said =
@@ -83,6 +83,18 @@ module _ {P : Type 0} (acts : PlainKey → Calls P) (e : PlainEcho) (t : List Pl
     pub joined_handles : (j : PlainJoined) → new ≡ with_sub s k (record { base = b; id = j.opened.id }) → Joins acts b v (queue_of k s.subs) p (Ok j) q → says (opened_says o k v j) → Handles acts e t by now s (subscribe k v) p says new q
     joined_handles j is h said =
         (Ok j, (joined (Ok j) h, is ∙ ap (λ x. with_sub s k (record { base = x; id = j.opened.id })) (here b base), subst (λ x. says (opened_says x k v j)) seen said))
+
+-- ---- requests that broke off
+
+module _ {P : Type 0} (acts : PlainKey → Calls P) (t : List PlainProjection) (p q : P) (k : PlainKey) (o : Option PlainProjection) (seen : o ≡ through t k) (b : PlainKey) (base : b ≡ base_of o k) where
+  there : b ≡ base_in t k
+  there = base ∙ ap (λ y. base_of y k) seen
+
+  pub lists_broken : (from : ℕ) → ListsSome (acts b) from p q → Breaks acts t (fetch k (Some from)) p q
+  lists_broken from h = subst (λ y. ListsSome (acts y) from p q) there h
+
+  pub joins_broken : (v : Option ℕ) → JoinsSome acts b v p q → Breaks acts t (subscribe k v) p q
+  joins_broken v h = subst (λ y. JoinsSome acts y v p q) there h
 
 -- ---- other words for what is said
 

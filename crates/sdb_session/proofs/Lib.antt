@@ -1,3 +1,4 @@
+pub mod BatchChains
 pub mod Handling
 pub mod Pairs
 pub mod Taking

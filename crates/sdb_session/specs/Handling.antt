@@ -7,8 +7,8 @@ use Rattle.sdb_oplog.specs.Keys.{PlainKey}
 use Rattle.sdb_oplog.specs.Decide.{PlainReply, stored, repeated, refused}
 use Rattle.sdb_desk.specs.Machine.{PlainFetched, PlainSubscribed}
 use Rattle.sdb_projection.specs.Table.{PlainProjection}
-use Rattle.sdb_submit.specs.Calls.{present, fetch as fetch_call, ops_from, snapshot as snapshot_call, at_time as at_time_call, subscribe as subscribe_call, take_next, unsubscribe as unsubscribe_call}
-use Rattle.sdb_submit.specs.Chain.{Calls, Submits}
+use Rattle.sdb_submit.specs.Calls.{present, fetch as fetch_call, snapshot as snapshot_call, at_time as at_time_call, subscribe as subscribe_call, take_next, unsubscribe as unsubscribe_call}
+use Rattle.sdb_submit.specs.Chain.{Calls, Submits, PlainBatch, sizes, entries_of, TakesIn, TakesSome, Lists, ListsSome}
 use Rattle.sdb_wire.specs.Wire.{PlainEcho, parse_message, PlainRequest, hello, fetch, subscribe, unsubscribe, submit, snapshot, at_time}
 use Rattle.sdb_wire.specs.Answers.{PlainAnswer, named, fetched, listed, subscribed, caught_up, unsubscribed, snapshot as snapshot_answer, at_time as at_time_answer, op_message, acknowledged, failed}
 use Rattle.sdb_session.specs.Projections.{seen, seen_value, permits, through, base_in}
@@ -45,12 +45,6 @@ abbrev pub behind : Option ℕ → ℕ → ℕ
 behind None last = 0
 behind (Some v) last = last - v
 
--- what came of a take: nothing of a queue that isn't known. None is want of memory
-abbrev pub came : Option (Option (List PlainEntry)) → Option (List PlainEntry)
-came (Some (Some es)) = Some es
-came (Some None) = Some []
-came None = None
-
 -- why a session without room refuses a pair: the version is above the present one, or the limit is reached
 abbrev pub full_code : ℕ → ℕ → Code
 full_code v last = if nat_lt last v then E4 else E11
@@ -59,7 +53,7 @@ full_code v last = if nat_lt last v then E4 else E11
 module _ {P : Type 0} (acts : Calls P) where
   abbrev pub Fetches : (v : Option ℕ) → P → ReadOf v → P → Type 0
   Fetches None p r q = acts fetch_call p r q
-  Fetches (Some v) p r q = acts (ops_from v) p r q
+  Fetches (Some v) p r q = Lists acts v p r q
 
   -- the submission is made at a moment, unless it isn't permitted
   abbrev pub Sends : Bool → PlainSubmission → ℕ → P → PlainReply → P → Type 0
@@ -77,13 +71,20 @@ module _ {P : Type 0} (acts : PlainKey → Calls P) where
   Closes None p q = q ≡ p
   Closes (Some s) p q = acts s.base (unsubscribe_call s.id) p tt q
 
-  -- the first entries are taken of a queue that was opened. None is want of memory, for them or, before that, for the
-  -- subscription
+  -- the first entries are taken of a queue that was opened, in batches. None is want of memory, for the first of these
+  -- or, before that, for the subscription
   abbrev pub Begins : PlainKey → Option ℕ → PlainSubscribed → P → Option (List PlainEntry) → P → Type 0
-  Begins b v o p r q =
-      ((r ≡ None) × (q ≡ p))
-      ⊎ ((a : Option (Option (List PlainEntry)))
-      × (acts b (take_next o.id (behind v o.version)) p a q × (came a ≡ r)))
+  Begins b v o p (Some es) q =
+      (xs : List PlainBatch)
+      × (TakesIn (acts b) o.id xs p q × (sizes xs ≡ behind v o.version) × (es ≡ entries_of xs))
+  Begins b v o p None q = (q ≡ p) ⊎ ((n : ℕ) × acts b (take_next o.id n) p None q)
+
+  -- a queue was opened, some of its first entries were taken, and it was closed again
+  abbrev pub JoinsSome : PlainKey → Option ℕ → P → P → Type 0
+  JoinsSome b v p q =
+      (o : PlainSubscribed)
+      × ((m : P) × ((n : P) × (acts b (subscribe_call v) p (Ok o) m × TakesSome (acts b) o.id m n
+      × acts b (unsubscribe_call o.id) n tt q)))
 
   -- a queue is opened, its first entries are taken, and the old queue is closed. Where memory is wanting for what it
   -- begins with the new queue is closed again
@@ -148,6 +149,11 @@ abbrev pub moment_says : PlainEcho → Option PlainProjection → ℕ → Result
 moment_says e o n (Ok f) = at_time_answer n f.version (option_map (seen_value o) f.snapshot) ∷ []
 moment_says e o n (Err code) = failed e code ∷ []
 
+-- what ends the answer to a subscriber: the document, or that the stored operations came before
+abbrev pub last_says : Option PlainProjection → PlainKey → Option ℕ → PlainSubscribed → List PlainAnswer
+last_says o k None s = subscribed k s.version (option_map (seen_value o) s.snapshot) ∷ []
+last_says o k (Some v) s = caught_up k ∷ []
+
 -- the document, or the stored operations from the version that was asked for
 abbrev pub opened_says : Option PlainProjection → PlainKey → Option ℕ → PlainJoined → List PlainAnswer
 opened_says o k None j = subscribed k j.opened.version (option_map (seen_value o) j.opened.snapshot) ∷ []
@@ -193,8 +199,24 @@ module _ {P : Type 0} (acts : PlainKey → Calls P) where
   Answers text t by now s p says new q =
       Responds (parse_message text).echo (parse_message text).request t by now s p says new q
 
--- what a call did that does so much. After want of memory nothing was done, or all but for what is said
-abbrev pub Handled : {R E S P : Type 0} → Result R E → ((List PlainAnswer → Type 0) → S → P → Type 0)
+module _ {P : Type 0} (acts : PlainKey → Calls P) where
+  -- what a request has done that ended half way: it listed some operations, or opened a queue and closed it again
+  abbrev pub Breaks : List PlainProjection → PlainRequest → P → P → Type 0
+  Breaks t (fetch k (Some v)) p q = ListsSome (acts (base_in t k)) v p q
+  Breaks t (subscribe k v) p q = JoinsSome acts (base_in t k) v p q
+  Breaks t r p q = ⊥
+
+  abbrev pub BreaksOff : List PlainProjection → Result PlainRequest Code → P → P → Type 0
+  BreaksOff t (Ok r) p q = Breaks t r p q
+  BreaksOff t (Err code) p q = ⊥
+
+  abbrev pub AnswersSome : List ℕ → List PlainProjection → P → P → Type 0
+  AnswersSome text t p q = BreaksOff t (parse_message text).request p q
+
+-- what a call did that does so much, or broke off so. After want of memory nothing was done, or it broke off, or all was
+-- done but for what is said
+abbrev pub Handled : {R E S P : Type 0} → Result R E → ((List PlainAnswer → Type 0) → S → P → Type 0) → (P → P → Type 0)
     → (List PlainAnswer → Type 0) → S → P → S → P → Type 0
-Handled (Ok x) done says s p new q = done says new q
-Handled (Err e) done says s p new q = ((new ≡ s) × (q ≡ p)) ⊎ done (λ answers. ⊤) new q
+Handled (Ok x) done breaks says s p new q = done says new q
+Handled (Err e) done breaks says s p new q =
+    ((new ≡ s) × ((q ≡ p) ⊎ breaks p q)) ⊎ done (λ answers. ⊤) new q

@@ -7,22 +7,23 @@ use Rattle.sdb_oplog.specs.declared.codes.Code.TheVariants.{E4, E10, E11}
 use Rattle.sdb_oplog.specs.Plain.{PlainEntry, PlainSubmission, PlainContent}
 use Rattle.sdb_oplog.specs.Keys.{PlainKey, same_key}
 use Rattle.sdb_oplog.specs.Decide.{PlainReply, refused, deciding_takes_memory}
-use Rattle.sdb_subscribe.specs.Queue.{PlainQueues, opened}
+use Rattle.sdb_subscribe.specs.Queue.{PlainQueues, opened, taken_by, after_take_by}
 use Rattle.sdb_oplog.specs.Snap.{document}
-use Rattle.sdb_desk.specs.Laws.{queues_kept}
-use Rattle.sdb_desk.specs.Machine.{Machine, Queued, PlainFetched, PlainSubscribed, Decides, start_of, subscribing, subscribing_from, opening as opening_of, with_queues}
+use Rattle.sdb_desk.specs.Laws.{queues_kept, same_itself}
+use Rattle.sdb_desk.specs.Machine.{Machine, Queued, Same, PlainFetched, PlainSubscribed, Decides, Reads, is_filled, operations, start_of, subscribing, subscribing_from, opening as opening_of, with_queues}
 use Rattle.sdb_projection.specs.Table.{PlainProjection}
 use Rattle.sdb_submit.specs.Calls.{Acts, take_next, unsubscribe as unsubscribe_call, subscribe as subscribe_call, snapshot as snapshot_call, at_time as at_time_call}
-use Rattle.sdb_submit.specs.Chain.{Calls}
-use Rattle.sdb_submit.specs.Laws.{submits_in_one_step}
+use Rattle.sdb_submit.specs.Chain.{Calls, PlainBatch, sizes, entries_of, came, TakesIn}
+use Rattle.sdb_submit.specs.Laws.{submits_in_one_step, lists_at_once}
 use Rattle.sdb_wire.specs.Wire.{PlainEcho, parse_message, PlainRequest, hello, fetch, subscribe, unsubscribe, submit, snapshot, at_time}
 use Rattle.sdb_wire.specs.Answers.{PlainAnswer, failed}
 use Rattle.sdb_session.specs.Projections.{base_in, through, permits}
 use Rattle.sdb_session.specs.Sessions.{QueueId, PlainSub, PlainSession, queue_of, is_full}
 use Rattle.sdb_session.specs.Written.{pieces_of}
-use Rattle.sdb_session.specs.Handling.{ReadOf, ReplyTo, PlainJoined, respond, submission_of, behind, came, full_code, found_says, listed_says, read_says, reply_says, snapshot_says, moment_says, joined_response, Fetches, Sends, Refuses, Closes, Begins, Joins, Subscribes, Replies, Responds, Answers}
+use Rattle.sdb_session.specs.Handling.{ReadOf, ReplyTo, PlainJoined, respond, submission_of, behind, full_code, found_says, listed_says, read_says, reply_says, snapshot_says, moment_says, joined_response, Fetches, Sends, Refuses, Closes, Begins, Joins, Subscribes, Replies, Responds, Answers}
+use Rattle.sdb_session.specs.BatchLaws.{taken_none, after_none, takes_are_one}
 use Rattle.sdb_session.specs.Pumps.{PlainTaking, Takes, Pumps, pump_says}
-use Rattle.sdb_session.specs.Dialogue.{alone, State, Transition, Memory, enough, none_before, none_after, opening_at, opened_machine, next_of, after_next, closed_machine, decided_at, joined_at, refused_at, subscribed_at, replied, request_answered, opens, takes_memory, opened_and_closed, memory_wanting, answered_with, message_answered, answered, takings, after_takings, pushed}
+use Rattle.sdb_session.specs.Dialogue.{alone, State, Transition, Memory, enough, none_before, none_after, opening_at, opened_machine, next_of, after_next, closed_machine, decided_at, with_machine_queues, joined_at, refused_at, subscribed_at, replied, request_answered, opens, takes_memory, opened_and_closed, memory_wanting, answered_with, message_answered, answered, takings, after_takings, pushed}
 
 -- ---- pieces
 
@@ -52,6 +53,9 @@ cond_over false x y z = refl
 written_twice : (f : Queued) (k : PlainKey) (v w : PlainQueues)
     → with_queues (with_queues f k v) k w ≡ with_queues f k w
 written_twice f k v w = λ i q. cond_over (same_key k q) w v (f q) i
+
+written_here : (f : Queued) (k : PlainKey) (v : PlainQueues) → with_queues f k v k ≡ v
+written_here f k v = ap (λ b. cond b v (f k)) (same_itself k)
 
 -- what was written at a key is what stands there, by what stands there then
 written : (f g : Queued) (k : PlainKey) (v : PlainQueues) → g ≡ with_queues f k (g k) → g k ≡ v → g ≡ with_queues f k v
@@ -132,6 +136,42 @@ takes_some m n q max (Some r) es (h, others, logs) is =
     let f : es ≡ unwrap_or r [] = cc in
     (f ∙ sym due, same_machine (after_next m q max) n logs (written m.queues n.queues q.base _ others h.1))
 
+-- a take of none gives none, and leaves the machine
+next_none : (m : Machine) (q : QueueId) → (next_of m q 0 ≡ []) × (after_next m q 0 ≡ m)
+next_none m q =
+    let log = m.logs q.base in
+    let w = m.queues q.base in
+    let here : ◌≡◌ {A = PlainQueues} (record { next = w.next; queues = after_take_by log alone q.id 0 w.queues }) w =
+    λ i. record { next = w.next; queues = after_none log alone q.id w.queues i } in (
+      taken_none log alone q.id w.queues,
+      ap (λ (x : PlainQueues). with_machine_queues m (with_queues m.queues q.base x)) here
+          ∙ ap (with_machine_queues m) (queues_kept m.queues q.base),
+    )
+
+-- one behind another gives what one of as many gives
+next_behind : (m : Machine) (q : QueueId) (a b : ℕ)
+    → (next_of m q (a + b) ≡ next_of m q a ++ next_of (after_next m q a) q b)
+    × (after_next m q (a + b) ≡ after_next (after_next m q a) q b)
+next_behind m q a b =
+    let log = m.logs q.base in
+    let w = m.queues q.base in
+    let x : PlainQueues = record { next = w.next; queues = after_take_by log alone q.id a w.queues } in
+    let there : (after_next m q a).queues q.base ≡ x = written_here m.queues q.base x in
+    let both = takes_are_one log alone q.id a b w.queues in
+    let last : Queued → Machine =
+    λ f.
+    with_machine_queues m
+    (with_queues f q.base (record { next = (f q.base).next; queues = after_take_by log alone q.id b (f q.base).queues })) in
+    let y : PlainQueues = record { next = w.next; queues = after_take_by log alone q.id b x.queues } in (
+      both.0
+          ∙ ap (λ (z : PlainQueues). next_of m q a ++ unwrap_or (taken_by log alone q.id b z.queues) []) (sym there),
+      ap (λ qs. with_machine_queues m (with_queues m.queues q.base (record { next = w.next; queues = qs }))) both.1
+          ∙ ap (with_machine_queues m) (sym (written_twice m.queues q.base x y))
+          ∙ ap (λ (z : PlainQueues). with_machine_queues m
+          (with_queues (after_next m q a).queues q.base
+          (record { next = z.next; queues = after_take_by log alone q.id b z.queues }))) (sym there),
+    )
+
 -- and nothing where memory is wanting
 takes_none : (m n : Machine) (b : PlainKey) (id max : ℕ) → Acts alone m b (take_next id max) None n → n ≡ m
 takes_none m n b id max (h, others, logs) =
@@ -168,6 +208,21 @@ module _ {P : Type 0} (machine : P → Machine) where
   abbrev Finds : List PlainProjection → PlainEcho → ℕ → PlainRequest → PlainSession → P → (List PlainAnswer → Type 0)
       → PlainSession → P → Type 0
   Finds t e now r s p says new q = (w : Memory) × IsTransition (answered_with w t e (state_at p s) now r) says new q
+
+  -- batches that are taken, one behind the other, are what one take gives
+  batches_taken : (x : QueueId) (xs : List PlainBatch) (p q : P) → TakesIn (MachineActs x.base) x.id xs p q
+      → (entries_of xs ≡ next_of (machine p) x (sizes xs)) × (machine q ≡ after_next (machine p) x (sizes xs))
+  unfolding TakesIn
+  batches_taken x [] p q h =
+      let none = next_none (machine p) x in
+      (sym none.0, ap machine h ∙ sym none.1)
+  batches_taken x (b ∷ xs) p q (a, (o, (acts, is, more))) =
+      let here = takes_some (machine p) (machine o) x b.size a b.entries acts is in
+      let below = batches_taken x xs o q more in
+      let both = next_behind (machine p) x b.size (sizes xs) in (
+        (λ i. here.0 i ++ (below.0 ∙ ap (λ (z : Machine). next_of z x (sizes xs)) here.1) i) ∙ sym both.0,
+        below.1 ∙ ap (λ (z : Machine). after_next z x (sizes xs)) here.1 ∙ sym both.1,
+      )
 
   module _ (t : List PlainProjection) (e : PlainEcho) (now : ℕ) (s : PlainSession) (p : P)
       (says : List PlainAnswer → Type 0) (new : PlainSession) (q : P) where
@@ -221,16 +276,21 @@ module _ {P : Type 0} (machine : P → Machine) where
     pass_same : q ≡ p → machine q ≡ machine p
     pass_same h = ap machine h
 
+    listed_said : (k : PlainKey) (v : ℕ) (r : Result (List PlainEntry) Code)
+        → Reads is_filled r (operations ((machine p).logs (base_in t k)) v) × Same (machine p) (machine q) → new ≡ s
+        → says (listed_says e (through t k) k r) → Finds t e now (fetch k (Some v)) s p says new q
+    listed_said k v r (inl h, (l, z)) is said =
+        wants (fetch k (Some v)) h.1 (same_at l z) is
+        (subst (λ (x : Result (List PlainEntry) Code). says (listed_says e (through t k) k x)) h.0 said)
+    listed_said k v r (inr h, (l, z)) is said = replies (fetch k (Some v)) r h (same_at l z) is said
+
     fetch_said : (k : PlainKey) (v : Option ℕ) (r : ReadOf v) → Fetches (MachineActs (base_in t k)) v p r q → new ≡ s
         → says (read_says e (through t k) k v r) → Finds t e now (fetch k v) s p says new q
     fetch_said k None r (inl h, (l, z)) is said =
         wants (fetch k None) h.1 (same_at l z) is
         (subst (λ (x : Result PlainFetched Code). says (found_says e (through t k) k x)) h.0 said)
     fetch_said k None r (inr h, (l, z)) is said = replies (fetch k None) r h (same_at l z) is said
-    fetch_said k (Some v) r (inl h, (l, z)) is said =
-        wants (fetch k (Some v)) h.1 (same_at l z) is
-        (subst (λ (x : Result (List PlainEntry) Code). says (listed_says e (through t k) k x)) h.0 said)
-    fetch_said k (Some v) r (inr h, (l, z)) is said = replies (fetch k (Some v)) r h (same_at l z) is said
+    fetch_said k (Some v) r h is said = listed_said k v r (lists_at_once machine alone (base_in t k) v p q r h) is said
 
     snapshot_said : (k : PlainKey) (v : Option ℕ) (n : ℕ) (r : Result PlainFetched Code)
         → Acts alone (machine p) (base_in t k) (snapshot_call v) r (machine q) → new ≡ s
@@ -361,26 +421,24 @@ module _ {P : Type 0} (machine : P → Machine) where
     -- memory that is wanting for what a queue begins with changes nothing
     began : (k : PlainKey) (v : Option ℕ) (o : PlainSubscribed) (m n : P)
         → Begins MachineActs (base_in t k) v o m None n → machine n ≡ machine m
-    began k v o m n (inl h) = ap machine h.1
-    began k v o m n (inr (a, (takes, is))) =
-        let A : Option (Option (List PlainEntry)) → Type 0 =
-        λ x. MachineActs (base_in t k) (take_next o.id (behind v o.version)) m x n in
-        takes_none (machine m) (machine n) (base_in t k) o.id (behind v o.version) (subst A (came_none a is) takes)
+    began k v o m n (inl h) = ap machine h
+    began k v o m n (inr (max, takes)) = takes_none (machine m) (machine n) (base_in t k) o.id max takes
 
     joins : (k : PlainKey) (v : Option ℕ) (r : Result PlainJoined Code)
         → Joins MachineActs (base_in t k) v (queue_of k s.subs) p r q → Joined false k v r
-    joins k v (Ok j) (m, (n, (opens, inl h, ends))) = let x = h.0 in cc
-    joins k v (Ok j) (m, (n, (opens, inr (a, (takes, is)), ends))) =
+    joins k v (Ok j) (m, (n, (opens, (xs, (takes, total, all)), ends))) =
         let b = base_in t k in
         let old = queue_of k s.subs in
         let o = opens_ok (machine p) (machine m) b v j.opened opens in
         let x : QueueId = record { base = b; id = j.opened.id } in
         let max = behind v j.opened.version in
-        let y = takes_some (machine m) (machine n) x max a j.first takes is in
+        let y = batches_taken x xs m n takes in
         let first : j.first ≡ next_of (opened_machine (machine p) b v) x max =
-        y.0 ∙ ap (λ (z : Machine). next_of z x max) o.1 in
+        all ∙ y.0 ∙ ap (next_of (machine m) x) total ∙ ap (λ (z : Machine). next_of z x max) o.1 in
         let after : machine q ≡ closed_machine old (after_next (opened_machine (machine p) b v) x max) =
-        closes old n ends ∙ ap (closed_machine old) (y.1 ∙ ap (λ (z : Machine). after_next z x max) o.1) in
+        closes old n ends
+        ∙ ap (closed_machine old)
+        (y.1 ∙ ap (after_next (machine m) x) total ∙ ap (λ (z : Machine). after_next z x max) o.1) in
         let reply : Ok j ≡ (joined_at (machine p) b v old (Ok j.opened)).0 =
         ap (λ es. Ok (record { opened = j.opened; first = es })) first in
         inl (joined_by b v old (opening_at (machine p) b v).answer (Ok j.opened) (Ok j) o.0 reply after)

@@ -1,3 +1,5 @@
+pub mod BatchLaws
+pub mod Batches
 pub mod Dialogue
 pub mod Handling
 pub mod Laws

@@ -4,11 +4,11 @@ use Rattle.sdb_oplog.specs.Plain.{PlainEntry}
 use Rattle.sdb_oplog.specs.Keys.{PlainKey}
 use Rattle.sdb_projection.specs.Table.{PlainProjection}
 use Rattle.sdb_submit.specs.Calls.{take_next, unsubscribe}
-use Rattle.sdb_submit.specs.Chain.{Calls}
+use Rattle.sdb_submit.specs.Chain.{Calls, came}
 use Rattle.sdb_wire.specs.Answers.{PlainAnswer}
 use Rattle.sdb_session.specs.Projections.{through}
 use Rattle.sdb_session.specs.Sessions.{QueueId, PlainSub, PlainSession}
-use Rattle.sdb_session.specs.Handling.{messages, came}
+use Rattle.sdb_session.specs.Handling.{messages}
 
 -- a queue, and the entries that were taken of it
 pub record PlainTaking : Type 0 where

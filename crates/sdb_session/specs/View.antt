@@ -20,10 +20,8 @@ use Rattle.sdb_wire.specs.Answers.{PlainAnswer}
 use Rattle.sdb_wire.specs.View.{echo_from}
 use Rattle.sdb_session.specs.Sessions.{QueueId, PlainSub, PlainSession}
 use Rattle.sdb_session.specs.Written.{pieces_of}
-use Rattle.sdb_session.specs.Handling.{PlainJoined}
 use Rattle.sdb_session.specs.declared.session.Session.{Session}
 use Rattle.sdb_session.specs.declared.subscriptions.Subscription.{Subscription}
-use Rattle.sdb_session.specs.declared.subscriptions.Joined.{Joined}
 
 abbrev pub plain_queue : Subscription → QueueId
 plain_queue s = record { base = plain_key s.base; id = s.id }
@@ -47,13 +45,6 @@ plain_through o = option_map (λ p. plain_projection p.now) o
 
 abbrev pub plain_opened : Subscribed → PlainSubscribed
 plain_opened s = record { id = s.id; start = s.start; version = s.version; snapshot = option_map view s.snapshot }
-
-abbrev pub plain_joined : Joined → PlainJoined
-plain_joined j = record { opened = plain_opened j.opened; first = j.first.items }
-
-abbrev pub told_joined : Result Joined Code → Result PlainJoined Code
-told_joined (Ok j) = Ok (plain_joined j)
-told_joined (Err code) = Err code
 
 -- what came of a take. None is want of memory
 abbrev pub told_came : Result (Vec PlainEntry Global) AllocError → Option (List PlainEntry)

@@ -1,23 +1,25 @@
 //! The handlers of the requests: the calls of a desk, and the answers.
-ghost use Rattle.std.specs.Prelude.{◌≡◌, ℕ, ◌<◌, ◌∷◌, [], IfOk, OnOk, Ok, Err, Option, option_map, string_bytes, map};
+ghost use Rattle.std.specs.Prelude.{◌≡◌, ℕ, ◌<◌, ◌∷◌, [], IfOk, OnOk, Ok, Err, Option, None, Some, option_map, string_bytes};
 ghost use Rattle.indexmap.specs.IndexMap.{spare};
 ghost use Rattle.sdb_desk.specs.View.{told_fetched};
 ghost use Rattle.sdb_oplog.specs.Keys.{plain_key};
-ghost use Rattle.sdb_session.specs.Handling.{Closes, Handled, Handles, Begins, Joins, Refuses, found_says, listed_says, opened_says, snapshot_says, moment_says, submission_of};
+ghost use Rattle.sdb_session.specs.Batches.{Beginning, Joining};
+ghost use Rattle.sdb_session.specs.Handling.{Breaks, Closes, Handled, Handles, Refuses, found_says, last_says, messages, snapshot_says, moment_says, submission_of};
 ghost use Rattle.sdb_session.specs.Sessions.{is_full, put, queue_of, with_source, with_sub, without_sub};
-ghost use Rattle.sdb_session.specs.View.{plain_joined, plain_opened, plain_queue, plain_session, plain_through, shown_of, told_came, told_joined, Says, Wrote};
+ghost use Rattle.sdb_session.specs.View.{plain_opened, plain_queue, plain_session, plain_through, shown_of, Says, Wrote};
 ghost use Rattle.sdb_value.specs.View.{view};
 ghost use Rattle.sdb_wire.specs.Answers.{fetched, named, snapshot as snapshot_answer, at_time as moment_answer, unsubscribed};
 ghost use Rattle.sdb_wire.specs.View.{plain_request};
 ghost use Rattle.sdb_wire.specs.Wire.{PlainEcho, fetch, snapshot, at_time, submit, subscribe};
 
+use crate::batches::{BatchFault, list, write_next};
 use crate::projected::{base_key, base_or, moved_key, permits, seen_document};
-use crate::replies::{refuse, say, say_list, say_opened, say_reply};
+use crate::replies::{refuse, say, say_opened, say_reply};
 use crate::reply_sink::ReplySink;
 use crate::session::{SUBSCRIPTION_LIMIT, Session};
-use crate::subscriptions::{Joined, Subscription, close, first_count, take};
+use crate::subscriptions::{Subscription, close, first_count};
 use sdb_desk::{Fetched, Subscribed};
-use sdb_oplog::{Code, Content, Entry, Key, Moment, Submission};
+use sdb_oplog::{Code, Content, Key, Moment, Submission};
 use sdb_projection::{Projection, Table};
 use sdb_submit::{Desk, NoGate, submit};
 use sdb_value::Json;
@@ -69,6 +71,7 @@ impl Session {
         ensures handled { Handled result
             (Handles (D.acts desk.now) (shown_of message.entry) table.now (D.number desk.now pass.old) now
             (plain_session self.old) (plain_request request) pass.old)
+            (Breaks (D.acts desk.now) table.now (plain_request request))
             (Wrote O.pieces (O.written out.old) (O.written out.new))
             (plain_session self.old) pass.old (plain_session self.new) pass.new }
         ensures ended { self.new.ended ≡ self.old.ended }
@@ -142,6 +145,7 @@ impl Session {
         ensures handled { (t : ℕ) → Handled result
             (Handles (D.acts desk.now) (shown_of message.entry) table.now (D.number desk.now pass.old) t
             (plain_session self.now) (fetch (plain_key key.now) version) pass.old)
+            (Breaks (D.acts desk.now) table.now (fetch (plain_key key.now) version))
             (Wrote O.pieces (O.written out.old) (O.written out.new))
             (plain_session self.now) pass.old (plain_session self.now) pass.new }
     {
@@ -167,6 +171,7 @@ impl Session {
         ensures handled { (t : ℕ) → Handled result
             (Handles (D.acts desk.now) (shown_of message.entry) table.now (D.number desk.now pass.old) t
             (plain_session self.now) (fetch (plain_key key.now) None) pass.old)
+            (Breaks (D.acts desk.now) table.now (fetch (plain_key key.now) None))
             (Wrote O.pieces (O.written out.old) (O.written out.new))
             (plain_session self.now) pass.old (plain_session self.now) pass.new }
     {
@@ -179,7 +184,7 @@ impl Session {
         }
     }
 
-    // Writes the stored operations from a version on.
+    // Writes the stored operations from a version on, up to the version that is present.
     fn fetch_operations<D: Desk, O: ReplySink>(
         &self,
         desk: &D,
@@ -196,18 +201,17 @@ impl Session {
         ensures handled { (t : ℕ) → Handled result
             (Handles (D.acts desk.now) (shown_of message.entry) table.now (D.number desk.now pass.old) t
             (plain_session self.now) (fetch (plain_key key.now) (Some from)) pass.old)
+            (Breaks (D.acts desk.now) table.now (fetch (plain_key key.now) (Some from)))
             (Wrote O.pieces (O.written out.old) (O.written out.new))
             (plain_session self.now) pass.old (plain_session self.now) pass.new }
     {
         let projection = table.find(key.collection.as_str());
         let moved = moved_key(projection, key)?;
         let base = base_or(&moved, key);
-        match desk.ops_from(pass, base, from) {
-            Ok(entries) => {
-                let last = Answer::Listed { key };
-                say_list(self.alloc, projection, key, entries.as_slice(), &last, out)
-            }
-            Err(code) => refuse(self.alloc, message, code, out),
+        match list(self.alloc, desk, pass, projection, key, base, from, out) {
+            Ok(()) => say(self.alloc, &Answer::Listed { key }, out),
+            Err(BatchFault::Refused(code)) => refuse(self.alloc, message, code, out),
+            Err(BatchFault::Memory { error }) => Err(error),
         }
     }
 
@@ -229,6 +233,8 @@ impl Session {
             (Handles (D.acts desk.now) (shown_of message.entry) table.now (D.number desk.now pass.old) sent.now
             (plain_session self.now)
             (submit (plain_key key.now) sent.version sent.seq (option_map string_bytes sent.src) sent.content) pass.old)
+            (Breaks (D.acts desk.now) table.now
+            (submit (plain_key key.now) sent.version sent.seq (option_map string_bytes sent.src) sent.content))
             (Wrote O.pieces (O.written out.old) (O.written out.new))
             (plain_session self.now) pass.old (plain_session self.now) pass.new }
     {
@@ -288,6 +294,7 @@ impl Session {
         ensures handled { (t : ℕ) → Handled result
             (Handles (D.acts desk.now) (shown_of message.entry) table.now (D.number desk.now pass.old) t
             (plain_session self.now) (snapshot (plain_key asked.key) asked.version asked.id) pass.old)
+            (Breaks (D.acts desk.now) table.now (snapshot (plain_key asked.key) asked.version asked.id))
             (Wrote O.pieces (O.written out.old) (O.written out.new))
             (plain_session self.now) pass.old (plain_session self.now) pass.new }
     {
@@ -317,6 +324,7 @@ impl Session {
         ensures handled { (t : ℕ) → Handled result
             (Handles (D.acts desk.now) (shown_of message.entry) table.now (D.number desk.now pass.old) t
             (plain_session self.now) (at_time (plain_key asked.key) asked.moment asked.id) pass.old)
+            (Breaks (D.acts desk.now) table.now (at_time (plain_key asked.key) asked.moment asked.id))
             (Wrote O.pieces (O.written out.old) (O.written out.new))
             (plain_session self.now) pass.old (plain_session self.now) pass.new }
     {
@@ -347,6 +355,7 @@ impl Session {
         ensures handled { (t : ℕ) → Handled result
             (Handles (D.acts desk.now) (shown_of message.entry) table.now (D.number desk.now pass.old) t
             (plain_session self.old) (subscribe (plain_key key) version) pass.old)
+            (Breaks (D.acts desk.now) table.now (subscribe (plain_key key) version))
             (Wrote O.pieces (O.written out.old) (O.written out.new))
             (plain_session self.old) pass.old (plain_session self.new) pass.new }
         ensures ended { self.new.ended ≡ self.old.ended }
@@ -357,98 +366,101 @@ impl Session {
             let code = full_code(desk, pass, &base, version);
             return refuse(self.alloc, message, code, out);
         }
-        match self.join(desk, pass, &key, &base, version) {
-            Err(code) => refuse(self.alloc, message, code, out),
-            Ok(joined) => self.follow(projection, key, base, version, joined, out),
+        match self.join(desk, pass, projection, &key, &base, version, out) {
+            Ok(opened) => self.follow(projection, key, base, version, opened, out),
+            Err(BatchFault::Refused(code)) => refuse(self.alloc, message, code, out),
+            Err(BatchFault::Memory { error }) => Err(error),
         }
     }
 
-    // Keeps the queue that was opened for the pair, and writes what it begins with. There is room for one
-    // more.
+    // Keeps the queue that was opened for the pair, and writes what ends the answer. There is room for one more.
     fn follow<O: ReplySink>(
         &mut self,
         projection: Option<&Projection>,
         key: Key,
         base: Key,
         version: Option<u64>,
-        joined: Joined,
+        opened: Subscribed,
         out: &mut O,
     ) -> Result<(), AllocError>
         requires { 0 < spare self.old.subscriptions }
         ensures says { Says result (Wrote O.pieces (O.written out.old) (O.written out.new))
-            (opened_says (plain_through projection.entry) (plain_key key) version (plain_joined joined)) }
+            (last_says (plain_through projection.entry) (plain_key key) version (plain_opened opened)) }
         ensures session { plain_session self.new ≡ with_sub (plain_session self.old) (plain_key key)
-            (record { base = plain_key base; id = joined.opened.id }) }
+            (record { base = plain_key base; id = opened.id }) }
         ensures ended { self.new.ended ≡ self.old.ended }
     {
-        let Joined { opened, first } = joined;
         let id = opened.id;
-        let said = say_opened(
-            self.alloc,
-            projection,
-            &key,
-            version,
-            opened,
-            first.as_slice(),
-            out,
-        );
+        let said = say_opened(self.alloc, projection, &key, version, opened, out);
         self.put(key, Subscription { base, id });
         said
     }
 
-    // Opens a queue for the pair, makes room for it, takes its first entries, up to the present version,
-    // and closes the old queue. Where memory is wanting once it is open, it is closed again.
-    fn join<D: Desk>(
+    // Opens a queue for the pair, makes room for it, writes its first entries, up to the present version, and
+    // closes the old queue. Where that ends half way, the new one is closed again.
+    fn join<D: Desk, O: ReplySink>(
         &mut self,
         desk: &D,
         pass: &mut D::Pass,
+        projection: Option<&Projection>,
         key: &Key,
         base: &Key,
         version: Option<u64>,
-    ) -> Result<Joined, Code>
+        out: &mut O,
+    ) -> Result<Subscribed, BatchFault>
         requires takes { D.takes desk.now pass.old }
         ensures takes { D.takes desk.now pass.new }
         ensures number { D.number desk.now pass.new ≡ D.number desk.now pass.old }
-        ensures joins { Joins (D.acts desk.now) (plain_key base.now) version
-            (queue_of (plain_key key.now) (plain_session self.old).subs) pass.old (told_joined result) pass.new }
+        ensures joins { Joining (D.acts desk.now) (plain_key base.now) version
+            (queue_of (plain_key key.now) (plain_session self.old).subs)
+            (λ es. Wrote O.pieces (O.written out.old) (O.written out.new)
+            (messages (plain_through projection.entry) (plain_key key.now) es)) pass.old result pass.new }
         ensures session { plain_session self.new ≡ plain_session self.old }
         ensures room { OnOk result (0 < spare self.new.subscriptions) }
         ensures ended { self.new.ended ≡ self.old.ended }
     {
         let opened = desk.subscribe(pass, base, version)?;
-        match self.first_entries(desk, pass, base, version, &opened) {
-            Ok(first) => {
+        match self.begin(desk, pass, projection, key, base, version, &opened, out) {
+            Ok(()) => {
                 close(desk, pass, self.subscriptions.get(key));
-                Ok(Joined { opened, first })
+                Ok(opened)
             }
-            Err(error) => {
+            Err(fault) => {
                 desk.unsubscribe(pass, base, opened.id);
-                Err(Code::from(error))
+                Err(fault)
             }
         }
     }
 
-    // Makes room for one more pair, and takes the first entries of the queue that was opened for it.
-    fn first_entries<D: Desk>(
+    // Makes room for one more pair, and writes the first entries of the queue that was opened for it.
+    fn begin<D: Desk, O: ReplySink>(
         &mut self,
         desk: &D,
         pass: &mut D::Pass,
+        projection: Option<&Projection>,
+        key: &Key,
         base: &Key,
         version: Option<u64>,
         opened: &Subscribed,
-    ) -> Result<Vec<Entry>, AllocError>
+        out: &mut O,
+    ) -> Result<(), BatchFault>
         requires takes { D.takes desk.now pass.old }
         ensures takes { D.takes desk.now pass.new }
         ensures number { D.number desk.now pass.new ≡ D.number desk.now pass.old }
-        ensures begins { Begins (D.acts desk.now) (plain_key base.now) version (plain_opened opened.now)
-            pass.old (told_came result) pass.new }
+        ensures begins { Beginning (D.acts desk.now) (plain_key base.now) version (plain_opened opened.now)
+            (λ es. Wrote O.pieces (O.written out.old) (O.written out.new)
+            (messages (plain_through projection.entry) (plain_key key.now) es)) pass.old result pass.new }
         ensures session { plain_session self.new ≡ plain_session self.old }
         ensures room { OnOk result (0 < spare self.new.subscriptions) }
         ensures ended { self.new.ended ≡ self.old.ended }
     {
-        self.subscriptions.reserve(1)?;
-        let max = first_count(version, opened.version);
-        take(self.alloc, desk, pass, base, opened.id, max)
+        if let Err(error) = self.subscriptions.reserve(1) {
+            return Err(BatchFault::Refused(Code::from(error)));
+        }
+        let count = first_count(version, opened.version);
+        write_next(
+            self.alloc, desk, pass, projection, key, base, opened.id, count, out,
+        )
     }
 
     // Whether there is no room for a further pair.

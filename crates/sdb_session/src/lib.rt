@@ -1,6 +1,7 @@
 //! One session: each message is answered, and what was stored meanwhile is sent.
 #![tactic(auto)]
 
+mod batches;
 mod handlers;
 mod projected;
 mod pumping;

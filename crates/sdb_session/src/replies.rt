@@ -5,7 +5,7 @@ ghost use Rattle.sdb_oplog.specs.Keys.{plain_key};
 ghost use Rattle.sdb_session.specs.Projections.{seen};
 ghost use Rattle.sdb_session.specs.Written.{pieces_of};
 ghost use Rattle.sdb_session.specs.View.{plain_opened, plain_through, shown_of, Wrote};
-ghost use Rattle.sdb_session.specs.Handling.{messages, reply_says, opened_says};
+ghost use Rattle.sdb_session.specs.Handling.{messages, reply_says, last_says};
 ghost use Rattle.sdb_value.specs.View.{view};
 ghost use Rattle.sdb_wire.specs.Answers.{op_message, failed, subscribed};
 ghost use Rattle.sdb_wire.specs.View.{plain_answer};
@@ -140,29 +140,24 @@ pub(crate) fn say_reply<O: ReplySink>(
     }
 }
 
-// Writes the document to a subscriber, or the stored operations from the version that was asked for.
+// Writes what ends the answer to a subscriber: the document, or that the stored operations came before.
 pub(crate) fn say_opened<O: ReplySink>(
     alloc: Global,
     projection: Option<&Projection>,
     key: &Key,
     version: Option<u64>,
     opened: Subscribed,
-    first: &[Entry],
     out: &mut O,
 ) -> Result<(), AllocError>
     ensures { OnOk result (Wrote O.pieces (O.written out.old) (O.written out.new)
-        (opened_says (plain_through projection.entry) (plain_key key.now) version
-        (record { opened = plain_opened opened; first = first.now }))) }
+        (last_says (plain_through projection.entry) (plain_key key.now) version (plain_opened opened))) }
 {
     match version {
         None => {
             let document = seen_document(alloc, projection, opened.snapshot)?;
             say_subscribed(alloc, key, opened.version, document.as_ref(), out)
         }
-        Some(_) => {
-            let last = Answer::CaughtUp { key };
-            say_list(alloc, projection, key, first, &last, out)
-        }
+        Some(_) => say(alloc, &Answer::CaughtUp { key }, out),
     }
 }
 

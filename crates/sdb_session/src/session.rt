@@ -3,7 +3,7 @@ ghost use Rattle.std.specs.Prelude.{◌≡◌, ◌∷◌, [], true, false, IfOk,
 ghost use Rattle.std.specs.Result.{is_err, is_ok};
 ghost use Rattle.sdb_oplog.specs.declared.codes.Code.TheVariants.{E1};
 ghost use Rattle.sdb_session.specs.View.{Wrote, has_ended, plain_session};
-ghost use Rattle.sdb_session.specs.Handling.{Answers, Handled};
+ghost use Rattle.sdb_session.specs.Handling.{Answers, AnswersSome, Handled};
 ghost use Rattle.sdb_wire.specs.Answers.{answer_text, init, failed};
 ghost use Rattle.sdb_wire.specs.Wire.{nothing_said, parse_message};
 
@@ -103,6 +103,7 @@ impl Session {
         ensures handled { Handled result
             (Answers (D.acts desk.now) text.now table.now (D.number desk.now pass.old) now
             (plain_session self.old) pass.old)
+            (AnswersSome (D.acts desk.now) text.now table.now)
             (λ answers. IfOk result (λ texts. map string_bytes texts.items ≡ map answer_text answers))
             (plain_session self.old) pass.old (plain_session self.new) pass.new }
     {
@@ -138,10 +139,12 @@ impl Session {
         // An ended session asks nobody.
         ensures asks { has_ended self.old ≡ true →
             (pass.new ≡ pass.old) × (plain_session self.new ≡ plain_session self.old) }
-        // After an error nothing was done, or all that the message does but for its answers.
+        // After an error nothing was done, or all that the message does but for its answers, or a list of
+        // operations broke off: a queue that was opened for it is closed again then.
         ensures handled { Handled result
             (Answers (D.acts desk.now) text.now table.now (D.number desk.now pass.old) now
             (plain_session self.old) pass.old)
+            (AnswersSome (D.acts desk.now) text.now table.now)
             (Wrote O.pieces (O.written out.old) (O.written out.new))
             (plain_session self.old) pass.old (plain_session self.new) pass.new }
     {
@@ -171,6 +174,7 @@ impl Session {
         ensures handled { Handled result
             (Answers (D.acts desk.now) text.now table.now (D.number desk.now pass.old) now
             (plain_session self.old) pass.old)
+            (AnswersSome (D.acts desk.now) text.now table.now)
             (Wrote O.pieces (O.written out.old) (O.written out.new))
             (plain_session self.old) pass.old (plain_session self.new) pass.new }
     {

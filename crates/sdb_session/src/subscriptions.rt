@@ -5,7 +5,6 @@ ghost use Rattle.sdb_session.specs.Pumps.{TakesOne};
 ghost use Rattle.sdb_session.specs.View.{plain_queue, told_came};
 ghost use Rattle.sdb_session.specs.Handling.{behind, Closes};
 
-use sdb_desk::Subscribed;
 use sdb_oplog::{Entry, Key};
 use sdb_submit::Desk;
 use sdb_subscribe::SubId;
@@ -16,13 +15,6 @@ use std::alloc::{AllocError, Global};
 pub(crate) struct Subscription {
     pub base: Key,
     pub id: SubId,
-}
-
-// A queue that was opened, and its first entries, up to the version that was present then.
-#[derive(Drop)]
-pub(crate) struct Joined {
-    pub opened: Subscribed,
-    pub first: Vec<Entry>,
 }
 
 // Closes the queue, if there is one.

@@ -1,5 +1,6 @@
 pub mod Commits
 pub mod Continued
+pub mod Dumps
 pub mod Follows
 pub mod Growing
 pub mod Made

@@ -1,6 +1,8 @@
 -- What a run over lines writes, from an empty world on.
-use Rattle.std.specs.Prelude.{◌≡◌, ℕ, List, map, Option, Result, Ok, Err}
+use Rattle.std.specs.Prelude.{◌≡◌, ℕ, ◌⊎◌, List, [], map, Option, Result, Ok, Err}
 use Rattle.std.specs.Io.KnownBytes.{Appends}
+use Rattle.sdb_dump.specs.Written as dumps
+use Rattle.sdb_dump.specs.Written.{WroteDump, HasEntries}
 use Rattle.sdb_lines.specs.Fronts.{IsFront, AppendsFront}
 use Rattle.sdb_oplog.specs.Keys.{Logs}
 use Rattle.sdb_oplog.specs.declared.codes.Code.{Code}
@@ -33,3 +35,30 @@ abbrev pub WroteFront : List (Option (List ℕ)) → Option (List ℕ) → Optio
 WroteFront lines old new =
     (taken : List (Option (List ℕ))) × (text : List ℕ) × IsFront taken lines × Run (map reading_step taken) text
     × AppendsFront old new text
+
+-- ---- the dump of the last world
+
+-- one line, of which no answer is written
+abbrev pub TakesUnanswered : Result PlainStep Code → OneStep → Sessions → List ℕ → OneStep → Sessions → Type 0
+TakesUnanswered (Ok s) m w bytes n v = (bytes ≡ []) × ((a : Answer) × IsStep m w s a n v)
+TakesUnanswered (Err code) m w bytes n v = (bytes ≡ []) × (n ≡ m) × (v ≡ w)
+
+-- the lines that are steps leave these logs, by a machine that takes each submission in one step at its deciding commit
+pub record Leaves (readings : List (Result PlainStep Code)) (logs : Logs) : Type 0 where
+  pub answers : List Answer
+  pub events : List Event
+  pub sessions : Sessions
+  pub picks : Picks (steps_in readings) answers events sessions
+  pub legal : Legal events (replies_in answers) logs
+
+-- known bytes grew by the dump of the logs that these lines leave, of so many entries
+pub record WroteWorld (lines : List (Option (List ℕ))) (old new : Option (List ℕ)) (entries : ℕ) : Type 0 where
+  pub logs : Logs
+  pub left : Leaves (map reading_step lines) logs
+  pub wrote : WroteDump logs old new
+  pub counted : HasEntries logs entries
+
+-- known bytes are as they were, or grew by a front of that dump
+abbrev pub WroteWorldFront : List (Option (List ℕ)) → Option (List ℕ) → Option (List ℕ) → Type 0
+WroteWorldFront lines old new =
+    Appends old new [] ⊎ ((logs : Logs) × Leaves (map reading_step lines) logs × dumps.WroteFront logs old new)

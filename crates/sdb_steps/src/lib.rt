@@ -4,6 +4,7 @@
 mod answers;
 mod attempts;
 mod dispatch;
+mod dumping;
 mod laws;
 mod queue_slots;
 mod reading;
@@ -16,6 +17,7 @@ mod world;
 mod world_parts;
 
 pub use answers::{write_refusal, write_step_answer};
+pub use dumping::{dump, run_dump};
 pub use laws::{
     logs_are_made, queues_take_all, reads_are_replays, repeats_are_answered, resent,
     runs_are_legal, runs_begin, runs_go_on, snapshots_are_replays, stored_once,
@@ -23,6 +25,7 @@ pub use laws::{
 };
 pub use reading::read_step;
 pub use running::{Ran, run, run_steps};
+pub use sdb_dump::{Checked, DumpFault, check_dump};
 pub use session_number::{SESSIONS, SessionNumber};
 pub use step::{Step, StepAnswer};
 pub use world::World;

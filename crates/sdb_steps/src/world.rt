@@ -8,6 +8,8 @@ ghost use Rattle.sdb_steps.specs.View.{plain_step, plain_answer};
 
 use crate::step::{Step, StepAnswer};
 use crate::world_parts::Parts;
+use sdb_dump::Documents;
+use sdb_oplog::{Key, Log};
 use std::alloc::{AllocError, Global};
 
 /// All documents, and what each of the 64 sessions keeps: at most one attempt, and at most one queue of
@@ -43,5 +45,17 @@ impl World {
             (machine_of self.new) (sessions_of self.new) }
     {
         self.parts.step(step)
+    }
+}
+
+impl Documents for World {
+    ghost logs = { λ w. (machine_of w).logs };
+
+    fn keys(&self) -> Result<Vec<Key>, AllocError> {
+        self.parts.shard.documents()
+    }
+
+    fn log(&self, key: &Key) -> Option<&Log> {
+        self.parts.shard.log(key)
     }
 }

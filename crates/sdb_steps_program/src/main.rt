@@ -3,6 +3,8 @@
 #![tactic(auto)]
 
 mod command;
+#[cfg(test)]
+mod tests;
 
 use std::env;
 use std::process::ExitCode;

@@ -1,10 +1,11 @@
--- What a submission does at a desk: a chain of calls of that desk.
-use Rattle.std.specs.Prelude.{◌≢◌, ℕ, zero, suc, ◌⊎◌, Some, None}
-use Rattle.sdb_oplog.specs.Plain.{PlainSubmission}
+-- What a submission, a list of operations and the first takes of a queue do at a desk: chains of calls of that desk.
+use Rattle.std.specs.Prelude.{◌≡◌, ◌≢◌, ℕ, zero, suc, ◌+◌, ◌<◌, ◌≤◌, ◌⊎◌, List, [], ◌∷◌, ◌++◌, Option, Some, None, Result, Ok, Err}
+use Rattle.sdb_oplog.specs.Plain.{PlainEntry, PlainSubmission}
+use Rattle.sdb_oplog.specs.declared.codes.Code.{Code}
 use Rattle.sdb_oplog.specs.Decide.{PlainReply, refused}
-use Rattle.sdb_oplog.specs.declared.codes.Code.TheVariants.{E10}
+use Rattle.sdb_oplog.specs.declared.codes.Code.TheVariants.{E4, E10}
 use Rattle.sdb_desk.specs.Machine.{PlainLook, decided, moved}
-use Rattle.sdb_submit.specs.Calls.{PlainCall, look, commit, commit_now, AnswerTo}
+use Rattle.sdb_submit.specs.Calls.{PlainCall, look, commit, commit_now, present, ops_between, take_next, AnswerTo}
 
 -- how each call relates what is before it, its answer and what is after it
 abbrev pub Calls : Type 0 → Type 1
@@ -28,3 +29,64 @@ abbrev pub Submits : {P : Type 0} → Calls P → PlainSubmission → ℕ → P 
 Submits acts s now p r q =
     ((o : _) × (acts (look s) p None o × acts (commit_now s now) o r q))
     ⊎ ((l : PlainLook) × ((o : _) × (acts (look s) p (Some l) o × Tries acts s now 8 l o r q)))
+
+-- ---- operations in batches
+
+-- so many operations were asked for together, and these came
+pub record PlainBatch : Type 0 where
+  pub size : ℕ
+  pub entries : List PlainEntry
+
+abbrev pub sizes : List PlainBatch → ℕ
+sizes [] = 0
+sizes (x ∷ xs) = x.size + sizes xs
+
+abbrev pub entries_of : List PlainBatch → List PlainEntry
+entries_of [] = []
+entries_of (x ∷ xs) = x.entries ++ entries_of xs
+
+-- the operations from a version on are read in these batches, one behind the other
+unfoldable pub ReadsIn : {P : Type 0} → Calls P → ℕ → List PlainBatch → P → P → Type 0
+ReadsIn acts v [] p q = q ≡ p
+ReadsIn acts v (x ∷ xs) p q =
+    (o : _) × (acts (ops_between v (v + x.size)) p (Some x.entries) o × ReadsIn acts (v + x.size) xs o q)
+
+-- what came of a take: nothing of a queue that isn't known. None is want of memory
+abbrev pub came : Option (Option (List PlainEntry)) → Option (List PlainEntry)
+came (Some (Some es)) = Some es
+came (Some None) = Some []
+came None = None
+
+-- the next operations of a queue are taken in these batches
+unfoldable pub TakesIn : {P : Type 0} → Calls P → ℕ → List PlainBatch → P → P → Type 0
+TakesIn acts n [] p q = q ≡ p
+TakesIn acts n (x ∷ xs) p q =
+    (a : Option (Option (List PlainEntry)))
+    × ((o : _) × (acts (take_next n x.size) p a o × (came a ≡ Some x.entries) × TakesIn acts n xs o q))
+
+-- some of them were taken, and perhaps memory was wanting for the next ones
+abbrev pub TakesSome : {P : Type 0} → Calls P → ℕ → P → P → Type 0
+TakesSome acts n p q =
+    (xs : List PlainBatch)
+    × ((o : _) × (TakesIn acts n xs p o × ((q ≡ o) ⊎ ((i : ℕ) × acts (take_next n i) o None q))))
+
+-- the operations from a version on are listed up to the one that was present first. It is E4 where that is below the
+-- version, and E10 where memory is wanting for the first batch
+abbrev pub Lists : {P : Type 0} → Calls P → ℕ → P → Result (List PlainEntry) Code → P → Type 0
+Lists acts v p (Ok es) q =
+    (xs : List PlainBatch)
+    × ((o : _) × (acts present p (v + sizes xs) o × ReadsIn acts v xs o q × (es ≡ entries_of xs)))
+Lists acts v p (Err code) q =
+    ((last : ℕ) × (acts present p last q × (last < v) × (code ≡ E4)))
+    ⊎ ((last : ℕ)
+    × ((n : ℕ)
+    × ((o : _) × (acts present p last o × acts (ops_between v n) o None q × (n ≤ last) × (code ≡ E10)))))
+
+-- some of them were read, and perhaps memory was wanting for the next ones
+abbrev pub ListsSome : {P : Type 0} → Calls P → ℕ → P → P → Type 0
+ListsSome acts v p q =
+    (last : ℕ)
+    × ((xs : List PlainBatch)
+    × ((m : _)
+    × ((o : _) × (acts present p last m × ReadsIn acts v xs m o
+    × ((q ≡ o) ⊎ ((n : ℕ) × acts (ops_between (v + sizes xs) n) o None q))))))

@@ -4,7 +4,7 @@ ghost use Rattle.sdb_oplog.specs.Keys.{PlainKey, plain_key};
 ghost use Rattle.sdb_desk.specs.Machine.{Keeps, PlainAttempt};
 ghost use Rattle.sdb_desk.specs.View.{plain_look, plain_outcome, told_fetched, told_entries, told_subscribed, told_taken};
 ghost use Rattle.sdb_desk.specs.ReplyView.{plain_reply};
-ghost use Rattle.sdb_submit.specs.Calls.{PlainCall, look, commit, commit_now, present, fetch, ops_from, snapshot, at_time, forget, subscribe, take_next, unsubscribe, AnswerTo, IfMoved, told_look};
+ghost use Rattle.sdb_submit.specs.Calls.{PlainCall, look, commit, commit_now, present, fetch, ops_from, ops_between, snapshot, at_time, forget, subscribe, take_next, unsubscribe, AnswerTo, IfMoved, told_copies, told_look};
 
 use sdb_desk::{Fetched, Look, Outcome, Reply, Subscribed, Work};
 use sdb_oplog::{Code, Entry, Key, Moment, Submission};
@@ -104,6 +104,21 @@ pub trait Desk {
         ensures takes { takes self.now pass.new }
         ensures number { number self.now pass.new ≡ number self.now pass.old }
         ensures acts { acts self.now (plain_key key.now) (ops_from version) pass.old (told_entries result) pass.new };
+
+    /// The stored operations from a version on, before the version `to`, as far as there are any. It fails only
+    /// for want of memory.
+    fn ops_between(
+        &self,
+        pass: &mut Self::Pass,
+        key: &Key,
+        from: u64,
+        to: u64,
+    ) -> Result<Vec<Entry>, AllocError>
+        requires { takes self.now pass.old }
+        ensures takes { takes self.now pass.new }
+        ensures number { number self.now pass.new ≡ number self.now pass.old }
+        ensures acts { acts self.now (plain_key key.now) (ops_between from to) pass.old
+            (told_copies result) pass.new };
 
     /// The version, or the present one where none is named, and the document there; E4 where the version
     /// is above the present one; or E10.

@@ -65,6 +65,16 @@ impl Desk for Solo {
         pass.ops_from(key, version)
     }
 
+    fn ops_between(
+        &self,
+        pass: &mut Shard,
+        key: &Key,
+        from: u64,
+        to: u64,
+    ) -> Result<Vec<Entry>, AllocError> {
+        pass.ops_between(key, from, to)
+    }
+
     fn snapshot_at(
         &self,
         pass: &mut Shard,

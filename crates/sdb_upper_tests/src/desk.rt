@@ -204,6 +204,10 @@ fn operations_are_listed_from_a_version(rt: HostRuntime) {
     let board = Board::new(&rt, rt.alloc());
     assert!(rt; listed(&board, 0) == Ok(1));
     assert!(rt; listed(&board, 2) == Err(Code::E4));
+    for (from, to, count) in [(0, 0, 0), (0, 1, 1), (0, 9, 1), (1, 9, 0), (9, 1, 0)] {
+        let ops = board.shard.ops_between(&board.key, from, to);
+        assert!(rt; ops.expect(&rt, "out of memory").len() == count);
+    }
 }
 
 fn number_at(rt: &impl Abort, board: &mut Board, version: u64) -> Option<i64> {

@@ -7,6 +7,8 @@ mod backend;
 #[cfg(test)]
 mod desk;
 #[cfg(test)]
+mod dumps;
+#[cfg(test)]
 mod growths;
 #[cfg(test)]
 mod parts;

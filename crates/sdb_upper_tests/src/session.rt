@@ -36,6 +36,14 @@ impl Room {
         }
     }
 
+    // The texts that answer the message.
+    fn texts(&mut self, rt: &impl Abort, session: &mut Session, text: &str) -> Vec<String> {
+        session
+            .handle(&Solo, &mut self.shard, &self.table, text, Moment::first())
+            .ok()
+            .expect(rt, "out of memory")
+    }
+
     // How many entries the session takes, and how many texts it is sent.
     fn pumped(&mut self, session: &mut Session) -> Option<(u128, usize)> {
         match session.pump(&Solo, &mut self.shard, &self.table, 64) {
@@ -92,4 +100,65 @@ fn a_session_takes_what_is_stored(rt: HostRuntime) {
     assert!(rt; room.pumped(&mut first) == Some((1, 0)));
     assert!(rt; room.pumped(&mut second) == Some((1, 1)));
     fetch(&rt, rt.alloc(), &mut room, &mut second);
+}
+
+// Adds to the number once for each of these numbers of its source.
+fn count_up(
+    rt: &impl Abort,
+    alloc: Global,
+    room: &mut Room,
+    session: &mut Session,
+    from: u64,
+    to: u64,
+) {
+    let add = r#"{"a":"op","c":"b","d":"1","v":null,"op":[{"p":[],"na":1}],"seq":"#;
+    for seq in from..to {
+        let edit = format!(in alloc; "{add}{seq}}}").expect(rt, "out of memory");
+        assert!(rt; room.texts(rt, session, edit.as_str()).len() == 1);
+    }
+}
+
+// Asserts that all operations are listed, and that those in the middle and at the end are what a list from there shows.
+fn assert_list(
+    rt: &impl Abort,
+    alloc: Global,
+    room: &mut Room,
+    session: &mut Session,
+    kind: &str,
+    length: usize,
+) {
+    let all = format!(in alloc; r#"{{"a":"{kind}","c":"b","d":"1","v":0}}"#).expect(
+        rt,
+        "out of memory",
+    );
+    let all = room.texts(rt, session, all.as_str());
+    assert!(rt; all.len() == length + 1);
+    for from in [1, length / 2, length - 1] {
+        let rest = format!(in alloc; r#"{{"a":"f","c":"b","d":"1","v":{from}}}"#).expect(
+            rt,
+            "out of memory",
+        );
+        let rest = room.texts(rt, session, rest.as_str());
+        assert!(rt; rest.len() == length - from + 1);
+        assert!(rt; rest.first() == all.get(from));
+    }
+}
+
+// Lists that end before, at and behind a batch's end.
+#[test]
+fn long_lists_are_written_in_batches(rt: HostRuntime) {
+    let alloc = rt.alloc();
+    let mut room = Room::new(alloc);
+    let mut session = named(&rt, alloc, "s1");
+    let create = r#"{"a":"op","c":"b","d":"1","seq":1,"create":{"type":"json0","data":0}}"#;
+    assert!(rt; room.texts(&rt, &mut session, create).len() == 1);
+    let mut length = 1;
+    for wanted in [1_023, 1_024, 1_025, 2_049] {
+        count_up(&rt, alloc, &mut room, &mut session, length + 1, wanted + 1);
+        length = wanted;
+        for kind in ["f", "s"] {
+            assert_list(&rt, alloc, &mut room, &mut session, kind, length as usize);
+        }
+        assert!(rt; room.pumped(&mut session) == Some((0, 0)));
+    }
 }

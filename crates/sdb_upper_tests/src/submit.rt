@@ -113,6 +113,16 @@ impl Desk for Meddling {
         pass.shard.ops_from(key, version)
     }
 
+    fn ops_between(
+        &self,
+        pass: &mut Shared,
+        key: &Key,
+        from: u64,
+        to: u64,
+    ) -> Result<Vec<Entry>, AllocError> {
+        pass.shard.ops_between(key, from, to)
+    }
+
     fn snapshot_at(
         &self,
         pass: &mut Shared,

@@ -22,6 +22,6 @@ returns-in-Ok-clause-handled g c = λ now.
     let wrote = Wrote g.O.ReplySink.pieces (g.O.ReplySink.written c.args.out.now) (g.O.ReplySink.written c.say_moment.new.out) in
     let seen : o ≡ through t k = c.find-projection.ensures ∙ ap (λ n. projection_of n t) c.as_str.ensures.value in
     let r = told_fetched (Ok c.in-Ok.found) in
-    handled_by (g.D.Desk.acts c.args.desk.now) e t by now s (at_time k m id) c.args.pass.now c.say_moment.result wrote s c.at_time.new.pass
+    handled_by _ (g.D.Desk.acts c.args.desk.now) e t by now s (at_time k m id) c.args.pass.now c.say_moment.result wrote s c.at_time.new.pass
     (moment_handles (g.D.Desk.acts c.args.desk.now) e t by now s c.args.pass.now c.at_time.new.pass (Says c.say_moment.result wrote) k o seen
     m id (plain_key c.base_or-base.result.now) r (c.base_or-base.ensures ∙ c.in_ok-moved.ensures) c.in-Ok.ensures.acts (on_says c.say_moment.result wrote (moment_says e o id r) (c.say_moment.ensures e)))

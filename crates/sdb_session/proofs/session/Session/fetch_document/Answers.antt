@@ -20,6 +20,6 @@ returns-in-Ok-clause-handled g c = λ now.
     let wrote = Wrote g.O.ReplySink.pieces (g.O.ReplySink.written c.args.out.now) (g.O.ReplySink.written c.say_found.new.out) in
     let seen : o ≡ through t k = c.find-projection.ensures ∙ ap (λ n. projection_of n t) c.as_str.ensures.value in
     let r = told_fetched (Ok c.in-Ok.found) in
-    handled_by (g.D.Desk.acts c.args.desk.now) e t by now s (fetch k None) c.args.pass.now c.say_found.result wrote s c.fetch.new.pass
+    handled_by _ (g.D.Desk.acts c.args.desk.now) e t by now s (fetch k None) c.args.pass.now c.say_found.result wrote s c.fetch.new.pass
     (found_handles (g.D.Desk.acts c.args.desk.now) e t by now s c.args.pass.now c.fetch.new.pass (Says c.say_found.result wrote) k o seen
     (plain_key c.base_or-base.result.now) r (c.base_or-base.ensures ∙ c.in_ok-moved.ensures) c.in-Ok.ensures.acts (on_says c.say_found.result wrote (found_says e o k r) (c.say_found.ensures e)))

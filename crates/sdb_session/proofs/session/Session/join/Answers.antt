@@ -1,15 +1,24 @@
-use Rattle.std.proofs.Common.{Option, option_map, ap, ◌∙◌, subst}
+use Rattle.std.proofs.Common.{List, Option, option_map, ap, ◌∙◌, subst}
 use Rattle.sdb_oplog.specs.Keys.{plain_key}
-use Rattle.sdb_session.specs.Handling.{Closes}
+use Rattle.sdb_oplog.specs.Plain.{PlainEntry}
+use Rattle.sdb_session.specs.Handling.{Closes, messages}
 use Rattle.sdb_session.specs.Sessions.{PlainSession, QueueId, queue_of}
-use Rattle.sdb_session.specs.View.{plain_queue}
+use Rattle.sdb_session.specs.View.{plain_opened, plain_queue, plain_session, plain_through, Wrote}
+use Rattle.sdb_session.proofs.BatchChains.{unjoined_by}
 use Rattle.sdb_session.proofs.Pairs.{copied, queue_entry}
 use Rattle.sdb_session.proofs.session.Session.join.Goals as goal
 
 pub returns-in-Ok-clause-joins : goal.returns-in-Ok-clause-joins
 returns-in-Ok-clause-joins g c =
     let k = plain_key c.args.key.now in
-    let es = c.first_entries.new.self.subscriptions.entries in
-    let P : Option QueueId → Type 0 = λ o. Closes (g.D.Desk.acts c.args.desk.now) o c.first_entries.new.pass c.close.new.pass in
+    let es = c.begin.new.self.subscriptions.entries in
+    let P : Option QueueId → Type 0 = λ o. Closes (g.D.Desk.acts c.args.desk.now) o c.begin.new.pass c.close.new.pass in
     let old = copied c.get.result ∙ ap (option_map plain_queue) c.get.ensures.value ∙ queue_entry es c.args.key.now ∙ ap (λ (s : PlainSession). queue_of k s.subs) c.in-Ok.ensures.session in
-    (c.subscribe.new.pass, (c.first_entries.new.pass, (c.in_ok-opened.ensures.acts, c.in-Ok.ensures.begins, subst P old c.close.ensures.closes)))
+    let begun = c.in-Ok.ensures.begins in
+    (begun.0, ((c.subscribe.new.pass, (c.begin.new.pass, (c.in_ok-opened.ensures.acts, begun.1.0, subst P old c.close.ensures.closes))), begun.1.1, begun.1.2))
+
+pub returns-in-Err-clause-joins : goal.returns-in-Err-clause-joins
+returns-in-Err-clause-joins g c =
+    let says : List PlainEntry → Type 0 = λ es. Wrote g.O.ReplySink.pieces (g.O.ReplySink.written c.args.out.now) (g.O.ReplySink.written c.begin.new.out) (messages (plain_through c.args.projection) (plain_key c.args.key.now) es) in
+    unjoined_by (g.D.Desk.acts c.args.desk.now) (plain_key c.args.base.now) c.args.version (queue_of (plain_key c.args.key.now) (plain_session c.args.self.now).subs) (plain_opened c.in_ok-opened.opened) says c.args.pass.now c.subscribe.new.pass c.begin.new.pass c.unsubscribe.new.pass c.in-Err.fault
+    c.in_ok-opened.ensures.acts c.in-Err.ensures.begins c.unsubscribe.ensures.acts

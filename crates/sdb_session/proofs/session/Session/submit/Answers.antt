@@ -27,7 +27,7 @@ returns-then-not-permits-clause-handled g c =
     let by = g.D.Desk.number c.args.desk.now c.args.pass.now in
     let wrote = Wrote g.O.ReplySink.pieces (g.O.ReplySink.written c.args.out.now) (g.O.ReplySink.written c.refuse.new.out) in
     let seen : o ≡ through t k = c.find-projection.ensures ∙ ap (λ n. projection_of n t) c.as_str.ensures.value in
-    handled_by (g.D.Desk.acts c.args.desk.now) e t by now s (submit k v n src m) c.args.pass.now c.refuse.result wrote s c.args.pass.now
+    handled_by _ (g.D.Desk.acts c.args.desk.now) e t by now s (submit k v n src m) c.args.pass.now c.refuse.result wrote s c.args.pass.now
     (refused_handles (g.D.Desk.acts c.args.desk.now) e t by now s c.args.pass.now c.args.pass.now (Says c.refuse.result wrote) k o seen
     v n src m (sym c.permits.ensures ∙ c.if-not-permits.true) refl (on_says c.refuse.result wrote (failed e E9 ∷ []) c.refuse.ensures))
 
@@ -49,7 +49,7 @@ returns-clause-handled g c =
     let wrote = Wrote g.O.ReplySink.pieces (g.O.ReplySink.written c.args.out.now) (g.O.ReplySink.written c.say_reply.new.out) in
     let seen : o ≡ through t k = c.find-projection.ensures ∙ ap (λ n. projection_of n t) c.as_str.ensures.value in
     let is : u ≡ submission_of s k v n src m by = c.in_ok-submission.ensures ∙ ap (submission_of s k v n src m) c.by.ensures in
-    handled_by (g.D.Desk.acts c.args.desk.now) e t by now s (submit k v n src m) c.args.pass.now c.say_reply.result wrote s c.submit-reply.new.pass
+    handled_by _ (g.D.Desk.acts c.args.desk.now) e t by now s (submit k v n src m) c.args.pass.now c.say_reply.result wrote s c.submit-reply.new.pass
     (sent_handles (g.D.Desk.acts c.args.desk.now) e t by now s c.args.pass.now c.submit-reply.new.pass (Says c.say_reply.result wrote) k o seen
     v n src m (plain_key c.base_or-base.result.now) u r (sym c.permits.ensures ∙ c.if-not-permits.false) (c.base_or-base.ensures ∙ c.in_ok-moved.ensures) is c.submit-reply.ensures.chain
     (on_says c.say_reply.result wrote (reply_says e o k u.src u.seq r) c.say_reply.ensures))

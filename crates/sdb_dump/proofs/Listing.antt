@@ -1,0 +1,250 @@
+-- The lines of made logs, key by key, are a dump that has these logs.
+use Rattle.std.proofs.Common.{◌≡◌, List, [], ◌∷◌, ◌++◌, Bool, true, false, cond, Ordering, Less, Equal, Greater, nat_cmp, is_eq, length, refl, sym, ap, ap₂, ◌∙◌, subst, append-nil}
+use Rattle.std.specs.Prelude.{⊤, ◌||◌, if◌then◌else◌}
+use Rattle.std.specs.Ordering.{ordering_then, ordering_reverse, is_lt}
+use Rattle.std.specs.Cmp.{IsTotalOrder, then_total, on_total}
+use Rattle.std.specs.Cmp.Lexicographic.{slice_cmp}
+use Rattle.std.proofs.lemmas.Cmp.{nat_list_cmp_total, tied_itself}
+use Rattle.sdb_oplog.specs.Keys.{PlainKey, Logs, key_cmp, same_key}
+use Rattle.sdb_oplog.specs.Plain.{PlainEntry}
+use Rattle.sdb_oplog.specs.Decide.{IsMade}
+use Rattle.sdb_dump.specs.declared.version.DumpVersion.{DumpVersion}
+use Rattle.sdb_dump.specs.Dumps.{PlainLine, log_in, follows, dump_text}
+use Rattle.sdb_dump.specs.Accepted.{AllWithin, AscendFrom, IsDump}
+use Rattle.sdb_dump.specs.Cut.{check_text}
+use Rattle.sdb_dump.specs.Listed.{of_log, of_logs, DumpText}
+use Rattle.sdb_dump.specs.OfLogs.{TextIsOfLogs}
+use Rattle.sdb_dump.proofs.Accepting.{equal_keys, same_as_itself}
+use Rattle.sdb_dump.proofs.Cutting.{text_accepted, text_only}
+use Rattle.sdb_desk.specs.Machine.{is_filled}
+use Rattle.sdb_desk.specs.Stored.{AreStored}
+use Rattle.std.specs.List.{AllByRecursion}
+use Rattle.std.specs.List.Sorted.{IsStrictlySortedBy}
+use Rattle.std.specs.Set.{is_member}
+
+-- ---- keys
+
+reverse_then : (o p : Ordering) → ordering_then (ordering_reverse o) (ordering_reverse p) ≡ ordering_reverse (ordering_then o p)
+reverse_then Less p = refl
+reverse_then Equal p = refl
+reverse_then Greater p = refl
+
+turned : (a b : PlainKey) → key_cmp a b ≡ ordering_reverse (key_cmp b a)
+turned a b =
+    ap₂ ordering_then (nat_list_cmp_total.antisymm a.collection b.collection) (nat_list_cmp_total.antisymm a.id b.id)
+    ∙ reverse_then (slice_cmp nat_cmp b.collection a.collection) (slice_cmp nat_cmp b.id a.id)
+
+tied : (a : PlainKey) → key_cmp a a ≡ Equal
+tied a = rw (tied_itself nat_list_cmp_total a.collection, tied_itself nat_list_cmp_total a.id) refl
+
+-- the key is below each of these
+abbrev IsBelowAll : PlainKey → List PlainKey → Type 0
+IsBelowAll k ks = AllByRecursion (λ j. key_cmp k j ≡ Less) ks
+
+abbrev Ascend : List PlainKey → Type 0
+Ascend = IsStrictlySortedBy key_cmp
+
+abbrev stands : List PlainKey → PlainKey → Bool
+stands = is_member same_key
+
+-- ---- the log of a key
+
+one : (b : Bool) (x : PlainLine) (es fs more : List PlainEntry) → fs ≡ es ++ more → cond b (x.entry ∷ fs) fs ≡ cond b (x.entry ∷ es) es ++ more
+one true x es fs more e = ap (λ l. x.entry ∷ l) e
+one false x es fs more e = e
+
+log_append : (xs ys : List PlainLine) (k : PlainKey) → log_in (xs ++ ys) k ≡ log_in xs k ++ log_in ys k
+log_append [] ys k = refl
+log_append (x ∷ xs) ys k = one (same_key k x.key) x (log_in xs k) (log_in (xs ++ ys) k) (log_in ys k) (log_append xs ys k)
+
+log_of : (j : PlainKey) (es : List PlainEntry) (k : PlainKey) (b : Bool) → same_key k j ≡ b → log_in (of_log j es) k ≡ cond b es []
+log_of j [] k true e = refl
+log_of j [] k false e = refl
+log_of j (x ∷ es) k true e = ap (λ b. cond b (x ∷ log_in (of_log j es) k) (log_in (of_log j es) k)) e ∙ ap (λ l. x ∷ l) (log_of j es k true e)
+log_of j (x ∷ es) k false e = ap (λ b. cond b (x ∷ log_in (of_log j es) k) (log_in (of_log j es) k)) e ∙ log_of j es k false e
+
+not_later : (k : PlainKey) (ks : List PlainKey) → IsBelowAll k ks → stands ks k ≡ false
+not_later k [] h = refl
+not_later k (j ∷ ks) h = ap (λ o. is_eq o || stands ks k) h.0 ∙ not_later k ks h.1
+
+log_first : (f : Logs) (j : PlainKey) (ks : List PlainKey) (k : PlainKey) (b : Bool) → same_key k j ≡ b → Ascend (j ∷ ks) → log_in (of_logs f ks) k ≡ cond (stands ks k) (f k) []
+    → log_in (of_log j (f j)) k ++ log_in (of_logs f ks) k ≡ cond (b || stands ks k) (f k) []
+unfolding IsStrictlySortedBy
+log_first f j ks k true e h below =
+    let g : k ≡ j = equal_keys k j e in
+    let none : stands ks k ≡ false = subst (λ q. stands ks q ≡ false) (sym g) (not_later j ks h.0) in
+    ap₂ (λ a b. a ++ b) (log_of j (f j) k true e) (below ∙ ap (λ b. cond b (f k) []) none) ∙ append-nil (f j) ∙ ap f (sym g)
+log_first f j ks k false e h below = ap₂ (λ a b. a ++ b) (log_of j (f j) k false e) below
+
+log_all : (f : Logs) (ks : List PlainKey) (k : PlainKey) → Ascend ks → log_in (of_logs f ks) k ≡ cond (stands ks k) (f k) []
+unfolding IsStrictlySortedBy
+log_all f [] k h = refl
+log_all f (j ∷ ks) k h =
+    log_append (of_log j (f j)) (of_logs f ks) k ∙ log_first f j ks k (same_key k j) refl h (log_all f ks k h.1)
+
+whole_log : (es : List PlainEntry) (b : Bool) → b ≡ is_filled es → cond b es [] ≡ es
+whole_log es true e = refl
+whole_log [] false e = refl
+whole_log (x ∷ es) false e = cc
+
+logs_are : (f : Logs) (ks : List PlainKey) → AreStored f ks → (k : PlainKey) → log_in (of_logs f ks) k ≡ f k
+logs_are f ks h k = log_all f ks k h.in_order ∙ whole_log (f k) (stands ks k) (h.whole k)
+
+-- ---- in order
+
+follows_last : (before : List PlainLine) (x : PlainLine) (k : PlainKey) → follows (before ++ x ∷ []) k ≡ (if is_lt (key_cmp k x.key) then false else true)
+follows_last [] x k = refl
+follows_last (y ∷ []) x k = refl
+follows_last (y ∷ z ∷ before) x k = follows_last (z ∷ before) x k
+
+abbrev Ready : List PlainLine → List PlainKey → Type 0
+Ready before [] = ⊤
+Ready before (k ∷ ks) = (follows before k ≡ true) × Ready before ks
+
+ready_after : (before : List PlainLine) (x : PlainLine) (ks : List PlainKey) → IsBelowAll x.key ks → Ready (before ++ x ∷ []) ks
+ready_after before x [] h = tt
+ready_after before x (k ∷ ks) h =
+    let above : key_cmp k x.key ≡ Greater = turned k x.key ∙ ap ordering_reverse h.0 in
+    (follows_last before x k ∙ ap (λ o. if is_lt o then false else true) above, ready_after before x ks h.1)
+
+ascend_log : (f : Logs) (k : PlainKey) (ks : List PlainKey) (es : List PlainEntry) (before : List PlainLine) → follows before k ≡ true → Ready before ks → IsBelowAll k ks
+    → ((b : List PlainLine) → Ready b ks → AscendFrom b (of_logs f ks)) → AscendFrom before (of_log k es ++ of_logs f ks)
+ascend_log f k ks [] before h r a next = next before r
+ascend_log f k ks (e ∷ es) before h r a next =
+    let x : PlainLine = record { key = k; entry = e } in
+    (h, ascend_log f k ks es (before ++ x ∷ []) (follows_last before x k ∙ ap (λ o. if is_lt o then false else true) (tied k)) (ready_after before x ks a) a next)
+
+ascends : (f : Logs) (ks : List PlainKey) (before : List PlainLine) → Ascend ks → Ready before ks → AscendFrom before (of_logs f ks)
+unfolding IsStrictlySortedBy
+ascends f [] before h r = tt
+ascends f (k ∷ ks) before h r = ascend_log f k ks (f k) before r.0 r.1 h.0 (λ b q. ascends f ks b h.1 q)
+
+ready_first : (ks : List PlainKey) → Ready [] ks
+ready_first [] = tt
+ready_first (k ∷ ks) = (refl, ready_first ks)
+
+pub logs_are_dumped : (f : Logs) (ks : List PlainKey) → AreStored f ks → ((k : PlainKey) → IsMade (f k))
+    → IsDump (of_logs f ks) × ((k : PlainKey) → log_in (of_logs f ks) k ≡ f k)
+logs_are_dumped f ks h m = (
+  record { ascends = ascends f ks [] h.in_order (ready_first ks); made = λ k. subst IsMade (sym (logs_are f ks h k)) (m k) },
+  logs_are f ks h,
+)
+
+-- ---- a dump is that of its logs
+
+keys_total : IsTotalOrder key_cmp
+keys_total = then_total (on_total (λ (k : PlainKey). k.collection) nat_list_cmp_total) (on_total (λ (k : PlainKey). k.id) nat_list_cmp_total)
+
+-- no key is below that of the line before
+abbrev Rises : List PlainLine → Type 0
+Rises [] = ⊤
+Rises (x ∷ []) = ⊤
+Rises (x ∷ y ∷ xs) = (is_lt (key_cmp y.key x.key) ≡ false) × Rises (y ∷ xs)
+
+not_below : (b : Bool) → (if b then false else true) ≡ true → b ≡ false
+not_below true e = cc
+not_below false e = refl
+
+rises : (before : List PlainLine) (x : PlainLine) (xs : List PlainLine) → AscendFrom (before ++ x ∷ []) xs → Rises (x ∷ xs)
+rises before x [] h = tt
+rises before x (y ∷ xs) h = (not_below (is_lt (key_cmp y.key x.key)) (sym (follows_last before x y.key) ∙ h.0), rises (before ++ x ∷ []) y xs h.1)
+
+less_of : (o : Ordering) → is_eq o ≡ false → is_lt (ordering_reverse o) ≡ false → o ≡ Less
+less_of Less e h = refl
+less_of Equal e h = cc
+less_of Greater e h = cc
+
+below_all : (a b : PlainKey) (ks : List PlainKey) → key_cmp a b ≡ Less → IsBelowAll b ks → IsBelowAll a ks
+below_all a b [] e h = tt
+below_all a b (k ∷ ks) e h = (keys_total.trans a b k e h.0, below_all a b ks e h.1)
+
+same_logs : (f g : Logs) (j : PlainKey) (ks : List PlainKey) → IsBelowAll j ks → ((k : PlainKey) → same_key k j ≡ false → f k ≡ g k) → of_logs f ks ≡ of_logs g ks
+same_logs f g j [] h e = refl
+same_logs f g j (k ∷ ks) h e =
+    let other : same_key k j ≡ false = ap is_eq (turned k j ∙ ap ordering_reverse h.0) in
+    ap₂ (λ es l. of_log k es ++ l) (e k other) (same_logs f g j ks h.1 e)
+
+-- these keys are those of the entries, and the entries are those of their logs
+record Sorted (xs : List PlainLine) (ks : List PlainKey) : Type 0 where
+  pub order : Ascend ks
+  pub whole : (k : PlainKey) → stands ks k ≡ is_filled (log_in xs k)
+  pub list : of_logs (log_in xs) ks ≡ xs
+
+filled_more : (b : Bool) (e : PlainEntry) (es : List PlainEntry) → is_filled (cond b (e ∷ es) es) ≡ (b || is_filled es)
+filled_more true e es = refl
+filled_more false e es = refl
+
+or_twice : (b c : Bool) → (b || c) ≡ (b || (b || c))
+or_twice true c = refl
+or_twice false c = refl
+
+empty_log : (es : List PlainEntry) → false ≡ is_filled es → es ≡ []
+empty_log [] e = refl
+empty_log (x ∷ es) e = cc
+
+-- the log of the first entry's key, and those of the others
+log_here : (x : PlainLine) (xs : List PlainLine) → log_in (x ∷ xs) x.key ≡ x.entry ∷ log_in xs x.key
+log_here x xs = ap (λ b. cond b (x.entry ∷ log_in xs x.key) (log_in xs x.key)) (same_as_itself x.key)
+
+logs_there : (x : PlainLine) (xs : List PlainLine) (ks : List PlainKey) → IsBelowAll x.key ks → of_logs (log_in (x ∷ xs)) ks ≡ of_logs (log_in xs) ks
+logs_there x xs ks h = same_logs (log_in (x ∷ xs)) (log_in xs) x.key ks h (λ k e. ap (λ b. cond b (x.entry ∷ log_in xs k) (log_in xs k)) e)
+
+sorted_same : (x : PlainLine) (xs : List PlainLine) (js : List PlainKey) → Sorted xs (x.key ∷ js) → Sorted (x ∷ xs) (x.key ∷ js)
+unfolding IsStrictlySortedBy
+sorted_same x xs js s = record {
+  order = s.order;
+  whole = λ k. or_twice (same_key k x.key) (stands js k) ∙ ap (λ c. same_key k x.key || c) (s.whole k) ∙ sym (filled_more (same_key k x.key) x.entry (log_in xs k));
+  list = ap₂ (λ es l. of_log x.key es ++ l) (log_here x xs) (logs_there x xs js s.order.0) ∙ ap (λ l. x ∷ l) s.list;
+}
+
+sorted_new : (x : PlainLine) (xs : List PlainLine) (ks : List PlainKey) → IsBelowAll x.key ks → Sorted xs ks → Sorted (x ∷ xs) (x.key ∷ ks)
+unfolding IsStrictlySortedBy
+sorted_new x xs ks h s =
+    let none : log_in xs x.key ≡ [] = empty_log (log_in xs x.key) (sym (not_later x.key ks h) ∙ s.whole x.key) in
+    record {
+      order = (h, s.order);
+      whole = λ k. ap (λ c. same_key k x.key || c) (s.whole k) ∙ sym (filled_more (same_key k x.key) x.entry (log_in xs k));
+      list = ap₂ (λ es l. of_log x.key es ++ l) (log_here x xs ∙ ap (λ es. x.entry ∷ es) none) (logs_there x xs ks h) ∙ ap (λ l. x ∷ l) s.list;
+    }
+
+sorted_none : Sorted [] []
+unfolding IsStrictlySortedBy
+sorted_none = record { order = tt; whole = λ k. refl; list = refl }
+
+sorted_more : (x : PlainLine) (xs : List PlainLine) (j : PlainKey) (js : List PlainKey) (b : Bool) → same_key x.key j ≡ b → is_lt (key_cmp j x.key) ≡ false → Sorted xs (j ∷ js) → (ks : List PlainKey) × Sorted (x ∷ xs) (x.key ∷ ks)
+unfolding IsStrictlySortedBy
+sorted_more x xs j js true e h s = (js, sorted_same x xs js (subst (λ q. Sorted xs (q ∷ js)) (sym (equal_keys x.key j e)) s))
+sorted_more x xs j js false e h s =
+    let less = less_of (key_cmp x.key j) e (ap is_lt (sym (turned j x.key)) ∙ h) in
+    (j ∷ js, sorted_new x xs (j ∷ js) (less, below_all x.key j js less s.order.0) s)
+
+sorted_all : (x : PlainLine) (xs : List PlainLine) → Rises (x ∷ xs) → (ks : List PlainKey) × Sorted (x ∷ xs) (x.key ∷ ks)
+sorted_all x [] r = ([], sorted_new x [] [] tt sorted_none)
+sorted_all x (y ∷ ys) r =
+    let (js, s) = sorted_all y ys r.1 in
+    sorted_more x (y ∷ ys) y.key js (same_key x.key y.key) refl r.0 s
+
+pub dump_of_logs : (v : DumpVersion) (xs : List PlainLine) → IsDump xs → DumpText v (log_in xs) (dump_text v xs)
+dump_of_logs v [] d = ([], record { in_order = sorted_none.order; whole = sorted_none.whole }, refl)
+dump_of_logs v (x ∷ xs) d =
+    let (ks, s) = sorted_all x xs (rises [] x xs d.ascends.1) in
+    (x.key ∷ ks, record { in_order = s.order; whole = s.whole }, ap (dump_text v) (sym s.list))
+
+within_append : (v : DumpVersion) (xs ys : List PlainLine) → AllWithin v xs → AllWithin v ys → AllWithin v (xs ++ ys)
+within_append v [] ys h k = k
+within_append v (x ∷ xs) ys h k = (h.0, h.1, h.2, within_append v xs ys h.3 k)
+
+within_logs : (v : DumpVersion) (f : Logs) (ks : List PlainKey) → ((k : PlainKey) → AllWithin v (of_log k (f k))) → AllWithin v (of_logs f ks)
+within_logs v f [] h = tt
+within_logs v f (k ∷ ks) h = within_append v (of_log k (f k)) (of_logs f ks) (h k) (within_logs v f ks h)
+
+pub text_is_of_logs : TextIsOfLogs
+text_is_of_logs = record {
+  accepted = λ v f text h (ks, stored, is).
+      let xs = of_logs f ks in
+      let d = logs_are_dumped f ks stored h.made in
+      (xs, ap check_text is ∙ text_accepted v xs d.0 (within_logs v f ks h.within) (h.few (length xs) (ks, stored, refl)), d.1);
+  only = λ text xs e.
+      let (v, is, d) = text_only text xs e in
+      (v, subst (DumpText v (log_in xs)) (sym is) (dump_of_logs v xs d), d.made);
+}

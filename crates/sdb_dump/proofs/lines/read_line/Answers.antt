@@ -1,0 +1,36 @@
+use Rattle.std.proofs.Common.{◌≡◌, Some, None, inl, inr, sym, ap, ◌∙◌, IsUtf8}
+use Rattle.std.specs.Prelude.{if◌then◌else◌, List, ℕ}
+use Rattle.std.proofs.lemmas.Bool.{cases_Bool}
+use Rattle.std.specs.Str.{is_utf8}
+use Rattle.std.proofs.lemmas.Str.{is_utf8-from_IsUtf8, IsUtf8-from_is_utf8}
+use Rattle.std.proofs.Common.{Ok, Err, IfOk}
+use Rattle.std.specs.Prelude.{Result}
+use Rattle.serde_json.specs.Read.{read}
+use Rattle.serde_json.specs.View.{view}
+use Rattle.sdb_dump.specs.Lines.{needs, line_of, read_line}
+use Rattle.sdb_dump.specs.declared.version.DumpVersion.{DumpVersion}
+use Rattle.sdb_dump.proofs.lines.read_line.Goals as goal
+
+isnt_text : (v : DumpVersion) (l : List ℕ) → (IsUtf8 l → ⊥) → read_line v l ≡ None
+isnt_text v l h = elim (cases_Bool (is_utf8 l)) [
+  | inl e ↦ absurd (h (IsUtf8-from_is_utf8 l e))
+  | inr e ↦ ap (λ b. if b then needs (line_of v) (read l) else None) e
+]
+
+is_text : (v : DumpVersion) (l : List ℕ) → IsUtf8 l → read_line v l ≡ needs (line_of v) (read l)
+is_text v l h = ap (λ b. if b then needs (line_of v) (read l) else None) (is_utf8-from_IsUtf8 l h)
+
+if_ok_weaker : {A E : Type 0} (r : Result A E) (P Q : A → Type 0) → ((x : A) → P x → Q x) → IfOk r P → IfOk r Q
+if_ok_weaker (Ok x) P Q f h = f x h
+if_ok_weaker (Err x) P Q f h = tt
+
+pub returns-in_default : goal.returns-in_default
+returns-in_default c = sym (isnt_text c.args.version c.args.line.now c.in_default.ensures.cases.0)
+
+pub returns-in-Ok-from_str : goal.returns-in-Ok-from_str
+returns-in-Ok-from_str c =
+    let line = c.args.line.now in
+    let e : read line ≡ Some (view c.in-Ok-from_str.value) = ap read (sym c.in-Ok.ensures.cases.0) ∙ c.in-Ok-from_str.ensures.ok in
+    let is : read_line c.args.version line ≡ line_of c.args.version (view c.in-Ok-from_str.value) =
+    is_text c.args.version line c.in-Ok.ensures.cases.1 ∙ ap (needs (line_of c.args.version)) e in
+    if_ok_weaker c.line_of.result _ _ (λ l g. g ∙ sym is) c.line_of.ensures

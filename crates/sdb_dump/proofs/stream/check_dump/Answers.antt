@@ -1,0 +1,50 @@
+use Rattle.std.proofs.Common.{◌≡◌, arith, Ok, Err, take, ap, sym, ◌∙◌, subst, length-take}
+use Rattle.std.proofs.lemmas.Result.{err_from_is_err_and}
+use Rattle.std.specs.Prelude.{IfErr, IfSome}
+use Rattle.std.proofs.Common.{List}
+use Rattle.sdb_dump.specs.Checks.{Checks, HasAll}
+use Rattle.sdb_dump.specs.Cut.{check_text}
+use Rattle.sdb_dump.specs.Dumps.{PlainLine}
+use Rattle.sdb_dump.specs.Stages.{PlainStage, ended}
+use Rattle.sdb_dump.specs.Faults.{IsFault}
+use Rattle.sdb_dump.proofs.Going.{went_start, went_on, went_wrong, went_accepted, went_refused, if_ok_then, if_err_then}
+use Rattle.sdb_dump.proofs.stream.check_dump.Goals as goal
+
+pub loop-turn-init : goal.loop-turn-init
+loop-turn-init g c = record {
+  room = omega arith;
+  few = omega (arith, c.new-checker.ensures.none);
+  went = went_start (g.R.Source.left c.args.reader.now) c.new-checker.result c.new-held.result.items c.new-checker.ensures.checks c.new-held.ensures.items;
+}
+
+pub loop-turn-preserved : goal.loop-turn-preserved
+loop-turn-preserved g c =
+    let piece = take c.in-Ok.n c.take.new.buf in
+    record {
+      room = omega (arith, c.loop-turn.invariant.room, c.take.auto.buf);
+      few = omega (arith, c.in_ok-take_piece-in-Ok.ensures.few, c.loop-turn.invariant.few, c.loop-turn.invariant.room, c.take.auto.buf, length-take c.in-Ok.n c.take.new.buf);
+      went = went_on _ piece c.loop-turn.invariant.went c.in-Ok.ensures.bytes.0 c.in_ok-take_piece-in-Ok.ensures.taken;
+    }
+
+pub returns-in-Ok-eq0-clause-accepted : goal.returns-in-Ok-eq0-clause-accepted
+returns-in-Ok-eq0-clause-accepted g c =
+    let bytes = c.in-Ok-eq0.ensures.bytes in
+    let nothing = ap (λ n. take n c.take.new.buf) c.in-Ok-eq0.field-0-test in
+    let ends = bytes.1 c.in-Ok-eq0.field-0-test (omega (arith, c.loop-turn.invariant.room, c.take.auto.buf)) in
+    if_ok_then c.finish.result (λ d h. went_accepted _ _ nothing c.loop-turn.invariant.went bytes.0 ends d
+    (subst (λ l. (s : PlainStage) → Checks c.loop-turn.checker s → (xs : List PlainLine) × (ended s l ≡ Ok xs) × HasAll d xs) c.as_slice.ensures.value h)) c.finish.ensures.accepted
+
+pub returns-in-Ok-eq0-clause-wrong : goal.returns-in-Ok-eq0-clause-wrong
+returns-in-Ok-eq0-clause-wrong g c =
+    let bytes = c.in-Ok-eq0.ensures.bytes in
+    let nothing = ap (λ n. take n c.take.new.buf) c.in-Ok-eq0.field-0-test in
+    let ends = bytes.1 c.in-Ok-eq0.field-0-test (omega (arith, c.loop-turn.invariant.room, c.take.auto.buf)) in
+    if_err_then c.finish.result (λ f h. went_refused _ _ nothing c.loop-turn.invariant.went bytes.0 ends f
+    (subst (λ l. (s : PlainStage) → Checks c.loop-turn.checker s → IsFault f (ended s l)) c.as_slice.ensures.value h)) c.finish.ensures.wrong
+
+pub returns-in_err-take_piece-in-Ok-clause-wrong : goal.returns-in_err-take_piece-in-Ok-clause-wrong
+returns-in_err-take_piece-in-Ok-clause-wrong g c =
+    let f = c.in_err-take_piece-in-Ok.field-0.0 in
+    let p = err_from_is_err_and c.from_residual-in_err-take_piece-in-Ok.result c.from_residual-in_err-take_piece-in-Ok.ensures.1 in
+    subst (λ o. IfErr o (λ f. IfSome (g.R.Source.left c.args.reader.now) (λ text. IsFault f (check_text text)))) (sym (p.1 ∙ ap Err p.2))
+    (went_wrong _ (take c.in-Ok.n c.take.new.buf) f c.loop-turn.invariant.went c.in-Ok.ensures.bytes.0 c.in_err-take_piece-in-Ok.ensures.wrong)

@@ -1,0 +1,56 @@
+//! Laws of dumps. The functions do nothing; their contracts are the laws.
+ghost use Rattle.sdb_dump.specs.Accepted.{TransformFits, DumpsAreAccepted, AcceptedAreDumps};
+ghost use Rattle.sdb_dump.specs.Cut.{TextIsExact};
+ghost use Rattle.sdb_dump.specs.Exact.{Exact, LineReadsBack};
+ghost use Rattle.sdb_dump.specs.Listed.{LogsAreDumped};
+ghost use Rattle.sdb_dump.specs.OfLogs.{TextIsOfLogs};
+ghost use Rattle.sdb_dump.specs.Printed.{PrintedReadsBack, PrintedIsText};
+ghost use Rattle.sdb_dump.specs.Stages.{StagesAreCheck};
+
+/// The compact text of sound data denotes those data, and is UTF-8.
+pub fn printed_reads_back()
+    ensures read { PrintedReadsBack }
+    ensures text { PrintedIsText }
+{}
+
+/// The line of an entry is read as what it was made of.
+pub fn line_reads_back()
+    ensures { LineReadsBack }
+{}
+
+/// A checker's entries are exactly those whose dump the lines are.
+pub fn check_is_exact()
+    ensures { Exact }
+{}
+
+/// What stands for a component that fits, after another one that fits, fits.
+pub fn transform_fits()
+    ensures { TransformFits }
+{}
+
+/// A checker accepts the dumps of made logs within the limits, and no other lines.
+pub fn dumps_are_accepted()
+    ensures accepted { DumpsAreAccepted }
+    ensures only { AcceptedAreDumps }
+{}
+
+/// Line by line, the answer is that of the check of all lines.
+pub fn stages_are_check()
+    ensures { StagesAreCheck }
+{}
+
+/// The lines of made logs, key by key, are a dump that has these logs.
+pub fn logs_are_dumped()
+    ensures { LogsAreDumped }
+{}
+
+/// A text is accepted exactly where it is a dump.
+pub fn text_is_exact()
+    ensures { TextIsExact }
+{}
+
+/// A text is accepted exactly where it is the dump of made logs within the limits, which it gives; only that what is
+/// accepted is within the limits is not said.
+pub fn text_is_of_logs()
+    ensures { TextIsOfLogs }
+{}

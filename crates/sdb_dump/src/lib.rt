@@ -1,0 +1,14 @@
+//! Dumps: the text of all that is stored, and a checker of such texts.
+#![tactic(auto)]
+
+mod checking;
+pub mod laws;
+mod lines;
+mod stream;
+mod version;
+mod writing;
+
+pub use checking::{Checked, DumpFault};
+pub use stream::check_dump;
+pub use version::DumpVersion;
+pub use writing::{Documents, write_dump};
