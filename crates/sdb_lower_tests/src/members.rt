@@ -1,7 +1,7 @@
 //! Members of an object, beside a map.
 
 use crate::pieces::Number;
-use crate::texts::text_of;
+use crate::texts::{scattered, text_of};
 use sdb_members::Members;
 use sdb_pieces::Share;
 use std::alloc::Global;
@@ -10,8 +10,7 @@ use std::process::Abort;
 
 // A key, of five thousand and three.
 fn name(rt: &impl Abort, alloc: Global, step: u64) -> String {
-    let number = step.wrapping_mul(7919) % 5_003;
-    text_of(rt, alloc, &number)
+    text_of(rt, alloc, &scattered(step, 5_003))
 }
 
 // Whether the key had the same value in both, and has it now.

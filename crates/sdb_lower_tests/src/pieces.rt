@@ -1,5 +1,6 @@
 //! Lists in pieces, beside vectors.
 
+use crate::texts::scattered;
 use sdb_pieces::{Block, Pieces, Share};
 use std::alloc::{AllocError, Global};
 use std::process::Abort;
@@ -40,7 +41,7 @@ fn is(rt: &impl Abort, alloc: Global, list: &Pieces<Number>, plain: &Vec<u64>) -
 
 // Places that go up and down in a list of this length.
 fn place(step: u64, len: usize) -> usize {
-    (step.wrapping_mul(7919) % (len as u64).saturating_add(1)) as usize
+    scattered(step, (len as u64).saturating_add(1)) as usize
 }
 
 // Whether the same number was put in both.

@@ -1,6 +1,6 @@
 //! Texts in pieces, beside strings.
 
-use crate::texts::extended;
+use crate::texts::{extended, scattered};
 use sdb_pieces::Share;
 use sdb_text::Text;
 use sdb_text::units::{cut_at, units};
@@ -17,7 +17,7 @@ fn repeated(rt: &impl Abort, alloc: Global, times: u64) -> String {
 
 // An offset that goes up and down in a text, now and then inside a pair or past the end.
 fn offset(step: u64, text: &str) -> u64 {
-    step.wrapping_mul(7919) % units(text).saturating_add(3)
+    scattered(step, units(text).saturating_add(3))
 }
 
 fn pieces_of(rt: &impl Abort, alloc: Global, plain: &str) -> Text {

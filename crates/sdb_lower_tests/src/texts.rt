@@ -72,6 +72,14 @@ pub(crate) fn is_op(rt: &impl Abort, alloc: Global, op: &Op, wanted: &Value) -> 
     is_printed(rt, alloc, op, text_of(rt, alloc, wanted).as_str())
 }
 
+// A number below the bound, or 0, that goes up and down from step to step.
+pub(crate) fn scattered(step: u64, bound: u64) -> u64 {
+    if bound == 0 {
+        return 0;
+    }
+    step.wrapping_mul(7919) % bound
+}
+
 // The text, with the part so many times behind it.
 pub(crate) fn extended(
     rt: &impl Abort,

@@ -9,7 +9,7 @@ use json::Writer;
 use sdb_pieces::Share;
 use sdb_value::{
     Change, Json, List, MAX, Members, Path, Step, ValueFault, Whole, change_at, count_of, cut_at,
-    find, find_mut, from_value, insert_item, laws, list_mut, object_mut, put_member, remove_item,
+    find, find_mut, insert_item, laws, list_mut, object_mut, put_member, remove_item,
     remove_member, replace_item, same_value, text_mut, units, whole_of, write_value,
 };
 use serde_json::Value;
@@ -68,28 +68,6 @@ fn a_copy_is_the_same(rt: HostRuntime) {
     assert!(rt; is_shown(&rt, rt.alloc(), &copy, PRINTED));
 }
 
-// Why the text is refused.
-fn fault(rt: &impl Abort, alloc: Global, text: &str) -> Option<ValueFault> {
-    from_value(alloc, &parsed(rt, alloc, text)).err()
-}
-
-#[test]
-fn other_numbers_are_refused(rt: HostRuntime) {
-    for text in [
-        "1.5",
-        "1.0",
-        "1e2",
-        "9007199254740992",
-        "-9007199254740992",
-        r#"{"k":[0,1.5]}"#,
-    ] {
-        assert!(rt;
-            matches!(fault(&rt, rt.alloc(), text), Some(ValueFault::Number)),
-            "{text}"
-        );
-    }
-}
-
 #[test]
 fn depth_is_counted(rt: HostRuntime) {
     assert!(rt;
@@ -99,17 +77,6 @@ fn depth_is_counted(rt: HostRuntime) {
     let text = deep(&rt, rt.alloc(), 50);
     let value = json(&rt, rt.alloc(), text.as_str());
     assert!(rt; value.depth() == 50 && is_shown(&rt, rt.alloc(), &value, text.as_str()));
-}
-
-#[test]
-fn depth_is_limited(rt: HostRuntime) {
-    let deeper = deep(&rt, rt.alloc(), 51);
-    assert!(rt;
-        matches!(
-            fault(&rt, rt.alloc(), deeper.as_str()),
-            Some(ValueFault::Depth)
-        )
-    );
 }
 
 // Rows of a JSON number, and what it is as a whole number and as a count.
@@ -532,14 +499,18 @@ fn members_are_a_value_again(rt: HostRuntime) {
 
 // A value with a list and an object of several blocks and a text of several pieces.
 fn wide(rt: &impl Abort, alloc: Global) -> Json {
-    let text = extended(rt, alloc, r#"{"l":["#, r#"{"n":[1]},"#, 1_500);
+    let items = extended(rt, alloc, "", r#"{"n":[1]},"#, 1_500);
     let object = numbered(rt, alloc, true);
-    let text = extended(rt, alloc, text.as_str(), r#"0],"o":"#, 1);
-    let text = extended(rt, alloc, text.as_str(), object.as_str(), 1);
-    let text = extended(rt, alloc, text.as_str(), r#","t":""#, 1);
-    let text = extended(rt, alloc, text.as_str(), "aé😀", 3_000);
-    let text = extended(rt, alloc, text.as_str(), r#""}"#, 1);
-    json(rt, alloc, text.as_str())
+    let letters = extended(rt, alloc, "", "aé😀", 3_000);
+    let parts = [
+        items.as_str(),
+        r#"0],"o":"#,
+        object.as_str(),
+        r#","t":""#,
+        letters.as_str(),
+        r#""}"#,
+    ];
+    json(rt, alloc, joined(rt, alloc, r#"{"l":["#, &parts).as_str())
 }
 
 // Puts null at some places.
