@@ -132,14 +132,14 @@ fn assert_list(
         "out of memory",
     );
     let all = room.texts(rt, session, all.as_str());
-    assert!(rt; all.len() == length + 1);
-    for from in [1, length / 2, length - 1] {
+    assert!(rt; all.len().saturating_sub(1) == length);
+    for from in [1, length / 2, length.saturating_sub(1)] {
         let rest = format!(in alloc; r#"{{"a":"f","c":"b","d":"1","v":{from}}}"#).expect(
             rt,
             "out of memory",
         );
         let rest = room.texts(rt, session, rest.as_str());
-        assert!(rt; rest.len() == length - from + 1);
+        assert!(rt; rest.len() == all.len().saturating_sub(from));
         assert!(rt; rest.first() == all.get(from));
     }
 }
