@@ -46,6 +46,7 @@ SESSION = b"""{"a":"hs","id":"me"}
 {"a":"op","c":"titles","d":"1","v":2,"src":"x","seq":3,"op":[{"p":["title",0],"si":"b"}]}
 {"a":"s","c":"boards","d":"1","v":2}
 {"a":"f","c":"titles","d":"1"}
+{"a":"f","c":"titles","d":"1","v":0}
 {"a":"nf","c":"titles","d":"1","id":1,"v":2}
 {"a":"u","c":"titles","d":"1"}
 {"a":"op","c":"boards","d":"1","v":3,"src":"x","seq":4,"op":[{"p":["votes"],"na":1}]}

@@ -1,0 +1,56 @@
+"""Measures dumps: dumps.py [ENTRIES] takes the built program of steps and the measuring program
+
+One session stores the entries in 64 documents: of five edits four add to one number, the fifth inserts into one text. Told are
+processor seconds: the steps answered, the steps with the dump of what they store at their end, that dump checked, and the pass
+that only reads and prints the JSON of the dump's lines; and the memory that the check held at most, for each entry."""
+import json
+import os
+import subprocess
+import sys
+import tempfile
+
+HERE = os.path.dirname(os.path.abspath(__file__))
+CRATES = os.path.join(HERE, "..", "crates")
+STEPS = os.path.join(CRATES, "sdb_steps_program", "out", "sdb_steps_program")
+BENCH = os.path.join(CRATES, "sdb_bench", "out", "sdb_bench")
+TYPE = "http://sharejs.org/types/JSONv0"
+DOCUMENTS = 64
+
+
+def steps(entries):
+    for at in range(entries):
+        edit = [{"p": ["text", 4], "si": "er"}] if at % 5 == 4 else [{"p": ["n"], "na": 1}]
+        data = {"n": 0, "text": "The quick brown fox jumps over the lazy dog."}
+        content = {"op": edit} if at >= DOCUMENTS else {"create": {"type": TYPE, "data": data}}
+        yield {"s": 0, "do": "begin", "c": "board", "d": str(at % DOCUMENTS), "src": "w", "seq": at, **content}
+        yield {"s": 0, "do": "commit", "ms": at}
+
+
+def run(command, path, out):
+    """Processor seconds, and the kilobytes that it held at most."""
+    with open(path, "rb") as lines, open(out, "wb") as written:
+        process = subprocess.Popen(command, stdin=lines, stdout=written)
+        _, status, usage = os.wait4(process.pid, 0)
+    if status:
+        sys.exit(f"{command} ended with {status}")
+    return usage.ru_utime + usage.ru_stime, usage.ru_maxrss
+
+
+def main(entries):
+    with tempfile.TemporaryDirectory() as folder:
+        lines, dump, out = (os.path.join(folder, name) for name in ("steps", "dump", "out"))
+        with open(lines, "w", encoding="ascii") as file:
+            file.writelines(json.dumps(step, separators=(",", ":")) + "\n" for step in steps(entries))
+        answered, _ = run([STEPS], lines, out)
+        dumped, _ = run([STEPS, "--dump"], lines, dump)
+        checked, held = run([STEPS, "--check"], dump, out)
+        print(open(out, encoding="ascii").read().strip())
+        passed, _ = run([BENCH, "json"], dump, out)
+        size = os.path.getsize(dump)
+    print(f"{entries} entries, {size} bytes: JSON pass {passed:.2f} s")
+    print(f"steps answered {answered:.2f} s; with a dump at the end, and no answers, {dumped:.2f} s")
+    print(f"the dump checked {checked:.2f} s, {checked / passed:.1f} times the pass, {held * 1_024 / entries:.0f} bytes for each entry")
+
+
+if __name__ == "__main__":
+    main(int(sys.argv[1]) if len(sys.argv) > 1 else 100_000)
