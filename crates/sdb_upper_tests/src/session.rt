@@ -112,7 +112,7 @@ fn count_up(
     to: u64,
 ) {
     let add = r#"{"a":"op","c":"b","d":"1","v":null,"op":[{"p":[],"na":1}],"seq":"#;
-    for seq in from..to {
+    for seq in from..=to {
         let edit = format!(in alloc; "{add}{seq}}}").expect(rt, "out of memory");
         assert!(rt; room.texts(rt, session, edit.as_str()).len() == 1);
     }
@@ -154,7 +154,14 @@ fn long_lists_are_written_in_batches(rt: HostRuntime) {
     assert!(rt; room.texts(&rt, &mut session, create).len() == 1);
     let mut length = 1;
     for wanted in [1_023, 1_024, 1_025, 2_049] {
-        count_up(&rt, alloc, &mut room, &mut session, length + 1, wanted + 1);
+        count_up(
+            &rt,
+            alloc,
+            &mut room,
+            &mut session,
+            length.saturating_add(1),
+            wanted,
+        );
         length = wanted;
         for kind in ["f", "s"] {
             assert_list(&rt, alloc, &mut room, &mut session, kind, length as usize);
