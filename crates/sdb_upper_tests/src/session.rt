@@ -152,7 +152,7 @@ fn long_lists_are_written_in_batches(rt: HostRuntime) {
     let mut session = named(&rt, alloc, "s1");
     let create = r#"{"a":"op","c":"b","d":"1","seq":1,"create":{"type":"json0","data":0}}"#;
     assert!(rt; room.texts(&rt, &mut session, create).len() == 1);
-    let mut length = 1;
+    let mut length: u64 = 1;
     for wanted in [1_023, 1_024, 1_025, 2_049] {
         count_up(
             &rt,
