@@ -105,12 +105,12 @@ class Refusals:
             return struct.unpack("3Q", file.read(24))
 
 
-def is_right(ended, whole, without_one):
+def is_right(ended, whole, without_one, refusals):
     status, written = ended.returncode, ended.stdout
     if status == 0:
         lines = written.splitlines(keepends=True)
         others = [line for line in lines if not any(wanting in line for wanting in WANTING)]
-        return written == whole or (len(others) == len(lines) - 1 and b"".join(others) in without_one)
+        return written == whole or (len(others) == len(lines) - refusals and b"".join(others) in without_one)
     front = written[: -len(FAULT)] if written.endswith(FAULT) else written
     told = written.endswith(FAULT) or written == b""
     return status == 1 and told and whole.startswith(front) and front[-1:] in (b"", b"\n")
@@ -121,14 +121,14 @@ def told(name, count, inside, wrong):
     return not wrong and inside > 0
 
 
-def program_is_right(refusals, name, program, given):
+def program_is_right(refusals, name, program, given, told_refusals=1):
     whole = refusals.run(program, given)
     assert whole.returncode == 0, name
     count = refusals.counts()[0]
     lines = given.splitlines(keepends=True)
     # what is answered to the input without one of its lines, for each of them
     without_one = {refusals.run(program, b"".join(lines[:at] + lines[at + 1 :])).stdout for at in range(len(lines))}
-    wrong = [nth for nth in range(1, count + 1) if not is_right(refusals.run(program, given, nth), whole.stdout, without_one)]
+    wrong = [nth for nth in range(1, count + 1) if not is_right(refusals.run(program, given, nth), whole.stdout, without_one, told_refusals)]
     return told(name, count, count, wrong)
 
 
@@ -150,6 +150,10 @@ def tests_of(program):
     return [line.split(": test")[0] for line in listed.splitlines() if line.startswith("growths::")]
 
 
+def dump_of(steps):
+    return subprocess.run([*STEPS, "--dump"], input=steps, stdout=subprocess.PIPE, check=True).stdout
+
+
 def main():
     runs = [
         ("run_lines, a create and a fetch", SERVER, STORED),
@@ -158,6 +162,9 @@ def main():
         ("run_lines, a session", SERVER, SESSION),
         ("run_steps, interleaved steps", STEPS, INTERLEAVED),
         ("run_steps, nine commits of one edit", STEPS, ninth()),
+        # a dump tells no refusal
+        ("run_dump, interleaved steps", [*STEPS, "--dump"], INTERLEAVED, 0),
+        ("check_dump, their dump", [*STEPS, "--check"], dump_of(INTERLEAVED)),
     ]
     with tempfile.TemporaryDirectory() as room:
         refusals = Refusals(room)
