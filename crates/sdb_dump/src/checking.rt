@@ -1,5 +1,5 @@
 //! A checker of the lines of a dump.
-ghost use Rattle.std.specs.Prelude.{◌≡◌, ◌+◌, ◌^◌, ◌<◌, ◌≤◌, List, [], Option, Some, None, OnOk, OnErr, IfOk, IfErr, IfSome, ◌&&◌, nat_eq, bytes_eq, true, option_map, unwrap_or, string_bytes, Ok};
+ghost use Rattle.std.specs.Prelude.{◌≡◌, ◌+◌, ◌^◌, ◌<◌, ◌≤◌, List, [], Option, Some, None, OnOk, OnErr, IfOk, IfErr, IfSome, IsErrOf, ◌&&◌, nat_eq, bytes_eq, true, option_map, unwrap_or, string_bytes, Ok};
 ghost use Rattle.sdb_oplog.specs.Keys.{plain_key};
 ghost use Rattle.sdb_oplog.specs.Plain.{PlainEntry};
 ghost use Rattle.sdb_desk.specs.ShardView.{logs_of};
@@ -104,6 +104,7 @@ impl Checker {
         ensures few { OnOk result (self.new.entries ≤ self.old.entries + 1) }
         ensures taken { OnOk result ((s : PlainStage) → Checks self.old s → Checks self.new (after s line.now)) }
         ensures wrong { IfErr result (λ f. (s : PlainStage) → Checks self.old s → IsWrong f (after s line.now)) }
+        ensures unread { IsErrOf result DumpFault.Read → ⊥ }
     {
         match self.stage {
             Stage::Head => self.take_head(line),
@@ -117,6 +118,7 @@ impl Checker {
         ensures same { OnOk result (self.new.entries ≡ self.old.entries) }
         ensures taken { OnOk result ((s : PlainStage) → Checks self.old s → Checks self.new (after s line.now)) }
         ensures wrong { IfErr result (λ f. (s : PlainStage) → Checks self.old s → IsWrong f (after s line.now)) }
+        ensures unread { IsErrOf result DumpFault.Read → ⊥ }
     {
         let Some(version) = version_of(line) else {
             return Err(DumpFault::Wrong { line: 1 });
@@ -131,6 +133,7 @@ impl Checker {
         ensures few { OnOk result (self.new.entries ≤ self.old.entries + 1) }
         ensures taken { OnOk result ((s : PlainStage) → Checks self.old s → Checks self.new (after s line.now)) }
         ensures wrong { IfErr result (λ f. (s : PlainStage) → Checks self.old s → IsWrong f (after s line.now)) }
+        ensures unread { IsErrOf result DumpFault.Read → ⊥ }
     {
         let last = count_text(self.alloc, self.entries)?;
         if line == last.as_bytes() {
@@ -228,6 +231,7 @@ impl Checker {
         ensures accepted { IfOk result (λ c. (s : PlainStage) → Checks self s →
             (xs : List PlainLine) × (ended s rest.now ≡ Ok xs) × HasAll c xs) }
         ensures wrong { IfErr result (λ f. (s : PlainStage) → Checks self s → IsFault f (ended s rest.now)) }
+        ensures unread { IsErrOf result DumpFault.Read → ⊥ }
     {
         match self.stage {
             Stage::Head => Err(DumpFault::Wrong { line: 1 }),

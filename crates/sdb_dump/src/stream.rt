@@ -1,8 +1,8 @@
 //! Checks a dump as it is read.
-ghost use Rattle.std.specs.Prelude.{◌≡◌, ℕ, ◌+◌, ◌^◌, ◌<◌, ◌≤◌, List, [], ◌++◌, length, OnOk, IfOk, IfErr, IfSome, vec_len};
+ghost use Rattle.std.specs.Prelude.{◌≡◌, ℕ, ◌+◌, ◌^◌, ◌<◌, ◌≤◌, List, [], ◌++◌, length, OnOk, IfOk, IfErr, IfSome, IsErrOf, vec_len};
 ghost use Rattle.sdb_dump.specs.Checks.{Checks};
 ghost use Rattle.sdb_dump.specs.Cut.{check_text};
-ghost use Rattle.sdb_dump.specs.Faults.{IsFault, IsWrong};
+ghost use Rattle.sdb_dump.specs.Faults.{IsFault, IsWrong, ReadsDump};
 ghost use Rattle.sdb_dump.specs.Stages.{PlainStage, after};
 ghost use Rattle.sdb_dump.specs.Text.{Accepts, GoesOn, answer_of};
 
@@ -19,6 +19,9 @@ const BUFFER_LEN: usize = 65_536;
 pub fn check_dump<R: Source>(alloc: Global, reader: &mut R) -> Result<Checked, DumpFault>
     ensures accepted { IfOk result (λ c. IfSome (R.left reader.old) (λ text. Accepts c text)) }
     ensures wrong { IfErr result (λ f. IfSome (R.left reader.old) (λ text. IsFault f (check_text text))) }
+    // No read failed, but for the one that is the fault.
+    ensures reads { ReadsDump result (R.calls reader.old) (R.failures reader.old)
+        (R.calls reader.new) (R.failures reader.new) }
 {
     let mut space = room(alloc)?;
     let buffer = space.as_mut_slice();
@@ -42,6 +45,7 @@ fn take_piece(checker: &mut Checker, held: &mut Vec<u8>, piece: &[u8]) -> Result
         GoesOn s held.old.items piece.now checker.new held.new.items) }
     ensures wrong { IfErr result (λ f. (s : PlainStage) → Checks checker.old s → (rest : List ℕ) →
         IsFault f (answer_of s held.old.items (piece.now ++ rest))) }
+    ensures unread { IsErrOf result DumpFault.Read → ⊥ }
 {
     let mut rest = piece;
     while let Some(at) = first_line_feed(rest) {
@@ -61,6 +65,7 @@ fn take_line(checker: &mut Checker, held: &mut Vec<u8>, piece: &[u8]) -> Result<
         Checks checker.new (after s (held.old.items ++ piece.now))) }
     ensures wrong { IfErr result (λ f. (s : PlainStage) → Checks checker.old s →
         IsWrong f (after s (held.old.items ++ piece.now))) }
+    ensures unread { IsErrOf result DumpFault.Read → ⊥ }
 {
     held.extend_from_slice(piece)?;
     checker.take_line(held.as_slice())?;

@@ -1,4 +1,4 @@
-use Rattle.std.proofs.Common.{◌≡◌, arith, Ok, Err, take, ap, sym, ◌∙◌, subst, length-take}
+use Rattle.std.proofs.Common.{◌≡◌, arith, refl, Ok, Err, take, ap, sym, ◌∙◌, subst, length-take}
 use Rattle.std.proofs.lemmas.Result.{err_from_is_err_and}
 use Rattle.std.specs.Prelude.{IfErr, IfSome}
 use Rattle.std.proofs.Common.{List}
@@ -14,6 +14,9 @@ pub loop-turn-init : goal.loop-turn-init
 loop-turn-init g c = record {
   room = omega arith;
   few = omega (arith, c.new-checker.ensures.none);
+  calls = omega arith;
+  at_most = omega arith;
+  reads = refl;
   went = went_start (g.R.Source.left c.args.reader.now) c.new-checker.result c.new-held.result.items c.new-checker.ensures.checks c.new-held.ensures.items;
 }
 
@@ -23,6 +26,9 @@ loop-turn-preserved g c =
     record {
       room = omega (arith, c.loop-turn.invariant.room, c.take.auto.buf);
       few = omega (arith, c.in_ok-take_piece-in-Ok.ensures.few, c.loop-turn.invariant.few, c.loop-turn.invariant.room, c.take.auto.buf, length-take c.in-Ok.n c.take.new.buf);
+      calls = omega (arith, c.loop-turn.invariant.calls, c.take.ensures.calls);
+      at_most = omega (arith, c.loop-turn.invariant.at_most, c.take.ensures.calls);
+      reads = c.in-Ok.ensures.failures ∙ c.loop-turn.invariant.reads;
       went = went_on _ piece c.loop-turn.invariant.went c.in-Ok.ensures.bytes.0 c.in_ok-take_piece-in-Ok.ensures.taken;
     }
 
