@@ -1,4 +1,5 @@
 pub mod Ends
+pub mod Limits
 pub mod Printed
 pub mod Sizes
 pub mod Written

@@ -1,4 +1,5 @@
 pub mod Coding
+pub mod Limits
 pub mod Plain
 pub mod Prints
 pub mod Reads

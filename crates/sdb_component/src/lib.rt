@@ -5,6 +5,7 @@
 mod comparing;
 mod component;
 mod copies;
+pub mod laws;
 mod lists;
 mod measures;
 mod members;
