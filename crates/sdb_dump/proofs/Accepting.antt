@@ -157,9 +157,13 @@ all_ascend : (v : DumpVersion) (before xs : List PlainLine) → AreNext v before
 all_ascend v before [] h = tt
 all_ascend v before (x ∷ xs) h = (h.0.ascends, all_ascend v (before ++ x ∷ []) xs h.1)
 
-pub accepted_dumps : (ls : List (List ℕ)) (rest : List ℕ) (xs : List PlainLine) → check ls rest ≡ Ok xs
-    → (v : DumpVersion) × (ls ≡ dump_lines v xs) × (rest ≡ []) × IsDump xs
-accepted_dumps ls rest xs e =
+pub accepted_next : (ls : List (List ℕ)) (rest : List ℕ) (xs : List PlainLine) → check ls rest ≡ Ok xs
+    → (v : DumpVersion) × (ls ≡ dump_lines v xs) × (rest ≡ []) × AreNext v [] xs × IsDump xs
+accepted_next ls rest xs e =
     let s = check_sound ls rest xs e in
     let lines = s.1 in
-    (s.0, lines.0, lines.1, record { ascends = all_ascend s.0 [] xs lines.2; made = all_made s.0 [] xs lines.2 })
+    (s.0, lines.0, lines.1, lines.2, record { ascends = all_ascend s.0 [] xs lines.2; made = all_made s.0 [] xs lines.2 })
+
+pub accepted_dumps : (ls : List (List ℕ)) (rest : List ℕ) (xs : List PlainLine) → check ls rest ≡ Ok xs
+    → (v : DumpVersion) × (ls ≡ dump_lines v xs) × (rest ≡ []) × IsDump xs
+accepted_dumps ls rest xs e = let d = accepted_next ls rest xs e in (d.0, d.1, d.2, d.4)

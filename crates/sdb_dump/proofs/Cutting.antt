@@ -4,7 +4,7 @@ use Rattle.std.specs.Prelude.{⊤, ◌^◌, codes, if◌then◌else◌}
 use Rattle.std.proofs.lemmas.Bool.Decides.{nat_tests}
 use Rattle.sdb_dump.specs.Dumps.{PlainLine, count_text, text_of, dump_lines, ended_lines, dump_text, check}
 use Rattle.sdb_dump.specs.Accepted.{AllWithin, IsDump}
-use Rattle.sdb_dump.proofs.Accepting.{AllFit, all_fit, dumps_accepted, accepted_dumps}
+use Rattle.sdb_dump.proofs.Accepting.{AllFit, all_fit, dumps_accepted, accepted_next}
 use Rattle.sdb_dump.specs.declared.version.DumpVersion.{DumpVersion}
 use Rattle.sdb_dump.specs.declared.version.DumpVersion.TheVariants.{One, Two}
 use Rattle.sdb_dump.specs.Lines.{number_of, shown_moment, line_data}
@@ -13,7 +13,9 @@ use Rattle.sdb_dump.specs.Sound.{IsSound}
 use Rattle.json.proofs.Printed.Utf8.{are_ascii, IsUtf8-are_ascii}
 use Rattle.serde_json.specs.Data.{number, unsigned, object, no_members, member}
 use Rattle.sdb_dump.specs.Cut.{first, cut, check_text, IsLine}
+use Rattle.sdb_dump.specs.Within.{EachFits}
 use Rattle.sdb_dump.proofs.Feeds.{compact_line}
+use Rattle.sdb_dump.proofs.Limits.{all_within}
 
 -- ---- the lines, put together again, are the text
 
@@ -67,7 +69,17 @@ dump_are_lines v xs d f few = (
 pub text_accepted : (v : DumpVersion) (xs : List PlainLine) → IsDump xs → AllWithin v xs → length xs < 2 ^ 64 → check_text (dump_text v xs) ≡ Ok xs
 text_accepted v xs d f few = ap (λ c. check c.ended c.rest) (cut_lines (dump_lines v xs) (dump_are_lines v xs d f few)) ∙ dumps_accepted v xs d f
 
+-- the text is a dump, whose lines are next, and keep the limits if its keys and submissions do
+pub text_next : (t : List ℕ) (xs : List PlainLine) → check_text t ≡ Ok xs
+    → (v : DumpVersion) × (t ≡ dump_text v xs) × IsDump xs × (EachFits xs → AllWithin v xs)
+text_next t xs e =
+    let d = accepted_next (cut [] t).ended (cut [] t).rest xs e in
+    (
+      d.0,
+      sym (joined t []) ∙ ap₂ (λ a b. ended_lines a ++ b) d.1 d.2 ∙ append-nil (ended_lines (dump_lines d.0 xs)),
+      d.4,
+      λ h. all_within d.0 [] xs d.3 h,
+    )
+
 pub text_only : (t : List ℕ) (xs : List PlainLine) → check_text t ≡ Ok xs → (v : DumpVersion) × (t ≡ dump_text v xs) × IsDump xs
-text_only t xs e =
-    let d = accepted_dumps (cut [] t).ended (cut [] t).rest xs e in
-    (d.0, sym (joined t []) ∙ ap₂ (λ a b. ended_lines a ++ b) d.1 d.2 ∙ append-nil (ended_lines (dump_lines d.0 xs)), d.3)
+text_only t xs e = let d = text_next t xs e in (d.0, d.1, d.2)

@@ -1,88 +1,31 @@
 -- A line that is entered.
-use Rattle.std.proofs.Common.{◌≡◌, ℕ, ◌+◌, ◌<◌, List, [], ◌∷◌, ◌++◌, length, Bool, true, false, ◌&&◌, bytes_eq, nat_eq, cond, Option, Some, None, Ok, Err, inl, inr, refl, sym, ap, ap₂, ◌∙◌, subst, arith, append-nil, length-append}
-use Rattle.std.specs.Prelude.{if◌then◌else◌, Result, option_map}
+use Rattle.std.proofs.Common.{◌≡◌, ◌≢◌, ℕ, ◌+◌, ◌<◌, List, [], ◌∷◌, ◌++◌, length, Bool, true, false, cond, Option, Some, None, Less, Equal, Greater, is_eq, IfSome, inl, inr, refl, sym, ap, ap₂, ◌∙◌, subst, arith, append-nil, length-append}
+use Rattle.std.specs.Prelude.{if◌then◌else◌, option_map}
+use Rattle.std.specs.BTreeMap.{insert_entry}
 use Rattle.std.specs.List.{slice_get}
+use Rattle.std.specs.Option.{option_map_or}
+use Rattle.std.specs.Ordering.{is_lt, ordering_reverse}
 use Rattle.std.proofs.Math.Seq.{get_or-append_seam}
 use Rattle.std.proofs.lemmas.Bool.{cases_Bool}
 use Rattle.std.proofs.lemmas.Option.{slice_get-get_or}
-use Rattle.sdb_desk.specs.Machine.{Decides}
-use Rattle.sdb_desk.specs.ShardView.{logs_of}
-use Rattle.sdb_oplog.specs.Decide.{PlainReply, stored, repeated, refused, settled, entry_of}
-use Rattle.sdb_oplog.specs.Keys.{PlainKey, Logs, plain_key, same_key, with_log}
-use Rattle.sdb_oplog.specs.Plain.{PlainContent, PlainSubmission, PlainEntry}
-use Rattle.sdb_oplog.specs.Snap.{stored_at}
-use Rattle.sdb_oplog.specs.declared.codes.Code.{Code}
-use Rattle.sdb_oplog.specs.declared.codes.Code.TheVariants.{E10}
-use Rattle.sdb_dump.specs.Checks.{Holds, Enters, IsStoredAt}
-use Rattle.sdb_dump.specs.Dumps.{PlainLine, log_in, follows, text_of, stored_by, entry_if, line_if, entered_after}
+use Rattle.sdb_desk.specs.MapViewLaws.{inserted}
+use Rattle.sdb_oplog.specs.Keys.{PlainKey, Logs, plain_key, key_cmp, same_key, with_log}
+use Rattle.sdb_oplog.specs.Plain.{PlainEntry}
+use Rattle.sdb_oplog.specs.declared.keys.Key.{Key}
+use Rattle.sdb_dump.specs.Checks.{last_of, logs_at, logs_with, IsAbove, AreFilled, Holds, Continues, Enters}
+use Rattle.sdb_dump.specs.Dumps.{PlainLine, log_in, follows, stored_by, is_line_of, line_if, entered_after}
 use Rattle.sdb_dump.specs.Lines.{PlainRead, needs}
+use Rattle.sdb_dump.specs.Within.{FitsKey, FitsSubmission, EachFits}
 use Rattle.sdb_dump.specs.declared.checking.Checker.{Checker}
+use Rattle.sdb_dump.specs.declared.checking.Last.{Last}
 use Rattle.sdb_dump.specs.declared.version.DumpVersion.{DumpVersion}
 use Rattle.sdb_dump.proofs.Accepting.{equal_keys, same_as_itself, log_more}
-use Rattle.sdb_dump.proofs.Decided.{from_parts}
-use Rattle.sdb_dump.proofs.Following.{last_more}
+use Rattle.sdb_dump.proofs.Decided.{stored_is}
+use Rattle.sdb_dump.proofs.Following.{follows_is, last_more}
+use Rattle.sdb_dump.proofs.Kept.{filled_insert}
+use Rattle.sdb_dump.proofs.Listing.{turned, keys_total}
 
--- ---- what a commit answers
-
-unstored_by : (o : Option ℕ) (log : List PlainEntry) (s : PlainSubmission) (now : ℕ) (r : Result PlainContent Code) (p : PlainReply) (at : Option ℕ)
-    → p ≡ (from_parts o log s now r).reply → IsStoredAt p (Ok at) → at ≡ None → entry_if o log s now r ≡ None
-unstored_by (Some i) log s now r p at e h none = refl
-unstored_by None log s now (Err c) p at e h none = refl
-unstored_by None log s now (Ok m) (stored v missed) at e h none = cc
-unstored_by None log s now (Ok m) (repeated v) at e h none = cc
-unstored_by None log s now (Ok m) (refused c) at e h none = cc
-
-not_wanting : (p : PlainReply) (at : Option ℕ) → p ≡ refused E10 → IsStoredAt p (Ok at) → ⊥
-not_wanting (stored v missed) at e h = cc
-not_wanting (repeated v) at e h = cc
-not_wanting (refused c) at e h = let g : c ≡ E10 = cc in h.1 g
-
--- nothing was stored
-pub unstored : (logs new : Logs) (k : PlainKey) (s : PlainSubmission) (now : ℕ) (p : PlainReply) (at : Option ℕ) → Decides logs k s now p new
-    → IsStoredAt p (Ok at) → at ≡ None → stored_by (logs k) s now ≡ None
-unstored logs new k s now p at (inl d) h none = absurd (not_wanting p at d.0 h)
-unstored logs new k s now p at (inr d) h none = unstored_by (stored_at s.src s.seq (logs k)) (logs k) s now (settled (logs k) s) p at d.0 h none
-
--- an entry was stored, at the end of the log
-pub record StoredOne (logs new : Logs) (k : PlainKey) (s : PlainSubmission) (now at : ℕ) : Type 0 where
-  pub entry : PlainEntry
-  pub by : stored_by (logs k) s now ≡ Some entry
-  pub place : at ≡ length (logs k)
-  pub grown : new ≡ with_log logs k (logs k ++ entry ∷ [])
-
-stored_one_by : (o : Option ℕ) (logs new : Logs) (k : PlainKey) (s : PlainSubmission) (now : ℕ) (r : Result PlainContent Code) (p : PlainReply) (at : ℕ)
-    → p ≡ (from_parts o (logs k) s now r).reply → IsStoredAt p (Ok (Some at)) → new ≡ with_log logs k (from_parts o (logs k) s now r).log
-    → (e : PlainEntry) × (entry_if o (logs k) s now r ≡ Some e) × (at ≡ length (logs k)) × (new ≡ with_log logs k (logs k ++ e ∷ []))
-stored_one_by (Some i) logs new k s now r (stored v missed) at e h g = cc
-stored_one_by (Some i) logs new k s now r (repeated v) at e h g = cc
-stored_one_by (Some i) logs new k s now r (refused c) at e h g = cc
-stored_one_by None logs new k s now (Err x) (stored v missed) at e h g = cc
-stored_one_by None logs new k s now (Err x) (repeated v) at e h g = cc
-stored_one_by None logs new k s now (Err x) (refused c) at e h g = let a : ◌≡◌ {A = Option ℕ} (Some at) None = h.0 in cc
-stored_one_by None logs new k s now (Ok m) (stored v missed) at e h g =
-    let a : at ≡ v = cc in
-    let b : v ≡ length (logs k) = cc in
-    (entry_of (logs k) s now m, refl, a ∙ b, g)
-stored_one_by None logs new k s now (Ok m) (repeated v) at e h g = cc
-stored_one_by None logs new k s now (Ok m) (refused c) at e h g = cc
-
-pub stored_one : (logs new : Logs) (k : PlainKey) (s : PlainSubmission) (now : ℕ) (p : PlainReply) (o : Option ℕ) (at : ℕ) → Decides logs k s now p new
-    → IsStoredAt p (Ok o) → o ≡ Some at → StoredOne logs new k s now at
-stored_one logs new k s now p o at (inl d) h e = absurd (not_wanting p o d.0 h)
-stored_one logs new k s now p o at (inr d) h e =
-    let r = stored_one_by (stored_at s.src s.seq (logs k)) logs new k s now (settled (logs k) s) p at d.0 (subst (λ x. IsStoredAt p (Ok x)) e h) d.1 in
-    record { entry = r.0; by = r.1; place = r.2; grown = r.3 }
-
-pub last_entry : (log : List PlainEntry) (e : PlainEntry) → slice_get (log ++ e ∷ []) (length log) ≡ Some e
-last_entry log e =
-    let within : length log < length (log ++ e ∷ []) = omega (arith, length-append log (e ∷ [])) in
-    slice_get-get_or (log ++ e ∷ []) (length log) e within ∙ ap Some (get_or-append_seam log e [] e)
-
-pub found_entry : (f g : Logs) (k : PlainKey) (e : PlainEntry) (at : ℕ) → at ≡ length (f k) → g ≡ with_log f k (f k ++ e ∷ []) → slice_get (g k) at ≡ Some e
-found_entry f g k e at place grown =
-    ap₂ slice_get (ap (λ q. q k) grown ∙ ap (λ b. cond b (f k ++ e ∷ []) (f k)) (same_as_itself k)) place ∙ last_entry (f k) e
-
--- ---- what is held then
+-- ---- the document that a line goes on with
 
 other_way : (a b : PlainKey) → same_key a b ≡ false → same_key b a ≡ false
 other_way a b e = elim (cases_Bool (same_key b a)) [
@@ -90,45 +33,157 @@ other_way a b e = elim (cases_Bool (same_key b a)) [
   | inr f ↦ f
 ]
 
-logs_more : (f g : Logs) (xs : List PlainLine) (x : PlainLine) → ((k : PlainKey) → f k ≡ log_in xs k) → g ≡ with_log f x.key (f x.key ++ x.entry ∷ [])
-    → (k : PlainKey) → g k ≡ log_in (xs ++ x ∷ []) k
-logs_more f g xs x h e k = elim (cases_Bool (same_key x.key k)) [
+no_lines : (xs : List PlainLine) → last_of xs ≡ None → xs ≡ []
+no_lines [] e = refl
+no_lines (x ∷ []) e = cc
+no_lines (x ∷ y ∷ xs) e = let none : y ∷ xs ≡ [] = no_lines (y ∷ xs) e in cc
+
+pub takes_first : (old mid : Checker) (xs : List PlainLine) (k : PlainKey) → old.last ≡ None → mid.logs.entries ≡ old.logs.entries → Holds old xs → Continues xs k [] mid
+takes_first old mid xs k is same h =
+    let none : xs ≡ [] = no_lines xs (sym h.last ∙ ap (option_map (λ (l : Last). plain_key l.key)) is) in
+    record {
+      follows = ap (λ l. follows l k) none;
+      begins = sym (ap (λ l. log_in l k) none);
+      others = λ q _. ap (λ es. logs_at es q) same ∙ subst (λ o. logs_with o (logs_at old.logs.entries) q ≡ log_in xs q) is (h.logs q);
+      filled = subst AreFilled (sym same) h.filled.0;
+      rest = λ q _. ap (λ l. log_in l q) none;
+    }
+
+module _ (old mid : Checker) (l : Last) (xs : List PlainLine) (k : PlainKey) (is : old.last ≡ Some l) (h : Holds old xs) where
+  at : PlainKey
+  at = plain_key l.key
+
+  last_is : last_of xs ≡ Some (plain_key l.key)
+  last_is = sym h.last ∙ ap (option_map (λ (m : Last). plain_key m.key)) is
+
+  logs_are : (q : PlainKey) → cond (same_key (plain_key l.key) q) l.document (logs_at old.logs.entries q) ≡ log_in xs q
+  logs_are q = subst (λ o. logs_with o (logs_at old.logs.entries) q ≡ log_in xs q) is (h.logs q)
+
+  follows_at : follows xs k ≡ (if is_lt (key_cmp k (plain_key l.key)) then false else true)
+  follows_at = follows_is xs k ∙ ap (λ o. option_map_or (λ m. if is_lt (key_cmp k m) then false else true) o true) last_is
+
+  last_filled : l.document ≢ []
+  last_filled = subst (λ o. IfSome o (λ m. m.document ≢ [])) is h.filled.1
+
+  above_last : (q : PlainKey) → key_cmp q (plain_key l.key) ≡ Greater → log_in xs q ≡ []
+  above_last q g = h.rest q (subst (λ o. IsAbove o q) (sym last_is) g)
+
+  pub takes_below : key_cmp k (plain_key l.key) ≡ Less → follows xs k ≡ false
+  takes_below e = follows_at ∙ ap (λ o. if is_lt o then false else true) e
+
+  pub takes_same : key_cmp k (plain_key l.key) ≡ Equal → mid.logs.entries ≡ old.logs.entries → Continues xs k l.document mid
+  takes_same e same =
+      let here : k ≡ plain_key l.key = equal_keys k (plain_key l.key) (ap is_eq e) in
+      record {
+        follows = follows_at ∙ ap (λ o. if is_lt o then false else true) e;
+        begins = sym (ap (λ b. cond b l.document (logs_at old.logs.entries (plain_key l.key))) (same_as_itself (plain_key l.key))) ∙ logs_are (plain_key l.key) ∙ ap (log_in xs) (sym here);
+        others = λ q n.
+            ap (λ es. logs_at es q) same
+            ∙ ap (λ b. cond b l.document (logs_at old.logs.entries q)) (sym (subst (λ y. same_key y q ≡ false) here n)) ∙ logs_are q;
+        filled = subst AreFilled (sym same) h.filled.0;
+        rest = λ q g. above_last q (subst (λ y. key_cmp q y ≡ Greater) here g);
+      }
+
+  over : (q : PlainKey) → key_cmp k (plain_key l.key) ≡ Greater → key_cmp q k ≡ Greater → key_cmp q (plain_key l.key) ≡ Greater
+  over q a b =
+      turned q (plain_key l.key)
+      ∙ ap ordering_reverse (keys_total.trans (plain_key l.key) k q (turned (plain_key l.key) k ∙ ap ordering_reverse a) (turned k q ∙ ap ordering_reverse b))
+
+  pub takes_above : key_cmp k (plain_key l.key) ≡ Greater
+      → mid.logs.entries ≡ insert_entry (λ a b. key_cmp (plain_key a) (plain_key b)) old.logs.entries l.key l.document → Continues xs k [] mid
+  takes_above e kept = record {
+    follows = follows_at ∙ ap (λ o. if is_lt o then false else true) e;
+    begins = sym (above_last k e);
+    others = λ q n. ap (λ f. f q) (inserted [] old.logs.entries mid.logs.entries l.key l.document kept) ∙ logs_are q;
+    filled = subst AreFilled (sym kept) (filled_insert old.logs.entries l.key l.document h.filled.0 last_filled);
+    rest = λ q g. above_last q (over q e g);
+  }
+
+-- ---- what is held then
+
+pub last_entry : (log : List PlainEntry) (e : PlainEntry) → slice_get (log ++ e ∷ []) (length log) ≡ Some e
+last_entry log e =
+    let within : length log < length (log ++ e ∷ []) = omega (arith, length-append log (e ∷ [])) in
+    slice_get-get_or (log ++ e ∷ []) (length log) e within ∙ ap Some (get_or-append_seam log e [] e)
+
+logs_after : (f : Logs) (xs : List PlainLine) (x : PlainLine) (log : List PlainEntry) → log ≡ log_in xs x.key
+    → ((q : PlainKey) → same_key x.key q ≡ false → f q ≡ log_in xs q) → (q : PlainKey) → with_log f x.key (log ++ x.entry ∷ []) q ≡ log_in (xs ++ x ∷ []) q
+logs_after f xs x log is others q = elim (cases_Bool (same_key x.key q)) [
   | inl t ↦
-      (let same : x.key ≡ k = equal_keys x.key k t in
-      let back : same_key k x.key ≡ true = subst (λ y. same_key y x.key ≡ true) same (same_as_itself x.key) in
-      ap (λ q. q k) e ∙ ap (λ b. cond b (f x.key ++ x.entry ∷ []) (f k)) t
-      ∙ ap (λ l. l ++ x.entry ∷ []) (ap f same ∙ h k)
-      ∙ sym (log_more xs x k ∙ ap (λ b. log_in xs k ++ cond b (x.entry ∷ []) []) back))
+      (let same : x.key ≡ q = equal_keys x.key q t in
+      let back : same_key q x.key ≡ true = subst (λ y. same_key y x.key ≡ true) same (same_as_itself x.key) in
+      ap (λ b. cond b (log ++ x.entry ∷ []) (f q)) t ∙ ap (λ l. l ++ x.entry ∷ []) (is ∙ ap (log_in xs) same)
+      ∙ sym (log_more xs x q ∙ ap (λ b. log_in xs q ++ cond b (x.entry ∷ []) []) back))
   | inr n ↦
-      ap (λ q. q k) e ∙ ap (λ b. cond b (f x.key ++ x.entry ∷ []) (f k)) n ∙ h k ∙ sym (append-nil (log_in xs k))
-      ∙ sym (log_more xs x k ∙ ap (λ b. log_in xs k ++ cond b (x.entry ∷ []) []) (other_way x.key k n))
+      ap (λ b. cond b (log ++ x.entry ∷ []) (f q)) n ∙ others q n ∙ sym (append-nil (log_in xs q))
+      ∙ sym (log_more xs x q ∙ ap (λ b. log_in xs q ++ cond b (x.entry ∷ []) []) (other_way x.key q n))
 ]
 
-module _ (v : DumpVersion) (xs : List PlainLine) (line : List ℕ) (r : PlainRead) (old new : Checker) (h : Holds old xs) (f : follows xs r.key ≡ true) where
+rest_after : (xs : List PlainLine) (x : PlainLine) → ((q : PlainKey) → key_cmp q x.key ≡ Greater → log_in xs q ≡ [])
+    → (q : PlainKey) → IsAbove (last_of (xs ++ x ∷ [])) q → log_in (xs ++ x ∷ []) q ≡ []
+rest_after xs x rest q h =
+    let g : key_cmp q x.key ≡ Greater = subst (λ o. IsAbove o q) (last_more xs x) h in
+    log_more xs x q ∙ ap₂ (λ l b. l ++ cond b (x.entry ∷ []) []) (rest q g) (ap is_eq g)
+
+fits_after : (xs : List PlainLine) (x : PlainLine) → EachFits xs → FitsKey x.key → FitsSubmission x.entry.arrived → EachFits (xs ++ x ∷ [])
+fits_after [] x h k s = (k, s, tt)
+fits_after (y ∷ xs) x h k s = (h.0, h.1, fits_after xs x h.2 k s)
+
+not_empty : (log : List PlainEntry) (e : PlainEntry) → (log ++ e ∷ []) ≢ []
+not_empty [] e = λ h. cc
+not_empty (x ∷ log) e = λ h. cc
+
+module _ (v : DumpVersion) (xs : List PlainLine) (line : List ℕ) (r : PlainRead) (log : List PlainEntry) (mid : Checker) (w : Continues xs r.key log mid) where
   abbrev made : PlainEntry → PlainLine
   made e = record { key = r.key; entry = e }
 
-  entered_is : (o : Option PlainEntry) → stored_by (logs_of old.shard r.key) r.submission r.moment ≡ o → entered_after v xs line r ≡ needs (line_if v line r) o
+  entered_is : (o : Option PlainEntry) → stored_by log r.submission r.moment ≡ o → entered_after v xs line r ≡ needs (line_if v line r) o
   entered_is o by =
-      ap (λ b. if b then needs (line_if v line r) (stored_by (log_in xs r.key) r.submission r.moment) else None) f
-      ∙ ap (needs (line_if v line r)) (ap (λ l. stored_by l r.submission r.moment) (sym (h.logs r.key)) ∙ by)
+      ap (λ b. if b then needs (line_if v line r) (stored_by (log_in xs r.key) r.submission r.moment) else None) w.follows
+      ∙ ap (needs (line_if v line r)) (ap (λ l. stored_by l r.submission r.moment) (sym w.begins) ∙ by)
 
-  pub not_entered : stored_by (logs_of old.shard r.key) r.submission r.moment ≡ None → entered_after v xs line r ≡ None
+  pub not_entered : stored_by log r.submission r.moment ≡ None → entered_after v xs line r ≡ None
   not_entered by = entered_is None by
 
-  holds_more : (e : PlainEntry) → logs_of new.shard ≡ with_log (logs_of old.shard) r.key (logs_of old.shard r.key ++ e ∷ [])
-      → option_map plain_key new.last ≡ Some r.key → new.entries ≡ old.entries + 1 → Holds new (xs ++ made e ∷ [])
-  holds_more e grown last counted =
+  holds_more : (old new : Checker) (e : PlainEntry) (l : Last) → Holds old xs → FitsKey r.key → FitsSubmission r.submission → stored_by log r.submission r.moment ≡ Some e
+      → new.logs.entries ≡ mid.logs.entries → new.last ≡ Some l → plain_key l.key ≡ r.key → l.document ≡ log ++ e ∷ [] → new.entries ≡ old.entries + 1 → Holds new (xs ++ made e ∷ [])
+  holds_more old new e l h k s by same is here grown counted =
+      let come = ap (λ y. y.arrived) (stored_is log r.submission r.moment e by).entry in
       record {
-        logs = logs_more (logs_of old.shard) (logs_of new.shard) xs (made e) h.logs grown;
-        last = last ∙ sym (last_more xs (made e));
+        logs = λ q.
+            ap₂ (λ o es. logs_with o (logs_at es) q) is same
+            ∙ ap₂ (λ y d. with_log (logs_at mid.logs.entries) y d q) here grown
+            ∙ logs_after (logs_at mid.logs.entries) xs (made e) log w.begins w.others q;
+        last = ap (option_map (λ (m : Last). plain_key m.key)) is ∙ ap Some here ∙ sym (last_more xs (made e));
+        filled = (
+          subst AreFilled (sym same) w.filled,
+          subst (λ o. IfSome o (λ m. m.document ≢ [])) (sym is) (subst (λ d. d ≢ []) (sym grown) (not_empty log e)),
+        );
+        rest = rest_after xs (made e) w.rest;
+        fits = fits_after xs (made e) h.fits k (subst FitsSubmission (sym come) s);
         counted = omega (arith, counted, h.counted, length-append xs (made e ∷ []));
       }
 
-  pub entered : (e : PlainEntry) (b : Bool) → stored_by (logs_of old.shard r.key) r.submission r.moment ≡ Some e
-      → logs_of new.shard ≡ with_log (logs_of old.shard) r.key (logs_of old.shard r.key ++ e ∷ [])
-      → option_map plain_key new.last ≡ Some r.key → new.entries ≡ old.entries + 1
-      → b ≡ (nat_eq e.moment r.moment && bytes_eq (text_of v (made e)) line) → Enters b (entered_after v xs line r) new xs
-  entered e true by grown last counted is =
-      (made e, entered_is (Some e) by ∙ ap (λ b. if b then Some (made e) else None) (sym is), holds_more e grown last counted)
-  entered e false by grown last counted is = entered_is (Some e) by ∙ ap (λ b. if b then Some (made e) else None) (sym is)
+  pub entered : (old new : Checker) (e : PlainEntry) (l : Last) (b : Bool) → Holds old xs → FitsKey r.key → FitsSubmission r.submission → stored_by log r.submission r.moment ≡ Some e
+      → new.logs.entries ≡ mid.logs.entries → new.last ≡ Some l → plain_key l.key ≡ r.key → l.document ≡ log ++ e ∷ [] → new.entries ≡ old.entries + 1
+      → b ≡ is_line_of v line r.key r.moment e → Enters b (entered_after v xs line r) new xs
+  entered old new e l true h k s by same last here grown counted is =
+      (made e, entered_is (Some e) by ∙ ap (λ b. if b then Some (made e) else None) (sym is), holds_more old new e l h k s by same last here grown counted)
+  entered old new e l false h k s by same last here grown counted is = entered_is (Some e) by ∙ ap (λ b. if b then Some (made e) else None) (sym is)
+
+-- ---- what is accepted
+
+pub accepted_none : (old : Checker) (es : List (Key × List PlainEntry)) (xs : List PlainLine) → old.last ≡ None → es ≡ old.logs.entries → Holds old xs
+    → ((q : PlainKey) → logs_at es q ≡ log_in xs q) × AreFilled es
+accepted_none old es xs is same h = (
+  λ q. ap (λ l. logs_at l q) same ∙ subst (λ o. logs_with o (logs_at old.logs.entries) q ≡ log_in xs q) is (h.logs q),
+  subst AreFilled (sym same) h.filled.0,
+)
+
+pub accepted_some : (old : Checker) (es : List (Key × List PlainEntry)) (l : Last) (xs : List PlainLine) → old.last ≡ Some l
+    → es ≡ insert_entry (λ a b. key_cmp (plain_key a) (plain_key b)) old.logs.entries l.key l.document → Holds old xs
+    → ((q : PlainKey) → logs_at es q ≡ log_in xs q) × AreFilled es
+accepted_some old es l xs is kept h = (
+  λ q. ap (λ f. f q) (inserted [] old.logs.entries es l.key l.document kept) ∙ subst (λ o. logs_with o (logs_at old.logs.entries) q ≡ log_in xs q) is (h.logs q),
+  subst AreFilled (sym kept) (filled_insert old.logs.entries l.key l.document h.filled.0 (subst (λ o. IfSome o (λ m. m.document ≢ [])) is h.filled.1)),
+)

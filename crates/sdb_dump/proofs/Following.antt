@@ -61,12 +61,12 @@ version_wrong false true e = cc
 version_wrong false false e = refl
 
 pub head_taken : (c : Checker) (v : DumpVersion) (s : PlainStage) (l : List ℕ) → c.stage ≡ Head → version_of l ≡ Some v → Checks c s
-    → Checks (record { alloc = c.alloc; stage = Body v; shard = c.shard; last = c.last; entries = c.entries }) (after s l)
+    → Checks (record { alloc = c.alloc; stage = Body v; logs = c.logs; last = c.last; entries = c.entries }) (after s l)
 head_taken c v s l e is h =
-    let d : Checker = record { alloc = c.alloc; stage = Body v; shard = c.shard; last = c.last; entries = c.entries } in
+    let d : Checker = record { alloc = c.alloc; stage = Body v; logs = c.logs; last = c.last; entries = c.entries } in
     let a = at_head c.stage s c e h in
     let to : after s l ≡ body v [] = ap (λ x. after x l) a.0 ∙ version_body (bytes_eq l (head_text One)) (bytes_eq l (head_text Two)) v is in
-    let holds : Holds d [] = record { logs = a.1.logs; last = a.1.last; counted = a.1.counted } in
+    let holds : Holds d [] = record { logs = a.1.logs; last = a.1.last; filled = a.1.filled; rest = a.1.rest; fits = a.1.fits; counted = a.1.counted } in
     subst (Checks d) (sym to) (refl, holds)
 
 pub head_wrong : (c : Checker) (s : PlainStage) (l : List ℕ) → c.stage ≡ Head → version_of l ≡ None → Checks c s → after s l ≡ wrong 1

@@ -6,15 +6,20 @@ use Rattle.std.specs.Io.KnownBytes.{Consumes, IsAtEnd}
 use Rattle.std.proofs.KnownBytes.{Consumes-trans, Consumes-whole}
 use Rattle.std.proofs.lemmas.List.{take_rest}
 use Rattle.std.proofs.lemmas.List.Elements.{All-head, All-tail}
-use Rattle.sdb_dump.specs.Checks.{Checks, HasAll}
+use Rattle.sdb_dump.specs.Checks.{Checks, HasAll, logs_in}
 use Rattle.sdb_dump.specs.Cut.{first, cut, check_text}
+use Rattle.sdb_dump.specs.Dumps.{PlainLine, log_in}
 use Rattle.sdb_dump.specs.Faults.{IsFault, IsWrong}
+use Rattle.sdb_dump.specs.Listed.{DumpText}
+use Rattle.sdb_dump.specs.OfLogs.{AreDumped}
 use Rattle.sdb_dump.specs.Stages.{PlainStage, head, after, ended, staged}
 use Rattle.sdb_dump.specs.Text.{answer_of, GoesOn, Accepts}
+use Rattle.sdb_dump.specs.Written.{HasEntries}
 use Rattle.sdb_dump.specs.declared.checking.Checked.{Checked}
 use Rattle.sdb_dump.specs.declared.checking.Checker.{Checker}
 use Rattle.sdb_dump.specs.declared.checking.DumpFault.{DumpFault}
 use Rattle.sdb_dump.specs.declared.checking.DumpFault.TheVariants.{Read, Memory, Wrong}
+use Rattle.sdb_dump.proofs.Listing.{dumped_lines}
 use Rattle.sdb_dump.proofs.Stages.{wrong_stays, staged_is}
 
 -- once a line isn't right, its number is the answer
@@ -54,6 +59,20 @@ module _ (piece held : List ℕ) (at : ℕ) (plain : All (λ x. x ≢ 10) (take 
   answer_wrong f s more h =
       let c = cut [] (drop (at + 1) piece ++ more) in
       subst (IsFault f) (sym (ap (λ c. staged s c.ended c.rest) (cut_at more))) (faulty f s (held ++ take at piece) c.ended c.rest h)
+
+-- ---- what is accepted
+
+accepts : (d : Checked) (text : List ℕ) (xs : List PlainLine) → check_text text ≡ Ok xs → HasAll d xs → Accepts d text
+accepts d text xs e h =
+    let w = dumped_lines text xs e h.fits in
+    let same : log_in xs ≡ logs_in d = λ i k. sym (h.logs k) i in
+    record {
+      version = w.0;
+      text = subst (λ f. DumpText w.0 f text) same w.1;
+      dumped = subst (AreDumped w.0) same w.2;
+      documents = h.documents;
+      entries = subst (λ f. HasEntries f d.entries) same (subst (HasEntries (log_in xs)) (sym h.counted) w.3);
+    }
 
 -- ---- how far a run is
 
@@ -122,7 +141,7 @@ module _ {left left' : Option (List ℕ)} {c : Checker} {held : List ℕ} (left'
   pub went_accepted : (d : Checked) → ((s : PlainStage) → Checks c s → (xs : _) × (ended s held ≡ Ok xs) × HasAll d xs) → IfSome left (λ text. Accepts d text)
   went_accepted d h =
       let a = h w.stage w.checks in
-      at_end (λ text. Accepts d text) (a.0, sym all ∙ a.1, a.2)
+      at_end (λ text. Accepts d text) (accepts d w.read a.0 (sym all ∙ a.1) a.2)
 
   pub went_refused : (f : DumpFault) → ((s : PlainStage) → Checks c s → IsFault f (ended s held)) → IfSome left (λ text. IsFault f (check_text text))
   went_refused f h = at_end (λ text. IsFault f (check_text text)) (subst (IsFault f) all (h w.stage w.checks))

@@ -12,10 +12,13 @@ pub mod Feeds
 pub mod Following
 pub mod Going
 pub mod Grid
+pub mod Kept
+pub mod Limits
 pub mod Output
 pub mod ReadBack
 pub mod Listing
 pub mod Places
 pub mod PrintedTexts
 pub mod Stages
+pub mod Storing
 pub mod Values

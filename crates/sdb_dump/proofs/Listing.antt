@@ -1,5 +1,5 @@
 -- The lines of made logs, key by key, are a dump that has these logs.
-use Rattle.std.proofs.Common.{◌≡◌, List, [], ◌∷◌, ◌++◌, Bool, true, false, cond, Ordering, Less, Equal, Greater, nat_cmp, is_eq, length, refl, sym, ap, ap₂, ◌∙◌, subst, append-nil}
+use Rattle.std.proofs.Common.{◌≡◌, ℕ, List, [], ◌∷◌, ◌++◌, Bool, true, false, cond, Ordering, Less, Equal, Greater, nat_cmp, is_eq, length, Ok, refl, sym, ap, ap₂, ◌∙◌, subst, append-nil}
 use Rattle.std.specs.Prelude.{⊤, ◌||◌, if◌then◌else◌}
 use Rattle.std.specs.Ordering.{ordering_then, ordering_reverse, is_lt}
 use Rattle.std.specs.Cmp.{IsTotalOrder, then_total, on_total}
@@ -13,9 +13,11 @@ use Rattle.sdb_dump.specs.Dumps.{PlainLine, log_in, follows, dump_text}
 use Rattle.sdb_dump.specs.Accepted.{AllWithin, AscendFrom, IsDump}
 use Rattle.sdb_dump.specs.Cut.{check_text}
 use Rattle.sdb_dump.specs.Listed.{of_log, of_logs, DumpText}
-use Rattle.sdb_dump.specs.OfLogs.{TextIsOfLogs}
+use Rattle.sdb_dump.specs.OfLogs.{AreDumped, TextIsOfLogs}
+use Rattle.sdb_dump.specs.Within.{FitsKey, FitsMoment, FitsSubmission, EachFits}
+use Rattle.sdb_dump.specs.Written.{HasEntries}
 use Rattle.sdb_dump.proofs.Accepting.{equal_keys, same_as_itself}
-use Rattle.sdb_dump.proofs.Cutting.{text_accepted, text_only}
+use Rattle.sdb_dump.proofs.Cutting.{text_accepted, text_only, text_next}
 use Rattle.sdb_desk.specs.Machine.{is_filled}
 use Rattle.sdb_desk.specs.Stored.{AreStored}
 use Rattle.std.specs.List.{AllByRecursion}
@@ -29,7 +31,7 @@ reverse_then Less p = refl
 reverse_then Equal p = refl
 reverse_then Greater p = refl
 
-turned : (a b : PlainKey) → key_cmp a b ≡ ordering_reverse (key_cmp b a)
+pub turned : (a b : PlainKey) → key_cmp a b ≡ ordering_reverse (key_cmp b a)
 turned a b =
     ap₂ ordering_then (nat_list_cmp_total.antisymm a.collection b.collection) (nat_list_cmp_total.antisymm a.id b.id)
     ∙ reverse_then (slice_cmp nat_cmp b.collection a.collection) (slice_cmp nat_cmp b.id a.id)
@@ -132,7 +134,7 @@ logs_are_dumped f ks h m = (
 
 -- ---- a dump is that of its logs
 
-keys_total : IsTotalOrder key_cmp
+pub keys_total : IsTotalOrder key_cmp
 keys_total = then_total (on_total (λ (k : PlainKey). k.collection) nat_list_cmp_total) (on_total (λ (k : PlainKey). k.id) nat_list_cmp_total)
 
 -- no key is below that of the line before
@@ -238,13 +240,42 @@ within_logs : (v : DumpVersion) (f : Logs) (ks : List PlainKey) → ((k : PlainK
 within_logs v f [] h = tt
 within_logs v f (k ∷ ks) h = within_append v (of_log k (f k)) (of_logs f ks) (h k) (within_logs v f ks h)
 
+-- so is the log of each key
+within_or : (v : DumpVersion) (b : Bool) (k : PlainKey) (x : PlainLine) (es : List PlainEntry) → same_key k x.key ≡ b
+    → FitsKey x.key → FitsMoment v x.entry.moment → FitsSubmission x.entry.arrived → AllWithin v (of_log k es) → AllWithin v (of_log k (cond b (x.entry ∷ es) es))
+within_or v true k x es e key moment sent h = (subst FitsKey (sym (equal_keys k x.key e)) key, moment, sent, h)
+within_or v false k x es e key moment sent h = h
+
+within_log : (v : DumpVersion) (xs : List PlainLine) (k : PlainKey) → AllWithin v xs → AllWithin v (of_log k (log_in xs k))
+within_log v [] k h = tt
+within_log v (x ∷ xs) k h = within_or v (same_key k x.key) k x (log_in xs k) refl h.0 h.1 h.2 (within_log v xs k h.3)
+
+-- the entries of the logs are as many as the lines
+pub entries_of_lines : (xs : List PlainLine) → IsDump xs → HasEntries (log_in xs) (length xs)
+entries_of_lines [] d = ([], record { in_order = sorted_none.order; whole = sorted_none.whole }, refl)
+entries_of_lines (x ∷ xs) d =
+    let (ks, s) = sorted_all x xs (rises [] x xs d.ascends.1) in
+    (x.key ∷ ks, record { in_order = s.order; whole = s.whole }, ap length (sym s.list))
+
+pub dumped_lines : (text : List ℕ) (xs : List PlainLine) → check_text text ≡ Ok xs → EachFits xs
+    → (v : DumpVersion) × DumpText v (log_in xs) text × AreDumped v (log_in xs) × HasEntries (log_in xs) (length xs)
+dumped_lines text xs e h =
+    let d = text_next text xs e in
+    (
+      d.0,
+      subst (DumpText d.0 (log_in xs)) (sym d.1) (dump_of_logs d.0 xs d.2),
+      record { made = d.2.made; within = λ k. within_log d.0 xs k (d.3 h) },
+      entries_of_lines xs d.2,
+    )
+
 pub text_is_of_logs : TextIsOfLogs
 text_is_of_logs = record {
-  accepted = λ v f text h (ks, stored, is).
+  accepted = λ v f text h few (ks, stored, is).
       let xs = of_logs f ks in
       let d = logs_are_dumped f ks stored h.made in
-      (xs, ap check_text is ∙ text_accepted v xs d.0 (within_logs v f ks h.within) (h.few (length xs) (ks, stored, refl)), d.1);
+      (xs, ap check_text is ∙ text_accepted v xs d.0 (within_logs v f ks h.within) (few (length xs) (ks, stored, refl)), d.1);
   only = λ text xs e.
       let (v, is, d) = text_only text xs e in
       (v, subst (DumpText v (log_in xs)) (sym is) (dump_of_logs v xs d), d.made);
+  within = λ text xs e h. let d = dumped_lines text xs e h in (d.0, d.1, d.2);
 }

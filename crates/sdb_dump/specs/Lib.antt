@@ -11,7 +11,9 @@ pub mod OfLogs
 pub mod Printed
 pub mod Sound
 pub mod Stages
+pub mod Storing
 pub mod Text
+pub mod Texts
 pub mod View
 pub mod Within
 pub mod Worked

@@ -1,8 +1,9 @@
 -- Which keys, submissions and entries are within the limits.
-use Rattle.std.specs.Prelude.{◌≡◌, ℕ, ◌<◌, ◌≤◌, List, length, Option, Some, None, ⊤}
+use Rattle.std.specs.Prelude.{◌≡◌, ℕ, ◌<◌, ◌≤◌, List, [], ◌∷◌, length, Option, Some, None, ⊤}
 use Rattle.std.specs.Str.{IsUtf8}
 use Rattle.sdb_oplog.specs.Keys.{PlainKey}
 use Rattle.sdb_oplog.specs.Plain.{PlainContent, create, delete, edit, PlainSubmission, PlainEntry}
+use Rattle.sdb_dump.specs.Dumps.{PlainLine}
 use Rattle.sdb_dump.specs.Fits.{IsCount, FitsValue, FitComponents}
 use Rattle.sdb_dump.specs.declared.version.DumpVersion.{DumpVersion}
 use Rattle.sdb_dump.specs.declared.version.DumpVersion.TheVariants.{One, Two}
@@ -52,3 +53,8 @@ pub record FitsEntry (v : DumpVersion) (e : PlainEntry) : Type 0 where
   pub moment : FitsMoment v e.moment
   pub content : FitsContent 100 e.content
   pub arrived : FitsSubmission e.arrived
+
+-- the key and the submission of each of these lines
+abbrev pub EachFits : List PlainLine → Type 0
+EachFits [] = ⊤
+EachFits (x ∷ xs) = FitsKey x.key × FitsSubmission x.entry.arrived × EachFits xs

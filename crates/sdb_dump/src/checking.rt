@@ -1,25 +1,24 @@
 //! A checker of the lines of a dump.
-ghost use Rattle.std.specs.Prelude.{◌≡◌, ◌+◌, ◌^◌, ◌<◌, ◌≤◌, List, [], Option, Some, None, OnOk, OnErr, IfOk, IfErr, IfSome, IsErrOf, ◌&&◌, nat_eq, bytes_eq, true, option_map, unwrap_or, string_bytes, Ok};
-ghost use Rattle.sdb_oplog.specs.Keys.{plain_key};
-ghost use Rattle.sdb_oplog.specs.Plain.{PlainEntry};
-ghost use Rattle.sdb_desk.specs.ShardView.{logs_of};
-ghost use Rattle.std.specs.List.{slice_get};
-ghost use Rattle.sdb_desk.specs.ReplyView.{plain_reply};
+ghost use Rattle.std.specs.Prelude.{◌≡◌, ◌+◌, ◌^◌, ◌<◌, ◌≤◌, List, [], Option, None, OnOk, IfOk, IfErr, IfSome, IsErrOf, option_map, unwrap_or, string_bytes, Ok};
+ghost use Rattle.std.specs.BTreeMap.{insert_entry};
 ghost use Rattle.sdb_oplog.specs.Decide.{IsMade};
-ghost use Rattle.sdb_dump.specs.Checks.{Checks, Enters, HasAll, Holds, IsStoredAt, logs_in};
-ghost use Rattle.sdb_dump.specs.Dumps.{PlainLine, count_text, enter, entered_after, follows, is_line_of, version_of};
+ghost use Rattle.sdb_oplog.specs.Keys.{key_cmp, plain_key};
+ghost use Rattle.sdb_dump.specs.Checks.{Checks, Enters, HasAll, Holds, Takes, logs_in};
+ghost use Rattle.sdb_dump.specs.Dumps.{PlainLine, count_text, enter, entered_after, is_line_of, version_of};
 ghost use Rattle.sdb_dump.specs.Faults.{IsFault, IsWrong};
 ghost use Rattle.sdb_dump.specs.View.{plain_line};
+ghost use Rattle.sdb_dump.specs.Within.{FitsKey, FitsSubmission};
 ghost use Rattle.sdb_dump.specs.Stages.{PlainStage, after, ended};
 ghost use Rattle.sdb_dump.specs.declared.checking.Stage.TheVariants.{Head, Body};
 ghost use Rattle.sdb_dump.specs.declared.checking.DumpFault.TheVariants.{Memory, Wrong};
 
+use crate::document::{Document, MadeLog};
 use crate::lines::{Line, line_text, read_line};
 use crate::version::DumpVersion;
-use sdb_desk::{Reply, Shard};
-use sdb_oplog::{Key, Log, Moment};
-use sdb_wire::refusal;
+use sdb_oplog::{Entry, Key, Log, Moment};
 use std::alloc::{AllocError, Global};
+use std::cmp::Ordering;
+use std::collections::BTreeMap;
 use thiserror::Error;
 
 /// Why a dump isn't accepted.
@@ -53,7 +52,7 @@ pub struct Checked {
     pub documents: u64,
     /// The entries of all of them together.
     pub entries: u128,
-    shard: Shard,
+    logs: BTreeMap<Key, MadeLog>,
 }
 
 impl Checked {
@@ -62,7 +61,10 @@ impl Checked {
         ensures log { unwrap_or (option_map (λ l. l.now) result) [] ≡ logs_in self.now (plain_key key.now) }
         ensures made { IsMade (logs_in self.now (plain_key key.now)) }
     {
-        self.shard.log(key)
+        match self.logs.get(key) {
+            Some(made) => Some(made.log()),
+            None => None,
+        }
     }
 }
 
@@ -74,13 +76,20 @@ enum Stage {
     Nothing,
 }
 
-// What was checked so far.
+// The document that the last line is of.
+#[derive(Drop)]
+struct Last {
+    key: Key,
+    document: Document,
+}
+
+// What was checked so far: the logs of the documents before the last one, and it.
 #[derive(Drop)]
 pub(crate) struct Checker {
     alloc: Global,
     stage: Stage,
-    shard: Shard,
-    last: Option<Key>,
+    logs: BTreeMap<Key, MadeLog>,
+    last: Option<Last>,
     entries: u128,
 }
 
@@ -92,7 +101,7 @@ impl Checker {
         Checker {
             alloc,
             stage: Stage::Head,
-            shard: Shard::new(alloc),
+            logs: BTreeMap::new(alloc),
             last: None,
             entries: 0,
         }
@@ -170,6 +179,7 @@ impl Checker {
         read: Line,
     ) -> Result<bool, AllocError>
         requires room { self.old.entries + 3 < 2 ^ 64 }
+        requires fits { FitsKey (plain_key read.key) × FitsSubmission read.submission }
         ensures few { self.new.entries ≤ self.old.entries + 1 }
         ensures stage { self.new.stage ≡ self.old.stage }
         ensures enters { IfOk result (λ b. (xs : List PlainLine) → Holds self.old xs →
@@ -180,49 +190,54 @@ impl Checker {
             submission,
             moment,
         } = read;
-        if !self.follows(&key) {
-            return Ok(false);
-        }
-        let reply = self.shard.commit_now(&key, &submission, moment);
-        let Some(at) = stored_version(&reply)? else {
+        let Some(before) = self.take_document(&key)? else {
             return Ok(false);
         };
-        let is_right = self.is_line(version, line, &key, at, moment)?;
-        self.last = Some(key);
+        let at = before.log().len();
+        let Some(document) = before.store(self.alloc, submission, moment)? else {
+            return Ok(false);
+        };
+        let Some(entry) = document.log().get(at) else {
+            return Ok(false);
+        };
+        let is_right = is_line(self.alloc, version, line, &key, entry, moment)?;
+        self.last = Some(Last { key, document });
         self.entries += 1;
         Ok(is_right)
     }
 
-    // Whether the key is not below that of the line before.
-    fn follows(&self, key: &Key) -> bool
-        ensures { (xs : List PlainLine) → Holds self.now xs → result ≡ follows xs (plain_key key.now) }
+    // Takes out the document that a line of this key goes on with: the last one, or, where the key is above its, one of
+    // which nothing is stored yet. `None` where the key is below it.
+    fn take_document(&mut self, key: &Key) -> Result<Option<Document>, AllocError>
+        ensures stage { self.new.stage ≡ self.old.stage }
+        ensures entries { self.new.entries ≡ self.old.entries }
+        ensures takes { IfOk result (λ d. (xs : List PlainLine) → Holds self.old xs →
+            Takes xs (plain_key key.now) self.new d) }
     {
-        match &self.last {
-            Some(last) => !key.cmp(last).is_lt(),
-            None => true,
+        let Some(last) = self.last.take() else {
+            return Ok(Some(Document::new(self.alloc)));
+        };
+        match key.cmp(&last.key) {
+            Ordering::Less => Ok(None),
+            Ordering::Equal => Ok(Some(last.document)),
+            Ordering::Greater => {
+                self.keep(last)?;
+                Ok(Some(Document::new(self.alloc)))
+            }
         }
     }
 
-    // Whether the entry of this version has the moment, and the line is its.
-    fn is_line(
-        &self,
-        version: DumpVersion,
-        line: &[u8],
-        key: &Key,
-        at: u64,
-        moment: Moment,
-    ) -> Result<bool, AllocError>
-        ensures { IfOk result (λ b. (e : PlainEntry) →
-            slice_get (logs_of self.now.shard (plain_key key.now)) at ≡ Some e →
-            b ≡ is_line_of version line.now (plain_key key.now) moment e) }
+    // Keeps the log of a document that no more lines are of.
+    fn keep(&mut self, last: Last) -> Result<(), AllocError>
+        ensures kept { OnOk result (self.new.logs.entries ≡
+            insert_entry (λ a b. key_cmp (plain_key a) (plain_key b)) self.old.logs.entries last.key last.document) }
+        ensures stage { self.new.stage ≡ self.old.stage }
+        ensures last { self.new.last ≡ self.old.last }
+        ensures entries { self.new.entries ≡ self.old.entries }
     {
-        let Some(entry) = self.shard.log(key).and_then(|log| log.get(at)) else {
-            return Ok(false);
-        };
-        if entry.moment().milliseconds() != moment.milliseconds() {
-            return Ok(false);
-        }
-        Ok(line_text(self.alloc, version, key, entry)?.as_slice() == line)
+        let Last { key, document } = last;
+        drop(self.logs.insert(key, document.into_log())?);
+        Ok(())
     }
 
     // Accepts what was checked, where nothing comes but these bytes without a line feed.
@@ -242,16 +257,18 @@ impl Checker {
     }
 
     // Accepts what was checked.
-    fn accept(self) -> Result<Checked, DumpFault>
+    fn accept(mut self) -> Result<Checked, DumpFault>
         ensures accepted { IfOk result (λ c. (xs : List PlainLine) → Holds self xs → HasAll c xs) }
         ensures memory { IfErr result (λ f. f ≡ Memory) }
     {
-        let documents = self.shard.documents()?.len() as u64;
-        let Checker { shard, entries, .. } = self;
+        if let Some(last) = self.last.take() {
+            self.keep(last)?;
+        }
+        let Checker { logs, entries, .. } = self;
         Ok(Checked {
-            documents,
+            documents: logs.len() as u64,
             entries,
-            shard,
+            logs,
         })
     }
 
@@ -266,18 +283,21 @@ impl Checker {
     }
 }
 
-// The version at which it was stored, if it was; only a want of memory is an error.
-fn stored_version(reply: &Reply) -> Result<Option<u64>, AllocError>
-    ensures { IsStoredAt (plain_reply reply.now) result }
+// Whether the entry of the key has this moment, and the line is its.
+fn is_line(
+    alloc: Global,
+    version: DumpVersion,
+    line: &[u8],
+    key: &Key,
+    entry: &Entry,
+    moment: Moment,
+) -> Result<bool, AllocError>
+    ensures { IfOk result (λ b. b ≡ is_line_of version line.now (plain_key key.now) moment entry.now) }
 {
-    match reply {
-        Reply::Stored { v, .. } => Ok(Some(*v)),
-        Reply::Repeat { .. } => Ok(None),
-        Reply::Refused(code) => {
-            refusal(*code)?;
-            Ok(None)
-        }
+    if entry.moment().milliseconds() != moment.milliseconds() {
+        return Ok(false);
     }
+    Ok(line_text(alloc, version, key, entry)?.as_slice() == line)
 }
 
 // The version of the dump that begins with this line.

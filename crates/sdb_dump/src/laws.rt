@@ -49,8 +49,8 @@ pub fn text_is_exact()
     ensures { TextIsExact }
 {}
 
-/// A text is accepted exactly where it is the dump of made logs within the limits, which it gives; only that what is
-/// accepted is within the limits is not said.
+/// A text is accepted exactly where it is the dump of made logs within the limits, which it gives. That texts are UTF-8
+/// and numbers in range is known of the types of what was read, and not of its bytes.
 pub fn text_is_of_logs()
     ensures { TextIsOfLogs }
 {}

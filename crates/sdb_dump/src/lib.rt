@@ -2,9 +2,11 @@
 #![tactic(auto)]
 
 mod checking;
+mod document;
 pub mod laws;
 mod lines;
 mod stream;
+mod texts;
 mod version;
 mod writing;
 

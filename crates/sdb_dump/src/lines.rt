@@ -1,15 +1,18 @@
 //! The line of a stored entry, printed and read. A line is told without its line feed.
-ghost use Rattle.std.specs.Prelude.{◌≡◌, ◌++◌, [], IfOk, OnOk, option_map, codes};
+ghost use Rattle.std.specs.Prelude.{◌≡◌, ◌++◌, [], IfOk, IfSome, OnOk, option_map, codes};
 ghost use Rattle.json.specs.Print.{print};
 ghost use Rattle.serde_json.specs.Data.{Data, Members, member, no_members};
 ghost use Rattle.serde_json.specs.View.{view as data_view};
 ghost use Rattle.sdb_value.specs.Printed.{data_tokens, object_rest};
 ghost use Rattle.sdb_oplog.specs.Keys.{plain_key};
 ghost use Rattle.sdb_dump.specs.Lines.{shown_moment, arrived_members, arrived_data, moment_then, with_content, line_tail, line_data, line_text, arrived_of, sent_of, submission_of, moment_of, line_of, read_line};
+ghost use Rattle.sdb_dump.specs.Within.{FitsKey, FitsSubmission};
 ghost use Rattle.sdb_dump.specs.View.{plain_line, OnlyMemory};
 
+use crate::texts::{key_texts, submission_texts};
 use crate::version::DumpVersion;
 use json::Writer;
+use sdb_component::laws::read_keeps;
 use sdb_component::write_op;
 use sdb_oplog::{Code, Content, Entry, Key, Kind, Moment, Submission};
 use sdb_wire::{
@@ -193,7 +196,8 @@ pub(crate) fn read_line(
     version: DumpVersion,
     line: &[u8],
 ) -> Result<Option<Line>, AllocError>
-    ensures { IfOk result (λ l. option_map plain_line l ≡ read_line version line.now) }
+    ensures read { IfOk result (λ l. option_map plain_line l ≡ read_line version line.now) }
+    ensures fits { IfOk result (λ l. IfSome l (λ l. FitsKey (plain_key l.key) × FitsSubmission l.submission)) }
 {
     let Ok(text) = str::from_utf8(line) else {
         return Ok(None);
@@ -210,8 +214,10 @@ pub(crate) fn read_line(
 }
 
 fn line_of(alloc: Global, version: DumpVersion, value: &Value) -> Result<Option<Line>, AllocError>
-    ensures { IfOk result (λ l. option_map plain_line l ≡ line_of version (data_view value.now)) }
+    ensures line { IfOk result (λ l. option_map plain_line l ≡ line_of version (data_view value.now)) }
+    ensures fits { IfOk result (λ l. IfSome l (λ l. FitsKey (plain_key l.key) × FitsSubmission l.submission)) }
 {
+    read_keeps();
     let Some(key) = unless_refused(key_of(alloc, value))? else {
         return Ok(None);
     };
@@ -221,6 +227,8 @@ fn line_of(alloc: Global, version: DumpVersion, value: &Value) -> Result<Option<
     let Some(moment) = moment_of(version, value) else {
         return Ok(None);
     };
+    key_texts(&key);
+    submission_texts(&submission);
     Ok(Some(Line {
         key,
         submission,
@@ -287,8 +295,8 @@ fn arrived_of(alloc: Global, value: &Value) -> Result<Option<(Content, Option<u6
     Ok(Some((content, version)))
 }
 
-// What was read, unless it is refused; only a want of memory is an error.
-fn unless_refused<T: Drop>(read: Result<T, Code>) -> Result<Option<T>, AllocError>
+/// What was made, unless it is refused; only a want of memory is an error.
+pub(crate) fn unless_refused<T: Drop>(read: Result<T, Code>) -> Result<Option<T>, AllocError>
     ensures { OnlyMemory read result }
 {
     match read {

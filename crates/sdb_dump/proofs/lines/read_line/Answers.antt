@@ -24,13 +24,13 @@ if_ok_weaker : {A E : Type 0} (r : Result A E) (P Q : A → Type 0) → ((x : A)
 if_ok_weaker (Ok x) P Q f h = f x h
 if_ok_weaker (Err x) P Q f h = tt
 
-pub returns-in_default : goal.returns-in_default
-returns-in_default c = sym (isnt_text c.args.version c.args.line.now c.in_default.ensures.cases.0)
+pub returns-in_default-clause-read : goal.returns-in_default-clause-read
+returns-in_default-clause-read c = sym (isnt_text c.args.version c.args.line.now c.in_default.ensures.cases.0)
 
-pub returns-in-Ok-from_str : goal.returns-in-Ok-from_str
-returns-in-Ok-from_str c =
+pub returns-in-Ok-from_str-clause-read : goal.returns-in-Ok-from_str-clause-read
+returns-in-Ok-from_str-clause-read c =
     let line = c.args.line.now in
     let e : read line ≡ Some (view c.in-Ok-from_str.value) = ap read (sym c.in-Ok.ensures.cases.0) ∙ c.in-Ok-from_str.ensures.ok in
     let is : read_line c.args.version line ≡ line_of c.args.version (view c.in-Ok-from_str.value) =
     is_text c.args.version line c.in-Ok.ensures.cases.1 ∙ ap (needs (line_of c.args.version)) e in
-    if_ok_weaker c.line_of.result _ _ (λ l g. g ∙ sym is) c.line_of.ensures
+    if_ok_weaker c.line_of.result _ _ (λ l g. g ∙ sym is) c.line_of.ensures.line

@@ -1,13 +1,29 @@
-use Rattle.std.proofs.Common.{map, sym, ◌∙◌}
-use Rattle.std.proofs.lemmas.List.{length-map}
-use Rattle.sdb_oplog.specs.Keys.{plain_key}
+use Rattle.std.proofs.Common.{◌≡◌, ap, sym, ◌∙◌}
+use Rattle.sdb_oplog.specs.Keys.{PlainKey}
+use Rattle.sdb_dump.specs.Checks.{AreFilled, logs_at}
+use Rattle.sdb_dump.specs.Dumps.{log_in}
+use Rattle.sdb_dump.proofs.Entering.{accepted_none, accepted_some}
+use Rattle.sdb_dump.proofs.Kept.{documents_of}
 use Rattle.sdb_dump.proofs.checking.Checker.accept.Goals as goal
+use Rattle.sdb_dump.proofs.checking.Checker.accept.Goals.{in-Some+in_ok-keep, in_default}
 
 pub returns-clause-accepted : goal.returns-clause-accepted
 returns-clause-accepted c = λ xs h.
-    let keys = c.in_ok-documents.field-0.items in
+    let old = c.args.self in
+    let es = c.match-take.self.logs.entries in
+    let kept : (((q : PlainKey) → logs_at es q ≡ log_in xs q) × AreFilled es) × (c.match-take.self.entries ≡ old.entries) = elim c.match-take.branch [
+      | in-Some+in_ok-keep w ↦ (
+          accepted_some old es w.in-Some.last xs (sym c.take.ensures.value ∙ w.in-Some.is) (ap (λ x. x.logs.entries) w.self-is ∙ w.in_ok-keep.ensures.kept) h,
+          ap (λ x. x.entries) w.self-is ∙ w.in_ok-keep.ensures.entries,
+        )
+      | in_default w ↦ (
+          accepted_none old es xs (sym c.take.ensures.value ∙ w.in_default.is) (ap (λ x. x.logs.entries) w.self-is) h,
+          ap (λ x. x.entries) w.self-is,
+        )
+    ] in
     record {
-      logs = h.logs;
-      counted = h.counted;
-      documents = (map plain_key keys, c.in_ok-documents.ensures, c.len-documents.ensures ∙ c.in_ok-documents.field-0.ok.0 ∙ sym (length-map keys plain_key));
+      logs = kept.0.0;
+      documents = documents_of es c.len.result c.len.ensures.ordered kept.0.1 c.len.ensures.len;
+      fits = h.fits;
+      counted = kept.1 ∙ h.counted;
     }

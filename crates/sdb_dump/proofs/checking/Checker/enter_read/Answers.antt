@@ -1,35 +1,37 @@
-use Rattle.std.proofs.Common.{◌≡◌, ◌+◌, true, Some, Ok, refl, sym, ◌∙◌, subst}
-use Rattle.sdb_desk.specs.ReplyView.{plain_reply}
-use Rattle.sdb_desk.specs.ShardView.{logs_of}
-use Rattle.sdb_dump.specs.Checks.{IsStoredAt}
-use Rattle.sdb_dump.specs.Dumps.{follows}
+use Rattle.std.proofs.Common.{◌≡◌, ◌+◌, Option, Some, None, length, refl, ap, ap₂, ◌∙◌, subst}
+use Rattle.std.specs.List.{slice_get}
+use Rattle.sdb_oplog.specs.Plain.{PlainEntry}
+use Rattle.sdb_dump.specs.Checks.{Continues, Takes}
+use Rattle.sdb_dump.specs.Dumps.{is_line_of, stored_by}
 use Rattle.sdb_dump.specs.View.{plain_line}
 use Rattle.sdb_dump.specs.declared.checking.Checker.{Checker}
-use Rattle.sdb_dump.proofs.Entering.{unstored, stored_one, found_entry, not_entered, entered}
+use Rattle.sdb_dump.specs.declared.checking.Last.{Last}
+use Rattle.sdb_dump.proofs.Entering.{entered, last_entry}
+use Rattle.sdb_dump.proofs.Storing.{grown}
 use Rattle.sdb_dump.proofs.checking.Checker.enter_read.Goals as goal
 
-pub returns-in_default-clause-enters : goal.returns-in_default-clause-enters
-returns-in_default-clause-enters c =
-    λ xs h.
+pub returns-in_default-get-clause-enters : goal.returns-in_default-get-clause-enters
+returns-in_default-get-clause-enters c = λ xs h.
     let r = plain_line c.args.read in
-    let old = c.args.self.now in
-    let p = plain_reply c.commit_now-reply.result in
-    let f : follows xs r.key ≡ true = sym (c.follows.ensures xs h) ∙ c.if-not-follows.false in
-    let told : IsStoredAt p (Ok c.in_ok-at.field-0) = subst (IsStoredAt p) c.in_ok-at.was c.stored_version.ensures in
-    not_entered c.args.version xs c.args.line.now r old old h f
-    (unstored (logs_of old.shard) (logs_of c.commit_now-reply.new.self) r.key r.submission r.moment p c.in_ok-at.field-0 c.commit_now-reply.ensures.decides told c.in_default.is)
+    let log = c.in-Some.before in
+    let g = grown log (stored_by log r.submission r.moment) c.in_ok-document.field-0 c.in-Some-2.document c.in_ok-document.ensures c.in-Some-2.is in
+    let there : slice_get c.log-2.result.now c.len-at.result ≡ Some g.0 =
+    ap₂ slice_get (c.log-2.ensures ∙ g.2) (c.len-at.ensures.len ∙ ap length c.log.ensures) ∙ last_entry log g.0 in
+    let none : ◌≡◌ {A = Option PlainEntry} None (Some g.0) = c.in_default-get.ensures ∙ there in
+    cc
 
 pub returns-clause-enters : goal.returns-clause-enters
-returns-clause-enters c =
-    λ xs h.
+returns-clause-enters c = λ xs h.
     let r = plain_line c.args.read in
     let old = c.args.self.now in
-    let shard = c.commit_now-reply.new.self in
-    let new : Checker = record { alloc = old.alloc; stage = old.stage; shard = shard; last = Some c.args.read.key; entries = old.entries + 1 } in
-    let p = plain_reply c.commit_now-reply.result in
-    let f : follows xs r.key ≡ true = sym (c.follows.ensures xs h) ∙ c.if-not-follows.false in
-    let told : IsStoredAt p (Ok c.in_ok-at.field-0) = subst (IsStoredAt p) c.in_ok-at.was c.stored_version.ensures in
-    let one = stored_one (logs_of old.shard) (logs_of shard) r.key r.submission r.moment p c.in_ok-at.field-0 c.in-Some.at c.commit_now-reply.ensures.decides told c.in-Some.is in
-    let there = found_entry (logs_of old.shard) (logs_of shard) r.key one.entry c.in-Some.at one.place one.grown in
-    entered c.args.version xs c.args.line.now r old new h f one.entry c.in_ok-is_right.is_right one.by one.grown refl refl
-    (c.in_ok-is_right.ensures one.entry there)
+    let mid = c.take_document.new.self in
+    let log = c.in-Some.before in
+    let last : Last = record { key = c.args.read.key; document = c.in-Some-2.document } in
+    let new : Checker = record { alloc = mid.alloc; stage = mid.stage; logs = mid.logs; last = Some last; entries = mid.entries + 1 } in
+    let w : Continues xs r.key log mid = subst (Takes xs r.key mid) c.in-Some.is (c.in_ok-before.ensures.takes xs h) in
+    let g = grown log (stored_by log r.submission r.moment) c.in_ok-document.field-0 c.in-Some-2.document c.in_ok-document.ensures c.in-Some-2.is in
+    let there : slice_get c.log-2.result.now c.len-at.result ≡ Some g.0 =
+    ap₂ slice_get (c.log-2.ensures ∙ g.2) (c.len-at.ensures.len ∙ ap length c.log.ensures) ∙ last_entry log g.0 in
+    let entry : c.in-Some-get.entry.now ≡ g.0 = let e : ◌≡◌ {A = Option PlainEntry} (Some c.in-Some-get.entry.now) (Some g.0) = c.in-Some-get.ensures ∙ there in cc in
+    entered c.args.version xs c.args.line.now r log mid w old new g.0 last c.in_ok-is_right.is_right h c.requires.fits.0 c.requires.fits.1 g.1 refl refl refl g.2
+    (ap (λ n. n + 1) c.take_document.ensures.entries) (c.in_ok-is_right.ensures ∙ ap (is_line_of c.args.version c.args.line.now r.key r.moment) entry)

@@ -1,5 +1,15 @@
-use Rattle.std.proofs.Common.{refl, ap}
+use Rattle.std.proofs.Common.{refl, sym, ap, subst}
+use Rattle.sdb_dump.specs.Checks.{AreFilled, logs_at}
 use Rattle.sdb_dump.proofs.checking.Checker.new.Goals as goal
 
 pub returns-clause-checks : goal.returns-clause-checks
-returns-clause-checks c = record { logs = λ k. ap (λ f. f k) c.new.ensures.logs; last = refl; counted = refl }
+returns-clause-checks c =
+    let none = c.new.ensures.empty in
+    record {
+      logs = λ k. ap (λ es. logs_at es k) none;
+      last = refl;
+      filled = (subst AreFilled (sym none) tt, tt);
+      rest = λ k _. refl;
+      fits = tt;
+      counted = refl;
+    }
