@@ -73,8 +73,7 @@ text_accepted v xs d f few = ap (λ c. check c.ended c.rest) (cut_lines (dump_li
 pub text_next : (t : List ℕ) (xs : List PlainLine) → check_text t ≡ Ok xs
     → (v : DumpVersion) × (t ≡ dump_text v xs) × IsDump xs × (EachFits xs → AllWithin v xs)
 text_next t xs e =
-    let d = accepted_next (cut [] t).ended (cut [] t).rest xs e in
-    (
+    let d = accepted_next (cut [] t).ended (cut [] t).rest xs e in (
       d.0,
       sym (joined t []) ∙ ap₂ (λ a b. ended_lines a ++ b) d.1 d.2 ∙ append-nil (ended_lines (dump_lines d.0 xs)),
       d.4,

@@ -260,8 +260,7 @@ entries_of_lines (x ∷ xs) d =
 pub dumped_lines : (text : List ℕ) (xs : List PlainLine) → check_text text ≡ Ok xs → EachFits xs
     → (v : DumpVersion) × DumpText v (log_in xs) text × AreDumped v (log_in xs) × HasEntries (log_in xs) (length xs)
 dumped_lines text xs e h =
-    let d = text_next text xs e in
-    (
+    let d = text_next text xs e in (
       d.0,
       subst (DumpText d.0 (log_in xs)) (sym d.1) (dump_of_logs d.0 xs d.2),
       record { made = d.2.made; within = λ k. within_log d.0 xs k (d.3 h) },

@@ -104,7 +104,7 @@ where
 }
 
 /// Serves the clients that come to the listener until the input ends, and tells on standard error how much was
-/// stored. The dump of it is written to standard output where that is asked for.
+/// stored. Where a dump of it is asked for, that is all that is written to standard output.
 pub fn serve_until_end<R, I>(
     rt: R,
     listener: &TcpListener,
@@ -127,13 +127,28 @@ where
         skip_all(input);
         theirs.stop();
     })?;
-    println!(rt; "listening {}", listener.local_addr()?)?;
+    tell_address(&rt, listener, is_dumping)?;
     let passes = listen_until_stopped(rt, alloc, listener, &state, &mut host)?;
     waiting.join(&rt);
     match Arc::try_unwrap(state) {
         Ok(state) => tell_close(&rt, state.into_backend().close(host, passes), is_dumping),
         Err(_) => tell_close_fault(&rt, "somebody is still served"),
     }
+}
+
+// Tells where clients are waited for: on standard error where a dump is all of standard output.
+fn tell_address<R: Print + Eprint>(
+    rt: &R,
+    listener: &TcpListener,
+    is_dumping: bool,
+) -> anyhow::Result<()> {
+    let address = listener.local_addr()?;
+    if is_dumping {
+        eprintln!(rt; "listening {address}")?;
+    } else {
+        println!(rt; "listening {address}")?;
+    }
+    Ok(())
 }
 
 // The server, with a log where one is asked for.

@@ -13,13 +13,13 @@ returns-clause-accepted c = λ xs h.
     let es = c.match-take.self.logs.entries in
     let kept : (((q : PlainKey) → logs_at es q ≡ log_in xs q) × AreFilled es) × (c.match-take.self.entries ≡ old.entries) = elim c.match-take.branch [
       | in-Some+in_ok-keep w ↦ (
-          accepted_some old es w.in-Some.last xs (sym c.take.ensures.value ∙ w.in-Some.is) (ap (λ x. x.logs.entries) w.self-is ∙ w.in_ok-keep.ensures.kept) h,
-          ap (λ x. x.entries) w.self-is ∙ w.in_ok-keep.ensures.entries,
-        )
+        accepted_some old es w.in-Some.last xs (sym c.take.ensures.value ∙ w.in-Some.is) (ap (λ x. x.logs.entries) w.self-is ∙ w.in_ok-keep.ensures.kept) h,
+        ap (λ x. x.entries) w.self-is ∙ w.in_ok-keep.ensures.entries,
+      )
       | in_default w ↦ (
-          accepted_none old es xs (sym c.take.ensures.value ∙ w.in_default.is) (ap (λ x. x.logs.entries) w.self-is) h,
-          ap (λ x. x.entries) w.self-is,
-        )
+        accepted_none old es xs (sym c.take.ensures.value ∙ w.in_default.is) (ap (λ x. x.logs.entries) w.self-is) h,
+        ap (λ x. x.entries) w.self-is,
+      )
     ] in
     record {
       logs = kept.0.0;
