@@ -7,11 +7,11 @@ ghost use Rattle.sdb_session.specs.declared.batches.BatchFault.TheVariants.{Memo
 ghost use Rattle.sdb_session.specs.Handling.{messages};
 ghost use Rattle.sdb_session.specs.View.{plain_through, Wrote};
 
+use crate::projected::Target;
 use crate::replies::say_entries;
 use crate::reply_sink::ReplySink;
 use crate::subscriptions::take;
-use sdb_oplog::{Code, Key};
-use sdb_projection::Projection;
+use sdb_oplog::Code;
 use sdb_submit::Desk;
 use sdb_subscribe::SubId;
 use std::alloc::{AllocError, Global};
@@ -64,28 +64,26 @@ pub(crate) fn list<D: Desk, O: ReplySink>(
     alloc: Global,
     desk: &D,
     pass: &mut D::Pass,
-    projection: Option<&Projection>,
-    key: &Key,
-    base: &Key,
+    target: &Target<'_>,
     from: u64,
     out: &mut O,
 ) -> Result<(), BatchFault>
     requires takes { D.takes desk.now pass.old }
     ensures takes { D.takes desk.now pass.new }
     ensures number { D.number desk.now pass.new ≡ D.number desk.now pass.old }
-    ensures listed { Listing (D.acts desk.now (plain_key base.now)) from
+    ensures listed { Listing (D.acts desk.now (plain_key target.now.base.now)) from
         (λ es. Wrote O.pieces (O.written out.old) (O.written out.new)
-        (messages (plain_through projection.entry) (plain_key key.now) es)) pass.old result pass.new }
+        (messages (plain_through target.now.projection) (plain_key target.now.key.now) es)) pass.old result pass.new }
 {
-    let present = desk.version(pass, base);
+    let present = desk.version(pass, target.base);
     if present < from {
         return Err(BatchFault::Refused(Code::E4));
     }
     let mut next = from;
     while next < present {
         let end = present.min(next.saturating_add(BATCH_LIMIT));
-        match desk.ops_between(pass, base, next, end) {
-            Ok(entries) => say_entries(alloc, projection, key, entries.as_slice(), out)?,
+        match desk.ops_between(pass, target.base, next, end) {
+            Ok(entries) => say_entries(alloc, target, entries.as_slice(), out)?,
             Err(error) => return Err(wanting(next == from, error)),
         }
         next = end;
@@ -98,9 +96,7 @@ pub(crate) fn write_next<D: Desk, O: ReplySink>(
     alloc: Global,
     desk: &D,
     pass: &mut D::Pass,
-    projection: Option<&Projection>,
-    key: &Key,
-    base: &Key,
+    target: &Target<'_>,
     id: SubId,
     count: u64,
     out: &mut O,
@@ -108,15 +104,15 @@ pub(crate) fn write_next<D: Desk, O: ReplySink>(
     requires takes { D.takes desk.now pass.old }
     ensures takes { D.takes desk.now pass.new }
     ensures number { D.number desk.now pass.new ≡ D.number desk.now pass.old }
-    ensures taken { Taking (D.acts desk.now (plain_key base.now)) id count
+    ensures taken { Taking (D.acts desk.now (plain_key target.now.base.now)) id count
         (λ es. Wrote O.pieces (O.written out.old) (O.written out.new)
-        (messages (plain_through projection.entry) (plain_key key.now) es)) pass.old result pass.new }
+        (messages (plain_through target.now.projection) (plain_key target.now.key.now) es)) pass.old result pass.new }
 {
     let mut left = count;
     while 0 < left {
         let size = left.min(BATCH_LIMIT);
-        match take(alloc, desk, pass, base, id, size) {
-            Ok(entries) => say_entries(alloc, projection, key, entries.as_slice(), out)?,
+        match take(alloc, desk, pass, target.base, id, size) {
+            Ok(entries) => say_entries(alloc, target, entries.as_slice(), out)?,
             Err(error) => return Err(wanting(left == count, error)),
         }
         left -= size;

@@ -13,7 +13,7 @@ ghost use Rattle.sdb_wire.specs.View.{plain_request};
 ghost use Rattle.sdb_wire.specs.Wire.{PlainEcho, fetch, snapshot, at_time, submit, subscribe};
 
 use crate::batches::{BatchFault, list, write_next};
-use crate::projected::{base_key, base_or, moved_key, permits, seen_document};
+use crate::projected::{Target, base_key, base_or, moved_key, permits, seen_document};
 use crate::replies::{refuse, say, say_opened, say_reply};
 use crate::reply_sink::ReplySink;
 use crate::session::{SUBSCRIPTION_LIMIT, Session};
@@ -208,7 +208,12 @@ impl Session {
         let projection = table.find(key.collection.as_str());
         let moved = moved_key(projection, key)?;
         let base = base_or(&moved, key);
-        match list(self.alloc, desk, pass, projection, key, base, from, out) {
+        let target = Target {
+            key,
+            base,
+            projection,
+        };
+        match list(self.alloc, desk, pass, &target, from, out) {
             Ok(()) => say(self.alloc, &Answer::Listed { key }, out),
             Err(BatchFault::Refused(code)) => refuse(self.alloc, message, code, out),
             Err(BatchFault::Memory { error }) => Err(error),
@@ -244,18 +249,15 @@ impl Session {
         }
         let moved = moved_key(projection, key)?;
         let base = base_or(&moved, key);
+        let target = Target {
+            key,
+            base,
+            projection,
+        };
         let now = sent.now;
         let submission = self.submission(key, sent, desk.by(pass))?;
         let reply = submit(self.alloc, desk, pass, base, &submission, now, &NoGate);
-        say_reply(
-            self.alloc,
-            projection,
-            message,
-            key,
-            &submission,
-            &reply,
-            out,
-        )
+        say_reply(self.alloc, &target, message, &submission, &reply, out)
     }
 
     // A message that names no source has the session's.
@@ -366,7 +368,12 @@ impl Session {
             let code = full_code(desk, pass, &base, version);
             return refuse(self.alloc, message, code, out);
         }
-        match self.join(desk, pass, projection, &key, &base, version, out) {
+        let target = Target {
+            key: &key,
+            base: &base,
+            projection,
+        };
+        match self.join(desk, pass, &target, version, out) {
             Ok(opened) => self.follow(projection, key, base, version, opened, out),
             Err(BatchFault::Refused(code)) => refuse(self.alloc, message, code, out),
             Err(BatchFault::Memory { error }) => Err(error),
@@ -402,31 +409,30 @@ impl Session {
         &mut self,
         desk: &D,
         pass: &mut D::Pass,
-        projection: Option<&Projection>,
-        key: &Key,
-        base: &Key,
+        target: &Target<'_>,
         version: Option<u64>,
         out: &mut O,
     ) -> Result<Subscribed, BatchFault>
         requires takes { D.takes desk.now pass.old }
         ensures takes { D.takes desk.now pass.new }
         ensures number { D.number desk.now pass.new ≡ D.number desk.now pass.old }
-        ensures joins { Joining (D.acts desk.now) (plain_key base.now) version
-            (queue_of (plain_key key.now) (plain_session self.old).subs)
+        ensures joins { Joining (D.acts desk.now) (plain_key target.now.base.now) version
+            (queue_of (plain_key target.now.key.now) (plain_session self.old).subs)
             (λ es. Wrote O.pieces (O.written out.old) (O.written out.new)
-            (messages (plain_through projection.entry) (plain_key key.now) es)) pass.old result pass.new }
+            (messages (plain_through target.now.projection) (plain_key target.now.key.now) es))
+            pass.old result pass.new }
         ensures session { plain_session self.new ≡ plain_session self.old }
         ensures room { OnOk result (0 < spare self.new.subscriptions) }
         ensures ended { self.new.ended ≡ self.old.ended }
     {
-        let opened = desk.subscribe(pass, base, version)?;
-        match self.begin(desk, pass, projection, key, base, version, &opened, out) {
+        let opened = desk.subscribe(pass, target.base, version)?;
+        match self.begin(desk, pass, target, version, &opened, out) {
             Ok(()) => {
-                close(desk, pass, self.subscriptions.get(key));
+                close(desk, pass, self.subscriptions.get(target.key));
                 Ok(opened)
             }
             Err(fault) => {
-                desk.unsubscribe(pass, base, opened.id);
+                desk.unsubscribe(pass, target.base, opened.id);
                 Err(fault)
             }
         }
@@ -437,9 +443,7 @@ impl Session {
         &mut self,
         desk: &D,
         pass: &mut D::Pass,
-        projection: Option<&Projection>,
-        key: &Key,
-        base: &Key,
+        target: &Target<'_>,
         version: Option<u64>,
         opened: &Subscribed,
         out: &mut O,
@@ -447,9 +451,10 @@ impl Session {
         requires takes { D.takes desk.now pass.old }
         ensures takes { D.takes desk.now pass.new }
         ensures number { D.number desk.now pass.new ≡ D.number desk.now pass.old }
-        ensures begins { Beginning (D.acts desk.now) (plain_key base.now) version (plain_opened opened.now)
+        ensures begins { Beginning (D.acts desk.now) (plain_key target.now.base.now) version (plain_opened opened.now)
             (λ es. Wrote O.pieces (O.written out.old) (O.written out.new)
-            (messages (plain_through projection.entry) (plain_key key.now) es)) pass.old result pass.new }
+            (messages (plain_through target.now.projection) (plain_key target.now.key.now) es))
+            pass.old result pass.new }
         ensures session { plain_session self.new ≡ plain_session self.old }
         ensures room { OnOk result (0 < spare self.new.subscriptions) }
         ensures ended { self.new.ended ≡ self.old.ended }
@@ -458,9 +463,7 @@ impl Session {
             return Err(BatchFault::Refused(Code::from(error)));
         }
         let count = first_count(version, opened.version);
-        write_next(
-            self.alloc, desk, pass, projection, key, base, opened.id, count, out,
-        )
+        write_next(self.alloc, desk, pass, target, opened.id, count, out)
     }
 
     // Whether there is no room for a further pair.

@@ -10,6 +10,15 @@ use sdb_projection::{Projection, allowed, project_content, project_data};
 use sdb_value::Json;
 use std::alloc::{AllocError, Global};
 
+// The document that a client asks for: the key that the client names, the document's own, and the projection between
+// them, if there is one.
+#[derive(Drop)]
+pub(crate) struct Target<'a> {
+    pub key: &'a Key,
+    pub base: &'a Key,
+    pub projection: Option<&'a Projection>,
+}
+
 // The key of the document, where it isn't the key itself.
 pub(crate) fn moved_key(
     projection: Option<&Projection>,

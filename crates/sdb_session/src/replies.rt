@@ -10,7 +10,7 @@ ghost use Rattle.sdb_value.specs.View.{view};
 ghost use Rattle.sdb_wire.specs.Answers.{op_message, failed, subscribed};
 ghost use Rattle.sdb_wire.specs.View.{plain_answer};
 
-use crate::projected::{seen_content, seen_document};
+use crate::projected::{Target, seen_content, seen_document};
 use crate::reply_sink::ReplySink;
 use sdb_desk::{Reply, Subscribed};
 use sdb_oplog::{Code, Entry, Key, Submission};
@@ -72,16 +72,15 @@ pub(crate) fn say_entry<O: ReplySink>(
 // Writes stored operations.
 pub(crate) fn say_entries<O: ReplySink>(
     alloc: Global,
-    projection: Option<&Projection>,
-    key: &Key,
+    target: &Target<'_>,
     entries: &[Entry],
     out: &mut O,
 ) -> Result<(), AllocError>
     ensures { OnOk result (Wrote O.pieces (O.written out.old) (O.written out.new)
-        (messages (plain_through projection.entry) (plain_key key.now) entries.now)) }
+        (messages (plain_through target.now.projection) (plain_key target.now.key.now) entries.now)) }
 {
     for entry in entries {
-        say_entry(alloc, projection, key, entry, out)?;
+        say_entry(alloc, target.projection, target.key, entry, out)?;
     }
     Ok(())
 }
@@ -89,47 +88,46 @@ pub(crate) fn say_entries<O: ReplySink>(
 // Writes stored operations, and the answer that ends them.
 pub(crate) fn say_list<O: ReplySink>(
     alloc: Global,
-    projection: Option<&Projection>,
-    key: &Key,
+    target: &Target<'_>,
     entries: &[Entry],
     last: &Answer<'_>,
     out: &mut O,
 ) -> Result<(), AllocError>
     ensures { OnOk result (Wrote O.pieces (O.written out.old) (O.written out.new)
-        (messages (plain_through projection.entry) (plain_key key.now) entries.now ++ plain_answer last.now ∷ [])) }
+        (messages (plain_through target.now.projection) (plain_key target.now.key.now) entries.now
+        ++ plain_answer last.now ∷ [])) }
 {
-    say_entries(alloc, projection, key, entries, out)?;
+    say_entries(alloc, target, entries, out)?;
     say(alloc, last, out)
 }
 
 // What was missed comes before the acknowledgement.
 pub(crate) fn say_reply<O: ReplySink>(
     alloc: Global,
-    projection: Option<&Projection>,
+    target: &Target<'_>,
     message: Option<&Value>,
-    key: &Key,
     submission: &Submission,
     reply: &Reply,
     out: &mut O,
 ) -> Result<(), AllocError>
     ensures { OnOk result (Wrote O.pieces (O.written out.old) (O.written out.new)
-        (reply_says (shown_of message.entry) (plain_through projection.entry) (plain_key key.now)
+        (reply_says (shown_of message.entry) (plain_through target.now.projection) (plain_key target.now.key.now)
         (submission.now).src (submission.now).seq (plain_reply reply.now))) }
 {
     let (src, seq) = (submission.src(), submission.seq());
     match reply {
         Reply::Stored { v, missed } => {
             let last = Answer::Acknowledged {
-                key,
+                key: target.key,
                 src,
                 seq,
                 version: *v,
             };
-            say_list(alloc, projection, key, missed.as_slice(), &last, out)
+            say_list(alloc, target, missed.as_slice(), &last, out)
         }
         Reply::Repeat { v } => {
             let answer = Answer::Acknowledged {
-                key,
+                key: target.key,
                 src,
                 seq,
                 version: *v,

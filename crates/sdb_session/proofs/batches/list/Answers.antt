@@ -15,7 +15,7 @@ use Rattle.sdb_session.proofs.batches.list.Goals as goal
 
 pub loop-next-init : goal.loop-next-init
 loop-next-init g c =
-    let acts = g.D.Desk.acts c.args.desk.now (plain_key c.args.base.now) in
+    let acts = g.D.Desk.acts c.args.desk.now (plain_key c.args.target.now.base.now) in
     let now = c.version-present.new.pass in
     let old = g.O.ReplySink.written c.args.out.now in
     record {
@@ -27,7 +27,7 @@ loop-next-init g c =
 
 pub returns-in_err-say_entries-in-Ok-clause-listed : goal.returns-in_err-say_entries-in-Ok-clause-listed
 returns-in_err-say_entries-in-Ok-clause-listed g c =
-    let acts = g.D.Desk.acts c.args.desk.now (plain_key c.args.base.now) in
+    let acts = g.D.Desk.acts c.args.desk.now (plain_key c.args.target.now.base.now) in
     let far = c.loop-next.invariant.so_far in
     let now = c.ops_between.new.pass in
     let end = c.min-end.result in
@@ -35,7 +35,7 @@ returns-in_err-say_entries-in-Ok-clause-listed g c =
     let es = c.in-Ok.entries.items in
     let below : c.loop-next.next < c.version-present.result = grind (arith, nat_tests, c.loop-next-test.true) in
     let on : end ≡ c.loop-next.next + size = omega (arith, below, c.min-end.ensures, c.saturating_add.ensures, c.version-present.type_inv) in
-    let says : List PlainEntry → Type 0 = λ l. Wrote g.O.ReplySink.pieces (g.O.ReplySink.written c.args.out.now) (g.O.ReplySink.written c.say_entries.new.out) (messages (plain_through c.args.projection) (plain_key c.args.key.now) l) in
+    let says : List PlainEntry → Type 0 = λ l. Wrote g.O.ReplySink.pieces (g.O.ReplySink.written c.args.out.now) (g.O.ReplySink.written c.say_entries.new.out) (messages (plain_through c.args.target.now.projection) (plain_key c.args.target.now.key.now) l) in
     let p = err_from_is_err_and c.from_residual.result c.from_residual.ensures.1 in
     subst (λ r. Listing acts c.args.from says c.args.pass.now r now) (sym (p.1 ∙ ap Err p.2)) (
       c.version-present.result,
@@ -47,10 +47,10 @@ returns-in_err-say_entries-in-Ok-clause-listed g c =
 
 pub returns-in-Err-clause-listed : goal.returns-in-Err-clause-listed
 returns-in-Err-clause-listed g c =
-    let acts = g.D.Desk.acts c.args.desk.now (plain_key c.args.base.now) in
+    let acts = g.D.Desk.acts c.args.desk.now (plain_key c.args.target.now.base.now) in
     let far = c.loop-next.invariant.so_far in
-    let o = plain_through c.args.projection in
-    let k = plain_key c.args.key.now in
+    let o = plain_through c.args.target.now.projection in
+    let k = plain_key c.args.target.now.key.now in
     let old = g.O.ReplySink.written c.args.out.now in
     let new = g.O.ReplySink.written c.loop-next.out in
     let says : List PlainEntry → Type 0 = λ l. Wrote g.O.ReplySink.pieces old new (messages o k l) in
@@ -59,10 +59,10 @@ returns-in-Err-clause-listed g c =
 
 pub loop-next-preserved : goal.loop-next-preserved
 loop-next-preserved g c =
-    let acts = g.D.Desk.acts c.args.desk.now (plain_key c.args.base.now) in
+    let acts = g.D.Desk.acts c.args.desk.now (plain_key c.args.target.now.base.now) in
     let far = c.loop-next.invariant.so_far in
-    let o = plain_through c.args.projection in
-    let k = plain_key c.args.key.now in
+    let o = plain_through c.args.target.now.projection in
+    let k = plain_key c.args.target.now.key.now in
     let f = g.O.ReplySink.pieces in
     let old = g.O.ReplySink.written c.args.out.now in
     let mid = g.O.ReplySink.written c.loop-next.out in
@@ -97,7 +97,7 @@ loop-next-preserved g c =
 
 pub returns-clause-listed : goal.returns-clause-listed
 returns-clause-listed g c =
-    let acts = g.D.Desk.acts c.args.desk.now (plain_key c.args.base.now) in
+    let acts = g.D.Desk.acts c.args.desk.now (plain_key c.args.target.now.base.now) in
     let far = c.loop-next.invariant.so_far in
     let at = far.1.1.2 in
     let within = c.loop-next.invariant.within in

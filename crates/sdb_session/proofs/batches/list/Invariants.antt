@@ -13,11 +13,11 @@ invariant-loop-next g l =
       number : g.D.Desk.number l.desk l.pass ≡ g.D.Desk.number l.desk l.fn.pass;
       within : l.next ≤ l.present;
       so_far : (xs : List PlainBatch)
-          × ((m : _) × (g.D.Desk.acts l.desk (plain_key l.base) present l.fn.pass l.present m
-          × ReadsIn (g.D.Desk.acts l.desk (plain_key l.base)) l.from xs m l.pass
+          × ((m : _) × (g.D.Desk.acts l.desk (plain_key l.target.base.now) present l.fn.pass l.present m
+          × ReadsIn (g.D.Desk.acts l.desk (plain_key l.target.base.now)) l.from xs m l.pass
           × (l.next ≡ l.from + sizes xs) × ((xs ≡ []) ⊎ (l.from < l.next))
           × Wrote g.O.ReplySink.pieces (g.O.ReplySink.written l.fn.out) (g.O.ReplySink.written l.out)
-          (messages (plain_through l.projection) (plain_key l.key) (entries_of xs))));
+          (messages (plain_through l.target.projection) (plain_key l.target.key.now) (entries_of xs))));
     }
 
 abbrev pub decreases-loop-next : goal.decreases-loop-next

@@ -14,7 +14,7 @@ use Rattle.sdb_session.proofs.batches.write_next.Goals as goal
 
 pub loop-left-init : goal.loop-left-init
 loop-left-init g c =
-    let acts = g.D.Desk.acts c.args.desk.now (plain_key c.args.base.now) in
+    let acts = g.D.Desk.acts c.args.desk.now (plain_key c.args.target.now.base.now) in
     let old = g.O.ReplySink.written c.args.out.now in
     record {
       takes = c.requires.takes;
@@ -24,22 +24,22 @@ loop-left-init g c =
 
 pub returns-in_err-say_entries-in-Ok-clause-taken : goal.returns-in_err-say_entries-in-Ok-clause-taken
 returns-in_err-say_entries-in-Ok-clause-taken g c =
-    let acts = g.D.Desk.acts c.args.desk.now (plain_key c.args.base.now) in
+    let acts = g.D.Desk.acts c.args.desk.now (plain_key c.args.target.now.base.now) in
     let far = c.loop-left.invariant.so_far in
     let now = c.take.new.pass in
     let x : PlainBatch = record { size = c.min-size.result; entries = c.in-Ok.entries.items } in
     let one = c.in-Ok.ensures.takes_one in
-    let says : List PlainEntry → Type 0 = λ l. Wrote g.O.ReplySink.pieces (g.O.ReplySink.written c.args.out.now) (g.O.ReplySink.written c.say_entries.new.out) (messages (plain_through c.args.projection) (plain_key c.args.key.now) l) in
+    let says : List PlainEntry → Type 0 = λ l. Wrote g.O.ReplySink.pieces (g.O.ReplySink.written c.args.out.now) (g.O.ReplySink.written c.say_entries.new.out) (messages (plain_through c.args.target.now.projection) (plain_key c.args.target.now.key.now) l) in
     let p = err_from_is_err_and c.from_residual.result c.from_residual.ensures.1 in
     subst (λ r. Taking acts c.args.id c.args.count says c.args.pass.now r now) (sym (p.1 ∙ ap Err p.2))
     (far.0 ++ x ∷ [], (now, (takes_in_more acts c.args.id far.0 x one.0 c.args.pass.now c.loop-left.pass now far.1.0 one.1.0 one.1.1, inl refl)))
 
 pub returns-in-Err-clause-taken : goal.returns-in-Err-clause-taken
 returns-in-Err-clause-taken g c =
-    let acts = g.D.Desk.acts c.args.desk.now (plain_key c.args.base.now) in
+    let acts = g.D.Desk.acts c.args.desk.now (plain_key c.args.target.now.base.now) in
     let far = c.loop-left.invariant.so_far in
-    let o = plain_through c.args.projection in
-    let k = plain_key c.args.key.now in
+    let o = plain_through c.args.target.now.projection in
+    let k = plain_key c.args.target.now.key.now in
     let old = g.O.ReplySink.written c.args.out.now in
     let new = g.O.ReplySink.written c.loop-left.out in
     let one = c.in-Err.ensures.takes_one in
@@ -49,10 +49,10 @@ returns-in-Err-clause-taken g c =
 
 pub loop-left-preserved : goal.loop-left-preserved
 loop-left-preserved g c =
-    let acts = g.D.Desk.acts c.args.desk.now (plain_key c.args.base.now) in
+    let acts = g.D.Desk.acts c.args.desk.now (plain_key c.args.target.now.base.now) in
     let far = c.loop-left.invariant.so_far in
-    let o = plain_through c.args.projection in
-    let k = plain_key c.args.key.now in
+    let o = plain_through c.args.target.now.projection in
+    let k = plain_key c.args.target.now.key.now in
     let f = g.O.ReplySink.pieces in
     let old = g.O.ReplySink.written c.args.out.now in
     let mid = g.O.ReplySink.written c.loop-left.out in

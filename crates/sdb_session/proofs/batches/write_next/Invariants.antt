@@ -11,10 +11,10 @@ invariant-loop-left g l =
       takes : g.D.Desk.takes l.desk l.pass;
       number : g.D.Desk.number l.desk l.pass ≡ g.D.Desk.number l.desk l.fn.pass;
       so_far : (xs : List PlainBatch)
-          × (TakesIn (g.D.Desk.acts l.desk (plain_key l.base)) l.id xs l.fn.pass l.pass
+          × (TakesIn (g.D.Desk.acts l.desk (plain_key l.target.base.now)) l.id xs l.fn.pass l.pass
           × (sizes xs + l.left ≡ l.count) × ((xs ≡ []) ⊎ (l.left < l.count))
           × Wrote g.O.ReplySink.pieces (g.O.ReplySink.written l.fn.out) (g.O.ReplySink.written l.out)
-          (messages (plain_through l.projection) (plain_key l.key) (entries_of xs)));
+          (messages (plain_through l.target.projection) (plain_key l.target.key.now) (entries_of xs)));
     }
 
 abbrev pub decreases-loop-left : goal.decreases-loop-left

@@ -6,4 +6,4 @@ use Rattle.sdb_session.proofs.replies.say_entries.Given as goal
 
 abbrev pub invariant-loop-entry : goal.invariant-loop-entry
 invariant-loop-entry g l =
-    Wrote g.O.ReplySink.pieces (g.O.ReplySink.written l.initial.out) (g.O.ReplySink.written l.out) (messages (plain_through l.projection) (plain_key l.key) (take l.entry-index l.entries))
+    Wrote g.O.ReplySink.pieces (g.O.ReplySink.written l.initial.out) (g.O.ReplySink.written l.out) (messages (plain_through l.target.projection) (plain_key l.target.key.now) (take l.entry-index l.entries))

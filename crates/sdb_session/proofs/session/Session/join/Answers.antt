@@ -10,15 +10,15 @@ use Rattle.sdb_session.proofs.session.Session.join.Goals as goal
 
 pub returns-in-Ok-clause-joins : goal.returns-in-Ok-clause-joins
 returns-in-Ok-clause-joins g c =
-    let k = plain_key c.args.key.now in
+    let k = plain_key c.args.target.now.key.now in
     let es = c.begin.new.self.subscriptions.entries in
     let P : Option QueueId → Type 0 = λ o. Closes (g.D.Desk.acts c.args.desk.now) o c.begin.new.pass c.close.new.pass in
-    let old = copied c.get.result ∙ ap (option_map plain_queue) c.get.ensures.value ∙ queue_entry es c.args.key.now ∙ ap (λ (s : PlainSession). queue_of k s.subs) c.in-Ok.ensures.session in
+    let old = copied c.get.result ∙ ap (option_map plain_queue) c.get.ensures.value ∙ queue_entry es c.args.target.now.key.now ∙ ap (λ (s : PlainSession). queue_of k s.subs) c.in-Ok.ensures.session in
     let begun = c.in-Ok.ensures.begins in
     (begun.0, ((c.subscribe.new.pass, (c.begin.new.pass, (c.in_ok-opened.ensures.acts, begun.1.0, subst P old c.close.ensures.closes))), begun.1.1, begun.1.2))
 
 pub returns-in-Err-clause-joins : goal.returns-in-Err-clause-joins
 returns-in-Err-clause-joins g c =
-    let says : List PlainEntry → Type 0 = λ es. Wrote g.O.ReplySink.pieces (g.O.ReplySink.written c.args.out.now) (g.O.ReplySink.written c.begin.new.out) (messages (plain_through c.args.projection) (plain_key c.args.key.now) es) in
-    unjoined_by (g.D.Desk.acts c.args.desk.now) (plain_key c.args.base.now) c.args.version (queue_of (plain_key c.args.key.now) (plain_session c.args.self.now).subs) (plain_opened c.in_ok-opened.opened) says c.args.pass.now c.subscribe.new.pass c.begin.new.pass c.unsubscribe.new.pass c.in-Err.fault
+    let says : List PlainEntry → Type 0 = λ es. Wrote g.O.ReplySink.pieces (g.O.ReplySink.written c.args.out.now) (g.O.ReplySink.written c.begin.new.out) (messages (plain_through c.args.target.now.projection) (plain_key c.args.target.now.key.now) es) in
+    unjoined_by (g.D.Desk.acts c.args.desk.now) (plain_key c.args.target.now.base.now) c.args.version (queue_of (plain_key c.args.target.now.key.now) (plain_session c.args.self.now).subs) (plain_opened c.in_ok-opened.opened) says c.args.pass.now c.subscribe.new.pass c.begin.new.pass c.unsubscribe.new.pass c.in-Err.fault
     c.in_ok-opened.ensures.acts c.in-Err.ensures.begins c.unsubscribe.ensures.acts
