@@ -2,7 +2,9 @@
 
 One session stores the entries in 64 documents: of five edits four add to one number, the fifth inserts into one text. Told are
 processor seconds: the steps answered, the steps with the dump of what they store at their end, that dump checked, and the pass
-that only reads and prints the JSON of the dump's lines; and the memory that the check held at most, for each entry."""
+that only reads and prints the JSON of the dump's lines; and the memory that the check held at most, for each entry. Then, of
+texts that grow by 100 bytes 100,000 times, in one document and in 1,000, what the steps held at most, their documents beside
+their logs, and what the check held, which keeps the logs and one document."""
 import json
 import os
 import subprocess
@@ -26,6 +28,21 @@ def steps(entries):
         yield {"s": 0, "do": "commit", "ms": at}
 
 
+# Texts that grow, by so many edits in each of so many documents.
+def growing(documents, edits):
+    for key in range(documents):
+        for seq in range(1, edits + 2):
+            edit = {"op": [{"p": ["t", 0], "si": "x" * 100}]}
+            content = edit if seq > 1 else {"create": {"type": TYPE, "data": {"t": ""}}}
+            yield {"s": 0, "do": "begin", "c": "board", "d": f"{key:06}", "src": "w", "seq": seq, **content}
+            yield {"s": 0, "do": "commit"}
+
+
+def write_steps(path, lines):
+    with open(path, "w", encoding="ascii") as file:
+        file.writelines(json.dumps(step, separators=(",", ":")) + "\n" for step in lines)
+
+
 def run(command, path, out):
     """Processor seconds, and the kilobytes that it held at most."""
     with open(path, "rb") as lines, open(out, "wb") as written:
@@ -39,8 +56,7 @@ def run(command, path, out):
 def main(entries):
     with tempfile.TemporaryDirectory() as folder:
         lines, dump, out = (os.path.join(folder, name) for name in ("steps", "dump", "out"))
-        with open(lines, "w", encoding="ascii") as file:
-            file.writelines(json.dumps(step, separators=(",", ":")) + "\n" for step in steps(entries))
+        write_steps(lines, steps(entries))
         answered, _ = run([STEPS], lines, out)
         dumped, _ = run([STEPS, "--dump"], lines, dump)
         checked, held = run([STEPS, "--check"], dump, out)
@@ -50,6 +66,17 @@ def main(entries):
     print(f"{entries} entries, {size} bytes: JSON pass {passed:.2f} s")
     print(f"steps answered {answered:.2f} s; with a dump at the end, and no answers, {dumped:.2f} s")
     print(f"the dump checked {checked:.2f} s, {checked / passed:.1f} times the pass, {held * 1_024 / entries:.0f} bytes for each entry")
+    for documents, edits in ((1, 100_000), (1_000, 100)):
+        print_memory(documents, edits)
+
+
+def print_memory(documents, edits):
+    with tempfile.TemporaryDirectory() as folder:
+        lines, dump, out = (os.path.join(folder, name) for name in ("steps", "dump", "out"))
+        write_steps(lines, growing(documents, edits))
+        stored = run([STEPS, "--dump"], lines, dump)[1]
+        checked = run([STEPS, "--check"], dump, out)[1]
+        print(f"{documents} documents of {edits} edits: the steps held {stored // 1_024} MB, the check {checked // 1_024} MB")
 
 
 if __name__ == "__main__":
