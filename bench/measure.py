@@ -13,26 +13,37 @@ BENCH = os.path.join(HERE, "..", "crates", "sdb_bench", "out", "sdb_bench")
 RUNS = 15
 
 
-def timed(command, path):
-    with open(path, "rb") as source, open(os.devnull, "wb") as sink:
-        start = time.perf_counter()
-        subprocess.run(command, stdin=source, stdout=sink, check=True)
-        return time.perf_counter() - start
+# The processor time of a command over a file, in seconds.
+def spent(command, path, output=os.devnull):
+    with open(path, "rb") as source, open(output, "wb") as sink:
+        child = subprocess.Popen(command, stdin=source, stdout=sink)
+        _, status, used = os.wait4(child.pid, 0)
+        assert status == 0
+    return used.ru_utime + used.ru_stime
 
 
+# The server beside what any server must do: read each line as JSON, and print each answer, whose reading isn't counted.
 def compare(title, script, lines, *more):
-    with tempfile.NamedTemporaryFile("w", suffix=".lines") as made:
+    with tempfile.NamedTemporaryFile("w", suffix=".lines") as made, tempfile.NamedTemporaryFile(suffix=".answers") as answers:
         subprocess.run([sys.executable, os.path.join(HERE, script), str(lines), *map(str, more)], stdout=made, check=True)
         made.flush()
-        size = os.path.getsize(made.name)
-        plain = server = float("inf")
+        spent([SERVER, "--lines"], made.name, answers.name)
+        passes = {
+            "read": ([BENCH, "read"], made.name),
+            "read answers": ([BENCH, "read"], answers.name),
+            "print answers": ([BENCH, "json"], answers.name),
+            "server": ([SERVER, "--lines"], made.name),
+        }
+        best = {name: float("inf") for name in passes}
         for _ in range(RUNS):
-            plain = min(plain, timed([BENCH, "json"], made.name))
-            server = min(server, timed([SERVER, "--lines"], made.name))
-    print(f"{title}: {lines} lines, {size / 1e6:.1f} MB")
-    print(f"  JSON read and printed: {plain:.3f} s, {lines / plain:,.0f} lines/s, {size / plain / 1e6:.1f} MB/s")
-    print(f"  server:                {server:.3f} s, {lines / server:,.0f} lines/s, {size / server / 1e6:.1f} MB/s")
-    print(f"  ratio:                 {server / plain:.2f}")
+            for name, (command, path) in passes.items():
+                best[name] = min(best[name], spent(command, path))
+        sizes = os.path.getsize(made.name), os.path.getsize(answers.name)
+    printed = best["print answers"] - best["read answers"]
+    plain, server = best["read"] + printed, best["server"]
+    print(f"{title}: {lines} lines, {sizes[0] / 1e6:.1f} MB, answers {sizes[1] / 1e6:.1f} MB; processor time")
+    print(f"  JSON of the lines read, of the answers printed: {best['read']:.3f} + {printed:.3f} = {plain:.3f} s")
+    print(f"  server: {server:.3f} s, {server / lines * 1e6:.2f} microseconds each line; ratio {server / plain:.2f}")
 
 
 # The best time of the server over what a script writes, in seconds, and the most memory it held, in bytes.

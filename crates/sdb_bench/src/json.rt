@@ -1,8 +1,18 @@
-//! Each line read as JSON and printed again.
+//! Lines read as JSON, and printed again.
 use serde_json::Value;
 use std::io;
 use std::io::{BufRead, BufReader, BufWriter, Write};
 
+/// Reads each line, and prints nothing.
+pub(crate) fn read(rt: &HostRuntime) -> anyhow::Result<()> {
+    let alloc = rt.alloc();
+    for line in BufReader::new(alloc, rt.reader())?.lines(alloc) {
+        drop(Value::from_str(alloc, line?.as_str())?);
+    }
+    Ok(())
+}
+
+/// Reads each line and prints it.
 pub(crate) fn pass(rt: &HostRuntime) -> anyhow::Result<()> {
     let alloc = rt.alloc();
     let mut writer = BufWriter::new(alloc, io::writer(rt))?;

@@ -1,4 +1,4 @@
-//! What calls of the lower crates cost, a pass that only reads and prints JSON, and a WebSocket server that only
+//! What calls of the lower crates cost, passes that only read and print JSON, and a WebSocket server that only
 //! echoes. What the calls are given is read from standard input. The scripts `bench/run` and `bench/sockets` build it,
 //! make its input and name the results.
 #![tactic(auto)]
@@ -24,6 +24,7 @@ fn main(rt: HostRuntime) -> anyhow::Result<ExitCode> {
     };
     match (asked, words.get(2)) {
         ("json", None) => json::pass(&rt)?,
+        ("read", None) => json::read(&rt)?,
         ("apply", None) => applying::measure(&rt)?,
         ("fetch", None) => fetching::measure(&rt)?,
         ("transform", None) => transforming::carry(&rt)?,
@@ -31,7 +32,9 @@ fn main(rt: HostRuntime) -> anyhow::Result<ExitCode> {
         ("lock", None) => locking::measure(&rt, &rt)?,
         ("echo", Some(address)) => echoing::serve(rt, address.as_str())?,
         _ => {
-            eprintln!(rt; "sdb_bench: json, apply, fetch, transform, cross, lock or echo ADDR")?;
+            eprintln!(rt;
+                "sdb_bench: json, read, apply, fetch, transform, cross, lock or echo ADDR"
+            )?;
             return Ok(ExitCode::from(2));
         }
     }

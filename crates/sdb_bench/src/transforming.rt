@@ -14,7 +14,7 @@ pub(crate) fn carry(rt: &HostRuntime) -> anyhow::Result<()> {
         return Ok(());
     };
     if let Some(other) = other.components().first() {
-        let mut current = op.into_components().pop();
+        let mut current = op.into_components(rt.alloc())?.pop();
         let start = Instant::now(rt)?;
         for _ in 0..CALLS {
             current = carried(rt, current, other);
