@@ -12,7 +12,11 @@ use Rattle.sdb_value.specs.contracts.places.Step as Step
 use Rattle.sdb_component.specs.contracts.component.Act as Act
 use Rattle.sdb_component.specs.contracts.component.Component as Component
 use Rattle.sdb_component.specs.contracts.component.Component.TheInside as component
+use Rattle.sdb_component.specs.contracts.operation.Components as Components
 use Rattle.sdb_component.specs.contracts.operation.Op as Op
+use Rattle.sdb_component.specs.contracts.operation.Op.TheInside as op
+use Rattle.sdb_component.specs.contracts.path.Path as Path
+use Rattle.sdb_component.specs.contracts.path.Path.TheInside as path
 use Rattle.sdb_oplog.specs.contracts.contents.Kind as Kind
 use Rattle.sdb_oplog.specs.contracts.contents.Content as Content
 use Rattle.sdb_oplog.specs.contracts.contents.Content.TheInside as content
@@ -42,10 +46,10 @@ use Rattle.sdb_backend.specs.contracts.held.HeldGrows.TheImpl as grows
 use Rattle.sdb_backend.specs.contracts.seats.Pass as Pass
 
 pub Act-send : IsSend Act.the_row
-Act-send = search (sendable, crosses, maps.crosses, Json-send) depth 20
+Act-send = search (sendable, crosses, maps.crosses, Json-send, Json-sync) depth 20
 
 pub Act-sync : IsSync Act.the_row
-Act-sync = search (sendable, crosses, maps.crosses, Json-sync) depth 20
+Act-sync = search (sendable, crosses, maps.crosses, Json-send, Json-sync) depth 20
 
 pub Step-send : IsSend Step.the_row
 Step-send = search (sendable, crosses, maps.crosses) depth 20
@@ -53,11 +57,23 @@ Step-send = search (sendable, crosses, maps.crosses) depth 20
 pub Step-sync : IsSync Step.the_row
 Step-sync = search (sendable, crosses, maps.crosses) depth 20
 
+path-send : IsSend path.the_row
+path-send = declared_send path.the_type (search (sendable, crosses, Step-send, Step-sync) depth 20, tt)
+
+path-sync : IsSync path.the_row
+path-sync = declared_sync path.the_type (search (sendable, crosses, Step-send, Step-sync) depth 20, tt)
+
+pub Path-send : IsSend Path.the_row
+Path-send = view_send _ _ _ _ _ path-send
+
+pub Path-sync : IsSync Path.the_row
+Path-sync = view_sync _ _ _ _ _ path-sync
+
 component-send : IsSend component.the_row
-component-send = declared_send component.the_type (search (sendable, crosses, Step-send) depth 20, (search (sendable, Act-send) depth 20, tt))
+component-send = declared_send component.the_type (search (sendable, Path-send) depth 20, (search (sendable, Act-send) depth 20, tt))
 
 component-sync : IsSync component.the_row
-component-sync = declared_sync component.the_type (search (sendable, crosses, Step-sync) depth 20, (search (sendable, Act-sync) depth 20, tt))
+component-sync = declared_sync component.the_type (search (sendable, Path-sync) depth 20, (search (sendable, Act-sync) depth 20, tt))
 
 pub Component-send : IsSend Component.the_row
 Component-send = view_send _ _ _ _ _ component-send
@@ -65,11 +81,23 @@ Component-send = view_send _ _ _ _ _ component-send
 pub Component-sync : IsSync Component.the_row
 Component-sync = view_sync _ _ _ _ _ component-sync
 
+Components-send : IsSend Components.the_row
+Components-send = search (sendable, crosses, maps.crosses, Component-send) depth 20
+
+Components-sync : IsSync Components.the_row
+Components-sync = search (sendable, crosses, maps.crosses, Component-sync) depth 20
+
+op-send : IsSend op.the_row
+op-send = declared_send op.the_type (search (sendable, Components-send) depth 20, tt)
+
+op-sync : IsSync op.the_row
+op-sync = declared_sync op.the_type (search (sendable, Components-sync) depth 20, tt)
+
 pub Op-send : IsSend Op.the_row
-Op-send = search (sendable, crosses, maps.crosses, Component-send) depth 20
+Op-send = view_send _ _ _ _ _ op-send
 
 pub Op-sync : IsSync Op.the_row
-Op-sync = search (sendable, crosses, maps.crosses, Component-sync) depth 20
+Op-sync = view_sync _ _ _ _ _ op-sync
 
 pub Kind-send : IsSend Kind.the_row
 Kind-send = search (sendable, crosses, maps.crosses, Json-send, Json-sync, Op-send, Op-sync) depth 20

@@ -1,4 +1,4 @@
--- How much there is to copy of a component: each step of its path counts 1, and the bytes of its keys and texts
+-- How much a component holds: each step of its path counts 1, and the bytes of its keys and texts
 -- and the sizes of its values count too.
 use Rattle.std.specs.Prelude.{ℕ, suc, ◌+◌, List, [], ◌∷◌, length}
 use Rattle.sdb_value.specs.Size.{size}

@@ -5,15 +5,16 @@ ghost use Rattle.sdb_component.specs.Size.{component_size};
 ghost use Rattle.sdb_component.specs.View.{plain_act};
 ghost use Rattle.sdb_component.specs.Weighs.{weigh};
 
-use crate::copies::copy_path;
 use crate::measures::{size_of_act, size_of_path};
+use crate::path::Path;
 use crate::piece::Piece;
-use sdb_value::{Json, Step, Whole, units};
-use std::alloc::{AllocError, Global};
+use sdb_value::{Json, Step, Whole, same_path, units};
+use std::alloc::AllocError;
 use std::marker::Model;
+use std::sync::Arc;
 
 /// What a component does at the place that its path leads to. With it stands the last step of the
-/// path as sent: an offset of UTF-16 units, an index, or a key. `Na` has none.
+/// path as sent: an offset of UTF-16 units, an index, or a key. `Na` has none. Copies of an act share its values.
 #[derive(Drop)]
 pub enum Act {
     /// Adds to the number there.
@@ -23,37 +24,38 @@ pub enum Act {
     /// Deletes from the text at the offset.
     Sd(u64, Piece),
     /// Inserts an item at the index.
-    Li(u64, Json),
+    Li(u64, Arc<Json>),
     /// Deletes the item at the index.
-    Ld(u64, Json),
+    Ld(u64, Arc<Json>),
     /// Replaces the item at the index: the one removed, the one put.
-    Lr(u64, Json, Json),
+    Lr(u64, Arc<Json>, Arc<Json>),
     /// Gives the key a value.
-    Oi(String, Json),
+    Oi(String, Arc<Json>),
     /// Deletes the key.
-    Od(String, Json),
+    Od(String, Arc<Json>),
     /// Replaces the value of the key: the one removed, the one put.
-    Or(String, Json, Json),
+    Or(String, Arc<Json>, Arc<Json>),
 }
 
 impl Act {
-    /// A copy, its texts and values copied too. Fails only where an allocation does.
-    pub fn try_clone(&self, alloc: Global) -> Result<Act, AllocError>
+    /// A copy, which shares the values. Its texts are copied. Fails only where an allocation does, or where there
+    /// are 2^63 copies of a value already.
+    pub fn try_clone(&self) -> Result<Act, AllocError>
         ensures { IfOk result (λ a. plain_act a ≡ plain_act self.now) }
     {
         match self {
             Act::Na(amount) => Ok(Act::Na(*amount)),
             Act::Si(offset, text) => Ok(Act::Si(*offset, text.try_clone()?)),
             Act::Sd(offset, text) => Ok(Act::Sd(*offset, text.try_clone()?)),
-            Act::Li(index, new) => Ok(Act::Li(*index, new.try_clone(alloc)?)),
-            Act::Ld(index, old) => Ok(Act::Ld(*index, old.try_clone(alloc)?)),
+            Act::Li(index, new) => Ok(Act::Li(*index, Arc::try_clone(new)?)),
+            Act::Ld(index, old) => Ok(Act::Ld(*index, Arc::try_clone(old)?)),
             Act::Lr(index, old, new) => {
-                Ok(Act::Lr(*index, old.try_clone(alloc)?, new.try_clone(alloc)?))
+                Ok(Act::Lr(*index, Arc::try_clone(old)?, Arc::try_clone(new)?))
             }
-            Act::Oi(key, new) => Ok(Act::Oi(key.clone()?, new.try_clone(alloc)?)),
-            Act::Od(key, old) => Ok(Act::Od(key.clone()?, old.try_clone(alloc)?)),
+            Act::Oi(key, new) => Ok(Act::Oi(key.clone()?, Arc::try_clone(new)?)),
+            Act::Od(key, old) => Ok(Act::Od(key.clone()?, Arc::try_clone(old)?)),
             Act::Or(key, old, new) => {
-                Ok(Act::Or(key.clone()?, old.try_clone(alloc)?, new.try_clone(alloc)?))
+                Ok(Act::Or(key.clone()?, Arc::try_clone(old)?, Arc::try_clone(new)?))
             }
         }
     }
@@ -61,7 +63,7 @@ impl Act {
 
 /// A change of one place.
 pub struct Component {
-    path: Vec<Step>,
+    path: Path,
     act: Act,
 }
 
@@ -82,16 +84,15 @@ impl Model for Component {
 
     ghost coded = { component_code };
 
-    ghost use Rattle.sdb_value.specs.View.{plain_path};
     ghost use Rattle.sdb_component.specs.View.{plain_act};
 
-    ghost view = { λ c. record { path = plain_path c.path.items; act = plain_act c.act } };
+    ghost view = { λ c. record { path = c.path; act = plain_act c.act } };
 }
 
 impl Component {
     /// The component that does the act at the container's path.
-    pub fn new(path: Vec<Step>, act: Act) -> Component
-        ensures { result ≡ record { path = plain_path path.items; act = plain_act act } }
+    pub fn new(path: Path, act: Act) -> Component
+        ensures { result ≡ record { path = path; act = plain_act act } }
     {
         Self { path, act }
     }
@@ -100,7 +101,14 @@ impl Component {
     pub fn path(&self) -> &[Step]
         ensures { plain_path result.now ≡ self.now.path }
     {
-        self.path.as_slice()
+        self.path.steps()
+    }
+
+    /// The container's path, shared. It takes no memory; it fails only where there are 2^63 copies already.
+    pub fn shared_path(&self) -> Result<Path, AllocError>
+        ensures { IfOk result (λ p. p ≡ self.now.path) }
+    {
+        self.path.try_clone()
     }
 
     /// What is done there.
@@ -111,20 +119,33 @@ impl Component {
     }
 
     /// The container's path and what is done there, given up.
-    pub fn into_parts(self) -> (Vec<Step>, Act)
-        ensures path { plain_path result.0.items ≡ self.path }
+    pub fn into_parts(self) -> (Path, Act)
+        ensures path { result.0 ≡ self.path }
         ensures act { plain_act result.1 ≡ self.act }
     {
         let Component { path, act } = self;
         (path, act)
     }
 
-    /// A copy, its path and act copied too. Fails only where an allocation does.
-    pub fn try_clone(&self, alloc: Global) -> Result<Component, AllocError>
+    /// The component, which shares this path where it is its own. Fails only where there are 2^63 copies of the path
+    /// already.
+    pub fn with_path(self, path: &Path) -> Result<Component, AllocError>
+        ensures { IfOk result (λ c. c ≡ self) }
+    {
+        if same_path(self.path(), path.steps()) {
+            let (_, act) = self.into_parts();
+            return Ok(Component::new(path.try_clone()?, act));
+        }
+        Ok(self)
+    }
+
+    /// A copy, which shares the path and the values of the act. Its texts are copied. Fails only where an
+    /// allocation does, or where there are 2^63 copies of the path or of a value already.
+    pub fn try_clone(&self) -> Result<Component, AllocError>
         ensures { IfOk result (λ c. c ≡ self.now) }
     {
-        let path = copy_path(alloc, self.path())?;
-        let act = self.act().try_clone(alloc)?;
+        let path = self.path.try_clone()?;
+        let act = self.act().try_clone()?;
         Ok(Component::new(path, act))
     }
 
@@ -138,9 +159,9 @@ impl Component {
         }
     }
 
-    /// How much there is to copy, up to the limit: the steps of its path, the bytes of its keys and
-    /// texts, and the sizes of its values ([`Json::size`]). Where that is more, it is the limit, and
-    /// the rest isn't looked at.
+    /// How much it holds, up to the limit: the steps of its path, the bytes of its keys and texts, and
+    /// the sizes of its values ([`Json::size`]). Where that is more, it is the limit, and the rest isn't
+    /// looked at.
     pub fn size(&self, limit: u64) -> u64
         ensures { result ≡ min limit (component_size self.now) }
     {

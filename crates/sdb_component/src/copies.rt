@@ -5,8 +5,8 @@ ghost use Rattle.sdb_value.specs.View.{plain_path, plain_step};
 use sdb_value::Step;
 use std::alloc::{AllocError, Global};
 
-/// A copy of a path, its keys copied too. Fails only where an allocation does.
-pub fn copy_path(alloc: Global, path: &[Step]) -> Result<Vec<Step>, AllocError>
+// A copy of a path, its keys copied too.
+pub(crate) fn copy_path(alloc: Global, path: &[Step]) -> Result<Vec<Step>, AllocError>
     ensures { IfOk result (λ p. plain_path p.items ≡ plain_path path.now) }
 {
     let mut copies = Vec::with_capacity(alloc, path.len())?;

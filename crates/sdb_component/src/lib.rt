@@ -10,6 +10,7 @@ mod lists;
 mod measures;
 mod members;
 mod operation;
+mod path;
 mod paths;
 mod piece;
 mod printing;
@@ -21,8 +22,8 @@ mod writing;
 
 pub use comparing::same_components;
 pub use component::{Act, Component};
-pub use copies::copy_path;
 pub use operation::Op;
+pub use path::Path;
 pub use piece::Piece;
 pub use printing::op_value;
 pub use reading::{OpFault, read_op};

@@ -1,4 +1,5 @@
 //! Members of a component as sent.
+ghost use Rattle.std.specs.Arc.{arc_value};
 ghost use Rattle.std.specs.Prelude.{◌≡◌, Some, IfOk, IfErr, string_bytes};
 ghost use Rattle.serde_json.specs.View.{view as data_view};
 ghost use Rattle.sdb_component.specs.Reads.{Unread, has, text_at, value_at, whole_at};
@@ -7,7 +8,8 @@ ghost use Rattle.sdb_value.specs.View.{view};
 use crate::reading::OpFault;
 use sdb_value::{Json, ValueFault, Whole, from_value, whole_of};
 use serde_json::Value;
-use std::alloc::Global;
+use std::alloc::{AllocError, Global};
+use std::sync::Arc;
 
 pub(crate) fn has(value: &Value, key: &str) -> bool
     ensures { result ≡ has key.now (data_view value.now) }
@@ -31,19 +33,25 @@ pub(crate) fn text_at(alloc: Global, value: &Value, key: &str) -> Result<String,
     }
 }
 
-pub(crate) fn value_at(alloc: Global, value: &Value, key: &str) -> Result<Json, OpFault>
-    ensures ok { IfOk result (λ j. value_at key.now (data_view value.now) ≡ Some (view j)) }
+pub(crate) fn value_at(alloc: Global, value: &Value, key: &str) -> Result<Arc<Json>, OpFault>
+    ensures ok { IfOk result (λ j. value_at key.now (data_view value.now) ≡ Some (view (arc_value j))) }
     ensures err { IfErr result (λ f. Unread (value_at key.now (data_view value.now)) f) }
 {
     let Some(member) = value.get(key) else {
         return Err(OpFault::Form);
     };
     match from_value(alloc, member) {
-        Ok(json) => Ok(json),
+        Ok(json) => Ok(shared(alloc, json)?),
         Err(fault) => match fault {
             ValueFault::Number => Err(OpFault::Form),
             ValueFault::Depth => Err(OpFault::Form),
             ValueFault::Memory => Err(OpFault::Memory),
         },
     }
+}
+
+fn shared(alloc: Global, json: Json) -> Result<Arc<Json>, AllocError>
+    ensures { IfOk result (λ j. arc_value j ≡ json) }
+{
+    Ok(Arc::new(alloc, json)?)
 }

@@ -4,6 +4,7 @@ ghost use Rattle.serde_json.specs.View.{view as data_view, items_view};
 ghost use Rattle.sdb_component.specs.Reads.{Unread, index_last, key_last, path_of, step_of, steps_of};
 ghost use Rattle.sdb_value.specs.View.{plain_path, plain_step};
 
+use crate::path::Path;
 use crate::reading::OpFault;
 use sdb_value::{Step, count_of};
 use serde_json::Value;
@@ -57,30 +58,30 @@ pub(crate) fn path_of(alloc: Global, value: &Value) -> Result<Vec<Step>, OpFault
 
 // The path without its last step, and that step, where it is an index.
 #[tactic(auto, using(crate::proofs::Ends::index_at_end, crate::proofs::Ends::no_index_at_end))]
-pub(crate) fn index_last(mut path: Vec<Step>) -> Result<(Vec<Step>, u64), OpFault>
-    ensures ok { IfOk result (λ l. index_last (plain_path path.items) ≡ Some (plain_path l.0.items, l.1)) }
+pub(crate) fn index_last(alloc: Global, mut path: Vec<Step>) -> Result<(Path, u64), OpFault>
+    ensures ok { IfOk result (λ l. index_last (plain_path path.items) ≡ Some (l.0, l.1)) }
     ensures err { IfErr result (λ f. Unread (index_last (plain_path path.items)) f) }
 {
     let Some(last) = path.pop() else {
         return Err(OpFault::Form);
     };
     match last {
-        Step::Index(index) => Ok((path, index)),
+        Step::Index(index) => Ok((Path::new(alloc, path)?, index)),
         Step::Key(_) => Err(OpFault::Form),
     }
 }
 
 // The path without its last step, and that step, where it is a key.
 #[tactic(auto, using(crate::proofs::Ends::key_at_end, crate::proofs::Ends::no_key_at_end))]
-pub(crate) fn key_last(mut path: Vec<Step>) -> Result<(Vec<Step>, String), OpFault>
-    ensures ok { IfOk result (λ l. key_last (plain_path path.items) ≡ Some (plain_path l.0.items, string_bytes l.1)) }
+pub(crate) fn key_last(alloc: Global, mut path: Vec<Step>) -> Result<(Path, String), OpFault>
+    ensures ok { IfOk result (λ l. key_last (plain_path path.items) ≡ Some (l.0, string_bytes l.1)) }
     ensures err { IfErr result (λ f. Unread (key_last (plain_path path.items)) f) }
 {
     let Some(last) = path.pop() else {
         return Err(OpFault::Form);
     };
     match last {
-        Step::Key(key) => Ok((path, key)),
+        Step::Key(key) => Ok((Path::new(alloc, path)?, key)),
         Step::Index(_) => Err(OpFault::Form),
     }
 }

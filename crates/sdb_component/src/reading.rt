@@ -1,5 +1,5 @@
 //! Reads operations.
-ghost use Rattle.std.specs.Prelude.{◌≡◌, IfOk, IfErr, Some, option_to_list};
+ghost use Rattle.std.specs.Prelude.{◌≡◌, ◌∷◌, [], IfOk, IfErr, Some, option_to_list};
 ghost use Rattle.serde_json.specs.View.{view as data_view, items_view};
 ghost use Rattle.sdb_component.specs.Reads.{component_of, components_of, op_of, Unread};
 
@@ -55,8 +55,21 @@ pub fn read_op(alloc: Global, value: &Value) -> Result<Op, OpFault>
     if items.len() > 256 {
         return Err(OpFault::Form);
     }
-    let components = components_of(alloc, items)?;
-    Ok(Op::new(components))
+    match items.as_slice() {
+        [item] => one_of(alloc, item),
+        items => Ok(Op::new(components_of(alloc, items)?)),
+    }
+}
+
+// The operation of one component, or of none where it is dropped.
+fn one_of(alloc: Global, item: &Value) -> Result<Op, OpFault>
+    ensures ok { IfOk result (λ o. components_of (items_view (item.now ∷ [])) ≡ Some o) }
+    ensures err { IfErr result (λ f. Unread (components_of (items_view (item.now ∷ []))) f) }
+{
+    match component_of(alloc, item)? {
+        Some(component) => Ok(Op::one(component)),
+        None => Ok(Op::new(Vec::new(alloc))),
+    }
 }
 
 fn components_of(alloc: Global, items: &[Value]) -> Result<Vec<Component>, OpFault>

@@ -6,6 +6,7 @@ ghost use Rattle.sdb_value.specs.View.{plain_path};
 
 use crate::component::{Act, Component};
 use crate::members::{text_at, value_at, whole_at};
+use crate::path::Path;
 use crate::paths::{index_last, key_last};
 use crate::piece::Piece;
 use crate::reading::OpFault;
@@ -26,7 +27,7 @@ pub(crate) fn shaped(
     ensures err { IfErr result (λ f. Unread (shaped shape (plain_path path.items) (data_view value.now)) f) }
 {
     match shape {
-        Shape::Na => add_number(path, value),
+        Shape::Na => add_number(alloc, path, value),
         Shape::Si => insert_text(alloc, path, value),
         Shape::Sd => delete_text(alloc, path, value),
         Shape::Li => insert_item(alloc, path, value),
@@ -38,13 +39,13 @@ pub(crate) fn shaped(
     }
 }
 
-fn add_number(path: Vec<Step>, value: &Value) -> Result<Option<Component>, OpFault>
+fn add_number(alloc: Global, path: Vec<Step>, value: &Value) -> Result<Option<Component>, OpFault>
     ensures ok { IfOk result (λ c. shaped Shape.Na (plain_path path.items) (data_view value.now)
         ≡ Some (option_to_list c)) }
     ensures err { IfErr result (λ f. Unread (shaped Shape.Na (plain_path path.items) (data_view value.now)) f) }
 {
     match whole_at(value, "na") {
-        Some(amount) => Ok(Some(Component::new(path, Act::Na(amount)))),
+        Some(amount) => Ok(Some(Component::new(Path::new(alloc, path)?, Act::Na(amount)))),
         None => Err(OpFault::Form),
     }
 }
@@ -54,7 +55,7 @@ fn insert_text(alloc: Global, path: Vec<Step>, value: &Value) -> Result<Option<C
         ≡ Some (option_to_list c)) }
     ensures err { IfErr result (λ f. Unread (shaped Shape.Si (plain_path path.items) (data_view value.now)) f) }
 {
-    let (container, offset) = index_last(path)?;
+    let (container, offset) = index_last(alloc, path)?;
     let text = text_at(alloc, value, "si")?;
     match Piece::new(text) {
         Some(piece) => Ok(Some(Component::new(container, Act::Si(offset, piece)))),
@@ -67,7 +68,7 @@ fn delete_text(alloc: Global, path: Vec<Step>, value: &Value) -> Result<Option<C
         ≡ Some (option_to_list c)) }
     ensures err { IfErr result (λ f. Unread (shaped Shape.Sd (plain_path path.items) (data_view value.now)) f) }
 {
-    let (container, offset) = index_last(path)?;
+    let (container, offset) = index_last(alloc, path)?;
     let text = text_at(alloc, value, "sd")?;
     match Piece::new(text) {
         Some(piece) => Ok(Some(Component::new(container, Act::Sd(offset, piece)))),
@@ -80,7 +81,7 @@ fn insert_item(alloc: Global, path: Vec<Step>, value: &Value) -> Result<Option<C
         ≡ Some (option_to_list c)) }
     ensures err { IfErr result (λ f. Unread (shaped Shape.Li (plain_path path.items) (data_view value.now)) f) }
 {
-    let (container, index) = index_last(path)?;
+    let (container, index) = index_last(alloc, path)?;
     let new = value_at(alloc, value, "li")?;
     Ok(Some(Component::new(container, Act::Li(index, new))))
 }
@@ -90,7 +91,7 @@ fn delete_item(alloc: Global, path: Vec<Step>, value: &Value) -> Result<Option<C
         ≡ Some (option_to_list c)) }
     ensures err { IfErr result (λ f. Unread (shaped Shape.Ld (plain_path path.items) (data_view value.now)) f) }
 {
-    let (container, index) = index_last(path)?;
+    let (container, index) = index_last(alloc, path)?;
     let old = value_at(alloc, value, "ld")?;
     Ok(Some(Component::new(container, Act::Ld(index, old))))
 }
@@ -100,7 +101,7 @@ fn replace_item(alloc: Global, path: Vec<Step>, value: &Value) -> Result<Option<
         ≡ Some (option_to_list c)) }
     ensures err { IfErr result (λ f. Unread (shaped Shape.Lr (plain_path path.items) (data_view value.now)) f) }
 {
-    let (container, index) = index_last(path)?;
+    let (container, index) = index_last(alloc, path)?;
     let old = value_at(alloc, value, "ld")?;
     let new = value_at(alloc, value, "li")?;
     Ok(Some(Component::new(container, Act::Lr(index, old, new))))
@@ -111,7 +112,7 @@ fn insert_key(alloc: Global, path: Vec<Step>, value: &Value) -> Result<Option<Co
         ≡ Some (option_to_list c)) }
     ensures err { IfErr result (λ f. Unread (shaped Shape.Oi (plain_path path.items) (data_view value.now)) f) }
 {
-    let (container, key) = key_last(path)?;
+    let (container, key) = key_last(alloc, path)?;
     let new = value_at(alloc, value, "oi")?;
     Ok(Some(Component::new(container, Act::Oi(key, new))))
 }
@@ -121,7 +122,7 @@ fn delete_key(alloc: Global, path: Vec<Step>, value: &Value) -> Result<Option<Co
         ≡ Some (option_to_list c)) }
     ensures err { IfErr result (λ f. Unread (shaped Shape.Od (plain_path path.items) (data_view value.now)) f) }
 {
-    let (container, key) = key_last(path)?;
+    let (container, key) = key_last(alloc, path)?;
     let old = value_at(alloc, value, "od")?;
     Ok(Some(Component::new(container, Act::Od(key, old))))
 }
@@ -131,7 +132,7 @@ fn replace_key(alloc: Global, path: Vec<Step>, value: &Value) -> Result<Option<C
         ≡ Some (option_to_list c)) }
     ensures err { IfErr result (λ f. Unread (shaped Shape.Or (plain_path path.items) (data_view value.now)) f) }
 {
-    let (container, key) = key_last(path)?;
+    let (container, key) = key_last(alloc, path)?;
     let old = value_at(alloc, value, "od")?;
     let new = value_at(alloc, value, "oi")?;
     Ok(Some(Component::new(container, Act::Or(key, old, new))))

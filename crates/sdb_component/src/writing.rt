@@ -1,4 +1,5 @@
 //! Operations as text, written token by token.
+ghost use Rattle.std.specs.Arc.{arc_value};
 ghost use Rattle.std.specs.Prelude.{◌≡◌, ◌∷◌, [], ◌++◌, OnOk, OnErr};
 ghost use Rattle.json.specs.Token.{key};
 ghost use Rattle.json.specs.Written.{WritesFront};
@@ -16,6 +17,7 @@ use crate::operation::Op;
 use json::Writer;
 use sdb_value::{Json, Step, write_value};
 use std::alloc::AllocError;
+use std::sync::Arc;
 
 /// Writes an operation behind what is written, compact, as [`op_value`](crate::op_value) spells it.
 /// Fails only where memory is wanting, and a part of it may then be written.
@@ -74,12 +76,12 @@ fn write_values(act: &Act, out: &mut Writer) -> Result<(), AllocError>
     }
 }
 
-fn write_member(name: &str, value: &Json, out: &mut Writer) -> Result<(), AllocError>
+fn write_member(name: &str, value: &Arc<Json>, out: &mut Writer) -> Result<(), AllocError>
     ensures tokens { OnOk result (out.new.tokens
-        ≡ out.old.tokens ++ key name.now ∷ data_tokens (to_data (view value.now))) }
+        ≡ out.old.tokens ++ key name.now ∷ data_tokens (to_data (view (arc_value value.now)))) }
     ensures before { out.new.before ≡ out.old.before }
     ensures err { OnErr result (WritesFront out.old.tokens out.new.tokens
-        (key name.now ∷ data_tokens (to_data (view value.now)))) }
+        (key name.now ∷ data_tokens (to_data (view (arc_value value.now))))) }
 {
     out.key(name)?;
     write_value(value, out)

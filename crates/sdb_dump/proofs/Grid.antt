@@ -8,7 +8,7 @@ use Rattle.sdb_transform.specs.Transform.{transform, behind}
 use Rattle.sdb_transform.specs.Grid.{Crossing, and_then, cross_in, cross, crossing, carried}
 use Rattle.sdb_oplog.specs.Plain.{PlainContent, create, delete, edit, PlainSubmission, PlainEntry}
 use Rattle.sdb_oplog.specs.Over as oplog
-use Rattle.sdb_oplog.specs.Over.{edit_over, over_all}
+use Rattle.sdb_oplog.specs.Over.{over_all}
 use Rattle.sdb_oplog.specs.Refused.{result_then}
 use Rattle.sdb_oplog.specs.Snap.{becomes, document}
 use Rattle.sdb_oplog.specs.Decide.{since, missed, settled}

@@ -34,7 +34,7 @@ abbrev pub AreFilled : List (Key × List PlainEntry) → Type 0
 AreFilled [] = ⊤
 AreFilled (e ∷ es) = (e.1 ≢ []) × AreFilled es
 
--- the key is above it, if it is anything
+-- the second key comes behind the first one, if there is a first one
 abbrev pub IsAbove : Option PlainKey → PlainKey → Type 0
 IsAbove None k = ⊤
 IsAbove (Some l) k = key_cmp k l ≡ Greater

@@ -29,9 +29,10 @@ pub(crate) fn op(rt: &impl Abort, alloc: Global, text: &str) -> Op {
 
 // The one component of the operation.
 pub(crate) fn component(rt: &impl Abort, alloc: Global, value: &Value) -> Component {
-    let mut components = op_of(rt, alloc, value).into_components();
-    assert!(rt; components.len() == 1);
-    components.pop().expect(rt, "a component")
+    op_of(rt, alloc, value)
+        .into_one()
+        .ok()
+        .expect(rt, "one component")
 }
 
 pub(crate) fn text_of<T: Display>(rt: &impl Abort, alloc: Global, shown: &T) -> String {

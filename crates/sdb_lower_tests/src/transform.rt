@@ -3,7 +3,7 @@ use crate::texts::{
     add, component, each_row, extended, is_op, is_printed, joined, op, op_of, says, text_of,
 };
 use sdb_component::{Component, Op};
-use sdb_transform::{Fault, Side, cross, transform, transform_one};
+use sdb_transform::{Fault, Side, cross, transform, transform_given, transform_one};
 use serde_json::Value;
 use std::alloc::Global;
 use std::process::Abort;
@@ -332,7 +332,8 @@ fn is_left_as(rt: &impl Abort, alloc: Global, side: Side, wanted: &str) -> bool 
     let insert = op(rt, alloc, r#"[{"li":"B","p":[0]}]"#);
     let other = op(rt, alloc, r#"[{"li":"A","p":[0]}]"#);
     let after = transform(alloc, &insert, &other, side).expect(rt, "transformed");
-    is_printed(rt, alloc, &after, wanted)
+    let given = transform_given(alloc, insert, &other, side).expect(rt, "transformed");
+    is_printed(rt, alloc, &after, wanted) && is_printed(rt, alloc, &given, wanted)
 }
 
 #[test]

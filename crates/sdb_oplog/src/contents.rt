@@ -1,4 +1,5 @@
 //! What is asked of a document.
+ghost use Rattle.std.specs.Arc.{arc_value};
 ghost use Rattle.std.specs.Prelude.{◌≡◌, true, IfOk, IfErr, OnOk, OnErr, IsErrOf, Ok, option_map, unwrap_or};
 ghost use Rattle.sdb_value.specs.Owns.{is_own};
 ghost use Rattle.sdb_value.specs.View.{view};
@@ -13,8 +14,8 @@ ghost use Rattle.sdb_oplog.specs.declared.codes.Code.TheVariants.{E10};
 use crate::codes::Code;
 use crate::entries::Entry;
 use sdb_apply::apply_whole;
-use sdb_component::Op;
-use sdb_transform::{Side, transform};
+use sdb_component::{Op, Path};
+use sdb_transform::{Side, transform, transform_given};
 use sdb_value::Json;
 use std::alloc::{AllocError, Global};
 use std::marker::Model;
@@ -95,6 +96,32 @@ impl Content {
             Kind::Edit(op) => Kind::Edit(Arc::try_clone(op)?),
         };
         Ok(Content { kind })
+    }
+
+    // The content. One that edits by one component shares this path where it is the component's own.
+    pub(crate) fn with_path(self, alloc: Global, path: &Path) -> Result<Content, AllocError>
+        ensures { IfOk result (λ c. c ≡ self) }
+    {
+        match self.kind {
+            Kind::Edit(op) => match Arc::try_unwrap(op) {
+                Ok(op) => Content::edit(alloc, op.with_path(path)?),
+                Err(op) => Ok(Content {
+                    kind: Kind::Edit(op),
+                }),
+            },
+            kind => Ok(Content { kind }),
+        }
+    }
+
+    // The path of an edit by one component, shared.
+    pub(crate) fn path(&self) -> Result<Option<Path>, AllocError> {
+        let Kind::Edit(op) = &self.kind else {
+            return Ok(None);
+        };
+        match op.components() {
+            [component] => Ok(Some(component.shared_path()?)),
+            _ => Ok(None),
+        }
     }
 
     /// Makes of a document, which may be none, what the content makes of it, in place. A create on a
@@ -206,16 +233,40 @@ pub fn over_all(
 {
     let mut carried = None;
     for entry in entries {
-        carried = Some(over(alloc, carried_or(&carried, content), entry.content())?);
+        carried = Some(carry(alloc, carried, content, entry.content())?);
     }
     Ok(carried)
 }
 
-fn carried_or<'c>(carried: &'c Option<Content>, content: &'c Content) -> &'c Content
-    ensures { result.now ≡ unwrap_or carried.now content.now }
+// What a content becomes after one stored content more. What it became before is given up.
+fn carry(
+    alloc: Global,
+    carried: Option<Content>,
+    content: &Content,
+    stored: &Content,
+) -> Result<Content, Code>
+    ensures ok { IfOk result (λ c. over (unwrap_or carried content.now) stored.now ≡ Ok c) }
+    ensures err { IfErr result (λ code. RefusedBy (over (unwrap_or carried content.now) stored.now) code) }
+    ensures memory { IsErrOf result E10 → over_takes_memory (unwrap_or carried content.now) stored.now ≡ true }
 {
-    match carried {
-        Some(carried) => carried,
-        None => content,
+    let Some(carried) = carried else {
+        return over(alloc, content, stored);
+    };
+    match (carried.kind, stored.kind()) {
+        (Kind::Edit(op), Kind::Edit(other)) => edit_given_over(alloc, op, other),
+        (kind, _) => over(alloc, &Content { kind }, stored),
     }
+}
+
+// As `edit_over`, but the operation is given up.
+fn edit_given_over(alloc: Global, op: Arc<Op>, other: &Op) -> Result<Content, Code>
+    ensures ok { IfOk result (λ c. edit_over (arc_value op) other.now ≡ Ok c) }
+    ensures err { IfErr result (λ code. RefusedBy (edit_over (arc_value op) other.now) code) }
+{
+    let op = match Arc::try_unwrap(op) {
+        Ok(op) => op,
+        Err(shared) => return edit_over(alloc, &shared, other),
+    };
+    let carried = transform_given(alloc, op, other, Side::Left)?;
+    Ok(Content::edit(alloc, carried)?)
 }

@@ -1,4 +1,5 @@
 //! What is sent, and what is stored of it.
+ghost use Rattle.std.specs.Arc.{arc_value};
 ghost use Rattle.std.specs.Prelude.{◌≡◌, ◌<◌, IfOk, OnErr, length, string_bytes, unwrap_or};
 
 use crate::contents::Content;
@@ -10,11 +11,11 @@ use std::sync::Arc;
 // What a submission has.
 #[derive(Drop)]
 struct Fields {
-    src: String,
+    src: Arc<String>,
     seq: u64,
     version: Option<u64>,
     content: Content,
-    via: String,
+    via: Arc<String>,
     by: u64,
 }
 
@@ -33,12 +34,14 @@ impl Model for Submission {
 
     ghost coded = { submission_code };
 
+    ghost use Rattle.std.specs.Arc.{arc_value};
+
     ghost view = { λ s. record {
-      src = string_bytes s.fields.value.src;
+      src = string_bytes (arc_value s.fields.value.src);
       seq = s.fields.value.seq;
       version = s.fields.value.version;
       content = s.fields.value.content;
-      via = string_bytes s.fields.value.via;
+      via = string_bytes (arc_value s.fields.value.via);
       by = s.fields.value.by;
     } };
 }
@@ -62,6 +65,30 @@ impl Submission {
           version = version;
           content = content;
           via = string_bytes via;
+          by = by;
+        }) }
+    {
+        let src = Arc::new(alloc, src)?;
+        let via = Arc::new(alloc, via)?;
+        Submission::with_names(alloc, src, seq, version, content, via, by)
+    }
+
+    /// As [`Submission::new`], of names that other submissions may share. Fails only where memory is wanting.
+    pub fn with_names(
+        alloc: Global,
+        src: Arc<String>,
+        seq: u64,
+        version: Option<u64>,
+        content: Content,
+        via: Arc<String>,
+        by: u64,
+    ) -> Result<Submission, AllocError>
+        ensures { IfOk result (λ s. s ≡ record {
+          src = string_bytes (arc_value src);
+          seq = seq;
+          version = version;
+          content = content;
+          via = string_bytes (arc_value via);
           by = by;
         }) }
     {

@@ -7,6 +7,7 @@ mod contents;
 mod entries;
 mod index;
 mod keys;
+mod last_path;
 mod logs;
 mod moments;
 
@@ -15,5 +16,6 @@ pub use comparing::same_entries;
 pub use contents::{Content, Kind, over, over_all};
 pub use entries::{Entry, Submission, copy_entries};
 pub use keys::Key;
+pub use last_path::LastPath;
 pub use logs::{Log, Prepared, Unprepared};
 pub use moments::Moment;

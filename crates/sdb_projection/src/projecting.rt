@@ -48,7 +48,7 @@ pub fn project_op(alloc: Global, projection: &Projection, op: &Op) -> Result<Op,
     let mut copies = Vec::new(alloc);
     for component in op.components() {
         if projection.shows(component) {
-            copies.push(component.try_clone(alloc)?)?;
+            copies.push(component.try_clone()?)?;
         }
     }
     Ok(Op::new(copies))

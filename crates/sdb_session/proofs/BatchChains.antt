@@ -1,5 +1,5 @@
 -- Batches, one more behind the others.
-use Rattle.std.proofs.Common.{◌≡◌, ℕ, ◌+◌, ◌<◌, ◌≤◌, ◌⊎◌, Bool, true, false, cond, nat_eq, List, [], ◌∷◌, ◌++◌, map, Option, Some, None, Result, Ok, Err, refl, sym, ap, ◌∙◌, subst, append_assoc, inl, inr, arith}
+use Rattle.std.proofs.Common.{◌≡◌, ℕ, ◌+◌, ◌<◌, ◌≤◌, ◌⊎◌, Bool, true, false, cond, nat_eq, List, [], ◌∷◌, ◌++◌, Option, Some, None, Result, Ok, Err, refl, sym, ap, ◌∙◌, subst, append_assoc, inl, inr, arith}
 use Rattle.std.proofs.lemmas.Bool.{eqb-true}
 use Rattle.std.proofs.lemmas.List.{append-nil, map-append}
 use Rattle.std.specs.declared.alloc.AllocError.{AllocError}
@@ -9,12 +9,12 @@ use Rattle.sdb_oplog.specs.declared.codes.Code.TheVariants.{E10}
 use Rattle.sdb_desk.specs.Machine.{PlainSubscribed}
 use Rattle.sdb_projection.specs.Table.{PlainProjection}
 use Rattle.sdb_submit.specs.Calls.{present, ops_between, take_next, subscribe as subscribe_call, unsubscribe as unsubscribe_call}
-use Rattle.sdb_submit.specs.Chain.{Calls, PlainBatch, sizes, entries_of, came, ReadsIn, TakesIn, TakesSome, Lists, ListsSome}
+use Rattle.sdb_submit.specs.Chain.{Calls, PlainBatch, sizes, entries_of, came, ReadsIn, TakesIn}
 use Rattle.sdb_wire.specs.Answers.{PlainAnswer}
 use Rattle.sdb_session.specs.Batches.{Unlisted, Untaken, Taking, Beginning, Unbegun, Unjoined}
 use Rattle.sdb_session.specs.declared.batches.BatchFault.{BatchFault}
 use Rattle.sdb_session.specs.declared.batches.BatchFault.TheVariants.{Refused, Memory}
-use Rattle.sdb_session.specs.Handling.{PlainJoined, behind, messages, last_says, opened_says}
+use Rattle.sdb_session.specs.Handling.{behind, messages, last_says, opened_says}
 use Rattle.sdb_session.specs.Sessions.{QueueId}
 use Rattle.sdb_session.specs.View.{Says, Wrote}
 use Rattle.sdb_session.specs.Written.{pieces_of}

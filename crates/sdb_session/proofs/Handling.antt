@@ -1,5 +1,5 @@
 -- How a request is handled, from a call of the desk and what is written of its reply.
-use Rattle.std.proofs.Common.{◌≡◌, ℕ, List, [], ◌∷◌, ◌++◌, map, true, false, Option, Some, None, Result, Ok, Err, OnOk, inl, inr, refl, sym, ap, ◌∙◌, subst}
+use Rattle.std.proofs.Common.{◌≡◌, ℕ, List, [], ◌∷◌, ◌++◌, map, true, false, Option, Some, None, Result, Ok, Err, OnOk, inr, refl, sym, ap, ◌∙◌, subst}
 use Rattle.sdb_oplog.specs.declared.codes.Code.{Code}
 use Rattle.sdb_oplog.specs.declared.codes.Code.TheVariants.{E9}
 use Rattle.sdb_oplog.specs.Plain.{PlainContent, PlainEntry, PlainSubmission}

@@ -1,11 +1,11 @@
 -- Laws of batches that are taken of a queue: two takes, one behind the other, are one of as many entries.
-use Rattle.std.proofs.Common.{◌≡◌, ℕ, ◌+◌, Bool, true, false, cond, List, [], ◌∷◌, ◌++◌, take, drop, length, min, nat_eq, Option, Some, None, option_map, unwrap_or, refl, sym, ap, ◌∙◌, subst, arith}
-use Rattle.std.proofs.lemmas.List.{append-nil, drop_min, length-append, length-take}
+use Rattle.std.proofs.Common.{◌≡◌, ℕ, ◌+◌, Bool, true, false, cond, List, [], ◌∷◌, ◌++◌, take, drop, length, min, nat_eq, Option, Some, None, option_map, unwrap_or, refl, sym, ap, ◌∙◌, arith}
+use Rattle.std.proofs.lemmas.List.{drop_min, length-append, length-take}
 use Rattle.std.proofs.Math.Seq.{take-add}
 use Rattle.std.specs.Option.{option_map_or}
 use Rattle.sdb_oplog.specs.Plain.{PlainEntry}
 use Rattle.sdb_subscribe.specs.Laws.{with_queue_at}
-use Rattle.sdb_subscribe.specs.Queue.{PlainQueue, queue_at, with_queue, waiting, moved, after_take, taken_by, after_take_by, is_owned, is_mine}
+use Rattle.sdb_subscribe.specs.Queue.{PlainQueue, queue_at, with_queue, waiting, moved, taken_by, after_take_by, is_mine}
 use Rattle.sdb_submit.specs.Laws.{drop_on}
 
 abbrev Queues : Type 0

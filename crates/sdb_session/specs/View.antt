@@ -7,7 +7,6 @@ use Rattle.std.specs.declared.alloc.Global.{Global}
 use Rattle.serde_json.specs.declared.value.Value.{Value}
 use Rattle.sdb_oplog.specs.Plain.{PlainEntry}
 use Rattle.sdb_oplog.specs.Keys.{plain_key}
-use Rattle.sdb_oplog.specs.declared.codes.Code.{Code}
 use Rattle.sdb_oplog.specs.declared.keys.Key.{Key}
 use Rattle.sdb_desk.specs.Machine.{PlainSubscribed}
 use Rattle.sdb_desk.specs.declared.shard.Subscribed.{Subscribed}

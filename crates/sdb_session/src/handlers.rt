@@ -222,7 +222,7 @@ impl Session {
 
     // Submits, and writes the reply.
     fn submit<D: Desk, O: ReplySink>(
-        &self,
+        &mut self,
         desk: &D,
         pass: &mut D::Pass,
         table: &Table,
@@ -236,12 +236,13 @@ impl Session {
         ensures number { D.number desk.now pass.new ≡ D.number desk.now pass.old }
         ensures handled { Handled result
             (Handles (D.acts desk.now) (shown_of message.entry) table.now (D.number desk.now pass.old) sent.now
-            (plain_session self.now)
+            (plain_session self.old)
             (submit (plain_key key.now) sent.version sent.seq (option_map string_bytes sent.src) sent.content) pass.old)
             (Breaks (D.acts desk.now) table.now
             (submit (plain_key key.now) sent.version sent.seq (option_map string_bytes sent.src) sent.content))
             (Wrote O.pieces (O.written out.old) (O.written out.new))
-            (plain_session self.now) pass.old (plain_session self.now) pass.new }
+            (plain_session self.old) pass.old (plain_session self.new) pass.new }
+        ensures ended { self.new.ended ≡ self.old.ended }
     {
         let projection = table.find(key.collection.as_str());
         if !permits(projection, &sent.content) {
@@ -261,9 +262,11 @@ impl Session {
     }
 
     // A message that names no source has the session's.
-    fn submission(&self, key: &Key, sent: Sent, by: u64) -> Result<Submission, AllocError>
-        ensures { IfOk result (λ s. s ≡ submission_of (plain_session self.now) (plain_key key.now)
+    fn submission(&mut self, key: &Key, sent: Sent, by: u64) -> Result<Submission, AllocError>
+        ensures submission { IfOk result (λ s. s ≡ submission_of (plain_session self.old) (plain_key key.now)
             sent.version sent.seq (option_map string_bytes sent.src) sent.content by) }
+        ensures session { plain_session self.new ≡ plain_session self.old }
+        ensures ended { self.new.ended ≡ self.old.ended }
     {
         let Sent {
             version,
@@ -272,12 +275,14 @@ impl Session {
             content,
             ..
         } = sent;
+        let alloc = self.alloc;
         let src = match src {
-            Some(given) => given,
-            None => self.source.clone()?,
+            Some(given) => self.names.share(alloc, given.as_str())?,
+            None => self.names.share(alloc, self.source.as_str())?,
         };
-        let via = key.collection.clone()?;
-        Submission::new(self.alloc, src, seq, version, content, via, by)
+        let via = self.names.share(alloc, key.collection.as_str())?;
+        let content = self.last_path.share(alloc, content)?;
+        Submission::with_names(alloc, src, seq, version, content, via, by)
     }
 
     // Writes the document at a version.

@@ -3,6 +3,7 @@
 
 mod batches;
 mod handlers;
+mod names;
 mod projected;
 mod pumping;
 mod replies;

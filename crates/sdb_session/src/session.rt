@@ -7,11 +7,12 @@ ghost use Rattle.sdb_session.specs.Handling.{Answers, AnswersSome, Handled};
 ghost use Rattle.sdb_wire.specs.Answers.{answer_text, init, failed};
 ghost use Rattle.sdb_wire.specs.Wire.{nothing_said, parse_message};
 
+use crate::names::Names;
 use crate::replies::{refuse, say};
 use crate::reply_sink::ReplySink;
 use crate::subscriptions::Subscription;
 use indexmap::IndexMap;
-use sdb_oplog::{Code, Key, Moment};
+use sdb_oplog::{Code, Key, LastPath, Moment};
 use sdb_projection::Table;
 use sdb_submit::Desk;
 use sdb_wire::{Answer, Message, no_echo, parse_message, reply_text};
@@ -32,12 +33,15 @@ impl From<Ended> for AllocError {
     }
 }
 
-/// A session: its source, and what it is subscribed to, in the order of subscribing.
+/// A session: its source, and what it is subscribed to, in the order of subscribing. It keeps 16 names at most, and a
+/// path, which its submissions share.
 #[derive(Drop)]
 pub struct Session {
     pub(crate) alloc: Global,
     pub(crate) source: String,
     pub(crate) subscriptions: IndexMap<Key, Subscription>,
+    pub(crate) names: Names,
+    pub(crate) last_path: LastPath,
     pub(crate) ended: Option<Ended>,
 }
 
@@ -53,6 +57,8 @@ impl Session {
             alloc,
             source: id,
             subscriptions: IndexMap::new(alloc),
+            names: Names::new(alloc),
+            last_path: LastPath::new(),
             ended: None,
         }
     }

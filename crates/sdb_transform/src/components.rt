@@ -39,7 +39,7 @@ pub(crate) fn copies(alloc: Global, components: &[Component]) -> Result<Vec<Comp
 {
     let mut copies = Vec::with_capacity(alloc, components.len())?;
     for component in components {
-        copies.push(component.try_clone(alloc)?)?;
+        copies.push(component.try_clone()?)?;
     }
     Ok(copies)
 }

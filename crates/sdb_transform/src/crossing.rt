@@ -8,7 +8,7 @@ ghost use Rattle.sdb_transform.specs.Outlook.{successors};
 ghost use Rattle.sdb_transform.specs.Stack.{Shows};
 ghost use Rattle.sdb_transform.specs.Transform.{transform};
 
-use crate::components::{Successors, copies, only};
+use crate::components::{Successors, copies};
 use crate::outlook::{Outlook, foresee, past};
 use crate::side::{Fault, Side};
 use crate::transforming::transform_one;
@@ -73,7 +73,7 @@ fn copied_past(
     ensures ok { IfOk result (λ v. transform side component.now other.now ≡ Some v.items) }
     ensures err { IfErr result (λ f. IsFaultOf f (transform side component.now other.now)) }
 {
-    transform_one(alloc, component.try_clone(alloc)?, other, side)
+    transform_one(alloc, component.try_clone()?, other, side)
 }
 
 // Operations of any components, given up.
@@ -110,10 +110,21 @@ pub fn transform(alloc: Global, op: &Op, other: &Op, side: Side) -> Result<Op, F
 {
     match op.components() {
         [component] => {
-            let copy = component.try_clone(alloc)?;
+            let copy = component.try_clone()?;
             one_past_all(alloc, copy, other.components(), side)
         }
         components => many_past_all(alloc, copies(alloc, components)?, other.components(), side),
+    }
+}
+
+/// As [`transform`], but the operation is given up: one that [`Op::one`] made isn't copied.
+pub fn transform_given(alloc: Global, op: Op, other: &Op, side: Side) -> Result<Op, Fault>
+    ensures ok { IfOk result (λ t. carried side op other.now ≡ Some t) }
+    ensures err { IfErr result (λ f. IsFaultOf f (carried side op other.now)) }
+{
+    match op.into_one() {
+        Ok(component) => one_past_all(alloc, component, other.components(), side),
+        Err(op) => transform(alloc, &op, other, side),
     }
 }
 
@@ -136,7 +147,7 @@ fn one_past_all(
             Successors::Many(pieces) => return many_past_all(alloc, pieces, rest, side),
         }
     }
-    Ok(Op::new(only(alloc, current)?))
+    Ok(Op::one(current))
 }
 
 // What stands for a component after another one, if what stands for the other one exists too.

@@ -16,6 +16,6 @@ mod texts;
 mod transforming;
 mod turns;
 
-pub use crossing::{Crossed, cross, transform};
+pub use crossing::{Crossed, cross, transform, transform_given};
 pub use side::{Fault, Side};
 pub use transforming::transform_one;

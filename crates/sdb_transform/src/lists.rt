@@ -1,4 +1,5 @@
 //! Lists.
+ghost use Rattle.std.specs.Arc.{arc_value};
 ghost use Rattle.std.specs.Prelude.{◌≡◌, ◌+◌, ◌≤◌, ◌<◌, IfSome, IfNone};
 ghost use Rattle.sdb_component.specs.View.{plain_act};
 ghost use Rattle.sdb_value.specs.View.{view};
@@ -8,10 +9,10 @@ ghost use Rattle.sdb_transform.specs.Transform.{li_over, ld_over, lr_over, li_ov
 use crate::side::{Fault, Remaining, Side};
 use sdb_component::Act;
 use sdb_value::{Json, MAX};
-use std::alloc::Global;
+use std::sync::Arc;
 
-pub(crate) fn insert_past(j: u64, v: Json, over: &Act, side: Side) -> Result<Remaining, Fault>
-    ensures { Answers result (li_over side j (view v) (plain_act over.now)) }
+pub(crate) fn insert_past(j: u64, v: Arc<Json>, over: &Act, side: Side) -> Result<Remaining, Fault>
+    ensures { Answers result (li_over side j (view (arc_value v)) (plain_act over.now)) }
 {
     match over {
         Act::Li(i, _) => insert_past_insert(j, v, *i, side),
@@ -20,8 +21,8 @@ pub(crate) fn insert_past(j: u64, v: Json, over: &Act, side: Side) -> Result<Rem
     }
 }
 
-fn insert_past_insert(j: u64, v: Json, i: u64, side: Side) -> Result<Remaining, Fault>
-    ensures { Answers result (li_over_li side j (view v) i) }
+fn insert_past_insert(j: u64, v: Arc<Json>, i: u64, side: Side) -> Result<Remaining, Fault>
+    ensures { Answers result (li_over_li side j (view (arc_value v)) i) }
 {
     let moves = match side {
         Side::Left => i < j,
@@ -36,8 +37,8 @@ fn insert_past_insert(j: u64, v: Json, i: u64, side: Side) -> Result<Remaining, 
     }
 }
 
-pub(crate) fn delete_past(j: u64, x: Json, over: &Act) -> Result<Remaining, Fault>
-    ensures { Answers result (ld_over j (view x) (plain_act over.now)) }
+pub(crate) fn delete_past(j: u64, x: Arc<Json>, over: &Act) -> Result<Remaining, Fault>
+    ensures { Answers result (ld_over j (view (arc_value x)) (plain_act over.now)) }
 {
     match over {
         Act::Li(i, _) => {
@@ -66,14 +67,13 @@ pub(crate) fn delete_past(j: u64, x: Json, over: &Act) -> Result<Remaining, Faul
 }
 
 pub(crate) fn replace_past(
-    alloc: Global,
     j: u64,
-    w: Json,
-    z: Json,
+    w: Arc<Json>,
+    z: Arc<Json>,
     over: &Act,
     side: Side,
 ) -> Result<Remaining, Fault>
-    ensures { Answers result (lr_over side j (view w) (view z) (plain_act over.now)) }
+    ensures { Answers result (lr_over side j (view (arc_value w)) (view (arc_value z)) (plain_act over.now)) }
 {
     match over {
         Act::Li(i, _) => {
@@ -92,27 +92,26 @@ pub(crate) fn replace_past(
         } else {
             Act::Lr(j, w, z)
         })),
-        Act::Lr(i, _, y) => replace_past_replace(alloc, j, w, z, *i, y, side),
+        Act::Lr(i, _, y) => replace_past_replace(j, w, z, *i, y, side),
         _ => Ok(Remaining::One(Act::Lr(j, w, z))),
     }
 }
 
 fn replace_past_replace(
-    alloc: Global,
     j: u64,
-    w: Json,
-    z: Json,
+    w: Arc<Json>,
+    z: Arc<Json>,
     i: u64,
-    y: &Json,
+    y: &Arc<Json>,
     side: Side,
 ) -> Result<Remaining, Fault>
-    ensures { Answers result (lr_over_lr side j (view w) (view z) i (view y.now)) }
+    ensures { Answers result (lr_over_lr side j (view (arc_value w)) (view (arc_value z)) i (view (arc_value y.now))) }
 {
     if i != j {
         return Ok(Remaining::One(Act::Lr(j, w, z)));
     }
     match side {
-        Side::Left => Ok(Remaining::One(Act::Lr(j, y.try_clone(alloc)?, z))),
+        Side::Left => Ok(Remaining::One(Act::Lr(j, Arc::try_clone(y)?, z))),
         Side::Right => Ok(Remaining::Dropped),
     }
 }

@@ -1,4 +1,5 @@
 //! Removed values, brought up to date.
+ghost use Rattle.std.specs.Arc.{arc_value};
 ghost use Rattle.std.specs.Prelude.{◌≡◌, IfOk, IfErr, option_map};
 ghost use Rattle.sdb_value.specs.View.{view, plain_step, plain_path};
 ghost use Rattle.sdb_component.specs.View.{plain_act};
@@ -13,7 +14,8 @@ use crate::side::Fault;
 use sdb_apply::{ApplyFault, apply_at};
 use sdb_component::Act;
 use sdb_value::{Json, Step};
-use std::alloc::Global;
+use std::alloc::{AllocError, Global};
+use std::sync::Arc;
 
 // Whether the act removes the value that the step leads to.
 fn removes(act: &Act, step: &Step) -> bool
@@ -83,16 +85,30 @@ pub(crate) fn update(alloc: Global, act: Act, path: &[Step], over: &Act) -> Resu
 }
 
 // The value with the act done at the path, where it is accepted there.
-fn updated(alloc: Global, mut value: Json, path: &[Step], over: &Act) -> Result<Json, Fault>
-    ensures ok { IfOk result (λ v. view v
-        ≡ updated (at_path (plain_path path.now) (plain_act over.now)) (view value)) }
+fn updated(alloc: Global, value: Arc<Json>, path: &[Step], over: &Act) -> Result<Arc<Json>, Fault>
+    ensures ok { IfOk result (λ v. view (arc_value v)
+        ≡ updated (at_path (plain_path path.now) (plain_act over.now)) (view (arc_value value))) }
     ensures err { IfErr result (λ f. f ≡ Memory) }
 {
+    let mut value = own(alloc, value)?;
     match apply_at(alloc, &mut value, path, over) {
-        Ok(()) => Ok(value),
-        Err(fault) => match fault {
-            ApplyFault::NotApplied => Ok(value),
-            ApplyFault::Memory => Err(Fault::Memory),
-        },
+        Ok(()) | Err(ApplyFault::NotApplied) => Ok(shared(alloc, value)?),
+        Err(ApplyFault::Memory) => Err(Fault::Memory),
     }
+}
+
+// The value, copied where others have it too.
+fn own(alloc: Global, value: Arc<Json>) -> Result<Json, AllocError>
+    ensures { IfOk result (λ v. view v ≡ view (arc_value value)) }
+{
+    match Arc::try_unwrap(value) {
+        Ok(value) => Ok(value),
+        Err(shared) => shared.try_clone(alloc),
+    }
+}
+
+fn shared(alloc: Global, value: Json) -> Result<Arc<Json>, AllocError>
+    ensures { IfOk result (λ v. arc_value v ≡ value) }
+{
+    Ok(Arc::new(alloc, value)?)
 }

@@ -12,7 +12,7 @@ use crate::paths::{StepAfter, behind, step_over};
 use crate::removed::{under_removed, update};
 use crate::side::{Fault, Remaining, Side};
 use crate::{lists, objects, texts};
-use sdb_component::{Act, Component, copy_path};
+use sdb_component::{Act, Component, Path};
 use sdb_value::Step;
 use std::alloc::Global;
 
@@ -44,7 +44,7 @@ fn carry(
     ensures { Transforms result (transform side component other.now) }
 {
     let (path, act) = component.into_parts();
-    match rest_len(other.path(), path.as_slice()) {
+    match rest_len(other.path(), path.steps()) {
         None => stand_apart(alloc, path, act, other, side),
         Some(0) => at_container(alloc, path, act, other, side),
         Some(_) => stand_below(alloc, path, act, other, side),
@@ -61,15 +61,15 @@ fn rest_len(front: &[Step], path: &[Step]) -> Option<usize>
 // Neither is at or below the other's container, or the other lies under the value that this removes.
 fn stand_apart(
     alloc: Global,
-    path: Vec<Step>,
+    path: Path,
     act: Act,
     other: &Component,
     side: Side,
 ) -> Result<Vec<Component>, Fault>
-    requires { behind other.now.path (plain_path path.items) ≡ None }
-    ensures { Transforms result (transform side (at_path (plain_path path.items) (plain_act act)) other.now) }
+    requires { behind other.now.path path ≡ None }
+    ensures { Transforms result (transform side (at_path path (plain_act act)) other.now) }
 {
-    let act = match under_removed(path.as_slice(), &act, other.path()) {
+    let act = match under_removed(path.steps(), &act, other.path()) {
         Some(rest) => update(alloc, act, rest, other.act())?,
         None => act,
     };
@@ -79,19 +79,19 @@ fn stand_apart(
 // Both are at one container.
 fn at_container(
     alloc: Global,
-    path: Vec<Step>,
+    path: Path,
     act: Act,
     other: &Component,
     side: Side,
 ) -> Result<Vec<Component>, Fault>
-    requires { behind other.now.path (plain_path path.items) ≡ Some [] }
-    ensures { Transforms result (transform side (at_path (plain_path path.items) (plain_act act)) other.now) }
+    requires { behind other.now.path path ≡ Some [] }
+    ensures { Transforms result (transform side (at_path path (plain_act act)) other.now) }
 {
-    match act_over(alloc, act, other.act(), side)? {
+    match act_over(act, other.act(), side)? {
         Remaining::Dropped => Ok(Vec::new(alloc)),
         Remaining::One(act) => one(alloc, path, act),
         Remaining::Two(first, second) => {
-            let copy = copy_path(alloc, path.as_slice())?;
+            let copy = path.try_clone()?;
             two(
                 alloc,
                 Component::new(path, first),
@@ -104,27 +104,28 @@ fn at_container(
 // The path leads on below the other's container.
 fn stand_below(
     alloc: Global,
-    mut path: Vec<Step>,
+    path: Path,
     act: Act,
     other: &Component,
     side: Side,
 ) -> Result<Vec<Component>, Fault>
     requires { (s : PlainStep) × (rest : List PlainStep)
-        × (behind other.now.path (plain_path path.items) ≡ Some (s ∷ rest)) }
-    ensures { Transforms result (transform side (at_path (plain_path path.items) (plain_act act)) other.now) }
+        × (behind other.now.path path ≡ Some (s ∷ rest)) }
+    ensures { Transforms result (transform side (at_path path (plain_act act)) other.now) }
 {
     let at = other.path().len();
-    match step_over(other.act(), &path[at])? {
+    match step_over(other.act(), &path.steps()[at])? {
         StepAfter::Stays => one(alloc, path, act),
         StepAfter::Gone => Ok(Vec::new(alloc)),
         StepAfter::At(index) => {
-            path[at] = Step::Index(index);
-            one(alloc, path, act)
+            let mut steps = path.into_steps(alloc)?;
+            steps[at] = Step::Index(index);
+            one(alloc, Path::new(alloc, steps)?, act)
         }
     }
 }
 
-fn act_over(alloc: Global, act: Act, other: &Act, side: Side) -> Result<Remaining, Fault>
+fn act_over(act: Act, other: &Act, side: Side) -> Result<Remaining, Fault>
     ensures { Answers result (over side (plain_act act) (plain_act other.now)) }
 {
     match act {
@@ -133,15 +134,15 @@ fn act_over(alloc: Global, act: Act, other: &Act, side: Side) -> Result<Remainin
         Act::Sd(p, d) => texts::delete_past(p, d, other),
         Act::Li(j, v) => lists::insert_past(j, v, other, side),
         Act::Ld(j, x) => lists::delete_past(j, x, other),
-        Act::Lr(j, w, z) => lists::replace_past(alloc, j, w, z, other, side),
-        Act::Oi(k, z) => objects::insert_past(alloc, k, z, other, side),
+        Act::Lr(j, w, z) => lists::replace_past(j, w, z, other, side),
+        Act::Oi(k, z) => objects::insert_past(k, z, other, side),
         Act::Od(k, x) => objects::delete_past(k, x, other),
-        Act::Or(k, w, z) => objects::replace_past(alloc, k, w, z, other, side),
+        Act::Or(k, w, z) => objects::replace_past(k, w, z, other, side),
     }
 }
 
-fn one(alloc: Global, path: Vec<Step>, act: Act) -> Result<Vec<Component>, Fault>
-    ensures { Transforms result (Some (at_path (plain_path path.items) (plain_act act) ∷ [])) }
+fn one(alloc: Global, path: Path, act: Act) -> Result<Vec<Component>, Fault>
+    ensures { Transforms result (Some (at_path path (plain_act act) ∷ [])) }
 {
     only(alloc, Component::new(path, act))
 }

@@ -193,12 +193,12 @@ fn both_reworked(
     ensures err { IfErr result (λ f. IsRefusal left right f) }
 {
     if is_no_larger(&left, &right) {
-        let copy = left.try_clone(alloc)?;
+        let copy = left.try_clone()?;
         let pieces = transform_one(alloc, copy, &right, Side::Left)?;
         let run = transform_one(alloc, right, &left, Side::Right)?;
         Ok((pieces, run))
     } else {
-        let copy = right.try_clone(alloc)?;
+        let copy = right.try_clone()?;
         let run = transform_one(alloc, copy, &left, Side::Right)?;
         let pieces = transform_one(alloc, left, &right, Side::Left)?;
         Ok((pieces, run))

@@ -169,3 +169,38 @@ fn long_lists_are_written_in_batches(rt: HostRuntime) {
         assert!(rt; room.pumped(&mut session) == Some((0, 0)));
     }
 }
+
+// Adds to the number once for each of 20 sources, and asserts that each is answered by its name. So many are stored
+// before.
+fn count_by_sources(
+    rt: &impl Abort,
+    alloc: Global,
+    room: &mut Room,
+    session: &mut Session,
+    before: u64,
+) {
+    let add = r#"{"a":"op","c":"b","d":"1","op":[{"p":[],"na":1}],"seq""#;
+    let stored = r#"{"a":"op","c":"b","d":"1","seq""#;
+    for source in 1..=20 {
+        let version = source.saturating_add(before);
+        let edit = format!(in alloc; r#"{add}:{version},"src":"u{source}"}}"#).expect(
+            rt,
+            "out of memory",
+        );
+        let wanted = format!(in alloc; r#"{stored}:{version},"src":"u{source}","v":{version}}}"#);
+        let wanted = wanted.expect(rt, "out of memory");
+        assert!(rt; room.answers(session, edit.as_str(), wanted.as_str()));
+    }
+}
+
+// There are more sources than a session keeps the names of.
+#[test]
+fn each_source_is_answered_by_its_name(rt: HostRuntime) {
+    let alloc = rt.alloc();
+    let mut room = Room::new(alloc);
+    let mut session = named(&rt, alloc, "s1");
+    let create = r#"{"a":"op","c":"b","d":"1","seq":1,"create":{"type":"json0","data":0}}"#;
+    assert!(rt; room.texts(&rt, &mut session, create).len() == 1);
+    count_by_sources(&rt, alloc, &mut room, &mut session, 0);
+    count_by_sources(&rt, alloc, &mut room, &mut session, 20);
+}

@@ -17,10 +17,9 @@ use sdb_component::write_op;
 use sdb_oplog::{Code, Content, Entry, Key, Kind};
 use sdb_value::{Json, write_value};
 use std::alloc::{AllocError, Global};
-use std::mem;
 
 // Room for most answers.
-const TEXT_LEN: usize = 128;
+const TEXT_LEN: usize = 256;
 
 /// The text of an answer, compact, with the members of each object in the order of their bytes.
 pub fn reply_text(alloc: Global, answer: &Answer<'_>) -> Result<String, AllocError>
@@ -37,14 +36,25 @@ pub fn write_reply(alloc: Global, answer: &Answer<'_>, out: &mut Vec<u8>) -> Res
     ensures ok { OnOk result (out.new.items ≡ out.old.items ++ answer_text (plain_answer answer.now)) }
     ensures err { OnErr result (out.new.items ≡ out.old.items) }
 {
-    let len = out.len();
-    let mut writer = Writer::new(mem::replace(out, Vec::new(alloc)));
-    let written = write_answer(answer, &mut writer);
-    *out = writer.into_inner();
-    if written.is_err() {
-        out.truncate(len);
-    }
-    written
+    let text = reply_bytes(alloc, answer)?;
+    out.extend_from_slice(text.as_slice())
+}
+
+// The bytes of the text of an answer. A writer over other bytes would first fill the room behind them.
+fn reply_bytes(alloc: Global, answer: &Answer<'_>) -> Result<Vec<u8>, AllocError>
+    ensures { IfOk result (λ v. v.items ≡ answer_text (plain_answer answer.now)) }
+{
+    let mut writer = Writer::new(Vec::with_capacity(alloc, TEXT_LEN)?);
+    write_answer(answer, &mut writer)?;
+    Ok(bytes_of(writer))
+}
+
+// What was written.
+fn bytes_of(out: Writer) -> Vec<u8>
+    requires { out.before ≡ [] }
+    ensures { result.items ≡ print out.tokens }
+{
+    out.into_inner()
 }
 
 // What was written, which is UTF-8.

@@ -1,3 +1,4 @@
+use Rattle.std.specs.Arc.{arc_value}
 use Rattle.std.proofs.Common.{◌∷◌, codes, rules}
 use Rattle.std.proofs.lemmas.Result.{on_err_weaker}
 use Rattle.json.specs.Token.{key}
@@ -23,12 +24,12 @@ returns-in-Od-clause-err c = rw c.in-Od.is (search (rules, front_of_member))
 
 pub returns-in_err-write_member-in-Lr-clause-err : goal.returns-in_err-write_member-in-Lr-clause-err
 returns-in_err-write_member-in-Lr-clause-err c =
-    let front = λ (rest : Members). wrote_of _ _ (key (codes "ld") ∷ data_tokens (to_data (view c.in-Lr.old))) (object_rest (member (codes "li") (to_data (view c.in-Lr.new)) rest)) c.in_err-write_member-in-Lr.ensures.err in
+    let front = λ (rest : Members). wrote_of _ _ (key (codes "ld") ∷ data_tokens (to_data (view (arc_value c.in-Lr.old)))) (object_rest (member (codes "li") (to_data (view (arc_value c.in-Lr.new))) rest)) c.in_err-write_member-in-Lr.ensures.err in
     rw c.in-Lr.is (on_any_err _ front)
 
 pub returns-in_err-write_member-in-Or-clause-err : goal.returns-in_err-write_member-in-Or-clause-err
 returns-in_err-write_member-in-Or-clause-err c =
-    let front = λ (rest : Members). wrote_of _ _ (key (codes "od") ∷ data_tokens (to_data (view c.in-Or.old))) (object_rest (member (codes "oi") (to_data (view c.in-Or.new)) rest)) c.in_err-write_member-in-Or.ensures.err in
+    let front = λ (rest : Members). wrote_of _ _ (key (codes "od") ∷ data_tokens (to_data (view (arc_value c.in-Or.old)))) (object_rest (member (codes "oi") (to_data (view (arc_value c.in-Or.new))) rest)) c.in_err-write_member-in-Or.ensures.err in
     rw c.in-Or.is (on_any_err _ front)
 
 pub returns-in_ok-key-in-Na-clause-err : goal.returns-in_ok-key-in-Na-clause-err

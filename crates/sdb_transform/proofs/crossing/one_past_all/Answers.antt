@@ -11,4 +11,4 @@ returns-clause-ok c =
     let rest = c.loop-other.rest.now in
     let kept : carried side (c.args.component ∷ []) c.args.others.now ≡ carried side (current ∷ []) rest = c.loop-other.invariant in
     let none : rest ≡ [] = empty_list rest c.in_default.ensures.cases in
-    kept ∙ ap (carried side (current ∷ [])) none ∙ past_none side (current ∷ []) ∙ c.in_ok-only.ensures ∙ ap Some (sym c.new.ensures)
+    kept ∙ ap (carried side (current ∷ [])) none ∙ past_none side (current ∷ []) ∙ ap Some (sym c.one.ensures)

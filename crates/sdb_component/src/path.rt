@@ -1,0 +1,75 @@
+//! Paths that components share.
+ghost use Rattle.std.specs.Arc.{arc_value};
+ghost use Rattle.std.specs.Prelude.{◌≡◌, IfOk, min};
+ghost use Rattle.sdb_value.specs.View.{plain_path};
+ghost use Rattle.sdb_component.specs.Size.{path_size};
+
+use crate::copies::copy_path;
+use crate::measures::size_of_path;
+use sdb_value::Step;
+use std::alloc::{AllocError, Global};
+use std::marker::Model;
+use std::sync::Arc;
+
+/// The steps that lead from a document to the container of a component. Copies share them.
+#[derive(Drop)]
+pub struct Path {
+    steps: Arc<Vec<Step>>,
+}
+
+impl Model for Path {
+    ghost use Rattle.std.specs.Prelude.{List};
+    ghost use Rattle.sdb_value.specs.Value.{PlainStep};
+    ghost use Rattle.sdb_value.specs.Coding.{path_code};
+    ghost use Rattle.std.specs.Arc.{arc_value};
+    ghost use Rattle.sdb_value.specs.View.{plain_path};
+
+    ghost Value = { List PlainStep };
+
+    ghost coded = { path_code };
+
+    ghost view = { λ p. plain_path (arc_value p.steps).items };
+}
+
+impl Path {
+    /// The path of these steps. Fails only where an allocation does.
+    pub fn new(alloc: Global, steps: Vec<Step>) -> Result<Path, AllocError>
+        ensures { IfOk result (λ p. p ≡ plain_path steps.items) }
+    {
+        let steps = Arc::new(alloc, steps)?;
+        Ok(Path { steps })
+    }
+
+    /// The steps, in order.
+    pub fn steps(&self) -> &[Step]
+        ensures { plain_path result.now ≡ self.now }
+    {
+        self.steps.as_slice()
+    }
+
+    /// How much it holds, up to the limit: its steps and the bytes of its keys. Where that is more, it is the limit,
+    /// and the rest isn't looked at.
+    pub fn size(&self, limit: u64) -> u64
+        ensures { result ≡ min limit (path_size self.now) }
+    {
+        size_of_path(self.steps(), limit)
+    }
+
+    /// The steps, given up. They are copied where other paths share them. Fails only where an allocation does.
+    pub fn into_steps(self, alloc: Global) -> Result<Vec<Step>, AllocError>
+        ensures { IfOk result (λ steps. plain_path steps.items ≡ self) }
+    {
+        match Arc::try_unwrap(self.steps) {
+            Ok(steps) => Ok(steps),
+            Err(shared) => copy_path(alloc, shared.as_slice()),
+        }
+    }
+
+    /// A copy, which shares the steps. It takes no memory; it fails only where there are 2^63 copies already.
+    pub fn try_clone(&self) -> Result<Path, AllocError>
+        ensures { IfOk result (λ p. p ≡ self.now) }
+    {
+        let steps = Arc::try_clone(&self.steps)?;
+        Ok(Path { steps })
+    }
+}
