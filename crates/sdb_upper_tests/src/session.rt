@@ -181,7 +181,7 @@ fn count_by_sources(
 ) {
     let add = r#"{"a":"op","c":"b","d":"1","op":[{"p":[],"na":1}],"seq""#;
     let stored = r#"{"a":"op","c":"b","d":"1","seq""#;
-    for source in 1..=20 {
+    for source in 1u64..=20 {
         let version = source.saturating_add(before);
         let edit = format!(in alloc; r#"{add}:{version},"src":"u{source}"}}"#).expect(
             rt,
