@@ -1,12 +1,12 @@
 //! One session over lines.
-ghost use Rattle.std.specs.Prelude.{◌≡◌, map, OnOk, OnErr, IfOk, IfSome};
+ghost use Rattle.std.specs.Prelude.{◌≡◌, [], map, OnOk, OnErr, IfOk, IfSome};
 ghost use Rattle.sdb_lines.specs.Counting.{CountsAll};
 ghost use Rattle.sdb_lines.specs.Lines.{reading_of, lines_of};
 ghost use Rattle.sdb_lines.specs.Streams.{Reads, Writes};
 ghost use Rattle.sdb_session.specs.Dialogue.{opening};
 ghost use Rattle.sdb_session.specs.View.{plain_session};
 ghost use Rattle.sdb_server.specs.Runs.{Wrote, WroteFront};
-ghost use Rattle.sdb_server.specs.Source.{is_request};
+ghost use Rattle.sdb_server.specs.Source.{is_request, own_source};
 ghost use Rattle.sdb_server.specs.Clocks.{TimedDialogue};
 ghost use Rattle.sdb_server.specs.State.{timed_by};
 
@@ -15,9 +15,10 @@ use crate::clock::Clock;
 use sdb_desk::Shard;
 use sdb_lines::{Counts, Replier, RunFault, Sink, Source, run_lines as run};
 use sdb_projection::Table;
-use sdb_session::Session;
+use sdb_session::{Session, Texts};
 use sdb_submit::Solo;
 use std::alloc::{AllocError, Global};
+use std::sync::Arc;
 
 // The source of the one session.
 const SOURCE: &str = "s1";
@@ -103,7 +104,17 @@ pub fn run_lines<C: Clock + Drop, R: Source, W: Sink>(
         table,
         clock,
         shard: Shard::new(alloc),
-        session: Session::new(alloc, String::from_str(alloc, SOURCE)?),
+        session: new_session(alloc)?,
     };
     run(alloc, &mut line_session, reader, writer)
+}
+
+// The session. It prints once what it tells of an operation several times.
+fn new_session(alloc: Global) -> Result<Session, AllocError>
+    ensures source { IfOk result (λ s. (plain_session s).source ≡ own_source) }
+    ensures subs { IfOk result (λ s. (plain_session s).subs ≡ []) }
+{
+    let mut session = Session::new(alloc, String::from_str(alloc, SOURCE)?);
+    session.share_texts(Arc::new(alloc, Texts::new(alloc)?)?);
+    Ok(session)
 }

@@ -12,13 +12,14 @@ use crate::waking_stream::WakingStream;
 use crate::websocket_session::{Served, Service, close_and_drain, serve_until};
 use sdb_backend::{Backend, Pass};
 use sdb_projection::Table;
+use sdb_session::Texts;
 use sdb_wire::MESSAGE_LIMIT;
 use std::alloc::{AllocError, Global};
 use std::io;
 use std::io::{Read, Write};
 use std::net::{Net, TcpStream};
 use std::sync::atomic::{AtomicBool, Ordering};
-use std::sync::{Mutex, Wait};
+use std::sync::{Arc, Mutex, Wait};
 use std::time::{Clock, Duration};
 use tungstenite::{CloseCode, NoMask, Role, WebSocket, WebSocketConfig};
 
@@ -57,6 +58,8 @@ pub struct ServerState<R: Wait> {
     ended: Mutex<Vec<Slot>>,
     // The sessions, which are woken where something is stored.
     followers: Followers,
+    // What sessions are told of stored operations.
+    texts: Arc<Texts>,
 }
 
 /// Which thread it is of those of its kind.
@@ -99,6 +102,7 @@ impl<R: Wait + Drop> ServerState<R> {
             is_ending: AtomicBool::new(false),
             ended: Mutex::new(ended),
             followers: Followers::new(alloc)?,
+            texts: Arc::new(alloc, Texts::new(alloc)?)?,
         })
     }
 
@@ -232,6 +236,7 @@ impl<R: Wait + Drop> ServerState<R> {
             table: &self.table,
             clock: SystemClock::new(rt),
             is_ending: Some(&self.is_ending),
+            texts: Some(&self.texts),
             following,
         };
         let served = serve_until(rt, alloc, &mut socket, pass, service);

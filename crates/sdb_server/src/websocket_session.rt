@@ -11,11 +11,11 @@ use crate::session_end::SessionEnd;
 use crate::socket_sink::SocketSink;
 use sdb_backend::{Backend, Pass};
 use sdb_projection::Table;
-use sdb_session::{Ended, Session};
+use sdb_session::{Ended, Session, Texts};
 use std::alloc::Global;
 use std::io::{Error as IoError, ErrorKind, Read, Write};
-use std::sync::Wait;
 use std::sync::atomic::{AtomicBool, Ordering};
+use std::sync::{Arc, Wait};
 use tungstenite::{
     Bytes, CloseCode, CloseFrame, Error, Message, NoMask, Role, Utf8Bytes, WebSocket,
 };
@@ -89,6 +89,8 @@ pub(crate) struct Service<'a, R: Wait, C> {
     pub(crate) clock: C,
     /// Whether the server is ending, where there is one.
     pub(crate) is_ending: Option<&'a AtomicBool>,
+    /// The texts that it shares with others, if it does.
+    pub(crate) texts: Option<&'a Arc<Texts>>,
     /// Its place among those that are woken, where it has one.
     pub(crate) following: Option<Following<'a>>,
 }
@@ -138,6 +140,7 @@ pub fn serve<'a, R: Wait + Drop, C: Clock + Drop, S: Read + Write + Drop>(
         table,
         clock,
         is_ending: None,
+        texts: None,
         following: None,
     };
     serve_until(rt, alloc, socket, pass, service).pass
@@ -172,6 +175,7 @@ pub(crate) fn serve_until<'a, R: Wait + Drop, C: Clock + Drop, S: Read + Write +
         table,
         clock,
         is_ending,
+        texts,
         following,
     } = service;
     let mut client = Client {
@@ -184,7 +188,7 @@ pub(crate) fn serve_until<'a, R: Wait + Drop, C: Clock + Drop, S: Read + Write +
         is_ending,
         following,
         pass,
-        session: Session::new(alloc, source),
+        session: new_session(alloc, source, texts),
         silent_reads: 0,
         messages: 0,
         operations: 0,
@@ -194,6 +198,15 @@ pub(crate) fn serve_until<'a, R: Wait + Drop, C: Clock + Drop, S: Read + Write +
     let (socket, served) = client.leave(end);
     say_farewell(alloc, socket, farewell);
     served
+}
+
+// A session of the source, which shares the texts, if there are such.
+fn new_session(alloc: Global, source: String, texts: Option<&Arc<Texts>>) -> Session {
+    let mut session = Session::new(alloc, source);
+    if let Some(Ok(texts)) = texts.map(Arc::try_clone) {
+        session.share_texts(texts);
+    }
+    session
 }
 
 impl<'a, R: Wait + Drop, C: Clock + Drop, S: Read + Write + Drop> Client<'a, R, C, S> {

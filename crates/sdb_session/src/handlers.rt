@@ -258,7 +258,15 @@ impl Session {
         let now = sent.now;
         let submission = self.submission(key, sent, desk.by(pass))?;
         let reply = submit(self.alloc, desk, pass, base, &submission, now, &NoGate);
-        say_reply(self.alloc, &target, message, &submission, &reply, out)
+        say_reply(
+            self.alloc,
+            self.texts(),
+            &target,
+            message,
+            &submission,
+            &reply,
+            out,
+        )
     }
 
     // A message that names no source has the session's.

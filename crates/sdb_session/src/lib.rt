@@ -10,7 +10,9 @@ mod replies;
 mod reply_sink;
 mod session;
 mod subscriptions;
+mod texts;
 
 pub use pumping::Pumped;
 pub use reply_sink::ReplySink;
 pub use session::{Ended, Session};
+pub use texts::Texts;

@@ -8,7 +8,7 @@ ghost use Rattle.sdb_session.specs.View.{Wrote, has_ended, plain_session};
 ghost use Rattle.sdb_session.specs.Handling.{messages};
 ghost use Rattle.sdb_wire.specs.Answers.{answer_text};
 
-use crate::replies::say_entry;
+use crate::replies::tell_entry;
 use crate::reply_sink::ReplySink;
 use crate::session::{Ended, Session};
 use crate::subscriptions::take;
@@ -130,7 +130,7 @@ impl Session {
         let projection = table.find(key.collection.as_str());
         for entry in entries {
             if !self.is_own(key, entry) {
-                say_entry(self.alloc, projection, key, entry, out)?;
+                tell_entry(self.alloc, self.texts(), projection, key, entry, out)?;
             }
         }
         Ok(())

@@ -12,6 +12,7 @@ ghost use Rattle.sdb_wire.specs.View.{plain_answer};
 
 use crate::projected::{Target, seen_content, seen_document};
 use crate::reply_sink::ReplySink;
+use crate::texts::Texts;
 use sdb_desk::{Reply, Subscribed};
 use sdb_oplog::{Code, Entry, Key, Submission};
 use sdb_projection::Projection;
@@ -85,9 +86,48 @@ pub(crate) fn say_entries<O: ReplySink>(
     Ok(())
 }
 
-// Writes stored operations, and the answer that ends them.
-pub(crate) fn say_list<O: ReplySink>(
+// Writes a stored operation that other sessions are told of too.
+pub(crate) fn tell_entry<O: ReplySink>(
     alloc: Global,
+    texts: Option<&Texts>,
+    projection: Option<&Projection>,
+    key: &Key,
+    entry: &Entry,
+    out: &mut O,
+) -> Result<(), AllocError>
+    ensures { OnOk result (Wrote O.pieces (O.written out.old) (O.written out.new)
+        (op_message (plain_key key.now) (seen (plain_through projection.entry) entry.now) ∷ [])) }
+{
+    match (texts, projection) {
+        (Some(texts), None) => {
+            let text = texts.text_of(alloc, key, entry)?;
+            say(alloc, &Answer::OpText { text: &text }, out)
+        }
+        _ => say_entry(alloc, projection, key, entry, out),
+    }
+}
+
+// Writes stored operations that other sessions are told of too.
+fn tell_entries<O: ReplySink>(
+    alloc: Global,
+    texts: Option<&Texts>,
+    target: &Target<'_>,
+    entries: &[Entry],
+    out: &mut O,
+) -> Result<(), AllocError>
+    ensures { OnOk result (Wrote O.pieces (O.written out.old) (O.written out.new)
+        (messages (plain_through target.now.projection) (plain_key target.now.key.now) entries.now)) }
+{
+    for entry in entries {
+        tell_entry(alloc, texts, target.projection, target.key, entry, out)?;
+    }
+    Ok(())
+}
+
+// Writes stored operations that other sessions are told of too, and the answer that ends them.
+fn tell_list<O: ReplySink>(
+    alloc: Global,
+    texts: Option<&Texts>,
     target: &Target<'_>,
     entries: &[Entry],
     last: &Answer<'_>,
@@ -97,13 +137,14 @@ pub(crate) fn say_list<O: ReplySink>(
         (messages (plain_through target.now.projection) (plain_key target.now.key.now) entries.now
         ++ plain_answer last.now ∷ [])) }
 {
-    say_entries(alloc, target, entries, out)?;
+    tell_entries(alloc, texts, target, entries, out)?;
     say(alloc, last, out)
 }
 
 // What was missed comes before the acknowledgement.
 pub(crate) fn say_reply<O: ReplySink>(
     alloc: Global,
+    texts: Option<&Texts>,
     target: &Target<'_>,
     message: Option<&Value>,
     submission: &Submission,
@@ -123,7 +164,7 @@ pub(crate) fn say_reply<O: ReplySink>(
                 seq,
                 version: *v,
             };
-            say_list(alloc, target, missed.as_slice(), &last, out)
+            tell_list(alloc, texts, target, missed.as_slice(), &last, out)
         }
         Reply::Repeat { v } => {
             let answer = Answer::Acknowledged {

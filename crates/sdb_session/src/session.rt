@@ -11,12 +11,14 @@ use crate::names::Names;
 use crate::replies::{refuse, say};
 use crate::reply_sink::ReplySink;
 use crate::subscriptions::Subscription;
+use crate::texts::Texts;
 use indexmap::IndexMap;
 use sdb_oplog::{Code, Key, LastPath, Moment};
 use sdb_projection::Table;
 use sdb_submit::Desk;
 use sdb_wire::{Answer, Message, no_echo, parse_message, reply_text};
 use std::alloc::{AllocError, Global};
+use std::sync::Arc;
 
 /// The most pairs of a collection name and an id that one session subscribes to.
 pub const SUBSCRIPTION_LIMIT: usize = 64;
@@ -42,6 +44,7 @@ pub struct Session {
     pub(crate) subscriptions: IndexMap<Key, Subscription>,
     pub(crate) names: Names,
     pub(crate) last_path: LastPath,
+    texts: Option<Arc<Texts>>,
     pub(crate) ended: Option<Ended>,
 }
 
@@ -59,8 +62,22 @@ impl Session {
             subscriptions: IndexMap::new(alloc),
             names: Names::new(alloc),
             last_path: LastPath::new(),
+            texts: None,
             ended: None,
         }
+    }
+
+    /// Shares the texts of operations with other sessions from now on. Without them it prints each by itself.
+    pub fn share_texts(&mut self, texts: Arc<Texts>)
+        ensures session { plain_session self.new ≡ plain_session self.old }
+        ensures ended { has_ended self.new ≡ has_ended self.old }
+    {
+        self.texts = Some(texts);
+    }
+
+    // The texts that it shares.
+    pub(crate) fn texts(&self) -> Option<&Texts> {
+        self.texts.as_deref()
     }
 
     /// The opening text, with the source. It fails only for want of memory.

@@ -4,10 +4,11 @@ use crate::parts::text;
 use sdb_desk::Shard;
 use sdb_oplog::Moment;
 use sdb_projection::Table;
-use sdb_session::Session;
+use sdb_session::{Session, Texts};
 use sdb_submit::Solo;
 use std::alloc::Global;
 use std::process::Abort;
+use std::sync::Arc;
 
 pub(crate) fn named(rt: &impl Abort, alloc: Global, source: &str) -> Session {
     Session::new(alloc, text(rt, alloc, source))
@@ -42,6 +43,14 @@ impl Room {
             .handle(&Solo, &mut self.shard, &self.table, text, Moment::first())
             .ok()
             .expect(rt, "out of memory")
+    }
+
+    // Whether the session takes one entry, and is sent this text of it.
+    fn is_told(&mut self, session: &mut Session, wanted: &str) -> bool {
+        match session.pump(&Solo, &mut self.shard, &self.table, 64) {
+            Ok(pumped) => matches!(pumped.texts.as_slice(), [only] if only.as_str() == wanted),
+            Err(_) => false,
+        }
     }
 
     // How many entries the session takes, and how many texts it is sent.
@@ -203,4 +212,34 @@ fn each_source_is_answered_by_its_name(rt: HostRuntime) {
     assert!(rt; room.texts(&rt, &mut session, create).len() == 1);
     count_by_sources(&rt, alloc, &mut room, &mut session, 0);
     count_by_sources(&rt, alloc, &mut room, &mut session, 20);
+}
+
+const CREATE: &str = r#"{"a":"op","c":"b","d":"1","seq":1,"create":{"type":"json0","data":0}}"#;
+
+const CREATED: &str = r#"{"a":"op","c":"b","d":"1","seq":1,"src":"s1","v":0}"#;
+
+// What others are told of it.
+const TOLD: &str =
+    r#"{"a":"op","c":"b","create":{"data":0,"type":"http://sharejs.org/types/JSONv0"},"d":"1","seq":1,"src":"s1","v":0}"#;
+
+// Sessions that share texts are told the same as one that doesn't.
+#[test]
+fn each_session_is_told_the_same(rt: HostRuntime) {
+    let alloc = rt.alloc();
+    let texts = Arc::new(alloc, Texts::new(alloc).expect(&rt, "out of memory"));
+    let texts = texts.ok().expect(&rt, "out of memory");
+    let mut room = Room::new(alloc);
+    let mut first = named(&rt, alloc, "s1");
+    let mut second = named(&rt, alloc, "s2");
+    let mut third = named(&rt, alloc, "s3");
+    let mut fourth = named(&rt, alloc, "s4");
+    second.share_texts(Arc::try_clone(&texts).expect(&rt, "shared"));
+    third.share_texts(texts);
+    assert!(rt; room.answers(&mut second, SUBSCRIBE, SUBSCRIBED));
+    assert!(rt; room.answers(&mut third, SUBSCRIBE, SUBSCRIBED));
+    assert!(rt; room.answers(&mut fourth, SUBSCRIBE, SUBSCRIBED));
+    assert!(rt; room.answers(&mut first, CREATE, CREATED));
+    assert!(rt; room.is_told(&mut second, TOLD));
+    assert!(rt; room.is_told(&mut third, TOLD));
+    assert!(rt; room.is_told(&mut fourth, TOLD));
 }

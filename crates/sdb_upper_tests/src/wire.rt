@@ -1,9 +1,9 @@
 //! `sdb_wire`: what no program calls, and what none of their lines can show. All else is in the lines of the
 //! two programs.
-use crate::parts::{content, submission, text};
+use crate::parts::{content, key, submission, text};
 use sdb_oplog::{Code, Content, Entry, Moment};
 use sdb_wire::{
-    Answer, Echo, MESSAGE_LIMIT, Request, entry_value, no_echo, read_message, reply_text,
+    Answer, Echo, MESSAGE_LIMIT, OpText, Request, entry_value, no_echo, read_message, reply_text,
 };
 use std::alloc::Global;
 use std::process::Abort;
@@ -97,4 +97,34 @@ fn entries_are_values(rt: HostRuntime) {
     );
     let edit = content(&rt, rt.alloc(), r#"{"op":[{"na":2,"p":[]}]}"#);
     assert!(rt; is_shown(&rt, rt.alloc(), edit, EDITED));
+}
+
+// An entry that creates the document.
+fn an_entry(rt: &impl Abort, alloc: Global, version: u64) -> Entry {
+    let create = content(rt, alloc, r#"{"create":{"type":"json0","data":0}}"#);
+    let submission = submission(rt, alloc, "x", 1, None, create, 0);
+    Entry::new(version, Moment::first(), None, submission)
+}
+
+// The text of an op message is what the message is, and is that of no other entry or document.
+#[test]
+fn the_text_of_an_op_message_is_kept(rt: HostRuntime) {
+    let alloc = rt.alloc();
+    let (entry, next) = (an_entry(&rt, alloc, 0), an_entry(&rt, alloc, 1));
+    let (here, there) = (key(&rt, alloc, "1"), key(&rt, alloc, "2"));
+    let kept = OpText::new(alloc, &here, &entry).expect(&rt, "out of memory");
+    let answer = Answer::OpMessage {
+        key: &here,
+        entry: &entry,
+        content: entry.content(),
+    };
+    let told = reply_text(alloc, &answer).expect(&rt, "out of memory");
+    let again = reply_text(alloc, &Answer::OpText { text: &kept }).expect(&rt, "out of memory");
+    assert!(rt;
+        kept.as_str() == told.as_str()
+            && again.as_str() == told.as_str()
+            && kept.tells(&here, &entry)
+            && !kept.tells(&here, &next)
+            && !kept.tells(&there, &entry)
+    );
 }

@@ -18,7 +18,7 @@ use Rattle.sdb_wire.specs.declared.requests.Request.{Request}
 use Rattle.sdb_wire.specs.declared.requests.Request.TheVariants.{Hello, Fetch, Subscribe, Unsubscribe, Submit, Snapshot, AtTime}
 use Rattle.sdb_wire.specs.declared.requests.Message.{Message}
 use Rattle.sdb_wire.specs.declared.requests.Answer.{Answer}
-use Rattle.sdb_wire.specs.declared.requests.Answer.TheVariants.{Init, Named, Fetched, Listed, Subscribed, CaughtUp, Unsubscribed, OpMessage, Acknowledged, Failed}
+use Rattle.sdb_wire.specs.declared.requests.Answer.TheVariants.{Init, Named, Fetched, Listed, Subscribed, CaughtUp, Unsubscribed, OpMessage, OpText, Acknowledged, Failed}
 use Rattle.sdb_wire.specs.declared.requests.Answer.TheVariants as answer
 
 abbrev pub plain_word : Word → PlainWord
@@ -66,6 +66,7 @@ plain_answer (Unsubscribed k) = unsubscribed (plain_key k.now)
 plain_answer (answer.Snapshot n v d) = snapshot n v (option_map (λ j. view j.now) d)
 plain_answer (answer.AtTime n v d) = at_time n v (option_map (λ j. view j.now) d)
 plain_answer (OpMessage k e c) = op_message (plain_key k.now) (with_content e.now c.now)
+plain_answer (OpText t) = op_message t.now.0 t.now.1
 plain_answer (Acknowledged k src seq v) = acknowledged (plain_key k.now) src.now seq v
 plain_answer (Failed echo code) = failed (plain_echo echo.now) code
 

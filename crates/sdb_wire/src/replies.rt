@@ -25,6 +25,9 @@ const TEXT_LEN: usize = 256;
 pub fn reply_text(alloc: Global, answer: &Answer<'_>) -> Result<String, AllocError>
     ensures { IfOk result (λ s. string_bytes s ≡ answer_text (plain_answer answer.now)) }
 {
+    if let Answer::OpText { text } = answer {
+        return String::from_str(alloc, text.as_str());
+    }
     let mut out = Writer::new(Vec::with_capacity(alloc, TEXT_LEN)?);
     write_answer(answer, &mut out)?;
     Ok(text_of(out))
@@ -36,6 +39,9 @@ pub fn write_reply(alloc: Global, answer: &Answer<'_>, out: &mut Vec<u8>) -> Res
     ensures ok { OnOk result (out.new.items ≡ out.old.items ++ answer_text (plain_answer answer.now)) }
     ensures err { OnErr result (out.new.items ≡ out.old.items) }
 {
+    if let Answer::OpText { text } = answer {
+        return out.extend_from_slice(text.as_str().as_bytes());
+    }
     let text = reply_bytes(alloc, answer)?;
     out.extend_from_slice(text.as_slice())
 }
@@ -103,6 +109,9 @@ fn write_answer(answer: &Answer<'_>, out: &mut Writer) -> Result<(), AllocError>
             entry,
             content,
         } => write_op_message(key, entry, content, out),
+        Answer::OpText { text } => {
+            write_op_message(&text.key, &text.entry, text.entry.content(), out)
+        }
         Answer::Acknowledged {
             key,
             src,

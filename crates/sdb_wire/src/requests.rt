@@ -1,4 +1,5 @@
 //! What a message asks, and what an error shows of it.
+use crate::op_text::OpText;
 use sdb_oplog::{Code, Content, Entry, Key, Moment};
 use sdb_value::Json;
 use serde_json::Value;
@@ -144,6 +145,10 @@ pub enum Answer<'a> {
         key: &'a Key,
         entry: &'a Entry,
         content: &'a Content,
+    },
+    /// A stored operation whose text is kept.
+    OpText {
+        text: &'a OpText,
     },
     /// A submission is stored: its source, its number, the version.
     Acknowledged {

@@ -1,0 +1,71 @@
+//! Texts of op messages that are kept.
+ghost use Rattle.std.specs.Prelude.{◌≡◌, IfOk, IsFalse, IsTrue};
+ghost use Rattle.sdb_oplog.specs.Keys.{plain_key};
+ghost use Rattle.sdb_wire.specs.Answers.{answer_text, op_message};
+
+use crate::replies::reply_text;
+use crate::requests::Answer;
+use sdb_oplog::{Entry, Key, same_entries};
+use std::alloc::{AllocError, Global};
+use std::marker::Model;
+use std::slice;
+
+/// The text of an op message, and which entry it tells of which document.
+#[derive(Drop)]
+pub struct OpText {
+    pub(crate) key: Key,
+    pub(crate) entry: Entry,
+    text: String,
+}
+
+impl Model for OpText {
+    ghost use Rattle.std.specs.Prelude.{◌≡◌, string_bytes};
+    ghost use Rattle.sdb_oplog.specs.Keys.{PlainKey, plain_key};
+    ghost use Rattle.sdb_oplog.specs.Plain.{PlainEntry};
+    ghost use Rattle.sdb_wire.specs.Answers.{answer_text, op_message};
+    ghost use Rattle.sdb_wire.specs.Coding.{told_code};
+
+    ghost Value = { PlainKey × PlainEntry };
+
+    ghost coded = { told_code };
+
+    ghost view = { λ t. (plain_key t.key, t.entry) };
+
+    ghost invariant = { λ t. string_bytes t.text ≡ answer_text (op_message (plain_key t.key) t.entry) };
+}
+
+impl OpText {
+    /// The text that tells the entry of the document. Fails only where an allocation does.
+    pub fn new(alloc: Global, key: &Key, entry: &Entry) -> Result<OpText, AllocError>
+        ensures { IfOk result (λ t. t ≡ (plain_key key.now, entry.now)) }
+    {
+        let answer = Answer::OpMessage {
+            key,
+            entry,
+            content: entry.content(),
+        };
+        let text = reply_text(alloc, &answer)?;
+        Ok(OpText {
+            key: key.try_clone()?,
+            entry: entry.try_clone()?,
+            text,
+        })
+    }
+
+    /// Whether it tells this entry of this document. It takes no memory.
+    pub fn tells(&self, key: &Key, entry: &Entry) -> bool
+        ensures same { IsTrue result → self.now ≡ (plain_key key.now, entry.now) }
+        ensures other { IsFalse result → self.now ≡ (plain_key key.now, entry.now) → ⊥ }
+    {
+        self.key.id == key.id
+            && self.key.collection == key.collection
+            && same_entries(slice::from_ref(&self.entry), slice::from_ref(entry))
+    }
+
+    /// The text.
+    pub fn as_str(&self) -> &str
+        ensures { result.now ≡ answer_text (op_message self.now.0 self.now.1) }
+    {
+        self.text.as_str()
+    }
+}
