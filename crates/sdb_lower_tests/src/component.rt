@@ -1,8 +1,7 @@
 //! `sdb_component`: operations read, copied, weighed and printed. What is refused is in the lines of the server.
 use crate::texts::{component, each_row, is_printed, op, op_of, parsed, says, text_of};
 use json::Writer;
-use sdb_component::{Component, Op, OpFault, Path, weight, write_op};
-use sdb_value::same_path;
+use sdb_component::{Component, Op, OpFault, weight, write_op};
 use serde_json::Value;
 use std::alloc::Global;
 use std::process::Abort;
@@ -90,53 +89,6 @@ fn one_component_is_given_up(rt: HostRuntime) {
     );
 }
 
-// The component that a text of one is.
-fn one_of(rt: &impl Abort, alloc: Global, text: &str) -> Component {
-    op(rt, alloc, text)
-        .into_one()
-        .ok()
-        .expect(rt, "one component")
-}
-
-// Whether the operation is the same once it shares the path where it is its own.
-fn is_same_with(rt: &impl Abort, alloc: Global, text: &str, path: &Path) -> bool {
-    let shares = op(rt, alloc, text).with_path(path);
-    is_printed(rt, alloc, &shares.expect(rt, "shared"), text)
-}
-
-#[test]
-fn an_operation_that_shares_a_path_is_the_same(rt: HostRuntime) {
-    let first = one_of(&rt, rt.alloc(), r#"[{"na":1,"p":["a",0]}]"#);
-    let path = first.shared_path().expect(&rt, "shared");
-    assert!(rt;
-        is_same_with(&rt, rt.alloc(), r#"[{"na":2,"p":["a",0]}]"#, &path)
-            && is_same_with(&rt, rt.alloc(), r#"[{"na":2,"p":["a",1]}]"#, &path)
-            && is_same_with(&rt, rt.alloc(), r#"[{"na":2,"p":[]}]"#, &path)
-            && is_same_with(
-                &rt,
-                rt.alloc(),
-                r#"[{"na":2,"p":["a",0]},{"na":3,"p":["a",0]}]"#,
-                &path
-            )
-    );
-}
-
-// Of a path that another shares, and then of the last one.
-#[test]
-fn the_steps_of_a_path_are_given_up(rt: HostRuntime) {
-    let (path, _) = one_of(&rt, rt.alloc(), r#"[{"na":1,"p":["ab",0]}]"#).into_parts();
-    let other = path.try_clone().expect(&rt, "shared");
-    let copied = path.into_steps(rt.alloc()).expect(&rt, "out of memory");
-    let given = other.into_steps(rt.alloc()).expect(&rt, "out of memory");
-    let again = Path::new(rt.alloc(), given).expect(&rt, "out of memory");
-    assert!(rt;
-        copied.len() == 2
-            && same_path(copied.as_slice(), again.steps())
-            && again.size(3) == 3
-            && again.size(9) == 4
-    );
-}
-
 #[test]
 fn faults_are_named(rt: HostRuntime) {
     assert!(rt;
@@ -145,7 +97,7 @@ fn faults_are_named(rt: HostRuntime) {
     );
 }
 
-// Rows of an operation of one component, and how much it holds.
+// Rows of an operation of one component, and how much there is to copy of it.
 const SIZES: &str = r#"[
   [[{"na":-3,"p":["ab",0]}], 4],
   [[{"p":["a",7],"si":"aé😀"}], 9],

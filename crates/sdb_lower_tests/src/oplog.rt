@@ -1,10 +1,9 @@
 //! `sdb_oplog`: what no line shows: whole replays, entries compared, one content over another.
 ghost use Rattle.std.specs.Prelude.{◌≡◌};
 
-use crate::texts::{is_printed, op};
 use sdb_component::Op;
 use sdb_oplog::{
-    Code, Content, Entry, Kind, LastPath, Log, Moment, Submission, copy_entries, over, same_entries,
+    Code, Content, Entry, Kind, Log, Moment, Submission, copy_entries, over, same_entries,
 };
 use sdb_value::Json;
 use std::alloc::Global;
@@ -98,35 +97,4 @@ fn a_content_over_another(rt: HostRuntime) {
         matches!(over(rt.alloc(), &edit, &delete), Err(Code::E5))
             && is_delete(&over(rt.alloc(), &delete, &edit))
     );
-}
-
-// Whether an edit by the operation is the same once it shares the last path.
-fn is_same_after(rt: &impl Abort, alloc: Global, last: &mut LastPath, text: &str) -> bool {
-    let edit = Content::edit(alloc, op(rt, alloc, text)).expect(rt, "out of memory");
-    let shares = last.share(alloc, edit).expect(rt, "out of memory");
-    match shares.kind() {
-        Kind::Edit(op) => is_printed(rt, alloc, op, text),
-        _ => false,
-    }
-}
-
-#[test]
-fn edits_share_the_last_path(rt: HostRuntime) {
-    let mut last = LastPath::new();
-    assert!(rt;
-        is_same_after(&rt, rt.alloc(), &mut last, r#"[{"na":1,"p":["n"]}]"#)
-            && is_same_after(&rt, rt.alloc(), &mut last, r#"[{"na":2,"p":["n"]}]"#)
-            && is_same_after(&rt, rt.alloc(), &mut last, r#"[{"oi":3,"p":["m"]}]"#)
-            && is_same_after(
-                &rt,
-                rt.alloc(),
-                &mut last,
-                r#"[{"na":4,"p":[]},{"na":5,"p":[]}]"#
-            )
-            && is_same_after(&rt, rt.alloc(), &mut last, r#"[{"na":6,"p":["n"]}]"#)
-    );
-    let delete = last
-        .share(rt.alloc(), Content::delete())
-        .expect(&rt, "out of memory");
-    assert!(rt; matches!(delete.kind(), Kind::Delete));
 }
