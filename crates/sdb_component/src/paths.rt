@@ -1,22 +1,23 @@
 //! Paths as sent.
-ghost use Rattle.std.specs.Prelude.{◌≡◌, ◌++◌, ◌∷◌, [], Some, IfOk, IfErr, OnOk, string_bytes};
-ghost use Rattle.serde_json.specs.View.{view as data_view, items_view};
+ghost use Rattle.std.specs.Prelude.{◌≡◌, ◌++◌, ◌∷◌, [], map, Some, IfOk, IfErr, OnOk, string_bytes};
+ghost use Rattle.serde_json.specs.View.{items_of};
 ghost use Rattle.sdb_component.specs.Reads.{Unread, index_last, key_last, path_of, step_of, steps_of};
 ghost use Rattle.sdb_value.specs.View.{plain_path, plain_step};
 
 use crate::path::Path;
 use crate::reading::OpFault;
+use sdb_json::JsonData;
 use sdb_value::{Step, count_of};
-use serde_json::Value;
 use std::alloc::{AllocError, Global};
 
-fn step_of(value: &Value) -> Result<Step, OpFault>
-    ensures ok { IfOk result (λ s. step_of (data_view value.now) ≡ Some (plain_step s)) }
-    ensures err { IfErr result (λ f. Unread (step_of (data_view value.now)) f) }
+#[tactic(auto, using(crate::proofs::Sizes::key_step, crate::proofs::Sizes::index_step))]
+fn step_of<D: JsonData>(alloc: Global, value: &D) -> Result<Step, OpFault>
+    ensures ok { IfOk result (λ s. step_of (D.json value.now) ≡ Some (plain_step s)) }
+    ensures err { IfErr result (λ f. Unread (step_of (D.json value.now)) f) }
 {
-    match value {
-        Value::String(text) => Ok(Step::Key(text.clone()?)),
-        _ => match count_of(value) {
+    match value.as_str() {
+        Some(text) => Ok(Step::Key(String::from_str(alloc, text)?)),
+        None => match count_of(value) {
             Some(index) => Ok(Step::Index(index)),
             None => Err(OpFault::Form),
         },
@@ -30,22 +31,22 @@ fn push_step(steps: &mut Vec<Step>, step: Step) -> Result<(), AllocError>
     Ok(())
 }
 
-fn steps_of(alloc: Global, items: &[Value]) -> Result<Vec<Step>, OpFault>
-    ensures ok { IfOk result (λ p. steps_of (items_view items.now) ≡ Some (plain_path p.items)) }
-    ensures err { IfErr result (λ f. Unread (steps_of (items_view items.now)) f) }
+fn steps_of<D: JsonData>(alloc: Global, items: &[D]) -> Result<Vec<Step>, OpFault>
+    ensures ok { IfOk result (λ p. steps_of (items_of (map D.json items.now)) ≡ Some (plain_path p.items)) }
+    ensures err { IfErr result (λ f. Unread (steps_of (items_of (map D.json items.now))) f) }
 {
     let mut steps = Vec::with_capacity(alloc, items.len())?;
     for item in items {
-        let step = step_of(item)?;
+        let step = step_of(alloc, item)?;
         push_step(&mut steps, step)?;
     }
     Ok(steps)
 }
 
 #[tactic(auto, using(crate::proofs::Sizes::view_size))]
-pub(crate) fn path_of(alloc: Global, value: &Value) -> Result<Vec<Step>, OpFault>
-    ensures ok { IfOk result (λ p. path_of (data_view value.now) ≡ Some (plain_path p.items)) }
-    ensures err { IfErr result (λ f. Unread (path_of (data_view value.now)) f) }
+pub(crate) fn path_of<D: JsonData>(alloc: Global, value: &D) -> Result<Vec<Step>, OpFault>
+    ensures ok { IfOk result (λ p. path_of (D.json value.now) ≡ Some (plain_path p.items)) }
+    ensures err { IfErr result (λ f. Unread (path_of (D.json value.now)) f) }
 {
     let Some(items) = value.as_array() else {
         return Err(OpFault::Form);

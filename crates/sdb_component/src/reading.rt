@@ -1,6 +1,6 @@
 //! Reads operations.
-ghost use Rattle.std.specs.Prelude.{◌≡◌, ◌∷◌, [], IfOk, IfErr, Some, option_to_list};
-ghost use Rattle.serde_json.specs.View.{view as data_view, items_view};
+ghost use Rattle.std.specs.Prelude.{◌≡◌, ◌∷◌, [], map, IfOk, IfErr, Some, option_to_list};
+ghost use Rattle.serde_json.specs.View.{items_of};
 ghost use Rattle.sdb_component.specs.Reads.{component_of, components_of, op_of, Unread};
 
 use crate::component::Component;
@@ -9,7 +9,7 @@ use crate::operation::Op;
 use crate::paths::path_of;
 use crate::shape::shape_of;
 use crate::shaped::shaped;
-use serde_json::Value;
+use sdb_json::JsonData;
 use std::alloc::{AllocError, Global};
 use thiserror::Error;
 
@@ -45,9 +45,9 @@ impl From<AllocError> for OpFault {
 ///
 /// `Form` where the value is no such array, and `Memory` where an allocation failed.
 #[tactic(auto, using(crate::proofs::Sizes::view_size))]
-pub fn read_op(alloc: Global, value: &Value) -> Result<Op, OpFault>
-    ensures ok { IfOk result (λ o. op_of (data_view value.now) ≡ Some o) }
-    ensures err { IfErr result (λ f. Unread (op_of (data_view value.now)) f) }
+pub fn read_op<D: JsonData>(alloc: Global, value: &D) -> Result<Op, OpFault>
+    ensures ok { IfOk result (λ o. op_of (D.json value.now) ≡ Some o) }
+    ensures err { IfErr result (λ f. Unread (op_of (D.json value.now)) f) }
 {
     let Some(items) = value.as_array() else {
         return Err(OpFault::Form);
@@ -55,16 +55,16 @@ pub fn read_op(alloc: Global, value: &Value) -> Result<Op, OpFault>
     if items.len() > 256 {
         return Err(OpFault::Form);
     }
-    match items.as_slice() {
+    match items {
         [item] => one_of(alloc, item),
         items => Ok(Op::new(components_of(alloc, items)?)),
     }
 }
 
 // The operation of one component, or of none where it is dropped.
-fn one_of(alloc: Global, item: &Value) -> Result<Op, OpFault>
-    ensures ok { IfOk result (λ o. components_of (items_view (item.now ∷ [])) ≡ Some o) }
-    ensures err { IfErr result (λ f. Unread (components_of (items_view (item.now ∷ []))) f) }
+fn one_of<D: JsonData>(alloc: Global, item: &D) -> Result<Op, OpFault>
+    ensures ok { IfOk result (λ o. components_of (items_of (D.json item.now ∷ [])) ≡ Some o) }
+    ensures err { IfErr result (λ f. Unread (components_of (items_of (D.json item.now ∷ []))) f) }
 {
     match component_of(alloc, item)? {
         Some(component) => Ok(Op::one(component)),
@@ -72,9 +72,9 @@ fn one_of(alloc: Global, item: &Value) -> Result<Op, OpFault>
     }
 }
 
-fn components_of(alloc: Global, items: &[Value]) -> Result<Vec<Component>, OpFault>
-    ensures ok { IfOk result (λ cs. components_of (items_view items.now) ≡ Some cs.items) }
-    ensures err { IfErr result (λ f. Unread (components_of (items_view items.now)) f) }
+fn components_of<D: JsonData>(alloc: Global, items: &[D]) -> Result<Vec<Component>, OpFault>
+    ensures ok { IfOk result (λ cs. components_of (items_of (map D.json items.now)) ≡ Some cs.items) }
+    ensures err { IfErr result (λ f. Unread (components_of (items_of (map D.json items.now))) f) }
 {
     let mut components = Vec::with_capacity(alloc, items.len())?;
     for item in items {
@@ -85,9 +85,9 @@ fn components_of(alloc: Global, items: &[Value]) -> Result<Vec<Component>, OpFau
 }
 
 // The component that a value is, or none where it is dropped.
-fn component_of(alloc: Global, value: &Value) -> Result<Option<Component>, OpFault>
-    ensures ok { IfOk result (λ c. component_of (data_view value.now) ≡ Some (option_to_list c)) }
-    ensures err { IfErr result (λ f. Unread (component_of (data_view value.now)) f) }
+fn component_of<D: JsonData>(alloc: Global, value: &D) -> Result<Option<Component>, OpFault>
+    ensures ok { IfOk result (λ c. component_of (D.json value.now) ≡ Some (option_to_list c)) }
+    ensures err { IfErr result (λ f. Unread (component_of (D.json value.now)) f) }
 {
     let Some(shape) = shape_of(value) else {
         return Err(OpFault::Form);

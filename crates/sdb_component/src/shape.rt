@@ -1,10 +1,9 @@
 //! The shapes of components as sent.
 ghost use Rattle.std.specs.Prelude.{◌≡◌};
-ghost use Rattle.serde_json.specs.View.{view as data_view};
 ghost use Rattle.sdb_component.specs.Reads.{is_left_out, shape_from, shape_of};
 
 use crate::members::has;
-use serde_json::Value;
+use sdb_json::JsonData;
 
 /// A shape, told by the members that are present. `Lr` has `ld` and `li`, `Or` has `od` and `oi`.
 #[derive(Clone, Copy, Drop)]
@@ -20,8 +19,8 @@ pub(crate) enum Shape {
     Or,
 }
 
-pub(crate) fn shape_of(value: &Value) -> Option<Shape>
-    ensures { result ≡ shape_of (data_view value.now) }
+pub(crate) fn shape_of<D: JsonData>(value: &D) -> Option<Shape>
+    ensures { result ≡ shape_of (D.json value.now) }
 {
     if is_left_out(value) {
         return None;
@@ -37,8 +36,8 @@ pub(crate) fn shape_of(value: &Value) -> Option<Shape>
 }
 
 // A list move, and an operation of a subtype.
-fn is_left_out(value: &Value) -> bool
-    ensures { result ≡ is_left_out (data_view value.now) }
+fn is_left_out<D: JsonData>(value: &D) -> bool
+    ensures { result ≡ is_left_out (D.json value.now) }
 {
     has(value, "lm") || has(value, "t") || has(value, "o")
 }

@@ -1,6 +1,5 @@
 //! Components of each shape.
 ghost use Rattle.std.specs.Prelude.{◌≡◌, Some, IfOk, IfErr, option_to_list};
-ghost use Rattle.serde_json.specs.View.{view as data_view};
 ghost use Rattle.sdb_component.specs.Reads.{Unread, shaped};
 ghost use Rattle.sdb_value.specs.View.{plain_path};
 
@@ -11,20 +10,20 @@ use crate::paths::{index_last, key_last};
 use crate::piece::Piece;
 use crate::reading::OpFault;
 use crate::shape::Shape;
+use sdb_json::JsonData;
 use sdb_value::Step;
-use serde_json::Value;
 use std::alloc::Global;
 
 // What a component of the shape does at the path, or nothing where its text is empty.
-pub(crate) fn shaped(
+pub(crate) fn shaped<D: JsonData>(
     alloc: Global,
     shape: Shape,
     path: Vec<Step>,
-    value: &Value,
+    value: &D,
 ) -> Result<Option<Component>, OpFault>
-    ensures ok { IfOk result (λ c. shaped shape (plain_path path.items) (data_view value.now)
+    ensures ok { IfOk result (λ c. shaped shape (plain_path path.items) (D.json value.now)
         ≡ Some (option_to_list c)) }
-    ensures err { IfErr result (λ f. Unread (shaped shape (plain_path path.items) (data_view value.now)) f) }
+    ensures err { IfErr result (λ f. Unread (shaped shape (plain_path path.items) (D.json value.now)) f) }
 {
     match shape {
         Shape::Na => add_number(alloc, path, value),
@@ -39,10 +38,14 @@ pub(crate) fn shaped(
     }
 }
 
-fn add_number(alloc: Global, path: Vec<Step>, value: &Value) -> Result<Option<Component>, OpFault>
-    ensures ok { IfOk result (λ c. shaped Shape.Na (plain_path path.items) (data_view value.now)
+fn add_number<D: JsonData>(
+    alloc: Global,
+    path: Vec<Step>,
+    value: &D,
+) -> Result<Option<Component>, OpFault>
+    ensures ok { IfOk result (λ c. shaped Shape.Na (plain_path path.items) (D.json value.now)
         ≡ Some (option_to_list c)) }
-    ensures err { IfErr result (λ f. Unread (shaped Shape.Na (plain_path path.items) (data_view value.now)) f) }
+    ensures err { IfErr result (λ f. Unread (shaped Shape.Na (plain_path path.items) (D.json value.now)) f) }
 {
     match whole_at(value, "na") {
         Some(amount) => Ok(Some(Component::new(Path::new(alloc, path)?, Act::Na(amount)))),
@@ -50,10 +53,14 @@ fn add_number(alloc: Global, path: Vec<Step>, value: &Value) -> Result<Option<Co
     }
 }
 
-fn insert_text(alloc: Global, path: Vec<Step>, value: &Value) -> Result<Option<Component>, OpFault>
-    ensures ok { IfOk result (λ c. shaped Shape.Si (plain_path path.items) (data_view value.now)
+fn insert_text<D: JsonData>(
+    alloc: Global,
+    path: Vec<Step>,
+    value: &D,
+) -> Result<Option<Component>, OpFault>
+    ensures ok { IfOk result (λ c. shaped Shape.Si (plain_path path.items) (D.json value.now)
         ≡ Some (option_to_list c)) }
-    ensures err { IfErr result (λ f. Unread (shaped Shape.Si (plain_path path.items) (data_view value.now)) f) }
+    ensures err { IfErr result (λ f. Unread (shaped Shape.Si (plain_path path.items) (D.json value.now)) f) }
 {
     let (container, offset) = index_last(alloc, path)?;
     let text = text_at(alloc, value, "si")?;
@@ -63,10 +70,14 @@ fn insert_text(alloc: Global, path: Vec<Step>, value: &Value) -> Result<Option<C
     }
 }
 
-fn delete_text(alloc: Global, path: Vec<Step>, value: &Value) -> Result<Option<Component>, OpFault>
-    ensures ok { IfOk result (λ c. shaped Shape.Sd (plain_path path.items) (data_view value.now)
+fn delete_text<D: JsonData>(
+    alloc: Global,
+    path: Vec<Step>,
+    value: &D,
+) -> Result<Option<Component>, OpFault>
+    ensures ok { IfOk result (λ c. shaped Shape.Sd (plain_path path.items) (D.json value.now)
         ≡ Some (option_to_list c)) }
-    ensures err { IfErr result (λ f. Unread (shaped Shape.Sd (plain_path path.items) (data_view value.now)) f) }
+    ensures err { IfErr result (λ f. Unread (shaped Shape.Sd (plain_path path.items) (D.json value.now)) f) }
 {
     let (container, offset) = index_last(alloc, path)?;
     let text = text_at(alloc, value, "sd")?;
@@ -76,30 +87,42 @@ fn delete_text(alloc: Global, path: Vec<Step>, value: &Value) -> Result<Option<C
     }
 }
 
-fn insert_item(alloc: Global, path: Vec<Step>, value: &Value) -> Result<Option<Component>, OpFault>
-    ensures ok { IfOk result (λ c. shaped Shape.Li (plain_path path.items) (data_view value.now)
+fn insert_item<D: JsonData>(
+    alloc: Global,
+    path: Vec<Step>,
+    value: &D,
+) -> Result<Option<Component>, OpFault>
+    ensures ok { IfOk result (λ c. shaped Shape.Li (plain_path path.items) (D.json value.now)
         ≡ Some (option_to_list c)) }
-    ensures err { IfErr result (λ f. Unread (shaped Shape.Li (plain_path path.items) (data_view value.now)) f) }
+    ensures err { IfErr result (λ f. Unread (shaped Shape.Li (plain_path path.items) (D.json value.now)) f) }
 {
     let (container, index) = index_last(alloc, path)?;
     let new = value_at(alloc, value, "li")?;
     Ok(Some(Component::new(container, Act::Li(index, new))))
 }
 
-fn delete_item(alloc: Global, path: Vec<Step>, value: &Value) -> Result<Option<Component>, OpFault>
-    ensures ok { IfOk result (λ c. shaped Shape.Ld (plain_path path.items) (data_view value.now)
+fn delete_item<D: JsonData>(
+    alloc: Global,
+    path: Vec<Step>,
+    value: &D,
+) -> Result<Option<Component>, OpFault>
+    ensures ok { IfOk result (λ c. shaped Shape.Ld (plain_path path.items) (D.json value.now)
         ≡ Some (option_to_list c)) }
-    ensures err { IfErr result (λ f. Unread (shaped Shape.Ld (plain_path path.items) (data_view value.now)) f) }
+    ensures err { IfErr result (λ f. Unread (shaped Shape.Ld (plain_path path.items) (D.json value.now)) f) }
 {
     let (container, index) = index_last(alloc, path)?;
     let old = value_at(alloc, value, "ld")?;
     Ok(Some(Component::new(container, Act::Ld(index, old))))
 }
 
-fn replace_item(alloc: Global, path: Vec<Step>, value: &Value) -> Result<Option<Component>, OpFault>
-    ensures ok { IfOk result (λ c. shaped Shape.Lr (plain_path path.items) (data_view value.now)
+fn replace_item<D: JsonData>(
+    alloc: Global,
+    path: Vec<Step>,
+    value: &D,
+) -> Result<Option<Component>, OpFault>
+    ensures ok { IfOk result (λ c. shaped Shape.Lr (plain_path path.items) (D.json value.now)
         ≡ Some (option_to_list c)) }
-    ensures err { IfErr result (λ f. Unread (shaped Shape.Lr (plain_path path.items) (data_view value.now)) f) }
+    ensures err { IfErr result (λ f. Unread (shaped Shape.Lr (plain_path path.items) (D.json value.now)) f) }
 {
     let (container, index) = index_last(alloc, path)?;
     let old = value_at(alloc, value, "ld")?;
@@ -107,30 +130,42 @@ fn replace_item(alloc: Global, path: Vec<Step>, value: &Value) -> Result<Option<
     Ok(Some(Component::new(container, Act::Lr(index, old, new))))
 }
 
-fn insert_key(alloc: Global, path: Vec<Step>, value: &Value) -> Result<Option<Component>, OpFault>
-    ensures ok { IfOk result (λ c. shaped Shape.Oi (plain_path path.items) (data_view value.now)
+fn insert_key<D: JsonData>(
+    alloc: Global,
+    path: Vec<Step>,
+    value: &D,
+) -> Result<Option<Component>, OpFault>
+    ensures ok { IfOk result (λ c. shaped Shape.Oi (plain_path path.items) (D.json value.now)
         ≡ Some (option_to_list c)) }
-    ensures err { IfErr result (λ f. Unread (shaped Shape.Oi (plain_path path.items) (data_view value.now)) f) }
+    ensures err { IfErr result (λ f. Unread (shaped Shape.Oi (plain_path path.items) (D.json value.now)) f) }
 {
     let (container, key) = key_last(alloc, path)?;
     let new = value_at(alloc, value, "oi")?;
     Ok(Some(Component::new(container, Act::Oi(key, new))))
 }
 
-fn delete_key(alloc: Global, path: Vec<Step>, value: &Value) -> Result<Option<Component>, OpFault>
-    ensures ok { IfOk result (λ c. shaped Shape.Od (plain_path path.items) (data_view value.now)
+fn delete_key<D: JsonData>(
+    alloc: Global,
+    path: Vec<Step>,
+    value: &D,
+) -> Result<Option<Component>, OpFault>
+    ensures ok { IfOk result (λ c. shaped Shape.Od (plain_path path.items) (D.json value.now)
         ≡ Some (option_to_list c)) }
-    ensures err { IfErr result (λ f. Unread (shaped Shape.Od (plain_path path.items) (data_view value.now)) f) }
+    ensures err { IfErr result (λ f. Unread (shaped Shape.Od (plain_path path.items) (D.json value.now)) f) }
 {
     let (container, key) = key_last(alloc, path)?;
     let old = value_at(alloc, value, "od")?;
     Ok(Some(Component::new(container, Act::Od(key, old))))
 }
 
-fn replace_key(alloc: Global, path: Vec<Step>, value: &Value) -> Result<Option<Component>, OpFault>
-    ensures ok { IfOk result (λ c. shaped Shape.Or (plain_path path.items) (data_view value.now)
+fn replace_key<D: JsonData>(
+    alloc: Global,
+    path: Vec<Step>,
+    value: &D,
+) -> Result<Option<Component>, OpFault>
+    ensures ok { IfOk result (λ c. shaped Shape.Or (plain_path path.items) (D.json value.now)
         ≡ Some (option_to_list c)) }
-    ensures err { IfErr result (λ f. Unread (shaped Shape.Or (plain_path path.items) (data_view value.now)) f) }
+    ensures err { IfErr result (λ f. Unread (shaped Shape.Or (plain_path path.items) (D.json value.now)) f) }
 {
     let (container, key) = key_last(alloc, path)?;
     let old = value_at(alloc, value, "od")?;

@@ -2,7 +2,7 @@
 ghost use Rattle.std.specs.Prelude.{◌≡◌, ◌++◌, [], IfOk, IfSome, OnOk, option_map, codes};
 ghost use Rattle.json.specs.Print.{print};
 ghost use Rattle.serde_json.specs.Data.{Data, Members, member, no_members};
-ghost use Rattle.serde_json.specs.View.{view as data_view};
+ghost use Rattle.sdb_json.specs.Tree.{view as tree_view};
 ghost use Rattle.sdb_value.specs.Printed.{data_tokens, object_rest};
 ghost use Rattle.sdb_oplog.specs.Keys.{plain_key};
 ghost use Rattle.sdb_dump.specs.Lines.{shown_moment, arrived_members, arrived_data, moment_then, with_content, line_tail, line_data, line_text, arrived_of, sent_of, submission_of, moment_of, line_of, read_line};
@@ -14,12 +14,12 @@ use crate::version::DumpVersion;
 use json::Writer;
 use sdb_component::laws::read_keeps;
 use sdb_component::write_op;
+use sdb_json::{JsonData, JsonTree, Scratch};
 use sdb_oplog::{Code, Content, Entry, Key, Kind, Moment, Submission};
 use sdb_wire::{
     count_at, key_of, may_count, moment_of as moment_in, need_name, read_content, refusal,
     write_count, write_create, write_text,
 };
-use serde_json::Value;
 use std::alloc::{AllocError, Global};
 use std::mem;
 
@@ -202,19 +202,19 @@ pub(crate) fn read_line(
     let Ok(text) = str::from_utf8(line) else {
         return Ok(None);
     };
-    match Value::from_str(alloc, text) {
-        Ok(value) => line_of(alloc, version, &value),
-        Err(error) => {
-            if error.is_memory() {
-                return Err(AllocError);
-            }
-            Ok(None)
-        }
+    let mut scratch = Scratch::new(alloc);
+    match JsonTree::from_str(alloc, text, &mut scratch)? {
+        Some(value) => line_of(alloc, version, &value),
+        None => Ok(None),
     }
 }
 
-fn line_of(alloc: Global, version: DumpVersion, value: &Value) -> Result<Option<Line>, AllocError>
-    ensures line { IfOk result (λ l. option_map plain_line l ≡ line_of version (data_view value.now)) }
+fn line_of(
+    alloc: Global,
+    version: DumpVersion,
+    value: &JsonTree<'_>,
+) -> Result<Option<Line>, AllocError>
+    ensures line { IfOk result (λ l. option_map plain_line l ≡ line_of version (tree_view value.now)) }
     ensures fits { IfOk result (λ l. IfSome l (λ l. FitsKey (plain_key l.key) × FitsSubmission l.submission)) }
 {
     read_keeps();
@@ -236,8 +236,8 @@ fn line_of(alloc: Global, version: DumpVersion, value: &Value) -> Result<Option<
     }))
 }
 
-fn moment_of(version: DumpVersion, value: &Value) -> Option<Moment>
-    ensures { result ≡ moment_of version (data_view value.now) }
+fn moment_of(version: DumpVersion, value: &JsonTree<'_>) -> Option<Moment>
+    ensures { result ≡ moment_of version (tree_view value.now) }
 {
     match version {
         DumpVersion::One => Some(Moment::first()),
@@ -245,8 +245,8 @@ fn moment_of(version: DumpVersion, value: &Value) -> Option<Moment>
     }
 }
 
-fn submission_of(alloc: Global, value: &Value) -> Result<Option<Submission>, AllocError>
-    ensures { IfOk result (λ s. s ≡ submission_of (data_view value.now)) }
+fn submission_of(alloc: Global, value: &JsonTree<'_>) -> Result<Option<Submission>, AllocError>
+    ensures { IfOk result (λ s. s ≡ submission_of (tree_view value.now)) }
 {
     let Some(arrived) = value.get("arrived") else {
         return Ok(None);
@@ -263,12 +263,12 @@ fn submission_of(alloc: Global, value: &Value) -> Result<Option<Submission>, All
 // The submission, with who sent it and through which collection.
 fn sent_of(
     alloc: Global,
-    value: &Value,
+    value: &JsonTree<'_>,
     content: Content,
     version: Option<u64>,
     seq: u64,
 ) -> Result<Option<Submission>, AllocError>
-    ensures { IfOk result (λ s. s ≡ sent_of (data_view value.now) (content, version) seq) }
+    ensures { IfOk result (λ s. s ≡ sent_of (tree_view value.now) (content, version) seq) }
 {
     let Some(src) = unless_refused(need_name(alloc, value, "src"))? else {
         return Ok(None);
@@ -283,8 +283,11 @@ fn sent_of(
     Ok(Some(submission))
 }
 
-fn arrived_of(alloc: Global, value: &Value) -> Result<Option<(Content, Option<u64>)>, AllocError>
-    ensures { IfOk result (λ a. a ≡ arrived_of (data_view value.now)) }
+fn arrived_of(
+    alloc: Global,
+    value: &JsonTree<'_>,
+) -> Result<Option<(Content, Option<u64>)>, AllocError>
+    ensures { IfOk result (λ a. a ≡ arrived_of (tree_view value.now)) }
 {
     let Some(content) = unless_refused(read_content(alloc, value))? else {
         return Ok(None);

@@ -1,7 +1,8 @@
 //! `sdb_component`: operations read, copied, weighed and printed. What is refused is in the lines of the server.
-use crate::texts::{component, each_row, is_printed, op, op_of, parsed, says, text_of};
+use crate::texts::{component, each_row, is_op, is_printed, op, op_of, parsed, says, text_of};
 use json::Writer;
-use sdb_component::{Component, Op, OpFault, weight, write_op};
+use sdb_component::{Component, Op, OpFault, Path, weight, write_op};
+use sdb_value::same_path;
 use serde_json::Value;
 use std::alloc::Global;
 use std::process::Abort;
@@ -87,6 +88,59 @@ fn one_component_is_given_up(rt: HostRuntime) {
         is_printed(&rt, rt.alloc(), &listed, r#"[{"na":1,"p":["n"]}]"#)
             && listed.into_one().is_err()
     );
+}
+
+// Rows of an operation of one component, whose path another one is to share, and of that other one.
+const SHARED: &str = r#"[
+  [[{"na":1,"p":["a",0]}], [{"na":2,"p":["a",0]}]],
+  [[{"na":1,"p":["a",0]}], [{"na":2,"p":["a",1]}]],
+  [[{"na":1,"p":["a",0]}], [{"na":2,"p":[]}]],
+  [[{"na":1,"p":["a",0]}], [{"na":2,"p":["a",0]},{"na":3,"p":["a",0]}]]
+]"#;
+
+// Whether the other one is the same with the path.
+fn is_same_with(rt: &impl Abort, alloc: Global, row: &[Value]) -> bool {
+    let [first, other] = row else {
+        return false;
+    };
+    let path = component(rt, alloc, first)
+        .shared_path()
+        .expect(rt, "shared");
+    let shares = op_of(rt, alloc, other)
+        .with_path(&path)
+        .expect(rt, "shared");
+    is_op(rt, alloc, &shares, other)
+}
+
+#[test]
+fn an_operation_that_shares_a_path_is_the_same(rt: HostRuntime) {
+    each_row(&rt, rt.alloc(), SHARED, is_same_with);
+}
+
+// Rows of an operation of one component, and how large its path is up to 3 and up to 9.
+const PATHS: &str = r#"[
+  [[{"na":1,"p":["ab",0]}], 3, 4],
+  [[{"na":1,"p":[]}], 0, 0]
+]"#;
+
+// Whether the steps are given up of a path that another shares, and then of the last one.
+fn gives_its_steps(rt: &impl Abort, alloc: Global, row: &[Value]) -> bool {
+    let [first, few, all] = row else {
+        return false;
+    };
+    let (path, _) = component(rt, alloc, first).into_parts();
+    let other = path.try_clone().expect(rt, "shared");
+    let copied = path.into_steps(alloc).expect(rt, "out of memory");
+    let given = other.into_steps(alloc).expect(rt, "out of memory");
+    let again = Path::new(alloc, given).expect(rt, "out of memory");
+    same_path(copied.as_slice(), again.steps())
+        && few.as_u64() == Some(again.size(3))
+        && all.as_u64() == Some(again.size(9))
+}
+
+#[test]
+fn the_steps_of_a_path_are_given_up(rt: HostRuntime) {
+    each_row(&rt, rt.alloc(), PATHS, gives_its_steps);
 }
 
 #[test]

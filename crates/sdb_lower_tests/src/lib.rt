@@ -14,6 +14,8 @@ mod growlock;
 #[cfg(test)]
 mod growths;
 #[cfg(test)]
+mod json_tree;
+#[cfg(test)]
 mod lines;
 #[cfg(test)]
 mod meet;

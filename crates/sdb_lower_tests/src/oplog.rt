@@ -1,11 +1,13 @@
 //! `sdb_oplog`: what no line shows: whole replays, entries compared, one content over another.
 ghost use Rattle.std.specs.Prelude.{◌≡◌};
 
+use crate::texts::{is_op, op_of, parsed};
 use sdb_component::Op;
 use sdb_oplog::{
-    Code, Content, Entry, Kind, Log, Moment, Submission, copy_entries, over, same_entries,
+    Code, Content, Entry, Kind, LastPath, Log, Moment, Submission, copy_entries, over, same_entries,
 };
 use sdb_value::Json;
+use serde_json::Value;
 use std::alloc::Global;
 use std::process::Abort;
 
@@ -97,4 +99,40 @@ fn a_content_over_another(rt: HostRuntime) {
         matches!(over(rt.alloc(), &edit, &delete), Err(Code::E5))
             && is_delete(&over(rt.alloc(), &delete, &edit))
     );
+}
+
+// Edits, one after the other.
+const EDITS: &str = r#"[
+  [{"na":1,"p":["n"]}],
+  [{"na":2,"p":["n"]}],
+  [{"oi":3,"p":["m"]}],
+  [{"na":4,"p":[]},{"na":5,"p":[]}],
+  [{"na":6,"p":["n"]}]
+]"#;
+
+// The edit by the operation, which shares the last path.
+fn edit_after(rt: &impl Abort, alloc: Global, last: &mut LastPath, op: &Value) -> Content {
+    let edit = Content::edit(alloc, op_of(rt, alloc, op)).expect(rt, "out of memory");
+    last.share(alloc, edit).expect(rt, "out of memory")
+}
+
+fn is_edit_by(rt: &impl Abort, alloc: Global, content: &Content, op: &Value) -> bool {
+    match content.kind() {
+        Kind::Edit(edit) => is_op(rt, alloc, edit, op),
+        _ => false,
+    }
+}
+
+#[test]
+fn edits_share_the_last_path(rt: HostRuntime) {
+    let mut last = LastPath::new();
+    let edits = parsed(&rt, rt.alloc(), EDITS);
+    for op in edits.as_array().expect(&rt, "edits") {
+        let edit = edit_after(&rt, rt.alloc(), &mut last, op);
+        assert!(rt; is_edit_by(&rt, rt.alloc(), &edit, op));
+    }
+    let delete = last
+        .share(rt.alloc(), Content::delete())
+        .expect(&rt, "out of memory");
+    assert!(rt; matches!(delete.kind(), Kind::Delete));
 }

@@ -4,7 +4,7 @@ use Rattle.std.specs.Borrow.{Bor}
 use Rattle.std.specs.Option.{is_some}
 use Rattle.std.specs.declared.alloc.AllocError.{AllocError}
 use Rattle.std.specs.declared.alloc.Global.{Global}
-use Rattle.serde_json.specs.declared.value.Value.{Value}
+use Rattle.sdb_json.specs.declared.tree.JsonTree.{JsonTree}
 use Rattle.sdb_oplog.specs.Plain.{PlainEntry}
 use Rattle.sdb_oplog.specs.Keys.{plain_key}
 use Rattle.sdb_oplog.specs.declared.keys.Key.{Key}
@@ -36,7 +36,7 @@ abbrev pub has_ended : Session → Bool
 has_ended s = is_some s.ended
 
 -- what an error shows of a message
-abbrev pub shown_of : Option (Bor Value) → PlainEcho
+abbrev pub shown_of : Option (Bor JsonTree) → PlainEcho
 shown_of m = echo_from (option_map (λ v. v.now) m)
 
 abbrev pub plain_through : Option (Bor Projection) → Option PlainProjection

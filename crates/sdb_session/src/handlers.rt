@@ -19,12 +19,12 @@ use crate::reply_sink::ReplySink;
 use crate::session::{SUBSCRIPTION_LIMIT, Session};
 use crate::subscriptions::{Subscription, close, first_count};
 use sdb_desk::{Fetched, Subscribed};
+use sdb_json::JsonTree;
 use sdb_oplog::{Code, Content, Key, Moment, Submission};
 use sdb_projection::{Projection, Table};
 use sdb_submit::{Desk, NoGate, submit};
 use sdb_value::Json;
 use sdb_wire::{Answer, Request};
-use serde_json::Value;
 use std::alloc::{AllocError, Global};
 
 // What a message submits, and when: its version, number, source and content.
@@ -60,7 +60,7 @@ impl Session {
         desk: &D,
         pass: &mut D::Pass,
         table: &Table,
-        message: Option<&Value>,
+        message: Option<&JsonTree<'_>>,
         request: Request,
         now: Moment,
         out: &mut O,
@@ -134,7 +134,7 @@ impl Session {
         desk: &D,
         pass: &mut D::Pass,
         table: &Table,
-        message: Option<&Value>,
+        message: Option<&JsonTree<'_>>,
         key: &Key,
         version: Option<u64>,
         out: &mut O,
@@ -161,7 +161,7 @@ impl Session {
         desk: &D,
         pass: &mut D::Pass,
         table: &Table,
-        message: Option<&Value>,
+        message: Option<&JsonTree<'_>>,
         key: &Key,
         out: &mut O,
     ) -> Result<(), AllocError>
@@ -190,7 +190,7 @@ impl Session {
         desk: &D,
         pass: &mut D::Pass,
         table: &Table,
-        message: Option<&Value>,
+        message: Option<&JsonTree<'_>>,
         key: &Key,
         from: u64,
         out: &mut O,
@@ -226,7 +226,7 @@ impl Session {
         desk: &D,
         pass: &mut D::Pass,
         table: &Table,
-        message: Option<&Value>,
+        message: Option<&JsonTree<'_>>,
         key: &Key,
         sent: Sent,
         out: &mut O,
@@ -299,7 +299,7 @@ impl Session {
         desk: &D,
         pass: &mut D::Pass,
         table: &Table,
-        message: Option<&Value>,
+        message: Option<&JsonTree<'_>>,
         asked: SnapshotRequest,
         out: &mut O,
     ) -> Result<(), AllocError>
@@ -329,7 +329,7 @@ impl Session {
         desk: &D,
         pass: &mut D::Pass,
         table: &Table,
-        message: Option<&Value>,
+        message: Option<&JsonTree<'_>>,
         asked: MomentRequest,
         out: &mut O,
     ) -> Result<(), AllocError>
@@ -359,7 +359,7 @@ impl Session {
         desk: &D,
         pass: &mut D::Pass,
         table: &Table,
-        message: Option<&Value>,
+        message: Option<&JsonTree<'_>>,
         key: Key,
         version: Option<u64>,
         out: &mut O,

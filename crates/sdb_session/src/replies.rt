@@ -14,11 +14,11 @@ use crate::projected::{Target, seen_content, seen_document};
 use crate::reply_sink::ReplySink;
 use crate::texts::Texts;
 use sdb_desk::{Reply, Subscribed};
+use sdb_json::JsonTree;
 use sdb_oplog::{Code, Entry, Key, Submission};
 use sdb_projection::Projection;
 use sdb_value::Json;
 use sdb_wire::{Answer, echo_of};
-use serde_json::Value;
 use std::alloc::{AllocError, Global};
 
 // Writes one answer.
@@ -35,7 +35,7 @@ pub(crate) fn say<O: ReplySink>(
 // Writes the error reply to a message.
 pub(crate) fn refuse<O: ReplySink>(
     alloc: Global,
-    message: Option<&Value>,
+    message: Option<&JsonTree<'_>>,
     code: Code,
     out: &mut O,
 ) -> Result<(), AllocError>
@@ -146,7 +146,7 @@ pub(crate) fn say_reply<O: ReplySink>(
     alloc: Global,
     texts: Option<&Texts>,
     target: &Target<'_>,
-    message: Option<&Value>,
+    message: Option<&JsonTree<'_>>,
     submission: &Submission,
     reply: &Reply,
     out: &mut O,

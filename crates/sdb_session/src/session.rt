@@ -13,6 +13,7 @@ use crate::reply_sink::ReplySink;
 use crate::subscriptions::Subscription;
 use crate::texts::Texts;
 use indexmap::IndexMap;
+use sdb_json::Scratch;
 use sdb_oplog::{Code, Key, LastPath, Moment};
 use sdb_projection::Table;
 use sdb_submit::Desk;
@@ -22,6 +23,9 @@ use std::sync::Arc;
 
 /// The most pairs of a collection name and an id that one session subscribes to.
 pub const SUBSCRIPTION_LIMIT: usize = 64;
+
+// The longest message whose scratch is kept, in bytes: 4,096.
+const SCRATCH_LIMIT: usize = 4_096;
 
 /// Why a session is at its end: a message, a name or the text of an answer found no memory.
 #[derive(Clone, Copy, Drop)]
@@ -45,6 +49,8 @@ pub struct Session {
     pub(crate) names: Names,
     pub(crate) last_path: LastPath,
     texts: Option<Arc<Texts>>,
+    // Room for reading, kept from message to message.
+    scratch: Option<Box<Scratch>>,
     pub(crate) ended: Option<Ended>,
 }
 
@@ -63,6 +69,7 @@ impl Session {
             names: Names::new(alloc),
             last_path: LastPath::new(),
             texts: None,
+            scratch: None,
             ended: None,
         }
     }
@@ -201,17 +208,43 @@ impl Session {
             (Wrote O.pieces (O.written out.old) (O.written out.new))
             (plain_session self.old) pass.old (plain_session self.new) pass.new }
     {
-        let Message { json, request } = parse_message(self.alloc, text)?;
-        let message = json.as_ref();
-        match request {
-            Ok(request) => {
-                self.answer_request(desk, pass, table, message, request, now, out)?;
-                Ok(true)
+        let mut scratch = self.take_scratch()?;
+        let is_request = {
+            let Message { json, request } = parse_message(self.alloc, text, &mut scratch)?;
+            let message = json.as_ref();
+            match request {
+                Ok(request) => {
+                    self.answer_request(desk, pass, table, message, request, now, out)?;
+                    true
+                }
+                Err(code) => {
+                    refuse(self.alloc, message, code, out)?;
+                    false
+                }
             }
-            Err(code) => {
-                refuse(self.alloc, message, code, out)?;
-                Ok(false)
-            }
+        };
+        self.keep_scratch(scratch, text);
+        Ok(is_request)
+    }
+
+    // Room to read a message: what the last one left, or some that is new.
+    fn take_scratch(&mut self) -> Result<Box<Scratch>, AllocError>
+        ensures session { plain_session self.new ≡ plain_session self.old }
+        ensures ended { self.new.ended ≡ self.old.ended }
+    {
+        match self.scratch.take() {
+            Some(scratch) => Ok(scratch),
+            None => boxed(self.alloc),
+        }
+    }
+
+    // Keeps it for the next message. What a long one took goes with it.
+    fn keep_scratch(&mut self, scratch: Box<Scratch>, text: &str)
+        ensures session { plain_session self.new ≡ plain_session self.old }
+        ensures ended { self.new.ended ≡ self.old.ended }
+    {
+        if text.len() <= SCRATCH_LIMIT {
+            self.scratch = Some(scratch);
         }
     }
 
@@ -244,4 +277,8 @@ impl Session {
         self.ended = Some(ended);
         ended
     }
+}
+
+fn boxed(alloc: Global) -> Result<Box<Scratch>, AllocError> {
+    Ok(Box::new(alloc, Scratch::new(alloc))?)
 }

@@ -1,17 +1,17 @@
 //! Reads the lines of steps.
 ghost use Rattle.std.specs.Prelude.{◌≡◌, Ok, IfOk, IfErr, option_map};
-ghost use Rattle.serde_json.specs.View.{view as data_view};
+ghost use Rattle.sdb_json.specs.Tree.{view as tree_view};
 ghost use Rattle.sdb_oplog.specs.Refused.{RefusedBy};
 ghost use Rattle.sdb_steps.specs.Lines.{session_of, begin_of, now_of, commit_of, fetch_of, snapshot_of, at_time_of, subscribe_of, take_of, unsubscribe_of, forget_of, act_of, step_of, read_step};
 ghost use Rattle.sdb_steps.specs.View.{plain_step};
 
 use crate::session_number::SessionNumber;
 use crate::step::Step;
+use sdb_json::{JsonData, JsonTree, Scratch};
 use sdb_oplog::{Code, Moment};
 use sdb_wire::{
     count_at, key_of, may_count, may_moment, moment_of, need_name, read_content, value_of,
 };
-use serde_json::Value;
 use std::alloc::Global;
 
 /// The step that a line is, or the first code in order, E1 to E3. E10 is want of memory.
@@ -19,16 +19,17 @@ pub fn read_step(alloc: Global, text: &str) -> Result<Step, Code>
     ensures ok { IfOk result (λ s. read_step text.now ≡ Ok (plain_step s)) }
     ensures err { IfErr result (λ code. RefusedBy (read_step text.now) code) }
 {
-    match value_of(alloc, text) {
+    let mut scratch = Scratch::new(alloc);
+    match value_of(alloc, text, &mut scratch) {
         Ok(Some(value)) => step_of(alloc, &value),
         Ok(None) => Err(Code::E1),
         Err(error) => Err(Code::from(error)),
     }
 }
 
-fn step_of(alloc: Global, value: &Value) -> Result<Step, Code>
-    ensures ok { IfOk result (λ s. step_of (data_view value.now) ≡ Ok (plain_step s)) }
-    ensures err { IfErr result (λ code. RefusedBy (step_of (data_view value.now)) code) }
+fn step_of(alloc: Global, value: &JsonTree<'_>) -> Result<Step, Code>
+    ensures ok { IfOk result (λ s. step_of (tree_view value.now) ≡ Ok (plain_step s)) }
+    ensures err { IfErr result (λ code. RefusedBy (step_of (tree_view value.now)) code) }
 {
     match session_of(value) {
         Some(session) => act_of(alloc, session, value),
@@ -36,17 +37,17 @@ fn step_of(alloc: Global, value: &Value) -> Result<Step, Code>
     }
 }
 
-fn session_of(value: &Value) -> Option<SessionNumber>
-    ensures { option_map (λ n. n.number) result ≡ session_of (data_view value.now) }
+fn session_of(value: &JsonTree<'_>) -> Option<SessionNumber>
+    ensures { option_map (λ n. n.number) result ≡ session_of (tree_view value.now) }
 {
     SessionNumber::new(count_at(value, "s")?)
 }
 
-fn act_of(alloc: Global, session: SessionNumber, value: &Value) -> Result<Step, Code>
-    ensures ok { IfOk result (λ s. act_of session.number (data_view value.now) ≡ Ok (plain_step s)) }
-    ensures err { IfErr result (λ code. RefusedBy (act_of session.number (data_view value.now)) code) }
+fn act_of(alloc: Global, session: SessionNumber, value: &JsonTree<'_>) -> Result<Step, Code>
+    ensures ok { IfOk result (λ s. act_of session.number (tree_view value.now) ≡ Ok (plain_step s)) }
+    ensures err { IfErr result (λ code. RefusedBy (act_of session.number (tree_view value.now)) code) }
 {
-    match value.get("do").and_then(Value::as_str) {
+    match value.get("do").and_then(JsonTree::as_str) {
         Some("begin") => begin_of(alloc, session, value),
         Some("work") => Ok(Step::Work { session }),
         Some("commit") => commit_of(session, value),
@@ -61,9 +62,9 @@ fn act_of(alloc: Global, session: SessionNumber, value: &Value) -> Result<Step, 
     }
 }
 
-fn begin_of(alloc: Global, session: SessionNumber, value: &Value) -> Result<Step, Code>
-    ensures ok { IfOk result (λ s. begin_of session.number (data_view value.now) ≡ Ok (plain_step s)) }
-    ensures err { IfErr result (λ code. RefusedBy (begin_of session.number (data_view value.now)) code) }
+fn begin_of(alloc: Global, session: SessionNumber, value: &JsonTree<'_>) -> Result<Step, Code>
+    ensures ok { IfOk result (λ s. begin_of session.number (tree_view value.now) ≡ Ok (plain_step s)) }
+    ensures err { IfErr result (λ code. RefusedBy (begin_of session.number (tree_view value.now)) code) }
 {
     let key = key_of(alloc, value)?;
     let Ok(version) = may_count(value, "v") else {
@@ -85,8 +86,8 @@ fn begin_of(alloc: Global, session: SessionNumber, value: &Value) -> Result<Step
 }
 
 // The moment of a commit: the first one where it is absent.
-fn now_of(value: &Value) -> Result<Moment, Code>
-    ensures { result ≡ now_of (data_view value.now) }
+fn now_of(value: &JsonTree<'_>) -> Result<Moment, Code>
+    ensures { result ≡ now_of (tree_view value.now) }
 {
     match value.get("ms") {
         None => Ok(Moment::first()),
@@ -97,9 +98,9 @@ fn now_of(value: &Value) -> Result<Moment, Code>
     }
 }
 
-fn commit_of(session: SessionNumber, value: &Value) -> Result<Step, Code>
-    ensures ok { IfOk result (λ s. commit_of session.number (data_view value.now) ≡ Ok (plain_step s)) }
-    ensures err { IfErr result (λ code. RefusedBy (commit_of session.number (data_view value.now)) code) }
+fn commit_of(session: SessionNumber, value: &JsonTree<'_>) -> Result<Step, Code>
+    ensures ok { IfOk result (λ s. commit_of session.number (tree_view value.now) ≡ Ok (plain_step s)) }
+    ensures err { IfErr result (λ code. RefusedBy (commit_of session.number (tree_view value.now)) code) }
 {
     match now_of(value) {
         Ok(now) => Ok(Step::Commit { session, now }),
@@ -107,17 +108,17 @@ fn commit_of(session: SessionNumber, value: &Value) -> Result<Step, Code>
     }
 }
 
-fn fetch_of(alloc: Global, session: SessionNumber, value: &Value) -> Result<Step, Code>
-    ensures ok { IfOk result (λ s. fetch_of session.number (data_view value.now) ≡ Ok (plain_step s)) }
-    ensures err { IfErr result (λ code. RefusedBy (fetch_of session.number (data_view value.now)) code) }
+fn fetch_of(alloc: Global, session: SessionNumber, value: &JsonTree<'_>) -> Result<Step, Code>
+    ensures ok { IfOk result (λ s. fetch_of session.number (tree_view value.now) ≡ Ok (plain_step s)) }
+    ensures err { IfErr result (λ code. RefusedBy (fetch_of session.number (tree_view value.now)) code) }
 {
     let key = key_of(alloc, value)?;
     Ok(Step::Fetch { session, key })
 }
 
-fn snapshot_of(alloc: Global, session: SessionNumber, value: &Value) -> Result<Step, Code>
-    ensures ok { IfOk result (λ s. snapshot_of session.number (data_view value.now) ≡ Ok (plain_step s)) }
-    ensures err { IfErr result (λ code. RefusedBy (snapshot_of session.number (data_view value.now)) code) }
+fn snapshot_of(alloc: Global, session: SessionNumber, value: &JsonTree<'_>) -> Result<Step, Code>
+    ensures ok { IfOk result (λ s. snapshot_of session.number (tree_view value.now) ≡ Ok (plain_step s)) }
+    ensures err { IfErr result (λ code. RefusedBy (snapshot_of session.number (tree_view value.now)) code) }
 {
     let key = key_of(alloc, value)?;
     match may_count(value, "v") {
@@ -130,9 +131,9 @@ fn snapshot_of(alloc: Global, session: SessionNumber, value: &Value) -> Result<S
     }
 }
 
-fn at_time_of(alloc: Global, session: SessionNumber, value: &Value) -> Result<Step, Code>
-    ensures ok { IfOk result (λ s. at_time_of session.number (data_view value.now) ≡ Ok (plain_step s)) }
-    ensures err { IfErr result (λ code. RefusedBy (at_time_of session.number (data_view value.now)) code) }
+fn at_time_of(alloc: Global, session: SessionNumber, value: &JsonTree<'_>) -> Result<Step, Code>
+    ensures ok { IfOk result (λ s. at_time_of session.number (tree_view value.now) ≡ Ok (plain_step s)) }
+    ensures err { IfErr result (λ code. RefusedBy (at_time_of session.number (tree_view value.now)) code) }
 {
     let key = key_of(alloc, value)?;
     match may_moment(value, "ts") {
@@ -145,9 +146,9 @@ fn at_time_of(alloc: Global, session: SessionNumber, value: &Value) -> Result<St
     }
 }
 
-fn subscribe_of(alloc: Global, session: SessionNumber, value: &Value) -> Result<Step, Code>
-    ensures ok { IfOk result (λ s. subscribe_of session.number (data_view value.now) ≡ Ok (plain_step s)) }
-    ensures err { IfErr result (λ code. RefusedBy (subscribe_of session.number (data_view value.now)) code) }
+fn subscribe_of(alloc: Global, session: SessionNumber, value: &JsonTree<'_>) -> Result<Step, Code>
+    ensures ok { IfOk result (λ s. subscribe_of session.number (tree_view value.now) ≡ Ok (plain_step s)) }
+    ensures err { IfErr result (λ code. RefusedBy (subscribe_of session.number (tree_view value.now)) code) }
 {
     let key = key_of(alloc, value)?;
     match may_count(value, "v") {
@@ -160,9 +161,9 @@ fn subscribe_of(alloc: Global, session: SessionNumber, value: &Value) -> Result<
     }
 }
 
-fn take_of(alloc: Global, session: SessionNumber, value: &Value) -> Result<Step, Code>
-    ensures ok { IfOk result (λ s. take_of session.number (data_view value.now) ≡ Ok (plain_step s)) }
-    ensures err { IfErr result (λ code. RefusedBy (take_of session.number (data_view value.now)) code) }
+fn take_of(alloc: Global, session: SessionNumber, value: &JsonTree<'_>) -> Result<Step, Code>
+    ensures ok { IfOk result (λ s. take_of session.number (tree_view value.now) ≡ Ok (plain_step s)) }
+    ensures err { IfErr result (λ code. RefusedBy (take_of session.number (tree_view value.now)) code) }
 {
     let key = key_of(alloc, value)?;
     match count_at(value, "max") {
@@ -171,17 +172,17 @@ fn take_of(alloc: Global, session: SessionNumber, value: &Value) -> Result<Step,
     }
 }
 
-fn unsubscribe_of(alloc: Global, session: SessionNumber, value: &Value) -> Result<Step, Code>
-    ensures ok { IfOk result (λ s. unsubscribe_of session.number (data_view value.now) ≡ Ok (plain_step s)) }
-    ensures err { IfErr result (λ code. RefusedBy (unsubscribe_of session.number (data_view value.now)) code) }
+fn unsubscribe_of(alloc: Global, session: SessionNumber, value: &JsonTree<'_>) -> Result<Step, Code>
+    ensures ok { IfOk result (λ s. unsubscribe_of session.number (tree_view value.now) ≡ Ok (plain_step s)) }
+    ensures err { IfErr result (λ code. RefusedBy (unsubscribe_of session.number (tree_view value.now)) code) }
 {
     let key = key_of(alloc, value)?;
     Ok(Step::Unsubscribe { session, key })
 }
 
-fn forget_of(alloc: Global, session: SessionNumber, value: &Value) -> Result<Step, Code>
-    ensures ok { IfOk result (λ s. forget_of session.number (data_view value.now) ≡ Ok (plain_step s)) }
-    ensures err { IfErr result (λ code. RefusedBy (forget_of session.number (data_view value.now)) code) }
+fn forget_of(alloc: Global, session: SessionNumber, value: &JsonTree<'_>) -> Result<Step, Code>
+    ensures ok { IfOk result (λ s. forget_of session.number (tree_view value.now) ≡ Ok (plain_step s)) }
+    ensures err { IfErr result (λ code. RefusedBy (forget_of session.number (tree_view value.now)) code) }
 {
     let key = key_of(alloc, value)?;
     Ok(Step::Forget { session, key })

@@ -1,18 +1,20 @@
-//! From `serde_json`'s `Value`.
-ghost use Rattle.std.specs.Prelude.{◌≡◌, ◌<◌, ◌≤◌, true, Some, None, IfOk, IfErr, option_map};
+//! From JSON that is read.
+ghost use Rattle.std.specs.Prelude.{◌≡◌, ◌≤◌, map, true, Some, None, IfOk, IfErr};
 ghost use Rattle.sdb_value.specs.Value.{depth, items_depth, members_depth};
 ghost use Rattle.sdb_value.specs.Owns.{is_own, items_own, map_own};
 ghost use Rattle.sdb_value.specs.Profile.{of_data, of_items, of_members, in_profile};
 ghost use Rattle.sdb_value.specs.Profile.{Unread, Refuses, RefusesItems, RefusesMembers};
 ghost use Rattle.sdb_value.specs.View.{view, items_view, map_view};
+ghost use Rattle.serde_json.specs.Find.{as_array, as_object};
 ghost use Rattle.serde_json.specs.View as raw;
+ghost use Rattle.sdb_json.specs.Tree.{sorted_members};
 
 use crate::lists::push_item;
 use crate::members::put_entry;
 use crate::numbers::whole_of;
 use crate::value::Json;
+use sdb_json::JsonData;
 use sdb_text::Text;
-use serde_json::{Map, Value};
 use std::alloc::{AllocError, Global};
 use std::collections::BTreeMap;
 use thiserror::Error;
@@ -44,51 +46,67 @@ impl From<AllocError> for ValueFault {
 /// The value of the profile that a JSON value is: each number whole, from -9007199254740991 to
 /// 9007199254740991, and lists and objects at most 50 deep. Where more than one thing is outside the
 /// profile, the error names the one that is met first.
-pub fn from_value(alloc: Global, value: &Value) -> Result<Json, ValueFault>
-    ensures ok { IfOk result (λ j. in_profile (raw.view value.now) ≡ Some (view j)) }
-    ensures err { IfErr result (λ f. Unread (in_profile (raw.view value.now)) f) }
-    ensures cause { IfErr result (λ f. Refuses 50 (raw.view value.now) f) }
+pub fn from_value<D: JsonData>(alloc: Global, value: &D) -> Result<Json, ValueFault>
+    ensures ok { IfOk result (λ j. in_profile (D.json value.now) ≡ Some (view j)) }
+    ensures err { IfErr result (λ f. Unread (in_profile (D.json value.now)) f) }
+    ensures cause { IfErr result (λ f. Refuses 50 (D.json value.now) f) }
     ensures own { IfOk result (λ j. is_own j ≡ true) }
 {
     read(alloc, value, 50)
 }
 
 #[cycle(read)]
-fn read(alloc: Global, value: &Value, left: u64) -> Result<Json, ValueFault>
-    ensures ok { IfOk result (λ j. of_data (raw.view value.now) ≡ Some (view j)) }
+fn read<D: JsonData>(alloc: Global, value: &D, left: u64) -> Result<Json, ValueFault>
+    ensures ok { IfOk result (λ j. of_data (D.json value.now) ≡ Some (view j)) }
     ensures low { IfOk result (λ j. depth (view j) ≤ left) }
     ensures own { IfOk result (λ j. is_own j ≡ true) }
-    ensures err { IfErr result (λ f. Refuses left (raw.view value.now) f) }
+    ensures err { IfErr result (λ f. Refuses left (D.json value.now) f) }
 {
-    match value {
-        Value::Null => Ok(Json::Null),
-        Value::Bool(b) => Ok(Json::Bool(*b)),
-        Value::Number(number) => match whole_of(number) {
+    if let Some(items) = value.as_array() {
+        if left == 0 {
+            return Err(ValueFault::Depth);
+        }
+        return Ok(Json::list_of(alloc, read_items(alloc, items, left - 1)?)?);
+    }
+    if let Some(members) = value.members(alloc)? {
+        if left == 0 {
+            return Err(ValueFault::Depth);
+        }
+        return Ok(Json::object(alloc, read_members(alloc, &members, left - 1)?)?);
+    }
+    read_leaf(alloc, value)
+}
+
+// Of what is neither an array nor an object.
+fn read_leaf<D: JsonData>(alloc: Global, value: &D) -> Result<Json, ValueFault>
+    requires no_list { as_array (D.json value.now) ≡ None }
+    requires no_object { as_object (D.json value.now) ≡ None }
+    ensures ok { IfOk result (λ j. of_data (D.json value.now) ≡ Some (view j)) }
+    ensures low { IfOk result (λ j. depth (view j) ≡ 0) }
+    ensures own { IfOk result (λ j. is_own j ≡ true) }
+    ensures err { IfErr result (λ f. Refuses 0 (D.json value.now) f) }
+{
+    if let Some(text) = value.as_str() {
+        return Ok(Json::Text(Text::from_str(alloc, text)?));
+    }
+    if let Some(number) = value.as_number() {
+        return match whole_of(number) {
             Some(n) => Ok(Json::Int(n)),
             None => Err(ValueFault::Number),
-        },
-        Value::String(text) => Ok(Json::Text(Text::from_str(alloc, text.as_str())?)),
-        Value::Array(items) => {
-            if left == 0 {
-                return Err(ValueFault::Depth);
-            }
-            Ok(Json::list_of(alloc, read_items(alloc, items, left - 1)?)?)
-        }
-        Value::Object(members) => {
-            if left == 0 {
-                return Err(ValueFault::Depth);
-            }
-            Ok(Json::object(alloc, read_members(alloc, members, left - 1)?)?)
-        }
+        };
+    }
+    match value.as_bool() {
+        Some(truth) => Ok(Json::Bool(truth)),
+        None => Ok(Json::Null),
     }
 }
 
 #[cycle(read)]
-fn read_items(alloc: Global, items: &[Value], left: u64) -> Result<Vec<Json>, ValueFault>
-    ensures ok { IfOk result (λ v. of_items (raw.items_view items.now) ≡ Some (items_view v.items)) }
+fn read_items<D: JsonData>(alloc: Global, items: &[D], left: u64) -> Result<Vec<Json>, ValueFault>
+    ensures ok { IfOk result (λ v. of_items (raw.items_of (map D.json items.now)) ≡ Some (items_view v.items)) }
     ensures low { IfOk result (λ v. items_depth (items_view v.items) ≤ left) }
     ensures own { IfOk result (λ v. items_own v.items ≡ true) }
-    ensures err { IfErr result (λ f. RefusesItems left (raw.items_view items.now) f) }
+    ensures err { IfErr result (λ f. RefusesItems left (raw.items_of (map D.json items.now)) f) }
 {
     let mut done = Vec::new(alloc);
     for item in items {
@@ -99,21 +117,21 @@ fn read_items(alloc: Global, items: &[Value], left: u64) -> Result<Vec<Json>, Va
 }
 
 #[cycle(read)]
-fn read_members(
+fn read_members<D: JsonData>(
     alloc: Global,
-    members: &Map<String, Value>,
+    members: &BTreeMap<&str, &D>,
     left: u64,
 ) -> Result<BTreeMap<String, Json>, ValueFault>
-    ensures ok { IfOk result (λ m. of_members (raw.members_view members.now.entries)
+    ensures ok { IfOk result (λ m. of_members (sorted_members D.json members.now.entries)
         ≡ Some (map_view m.entries)) }
     ensures low { IfOk result (λ m. members_depth (map_view m.entries) ≤ left) }
     ensures own { IfOk result (λ m. map_own m.entries ≡ true) }
-    ensures err { IfErr result (λ f. RefusesMembers left (raw.members_view members.now.entries) f) }
+    ensures err { IfErr result (λ f. RefusesMembers left (sorted_members D.json members.now.entries) f) }
 {
     let mut made = BTreeMap::new(alloc);
     for (key, member) in members.iter() {
-        let new = read(alloc, member, left)?;
-        let name = key.clone()?;
+        let new = read(alloc, *member, left)?;
+        let name = String::from_str(alloc, key)?;
         put_entry(&mut made, name, new)?;
     }
     Ok(made)

@@ -1,10 +1,11 @@
 //! Whole numbers as JSON has them.
 ghost use Rattle.std.specs.Prelude.{◌≡◌};
 ghost use Rattle.sdb_value.specs.Profile.{count_of, whole_of};
-ghost use Rattle.serde_json.specs.View.{view as data_view, number_view};
+ghost use Rattle.serde_json.specs.View.{number_view};
 
 use crate::value::Whole;
-use serde_json::{Number, Value};
+use sdb_json::JsonData;
+use serde_json::Number;
 
 /// The greatest number of the profile: integers to this size a double holds without loss (RFC 8259,
 /// section 6).
@@ -24,10 +25,10 @@ pub fn whole_of(number: &Number) -> Option<Whole>
 
 /// The whole number from 0 to 9007199254740991 that a JSON value is, or `None` where it is another
 /// number or no number.
-pub fn count_of(value: &Value) -> Option<u64>
-    ensures { result ≡ count_of (data_view value.now) }
+pub fn count_of<D: JsonData>(value: &D) -> Option<u64>
+    ensures { result ≡ count_of (D.json value.now) }
 {
-    let n = value.as_u64()?;
+    let n = value.as_number()?.as_u64()?;
     if n > MAX {
         return None;
     }

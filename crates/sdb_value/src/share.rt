@@ -20,6 +20,9 @@ pub(crate) fn share(alloc: Global, value: &mut Json) -> Result<(), AllocError>
     ensures value { view value.new ≡ view value.old }
     ensures pointer { OnOk result (is_pointer value.new ≡ true) }
 {
+    if is_pointer(value) {
+        return Ok(());
+    }
     match value {
         Json::Null => Ok(()),
         Json::Bool(_) => Ok(()),
@@ -27,6 +30,18 @@ pub(crate) fn share(alloc: Global, value: &mut Json) -> Result<(), AllocError>
         Json::Text(text) => text.share_in_place(alloc),
         Json::List(items) => share_list(alloc, items),
         Json::Object(members) => share_object(alloc, members),
+    }
+}
+
+// Whether a copy of it is a pointer already, or as little.
+fn is_pointer(value: &Json) -> bool
+    ensures { result ≡ is_pointer value.now }
+{
+    match value {
+        Json::Null | Json::Bool(_) | Json::Int(_) => true,
+        Json::Text(text) => text.is_shared(),
+        Json::List(items) => items.is_shared(),
+        Json::Object(members) => members.is_shared(),
     }
 }
 

@@ -2,8 +2,8 @@
 use Rattle.std.specs.Prelude.{◌≡◌, Option, Result, Ok, Err, option_map, string_bytes}
 use Rattle.std.specs.Option.{option_map_or}
 use Rattle.serde_json.specs.Data.{Data}
-use Rattle.serde_json.specs.View.{view as data_view}
-use Rattle.serde_json.specs.declared.value.Value.{Value}
+use Rattle.sdb_json.specs.Tree.{view as tree_view}
+use Rattle.sdb_json.specs.declared.tree.JsonTree.{JsonTree}
 use Rattle.sdb_value.specs.View.{view}
 use Rattle.sdb_oplog.specs.Keys.{plain_key}
 use Rattle.sdb_oplog.specs.declared.codes.Code.{Code}
@@ -49,8 +49,8 @@ asked (Ok r) = Ok (plain_request r)
 asked (Err c) = Err c
 
 -- what an error shows of a message that has a reading, or of none
-abbrev pub echo_from : Option Value → PlainEcho
-echo_from m = option_map_or (λ v. said (data_view v)) m nothing_said
+abbrev pub echo_from : Option JsonTree → PlainEcho
+echo_from m = option_map_or (λ v. said (tree_view v)) m nothing_said
 
 abbrev pub plain_message : Message → PlainMessage
 plain_message m = record { echo = echo_from m.json; request = asked m.request }

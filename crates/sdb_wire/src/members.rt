@@ -1,7 +1,6 @@
 //! Members of a message.
 ghost use Rattle.std.specs.Prelude.{◌≡◌, Ok, IfOk, IfErr, option_map, option_and_then, string_bytes};
 ghost use Rattle.std.specs.Option.{ok_or};
-ghost use Rattle.serde_json.specs.View.{view as data_view};
 ghost use Rattle.serde_json.specs.Find.{get};
 ghost use Rattle.sdb_value.specs.Profile.{count_of};
 ghost use Rattle.sdb_oplog.specs.Refused.{RefusedBy};
@@ -10,13 +9,13 @@ ghost use Rattle.sdb_wire.specs.Wire.{as_name, as_word, count_at, name_at, word_
 ghost use Rattle.sdb_wire.specs.View.{plain_word, plain_echo};
 
 use crate::requests::{Echo, NAME_LIMIT, Word};
+use sdb_json::JsonData;
 use sdb_oplog::{Code, Moment};
 use sdb_value::count_of;
-use serde_json::Value;
 use std::alloc::{AllocError, Global};
 
-pub(crate) fn as_name(value: &Value) -> Option<&str>
-    ensures { option_map (λ s. s.now) result ≡ as_name (data_view value.now) }
+pub(crate) fn as_name<D: JsonData>(value: &D) -> Option<&str>
+    ensures { option_map (λ s. s.now) result ≡ as_name (D.json value.now) }
 {
     let text = value.as_str()?;
     if text.is_empty() || text.len() > NAME_LIMIT {
@@ -26,30 +25,30 @@ pub(crate) fn as_name(value: &Value) -> Option<&str>
 }
 
 // A member that is there and not null.
-pub(crate) fn present<'v>(value: &'v Value, key: &str) -> Option<&'v Value>
-    ensures { option_map (λ v. data_view v.now) result ≡ present key.now (data_view value.now) }
+pub(crate) fn present<'v, D: JsonData>(value: &'v D, key: &str) -> Option<&'v D>
+    ensures { option_map (λ v. D.json v.now) result ≡ present key.now (D.json value.now) }
 {
     let member = value.get(key)?;
     if member.is_null() { None } else { Some(member) }
 }
 
 /// A member that is a whole number from 0 to 9007199254740991.
-pub fn count_at(value: &Value, key: &str) -> Option<u64>
-    ensures { result ≡ count_at key.now (data_view value.now) }
+pub fn count_at<D: JsonData>(value: &D, key: &str) -> Option<u64>
+    ensures { result ≡ count_at key.now (D.json value.now) }
 {
     count_of(value.get(key)?)
 }
 
-pub(crate) fn name_at<'v>(value: &'v Value, key: &str) -> Option<&'v str>
-    ensures { option_map (λ s. s.now) result ≡ name_at key.now (data_view value.now) }
+pub(crate) fn name_at<'v, D: JsonData>(value: &'v D, key: &str) -> Option<&'v str>
+    ensures { option_map (λ s. s.now) result ≡ name_at key.now (D.json value.now) }
 {
     as_name(value.get(key)?)
 }
 
 /// A member that must be a name: a text of 1 to 200 bytes. E1 where it is none.
-pub fn need_name(alloc: Global, value: &Value, key: &str) -> Result<String, Code>
-    ensures ok { IfOk result (λ s. ok_or (name_at key.now (data_view value.now)) E1 ≡ Ok (string_bytes s)) }
-    ensures err { IfErr result (λ code. RefusedBy (ok_or (name_at key.now (data_view value.now)) E1) code) }
+pub fn need_name<D: JsonData>(alloc: Global, value: &D, key: &str) -> Result<String, Code>
+    ensures ok { IfOk result (λ s. ok_or (name_at key.now (D.json value.now)) E1 ≡ Ok (string_bytes s)) }
+    ensures err { IfErr result (λ code. RefusedBy (ok_or (name_at key.now (D.json value.now)) E1) code) }
 {
     match name_at(value, key) {
         Some(name) => Ok(String::from_str(alloc, name)?),
@@ -58,10 +57,14 @@ pub fn need_name(alloc: Global, value: &Value, key: &str) -> Result<String, Code
 }
 
 // A name that may be absent or null.
-pub(crate) fn may_name(alloc: Global, value: &Value, key: &str) -> Result<Option<String>, Code>
+pub(crate) fn may_name<D: JsonData>(
+    alloc: Global,
+    value: &D,
+    key: &str,
+) -> Result<Option<String>, Code>
     ensures ok { IfOk result (λ s.
-        may as_name (present key.now (data_view value.now)) ≡ Ok (option_map string_bytes s)) }
-    ensures err { IfErr result (λ code. RefusedBy (may as_name (present key.now (data_view value.now))) code) }
+        may as_name (present key.now (D.json value.now)) ≡ Ok (option_map string_bytes s)) }
+    ensures err { IfErr result (λ code. RefusedBy (may as_name (present key.now (D.json value.now))) code) }
 {
     match present(value, key) {
         None => Ok(None),
@@ -73,8 +76,8 @@ pub(crate) fn may_name(alloc: Global, value: &Value, key: &str) -> Result<Option
 }
 
 /// A whole number from 0 to 9007199254740991 that may be absent or null. E1 where it is none of these.
-pub fn may_count(value: &Value, key: &str) -> Result<Option<u64>, Code>
-    ensures { result ≡ may count_of (present key.now (data_view value.now)) }
+pub fn may_count<D: JsonData>(value: &D, key: &str) -> Result<Option<u64>, Code>
+    ensures { result ≡ may count_of (present key.now (D.json value.now)) }
 {
     match present(value, key) {
         None => Ok(None),
@@ -86,15 +89,15 @@ pub fn may_count(value: &Value, key: &str) -> Result<Option<u64>, Code>
 }
 
 /// The moment of so many milliseconds as a JSON value says: a whole number from 0 to 9007199254740991.
-pub fn moment_of(value: &Value) -> Option<Moment>
-    ensures { result ≡ count_of (data_view value.now) }
+pub fn moment_of<D: JsonData>(value: &D) -> Option<Moment>
+    ensures { result ≡ count_of (D.json value.now) }
 {
     Moment::new(count_of(value)?)
 }
 
 /// A moment that may be absent or null. E1 where it is none of these.
-pub fn may_moment(value: &Value, key: &str) -> Result<Option<Moment>, Code>
-    ensures { result ≡ may count_of (present key.now (data_view value.now)) }
+pub fn may_moment<D: JsonData>(value: &D, key: &str) -> Result<Option<Moment>, Code>
+    ensures { result ≡ may count_of (present key.now (D.json value.now)) }
 {
     match present(value, key) {
         None => Ok(None),
@@ -105,8 +108,8 @@ pub fn may_moment(value: &Value, key: &str) -> Result<Option<Moment>, Code>
     }
 }
 
-fn as_word(alloc: Global, value: &Value) -> Result<Option<Word>, AllocError>
-    ensures { IfOk result (λ w. option_map plain_word w ≡ as_word (data_view value.now)) }
+fn as_word<D: JsonData>(alloc: Global, value: &D) -> Result<Option<Word>, AllocError>
+    ensures { IfOk result (λ w. option_map plain_word w ≡ as_word (D.json value.now)) }
 {
     match as_name(value) {
         Some(name) => Ok(Some(Word::Text {
@@ -119,8 +122,8 @@ fn as_word(alloc: Global, value: &Value) -> Result<Option<Word>, AllocError>
     }
 }
 
-fn word_at(alloc: Global, value: &Value, key: &str) -> Result<Option<Word>, AllocError>
-    ensures { IfOk result (λ w. option_map plain_word w ≡ word_at key.now (data_view value.now)) }
+fn word_at<D: JsonData>(alloc: Global, value: &D, key: &str) -> Result<Option<Word>, AllocError>
+    ensures { IfOk result (λ w. option_map plain_word w ≡ word_at key.now (D.json value.now)) }
 {
     match value.get(key) {
         Some(member) => as_word(alloc, member),
@@ -129,8 +132,8 @@ fn word_at(alloc: Global, value: &Value, key: &str) -> Result<Option<Word>, Allo
 }
 
 // What an error shows of the message.
-pub(crate) fn said(alloc: Global, value: &Value) -> Result<Echo, AllocError>
-    ensures { IfOk result (λ e. plain_echo e ≡ said (data_view value.now)) }
+pub(crate) fn said<D: JsonData>(alloc: Global, value: &D) -> Result<Echo, AllocError>
+    ensures { IfOk result (λ e. plain_echo e ≡ said (D.json value.now)) }
 {
     let a = word_at(alloc, value, "a")?;
     let c = word_at(alloc, value, "c")?;

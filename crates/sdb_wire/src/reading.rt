@@ -1,6 +1,6 @@
 //! Reads messages.
 ghost use Rattle.std.specs.Prelude.{◌≡◌, ◌⊎◌, Ok, IfOk, IfErr, option_map, codes};
-ghost use Rattle.serde_json.specs.View.{view as data_view};
+ghost use Rattle.sdb_json.specs.Tree.{view as tree_view};
 ghost use Rattle.sdb_oplog.specs.Keys.{plain_key};
 ghost use Rattle.sdb_oplog.specs.Refused.{RefusedBy};
 ghost use Rattle.sdb_wire.specs.Wire.{key_of, hello_of, fetch_of, subscribe_of, unsubscribe_of, submit_of, snapshot_of, at_time_of, message_of, content_of, is_deletion, creation, created, edition, wire, parse_message, value_of, echo_of, said, nothing_said};
@@ -12,6 +12,7 @@ use crate::members::{
 };
 use crate::requests::{BadMessage, Echo, MESSAGE_LIMIT, Message, Request, TYPE};
 use sdb_component::read_op;
+use sdb_json::{JsonData, JsonTree, Scratch};
 use sdb_oplog::{Code, Content, Key};
 use sdb_value::from_value;
 use serde_json::Value;
@@ -25,7 +26,8 @@ pub fn read_message(alloc: Global, text: &str) -> Result<Request, BadMessage>
     // For want of memory too, an error shows members of this message, or none.
     ensures echo { IfErr result (λ b. (plain_echo b.echo ≡ echo_of text.now) ⊎ (plain_echo b.echo ≡ nothing_said)) }
 {
-    match value_of(alloc, text) {
+    let mut scratch = Scratch::new(alloc);
+    match value_of(alloc, text, &mut scratch) {
         Ok(Some(value)) => read_value(alloc, &value),
         Ok(None) => Err(BadMessage {
             echo: no_echo(),
@@ -40,10 +42,14 @@ pub fn read_message(alloc: Global, text: &str) -> Result<Request, BadMessage>
 
 /// The message that a text is: as [`read_message`], but with its JSON value, since a refusal by the log
 /// shows members of it too.
-pub fn parse_message(alloc: Global, text: &str) -> Result<Message, AllocError>
+pub fn parse_message<'a>(
+    alloc: Global,
+    text: &'a str,
+    scratch: &'a mut Scratch,
+) -> Result<Message<'a>, AllocError>
     ensures { IfOk result (λ m. plain_message m ≡ parse_message text.now) }
 {
-    let Some(json) = value_of(alloc, text)? else {
+    let Some(json) = value_of(alloc, text, scratch)? else {
         return Ok(Message {
             json: None,
             request: Err(Code::E1),
@@ -61,25 +67,21 @@ pub fn parse_message(alloc: Global, text: &str) -> Result<Message, AllocError>
 
 /// The JSON value of a message. `None` where its text has no reading, or more than [`MESSAGE_LIMIT`]
 /// bytes, and then it is not read.
-pub fn value_of(alloc: Global, text: &str) -> Result<Option<Value>, AllocError>
-    ensures { IfOk result (λ v. option_map data_view v ≡ value_of text.now) }
+pub fn value_of<'a>(
+    alloc: Global,
+    text: &'a str,
+    scratch: &'a mut Scratch,
+) -> Result<Option<JsonTree<'a>>, AllocError>
+    ensures { IfOk result (λ v. option_map tree_view v ≡ value_of text.now) }
 {
     if text.len() > MESSAGE_LIMIT {
         return Ok(None);
     }
-    match Value::from_str(alloc, text) {
-        Ok(value) => Ok(Some(value)),
-        Err(error) => {
-            if error.is_memory() {
-                return Err(AllocError);
-            }
-            Ok(None)
-        }
-    }
+    JsonTree::from_str(alloc, text, scratch)
 }
 
 /// What an error shows of a message: nothing where it has no reading.
-pub fn echo_of(alloc: Global, message: Option<&Value>) -> Result<Echo, AllocError>
+pub fn echo_of(alloc: Global, message: Option<&JsonTree<'_>>) -> Result<Echo, AllocError>
     ensures { IfOk result (λ e. plain_echo e ≡ echo_from (option_map (λ v. v.now) message.entry)) }
 {
     match message {
@@ -102,11 +104,11 @@ pub fn no_echo() -> Echo
     }
 }
 
-fn read_value(alloc: Global, value: &Value) -> Result<Request, BadMessage>
-    ensures ok { IfOk result (λ r. message_of (data_view value.now) ≡ Ok (plain_request r)) }
-    ensures err { IfErr result (λ b. IsFaultOf b (data_view value.now)) }
+fn read_value<D: JsonData>(alloc: Global, value: &D) -> Result<Request, BadMessage>
+    ensures ok { IfOk result (λ r. message_of (D.json value.now) ≡ Ok (plain_request r)) }
+    ensures err { IfErr result (λ b. IsFaultOf b (D.json value.now)) }
     ensures echo { IfErr result (λ b.
-        (plain_echo b.echo ≡ said (data_view value.now)) ⊎ (plain_echo b.echo ≡ nothing_said)) }
+        (plain_echo b.echo ≡ said (D.json value.now)) ⊎ (plain_echo b.echo ≡ nothing_said)) }
 {
     match message_of(alloc, value) {
         Ok(request) => Ok(request),
@@ -120,9 +122,9 @@ fn read_value(alloc: Global, value: &Value) -> Result<Request, BadMessage>
     }
 }
 
-fn message_of(alloc: Global, value: &Value) -> Result<Request, Code>
-    ensures ok { IfOk result (λ r. message_of (data_view value.now) ≡ Ok (plain_request r)) }
-    ensures err { IfErr result (λ code. RefusedBy (message_of (data_view value.now)) code) }
+fn message_of<D: JsonData>(alloc: Global, value: &D) -> Result<Request, Code>
+    ensures ok { IfOk result (λ r. message_of (D.json value.now) ≡ Ok (plain_request r)) }
+    ensures err { IfErr result (λ code. RefusedBy (message_of (D.json value.now)) code) }
 {
     match name_at(value, "a") {
         Some("hs") => hello_of(alloc, value),
@@ -137,26 +139,26 @@ fn message_of(alloc: Global, value: &Value) -> Result<Request, Code>
 }
 
 /// The key that `c` and `d` name, each a name. E1 where one is none.
-pub fn key_of(alloc: Global, value: &Value) -> Result<Key, Code>
-    ensures ok { IfOk result (λ p. key_of (data_view value.now) ≡ Ok (plain_key p)) }
-    ensures err { IfErr result (λ code. RefusedBy (key_of (data_view value.now)) code) }
+pub fn key_of<D: JsonData>(alloc: Global, value: &D) -> Result<Key, Code>
+    ensures ok { IfOk result (λ p. key_of (D.json value.now) ≡ Ok (plain_key p)) }
+    ensures err { IfErr result (λ code. RefusedBy (key_of (D.json value.now)) code) }
 {
     let collection = need_name(alloc, value, "c")?;
     let id = need_name(alloc, value, "d")?;
     Ok(Key { collection, id })
 }
 
-fn hello_of(alloc: Global, value: &Value) -> Result<Request, Code>
-    ensures ok { IfOk result (λ r. hello_of (data_view value.now) ≡ Ok (plain_request r)) }
-    ensures err { IfErr result (λ code. RefusedBy (hello_of (data_view value.now)) code) }
+fn hello_of<D: JsonData>(alloc: Global, value: &D) -> Result<Request, Code>
+    ensures ok { IfOk result (λ r. hello_of (D.json value.now) ≡ Ok (plain_request r)) }
+    ensures err { IfErr result (λ code. RefusedBy (hello_of (D.json value.now)) code) }
 {
     let id = may_name(alloc, value, "id")?;
     Ok(Request::Hello { id })
 }
 
-fn fetch_of(alloc: Global, value: &Value) -> Result<Request, Code>
-    ensures ok { IfOk result (λ r. fetch_of (data_view value.now) ≡ Ok (plain_request r)) }
-    ensures err { IfErr result (λ code. RefusedBy (fetch_of (data_view value.now)) code) }
+fn fetch_of<D: JsonData>(alloc: Global, value: &D) -> Result<Request, Code>
+    ensures ok { IfOk result (λ r. fetch_of (D.json value.now) ≡ Ok (plain_request r)) }
+    ensures err { IfErr result (λ code. RefusedBy (fetch_of (D.json value.now)) code) }
 {
     let key = key_of(alloc, value)?;
     match may_count(value, "v") {
@@ -165,9 +167,9 @@ fn fetch_of(alloc: Global, value: &Value) -> Result<Request, Code>
     }
 }
 
-fn subscribe_of(alloc: Global, value: &Value) -> Result<Request, Code>
-    ensures ok { IfOk result (λ r. subscribe_of (data_view value.now) ≡ Ok (plain_request r)) }
-    ensures err { IfErr result (λ code. RefusedBy (subscribe_of (data_view value.now)) code) }
+fn subscribe_of<D: JsonData>(alloc: Global, value: &D) -> Result<Request, Code>
+    ensures ok { IfOk result (λ r. subscribe_of (D.json value.now) ≡ Ok (plain_request r)) }
+    ensures err { IfErr result (λ code. RefusedBy (subscribe_of (D.json value.now)) code) }
 {
     let key = key_of(alloc, value)?;
     match may_count(value, "v") {
@@ -176,17 +178,17 @@ fn subscribe_of(alloc: Global, value: &Value) -> Result<Request, Code>
     }
 }
 
-fn unsubscribe_of(alloc: Global, value: &Value) -> Result<Request, Code>
-    ensures ok { IfOk result (λ r. unsubscribe_of (data_view value.now) ≡ Ok (plain_request r)) }
-    ensures err { IfErr result (λ code. RefusedBy (unsubscribe_of (data_view value.now)) code) }
+fn unsubscribe_of<D: JsonData>(alloc: Global, value: &D) -> Result<Request, Code>
+    ensures ok { IfOk result (λ r. unsubscribe_of (D.json value.now) ≡ Ok (plain_request r)) }
+    ensures err { IfErr result (λ code. RefusedBy (unsubscribe_of (D.json value.now)) code) }
 {
     let key = key_of(alloc, value)?;
     Ok(Request::Unsubscribe { key })
 }
 
-fn submit_of(alloc: Global, value: &Value) -> Result<Request, Code>
-    ensures ok { IfOk result (λ r. submit_of (data_view value.now) ≡ Ok (plain_request r)) }
-    ensures err { IfErr result (λ code. RefusedBy (submit_of (data_view value.now)) code) }
+fn submit_of<D: JsonData>(alloc: Global, value: &D) -> Result<Request, Code>
+    ensures ok { IfOk result (λ r. submit_of (D.json value.now) ≡ Ok (plain_request r)) }
+    ensures err { IfErr result (λ code. RefusedBy (submit_of (D.json value.now)) code) }
 {
     let key = key_of(alloc, value)?;
     let Ok(version) = may_count(value, "v") else {
@@ -206,9 +208,9 @@ fn submit_of(alloc: Global, value: &Value) -> Result<Request, Code>
     })
 }
 
-fn snapshot_of(alloc: Global, value: &Value) -> Result<Request, Code>
-    ensures ok { IfOk result (λ r. snapshot_of (data_view value.now) ≡ Ok (plain_request r)) }
-    ensures err { IfErr result (λ code. RefusedBy (snapshot_of (data_view value.now)) code) }
+fn snapshot_of<D: JsonData>(alloc: Global, value: &D) -> Result<Request, Code>
+    ensures ok { IfOk result (λ r. snapshot_of (D.json value.now) ≡ Ok (plain_request r)) }
+    ensures err { IfErr result (λ code. RefusedBy (snapshot_of (D.json value.now)) code) }
 {
     let key = key_of(alloc, value)?;
     let Ok(version) = may_count(value, "v") else {
@@ -220,9 +222,9 @@ fn snapshot_of(alloc: Global, value: &Value) -> Result<Request, Code>
     Ok(Request::Snapshot { key, version, id })
 }
 
-fn at_time_of(alloc: Global, value: &Value) -> Result<Request, Code>
-    ensures ok { IfOk result (λ r. at_time_of (data_view value.now) ≡ Ok (plain_request r)) }
-    ensures err { IfErr result (λ code. RefusedBy (at_time_of (data_view value.now)) code) }
+fn at_time_of<D: JsonData>(alloc: Global, value: &D) -> Result<Request, Code>
+    ensures ok { IfOk result (λ r. at_time_of (D.json value.now) ≡ Ok (plain_request r)) }
+    ensures err { IfErr result (λ code. RefusedBy (at_time_of (D.json value.now)) code) }
 {
     let key = key_of(alloc, value)?;
     let Ok(moment) = may_moment(value, "ts") else {
@@ -237,9 +239,9 @@ fn at_time_of(alloc: Global, value: &Value) -> Result<Request, Code>
 /// The one content of a message: an operation, a create or a delete. Another number of them is E1, as
 /// is a create that is no object with a text `type`; another type is E2; an operation or data outside
 /// the profile are E3.
-pub fn read_content(alloc: Global, value: &Value) -> Result<Content, Code>
-    ensures ok { IfOk result (λ m. content_of (data_view value.now) ≡ Ok m) }
-    ensures err { IfErr result (λ code. RefusedBy (content_of (data_view value.now)) code) }
+pub fn read_content<D: JsonData>(alloc: Global, value: &D) -> Result<Content, Code>
+    ensures ok { IfOk result (λ m. content_of (D.json value.now) ≡ Ok m) }
+    ensures err { IfErr result (λ code. RefusedBy (content_of (D.json value.now)) code) }
 {
     let op = present(value, "op");
     let create = present(value, "create");
@@ -251,25 +253,25 @@ pub fn read_content(alloc: Global, value: &Value) -> Result<Content, Code>
     }
 }
 
-fn is_deletion(value: &Value) -> bool
-    ensures { result ≡ is_deletion (data_view value.now) }
+fn is_deletion<D: JsonData>(value: &D) -> bool
+    ensures { result ≡ is_deletion (D.json value.now) }
 {
-    value.get("del").and_then(Value::as_bool).unwrap_or(false)
+    value.get("del").and_then(D::as_bool).unwrap_or(false)
 }
 
-fn edition(alloc: Global, value: &Value) -> Result<Content, Code>
-    ensures ok { IfOk result (λ m. edition (data_view value.now) ≡ Ok m) }
-    ensures err { IfErr result (λ code. RefusedBy (edition (data_view value.now)) code) }
+fn edition<D: JsonData>(alloc: Global, value: &D) -> Result<Content, Code>
+    ensures ok { IfOk result (λ m. edition (D.json value.now) ≡ Ok m) }
+    ensures err { IfErr result (λ code. RefusedBy (edition (D.json value.now)) code) }
 {
     let op = read_op(alloc, value)?;
     Ok(Content::edit(alloc, op)?)
 }
 
-fn creation(alloc: Global, value: &Value) -> Result<Content, Code>
-    ensures ok { IfOk result (λ m. creation (data_view value.now) ≡ Ok m) }
-    ensures err { IfErr result (λ code. RefusedBy (creation (data_view value.now)) code) }
+fn creation<D: JsonData>(alloc: Global, value: &D) -> Result<Content, Code>
+    ensures ok { IfOk result (λ m. creation (D.json value.now) ≡ Ok m) }
+    ensures err { IfErr result (λ code. RefusedBy (creation (D.json value.now)) code) }
 {
-    match value.get("type").and_then(Value::as_str) {
+    match value.get("type").and_then(D::as_str) {
         Some(name) => {
             if name != TYPE && name != "json0" {
                 return Err(Code::E2);
@@ -283,9 +285,9 @@ fn creation(alloc: Global, value: &Value) -> Result<Content, Code>
     }
 }
 
-fn created(alloc: Global, value: &Value) -> Result<Content, Code>
-    ensures ok { IfOk result (λ m. created (data_view value.now) ≡ Ok m) }
-    ensures err { IfErr result (λ code. RefusedBy (created (data_view value.now)) code) }
+fn created<D: JsonData>(alloc: Global, value: &D) -> Result<Content, Code>
+    ensures ok { IfOk result (λ m. created (D.json value.now) ≡ Ok m) }
+    ensures err { IfErr result (λ code. RefusedBy (created (D.json value.now)) code) }
 {
     let json = from_value(alloc, value)?;
     Ok(Content::create(alloc, json)?)

@@ -1,8 +1,8 @@
 //! What a message asks, and what an error shows of it.
 use crate::op_text::OpText;
+use sdb_json::JsonTree;
 use sdb_oplog::{Code, Content, Entry, Key, Moment};
 use sdb_value::Json;
-use serde_json::Value;
 
 /// The longest text of a message, in bytes: 1,048,576.
 pub const MESSAGE_LIMIT: usize = 1_048_576;
@@ -87,8 +87,8 @@ pub struct BadMessage {
 /// A message: the request that it is, or the code that refuses it, and its JSON value, if it has one. An
 /// error shows some members of it ([`echo_of`](crate::echo_of)).
 #[derive(Drop)]
-pub struct Message {
-    pub json: Option<Value>,
+pub struct Message<'a> {
+    pub json: Option<JsonTree<'a>>,
     pub request: Result<Request, Code>,
 }
 

@@ -1,4 +1,4 @@
-use Rattle.std.proofs.Common.{◌≡◌, Some, None, inl, inr, sym, ap, ◌∙◌, IsUtf8}
+use Rattle.std.proofs.Common.{◌≡◌, Option, option_map, Some, None, inl, inr, sym, ap, ◌∙◌, IsUtf8}
 use Rattle.std.specs.Prelude.{if◌then◌else◌, List, ℕ}
 use Rattle.std.proofs.lemmas.Bool.{cases_Bool}
 use Rattle.std.specs.Str.{is_utf8}
@@ -6,7 +6,8 @@ use Rattle.std.proofs.lemmas.Str.{is_utf8-from_IsUtf8, IsUtf8-from_is_utf8}
 use Rattle.std.proofs.Common.{Ok, Err, IfOk}
 use Rattle.std.specs.Prelude.{Result}
 use Rattle.serde_json.specs.Read.{read}
-use Rattle.serde_json.specs.View.{view}
+use Rattle.sdb_json.specs.Tree.{view}
+use Rattle.sdb_json.specs.declared.tree.JsonTree.{JsonTree}
 use Rattle.sdb_dump.specs.Lines.{needs, line_of, read_line}
 use Rattle.sdb_dump.specs.declared.version.DumpVersion.{DumpVersion}
 use Rattle.sdb_dump.proofs.lines.read_line.Goals as goal
@@ -27,10 +28,13 @@ if_ok_weaker (Err x) P Q f h = tt
 pub returns-in_default-clause-read : goal.returns-in_default-clause-read
 returns-in_default-clause-read c = sym (isnt_text c.args.version c.args.line.now c.in_default.ensures.cases.0)
 
-pub returns-in-Ok-from_str-clause-read : goal.returns-in-Ok-from_str-clause-read
-returns-in-Ok-from_str-clause-read c =
+read_as : (l t : List ℕ) (tree : Option JsonTree) (found : Option JsonTree) → t ≡ l → option_map view tree ≡ read t → tree ≡ found → read l ≡ option_map view found
+read_as l t tree found text of_text is = ap read (sym text) ∙ sym of_text ∙ ap (option_map view) is
+
+pub returns-in-Some-clause-read : goal.returns-in-Some-clause-read
+returns-in-Some-clause-read c =
     let line = c.args.line.now in
-    let e : read line ≡ Some (view c.in-Ok-from_str.value) = ap read (sym c.in-Ok.ensures.cases.0) ∙ c.in-Ok-from_str.ensures.ok in
-    let is : read_line c.args.version line ≡ line_of c.args.version (view c.in-Ok-from_str.value) =
+    let e = read_as line c.in-Ok.text.now c.in_ok-value.field-0 (Some c.in-Some.value) c.in-Ok.ensures.cases.0 c.in_ok-value.ensures c.in-Some.is in
+    let is : read_line c.args.version line ≡ line_of c.args.version (view c.in-Some.value) =
     is_text c.args.version line c.in-Ok.ensures.cases.1 ∙ ap (needs (line_of c.args.version)) e in
     if_ok_weaker c.line_of.result _ _ (λ l g. g ∙ sym is) c.line_of.ensures.line

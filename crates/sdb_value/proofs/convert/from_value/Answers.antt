@@ -1,5 +1,5 @@
 use Rattle.std.proofs.Common.{Result, Ok, Err, IfErr}
-use Rattle.serde_json.specs.View.{view as data_view}
+use Rattle.serde_json.specs.Data.{Data}
 use Rattle.sdb_value.specs.Profile.{Refuses}
 use Rattle.sdb_value.specs.declared.convert.ValueFault.{ValueFault}
 use Rattle.sdb_value.proofs.Depths.{unread}
@@ -10,4 +10,6 @@ of_err (Ok x) h e = tt
 of_err (Err f) h e = h f e
 
 pub returns-clause-err : goal.returns-clause-err
-returns-clause-err c = of_err {P = Refuses 50 (data_view c.args.value.now)} c.read.result (unread (data_view c.args.value.now)) c.read.ensures.err
+returns-clause-err g c =
+    let d : Data = g.D.JsonData.json c.args.value.now in
+    of_err {P = Refuses 50 d} c.read.result (unread d) c.read.ensures.err

@@ -1,0 +1,76 @@
+//! A JSON text as a tree.
+ghost use Rattle.sdb_json.specs.Tree.{view};
+
+use crate::data::JsonData;
+use crate::fields::{field, sorted};
+use serde_json::Number;
+use std::alloc::{AllocError, Global};
+use std::collections::BTreeMap;
+
+/// A JSON text as a tree. It borrows its texts: from what was read, or, where they have escapes, from the scratch that
+/// reading was lent.
+#[derive(Drop)]
+pub enum JsonTree<'a> {
+    /// `null`.
+    Null,
+    /// `true` or `false`.
+    Bool(bool),
+    /// A number.
+    Number(Number),
+    /// A text.
+    Text(&'a str),
+    /// The items of an array.
+    Array(Vec<JsonTree<'a>>),
+    /// The members of an object as they came. Of those with one key the last one counts.
+    Object(Vec<(&'a str, JsonTree<'a>)>),
+}
+
+impl<'a> JsonData for JsonTree<'a> {
+    ghost json = { view };
+
+    fn is_null(&self) -> bool {
+        matches!(self, JsonTree::Null)
+    }
+
+    fn as_bool(&self) -> Option<bool> {
+        match self {
+            JsonTree::Bool(truth) => Some(*truth),
+            _ => None,
+        }
+    }
+
+    fn as_number(&self) -> Option<&Number> {
+        match self {
+            JsonTree::Number(number) => Some(number),
+            _ => None,
+        }
+    }
+
+    fn as_str(&self) -> Option<&str> {
+        match self {
+            JsonTree::Text(text) => Some(*text),
+            _ => None,
+        }
+    }
+
+    fn as_array(&self) -> Option<&[JsonTree<'a>]> {
+        match self {
+            JsonTree::Array(items) => Some(items.as_slice()),
+            _ => None,
+        }
+    }
+
+    fn members(&self, alloc: Global) -> Result<Option<BTreeMap<&str, &JsonTree<'a>>>, AllocError> {
+        match self {
+            JsonTree::Object(fields) => Ok(Some(sorted(alloc, fields.as_slice())?)),
+            _ => Ok(None),
+        }
+    }
+
+    fn get(&self, key: &str) -> Option<&JsonTree<'a>> {
+        match self {
+            JsonTree::Object(fields) => field(fields.as_slice(), key),
+            _ => None,
+        }
+    }
+}
