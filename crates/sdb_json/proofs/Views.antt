@@ -1,5 +1,5 @@
 -- A tree, level by level.
-use Rattle.std.proofs.Common.{◌≡◌, List, Vec, Global, rules}
+use Rattle.std.proofs.Common.{◌≡◌, Vec, Global, rules}
 use Rattle.serde_json.specs.Data.{array, object}
 use Rattle.sdb_json.specs.Tree.{fields_view, items_view, view}
 use Rattle.sdb_json.specs.declared.tree.JsonTree.{JsonTree, Array, Object, the_lemmas}

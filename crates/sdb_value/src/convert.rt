@@ -108,7 +108,7 @@ fn read_items<D: JsonData>(alloc: Global, items: &[D], left: u64) -> Result<Vec<
     ensures own { IfOk result (λ v. items_own v.items ≡ true) }
     ensures err { IfErr result (λ f. RefusesItems left (raw.items_of (map D.json items.now)) f) }
 {
-    let mut done = Vec::new(alloc);
+    let mut done = Vec::with_capacity(alloc, items.len())?;
     for item in items {
         let new = read(alloc, item, left)?;
         push_item(&mut done, new)?;

@@ -41,7 +41,7 @@ pub fn read_message(alloc: Global, text: &str) -> Result<Request, BadMessage>
 }
 
 /// The message that a text is: as [`read_message`], but with its JSON value, since a refusal by the log
-/// shows members of it too.
+/// shows members of it too. The value borrows from the text and, where a text in it has escapes, from the scratch.
 pub fn parse_message<'a>(
     alloc: Global,
     text: &'a str,

@@ -1,8 +1,8 @@
-use Rattle.std.proofs.Common.{◌≡◌, ℕ, ◌+◌, ◌-◌, ◌<◌, ◌≤◌, ◌++◌, ◌∷◌, List, [], Bool, true, false, bytes_eq, true≢false, length, take, get_or, sym, ap, ◌∙◌, arith}
+use Rattle.std.proofs.Common.{◌≡◌, ℕ, ◌+◌, ◌-◌, ◌<◌, ◌≤◌, ◌++◌, ◌∷◌, List, [], true≢false, length, take, get_or, sym, ap, ◌∙◌, arith}
 use Rattle.std.proofs.lemmas.List.{take_more}
 use Rattle.std.proofs.lemmas.Slice.Eq.{bytes_eq-Decides}
 use Rattle.serde_json.specs.Find.{get_member}
-use Rattle.sdb_json.specs.Tree.{fields_view, view}
+use Rattle.sdb_json.specs.Tree.{fields_view}
 use Rattle.sdb_json.proofs.Objects.{Field, last_found, last_other}
 use Rattle.sdb_json.proofs.fields.field.Goals as goal
 

@@ -1,4 +1,4 @@
-use Rattle.std.proofs.Common.{◌≡◌, ◌++◌, ◌∷◌, [], ap, ◌∙◌}
+use Rattle.std.proofs.Common.{◌++◌, ◌∷◌, [], ap, ◌∙◌}
 use Rattle.sdb_json.specs.Tree.{fields_view}
 use Rattle.sdb_json.proofs.Objects.{fields_more}
 use Rattle.sdb_json.proofs.reading.push_field.Goals as goal

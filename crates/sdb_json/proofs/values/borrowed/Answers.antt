@@ -3,7 +3,7 @@ use Rattle.std.specs.List.Sorted.{IsStrictlySortedBy}
 use Rattle.std.specs.Map.{keys_of}
 use Rattle.std.specs.String.{string_cmp}
 use Rattle.serde_json.specs.Data.{put}
-use Rattle.serde_json.specs.View.{members_view, view}
+use Rattle.serde_json.specs.View.{view}
 use Rattle.serde_json.proofs.Views.{Entry, put_last}
 use Rattle.sdb_json.specs.Tree.{sorted_members}
 use Rattle.sdb_json.proofs.Objects.{sorted_insert}
