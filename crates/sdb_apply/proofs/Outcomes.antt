@@ -1,15 +1,12 @@
 -- What an act does at its place, and in the whole value.
-use Rattle.std.proofs.Common.{◌≡◌, ℕ, List, Option, Some, None, Ok, Err, Result, Bool, true, false, true≢false, refl, sym, ap, ◌∙◌, option_map}
+use Rattle.std.proofs.Common.{◌≡◌, ℕ, List, Option, Some, None, Ok, Err, Result, Bool, true, false, refl, sym, ap, ◌∙◌, option_map}
 use Rattle.std.specs.Prelude.{⊤, if◌then◌else◌}
 use Rattle.std.specs.Option.{option_and_then}
 use Rattle.std.proofs.Common.{cond, IsErrOf, MatchOption, subst}
 use Rattle.std.specs.Option.{IfSome}
 use Rattle.sdb_pieces.specs.Pieces.{is_own_list, items_in}
-use Rattle.sdb_members.specs.Keys.{is_own as keys_own}
-use Rattle.sdb_members.specs.Members.{is_own as holds_own}
-use Rattle.sdb_members.specs.declared.members.Members.{Members as Held}
 use Rattle.sdb_pieces.specs.declared.pieces.Pieces.{Pieces}
-use Rattle.sdb_value.specs.Owns.{items_own, list_own, object_own}
+use Rattle.sdb_value.specs.Owns.{items_own, list_own}
 use Rattle.sdb_value.specs.declared.value.Json.{Json}
 use Rattle.sdb_value.specs.Value.{Value, Items, Members, PlainStep, null, truth, whole, text, list, object, at, with, as_text, as_list, as_object}
 use Rattle.sdb_value.specs.Change.{ChangedAt}
@@ -91,14 +88,6 @@ needs_shared takes own h = ap (needs takes) h
 
 pub list_shared : (l : Pieces Json) → is_own_list l ≡ false → list_own l ≡ false
 list_shared l h = ap (λ b. cond b (items_own (items_in l)) false) h
-
-parts_shared : (a b c : Bool) → cond a b false ≡ false → cond a (cond b c false) false ≡ false
-parts_shared true true c e = absurd (true≢false e)
-parts_shared true false c e = refl
-parts_shared false b c e = refl
-
-pub object_shared : (m : Held Json) → holds_own m ≡ false → object_own m ≡ false
-object_shared m h = parts_shared (keys_own m.keys) (is_own_list m.values) (items_own (items_in m.values)) h
 
 -- an outcome of which only what is shared, or put in, takes memory
 pub sparing : {A : Type 0} (r : Result ⊤ ApplyFault) (takes own : Bool) (o : Option A) (d e : A) → Outcome true r o d e

@@ -13,7 +13,7 @@ ghost use Rattle.sdb_apply.specs.Outcome.{Outcome, needs, takes_memory};
 use crate::applying::ApplyFault;
 use sdb_component::{Act, Piece};
 use sdb_value::{
-    Json, Whole, insert_item, list_mut, object_mut, put_member, remove_item, remove_member,
+    Json, Whole, insert_item, list_mut, object_mut, put_at_key, remove_at_key, remove_item,
     replace_item, text_mut,
 };
 use std::alloc::Global;
@@ -118,7 +118,7 @@ fn set_key(alloc: Global, place: &mut Json, key: &str, value: &Json) -> Result<(
     let name = String::from_str(alloc, key)?;
     let copy = value.own_copy(alloc)?;
     match object_mut(place) {
-        Some(members) => Ok(put_member(alloc, members, name, copy)?),
+        Some(object) => Ok(put_at_key(alloc, object, name, copy)?),
         None => Err(ApplyFault::NotApplied),
     }
 }
@@ -129,8 +129,8 @@ fn remove_key(alloc: Global, place: &mut Json, key: &str) -> Result<(), ApplyFau
     ensures own { is_own place.old ≡ true → is_own place.new ≡ true }
 {
     match object_mut(place) {
-        Some(members) => {
-            remove_member(alloc, members, key)?;
+        Some(object) => {
+            remove_at_key(alloc, object, key)?;
             Ok(())
         }
         None => Err(ApplyFault::NotApplied),

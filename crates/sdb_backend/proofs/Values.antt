@@ -11,6 +11,7 @@ use Rattle.sdb_pieces.specs.contracts.pieces.Pieces as Pieces
 use Rattle.sdb_members.specs.contracts.key.Key as Key
 use Rattle.sdb_members.specs.contracts.keys.Keys as Keys
 use Rattle.sdb_members.specs.contracts.members.Members as Members
+use Rattle.sdb_members.specs.contracts.object.Object as Object
 use Rattle.sdb_value.specs.contracts.value.Json as Json
 use Rattle.sdb_value.proofs.value.Json.TheLaws.TheKnot as knot
 
@@ -53,14 +54,21 @@ module _ (T : RattleType) (s : IsSend T) (y : IsSync T) where
   Members-sync : IsSync (Members.the_row T)
   Members-sync = declared_sync (Members.the_type T) (Keys-sync, (Pieces-sync T s y, tt))
 
+module _ (T : RattleType) (s : IsSend T) (y : IsSync T) where
+  Object-send : IsSend (Object.the_row T)
+  Object-send = variants_send (Object.enum T) ((Members-send T s y, tt), ((Arc-send _ (Members-send T s y) (Members-sync T s y), tt), tt))
+
+  Object-sync : IsSync (Object.the_row T)
+  Object-sync = variants_sync (Object.enum T) ((Members-sync T s y, tt), ((Arc-sync _ (Members-send T s y) (Members-sync T s y), tt), tt))
+
 pub Json-send : IsSend (Json.the_field).row
 Json-send =
     knot.both_send-Json (search sendable) (search sendable) (search sendable) (search sendable) (search (sendable, crosses, maps.crosses) depth 40)
     (search (sendable, crosses, maps.crosses) depth 40) (λ h s y. Pieces-send h s y) (λ h s y. Pieces-sync h s y)
-    (λ h s y. Members-send h s y) (λ h s y. Members-sync h s y)
+    (λ h s y. Object-send h s y) (λ h s y. Object-sync h s y)
 
 pub Json-sync : IsSync (Json.the_field).row
 Json-sync =
     knot.both_sync-Json (search sendable) (search sendable) (search sendable) (search sendable) (search (sendable, crosses, maps.crosses) depth 40)
     (search (sendable, crosses, maps.crosses) depth 40) (λ h s y. Pieces-send h s y) (λ h s y. Pieces-sync h s y)
-    (λ h s y. Members-send h s y) (λ h s y. Members-sync h s y)
+    (λ h s y. Object-send h s y) (λ h s y. Object-sync h s y)

@@ -8,9 +8,9 @@ use crate::texts::{
 use json::Writer;
 use sdb_pieces::Share;
 use sdb_value::{
-    Change, Json, List, MAX, Members, Path, Step, ValueFault, Whole, change_at, count_of, cut_at,
-    find, find_mut, insert_item, laws, list_mut, object_mut, put_member, remove_item,
-    remove_member, replace_item, same_value, text_mut, units, whole_of, write_value,
+    Change, Json, List, MAX, Object, Path, Step, ValueFault, Whole, change_at, count_of, cut_at,
+    find, find_mut, insert_item, laws, list_mut, object_mut, put_at_key, put_member, remove_at_key,
+    remove_item, replace_item, same_value, text_mut, units, whole_of, write_value,
 };
 use serde_json::Value;
 use std::alloc::{AllocError, Global};
@@ -405,14 +405,14 @@ fn a_list_is_changed_in_place(rt: HostRuntime) {
     assert!(rt; is_shown(&rt, rt.alloc(), &list, r#"[2,"q",4]"#));
 }
 
-fn put(rt: &impl Abort, alloc: Global, members: &mut Members, key: &str, value: Json) {
-    put_member(alloc, members, text_of(rt, alloc, &key), value).expect(rt, "out of memory");
+fn put(rt: &impl Abort, alloc: Global, object: &mut Object, key: &str, value: Json) {
+    put_at_key(alloc, object, text_of(rt, alloc, &key), value).expect(rt, "out of memory");
 }
 
-fn change_members(rt: &impl Abort, alloc: Global, members: &mut Members) {
-    put(rt, alloc, members, "b", json(rt, alloc, "2"));
-    put(rt, alloc, members, "c", Json::Null);
-    remove_member(alloc, members, "a").expect(rt, "out of memory");
+fn change_members(rt: &impl Abort, alloc: Global, object: &mut Object) {
+    put(rt, alloc, object, "b", json(rt, alloc, "2"));
+    put(rt, alloc, object, "c", Json::Null);
+    remove_at_key(alloc, object, "a").expect(rt, "out of memory");
 }
 
 #[test]
@@ -459,15 +459,15 @@ fn numbered(rt: &impl Abort, alloc: Global, with_odd: bool) -> String {
 
 // Takes the members of odd numbers out, or puts them in again.
 fn change_odd(rt: &impl Abort, alloc: Global, object: &mut Json, back: bool) {
-    let members = object_mut(object).expect(rt, "an object");
+    let object = object_mut(object).expect(rt, "an object");
     for half in 50_i64..500 {
         let number = half.wrapping_mul(2).wrapping_add(1);
         let key = joined(rt, alloc, "k", &[text_of(rt, alloc, &number).as_str()]);
         if back {
             let value = Json::Int(Whole::new(number).expect(rt, "a number"));
-            put_member(alloc, members, key, value).expect(rt, "out of memory");
+            put_at_key(alloc, object, key, value).expect(rt, "out of memory");
         } else {
-            remove_member(alloc, members, key.as_str()).expect(rt, "out of memory");
+            remove_at_key(alloc, object, key.as_str()).expect(rt, "out of memory");
         }
     }
 }
@@ -493,8 +493,10 @@ fn members_are_a_value_again(rt: HostRuntime) {
     let object = json(&rt, rt.alloc(), r#"{"a":null}"#);
     let members = object.members().expect(&rt, "an object");
     assert!(rt; members.get("a").expect(&rt, "a member").is_null() && !object.is_null());
-    let pointer = members.share(rt.alloc()).expect(&rt, "out of memory");
-    assert!(rt; same_value(&object, &Json::of_members(pointer)));
+    let mut copy = members.share(rt.alloc()).expect(&rt, "out of memory");
+    let key = text_of(&rt, rt.alloc(), &"a");
+    put_member(rt.alloc(), &mut copy, key, Json::Null).expect(&rt, "out of memory");
+    assert!(rt; same_value(&object, &Json::of_members(copy)));
 }
 
 // A value with a list and an object of several blocks and a text of several pieces.

@@ -156,6 +156,9 @@ impl Keys {
         ensures same { texts_in self.new ≡ texts_in self.old }
         ensures shared { OnOk result (is_shared self.new ≡ true) }
     {
+        if self.texts.is_shared() {
+            return Ok(());
+        }
         share_texts(alloc, &mut self.texts)
     }
 

@@ -5,12 +5,13 @@ ghost use Rattle.std.specs.BTreeMap.{insert_entry, is_at};
 ghost use Rattle.sdb_members.specs.Iter.{rest};
 ghost use Rattle.sdb_members.specs.Keys.{texts_in};
 ghost use Rattle.sdb_members.specs.Members.{entries_in, entries_seen, is_own, is_shared, names};
-ghost use Rattle.std.specs.List.{list_all};
+ghost use Rattle.std.specs.List.{list_all, zip};
 ghost use Rattle.sdb_pieces.specs.Pieces.{items_in, parts_in, seen_in};
 ghost use Rattle.sdb_members.specs.Order.{IsAscending, IsFound, by_bytes};
+ghost use Rattle.sdb_members.specs.Search.{texts};
 
 use crate::iter::Iter;
-use crate::key::MOST;
+use crate::key::{Key, MOST};
 use crate::keys::Keys;
 use crate::made::parted;
 use crate::pairs::{insert_new, remove_at};
@@ -82,6 +83,21 @@ impl<V: Drop> Members<V> {
         ensures own { IfOk result (λ m. is_own m ≡ true) }
     {
         let (keys, values) = parted(alloc, entries)?;
+        Members::from_sorted(alloc, keys, values)
+    }
+
+    /// The members of keys that stand in order and of their values, that of the first key first, in blocks. Fails
+    /// only where memory is wanting.
+    pub fn from_sorted(
+        alloc: Global,
+        keys: Vec<Key>,
+        values: Vec<V>,
+    ) -> Result<Members<V>, AllocError>
+        requires { IsAscending (texts keys.items) }
+        ensures members { IfOk result (λ m. entries_in m ≡ zip (texts keys.items) values.items) }
+        ensures values { IfOk result (λ m. items_in m.values ≡ values.items) }
+        ensures own { IfOk result (λ m. is_own m ≡ true) }
+    {
         Ok(Members {
             keys: Keys::from_vec(alloc, keys)?,
             values: Pieces::cut(alloc, values, MOST)?,

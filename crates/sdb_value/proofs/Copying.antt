@@ -5,15 +5,16 @@ use Rattle.std.specs.Option.{is_some, IfSome, IfNone}
 use Rattle.sdb_pieces.specs.Block.{items_of as block_items, is_own as block_own, is_shared as block_shared}
 use Rattle.sdb_pieces.specs.Pieces.{all_own, all_shared, blocks_in, items_in, parts_in, is_own_form, is_own_list, is_shared_form, is_shared_list}
 use Rattle.sdb_members.specs.Keys.{texts_in, is_own as keys_own, is_shared as keys_shared}
-use Rattle.sdb_members.specs.Members.{is_shared as holds_shared}
+use Rattle.sdb_members.specs.Object.{members_in, is_shared as object_shared}
 use Rattle.sdb_members.specs.declared.members.Members.{Members as Held}
+use Rattle.sdb_members.specs.declared.object.Object.{Object}
 use Rattle.sdb_pieces.specs.declared.block.Block.{Block}
 use Rattle.sdb_pieces.specs.declared.block.Block.TheVariants.{Own, Shared}
 use Rattle.sdb_pieces.specs.declared.pieces.Form.{Form}
 use Rattle.sdb_pieces.specs.declared.pieces.Form.TheVariants.{One, Many}
 use Rattle.sdb_pieces.specs.declared.pieces.Pieces.{Pieces}
 use Rattle.sdb_value.specs.Copies.{IsCopied, block_all_own, blocks_all_own}
-use Rattle.sdb_value.specs.Owns.{all_true, is_own, is_pointer, items_own, list_own, object_own}
+use Rattle.sdb_value.specs.Owns.{all_true, is_own, is_pointer, items_own, list_own, held_own, object_own}
 use Rattle.sdb_value.specs.View.{view, items_view, list_view, object_view}
 use Rattle.sdb_value.specs.Value.{list, object, item, join}
 use Rattle.sdb_value.specs.declared.copy.Manner.{Manner}
@@ -171,14 +172,14 @@ copied_list m v l new is h =
     copied_by m (list_own l) (list_own new) (is_shared_list new) (is_own v) (is_own (json.List new)) (is_pointer (json.List new))
     (ap is_own is ∙ owned_list l) (owned_list new) (pointer_list new) h
 
-pub value_object : (v : Json) (s new : Held Json) → v ≡ json.Object s → object_view new ≡ object_view s
+pub value_object : (v : Json) (s new : Object Json) → v ≡ json.Object s → object_view (members_in new) ≡ object_view (members_in s)
     → view (json.Object new) ≡ view v
 value_object v s new is e = seen_object new ∙ ap object e ∙ sym (ap view is ∙ seen_object s)
 
-pub copied_object : (m : Manner) (v : Json) (s new : Held Json) → v ≡ json.Object s
-    → IsCopied m (object_own s) (object_own new) (holds_shared new) → IsCopied m (is_own v) (is_own (json.Object new)) (is_pointer (json.Object new))
+pub copied_object : (m : Manner) (v : Json) (s new : Object Json) → v ≡ json.Object s
+    → IsCopied m (held_own s) (held_own new) (object_shared new) → IsCopied m (is_own v) (is_own (json.Object new)) (is_pointer (json.Object new))
 copied_object m v s new is h =
-    copied_by m (object_own s) (object_own new) (holds_shared new) (is_own v) (is_own (json.Object new)) (is_pointer (json.Object new))
+    copied_by m (held_own s) (held_own new) (object_shared new) (is_own v) (is_own (json.Object new)) (is_pointer (json.Object new))
     (ap is_own is ∙ owned_object s) (owned_object new) (pointer_object new) h
 
 -- a list made of copied blocks
@@ -228,19 +229,30 @@ items_copied_more m vs cs v c p h k =
     both_of m (items_own vs) (items_own cs) (is_own v) (is_own c) (items_own (vs ++ v ∷ [])) (items_own (cs ++ c ∷ [])) p
     (ap all_true (map_append is_own vs (v ∷ [])) ∙ all_more (map is_own vs) (is_own v)) (ap all_true (map_append is_own cs (c ∷ [])) ∙ all_more (map is_own cs) (is_own c)) h k
 
-both_copied : (m : Manner) (a b c d p q : Bool) → IsCopied m a b p → IsCopied m c d q → IsCopied m (cond a c false) (cond b d false) (cond p q false)
-both_copied manner.Same a b c d p q h k = ap (λ x. cond x d false) h ∙ ap (λ x. cond a x false) k
-both_copied manner.Own a b c d p q h k = ap (λ x. cond x d false) h ∙ k
-both_copied manner.Shared a b c d p q h k = ap (λ x. cond x q false) h ∙ k
-
 pub same_entries : (s new : Held Json) → texts_in new.keys ≡ texts_in s.keys → list_view new.values ≡ list_view s.values → object_view new ≡ object_view s
 same_entries s new k v =
     object_pairs new ∙ ap (λ ts. paired ts (list_view new.values)) k ∙ ap (paired (texts_in s.keys)) v ∙ sym (object_pairs s)
 
 pub keys_values : (m : Manner) (s new : Held Json) → IsCopied m (keys_own s.keys) (keys_own new.keys) (keys_shared new.keys)
-    → IsCopied m (list_own s.values) (list_own new.values) (is_shared_list new.values) → IsCopied m (object_own s) (object_own new) (holds_shared new)
-keys_values m s new h k =
-    both_copied m (keys_own s.keys) (keys_own new.keys) (list_own s.values) (list_own new.values) (keys_shared new.keys) (is_shared_list new.values) h k
+    → IsCopied m (list_own s.values) (list_own new.values) (is_shared_list new.values) → IsCopied m (object_own s) (object_own new) true
+keys_values manner.Same s new h k = and_both (keys_own new.keys) (list_own new.values) (keys_own s.keys) (list_own s.values) h k
+keys_values manner.Own s new h k = and_both (keys_own new.keys) (list_own new.values) true true h k
+keys_values manner.Shared s new h k = refl
+
+-- an object of copied members
+pub made_of_members : (m : Manner) (o : Object Json) (new : Held Json) → (m ≡ manner.Shared → ⊥) → (m ≡ manner.Same → object_shared o ≡ false)
+    → IsCopied m (object_own (members_in o)) (object_own new) true → IsCopied m (held_own o) (object_own new) false
+made_of_members manner.Same o new h k c = c ∙ sym (ap (λ b. cond b false (object_own (members_in o))) (k refl))
+made_of_members manner.Own o new h k c = c
+made_of_members manner.Shared o new h k c = absurd (h refl)
+
+shared_object_own : (o : Object Json) → object_shared o ≡ true → held_own o ≡ false
+shared_object_own o h = ap (λ b. cond b false (object_own (members_in o))) h
+
+pub object_pointed : (m : Manner) (o new : Object Json) → (m ≡ manner.Own → ⊥) → object_shared o ≡ true → object_shared new ≡ true
+    → IsCopied m (held_own o) (held_own new) (object_shared new)
+object_pointed m o new h was now =
+    copied_pointer m (held_own o) (held_own new) (object_shared new) h (shared_object_own o was) (shared_object_own new now) now
 
 pub view_more : (cs vs : List Json) (c v : Json) → map view cs ≡ map view vs → view c ≡ view v → map view (cs ++ c ∷ []) ≡ map view (vs ++ v ∷ [])
 view_more cs vs c v h e = map_append view cs (c ∷ []) ∙ ap (λ l. l ++ view c ∷ []) h ∙ ap (λ d. map view vs ++ d ∷ []) e ∙ sym (map_append view vs (v ∷ []))

@@ -4,7 +4,6 @@ pub mod Copying
 pub mod Depths
 pub mod Read
 pub mod ListEdits
-pub mod Objects
 pub mod Ordered
 pub mod Owned
 pub mod Pairs

@@ -10,15 +10,17 @@ use Rattle.sdb_pieces.specs.declared.block.Block.TheVariants.{Own, Shared}
 use Rattle.sdb_pieces.specs.declared.pieces.Form.{Form}
 use Rattle.sdb_pieces.specs.declared.pieces.Form.TheVariants.{One, Many}
 use Rattle.sdb_pieces.specs.declared.pieces.Pieces.{Pieces}
-use Rattle.sdb_members.specs.Keys.{is_own as keys_own, is_shared as keys_shared}
-use Rattle.sdb_members.specs.Members.{is_shared as holds_shared}
+use Rattle.sdb_members.specs.Keys.{is_own as keys_own}
+use Rattle.sdb_members.specs.Object.{members_in, is_shared as object_shared}
 use Rattle.sdb_members.specs.declared.members.Members.{Members as Held}
+use Rattle.sdb_members.specs.declared.object.Object.{Object}
+use Rattle.sdb_members.specs.declared.object.Object.TheVariants as held
 use Rattle.sdb_text.specs.Held.{is_own as text_own, is_shared as text_shared}
 use Rattle.sdb_text.specs.declared.text.Text.{Text}
-use Rattle.sdb_value.specs.Owns.{all_true, is_own, is_pointer, list_own, object_own}
+use Rattle.sdb_value.specs.Owns.{all_true, is_own, is_pointer, list_own, held_own, members_step, object_own}
 use Rattle.sdb_value.specs.declared.value.Json.{Json, the_lemmas}
 use Rattle.sdb_value.specs.declared.value.Json as json
-use Rattle.sdb_value.proofs.Views.{former_seen, former_values, seen_list, seen_object}
+use Rattle.sdb_value.proofs.Views.{former_seen, former_values, mapped, mapped_in, seen_list, seen_object}
 
 -- ---- through the fold
 
@@ -69,35 +71,33 @@ owned_text t = search (rules, the_lemmas)
 pub pointer_text : (t : Text) → is_pointer (json.Text t) ≡ text_shared t
 pointer_text t = search (rules, the_lemmas)
 
-abbrev inner_members : Held Json → Held Bool
-inner_members m = (json.TheShapes.former-Json-Object-0).map Json Bool is_own m
-
 values_own : {X Y : Type 0} (f : X → Y) (m : Held X) (w : Form X)
-    → is_own_list ((json.TheShapes.former-Json-Object-0).map X Y f (record { keys = m.keys; values = record { form = w } })).values ≡ is_own_form w
+    → is_own_list (mapped f (record { keys = m.keys; values = record { form = w } })).values ≡ is_own_form w
 values_own f m (One (Own v)) = refl
 values_own f m (One (Shared a)) = refl
 values_own f m (Many (Own v)) = all_own_once _ v.items (λ w. refl) (λ w. refl)
 values_own f m (Many (Shared a)) = refl
 
-values_shared : {X Y : Type 0} (f : X → Y) (m : Held X) (w : Form X)
-    → is_shared_list ((json.TheShapes.former-Json-Object-0).map X Y f (record { keys = m.keys; values = record { form = w } })).values ≡ is_shared_form w
-values_shared f m (One (Own v)) = refl
-values_shared f m (One (Shared a)) = refl
-values_shared f m (Many (Own v)) = refl
-values_shared f m (Many (Shared a)) = refl
-
-pub owned_object : (m : Held Json) → is_own (json.Object m) ≡ object_own m
-owned_object m =
-    let n = inner_members m in
-    let e : is_own (json.Object m) ≡ cond (keys_own m.keys) (cond (is_own_list n.values) (all_true (seen_in (λ b. b) n.values)) false) false = search (rules, the_lemmas) in
-    e ∙ ap (λ b. cond (keys_own m.keys) (cond b (all_true (seen_in (λ b. b) n.values)) false) false) (values_own is_own m m.values.form)
+members_own : (m : Held Json) → members_step (mapped is_own m) ≡ object_own m
+members_own m =
+    let n = mapped is_own m in
+    ap (λ b. cond (keys_own m.keys) (cond b (all_true (seen_in (λ b. b) n.values)) false) false) (values_own is_own m m.values.form)
     ∙ ap (λ bs. cond (keys_own m.keys) (cond (is_own_list m.values) (all_true bs) false) false) (former_values is_own m ∙ seen_items_in is_own m.values)
 
-former_pointer : (f : Json → Bool) (m : Held Json) → holds_shared ((json.TheShapes.former-Json-Object-0).map Json Bool f m) ≡ holds_shared m
-former_pointer f m = ap (λ b. cond (keys_shared m.keys) b false) (values_shared f m m.values.form)
+former_pointer : {X Y : Type 0} (f : X → Y) (o : Object X) → object_shared ((json.TheShapes.former-Json-Object-0).map X Y f o) ≡ object_shared o
+former_pointer f (held.Own m) = refl
+former_pointer f (held.Shared a) = refl
 
-pub pointer_object : (m : Held Json) → is_pointer (json.Object m) ≡ holds_shared m
-pointer_object m = search (rules, the_lemmas, former_pointer)
+pub owned_object : (o : Object Json) → is_own (json.Object o) ≡ held_own o
+owned_object o =
+    let n = (json.TheShapes.former-Json-Object-0).map Json Bool is_own o in
+    let e : is_own (json.Object o) ≡ cond (object_shared n) false (members_step (members_in n)) = search (rules, the_lemmas) in
+    e ∙ ap (λ b. cond b false (members_step (members_in n))) (former_pointer is_own o)
+    ∙ ap (λ m. cond (object_shared o) false (members_step m)) (mapped_in is_own o)
+    ∙ ap (cond (object_shared o) false) (members_own (members_in o))
+
+pub pointer_object : (o : Object Json) → is_pointer (json.Object o) ≡ object_shared o
+pointer_object o = search (rules, the_lemmas, former_pointer)
 
 -- ---- blocks
 

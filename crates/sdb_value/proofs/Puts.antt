@@ -12,7 +12,9 @@ use Rattle.sdb_members.specs.Laws.{seen_entries}
 use Rattle.sdb_members.specs.Members.{entries_in, entries_seen, is_own as holds_own}
 use Rattle.sdb_members.specs.Order.{by_bytes}
 use Rattle.sdb_members.specs.declared.members.Members.{Members as Held}
-use Rattle.sdb_value.specs.Owns.{is_own, items_own, object_own, seen}
+use Rattle.sdb_members.specs.declared.object.Object.{Object}
+use Rattle.sdb_members.specs.declared.object.Object.TheVariants.{Own}
+use Rattle.sdb_value.specs.Owns.{is_own, held_own, items_own, object_own, seen}
 use Rattle.sdb_value.specs.Value.{Value, Members, member, member_at, put, without}
 use Rattle.sdb_value.specs.View.{view, members_of, members_view, object_view}
 use Rattle.sdb_value.specs.declared.value.Json.{Json}
@@ -95,6 +97,23 @@ pub whole : (a b c : Bool) → cond a b false ≡ true → c ≡ true → cond a
 whole true true c e f = f
 whole true false c e f = cc
 whole false b c e f = cc
+
+either : (b : Bool) → (b ≡ true → b ≡ false) → b ≡ false
+either true h = h refl
+either false h = refl
+
+part_shared : (a b c : Bool) → cond a b false ≡ false → cond a (cond b c false) false ≡ false
+part_shared true true c e = cc
+part_shared true false c e = refl
+part_shared false b c e = refl
+
+-- an object is not its owner's own where its members, or their values, are not, once they have one owner
+pub shared_inside : (o n : Object Json) (m : Held Json) → (held_own o ≡ true → n ≡ o) → n ≡ Own m → object_own m ≡ false → held_own o ≡ false
+shared_inside o n m keeps is h = either (held_own o) (λ own. ap held_own (sym (keeps own) ∙ is) ∙ h)
+
+pub shared_within : (o n : Object Json) (m : Held Json) → (held_own o ≡ true → n ≡ o) → n ≡ Own m → holds_own m ≡ false → held_own o ≡ false
+shared_within o n m keeps is h =
+    shared_inside o n m keeps is (part_shared (keys_own m.keys) (is_own_list m.values) (items_own (items_in m.values)) h)
 
 -- members that are their owner's own, and all their values
 pub own_members : (m n : Held Json) → (holds_own m ≡ true → holds_own n ≡ true)

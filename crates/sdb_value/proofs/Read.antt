@@ -1,20 +1,20 @@
 -- What is read of a list or an object, part by part.
-use Rattle.std.proofs.Common.{Bool, ◌≡◌, ℕ, ◌<◌, ◌≤◌, List, [], ◌∷◌, ◌++◌, Option, Some, None, option_map, nat_cmp, Ordering, Less, Equal, Greater, refl, sym, ap, ◌∙◌, arith}
-use Rattle.std.proofs.lemmas.Cmp.{nat_list_cmp_total}
+use Rattle.std.proofs.Common.{Bool, ◌≡◌, ℕ, ◌<◌, ◌≤◌, List, [], ◌∷◌, ◌++◌, map, Option, Some, None, option_map, nat_cmp, Ordering, Less, refl, sym, ap, ◌∙◌, subst, arith}
+use Rattle.std.specs.Bool.{⊤}
 use Rattle.std.specs.Borrow.{Bor}
 use Rattle.std.specs.Cmp.Lexicographic.{slice_cmp}
-use Rattle.std.specs.List.{AllByRecursion}
+use Rattle.std.specs.List.{AllByRecursion, zip}
 use Rattle.std.specs.List.Sorted.{IsStrictlySortedBy}
 use Rattle.std.specs.Map.{keys_of}
 use Rattle.std.specs.Option.{option_and_then}
-use Rattle.std.specs.Ordering.{match_ordering, ordering_reverse}
 use Rattle.serde_json.specs.Data as raw
 use Rattle.serde_json.specs.Find.{as_array, as_bool, as_number, as_object, as_str}
 use Rattle.serde_json.specs.Data.{Num}
 use Rattle.sdb_json.specs.Tree.{sorted_members}
-use Rattle.sdb_value.specs.Value.{Value, Items, no_items, item, join, Members, no_members, member, put, depth, items_depth, members_depth}
+use Rattle.sdb_members.specs.Order.{by_bytes, IsAscending}
+use Rattle.sdb_value.specs.Value.{Value, Items, no_items, item, join, Members, member, depth, items_depth, members_depth}
 use Rattle.sdb_value.specs.Profile.{of_data, of_items, of_members}
-use Rattle.sdb_value.specs.View.{view, items_view}
+use Rattle.sdb_value.specs.View.{view, items_view, members_view}
 use Rattle.sdb_value.specs.declared.value.Json.{Json}
 
 pub join_none : (ds : Items) → join ds no_items ≡ ds
@@ -46,15 +46,6 @@ low_push [] j n h k = omega arith
 low_push (v ∷ vs) j n h k = let r : items_depth (items_view (vs ++ j ∷ [])) ≤ n = low_push vs j n (omega arith) k in omega arith
 
 -- ---- members
-inverted : (o : Option Value) (p : Option Members) (k : List ℕ) (ms : Members) → option_and_then (λ v. option_map (member k v) p) o ≡ Some ms
-    → (v : Value) × (ns : Members) × (o ≡ Some v) × (p ≡ Some ns) × (ms ≡ member k v ns)
-inverted None p k ms h = cc
-inverted (Some v) None k ms h = cc
-inverted (Some v) (Some ns) k ms h = (v, ns, refl, refl, cc)
-
-built : (o : Option Value) (p : Option Members) (k : List ℕ) (v : Value) (ns : Members) → o ≡ Some v → p ≡ Some ns
-    → option_and_then (λ v. option_map (member k v) p) o ≡ Some (member k v ns)
-built o p k v ns e f = rw (e, f) refl
 
 abbrev pub Entry : Type 0 → Type 0
 Entry D = Bor (List ℕ) × Bor D
@@ -62,28 +53,80 @@ Entry D = Bor (List ℕ) × Bor D
 abbrev pub text_cmp : Bor (List ℕ) → Bor (List ℕ) → Ordering
 text_cmp k l = slice_cmp nat_cmp k.now l.now
 
+-- the keys of entries
+abbrev pub names : {D : Type 0} → List (Entry D) → List (List ℕ)
+names es = map (λ e. e.0.now) es
+
+-- each entry's value is read
+abbrev pub AreRead : {D : Type 0} → (D → raw.Data) → List (Entry D) → List Json → Type 0
+AreRead f [] [] = ⊤
+AreRead f [] (v ∷ vs) = ⊥
+AreRead f (e ∷ es) [] = ⊥
+AreRead f (e ∷ es) (v ∷ vs) = (of_data (f e.1.now) ≡ Some (view v)) × AreRead f es vs
+
+built : (o : Option Value) (p : Option Members) (k : List ℕ) (v : Value) (ns : Members) → o ≡ Some v → p ≡ Some ns
+    → option_and_then (λ v. option_map (member k v) p) o ≡ Some (member k v ns)
+built o p k v ns e f = rw (e, f) refl
+
 none_after : (o : Option Value) (k : List ℕ) (p : Option Members) → p ≡ None → option_and_then (λ v. option_map (member k v) p) o ≡ None
 none_after None k p e = refl
 none_after (Some v) k p e = rw e refl
 
-module _ {D : Type 0} (f : D → raw.Data) where
-  below_middle : (first : Entry D) (es : List (Entry D)) (e : Entry D) (more : List (Entry D)) → AllByRecursion (λ y. text_cmp first.0 y ≡ Less) (keys_of (es ++ e ∷ more)) → text_cmp first.0 e.0 ≡ Less
-  below_middle first [] e more h = h.0
-  below_middle first (x ∷ es) e more h = below_middle first es e more h.1
+pub names_more : {D : Type 0} (es : List (Entry D)) (e : Entry D) → names (es ++ e ∷ []) ≡ names es ++ e.0.now ∷ []
+names_more [] e = refl
+names_more (d ∷ es) e = ap (λ l. d.0.now ∷ l) (names_more es e)
 
-  -- one more member, whose key is above those before it
-  pub member_more : (done : List (Entry D)) (e : Entry D) (more : List (Entry D)) (ms : Members) (v : Value) → IsStrictlySortedBy text_cmp (keys_of (done ++ e ∷ more))
-      → of_members (sorted_members f done) ≡ Some ms → of_data (f e.1.now) ≡ Some v
-      → of_members (sorted_members f (done ++ e ∷ [])) ≡ Some (put (e.0.now) v ms)
-  unfolding IsStrictlySortedBy
-  member_more [] e more ms v sorted h k = let none : ms ≡ no_members = cc in rw (k, none) refl
-  member_more (first ∷ done) e more ms v sorted h k =
-      let inv = inverted (of_data (f first.1.now)) (of_members (sorted_members f done)) (first.0.now) ms h in
-      let above : slice_cmp nat_cmp (e.0.now) (first.0.now) ≡ Greater =
-      nat_list_cmp_total.antisymm (e.0.now) (first.0.now) ∙ ap ordering_reverse (below_middle first done e more sorted.0) in
-      let k0 = first.0.now in
-      let put_under : put (e.0.now) v (member k0 inv.0 inv.1) ≡ member k0 inv.0 (put (e.0.now) v inv.1) = rw above refl in
-      built _ _ k0 inv.0 (put (e.0.now) v inv.1) inv.2 (member_more done e more inv.1 v sorted.1 inv.3 k) ∙ ap Some (sym (ap (put (e.0.now) v) inv.4 ∙ put_under))
+below_names : {D : Type 0} (k : Bor (List ℕ)) (es : List (Entry D)) → AllByRecursion (λ y. text_cmp k y ≡ Less) (keys_of es)
+    → AllByRecursion (λ t. by_bytes k.now t ≡ Less) (names es)
+below_names k [] a = tt
+below_names k (e ∷ es) a = (a.0, below_names k es a.1)
+
+ascending_names : {D : Type 0} (es : List (Entry D)) → IsStrictlySortedBy text_cmp (keys_of es) → IsAscending (names es)
+unfolding IsStrictlySortedBy
+ascending_names [] s = tt
+ascending_names (e ∷ es) s = (below_names e.0 es s.0, ascending_names es s.1)
+
+append_none : {E : Type 0} (es : List E) → es ++ [] ≡ es
+append_none [] = refl
+append_none (e ∷ es) = ap (λ l. e ∷ l) (append_none es)
+
+-- nothing is left
+all_done : {E : Type 0} (es done left : List E) → es ≡ done ++ left → left ≡ [] → done ≡ es
+all_done es done left e n = sym (e ∙ ap (λ l. done ++ l) n ∙ append_none done)
+
+-- the keys of all entries of a map ascend
+pub all_ascend : {D : Type 0} (es done left : List (Entry D)) (ts : List (List ℕ)) → es ≡ done ++ left → left ≡ [] → ts ≡ names done
+    → IsStrictlySortedBy text_cmp (keys_of es) → IsAscending ts
+all_ascend es done left ts split none keys sorted =
+    subst IsAscending (sym (keys ∙ ap names (all_done es done left split none))) (ascending_names es sorted)
+
+pub object_low : (ts : List (List ℕ)) (vs : List Json) (n : ℕ) → items_depth (items_view vs) ≤ n → members_depth (members_view (zip ts vs)) ≤ n
+object_low [] vs n h = omega arith
+object_low (t ∷ ts) [] n h = omega arith
+object_low (t ∷ ts) (v ∷ vs) n h = let r : members_depth (members_view (zip ts vs)) ≤ n = object_low ts vs n (omega arith) in omega arith
+
+module _ {D : Type 0} (f : D → raw.Data) where
+  -- one more member is read
+  pub member_more : (es : List (Entry D)) (vs : List Json) (e : Entry D) (v : Json) → AreRead f es vs → of_data (f e.1.now) ≡ Some (view v)
+      → AreRead f (es ++ e ∷ []) (vs ++ v ∷ [])
+  member_more [] [] e v r h = (h, tt)
+  member_more [] (u ∷ us) e v r h = absurd r
+  member_more (d ∷ es) [] e v r h = absurd r
+  member_more (d ∷ es) (u ∷ us) e v r h = (r.0, member_more es us e v r.1 h)
+
+  object_read : (es : List (Entry D)) (vs : List Json) → AreRead f es vs → of_members (sorted_members f es) ≡ Some (members_view (zip (names es) vs))
+  object_read [] [] r = refl
+  object_read [] (v ∷ vs) r = absurd r
+  object_read (e ∷ es) [] r = absurd r
+  object_read (e ∷ es) (v ∷ vs) r =
+      built (of_data (f e.1.now)) (of_members (sorted_members f es)) e.0.now (view v) (members_view (zip (names es) vs)) r.0 (object_read es vs r.1)
+
+  -- the object of all members, which its keys and values make
+  pub object_made : (es done left : List (Entry D)) (ts : List (List ℕ)) (vs : List Json) (ms : List (List ℕ × Json)) → es ≡ done ++ left → left ≡ []
+      → ts ≡ names done → AreRead f done vs → ms ≡ zip ts vs → of_members (sorted_members f es) ≡ Some (members_view ms)
+  object_made es done left ts vs ms split none keys reads made =
+      ap (λ ds. of_members (sorted_members f ds)) (sym (all_done es done left split none)) ∙ object_read done vs reads
+      ∙ ap (λ ks. Some (members_view (zip ks vs))) (sym keys) ∙ ap (λ ns. Some (members_view ns)) (sym made)
 
   pub member_none : (done : List (Entry D)) (e : Entry D) (more : List (Entry D)) → of_data (f e.1.now) ≡ None → of_members (sorted_members f (done ++ e ∷ more)) ≡ None
   member_none [] e more k = rw k refl
@@ -92,16 +135,6 @@ module _ {D : Type 0} (f : D → raw.Data) where
   pub member_deep : (done : List (Entry D)) (e : Entry D) (more : List (Entry D)) (n : ℕ) → n < raw.depth (f e.1.now) → n < raw.members_depth (sorted_members f (done ++ e ∷ more))
   member_deep [] e more n k = omega arith
   member_deep (first ∷ done) e more n k = let r : n < raw.members_depth (sorted_members f (done ++ e ∷ more)) = member_deep done e more n k in omega arith
-
-low_either : (o : Ordering) (k l : List ℕ) (u d : Value) (ms ns : Members) (n : ℕ) → members_depth (member l d ms) ≤ n → depth u ≤ n → members_depth ns ≤ n
-    → members_depth (match_ordering o (member k u (member l d ms)) (member l u ms) (member l d ns)) ≤ n
-low_either Less k l u d ms ns n h a b = omega arith
-low_either Equal k l u d ms ns n h a b = omega arith
-low_either Greater k l u d ms ns n h a b = omega arith
-
-pub low_put : (k : List ℕ) (u : Value) (ms : Members) (n : ℕ) → members_depth ms ≤ n → depth u ≤ n → members_depth (put k u ms) ≤ n
-low_put k u no_members n h a = omega arith
-low_put k u (member l d ms) n h a = low_either (slice_cmp nat_cmp k l) k l u d ms (put k u ms) n h a (low_put k u ms n (omega arith) a)
 
 -- ---- what a kind of JSON says of the data
 

@@ -1,16 +1,20 @@
 -- How much there is of a value: what a walk through it goes down by.
-use Rattle.std.proofs.Common.{◌≡◌, ℕ, suc, ◌+◌, ◌≤◌, ◌<◌, List, [], ◌∷◌, map, refl, ap, ◌∙◌, arith, rules}
-use Rattle.std.specs.List.{zip}
+use Rattle.std.proofs.Common.{◌≡◌, ℕ, zero, suc, ◌+◌, ◌≤◌, ◌<◌, List, [], ◌∷◌, ◌++◌, length, get_or, slice_get, Some, map, refl, ap, ◌∙◌, arith, rules}
+use Rattle.std.specs.List.{flat_map, zip}
+use Rattle.sdb_pieces.specs.Block.{items_of as block_items}
+use Rattle.sdb_pieces.specs.declared.block.Block.{Block}
 use Rattle.sdb_pieces.specs.Laws.{seen_items_in}
 use Rattle.sdb_pieces.specs.Pieces.{seen_in, items_in}
 use Rattle.sdb_members.specs.Keys.{texts_in}
 use Rattle.sdb_members.specs.Members.{entries_in}
 use Rattle.sdb_pieces.specs.declared.pieces.Pieces.{Pieces}
+use Rattle.sdb_members.specs.Object.{members_in}
 use Rattle.sdb_members.specs.declared.members.Members.{Members as Held}
+use Rattle.sdb_members.specs.declared.object.Object.{Object}
 use Rattle.sdb_value.specs.declared.value.Json.{Json, fold-Json, the_lemmas}
 use Rattle.sdb_value.specs.declared.value.Json as json
 use Rattle.sdb_value.specs.declared.value.Json.TheOpen.{Json-F}
-use Rattle.sdb_value.proofs.Views.{former_seen, former_values, seen_list, seen_object}
+use Rattle.sdb_value.proofs.Views.{former_seen, former_values, mapped_in, seen_list, seen_object}
 
 abbrev total : List ℕ → ℕ
 total [] = 0
@@ -18,7 +22,7 @@ total (n ∷ ns) = n + total ns
 
 abbrev weight_step : Json-F ℕ → ℕ
 weight_step (Json-F.List l) = suc (suc (total (seen_in (λ n. n) l)))
-weight_step (Json-F.Object m) = suc (suc (total (seen_in (λ n. n) m.values)))
+weight_step (Json-F.Object o) = suc (suc (total (seen_in (λ n. n) (members_in o).values)))
 weight_step _ = 1
 
 abbrev pub weight : Json → ℕ
@@ -44,13 +48,15 @@ weigh_list l =
     let e : weight (json.List l) ≡ suc (suc (total (seen_in (λ n. n) (inner_list l)))) = search (rules, the_lemmas) in
     e ∙ ap (λ ns. suc (suc (total ns))) (former_seen weight l ∙ seen_items_in weight l) ∙ ap (λ n. suc (suc n)) (weights_are (items_in l))
 
-abbrev inner_object : Held Json → Held ℕ
-inner_object m = (json.TheShapes.former-Json-Object-0).map Json ℕ weight m
+abbrev inner_object : Object Json → Object ℕ
+inner_object o = (json.TheShapes.former-Json-Object-0).map Json ℕ weight o
 
-pub weigh_object : (m : Held Json) → weight (json.Object m) ≡ suc (suc (weights (items_in m.values)))
-weigh_object m =
-    let e : weight (json.Object m) ≡ suc (suc (total (seen_in (λ n. n) (inner_object m).values))) = search (rules, the_lemmas) in
-    e ∙ ap (λ ns. suc (suc (total ns))) (former_values weight m ∙ seen_items_in weight m.values) ∙ ap (λ n. suc (suc n)) (weights_are (items_in m.values))
+pub weigh_object : (o : Object Json) → weight (json.Object o) ≡ suc (suc (weights (items_in (members_in o).values)))
+weigh_object o =
+    let vs = (members_in o).values in
+    let e : weight (json.Object o) ≡ suc (suc (total (seen_in (λ n. n) (members_in (inner_object o)).values))) = search (rules, the_lemmas) in
+    e ∙ ap (λ m. suc (suc (total (seen_in (λ n. n) m.values)))) (mapped_in weight o)
+    ∙ ap (λ ns. suc (suc (total ns))) (former_values weight (members_in o) ∙ seen_items_in weight vs) ∙ ap (λ n. suc (suc n)) (weights_are (items_in vs))
 
 paired_fit : (ts : List (List ℕ)) (vs : List Json) → members_weight (zip ts vs) ≤ weights vs
 paired_fit [] vs = omega arith
@@ -73,6 +79,28 @@ member_below es fs e n h k = let s : members_weight es ≡ weight e.1 + members_
 
 pub members_rest_below : (es fs : List (List ℕ × Json)) (e : List ℕ × Json) (n : ℕ) → es ≡ e ∷ fs → members_weight es ≤ n → members_weight fs ≤ n
 members_rest_below es fs e n h k = let s : members_weight es ≡ weight e.1 + members_weight fs = ap members_weight h in omega (arith, s, k)
+
+-- one of a list, and of a list of blocks, weighs no more than all
+pub item_fits : (vs : List Json) (k : ℕ) (v : Json) → k < length vs → v ≡ get_or vs k v → weight v ≤ weights vs
+item_fits [] k v h is = absurd (omega (arith, h))
+item_fits (x ∷ vs) zero v h is = let same : weight v ≡ weight x = ap weight is in omega (arith, same)
+item_fits (x ∷ vs) (suc k) v h is = let rest = item_fits vs k v (omega (arith, h)) is in omega (arith, rest)
+
+weights_join : (vs ws : List Json) → weights (vs ++ ws) ≡ weights vs + weights ws
+weights_join [] ws = omega arith
+weights_join (v ∷ vs) ws = let rest = weights_join vs ws in omega (arith, rest)
+
+pub block_fits : (bs : List (Block Json)) (k : ℕ) (b : Block Json) → slice_get bs k ≡ Some b → weights (block_items b) ≤ weights (flat_map block_items bs)
+block_fits [] k b is = cc
+block_fits (x ∷ bs) zero b is =
+    let same : x ≡ b = cc in
+    let first : weights (block_items x) ≡ weights (block_items b) = ap (λ y. weights (block_items y)) same in
+    let all = weights_join (block_items x) (flat_map block_items bs) in
+    omega (arith, first, all)
+block_fits (x ∷ bs) (suc k) b is =
+    let rest = block_fits bs k b is in
+    let all = weights_join (block_items x) (flat_map block_items bs) in
+    omega (arith, rest, all)
 
 -- one level of a list, and of an object: what it is, and what it weighs
 pub ruleset levels = (seen_list, seen_object, weigh_list, weigh_object, members_fit)

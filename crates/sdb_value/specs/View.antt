@@ -7,7 +7,9 @@ use Rattle.sdb_pieces.specs.Pieces.{seen_in, blocks_form, items_in}
 use Rattle.sdb_pieces.specs.declared.pieces.Form.{Form}
 use Rattle.sdb_pieces.specs.declared.pieces.Pieces.{Pieces}
 use Rattle.sdb_members.specs.Members.{entries_in, entries_seen}
+use Rattle.sdb_members.specs.Object.{members_in}
 use Rattle.sdb_members.specs.declared.members.Members.{Members as Held}
+use Rattle.sdb_members.specs.declared.object.Object.{Object}
 use Rattle.sdb_text.specs.Held.{bytes_in}
 use Rattle.sdb_value.specs.Value.{Value, null, truth, whole, text, list, object, Items, no_items, item, Members, no_members, member, PlainStep, key, index}
 use Rattle.sdb_value.specs.declared.value.Json.{Json, fold-Json}
@@ -30,7 +32,7 @@ view_step (Json-F.Bool b) = truth b
 view_step (Json-F.Int n) = whole n
 view_step (Json-F.Text t) = text (bytes_in t)
 view_step (Json-F.List l) = list (items_of (seen_in (λ d. d) l))
-view_step (Json-F.Object m) = object (members_of (entries_seen (λ d. d) m))
+view_step (Json-F.Object o) = object (members_of (entries_seen (λ d. d) (members_in o)))
 
 abbrev pub view : Json → Value
 view = fold-Json Value view_step
@@ -54,6 +56,9 @@ form_view w = items_view (flat_map block_items (blocks_form w))
 
 abbrev pub object_view : Held Json → Members
 object_view m = members_view (entries_in m)
+
+abbrev pub held_view : Object Json → Members
+held_view o = object_view (members_in o)
 
 abbrev pub plain_step : Step → PlainStep
 plain_step (Key k) = key (string_bytes k)

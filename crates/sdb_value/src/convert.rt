@@ -1,19 +1,20 @@
 //! From JSON that is read.
-ghost use Rattle.std.specs.Prelude.{◌≡◌, ◌≤◌, map, true, Some, None, IfOk, IfErr};
+ghost use Rattle.std.specs.Prelude.{◌≡◌, ◌≤◌, ◌++◌, ◌∷◌, [], map, true, Some, None, IfOk, IfErr, OnOk};
 ghost use Rattle.sdb_value.specs.Value.{depth, items_depth, members_depth};
-ghost use Rattle.sdb_value.specs.Owns.{is_own, items_own, map_own};
+ghost use Rattle.sdb_value.specs.Owns.{is_own, items_own, object_own};
 ghost use Rattle.sdb_value.specs.Profile.{of_data, of_items, of_members, in_profile};
 ghost use Rattle.sdb_value.specs.Profile.{Unread, Refuses, RefusesItems, RefusesMembers};
-ghost use Rattle.sdb_value.specs.View.{view, items_view, map_view};
+ghost use Rattle.sdb_value.specs.View.{view, items_view, object_view};
 ghost use Rattle.serde_json.specs.Find.{as_array, as_object};
 ghost use Rattle.serde_json.specs.View as raw;
 ghost use Rattle.sdb_json.specs.Tree.{sorted_members};
+ghost use Rattle.sdb_members.specs.Search.{texts};
 
 use crate::lists::push_item;
-use crate::members::put_entry;
 use crate::numbers::whole_of;
-use crate::value::Json;
+use crate::value::{Json, Members};
 use sdb_json::JsonData;
+use sdb_members::Key;
 use sdb_text::Text;
 use std::alloc::{AllocError, Global};
 use std::collections::BTreeMap;
@@ -72,7 +73,7 @@ fn read<D: JsonData>(alloc: Global, value: &D, left: u64) -> Result<Json, ValueF
         if left == 0 {
             return Err(ValueFault::Depth);
         }
-        return Ok(Json::object(alloc, read_members(alloc, &members, left - 1)?)?);
+        return Ok(Json::of_members(read_members(alloc, &members, left - 1)?));
     }
     read_leaf(alloc, value)
 }
@@ -121,18 +122,26 @@ fn read_members<D: JsonData>(
     alloc: Global,
     members: &BTreeMap<&str, &D>,
     left: u64,
-) -> Result<BTreeMap<String, Json>, ValueFault>
-    ensures ok { IfOk result (λ m. of_members (sorted_members D.json members.now.entries)
-        ≡ Some (map_view m.entries)) }
-    ensures low { IfOk result (λ m. members_depth (map_view m.entries) ≤ left) }
-    ensures own { IfOk result (λ m. map_own m.entries ≡ true) }
+) -> Result<Members, ValueFault>
+    ensures ok { IfOk result (λ m. of_members (sorted_members D.json members.now.entries) ≡ Some (object_view m)) }
+    ensures low { IfOk result (λ m. members_depth (object_view m) ≤ left) }
+    ensures own { IfOk result (λ m. object_own m ≡ true) }
     ensures err { IfErr result (λ f. RefusesMembers left (sorted_members D.json members.now.entries) f) }
 {
-    let mut made = BTreeMap::new(alloc);
+    let mut keys = Vec::with_capacity(alloc, members.len())?;
+    let mut values = Vec::with_capacity(alloc, members.len())?;
     for (key, member) in members.iter() {
         let new = read(alloc, *member, left)?;
-        let name = String::from_str(alloc, key)?;
-        put_entry(&mut made, name, new)?;
+        push_key(alloc, &mut keys, key)?;
+        push_item(&mut values, new)?;
     }
-    Ok(made)
+    Ok(Members::from_sorted(alloc, keys, values)?)
+}
+
+// One more key, of this text.
+fn push_key(alloc: Global, keys: &mut Vec<Key>, text: &str) -> Result<(), AllocError>
+    ensures { OnOk result (texts keys.new.items ≡ texts keys.old.items ++ text.now ∷ []) }
+{
+    keys.push(Key::new(String::from_str(alloc, text)?))?;
+    Ok(())
 }

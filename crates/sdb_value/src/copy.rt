@@ -4,17 +4,19 @@ ghost use Rattle.std.specs.List.{flat_map};
 ghost use Rattle.sdb_pieces.specs.Block.{items_of, is_own as block_own, is_shared as block_shared};
 ghost use Rattle.sdb_pieces.specs.Pieces.{all_shared, blocks_in, is_shared_list};
 ghost use Rattle.sdb_members.specs.Keys.{texts_in, is_own as keys_own, is_shared as keys_shared};
+ghost use Rattle.sdb_members.specs.Object.{is_shared as object_shared};
 ghost use Rattle.sdb_text.specs.Held.{bytes_in, is_own as text_own, is_shared as text_shared};
 ghost use Rattle.sdb_value.specs.Copies.{IsCopied, block_all_own, blocks_all_own};
-ghost use Rattle.sdb_value.specs.Owns.{is_own, is_pointer, items_own, list_own};
-ghost use Rattle.sdb_value.specs.View.{view, items_view, list_view};
+ghost use Rattle.sdb_value.specs.Owns.{is_own, is_pointer, items_own, list_own, held_own, object_own};
+ghost use Rattle.sdb_value.specs.View.{view, held_view, items_view, list_view, object_view};
 ghost use Rattle.sdb_value.specs.declared.copy.Manner.TheVariants.{Same};
 
-use crate::value::{Json, List, Members};
+use crate::value::{Json, List, Members, Object};
 use sdb_members::Keys;
 use sdb_pieces::{Block, Pieces, Share};
 use sdb_text::Text;
 use std::alloc::{AllocError, Global};
+use std::sync::Arc;
 
 /// Of whom a copy is.
 #[derive(Clone, Copy, Drop)]
@@ -25,6 +27,22 @@ pub(crate) enum Manner {
     Own,
     /// All of it is shared: what is shared already is a pointer.
     Shared,
+}
+
+// What is shared at the cost of a pointer, all else in memory of its own. The pointer to an object, which most copies
+// are, is told at once.
+#[inline(always)]
+pub(crate) fn share_copy(alloc: Global, value: &Json) -> Result<Json, AllocError>
+    ensures value { IfOk result (λ v. view v ≡ view value.now) }
+    ensures own { IfOk result (λ v. is_own v ≡ is_own value.now) }
+{
+    if let Json::Object(object) = value
+        && let Object::Shared(members) = object
+    {
+        let members = Arc::try_clone(members)?;
+        return Ok(Json::Object(Object::Shared(members)));
+    }
+    copy(alloc, value, Manner::Same)
 }
 
 #[cycle(copy)]
@@ -38,11 +56,7 @@ pub(crate) fn copy(alloc: Global, value: &Json, manner: Manner) -> Result<Json, 
         Json::Int(n) => Ok(Json::Int(*n)),
         Json::Text(text) => Ok(Json::Text(copy_text(alloc, text, manner)?)),
         Json::List(items) => Ok(Json::List(copy_list(alloc, items, manner)?)),
-        Json::Object(members) => {
-            let keys = copy_keys(alloc, &members.keys, manner)?;
-            let values = copy_list(alloc, &members.values, manner)?;
-            Ok(Json::Object(Members { keys, values }))
-        }
+        Json::Object(object) => Ok(Json::Object(copy_object(alloc, object, manner)?)),
     }
 }
 
@@ -58,7 +72,7 @@ fn copy_text(alloc: Global, text: &Text, manner: Manner) -> Result<Text, AllocEr
 }
 
 #[cycle(copy)]
-pub(crate) fn copy_list(alloc: Global, items: &List, manner: Manner) -> Result<List, AllocError>
+fn copy_list(alloc: Global, items: &List, manner: Manner) -> Result<List, AllocError>
     ensures items { IfOk result (λ l. list_view l ≡ list_view items.now) }
     ensures own { IfOk result (λ l. IsCopied manner (list_own items.now) (list_own l) (is_shared_list l)) }
 {
@@ -140,7 +154,45 @@ fn copy_items(alloc: Global, items: &[Json], manner: Manner) -> Result<Vec<Json>
     Ok(copies)
 }
 
-pub(crate) fn copy_keys(alloc: Global, keys: &Keys, manner: Manner) -> Result<Keys, AllocError>
+#[cycle(copy)]
+fn copy_object(alloc: Global, object: &Object, manner: Manner) -> Result<Object, AllocError>
+    ensures members { IfOk result (λ o. held_view o ≡ held_view object.now) }
+    ensures own { IfOk result (λ o. IsCopied manner (held_own object.now) (held_own o) (object_shared o)) }
+{
+    if let Some(object) = object_pointer(object, manner)? {
+        return Ok(object);
+    }
+    let copy = Object::Own(copy_members(alloc, object.members(), manner)?);
+    match manner {
+        Manner::Shared => copy.into_shared(alloc),
+        _ => Ok(copy),
+    }
+}
+
+// A pointer to the members, where they are shared and a copy may be one.
+fn object_pointer(object: &Object, manner: Manner) -> Result<Option<Object>, AllocError>
+    ensures members { IfOk result (λ o. IfSome o (λ x. held_view x ≡ held_view object.now)) }
+    ensures own { IfOk result (λ o. IfSome o
+        (λ x. IsCopied manner (held_own object.now) (held_own x) (object_shared x))) }
+    ensures none { IfOk result (λ o. IfNone o (manner ≡ Same → object_shared object.now ≡ false)) }
+{
+    match manner {
+        Manner::Own => Ok(None),
+        _ => object.share_pointer(),
+    }
+}
+
+#[cycle(copy)]
+fn copy_members(alloc: Global, members: &Members, manner: Manner) -> Result<Members, AllocError>
+    ensures members { IfOk result (λ m. object_view m ≡ object_view members.now) }
+    ensures own { IfOk result (λ m. IsCopied manner (object_own members.now) (object_own m) true) }
+{
+    let keys = copy_keys(alloc, &members.keys, manner)?;
+    let values = copy_list(alloc, &members.values, manner)?;
+    Ok(Members { keys, values })
+}
+
+fn copy_keys(alloc: Global, keys: &Keys, manner: Manner) -> Result<Keys, AllocError>
     ensures same { IfOk result (λ k. texts_in k ≡ texts_in keys.now) }
     ensures own { IfOk result (λ k. IsCopied manner (keys_own keys.now) (keys_own k) (keys_shared k)) }
 {

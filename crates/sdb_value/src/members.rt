@@ -1,31 +1,16 @@
 //! Objects changed in place.
 ghost use Rattle.std.specs.Prelude.{◌≡◌, true, false, None, OnOk, OnErr, string_bytes};
 ghost use Rattle.sdb_members.specs.Members.{is_own as holds_own};
-ghost use Rattle.sdb_value.specs.Owns.{is_own, map_own, object_own};
+ghost use Rattle.sdb_members.specs.Object.{is_shared};
+ghost use Rattle.sdb_value.specs.Owns.{is_own, held_own, object_own};
 ghost use Rattle.sdb_value.specs.Value.{member_at, put, without};
-ghost use Rattle.sdb_value.specs.View.{view, map_view, object_view};
+ghost use Rattle.sdb_value.specs.View.{view, held_view, object_view};
 
-use crate::value::{Json, Members};
+use crate::value::{Json, Members, Object};
 use std::alloc::{AllocError, Global};
-use std::collections::BTreeMap;
 
-// Gives the key this value, whether it was there before or not.
-pub(crate) fn put_entry(
-    members: &mut BTreeMap<String, Json>,
-    key: String,
-    new: Json,
-) -> Result<(), AllocError>
-    ensures ok { OnOk result (map_view members.new.entries
-        ≡ put (string_bytes key) (view new) (map_view members.old.entries)) }
-    ensures own { map_own members.old.entries ≡ true → is_own new ≡ true
-        → map_own members.new.entries ≡ true }
-{
-    drop(members.insert(key, new)?);
-    Ok(())
-}
-
-/// Gives the key this value, whether it was there before or not. `Err`, with the object unchanged, where
-/// memory is wanting: the key is new, or something of the object is shared.
+/// Gives the key this value, whether it was there before or not. `Err`, with the members unchanged, where
+/// memory is wanting: the key is new, or something of the members is shared.
 pub fn put_member(
     alloc: Global,
     members: &mut Members,
@@ -42,9 +27,7 @@ pub fn put_member(
     Ok(())
 }
 
-/// Takes the key and its value out, if it is there. Else the object is unchanged. It takes memory only where
-/// something of the object is shared; after want of memory it is unchanged.
-pub fn remove_member(alloc: Global, members: &mut Members, key: &str) -> Result<(), AllocError>
+fn remove_member(alloc: Global, members: &mut Members, key: &str) -> Result<(), AllocError>
     ensures ok { OnOk result (object_view members.new ≡ without key.now (object_view members.old)) }
     ensures err { OnErr result (object_view members.new ≡ object_view members.old) }
     ensures own { object_own members.old ≡ true → object_own members.new ≡ true }
@@ -52,4 +35,50 @@ pub fn remove_member(alloc: Global, members: &mut Members, key: &str) -> Result<
 {
     drop(members.remove(alloc, key)?);
     Ok(())
+}
+
+// Makes the members of an object its own, so that they can be changed.
+pub(crate) fn make_own(alloc: Global, object: &mut Object) -> Result<(), AllocError>
+    ensures same { held_view object.new ≡ held_view object.old }
+    ensures own { held_own object.old ≡ true → object.new ≡ object.old }
+    ensures now_own { OnOk result (is_shared object.new ≡ false) }
+    ensures shared { OnErr result (held_own object.old ≡ false) }
+{
+    object.make_own(alloc)
+}
+
+/// Gives the key of an object this value, whether it was there before or not. `Err`, with the object unchanged,
+/// where memory is wanting: the key is new, or something of the object is shared.
+pub fn put_at_key(
+    alloc: Global,
+    object: &mut Object,
+    key: String,
+    new: Json,
+) -> Result<(), AllocError>
+    ensures ok { OnOk result (held_view object.new ≡ put (string_bytes key) (view new) (held_view object.old)) }
+    ensures err { OnErr result (held_view object.new ≡ held_view object.old) }
+    ensures absent { held_own object.old ≡ true
+        → OnErr result (member_at (string_bytes key) (held_view object.old) ≡ None) }
+    ensures own { held_own object.old ≡ true → is_own new ≡ true → held_own object.new ≡ true }
+{
+    make_own(alloc, object)?;
+    match object {
+        Object::Own(members) => put_member(alloc, members, key, new),
+        Object::Shared(_) => unreachable!(),
+    }
+}
+
+/// Takes the key and its value out of an object, if it is there. Else the object is unchanged. It takes memory only
+/// where something of the object is shared; after want of memory it is unchanged.
+pub fn remove_at_key(alloc: Global, object: &mut Object, key: &str) -> Result<(), AllocError>
+    ensures ok { OnOk result (held_view object.new ≡ without key.now (held_view object.old)) }
+    ensures err { OnErr result (held_view object.new ≡ held_view object.old) }
+    ensures own { held_own object.old ≡ true → held_own object.new ≡ true }
+    ensures shared { OnErr result (held_own object.old ≡ false) }
+{
+    make_own(alloc, object)?;
+    match object {
+        Object::Own(members) => remove_member(alloc, members, key),
+        Object::Shared(_) => unreachable!(),
+    }
 }

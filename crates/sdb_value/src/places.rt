@@ -1,13 +1,14 @@
 //! Places in a value.
 ghost use Rattle.std.specs.Prelude.{◌≡◌, ◌∷◌, true, false, option_map, IfOk, IfSome, OnErr, MatchOption};
 ghost use Rattle.sdb_value.specs.Change.{ChangedAt, NothingAt};
-ghost use Rattle.sdb_value.specs.Owns.{is_own, list_own, object_own};
+ghost use Rattle.sdb_value.specs.Owns.{is_own, held_own, list_own, object_own};
 ghost use Rattle.sdb_value.specs.Value.{Value, at, one, item_at, member_at, key, index, list, object};
-ghost use Rattle.sdb_value.specs.View.{view, plain_step, plain_path, list_view, object_view};
+ghost use Rattle.sdb_value.specs.View.{view, plain_step, plain_path, held_view, list_view, object_view};
 
 use crate::lends::{list_mut, object_mut};
 use crate::lists::{put_back, take_item};
-use crate::value::{Json, List, Members};
+use crate::members::make_own;
+use crate::value::{Json, List, Members, Object};
 use std::alloc::{AllocError, Global};
 
 /// One step down: into a member of an object, or an item of a list.
@@ -59,8 +60,8 @@ fn child<'v>(value: &'v Json, step: &Step) -> Option<&'v Json>
             Step::Index(index) => item(items, *index),
             Step::Key(_) => None,
         },
-        Json::Object(members) => match step {
-            Step::Key(key) => member(members, key.as_str()),
+        Json::Object(object) => match step {
+            Step::Key(key) => member(object.members(), key.as_str()),
             Step::Index(_) => None,
         },
         _ => None,
@@ -92,7 +93,18 @@ fn item_mut(items: &mut List, number: u64) -> Option<&mut Json>
 }
 
 // The value of a key, where it is the object's own.
-fn member_mut<'v>(members: &'v mut Members, name: &str) -> Option<&'v mut Json>
+fn member_mut<'v>(object: &'v mut Object, name: &str) -> Option<&'v mut Json>
+    ensures value { held_own object.old ≡ true
+        → option_map (λ v. view v.now) result ≡ member_at name.now (held_view object.old) }
+    ensures own { held_own object.old ≡ true → IfSome result (λ v. is_own v.now ≡ true) }
+{
+    match object {
+        Object::Own(members) => value_mut(members, name),
+        Object::Shared(_) => None,
+    }
+}
+
+fn value_mut<'v>(members: &'v mut Members, name: &str) -> Option<&'v mut Json>
     ensures value { object_own members.old ≡ true
         → option_map (λ v. view v.now) result ≡ member_at name.now (object_view members.old) }
     ensures own { object_own members.old ≡ true → IfSome result (λ v. is_own v.now ≡ true) }
@@ -155,7 +167,7 @@ pub fn change_at<C: Change + Drop>(
             None => Ok(None),
         },
         Step::Key(key) => match object_mut(value) {
-            Some(members) => change_member(alloc, members, key.as_str(), rest, change),
+            Some(object) => change_member(alloc, object, key.as_str(), rest, change),
             None => Ok(None),
         },
     }
@@ -192,6 +204,34 @@ fn change_item<C: Change + Drop>(
 // The change below a member of an object.
 #[cycle(change)]
 fn change_member<C: Change + Drop>(
+    alloc: Global,
+    members: &mut Object,
+    name: &str,
+    rest: &[Step],
+    change: C,
+) -> Result<Option<C::Output>, AllocError>
+    ensures done { IfOk result (λ o. MatchOption o
+        (NothingAt (object (held_view members.old)) (key name.now ∷ plain_path rest.now)
+        (object (held_view members.new)))
+        (λ r. ChangedAt (λ u v. C.Change.makes change u v r)
+        (object (held_view members.old)) (key name.now ∷ plain_path rest.now)
+        (object (held_view members.new)))) }
+    ensures err { OnErr result (held_view members.new ≡ held_view members.old) }
+    ensures own { C.Change.keeps_own change → held_own members.old ≡ true → held_own members.new ≡ true }
+    ensures shared { OnErr result (held_own members.old ≡ false) }
+    ensures answer { held_own members.old ≡ true
+        → IfOk result (λ o. IfSome o (λ r. C.Change.answers_own change r)) }
+{
+    make_own(alloc, members)?;
+    match members {
+        Object::Own(own) => change_value(alloc, own, name, rest, change),
+        Object::Shared(_) => unreachable!(),
+    }
+}
+
+// The change below the value of a key, where the members have one owner.
+#[cycle(change)]
+fn change_value<C: Change + Drop>(
     alloc: Global,
     members: &mut Members,
     name: &str,

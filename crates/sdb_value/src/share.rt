@@ -3,19 +3,18 @@ ghost use Rattle.std.specs.Prelude.{◌≡◌, true, OnOk};
 ghost use Rattle.std.specs.List.{flat_map};
 ghost use Rattle.sdb_pieces.specs.Block.{items_of, is_shared as block_shared};
 ghost use Rattle.sdb_pieces.specs.Pieces.{is_shared_form, is_shared_list};
-ghost use Rattle.sdb_members.specs.Members.{is_shared as members_shared};
+ghost use Rattle.sdb_members.specs.Object.{is_shared as object_shared};
 ghost use Rattle.sdb_value.specs.Owns.{is_pointer};
-ghost use Rattle.sdb_value.specs.View.{view, form_view, items_view, list_view, object_view};
+ghost use Rattle.sdb_value.specs.View.{view, form_view, held_view, items_view, list_view, object_view};
 
-use crate::copy::{Manner, copy_keys, copy_list};
-use crate::value::{Json, List, Members};
+use crate::value::{Json, List, Members, Object};
 use sdb_pieces::{Block, Form, Pieces};
 use std::alloc::{AllocError, Global};
 use std::mem::replace;
 
 // Makes all of a value shared: what is shared already is left as it is, and what is in it isn't looked at.
 #[cycle(share)]
-#[tactic(auto, using(crate::proofs::Sharing::levels))]
+#[inline(always)]
 pub(crate) fn share(alloc: Global, value: &mut Json) -> Result<(), AllocError>
     ensures value { view value.new ≡ view value.old }
     ensures pointer { OnOk result (is_pointer value.new ≡ true) }
@@ -23,17 +22,28 @@ pub(crate) fn share(alloc: Global, value: &mut Json) -> Result<(), AllocError>
     if is_pointer(value) {
         return Ok(());
     }
+    share_parts(alloc, value)
+}
+
+// Makes each part shared, and then the value.
+#[cycle(share)]
+#[tactic(auto, using(crate::proofs::Sharing::levels))]
+fn share_parts(alloc: Global, value: &mut Json) -> Result<(), AllocError>
+    ensures value { view value.new ≡ view value.old }
+    ensures pointer { OnOk result (is_pointer value.new ≡ true) }
+{
     match value {
         Json::Null => Ok(()),
         Json::Bool(_) => Ok(()),
         Json::Int(_) => Ok(()),
         Json::Text(text) => text.share_in_place(alloc),
         Json::List(items) => share_list(alloc, items),
-        Json::Object(members) => share_object(alloc, members),
+        Json::Object(object) => share_object(alloc, object),
     }
 }
 
 // Whether a copy of it is a pointer already, or as little.
+#[inline(always)]
 fn is_pointer(value: &Json) -> bool
     ensures { result ≡ is_pointer value.now }
 {
@@ -41,7 +51,7 @@ fn is_pointer(value: &Json) -> bool
         Json::Null | Json::Bool(_) | Json::Int(_) => true,
         Json::Text(text) => text.is_shared(),
         Json::List(items) => items.is_shared(),
-        Json::Object(members) => members.is_shared(),
+        Json::Object(object) => object.is_shared(),
     }
 }
 
@@ -129,26 +139,34 @@ fn share_each_item(alloc: Global, items: &mut Vec<Json>) -> Result<(), AllocErro
     Ok(())
 }
 
-// The keys and the values.
+// The keys and the values, where the members have one owner yet, and then the members.
 #[cycle(share)]
-fn share_object(alloc: Global, members: &mut Members) -> Result<(), AllocError>
-    ensures members { object_view members.new ≡ object_view members.old }
-    ensures shared { OnOk result (members_shared members.new ≡ true) }
+fn share_object(alloc: Global, object: &mut Object) -> Result<(), AllocError>
+    ensures members { held_view object.new ≡ held_view object.old }
+    ensures shared { OnOk result (object_shared object.new ≡ true) }
+{
+    share_own_members(alloc, object)?;
+    object.share_in_place(alloc)
+}
+
+#[cycle(share)]
+fn share_own_members(alloc: Global, object: &mut Object) -> Result<(), AllocError>
+    ensures { held_view object.new ≡ held_view object.old }
+{
+    match object {
+        Object::Own(members) => share_members(alloc, members),
+        Object::Shared(_) => Ok(()),
+    }
+}
+
+// Values that have no key, which no call makes, stay as they are.
+#[cycle(share)]
+fn share_members(alloc: Global, members: &mut Members) -> Result<(), AllocError>
+    ensures { object_view members.new ≡ object_view members.old }
 {
     if members.values.get(members.keys.len()).is_some() {
-        return share_copied(alloc, members);
+        return Ok(());
     }
     members.keys.share_in_place(alloc)?;
     share_list(alloc, &mut members.values)
-}
-
-// Of an object with values that have no key, which no call makes: it is copied.
-fn share_copied(alloc: Global, members: &mut Members) -> Result<(), AllocError>
-    ensures members { object_view members.new ≡ object_view members.old }
-    ensures shared { OnOk result (members_shared members.new ≡ true) }
-{
-    let keys = copy_keys(alloc, &members.keys, Manner::Shared)?;
-    let values = copy_list(alloc, &members.values, Manner::Shared)?;
-    *members = Members { keys, values };
-    Ok(())
 }

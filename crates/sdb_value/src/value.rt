@@ -6,7 +6,7 @@ ghost use Rattle.sdb_value.specs.Size.{size};
 ghost use Rattle.sdb_value.specs.Value.{as_object, depth, list, null, object};
 ghost use Rattle.sdb_value.specs.View.{view, items_view, map_view, object_view};
 
-use crate::copy::{Manner, copy};
+use crate::copy::{Manner, copy, share_copy};
 use crate::measures::{depth_of, size_of};
 use crate::numbers::MAX;
 use crate::share::share;
@@ -71,6 +71,9 @@ pub type List = Pieces<Json>;
 /// The members of an object, in the order of their keys' bytes, in pieces that copies share.
 pub type Members = sdb_members::Members<Json>;
 
+/// The members of an object, its own or shared with copies as a whole.
+pub type Object = sdb_members::Object<Json>;
+
 /// A value of a document (RFC 8259, section 3), its numbers whole. Its texts, lists and objects are its own,
 /// or shared with copies: a change copies what is shared on its way, and changes what is own in place.
 pub enum Json {
@@ -85,7 +88,7 @@ pub enum Json {
     /// A list, its items counted from 0.
     List(List),
     /// An object, its members in the order of their keys' bytes.
-    Object(Members),
+    Object(Object),
 }
 
 // Written out: so whoever lets a value go calls this, and no proof opens each form of each part there.
@@ -95,7 +98,7 @@ impl Drop for Json {
             Json::Null | Json::Bool(_) | Json::Int(_) => {}
             Json::Text(text) => drop(text),
             Json::List(items) => drop(items),
-            Json::Object(members) => drop(members),
+            Json::Object(object) => drop(object),
         }
     }
 }
@@ -123,16 +126,15 @@ impl Json {
         ensures value { IfOk result (λ v. view v ≡ object (map_view members.entries)) }
         ensures own { map_own members.entries ≡ true → IfOk result (λ v. is_own v ≡ true) }
     {
-        Ok(Json::Object(Members::from_map(alloc, members)?))
+        Ok(Json::of_members(Members::from_map(alloc, members)?))
     }
 
     /// An object that holds these members, their parts as they are.
-    #[tactic(auto, using(crate::proofs::Views::seen_object, crate::proofs::Owned::owned_object))]
     pub fn of_members(held: Members) -> Json
         ensures value { view result ≡ object (object_view held) }
         ensures own { is_own result ≡ object_own held }
     {
-        Json::Object(held)
+        Json::Object(Object::Own(held))
     }
 
     /// Whether it is `null`.
@@ -152,7 +154,7 @@ impl Json {
         ensures { option_map (λ m. object_view m.now) result ≡ as_object (view self.now) }
     {
         match self {
-            Json::Object(members) => Some(members),
+            Json::Object(object) => Some(object.members()),
             _ => None,
         }
     }
@@ -163,7 +165,7 @@ impl Json {
         ensures value { IfOk result (λ v. view v ≡ view self.now) }
         ensures own { IfOk result (λ v. is_own v ≡ is_own self.now) }
     {
-        copy(alloc, self, Manner::Same)
+        share_copy(alloc, self)
     }
 
     /// The same value again, all of it in memory of its own. Fails only where memory is wanting.
@@ -220,6 +222,6 @@ impl Share for Json {
     ghost seen = { seen };
 
     fn share(&self, alloc: Global) -> Result<Json, AllocError> {
-        copy(alloc, self, Manner::Same)
+        share_copy(alloc, self)
     }
 }

@@ -38,9 +38,9 @@ fn write(value: &Json, out: &mut Writer) -> Result<(), AllocError>
             out.begin_array()?;
             write_items(items, out)
         }
-        Json::Object(members) => {
+        Json::Object(object) => {
             out.begin_object()?;
-            write_members(members, out)
+            write_members(object.members(), out)
         }
     }
 }

@@ -1,4 +1,5 @@
 pub mod Answers
 pub mod Coding
+pub mod Pieces
 pub mod View
 pub mod Wire

@@ -5,6 +5,8 @@ mod codes;
 mod entries;
 mod members;
 mod op_text;
+mod pieces;
+mod plain;
 mod reading;
 mod replies;
 mod requests;

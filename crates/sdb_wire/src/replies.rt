@@ -1,5 +1,5 @@
 //! The texts of answers, written token by token.
-ghost use Rattle.std.specs.Prelude.{◌≡◌, ◌∷◌, [], ◌++◌, Some, None, IfOk, OnOk, OnErr, string_bytes, option_map, decimal, codes};
+ghost use Rattle.std.specs.Prelude.{◌≡◌, ◌∷◌, [], ◌++◌, Some, None, IfOk, IfSome, OnOk, OnErr, string_bytes, option_map, decimal, codes};
 ghost use Rattle.json.specs.Print.{print};
 ghost use Rattle.json.specs.Token.{begin_object, key as key_token, string, number};
 ghost use Rattle.json.specs.Written.{WritesFront};
@@ -7,19 +7,19 @@ ghost use Rattle.serde_json.specs.Data.{Members};
 ghost use Rattle.sdb_value.specs.Printed.{data_tokens, object_rest};
 ghost use Rattle.sdb_value.specs.View.{view};
 ghost use Rattle.sdb_oplog.specs.Keys.{plain_key};
+ghost use Rattle.sdb_oplog.specs.Plain.{edit};
 ghost use Rattle.sdb_wire.specs.Answers.{answer_text, answer_tokens, greeting_data, document_data, version_data, key_data, op_message, with_content, acknowledged, failed, snapshot_data, create_data, content_members, entry_data, entry_members, op_tail, error_data, some_member};
+ghost use Rattle.sdb_wire.specs.Pieces.{ArePlain};
 ghost use Rattle.sdb_wire.specs.View.{plain_answer, plain_echo, plain_word};
 
 use crate::codes::{code_name, code_text};
+use crate::pieces::{TEXT_LEN, are_plain, edit_bytes, edit_message, push_acknowledged};
 use crate::requests::{Answer, Echo, TYPE, Word};
 use json::Writer;
-use sdb_component::write_op;
+use sdb_component::{Op, write_op};
 use sdb_oplog::{Code, Content, Entry, Key, Kind};
 use sdb_value::{Json, write_value};
 use std::alloc::{AllocError, Global};
-
-// Room for most answers.
-const TEXT_LEN: usize = 256;
 
 /// The text of an answer, compact, with the members of each object in the order of their bytes.
 pub fn reply_text(alloc: Global, answer: &Answer<'_>) -> Result<String, AllocError>
@@ -27,6 +27,9 @@ pub fn reply_text(alloc: Global, answer: &Answer<'_>) -> Result<String, AllocErr
 {
     if let Answer::OpText { text } = answer {
         return String::from_str(alloc, text.as_str());
+    }
+    if let Some((key, entry, op)) = plain_edit(answer) {
+        return edit_message(alloc, key, entry, op);
     }
     let mut out = Writer::new(Vec::with_capacity(alloc, TEXT_LEN)?);
     write_answer(answer, &mut out)?;
@@ -42,6 +45,16 @@ pub fn write_reply(alloc: Global, answer: &Answer<'_>, out: &mut Vec<u8>) -> Res
     if let Answer::OpText { text } = answer {
         return out.extend_from_slice(text.as_str().as_bytes());
     }
+    if let Answer::Acknowledged {
+        key,
+        src,
+        seq,
+        version,
+    } = answer
+        && are_plain(key, src)
+    {
+        return push_acknowledged(key, src, *seq, *version, out);
+    }
     let text = reply_bytes(alloc, answer)?;
     out.extend_from_slice(text.as_slice())
 }
@@ -50,9 +63,32 @@ pub fn write_reply(alloc: Global, answer: &Answer<'_>, out: &mut Vec<u8>) -> Res
 fn reply_bytes(alloc: Global, answer: &Answer<'_>) -> Result<Vec<u8>, AllocError>
     ensures { IfOk result (λ v. v.items ≡ answer_text (plain_answer answer.now)) }
 {
+    if let Some((key, entry, op)) = plain_edit(answer) {
+        return edit_bytes(alloc, key, entry, op);
+    }
     let mut writer = Writer::new(Vec::with_capacity(alloc, TEXT_LEN)?);
     write_answer(answer, &mut writer)?;
     Ok(bytes_of(writer))
+}
+
+// The operation that an answer tells, of an entry of a document, where their names need no escape.
+fn plain_edit<'a>(answer: &'a Answer<'_>) -> Option<(&'a Key, &'a Entry, &'a Op)>
+    ensures told { IfSome result (λ t. plain_answer answer.now
+        ≡ op_message (plain_key t.0.now) (with_content t.1.now (edit t.2.now))) }
+    ensures plain { IfSome result (λ t. ArePlain (plain_key t.0.now) (t.1.now).arrived.src) }
+{
+    let Answer::OpMessage {
+        key,
+        entry,
+        content,
+    } = answer
+    else {
+        return None;
+    };
+    match content.kind() {
+        Kind::Edit(op) if are_plain(key, entry.arrived().src()) => Some((key, entry, op)),
+        _ => None,
+    }
 }
 
 // What was written.

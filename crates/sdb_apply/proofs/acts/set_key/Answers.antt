@@ -3,23 +3,23 @@ use Rattle.std.proofs.lemmas.Result.{err_from_is_err_and}
 use Rattle.sdb_value.specs.Law.{known}
 use Rattle.sdb_value.specs.Owns.{is_own}
 use Rattle.sdb_value.specs.Value.{put}
-use Rattle.sdb_value.specs.View.{view, object_view}
+use Rattle.sdb_value.specs.View.{view, held_view}
 use Rattle.sdb_apply.proofs.Outcomes.{needs_put, object_done, object_stays}
 use Rattle.sdb_apply.proofs.acts.set_key.Goals as goal
 
-pub returns-in_err-put_member-in-Some-clause-outcome : goal.returns-in_err-put_member-in-Some-clause-outcome
-returns-in_err-put_member-in-Some-clause-outcome c =
-    let p = err_from_is_err_and c.from_residual-in_err-put_member-in-Some.result c.from_residual-in_err-put_member-in-Some.ensures.1 in
-    rw (p.1, p.2) (needs_put (is_own c.args.place.now), object_stays _ _ _ _ c.in-Some.ensures.value (known _ _ c.in-Some.is (c.object_mut.follows.holds _)).0 c.in_err-put_member-in-Some.ensures.err)
+pub returns-in_err-put_at_key-in-Some-clause-outcome : goal.returns-in_err-put_at_key-in-Some-clause-outcome
+returns-in_err-put_at_key-in-Some-clause-outcome c =
+    let p = err_from_is_err_and c.from_residual-in_err-put_at_key-in-Some.result c.from_residual-in_err-put_at_key-in-Some.ensures.1 in
+    rw (p.1, p.2) (needs_put (is_own c.args.place.now), object_stays _ _ _ _ c.in-Some.ensures.value (known _ _ c.in-Some.is (c.object_mut.follows.holds _)).0 c.in_err-put_at_key-in-Some.ensures.err)
 
-pub returns-in_ok-put_member-in-Some-clause-outcome : goal.returns-in_ok-put_member-in-Some-clause-outcome
-returns-in_ok-put_member-in-Some-clause-outcome c =
-    let ms = object_view c.in-Some.members.now in
+pub returns-in_ok-put_at_key-in-Some-clause-outcome : goal.returns-in_ok-put_at_key-in-Some-clause-outcome
+returns-in_ok-put_at_key-in-Some-clause-outcome c =
+    let ms = held_view c.in-Some.object.now in
     object_done (put c.args.key.now (view c.args.value.now)) ms _ _ _ c.in-Some.ensures.value (known _ _ c.in-Some.is (c.object_mut.follows.holds _)).0
-    (c.in_ok-put_member-in-Some.ensures.ok ∙ ap (λ k. put k (view c.in_ok-copy.copy) ms) c.in_ok-name.ensures.ok ∙ ap (λ v. put c.args.key.now v ms) c.in_ok-copy.ensures.value)
+    (c.in_ok-put_at_key-in-Some.ensures.ok ∙ ap (λ k. put k (view c.in_ok-copy.copy) ms) c.in_ok-name.ensures.ok ∙ ap (λ v. put c.args.key.now v ms) c.in_ok-copy.ensures.value)
 
-pub returns-in_ok-put_member-in-Some-clause-own : goal.returns-in_ok-put_member-in-Some-clause-own
-returns-in_ok-put_member-in-Some-clause-own c own = (known _ _ c.in-Some.is (c.object_mut.follows.holds _)).1 ∙ c.put_member.ensures.own (c.in-Some.ensures.own ∙ own) c.in_ok-copy.ensures.own
+pub returns-in_ok-put_at_key-in-Some-clause-own : goal.returns-in_ok-put_at_key-in-Some-clause-own
+returns-in_ok-put_at_key-in-Some-clause-own c own = (known _ _ c.in-Some.is (c.object_mut.follows.holds _)).1 ∙ c.put_at_key.ensures.own (c.in-Some.ensures.own ∙ own) c.in_ok-copy.ensures.own
 
-pub returns-in_err-put_member-in-Some-clause-own : goal.returns-in_err-put_member-in-Some-clause-own
-returns-in_err-put_member-in-Some-clause-own c own = (known _ _ c.in-Some.is (c.object_mut.follows.holds _)).1 ∙ c.put_member.ensures.own (c.in-Some.ensures.own ∙ own) c.in_ok-copy.ensures.own
+pub returns-in_err-put_at_key-in-Some-clause-own : goal.returns-in_err-put_at_key-in-Some-clause-own
+returns-in_err-put_at_key-in-Some-clause-own c own = (known _ _ c.in-Some.is (c.object_mut.follows.holds _)).1 ∙ c.put_at_key.ensures.own (c.in-Some.ensures.own ∙ own) c.in_ok-copy.ensures.own

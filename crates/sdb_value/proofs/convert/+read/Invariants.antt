@@ -1,12 +1,12 @@
-use Rattle.std.proofs.Common.{◌≡◌, ◌≤◌, ◌+◌, ◌*◌, List, ◌++◌, drop, map, true, Some, option_map}
+use Rattle.std.proofs.Common.{◌≡◌, ◌≤◌, ◌+◌, ◌*◌, List, ◌++◌, drop, map, true, option_map}
 use Rattle.serde_json.specs.Data as raw
 use Rattle.serde_json.specs.View as data-view
-use Rattle.sdb_json.specs.Tree.{sorted_members}
-use Rattle.sdb_value.specs.Owns.{items_own, map_own}
-use Rattle.sdb_value.specs.Value.{join, items_depth, members_depth}
-use Rattle.sdb_value.specs.Profile.{of_items, of_members}
-use Rattle.sdb_value.specs.View.{items_view, map_view}
-use Rattle.sdb_value.proofs.Read.{Entry}
+use Rattle.sdb_members.specs.Search.{texts}
+use Rattle.sdb_value.specs.Owns.{items_own}
+use Rattle.sdb_value.specs.Value.{join, items_depth}
+use Rattle.sdb_value.specs.Profile.{of_items}
+use Rattle.sdb_value.specs.View.{items_view}
+use Rattle.sdb_value.proofs.Read.{Entry, AreRead, names}
 use Rattle.sdb_value.proofs.convert.+read.Given as goal
 
 abbrev pub invariant-read_items-loop-item : goal.invariant-read_items-loop-item
@@ -22,9 +22,10 @@ abbrev pub invariant-read_members-loop-key : goal.invariant-read_members-loop-ke
 invariant-read_members-loop-key g l = record {
   done : List (Entry g.row.D.Denot);
   split : l.members.entries ≡ done ++ l.key-iterator;
-  reads : of_members (sorted_members g.D.JsonData.json done) ≡ Some (map_view l.made.entries);
-  low : members_depth (map_view l.made.entries) ≤ l.left;
-  own : map_own l.made.entries ≡ true;
+  keys : texts l.keys.items ≡ names done;
+  reads : AreRead g.D.JsonData.json done l.values.items;
+  low : items_depth (items_view l.values.items) ≤ l.left;
+  own : items_own l.values.items ≡ true;
 }
 
 abbrev pub decreases-read : goal.decreases-read

@@ -3,9 +3,10 @@ use Rattle.std.proofs.lemmas.Result.{on_err_weaker}
 use Rattle.sdb_value.specs.FrontLaws.{on_any_err}
 use Rattle.sdb_value.specs.Law.{known, list_is, object_is}
 use Rattle.sdb_value.specs.Value.{null, list, object, key, set_item}
-use Rattle.sdb_value.specs.View.{view, plain_step, plain_path, list_view, object_view}
+use Rattle.sdb_value.specs.View.{view, plain_step, plain_path, held_view, list_view, object_view}
 use Rattle.sdb_value.proofs.ListEdits.{shared_place}
 use Rattle.sdb_value.proofs.Pairs.{told_pairs, same_object, key_missing}
+use Rattle.sdb_value.proofs.Puts.{shared_inside}
 use Rattle.sdb_value.proofs.Steps.{told_of, list_told, set_again, put_same}
 use Rattle.sdb_value.proofs.places.+change.Goals as goal
 
@@ -35,7 +36,7 @@ change_at-returns-in-Some-list_mut-clause-own g t c keeps own =
 pub change_at-returns-in-Some-object_mut-clause-done : goal.change_at-returns-in-Some-object_mut-clause-done
 change_at-returns-in-Some-object_mut-clause-done g t c =
     told_of c.change_member.result (λ r u v. g.C.Change.makes c.args.change u v r) _ _ _ _ _ _
-    (object_is (view c.args.value.now) (object_view c.in-Some-object_mut.members.now) c.in-Some-object_mut.ensures.value)
+    (object_is (view c.args.value.now) (held_view c.in-Some-object_mut.object.now) c.in-Some-object_mut.ensures.value)
     (ap plain_path c.in-Some.ensures.cases.0 ∙ ap (λ s. plain_step s ∷ plain_path c.in-Some.rest.now) c.in-Key.is
     ∙ ap (λ k. key k ∷ plain_path c.in-Some.rest.now) (sym c.as_str.ensures.value))
     (known _ _ c.in-Some-object_mut.is (c.object_mut.follows.holds _)).0
@@ -45,7 +46,7 @@ pub change_at-returns-in-Some-object_mut-clause-err : goal.change_at-returns-in-
 change_at-returns-in-Some-object_mut-clause-err g t c =
     on_err_weaker c.change_member.result
     (λ same. (known _ _ c.in-Some-object_mut.is (c.object_mut.follows.holds _)).0 ∙ ap object same
-    ∙ sym (object_is (view c.args.value.now) (object_view c.in-Some-object_mut.members.now) c.in-Some-object_mut.ensures.value))
+    ∙ sym (object_is (view c.args.value.now) (held_view c.in-Some-object_mut.object.now) c.in-Some-object_mut.ensures.value))
     c.change_member.ensures.err
 
 pub change_at-returns-in-Some-object_mut-clause-own : goal.change_at-returns-in-Some-object_mut-clause-own
@@ -78,16 +79,23 @@ change_item-returns-clause-err g t c =
 
 -- ---- a member, as the item at its index
 
-pub change_member-returns-in-Ok-clause-done : goal.change_member-returns-in-Ok-clause-done
-change_member-returns-in-Ok-clause-done g t c =
+pub change_value-returns-in-Ok-clause-done : goal.change_value-returns-in-Ok-clause-done
+change_value-returns-in-Ok-clause-done g t c =
     let m = c.args.members.now in
     told_pairs c.change_item.result (λ r u v. g.C.Change.makes c.args.change u v r) c.args.name.now c.in-Ok.index (plain_path c.args.rest.now) m
     (record { keys = m.keys; values = c.change_item.new.items }) refl c.in-Ok.ensures.found c.change_item.ensures.done
 
-pub change_member-returns-in-Ok-clause-err : goal.change_member-returns-in-Ok-clause-err
-change_member-returns-in-Ok-clause-err g t c =
+pub change_value-returns-in-Ok-clause-err : goal.change_value-returns-in-Ok-clause-err
+change_value-returns-in-Ok-clause-err g t c =
     let m = c.args.members.now in
     on_err_weaker c.change_item.result (same_object m (record { keys = m.keys; values = c.change_item.new.items }) refl) c.change_item.ensures.err
 
-pub change_member-returns-in-Err-clause-done : goal.change_member-returns-in-Err-clause-done
-change_member-returns-in-Err-clause-done g t c = key_missing c.args.members.now c.args.name.now c.in-Err.field-0 (plain_path c.args.rest.now) c.in-Err.ensures.gap
+pub change_value-returns-in-Err-clause-done : goal.change_value-returns-in-Err-clause-done
+change_value-returns-in-Err-clause-done g t c = key_missing c.args.members.now c.args.name.now c.in-Err.field-0 (plain_path c.args.rest.now) c.in-Err.ensures.gap
+
+-- ---- members, once they have one owner
+
+pub change_member-returns-clause-shared : goal.change_member-returns-clause-shared
+change_member-returns-clause-shared g t c =
+    on_err_weaker c.change_value.result
+    (shared_inside c.args.members.now c.make_own.new.object c.in-Own.own c.make_own.ensures.own c.in-Own.is) c.change_value.ensures.shared

@@ -66,16 +66,16 @@ share_each_item-loop-at-preserved t c =
 
 -- ---- the values of an object
 
-pub share_object-share_list-requires : goal.share_object-share_list-requires
-share_object-share_list-requires t c =
+pub share_members-share_list-requires : goal.share_members-share_list-requires
+share_members-share_list-requires t c =
     let m = c.args.members.now in
     let n = length (texts_in m.keys) in
     let none = none_found _ c.get.result _ (c.get.ensures ∙ ap (slice_get (seen_in seen m.values)) c.len.ensures) (sym c.is_some.ensures ∙ c.if-is_some.false) in
     let below = values_within (texts_in m.keys) (items_in m.values) (ap (λ l. slice_get l n) (sym (seen_items_in seen m.values)) ∙ none) in
     (omega (arith, below, c.decreases), tt)
 
-pub share_object-returns-clause-members : goal.share_object-returns-clause-members
-share_object-returns-clause-members t c =
+pub share_members-returns : goal.share_members-returns
+share_members-returns t c =
     let m = c.args.members.now in
     let new : Held Json = record { keys = c.share_in_place.new.self; values = c.share_list.new.items } in
     same_object m new c.share_in_place.ensures.same c.share_list.ensures.items

@@ -1,10 +1,11 @@
-use Rattle.std.proofs.Common.{◌≡◌, ◌∷◌, [], ◌++◌, sym, ap, ◌∙◌, append_assoc, rules}
+use Rattle.std.proofs.Common.{◌≡◌, ◌∷◌, [], ◌++◌, OnOk, OnErr, sym, ap, ◌∙◌, subst, append_assoc, rules}
 use Rattle.sdb_members.specs.Iter.{rest as members_left}
 use Rattle.sdb_pieces.specs.Iter.{rest}
 use Rattle.json.specs.Token.{key}
+use Rattle.json.specs.Written.{WritesFront}
 use Rattle.sdb_value.specs.Printed.{array_rest, data_tokens, object_rest}
 use Rattle.sdb_value.specs.Profile.{to_data, to_items, to_members}
-use Rattle.sdb_value.specs.View.{view, items_view, members_view}
+use Rattle.sdb_value.specs.View.{view, items_view, members_view, object_view}
 use Rattle.sdb_value.specs.FrontLaws.{on_any_err, wrote_after}
 use Rattle.sdb_value.proofs.Write.{array_written, array_front, object_written, object_front}
 use Rattle.sdb_value.proofs.Weights.{members_rest_below}
@@ -61,10 +62,14 @@ write-returns-in_ok-begin_array-in-List-clause-err t c =
 
 pub write-returns-in_ok-begin_object-in-Object-clause-tokens : goal.write-returns-in_ok-begin_object-in-Object-clause-tokens
 write-returns-in_ok-begin_object-in-Object-clause-tokens t c =
-    object_written c.write_members.result c.args.value.now c.in-Object.members c.args.out.now.tokens c.begin_object.new.self.tokens c.write_members.new.out.tokens c.in-Object.is
-    c.in_ok-begin_object-in-Object.ensures.ok c.write_members.ensures.tokens
+    object_written c.write_members.result c.args.value.now c.in-Object.object c.args.out.now.tokens c.begin_object.new.self.tokens c.write_members.new.out.tokens c.in-Object.is
+    c.in_ok-begin_object-in-Object.ensures.ok
+    (subst (λ m. OnOk c.write_members.result (c.write_members.new.out.tokens ≡ c.begin_object.new.self.tokens ++ object_rest (to_members (object_view m))))
+    c.members.ensures c.write_members.ensures.tokens)
 
 pub write-returns-in_ok-begin_object-in-Object-clause-err : goal.write-returns-in_ok-begin_object-in-Object-clause-err
 write-returns-in_ok-begin_object-in-Object-clause-err t c =
-    object_front c.write_members.result c.args.value.now c.in-Object.members c.args.out.now.tokens c.begin_object.new.self.tokens c.write_members.new.out.tokens c.in-Object.is
-    c.in_ok-begin_object-in-Object.ensures.ok c.write_members.ensures.err
+    object_front c.write_members.result c.args.value.now c.in-Object.object c.args.out.now.tokens c.begin_object.new.self.tokens c.write_members.new.out.tokens c.in-Object.is
+    c.in_ok-begin_object-in-Object.ensures.ok
+    (subst (λ m. OnErr c.write_members.result (WritesFront c.begin_object.new.self.tokens c.write_members.new.out.tokens (object_rest (to_members (object_view m)))))
+    c.members.ensures c.write_members.ensures.err)

@@ -5,9 +5,7 @@ use Rattle.sdb_value.specs.Owns.{is_own, items_own, map_own}
 use Rattle.sdb_value.specs.Value.{object}
 use Rattle.sdb_value.specs.View.{members_view}
 use Rattle.sdb_value.specs.declared.value.Json.{Json}
-use Rattle.sdb_value.proofs.Owned.{owned_object}
 use Rattle.sdb_value.proofs.Puts.{whole}
-use Rattle.sdb_value.proofs.Views.{seen_object}
 use Rattle.sdb_value.proofs.value.Json.object.Goals as goal
 
 seconds : (es : List (String Global × Json)) → items_own (map (λ (e : String Global × Json). e.1) es) ≡ map_own es
@@ -15,10 +13,10 @@ seconds [] = refl
 seconds (e ∷ es) = ap (λ b. cond (is_own e.1) b false) (seconds es)
 
 pub returns-clause-value : goal.returns-clause-value
-returns-clause-value c = seen_object c.in_ok-from_map.field-0 ∙ ap (λ es. object (members_view es)) c.in_ok-from_map.ensures.members
+returns-clause-value c = c.of_members.ensures.value ∙ ap (λ es. object (members_view es)) c.in_ok-from_map.ensures.members
 
 pub returns-clause-own : goal.returns-clause-own
 returns-clause-own c own =
     let m = c.in_ok-from_map.field-0 in
-    owned_object m ∙ whole (keys_own m.keys) (is_own_list m.values) (items_own (items_in m.values)) c.in_ok-from_map.ensures.own
+    c.of_members.ensures.own ∙ whole (keys_own m.keys) (is_own_list m.values) (items_own (items_in m.values)) c.in_ok-from_map.ensures.own
     (ap items_own c.in_ok-from_map.ensures.values ∙ seconds c.args.members.entries ∙ own)

@@ -2,7 +2,7 @@ use Rattle.std.proofs.Common.{◌∙◌}
 use Rattle.sdb_members.specs.Keys.{is_own as keys_own}
 use Rattle.sdb_value.specs.Owns.{list_own}
 use Rattle.sdb_value.proofs.Pairs.{key_found, key_absent, values_own}
-use Rattle.sdb_value.proofs.places.member_mut.Goals as goal
+use Rattle.sdb_value.proofs.places.value_mut.Goals as goal
 
 pub returns-in-Ok : goal.returns-in-Ok
 returns-in-Ok c =
