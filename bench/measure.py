@@ -78,6 +78,15 @@ def pairs():
     print(f"  of 10 MB: {large * 1e6:.0f} microseconds, ratio {large / small:.2f}")
 
 
+def places():
+    edits = 5_000
+    for kind, sizes in (("text", (10_000, 1_000_000)), ("list", (500, 50_000)), ("object", (500, 50_000))):
+        small, large = (
+            (server_over(5, "places.py", kind, size, edits)[0] - server_over(5, "places.py", kind, size, 0)[0]) / edits for size in sizes
+        )
+        print(f"an edit by a session of a {kind} of {sizes[0]}: {small * 1e6:.1f} microseconds, of {sizes[1]}: {large * 1e6:.1f}")
+
+
 def snapshots():
     entries, reads = 100_000, 10_000
     alone = server_over(5, "snapshots.py", entries, 0, 0)[0]
@@ -144,6 +153,7 @@ def main():
     subscriptions()
     long_logs()
     pairs()
+    places()
     snapshots()
     calls()
     subprocess.run([BENCH, "lock"], check=True)

@@ -1,8 +1,9 @@
 //! Calls that find no memory: what they leave, and the same call with memory. Run as they stand, these
 //! tests find memory at once; `tests/growths.py` refuses each allocation of each in turn.
-use crate::texts::{is_printed, is_shown, json, op};
+use crate::texts::{extended, is_printed, is_shown, json, op};
 use sdb_apply::{ApplyFault, apply, apply_whole};
 use sdb_component::Op;
+use sdb_text::Text;
 use sdb_transform::{Crossed, Fault, cross};
 use std::alloc::Global;
 use std::process::Abort;
@@ -95,4 +96,71 @@ fn a_cross(rt: HostRuntime) {
     assert!(rt; is_printed(&rt, rt.alloc(), &crossed.left, after));
     let after = r#"[{"li":2,"p":["l",1]},{"p":["t",2],"si":"c"}]"#;
     assert!(rt; is_printed(&rt, rt.alloc(), &crossed.right, after) && crossed.pairs == 4);
+}
+
+// A text of so many pieces that they are put into two groups where it is shared.
+fn long(rt: &impl Abort, alloc: Global) -> (Text, String) {
+    let plain = extended(rt, alloc, "", "0123456789abcdef", 8_000);
+    let text = Text::from_str(alloc, plain.as_str()).expect(rt, "out of memory");
+    (text, plain)
+}
+
+fn is(rt: &impl Abort, alloc: Global, text: &Text, plain: &str) -> bool {
+    let shown = text.to_string(alloc).expect(rt, "out of memory");
+    shown.as_str() == plain
+}
+
+#[test]
+fn a_long_text_shared(rt: HostRuntime) {
+    let (mut text, plain) = long(&rt, rt.alloc());
+    mark(&rt, rt.alloc());
+    let outcome = text.share_in_place(rt.alloc());
+    mark(&rt, rt.alloc());
+    if outcome.is_err() {
+        assert!(rt;
+            is(&rt, rt.alloc(), &text, plain.as_str()) && text.share_in_place(rt.alloc()).is_ok()
+        );
+    }
+    assert!(rt; text.is_shared() && is(&rt, rt.alloc(), &text, plain.as_str()));
+}
+
+#[test]
+fn an_insert_into_a_shared_text(rt: HostRuntime) {
+    let (mut text, plain) = long(&rt, rt.alloc());
+    text.share_in_place(rt.alloc()).expect(&rt, "out of memory");
+    mark(&rt, rt.alloc());
+    let outcome = text.insert(rt.alloc(), 100_000, "x");
+    mark(&rt, rt.alloc());
+    if outcome.is_err() {
+        assert!(rt;
+            is(&rt, rt.alloc(), &text, plain.as_str())
+                && text.insert(rt.alloc(), 100_000, "x").unwrap_or(false)
+        );
+    }
+    let front = plain.get(..100_000).expect(&rt, "within");
+    let rest = plain.get(100_000..).expect(&rt, "within");
+    let put = extended(&rt, rt.alloc(), front, "x", 1);
+    let longer = extended(&rt, rt.alloc(), put.as_str(), rest, 1);
+    assert!(rt; is(&rt, rt.alloc(), &text, longer.as_str()));
+}
+
+// What is taken out stands in two groups.
+#[test]
+fn a_removal_from_a_shared_text(rt: HostRuntime) {
+    let (mut text, plain) = long(&rt, rt.alloc());
+    text.share_in_place(rt.alloc()).expect(&rt, "out of memory");
+    let old = plain.get(60_000..90_000).expect(&rt, "within");
+    mark(&rt, rt.alloc());
+    let outcome = text.remove(rt.alloc(), 60_000, old);
+    mark(&rt, rt.alloc());
+    if outcome.is_err() {
+        assert!(rt;
+            is(&rt, rt.alloc(), &text, plain.as_str())
+                && text.remove(rt.alloc(), 60_000, old).unwrap_or(false)
+        );
+    }
+    let rest = plain.get(90_000..).expect(&rt, "within");
+    let front = plain.get(..60_000).expect(&rt, "within");
+    let left = extended(&rt, rt.alloc(), front, rest, 1);
+    assert!(rt; is(&rt, rt.alloc(), &text, left.as_str()));
 }

@@ -59,12 +59,19 @@ fn without(rt: &impl Abort, alloc: Global, plain: &str, from: usize, len: usize)
 // Whether the same text was taken out of both, or of neither.
 fn take(rt: &impl Abort, alloc: Global, text: &mut Text, plain: &mut String, step: u64) -> bool {
     let at = offset(step, plain.as_str());
-    let old = standing(
-        rt,
-        plain.as_str(),
-        at,
-        if step % 5 == 2 { 6_001 } else { 3 },
-    );
+    let count = if step % 5 == 2 { 6_001 } else { 3 };
+    take_at(rt, alloc, text, plain, at, count)
+}
+
+fn take_at(
+    rt: &impl Abort,
+    alloc: Global,
+    text: &mut Text,
+    plain: &mut String,
+    at: u64,
+    count: u64,
+) -> bool {
+    let old = standing(rt, plain.as_str(), at, count);
     let done = text.remove(alloc, at, old).expect(rt, "out of memory");
     let Some(byte) = cut_at(plain.as_str(), at) else {
         return !done;
@@ -79,8 +86,8 @@ fn is(rt: &impl Abort, alloc: Global, text: &Text, plain: &str) -> bool {
     shown.as_str() == plain && text.same(&other) && other.same(text)
 }
 
-fn go_along(rt: &impl Abort, alloc: Global, text: &mut Text, plain: &mut String) {
-    for step in 0..60 {
+fn go_along(rt: &impl Abort, alloc: Global, text: &mut Text, plain: &mut String, steps: u64) {
+    for step in 0..steps {
         let done = if step % 3 == 2 {
             take(rt, alloc, text, plain, step)
         } else {
@@ -94,9 +101,9 @@ fn go_along(rt: &impl Abort, alloc: Global, text: &mut Text, plain: &mut String)
 fn a_text_in_pieces_is_that_of_a_string(rt: HostRuntime) {
     let mut plain = repeated(&rt, rt.alloc(), 50);
     let mut text = pieces_of(&rt, rt.alloc(), plain.as_str());
-    assert!(rt; text.part_count() == 1 && text.as_str() == Some(plain.as_str()));
-    go_along(&rt, rt.alloc(), &mut text, &mut plain);
-    assert!(rt; text.part_count() > 3 && text.as_str().is_none());
+    assert!(rt; text.as_str() == Some(plain.as_str()));
+    go_along(&rt, rt.alloc(), &mut text, &mut plain, 60);
+    assert!(rt; text.as_str().is_none());
 }
 
 fn shared(rt: &impl Abort, alloc: Global) -> Text {
@@ -120,5 +127,40 @@ fn change_apart(rt: &impl Abort, alloc: Global, text: &mut Text, copy: &Text) {
 fn copies_of_a_text_are_changed_apart(rt: HostRuntime) {
     let mut text = shared(&rt, rt.alloc());
     let copy = text.share(rt.alloc()).expect(&rt, "out of memory");
+    change_apart(&rt, rt.alloc(), &mut text, &copy);
+}
+
+// A text of so many pieces that they are put into groups where it is shared.
+fn long(rt: &impl Abort, alloc: Global) -> (Text, String) {
+    let plain = repeated(rt, alloc, 12_000);
+    let mut text = pieces_of(rt, alloc, plain.as_str());
+    text.share_in_place(alloc).expect(rt, "out of memory");
+    (text, plain)
+}
+
+#[test]
+fn a_text_in_groups_is_that_of_a_string(rt: HostRuntime) {
+    let (mut text, mut plain) = long(&rt, rt.alloc());
+    go_along(&rt, rt.alloc(), &mut text, &mut plain, 12);
+    assert!(rt; text.as_str().is_none());
+}
+
+// What is taken out stands in two groups.
+#[test]
+fn a_text_is_taken_out_across_groups(rt: HostRuntime) {
+    let (mut text, mut plain) = long(&rt, rt.alloc());
+    assert!(rt;
+        take_at(&rt, rt.alloc(), &mut text, &mut plain, 10_000, 20_000)
+            && is(&rt, rt.alloc(), &text, plain.as_str())
+    );
+    text.share_in_place(rt.alloc()).expect(&rt, "out of memory");
+    go_along(&rt, rt.alloc(), &mut text, &mut plain, 12);
+}
+
+#[test]
+fn copies_of_a_text_in_groups_are_changed_apart(rt: HostRuntime) {
+    let (mut text, _) = long(&rt, rt.alloc());
+    let copy = text.share(rt.alloc()).expect(&rt, "out of memory");
+    assert!(rt; copy.is_shared() && copy.same(&text));
     change_apart(&rt, rt.alloc(), &mut text, &copy);
 }

@@ -27,10 +27,6 @@ pub below_along : (k t : List ℕ) (ts : List (List ℕ)) → by_bytes k t ≡ L
 below_along k t [] e b = tt
 below_along k t (x ∷ xs) e b = (order.trans k t x e b.0, below_along k t xs e b.1)
 
-pub above_along : (k t : List ℕ) (ts : List (List ℕ)) → by_bytes k t ≡ Greater → IsAboveAll t ts → IsAboveAll k ts
-above_along k t [] e b = tt
-above_along k t (x ∷ xs) e b = (less_back x k (order.trans x t k (greater_back t x b.0) (greater_back k t e)), above_along k t xs e b.1)
-
 pub below_from : (k : List ℕ) (ts : List (List ℕ)) (i : ℕ) (t : List ℕ) → IsAscending ts → slice_get ts i ≡ Some t → by_bytes k t ≡ Less
     → IsBelowAll k (drop i ts)
 unfolding IsStrictlySortedBy
@@ -93,10 +89,6 @@ ascending_taken (x ∷ xs) zero s = s.1
 ascending_taken (x ∷ xs) (suc i) s = (below_taken x xs i s.0, ascending_taken xs i s.1)
 
 -- ---- the map of the keys and values
-
-zip_none : {X : Type 0} (ts : List (List ℕ)) → zip ts (let n : List X = [] in n) ≡ []
-zip_none [] = refl
-zip_none (t ∷ ts) = refl
 
 module _ {X : Type 0} (k : List ℕ) where
   found_put : (ts : List (List ℕ)) (vs : List X) (i : ℕ) (v : X) → slice_get ts i ≡ Some k → IsAboveAll k (take i ts) → i < length vs

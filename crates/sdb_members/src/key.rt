@@ -5,10 +5,6 @@ ghost use Rattle.sdb_members.specs.Key.{key_bytes};
 use sdb_pieces::Share;
 use std::alloc::{AllocError, Global};
 
-// How many keys, or values, a block may have before it is split: as many are copied for a change in one that
-// is shared.
-pub(crate) const MOST: usize = 64;
-
 /// The key of a member.
 #[derive(Drop)]
 pub struct Key {

@@ -4,7 +4,7 @@ ghost use Rattle.std.proofs.Props.{props};
 ghost use Rattle.sdb_members.specs.Order.{IsAscending};
 ghost use Rattle.sdb_members.specs.Search.{texts_of};
 
-use crate::key::{Key, MOST};
+use crate::key::Key;
 use crate::search::find;
 use crate::sharing::{own_at, own_texts, share_texts};
 use sdb_pieces::{Iter, Pieces, Share};
@@ -46,7 +46,7 @@ impl Keys {
     {
         let count = keys.len();
         Ok(Keys {
-            texts: Pieces::cut(alloc, keys, MOST)?,
+            texts: Pieces::in_blocks(alloc, keys)?,
             count,
         })
     }
@@ -95,7 +95,7 @@ impl Keys {
         if self.count == usize::MAX {
             return Err(AllocError);
         }
-        let _ = self.texts.insert_within(alloc, index, Key::new(key), MOST)?;
+        let _ = self.texts.insert(alloc, index, Key::new(key))?;
         self.count += 1;
         Ok(())
     }

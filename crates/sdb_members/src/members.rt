@@ -11,7 +11,7 @@ ghost use Rattle.sdb_members.specs.Order.{IsAscending, IsFound, by_bytes};
 ghost use Rattle.sdb_members.specs.Search.{texts};
 
 use crate::iter::Iter;
-use crate::key::{Key, MOST};
+use crate::key::Key;
 use crate::keys::Keys;
 use crate::made::parted;
 use crate::pairs::{insert_new, remove_at};
@@ -100,7 +100,7 @@ impl<V: Drop> Members<V> {
     {
         Ok(Members {
             keys: Keys::from_vec(alloc, keys)?,
-            values: Pieces::cut(alloc, values, MOST)?,
+            values: Pieces::in_blocks(alloc, values)?,
         })
     }
 }

@@ -5,7 +5,6 @@ ghost use Rattle.sdb_pieces.specs.Pieces.{seen_in, is_own_list};
 ghost use Rattle.sdb_members.specs.Keys.{texts_in, is_own};
 ghost use Rattle.sdb_members.specs.Order.{IsGap};
 
-use crate::key::MOST;
 use crate::keys::Keys;
 use sdb_pieces::{Pieces, Share};
 use std::alloc::{AllocError, Global};
@@ -29,7 +28,7 @@ pub(crate) fn insert_new<V: Share>(
     ensures own_values { is_own_list values.old ≡ true → is_own_list values.new ≡ true }
 {
     keys.insert(alloc, index, key)?;
-    match values.insert_within(alloc, index, value, MOST) {
+    match values.insert(alloc, index, value) {
         Ok(done) => {
             if done {
                 return Ok(());

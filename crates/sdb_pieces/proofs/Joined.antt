@@ -84,17 +84,6 @@ module _ {X S : Type 0} (f : X → S) where
   joined_two (p ∷ ps) zero a b h = refl
   joined_two (p ∷ ps) (suc k) a b h = ap (λ l. seen_items f p ++ l) (joined_two ps k a b (omega (arith, h))) ∙ sym (append_assoc (seen_items f p) (joined f (take k ps)) _)
 
-  -- the two halves of a block in its place
-  pub joined_halves : (ps : List (Block X)) (k m : ℕ) (a b d : Block X) → k < length ps → seen_items f a ≡ take m (seen_items f (get_or ps k d)) → seen_items f b ≡ drop m (seen_items f (get_or ps k d))
-      → joined f (set (insert ps (k + 1) b) k a) ≡ joined f ps
-  joined_halves ps k m a b d h e g =
-      let s : k + 1 ≡ suc k = omega arith in
-      let q = seen_items f (get_or ps k d) in
-      let R = joined f (drop (suc k) ps) in
-      ap (λ n. joined f (set (insert ps n b) k a)) s ∙ joined_two ps k a b h
-      ∙ ap (λ l. joined f (take k ps) ++ l) (sym (append_assoc (seen_items f a) (seen_items f b) R) ∙ ap (λ l. l ++ R) (ap (λ l. l ++ seen_items f b) e ∙ ap (λ l. take m q ++ l) g ∙ take-append-drop m q))
-      ∙ sym (joined_around ps k d h)
-
   -- an item more in one block is an item more in the list
   pub joined_insert : (ps : List (Block X)) (index k i : ℕ) (x : S) (a d : Block X) → IsPlace f ps index k i → seen_items f a ≡ insert (seen_items f (get_or ps k d)) i x
       → joined f (set ps k a) ≡ insert (joined f ps) index x
@@ -181,14 +170,6 @@ module _ {X S : Type 0} (f : X → S) where
 
   pub place_within : (ps : List (Block X)) (index k i : ℕ) (d : Block X) → IsPlace f ps index k i → index ≤ length (joined f ps)
   place_within ps index k i d at =
-      let q = seen_items f (get_or ps k d) in
-      let J = joined f (take k ps) in
-      let R = joined f (drop (suc k) ps) in
-      let s = ap length (joined_around ps k d at.inside) ∙ length-append J (q ++ R) in
-      omega (arith, s, length-append q R, at.sum, at.within d)
-
-  pub item_within : (ps : List (Block X)) (index k i : ℕ) (d : Block X) → IsItem f ps index k i → index < length (joined f ps)
-  item_within ps index k i d at =
       let q = seen_items f (get_or ps k d) in
       let J = joined f (take k ps) in
       let R = joined f (drop (suc k) ps) in
@@ -425,29 +406,6 @@ if_some None p = tt
 if_some (Some x) p = p
 
 -- ---- a block whose items are exchanged
-
-set_again : {X S : Type 0} (f : X → S) (xs : List X) (k : ℕ) (d : X) → k < length xs → set (map f xs) k (f (get_or xs k d)) ≡ map f xs
-set_again f [] k d h = refl
-set_again f (x ∷ xs) zero d h = refl
-set_again f (x ∷ xs) (suc k) d h = ap (λ l. f x ∷ l) (set_again f xs k d (omega (arith, h)))
-
-pub items_same : {X : Type 0} (bs : List (Block X)) (k : ℕ) (a d : Block X) → k < length bs → d ≡ get_or bs k d → items_of a ≡ items_of d → map items_of (set bs k a) ≡ map items_of bs
-items_same bs k a d h is e = map_set items_of bs k a ∙ ap (set (map items_of bs) k) (e ∙ ap items_of is) ∙ set_again items_of bs k d h
-
-pub swapped_list : {X : Type 0} (b : Bool) (bs : List (Block X)) (k : ℕ) (a d : Block X) (xs : List X) → k < length bs → d ≡ get_or bs k d
-    → items_of a ≡ (if b then xs else items_of d) → map items_of (set bs k a) ≡ (if b then set (map items_of bs) k xs else map items_of bs)
-swapped_list true bs k a d xs h is e = map_set items_of bs k a ∙ ap (set (map items_of bs) k) e
-swapped_list false bs k a d xs h is e = items_same bs k a d h is e
-
-pub swapped_items : {X : Type 0} (b : Bool) (bs : List (Block X)) (k : ℕ) (d : Block X) (xs ys : List X) → k < length bs → d ≡ get_or bs k d
-    → ys ≡ (if b then items_of d else xs) → Some ys ≡ (if b then slice_get (map items_of bs) k else Some xs)
-swapped_items true bs k d xs ys h is e = ap Some (e ∙ ap items_of is) ∙ sym (map_get items_of bs k ∙ ap (option_map items_of) (get_some bs k d h))
-swapped_items false bs k d xs ys h is e = ap Some e
-
-pub own_same : {X : Type 0} (bs : List (Block X)) (k : ℕ) (a d : Block X) → k < length bs → d ≡ get_or bs k d → is_own a ≡ is_own d → all_own (set bs k a) ≡ all_own bs
-own_same [] k a d h is e = refl
-own_same (b ∷ bs) zero a d h is e = ap (λ t. cond t (all_own bs) false) (e ∙ ap is_own is)
-own_same (b ∷ bs) (suc k) a d h is e = ap (λ t. cond (is_own b) t false) (own_same bs k a d (omega (arith, h)) is e)
 
 -- ---- blocks that are cut off, the last first
 

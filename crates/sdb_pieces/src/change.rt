@@ -10,8 +10,27 @@ use crate::block::{Block, Share};
 use std::alloc::{AllocError, Global};
 use std::mem::replace;
 
-// How many items a block has at most, unless another bound is given.
-pub(crate) const MAX: usize = 512;
+// How many items a block may have in a list of few blocks, and how many in one of many.
+const FEW: usize = 32;
+
+const MANY: usize = 512;
+
+// How many items a block may have in a list of so many blocks: as many, within bounds. So a change copies about as many
+// blocks as items of one block, where both are shared.
+pub(crate) fn bound(blocks: usize) -> usize {
+    blocks.clamp(FEW, MANY)
+}
+
+// The same for a list of so many items that is cut into blocks.
+pub(crate) fn bound_for(items: usize) -> usize
+    ensures { 0 < result }
+{
+    let mut bound = FEW;
+    while bound < MANY && items / bound > bound {
+        bound *= 2;
+    }
+    bound
+}
 
 // The block where an item can be put at the index, and the place in it. `None` where there is none.
 fn place<T: Share>(blocks: &[Block<T>], index: usize) -> Option<(usize, usize)>
@@ -139,8 +158,8 @@ fn upper_half<T: Share>(alloc: Global, block: &mut Block<T>) -> Result<Block<T>,
     }
 }
 
-// Makes two blocks of one.
-fn split_block<T: Share>(
+/// Makes two blocks of one: the second half of its items stands in a new one behind it.
+pub fn split_block<T: Share>(
     alloc: Global,
     blocks: &mut Vec<Block<T>>,
     at: usize,

@@ -1,6 +1,8 @@
 //! The items of a list, one after the other.
-ghost use Rattle.std.specs.Prelude.{◌≡◌};
+ghost use Rattle.std.specs.Prelude.{◌≡◌, ◌++◌};
+ghost use Rattle.std.specs.List.{flat_map};
 ghost use Rattle.std.specs.Iterator.{YieldsFirstRef, item_count};
+ghost use Rattle.sdb_pieces.specs.Block.{items_of};
 ghost use Rattle.sdb_pieces.specs.Iter.{rest};
 
 use crate::block::Block;
@@ -15,9 +17,9 @@ pub struct Iter<'a, T> {
 }
 
 impl<'a, T> Iter<'a, T> {
-    pub(crate) fn new(items: &'a [T], blocks: &'a [Block<T>]) -> Iter<'a, T>
-        ensures items { result.items.now ≡ items.now }
-        ensures blocks { result.blocks.now ≡ blocks.now }
+    /// The items that stand here, and then those of the blocks.
+    pub fn new(items: &'a [T], blocks: &'a [Block<T>]) -> Iter<'a, T>
+        ensures { rest result ≡ items.now ++ flat_map items_of blocks.now }
     {
         Iter { items, blocks }
     }

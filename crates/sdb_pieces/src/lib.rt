@@ -9,5 +9,6 @@ mod iter;
 mod pieces;
 
 pub use block::{Block, Share};
+pub use change::split_block;
 pub use iter::Iter;
 pub use pieces::{Form, Pieces};

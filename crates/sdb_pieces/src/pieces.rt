@@ -7,7 +7,7 @@ ghost use Rattle.sdb_pieces.specs.Pieces.{seen_in, is_own_list, is_own_at, is_sh
 
 use crate::among::{block_item, insert_among, one_block, remove_among, replace_among};
 use crate::block::{Block, Share};
-use crate::change::{MAX, insert_in, item_in, item_mut, remove_in, replace_in};
+use crate::change::{bound, bound_for, insert_in, item_in, item_mut, remove_in, replace_in};
 use crate::cut::cut_blocks;
 use crate::iter::Iter;
 use std::alloc::{AllocError, Global};
@@ -123,25 +123,17 @@ impl<T: Drop> Pieces<T> {
         }
     }
 
-    /// A list of these items, in blocks of at most as many as are given last.
-    pub fn cut(alloc: Global, items: Vec<T>, most: usize) -> Result<Pieces<T>, AllocError>
-        requires { 0 < most }
-        ensures items { IfOk result (λ l. items_in l ≡ items.items) }
-        ensures own { IfOk result (λ l. is_own_list l ≡ true) }
-    {
-        if items.len() <= most {
-            return Ok(Pieces::from_form(Form::One(Block::Own(items))));
-        }
-        Ok(Pieces::from_blocks(cut_blocks(alloc, items, most)?))
-    }
-
-    /// A list of these items, in blocks that are as long as an insert lets them grow. One block alone stands in the
-    /// vector's own memory.
+    /// A list of these items: of at most 32 in the vector's own memory, of more in blocks of 32 to 512, the longer the
+    /// more there are.
     pub fn in_blocks(alloc: Global, items: Vec<T>) -> Result<Pieces<T>, AllocError>
         ensures items { IfOk result (λ l. items_in l ≡ items.items) }
         ensures own { IfOk result (λ l. is_own_list l ≡ true) }
     {
-        Pieces::cut(alloc, items, MAX)
+        let most = bound_for(items.len());
+        if items.len() <= most {
+            return Ok(Pieces::from_form(Form::One(Block::Own(items))));
+        }
+        Ok(Pieces::from_blocks(cut_blocks(alloc, items, most)?))
     }
 
     /// The list of these blocks, in order, so that the next copy of it is a pointer where the blocks are shared.
@@ -250,7 +242,7 @@ impl<T: Share> Pieces<T> {
 
     /// Puts an item at the index, from 0 to the length, before those from there on. `false`, with the list
     /// unchanged, where the index is past the length, and `Err`, with the list unchanged, where memory is
-    /// wanting.
+    /// wanting. A block that has as many items as the list has blocks is split first, but none of fewer than 32.
     pub fn insert(&mut self, alloc: Global, index: usize, item: T) -> Result<bool, AllocError>
         ensures ok { IfOk result (λ done. seen_in T.seen self.new ≡ (if done
             then insert (seen_in T.seen self.old) index (T.seen item) else seen_in T.seen self.old)) }
@@ -259,24 +251,7 @@ impl<T: Share> Pieces<T> {
         ensures own { is_own_list self.old ≡ true → is_own_list self.new ≡ true }
         ensures now_own { IfOk result (λ done. done ≡ true → is_own_at self.new index ≡ true) }
     {
-        self.insert_within(alloc, index, item, MAX)
-    }
-
-    /// The same, and a block that has as many items as are given last, or more, is split first.
-    pub fn insert_within(
-        &mut self,
-        alloc: Global,
-        index: usize,
-        item: T,
-        most: usize,
-    ) -> Result<bool, AllocError>
-        ensures ok { IfOk result (λ done. seen_in T.seen self.new ≡ (if done
-            then insert (seen_in T.seen self.old) index (T.seen item) else seen_in T.seen self.old)) }
-        ensures within { IfOk result (λ done. done ≡ nat_le index (length (seen_in T.seen self.old))) }
-        ensures err { OnErr result (seen_in T.seen self.new ≡ seen_in T.seen self.old) }
-        ensures own { is_own_list self.old ≡ true → is_own_list self.new ≡ true }
-        ensures now_own { IfOk result (λ done. done ≡ true → is_own_at self.new index ≡ true) }
-    {
+        let most = bound(self.part_count());
         self.make_room(alloc, most)?;
         match &mut self.form {
             Form::One(block) => {

@@ -123,9 +123,6 @@ removed J X Y s Z K p is cut here new =
 pub not_removed : (J X Y s : List ℕ) (p : ℕ) → J ≡ X ++ Y → cut_at J p ≡ Some (length X) → starts_with nat_eq Y s ≡ false → remove_text p s J ≡ None
 not_removed J X Y s p is cut other = taken J X Y s p is cut ∙ ap (λ t. if t then Some (remove_range J (length X) (length X + length s)) else None) other
 
-pub no_cut_removed : (J s : List ℕ) (p : ℕ) → cut_at J p ≡ None → remove_text p s J ≡ None
-no_cut_removed J s p cut = ap (option_and_then (λ i. if starts_with nat_eq (drop i J) s then Some (remove_range J i (i + length s)) else None)) cut
-
 pub length_put : (bs s : List ℕ) (i : ℕ) → length (insert_slice bs i s) ≡ length bs + length s
 length_put bs s i =
     let e : length bs ≡ length (take i bs) + length (drop i bs) = ap length (sym (take-append-drop i bs)) ∙ length-append (take i bs) (drop i bs) in

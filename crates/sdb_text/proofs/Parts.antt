@@ -1,6 +1,6 @@
 -- Pieces as they are stored.
 use Rattle.std.proofs.Common.{length-append, length-take, length-drop, ◌≡◌, Bool, true, false, ◌&&◌, All, map, refl, ℕ, zero, suc, ◌+◌, ◌-◌, ◌<◌, ◌≤◌, List, [], ◌∷◌, ◌++◌, length, take, drop, get_or, set, ap, sym, ◌∙◌, arith}
-use Rattle.std.specs.List.{concat, insert_slice, splice, remove_range, remove, HoldsAt}
+use Rattle.std.specs.List.{concat, insert_slice, splice, remove_range, remove}
 use Rattle.std.proofs.lemmas.List.{get_or-map, length-map, take_more}
 use Rattle.std.proofs.lemmas.List.{append-nil, map-set, map-append, take-map, drop-map, set_split, set-get_or, map_push}
 use Rattle.std.specs.Str.{IsUtf8}
@@ -95,18 +95,6 @@ empty_piece_out ps k h e =
     ap concat cut ∙ gone_empty (texts_of ps) k (omega (arith, h, count ps)) e
 
 -- which are their owner's own
-pub own_set : (ps : List Part) (k m : ℕ) (p : Part) → IsOwn p → HoldsAt IsOwn ps k → HoldsAt IsOwn (set ps m p) k
-own_set [] k m p o h = h
-own_set (x ∷ ps) zero zero p o h = λ d. o
-own_set (x ∷ ps) zero (suc m) p o h = h
-own_set (x ∷ ps) (suc k) zero p o h = h
-own_set (x ∷ ps) (suc k) (suc m) p o h = own_set ps k m p o h
-
-pub own_there : (ps : List Part) (k : ℕ) (p : Part) → IsOwn p → k < length ps → HoldsAt IsOwn (set ps k p) k
-own_there [] k p o h = absurd (omega (arith, h))
-own_there (x ∷ ps) zero p o h = λ d. o
-own_there (x ∷ ps) (suc k) p o h = own_there ps k p o (omega (arith, h))
-
 own_all_step : (b : Bool) (p : Part) (ps : List Part) → part_own p ≡ b → (b && all_own ps) ≡ true → (all_own ps ≡ true → All IsOwn ps) → All IsOwn (p ∷ ps)
 own_all_step true p ps e f rest = All-cons IsOwn p ps e (rest f)
 own_all_step false p ps e f rest = cc

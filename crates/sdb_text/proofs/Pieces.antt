@@ -81,13 +81,13 @@ cut_last ts q offset k last is sum =
 
 -- ---- where a text ends
 
-pub after_next : (ts : List (List ℕ)) (k n i : ℕ) → k < length ts → n ≡ suc k → after ts k i ≡ drop i (piece ts k) ++ after ts n 0
+after_next : (ts : List (List ℕ)) (k n i : ℕ) → k < length ts → n ≡ suc k → after ts k i ≡ drop i (piece ts k) ++ after ts n 0
 after_next [] k n i h e = absurd (omega (arith, h))
 after_next (t ∷ []) zero n i h e = rw e refl
 after_next (t ∷ u ∷ ts) zero n i h e = rw e refl
 after_next (t ∷ ts) (suc k) n i h e = rw e (after_next ts k (suc k) i (omega (arith, h)) refl)
 
-pub after_past : (ts : List (List ℕ)) (k i : ℕ) → length ts ≤ k → after ts k i ≡ []
+after_past : (ts : List (List ℕ)) (k i : ℕ) → length ts ≤ k → after ts k i ≡ []
 after_past [] k i h = refl
 after_past (t ∷ ts) zero i h = absurd (omega (arith, h))
 after_past (t ∷ ts) (suc k) i h = after_past ts k i (omega (arith, h))
@@ -99,7 +99,7 @@ nothing_stands (x ∷ s) h = refl
 pub none_past : (ts : List (List ℕ)) (s : List ℕ) (k i : ℕ) → length ts ≤ k → 0 < length s → starts_with nat_eq (after ts k i) s ≡ false
 none_past ts s k i h l = ap (λ y. starts_with nat_eq y s) (after_past ts k i h) ∙ nothing_stands s l
 
-begins : (xs s : List ℕ) → starts_with nat_eq xs s ≡ true → xs ≡ s ++ drop (length s) xs
+pub begins : (xs s : List ℕ) → starts_with nat_eq xs s ≡ true → xs ≡ s ++ drop (length s) xs
 begins xs s e = (starts_is Decides-eqb xs s (starts_with nat_eq xs s) refl).0 e
 
 pub end_here : (ts : List (List ℕ)) (s : List ℕ) (k i : ℕ) → k < length ts → i ≤ length (piece ts k) → length s ≤ length (drop i (piece ts k)) → starts_with nat_eq (drop i (piece ts k)) s ≡ true → IsEnd ts k i s k (i + length s)
@@ -234,14 +234,3 @@ pub end_boundary : (ts : List (List ℕ)) (s : List ℕ) (k i m j : ℕ) → ((k
 end_boundary ts s k i m j u v b end =
     let a : IsUtf8 (after ts m j) = rest_utf8 s (after ts m j) (subst IsUtf8 end.is (after_utf8 ts k i u b)) v in
     boundary_in (piece ts m) (concat (drop (suc m) ts)) j end.fits (subst IsUtf8 (after_is ts m j end.inside) a)
-
--- ---- at the ends
-
-pub after_start : (ts : List (List ℕ)) → after ts 0 0 ≡ concat ts
-after_start [] = refl
-after_start (t ∷ ts) = refl
-
-pub not_end : (ts : List (List ℕ)) (k i : ℕ) → k < length ts → i < length (piece ts k) → after ts k i ≡ [] → ⊥
-not_end ts k i h l e =
-    let f : drop i (piece ts k) ++ concat (drop (suc k) ts) ≡ [] = sym (after_is ts k i h) ∙ e in
-    omega (arith, ap length f, length-append (drop i (piece ts k)) (concat (drop (suc k) ts)), length-drop i (piece ts k), l)

@@ -1,5 +1,5 @@
 //! Edits of the pieces of a text.
-ghost use Rattle.std.specs.Prelude.{◌≡◌, ◌≤◌, ◌<◌, ◌+◌, ◌++◌, string_bytes, true, All, length, min, IfOk, OnOk, OnErr};
+ghost use Rattle.std.specs.Prelude.{◌≡◌, ◌≤◌, ◌<◌, ◌+◌, ◌++◌, true, All, length, IfOk, OnOk, OnErr};
 ghost use Rattle.std.specs.List.{concat, insert_slice};
 ghost use Rattle.std.specs.String.Boundary.{IsSplitPoint};
 ghost use Rattle.sdb_text.specs.Edits.{Edits};
@@ -32,28 +32,6 @@ pub(crate) fn pieces(alloc: Global, text: &str) -> Result<Vec<Part>, AllocError>
     }
     parts.push(Part::new(String::from_str(alloc, &text[start..])?))?;
     Ok(parts)
-}
-
-/// How many bytes the pieces have, up to the limit.
-pub(crate) fn bytes_up_to(parts: &[Part], limit: u64) -> u64
-    ensures { result ≡ min limit (length (concat (texts_of parts.now))) }
-{
-    let mut left = limit;
-    for part in parts {
-        left -= (part.as_str().len() as u64).min(left);
-    }
-    limit - left
-}
-
-/// The bytes of the pieces, in memory of their own.
-pub(crate) fn joined(alloc: Global, parts: &[Part]) -> Result<String, AllocError>
-    ensures { IfOk result (λ s. string_bytes s ≡ concat (texts_of parts.now)) }
-{
-    let mut whole = String::new(alloc);
-    for part in parts {
-        whole.push_str(part.as_str())?;
-    }
-    Ok(whole)
 }
 
 /// The text with another put before a byte, in pieces of its own.

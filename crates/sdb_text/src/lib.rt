@@ -3,10 +3,13 @@
 
 mod change;
 mod chars;
+mod grouping;
+mod groups;
 pub mod laws;
 mod many;
 mod part;
 mod places;
+mod reading;
 mod removal;
 mod same;
 mod text;

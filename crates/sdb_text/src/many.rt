@@ -82,7 +82,7 @@ pub(crate) fn shared_many(alloc: Global, block: &Block<Part>) -> Result<Block<Pa
     Block::Own(parts).into_shared(alloc)
 }
 
-fn shared_parts(alloc: Global, parts: &[Part]) -> Result<Vec<Part>, AllocError>
+pub(crate) fn shared_parts(alloc: Global, parts: &[Part]) -> Result<Vec<Part>, AllocError>
     ensures { IfOk result (λ v. texts_of v.items ≡ texts_of parts.now) }
 {
     let mut copies = Vec::with_capacity(alloc, parts.len())?;

@@ -19,7 +19,7 @@ pub(crate) struct Span {
 
 /// The piece with the unit at the offset, and the unit's place in it. `Err` where the text ends first:
 /// how many units are past its end.
-fn place(parts: &[Part], offset: u64) -> Result<(usize, u64), u64>
+pub(crate) fn place(parts: &[Part], offset: u64) -> Result<(usize, u64), u64>
     ensures ok { IfOk result (λ r. IsPlace (texts_of parts.now) offset r.0 r.1) }
     ensures err { IfErr result (λ left. texts.units (concat (texts_of parts.now)) + left ≡ offset) }
 {

@@ -1,59 +1,88 @@
 //! Whether texts in pieces are the same.
-ghost use Rattle.std.specs.Prelude.{◌≡◌, [], IsTrue, IsFalse};
+ghost use Rattle.std.specs.Prelude.{◌≡◌, ◌++◌, [], ℕ, List, IsTrue, IsFalse};
 ghost use Rattle.std.specs.List.{concat};
+ghost use Rattle.sdb_pieces.specs.Iter.{rest};
+ghost use Rattle.sdb_text.specs.Left.{bytes_left};
 ghost use Rattle.sdb_text.specs.Parts.{texts_of};
-ghost use Rattle.sdb_text.specs.Pieces.{after};
 
 use crate::part::Part;
-use crate::places::end_of;
+use sdb_pieces::Iter;
 
 /// Whether the pieces make this text.
-pub(crate) fn is_whole(parts: &[Part], text: &str) -> bool
-    ensures same { IsTrue result → concat (texts_of parts.now) ≡ text.now }
-    ensures other { IsFalse result → concat (texts_of parts.now) ≡ text.now → ⊥ }
+pub(crate) fn is_whole(parts: Iter<'_, Part>, text: &str) -> bool
+    ensures same { IsTrue result → concat (texts_of (rest parts.entry)) ≡ text.now }
+    ensures other { IsFalse result → concat (texts_of (rest parts.entry)) ≡ text.now → ⊥ }
 {
-    if parts.is_empty() {
-        return text.is_empty();
-    }
-    match end_of(parts, 0, 0, text) {
-        Some((last, to)) => is_end(parts, last, to),
-        None => false,
-    }
+    let mut left = Left::new(parts);
+    left.take(text) && left.is_end()
 }
 
 /// Whether the pieces make the same text, cut in whatever way.
-pub(crate) fn same_parts(parts: &[Part], others: &[Part]) -> bool
-    ensures same { IsTrue result → concat (texts_of parts.now) ≡ concat (texts_of others.now) }
-    ensures other { IsFalse result → concat (texts_of parts.now) ≡ concat (texts_of others.now) → ⊥ }
+pub(crate) fn same_parts(parts: Iter<'_, Part>, others: Iter<'_, Part>) -> bool
+    ensures same { IsTrue result → concat (texts_of (rest parts.entry)) ≡ concat (texts_of (rest others.entry)) }
+    ensures other { IsFalse result → concat (texts_of (rest parts.entry)) ≡ concat (texts_of (rest others.entry)) → ⊥ }
 {
-    if parts.is_empty() {
-        return is_end(others, 0, 0);
-    }
-    let mut at = 0;
-    let mut from = 0;
+    let mut left = Left::new(parts);
     for other in others {
-        let Some((last, to)) = end_of(parts, at, from, other.as_str()) else {
-            return false;
-        };
-        at = last;
-        from = to;
-    }
-    is_end(parts, at, from)
-}
-
-// Whether nothing stands from a byte of a piece on.
-fn is_end(parts: &[Part], first: usize, from: usize) -> bool
-    ensures yes { IsTrue result → after (texts_of parts.now) first from ≡ [] }
-    ensures no { IsFalse result → after (texts_of parts.now) first from ≡ [] → ⊥ }
-{
-    let mut at = first;
-    let mut start = from;
-    while at < parts.len() {
-        if start < parts[at].as_str().len() {
+        if !left.take(other.as_str()) {
             return false;
         }
-        at += 1;
-        start = 0;
     }
-    true
+    left.is_end()
+}
+
+// What is left of the pieces of a text that is gone through.
+#[derive(Drop)]
+struct Left<'a> {
+    // of the piece at hand
+    here: &'a [u8],
+    // the pieces behind it
+    parts: Iter<'a, Part>,
+}
+
+impl<'a> Left<'a> {
+    fn new(parts: Iter<'a, Part>) -> Left<'a>
+        ensures { bytes_left result ≡ concat (texts_of (rest parts.entry)) }
+    {
+        Left { here: &[], parts }
+    }
+
+    // Goes past the text. `false` where another text stands there.
+    fn take(&mut self, text: &str) -> bool
+        ensures yes { IsTrue result → bytes_left self.old ≡ text.now ++ bytes_left self.new }
+        ensures no { IsFalse result → (more : List ℕ) → bytes_left self.old ≡ text.now ++ more → ⊥ }
+    {
+        let mut wanted = text.as_bytes();
+        while wanted.len() > self.here.len() {
+            let Some(others) = wanted.strip_prefix(self.here) else {
+                return false;
+            };
+            let Some(part) = self.parts.next() else {
+                return false;
+            };
+            wanted = others;
+            self.here = part.as_str().as_bytes();
+        }
+        let Some(others) = self.here.strip_prefix(wanted) else {
+            return false;
+        };
+        self.here = others;
+        true
+    }
+
+    // Whether nothing is left.
+    fn is_end(self) -> bool
+        ensures yes { IsTrue result → bytes_left self.entry ≡ [] }
+        ensures no { IsFalse result → bytes_left self.entry ≡ [] → ⊥ }
+    {
+        if !self.here.is_empty() {
+            return false;
+        }
+        for part in self.parts {
+            if !part.as_str().is_empty() {
+                return false;
+            }
+        }
+        true
+    }
 }

@@ -1,17 +1,23 @@
 //! A text in pieces.
-ghost use Rattle.std.specs.Prelude.{◌≡◌, ◌<◌, true, false, length, min, string_bytes, slice_get, option_map};
+ghost use Rattle.std.specs.Prelude.{◌≡◌, ◌<◌, true, false, length, min, string_bytes};
 ghost use Rattle.std.specs.Prelude.{IfOk, OnOk, OnErr, IfSome, IsTrue, IsFalse};
+ghost use Rattle.std.specs.List.{concat};
+ghost use Rattle.sdb_pieces.specs.Iter.{rest};
 ghost use Rattle.sdb_text.specs.Edits.{Edits};
 ghost use Rattle.sdb_text.specs.Held.{bytes_in, parts_in, is_own, is_shared, HasShortParts};
+ghost use Rattle.sdb_text.specs.Parts.{texts_of};
 ghost use Rattle.sdb_text.specs.Text as texts;
 
-use crate::change::{MAX, bytes_up_to, joined, pieces, pieces_with};
+use crate::change::{MAX, pieces, pieces_with};
 use crate::chars::Chars;
+use crate::grouping::{FEW, grouped, share_groups, shared_groups};
+use crate::groups::{insert_grouped, remove_across, remove_grouped};
 use crate::many::{insert_many, remove_many, share_many, shared_many};
 use crate::part::Part;
+use crate::reading::{by_group, bytes_up_to, flat, joined, only};
 use crate::same::{is_whole, same_parts};
 use crate::units::cut_at;
-use sdb_pieces::{Block, Share};
+use sdb_pieces::{Block, Iter, Share};
 use std::alloc::{AllocError, Global};
 
 /// A text in pieces of a few thousand bytes, each its owner's own or shared with copies. Offsets count UTF-16
@@ -28,6 +34,8 @@ pub enum Form {
     One(Chars),
     /// Any number of pieces.
     Many(Block<Part>),
+    /// Any number of pieces in groups, some of them shared.
+    Groups(Block<Block<Part>>),
 }
 
 impl Text {
@@ -72,6 +80,7 @@ impl Text {
         match &self.form {
             Form::One(chars) => chars.allocator(),
             Form::Many(parts) => parts.allocator(),
+            Form::Groups(groups) => groups.allocator(),
         }
     }
 
@@ -81,30 +90,8 @@ impl Text {
     {
         match &self.form {
             Form::One(chars) => (chars.as_str().len() as u64).min(limit),
-            Form::Many(parts) => bytes_up_to(parts.items(), limit),
-        }
-    }
-
-    /// The number of pieces.
-    pub fn part_count(&self) -> usize
-        ensures { result ≡ length (parts_in self.now) }
-    {
-        match &self.form {
-            Form::One(_) => 1,
-            Form::Many(parts) => parts.len(),
-        }
-    }
-
-    /// The piece at an index.
-    pub fn part(&self, at: usize) -> Option<&str>
-        ensures { option_map (λ s. s.now) result ≡ slice_get (parts_in self.now) at }
-    {
-        match &self.form {
-            Form::One(chars) => { if at == 0 { Some(chars.as_str()) } else { None } }
-            Form::Many(parts) => match parts.items().get(at) {
-                Some(part) => Some(part.as_str()),
-                None => None,
-            },
+            Form::Many(parts) => bytes_up_to(flat(parts), limit),
+            Form::Groups(groups) => bytes_up_to(by_group(groups), limit),
         }
     }
 
@@ -112,10 +99,10 @@ impl Text {
     pub fn as_str(&self) -> Option<&str>
         ensures { IfSome result (λ s. s.now ≡ bytes_in self.now) }
     {
-        if self.part_count() == 1 {
-            self.part(0)
-        } else {
-            None
+        match &self.form {
+            Form::One(chars) => Some(chars.as_str()),
+            Form::Many(parts) => only(flat(parts)),
+            Form::Groups(groups) => only(by_group(groups)),
         }
     }
 
@@ -129,7 +116,11 @@ impl Text {
                 Ok(copy)
             }
             Form::Many(parts) => {
-                let copy = joined(alloc, parts.items())?;
+                let copy = joined(alloc, flat(parts))?;
+                Ok(copy)
+            }
+            Form::Groups(groups) => {
+                let copy = joined(alloc, by_group(groups))?;
                 Ok(copy)
             }
         }
@@ -161,6 +152,10 @@ impl Text {
                 let done = insert_many(alloc, parts, offset, new)?;
                 Ok(done)
             }
+            Form::Groups(groups) => {
+                let done = insert_grouped(alloc, groups, offset, new)?;
+                Ok(done)
+            }
         }
     }
 
@@ -183,6 +178,18 @@ impl Text {
                 let done = remove_many(alloc, parts, offset, old)?;
                 Ok(done)
             }
+            Form::Groups(groups) => {
+                if remove_grouped(alloc, groups, offset, old)? {
+                    return Ok(true);
+                }
+                match remove_across(alloc, groups.items(), offset, old)? {
+                    Some(parts) => {
+                        self.form = Form::Many(parts);
+                        Ok(true)
+                    }
+                    None => Ok(false),
+                }
+            }
         }
     }
 
@@ -191,11 +198,32 @@ impl Text {
         ensures same { IsTrue result → bytes_in self.now ≡ bytes_in other.now }
         ensures other { IsFalse result → bytes_in self.now ≡ bytes_in other.now → ⊥ }
     {
-        match (&self.form, &other.form) {
-            (Form::One(chars), Form::One(others)) => chars.as_str() == others.as_str(),
-            (Form::One(chars), Form::Many(others)) => is_whole(others.items(), chars.as_str()),
-            (Form::Many(parts), Form::One(others)) => is_whole(parts.items(), others.as_str()),
-            (Form::Many(parts), Form::Many(others)) => same_parts(parts.items(), others.items()),
+        match &self.form {
+            Form::One(chars) => other.is_str(chars.as_str()),
+            Form::Many(parts) => other.is_made_of(flat(parts)),
+            Form::Groups(groups) => other.is_made_of(by_group(groups)),
+        }
+    }
+
+    fn is_str(&self, text: &str) -> bool
+        ensures same { IsTrue result → text.now ≡ bytes_in self.now }
+        ensures other { IsFalse result → text.now ≡ bytes_in self.now → ⊥ }
+    {
+        match &self.form {
+            Form::One(chars) => text == chars.as_str(),
+            Form::Many(parts) => is_whole(flat(parts), text),
+            Form::Groups(groups) => is_whole(by_group(groups), text),
+        }
+    }
+
+    fn is_made_of(&self, parts: Iter<'_, Part>) -> bool
+        ensures same { IsTrue result → concat (texts_of (rest parts.entry)) ≡ bytes_in self.now }
+        ensures other { IsFalse result → concat (texts_of (rest parts.entry)) ≡ bytes_in self.now → ⊥ }
+    {
+        match &self.form {
+            Form::One(chars) => is_whole(parts, chars.as_str()),
+            Form::Many(others) => same_parts(parts, flat(others)),
+            Form::Groups(groups) => same_parts(parts, by_group(groups)),
         }
     }
 
@@ -218,18 +246,33 @@ impl Text {
                     form: Form::Many(copy),
                 })
             }
+            Form::Groups(groups) => {
+                let copy = shared_groups(alloc, groups)?;
+                Ok(Text {
+                    form: Form::Groups(copy),
+                })
+            }
         }
     }
 
     /// Makes all of it shared in place, so that a copy of it is a pointer. Each piece that isn't shared yet is
-    /// moved, and takes memory for a pointer alone. After want of memory the text is the same.
+    /// moved, and takes memory for a pointer alone; many pieces are put into groups. After want of memory the text is
+    /// the same.
     pub fn share_in_place(&mut self, alloc: Global) -> Result<(), AllocError>
         ensures parts { parts_in self.new ≡ parts_in self.old }
         ensures shared { OnOk result (is_shared self.new ≡ true) }
     {
         match &mut self.form {
             Form::One(chars) => chars.share_in_place(alloc),
-            Form::Many(parts) => share_many(alloc, parts),
+            Form::Many(parts) => {
+                share_many(alloc, parts)?;
+                if parts.len() > FEW {
+                    let groups = grouped(alloc, parts.items())?;
+                    self.form = Form::Groups(groups);
+                }
+                Ok(())
+            }
+            Form::Groups(groups) => share_groups(alloc, groups),
         }
     }
 
@@ -240,6 +283,7 @@ impl Text {
         match &self.form {
             Form::One(chars) => chars.is_shared(),
             Form::Many(parts) => !parts.is_own(),
+            Form::Groups(groups) => !groups.is_own(),
         }
     }
 }
@@ -264,6 +308,12 @@ impl Share for Text {
                 let copy = parts.share(alloc)?;
                 Ok(Text {
                     form: Form::Many(copy),
+                })
+            }
+            Form::Groups(groups) => {
+                let copy = groups.share(alloc)?;
+                Ok(Text {
+                    form: Form::Groups(copy),
                 })
             }
         }

@@ -1,6 +1,6 @@
 -- What lists that are seen alike have in common.
 use Rattle.std.proofs.Common.{◌≡◌, ℕ, ◌<◌, List, [], ◌∷◌, length, map, slice_index_or, refl, sym, ap, ◌∙◌}
-use Rattle.std.proofs.lemmas.List.{length-map, get_or-map}
+use Rattle.std.proofs.lemmas.List.{get_or-map}
 use Rattle.sdb_value.specs.Value.{Value, Items, no_items, item}
 use Rattle.sdb_value.specs.View.{items_of}
 
@@ -11,14 +11,6 @@ values_of (item d ds) = d ∷ values_of ds
 back : (ds : List Value) → values_of (items_of ds) ≡ ds
 back [] = refl
 back (d ∷ ds) = ap (λ l. d ∷ l) (back ds)
-
--- the items are the same one by one
-pub items_alike : (ds es : List Value) → items_of ds ≡ items_of es → ds ≡ es
-items_alike ds es h = sym (back ds) ∙ ap values_of h ∙ back es
-
--- they are as long
-pub as_long : {A B : Type 0} (f : A → B) (xs ys : List A) → map f xs ≡ map f ys → length xs ≡ length ys
-as_long f xs ys h = sym (length-map xs f) ∙ ap length h ∙ length-map ys f
 
 -- what stands at the same place is seen alike
 pub alike_at : {A B : Type 0} (f : A → B) (xs ys : List A) (i : ℕ) (x y : A) → i < length xs → i < length ys

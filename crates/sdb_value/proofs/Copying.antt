@@ -87,16 +87,6 @@ copied_more manner.Same a b p c d q h k = and_both b d a c h k
 copied_more manner.Own a b p c d q h k = and_both b d true true h k
 copied_more manner.Shared a b p c d q h k = and_both p q true true h k
 
-pub copied_none : (m : Manner) → IsCopied m true true true
-copied_none manner.Same = refl
-copied_none manner.Own = refl
-copied_none manner.Shared = refl
-
-and_last : (a b : Bool) → cond a (cond b true false) false ≡ cond a b false
-and_last true true = refl
-and_last true false = refl
-and_last false b = refl
-
 and_assoc : (a b c : Bool) → cond a (cond b c false) false ≡ cond (cond a b false) c false
 and_assoc true b c = refl
 and_assoc false b c = refl

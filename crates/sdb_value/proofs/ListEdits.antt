@@ -228,11 +228,6 @@ own_set [] i b h k = refl
 own_set (c ∷ bs) zero b h k = both b (all_true bs) k (both_second c (all_true bs) h)
 own_set (c ∷ bs) (suc i) b h k = both c (all_true (set bs i b)) (both_first c (all_true bs) h) (own_set bs i b (both_second c (all_true bs) h) k)
 
-own_get : (bs : List Bool) (i : ℕ) → all_true bs ≡ true → IfSome (slice_get bs i) (λ b. b ≡ true)
-own_get [] i h = tt
-own_get (b ∷ bs) zero h = both_first b (all_true bs) h
-own_get (b ∷ bs) (suc i) h = own_get bs i (both_second b (all_true bs) h)
-
 either_own : (b : Bool) (bs cs : List Bool) → all_true bs ≡ true → all_true cs ≡ true → all_true (if b then bs else cs) ≡ true
 either_own true bs cs h k = h
 either_own false bs cs h k = k
@@ -347,11 +342,6 @@ pub none_result : {E : Type 0} (r : Result (Option Json) E) (old new : Pieces Js
     → OnOk r (seen_in seen new ≡ set (seen_in seen old) i (seen y)) → IfOk r (λ o. IfNone o (list_view new ≡ list_view old))
 none_result (Ok x) old new i y h e = none_taken x old new i y h e
 none_result (Err e) old new i y h k = tt
-
-pub set_result : {E : Type 0} (r : Result (Option Json) E) (old new : Pieces Json) (i : ℕ) (y : Json)
-    → OnOk r (seen_in seen new ≡ set (seen_in seen old) i (seen y)) → OnOk r (list_view new ≡ set_item i (list_view old) (view y))
-set_result (Ok x) old new i y e = list_set old new i y e
-set_result (Err e) old new i y k = tt
 
 pub kept_result : {E : Type 0} (r : Result (Option Json) E) (old new : Pieces Json) → OnErr r (seen_in seen new ≡ seen_in seen old) → OnErr r (list_view new ≡ list_view old)
 kept_result (Ok x) old new h = tt

@@ -15,7 +15,7 @@ use Rattle.sdb_members.specs.Object.{members_in, is_shared as object_shared}
 use Rattle.sdb_members.specs.declared.members.Members.{Members as Held}
 use Rattle.sdb_members.specs.declared.object.Object.{Object}
 use Rattle.sdb_members.specs.declared.object.Object.TheVariants as held
-use Rattle.sdb_text.specs.Held.{is_own as text_own, is_shared as text_shared}
+use Rattle.sdb_text.specs.Held.{is_own as text_own}
 use Rattle.sdb_text.specs.declared.text.Text.{Text}
 use Rattle.sdb_value.specs.Owns.{all_true, is_own, is_pointer, list_own, held_own, members_step, object_own}
 use Rattle.sdb_value.specs.declared.value.Json.{Json, the_lemmas}
@@ -67,9 +67,6 @@ owned_null = search (rules, the_lemmas)
 
 pub owned_text : (t : Text) → is_own (json.Text t) ≡ text_own t
 owned_text t = search (rules, the_lemmas)
-
-pub pointer_text : (t : Text) → is_pointer (json.Text t) ≡ text_shared t
-pointer_text t = search (rules, the_lemmas)
 
 values_own : {X Y : Type 0} (f : X → Y) (m : Held X) (w : Form X)
     → is_own_list (mapped f (record { keys = m.keys; values = record { form = w } })).values ≡ is_own_form w

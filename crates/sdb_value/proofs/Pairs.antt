@@ -141,10 +141,6 @@ pub same_object : (s new : Held Json) → texts_in new.keys ≡ texts_in s.keys 
 same_object s new k v =
     object_pairs new ∙ ap (λ ts. paired ts (list_view new.values)) k ∙ ap (paired (texts_in s.keys)) v ∙ sym (object_pairs s)
 
-pub values_first : (a b : Bool) → cond a b false ≡ true → a ≡ true
-values_first true b e = refl
-values_first false b e = e
-
 pub values_own : (a b : Bool) → cond a b false ≡ true → b ≡ true
 values_own true b e = e
 values_own false b e = cc

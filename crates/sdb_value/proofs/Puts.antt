@@ -9,12 +9,13 @@ use Rattle.sdb_pieces.specs.Pieces.{seen_in, is_own_list, items_in}
 use Rattle.sdb_pieces.specs.declared.pieces.Pieces.{Pieces}
 use Rattle.sdb_members.specs.Keys.{is_own as keys_own}
 use Rattle.sdb_members.specs.Laws.{seen_entries}
-use Rattle.sdb_members.specs.Members.{entries_in, entries_seen, is_own as holds_own}
+use Rattle.sdb_members.specs.Members.{entries_in, entries_seen, is_own as members_own}
+use Rattle.sdb_members.specs.Object.{is_shared}
 use Rattle.sdb_members.specs.Order.{by_bytes}
 use Rattle.sdb_members.specs.declared.members.Members.{Members as Held}
 use Rattle.sdb_members.specs.declared.object.Object.{Object}
-use Rattle.sdb_members.specs.declared.object.Object.TheVariants.{Own}
-use Rattle.sdb_value.specs.Owns.{is_own, held_own, items_own, object_own, seen}
+use Rattle.sdb_members.specs.declared.object.Object.TheVariants.{Own, Shared}
+use Rattle.sdb_value.specs.Owns.{is_own, held_own, holds_own, items_own, object_own, seen}
 use Rattle.sdb_value.specs.Value.{Value, Members, member, member_at, put, without}
 use Rattle.sdb_value.specs.View.{view, members_of, members_view, object_view}
 use Rattle.sdb_value.specs.declared.value.Json.{Json}
@@ -98,25 +99,34 @@ whole true true c e f = f
 whole true false c e f = cc
 whole false b c e f = cc
 
-either : (b : Bool) → (b ≡ true → b ≡ false) → b ≡ false
-either true h = h refl
-either false h = refl
+turned : (a b : Bool) → (a ≡ true → b ≡ true) → b ≡ false → a ≡ false
+turned true b h e = let t : b ≡ true = h refl in cc
+turned false b h e = refl
 
-part_shared : (a b c : Bool) → cond a b false ≡ false → cond a (cond b c false) false ≡ false
-part_shared true true c e = cc
-part_shared true false c e = refl
-part_shared false b c e = refl
+-- where an object is its owner's own, so are its members, their keys and the list of their values
+pub held_holds : (o : Object Json) → held_own o ≡ true → holds_own o ≡ true
+held_holds (Own m) own = (parts (keys_own m.keys) (is_own_list m.values) (items_own (items_in m.values)) own).0
+held_holds (Shared a) own = cc
 
--- an object is not its owner's own where its members, or their values, are not, once they have one owner
-pub shared_inside : (o n : Object Json) (m : Held Json) → (held_own o ≡ true → n ≡ o) → n ≡ Own m → object_own m ≡ false → held_own o ≡ false
-shared_inside o n m keeps is h = either (held_own o) (λ own. ap held_own (sym (keeps own) ∙ is) ∙ h)
+pub not_held : (o : Object Json) → holds_own o ≡ false → held_own o ≡ false
+not_held o h = turned (held_own o) (holds_own o) (held_holds o) h
 
-pub shared_within : (o n : Object Json) (m : Held Json) → (held_own o ≡ true → n ≡ o) → n ≡ Own m → holds_own m ≡ false → held_own o ≡ false
-shared_within o n m keeps is h =
-    shared_inside o n m keeps is (part_shared (keys_own m.keys) (is_own_list m.values) (items_own (items_in m.values)) h)
+-- an object that was made its own where it was shared, and is n then, with the members m
+module _ (n : Object Json) (m : Held Json) (is : n ≡ Own m) where
+  pub holds_inside : (o : Object Json) → (is_shared o ≡ false → n ≡ o) → members_own m ≡ false → holds_own o ≡ false
+  holds_inside (Own s) keeps h = ap holds_own (sym (keeps refl) ∙ is) ∙ h
+  holds_inside (Shared a) keeps h = refl
+
+  pub shared_inside : (o : Object Json) → (is_shared o ≡ false → n ≡ o) → object_own m ≡ false → held_own o ≡ false
+  shared_inside (Own s) keeps h = ap held_own (sym (keeps refl) ∙ is) ∙ h
+  shared_inside (Shared a) keeps h = refl
+
+  pub own_inside : (o : Object Json) → (is_shared o ≡ false → n ≡ o) → held_own o ≡ true → object_own m ≡ true
+  own_inside (Own s) keeps h = ap held_own (sym is ∙ keeps refl) ∙ h
+  own_inside (Shared a) keeps h = cc
 
 -- members that are their owner's own, and all their values
-pub own_members : (m n : Held Json) → (holds_own m ≡ true → holds_own n ≡ true)
+pub own_members : (m n : Held Json) → (members_own m ≡ true → members_own n ≡ true)
     → (list_all (λ (s : Value × Bool). s.1) (seen_in seen m.values) ≡ true → list_all (λ (s : Value × Bool). s.1) (seen_in seen n.values) ≡ true)
     → object_own m ≡ true → object_own n ≡ true
 own_members m n keeps all own =

@@ -1,5 +1,5 @@
 -- What is read of a list or an object, part by part.
-use Rattle.std.proofs.Common.{Bool, ◌≡◌, ℕ, ◌<◌, ◌≤◌, List, [], ◌∷◌, ◌++◌, map, Option, Some, None, option_map, nat_cmp, Ordering, Less, refl, sym, ap, ◌∙◌, subst, arith}
+use Rattle.std.proofs.Common.{◌≡◌, ℕ, ◌<◌, ◌≤◌, List, [], ◌∷◌, ◌++◌, map, Option, Some, None, option_map, nat_cmp, Ordering, Less, refl, sym, ap, ◌∙◌, subst, arith}
 use Rattle.std.specs.Bool.{⊤}
 use Rattle.std.specs.Borrow.{Bor}
 use Rattle.std.specs.Cmp.Lexicographic.{slice_cmp}
@@ -9,7 +9,6 @@ use Rattle.std.specs.Map.{keys_of}
 use Rattle.std.specs.Option.{option_and_then}
 use Rattle.serde_json.specs.Data as raw
 use Rattle.serde_json.specs.Find.{as_array, as_bool, as_number, as_object, as_str}
-use Rattle.serde_json.specs.Data.{Num}
 use Rattle.sdb_json.specs.Tree.{sorted_members}
 use Rattle.sdb_members.specs.Order.{by_bytes, IsAscending}
 use Rattle.sdb_value.specs.Value.{Value, Items, no_items, item, join, Members, member, depth, items_depth, members_depth}
@@ -36,10 +35,6 @@ read_more vs j all rest d e h = h ∙ rw e (join_all vs j (of_items rest))
 
 pub read_all : (vs : List Json) (all : raw.Items) → of_items all ≡ option_map (join (items_view vs)) (of_items raw.no_items) → of_items all ≡ Some (items_view vs)
 read_all vs all h = h ∙ ap Some (join_none (items_view vs))
-
-pub read_none : (vs : List Json) (all rest : raw.Items) (d : raw.Data) → of_data d ≡ None
-    → of_items all ≡ option_map (join (items_view vs)) (of_items (raw.item d rest)) → of_items all ≡ None
-read_none vs all rest d e h = h ∙ rw e refl
 
 pub low_push : (vs : List Json) (j : Json) (n : ℕ) → items_depth (items_view vs) ≤ n → depth (view j) ≤ n → items_depth (items_view (vs ++ j ∷ [])) ≤ n
 low_push [] j n h k = omega arith
@@ -153,30 +148,6 @@ is_object (raw.number n) ms e = absurd (cc)
 is_object (raw.string s) ms e = absurd (cc)
 is_object (raw.array es) ms e = absurd (cc)
 is_object (raw.object ns) ms e = cc
-
-pub is_text : (d : raw.Data) (s : List ℕ) → Some s ≡ as_str d → d ≡ raw.string s
-is_text raw.null s e = absurd (cc)
-is_text (raw.boolean b) s e = absurd (cc)
-is_text (raw.number n) s e = absurd (cc)
-is_text (raw.string t) s e = cc
-is_text (raw.array es) s e = absurd (cc)
-is_text (raw.object ms) s e = absurd (cc)
-
-pub is_number : (d : raw.Data) (n : Num) → Some n ≡ as_number d → d ≡ raw.number n
-is_number raw.null n e = absurd (cc)
-is_number (raw.boolean b) n e = absurd (cc)
-is_number (raw.number m) n e = cc
-is_number (raw.string s) n e = absurd (cc)
-is_number (raw.array es) n e = absurd (cc)
-is_number (raw.object ms) n e = absurd (cc)
-
-pub is_truth : (d : raw.Data) (b : Bool) → Some b ≡ as_bool d → d ≡ raw.boolean b
-is_truth raw.null b e = absurd (cc)
-is_truth (raw.boolean c) b e = cc
-is_truth (raw.number n) b e = absurd (cc)
-is_truth (raw.string s) b e = absurd (cc)
-is_truth (raw.array es) b e = absurd (cc)
-is_truth (raw.object ms) b e = absurd (cc)
 
 pub is_null : (d : raw.Data) → None ≡ as_bool d → None ≡ as_number d → None ≡ as_str d → as_array d ≡ None → as_object d ≡ None → d ≡ raw.null
 is_null raw.null a b c e f = refl

@@ -67,15 +67,8 @@ paired_fit (t ∷ ts) (v ∷ vs) = let below = paired_fit ts vs in omega (arith,
 pub members_fit : (m : Held Json) → members_weight (entries_in m) ≤ weights (items_in m.values)
 members_fit m = paired_fit (texts_in m.keys) (items_in m.values)
 
--- one of a list weighs less than the list
-pub first_below : (vs ws : List Json) (v : Json) (n : ℕ) → vs ≡ v ∷ ws → weights vs ≤ n → weight v < suc n
-first_below vs ws v n e h = let s : weights vs ≡ weight v + weights ws = ap weights e in omega (arith, s, h)
-
 pub rest_below : (vs ws : List Json) (v : Json) (n : ℕ) → vs ≡ v ∷ ws → weights vs ≤ n → weights ws ≤ n
 rest_below vs ws v n e h = let s : weights vs ≡ weight v + weights ws = ap weights e in omega (arith, s, h)
-
-pub member_below : (es fs : List (List ℕ × Json)) (e : List ℕ × Json) (n : ℕ) → es ≡ e ∷ fs → members_weight es ≤ n → weight e.1 < suc n
-member_below es fs e n h k = let s : members_weight es ≡ weight e.1 + members_weight fs = ap members_weight h in omega (arith, s, k)
 
 pub members_rest_below : (es fs : List (List ℕ × Json)) (e : List ℕ × Json) (n : ℕ) → es ≡ e ∷ fs → members_weight es ≤ n → members_weight fs ≤ n
 members_rest_below es fs e n h k = let s : members_weight es ≡ weight e.1 + members_weight fs = ap members_weight h in omega (arith, s, k)

@@ -3,6 +3,7 @@ use Rattle.std.specs.Prelude.{List, [], ◌∷◌, map, Bool, true, false, cond,
 use Rattle.std.specs.declared.alloc.Global.{Global}
 use Rattle.sdb_pieces.specs.Pieces.{seen_in, items_in, is_own_list, is_shared_list}
 use Rattle.sdb_members.specs.Keys.{is_own as keys_own}
+use Rattle.sdb_members.specs.Members.{is_own as members_own}
 use Rattle.sdb_members.specs.Object.{members_in, is_shared}
 use Rattle.sdb_members.specs.declared.members.Members.{Members}
 use Rattle.sdb_members.specs.declared.object.Object.{Object}
@@ -46,6 +47,10 @@ object_own m = cond (keys_own m.keys) (list_own m.values) false
 
 abbrev pub held_own : Object Json → Bool
 held_own o = cond (is_shared o) false (object_own (members_in o))
+
+-- neither an object's members, nor their keys, nor the list of their values are shared; the values may be
+abbrev pub holds_own : Object Json → Bool
+holds_own o = cond (is_shared o) false (members_own (members_in o))
 
 -- a copy of it is a pointer, or as little
 abbrev pub pointer_step : Json-F Bool → Bool

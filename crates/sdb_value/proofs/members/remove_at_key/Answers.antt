@@ -1,8 +1,18 @@
 use Rattle.std.proofs.lemmas.Result.{on_err_weaker}
-use Rattle.sdb_value.proofs.Puts.{shared_within}
+use Rattle.sdb_value.proofs.Puts.{holds_inside, not_held, own_inside}
 use Rattle.sdb_value.proofs.members.remove_at_key.Goals as goal
+
+pub returns-clause-own : goal.returns-clause-own
+returns-clause-own c own =
+    c.remove_member.ensures.own (own_inside c.make_own.new.object c.in-Own.members c.in-Own.is c.args.object.now c.make_own.ensures.own own)
+
+pub returns-clause-memory : goal.returns-clause-memory
+returns-clause-memory c =
+    on_err_weaker c.remove_member.result
+    (holds_inside c.make_own.new.object c.in-Own.members c.in-Own.is c.args.object.now c.make_own.ensures.own) c.remove_member.ensures.shared
 
 pub returns-clause-shared : goal.returns-clause-shared
 returns-clause-shared c =
     on_err_weaker c.remove_member.result
-    (shared_within c.args.object.now c.make_own.new.object c.in-Own.members c.make_own.ensures.own c.in-Own.is) c.remove_member.ensures.shared
+    (λ h. not_held c.args.object.now (holds_inside c.make_own.new.object c.in-Own.members c.in-Own.is c.args.object.now c.make_own.ensures.own h))
+    c.remove_member.ensures.shared

@@ -3,10 +3,10 @@ use Rattle.std.proofs.lemmas.Result.{on_err_weaker}
 use Rattle.sdb_value.specs.FrontLaws.{on_any_err}
 use Rattle.sdb_value.specs.Law.{known, list_is, object_is}
 use Rattle.sdb_value.specs.Value.{null, list, object, key, set_item}
-use Rattle.sdb_value.specs.View.{view, plain_step, plain_path, held_view, list_view, object_view}
+use Rattle.sdb_value.specs.View.{view, plain_step, plain_path, held_view, list_view}
 use Rattle.sdb_value.proofs.ListEdits.{shared_place}
 use Rattle.sdb_value.proofs.Pairs.{told_pairs, same_object, key_missing}
-use Rattle.sdb_value.proofs.Puts.{shared_inside}
+use Rattle.sdb_value.proofs.Puts.{own_inside, shared_inside}
 use Rattle.sdb_value.proofs.Steps.{told_of, list_told, set_again, put_same}
 use Rattle.sdb_value.proofs.places.+change.Goals as goal
 
@@ -95,7 +95,11 @@ change_value-returns-in-Err-clause-done g t c = key_missing c.args.members.now c
 
 -- ---- members, once they have one owner
 
+pub change_member-returns-clause-own : goal.change_member-returns-clause-own
+change_member-returns-clause-own g t c keeps own =
+    c.change_value.ensures.own keeps (own_inside c.make_own.new.object c.in-Own.own c.in-Own.is c.args.members.now c.make_own.ensures.own own)
+
 pub change_member-returns-clause-shared : goal.change_member-returns-clause-shared
 change_member-returns-clause-shared g t c =
     on_err_weaker c.change_value.result
-    (shared_inside c.args.members.now c.make_own.new.object c.in-Own.own c.make_own.ensures.own c.in-Own.is) c.change_value.ensures.shared
+    (shared_inside c.make_own.new.object c.in-Own.own c.in-Own.is c.args.members.now c.make_own.ensures.own) c.change_value.ensures.shared

@@ -9,7 +9,7 @@ use Rattle.sdb_members.proofs.keys.Keys.insert.Goals as goal
 pub invariant_of-self-2 : goal.invariant_of-self-2
 invariant_of-self-2 c =
     let ts = texts_of c.args.self.now.texts in
-    let e = put_done c.in_ok-insert_within.field-0 ts (texts_of c.insert_within.new.self) c.args.index _ c.in_ok-insert_within.ensures.ok c.in_ok-insert_within.ensures.within c.requires.within in
+    let e = put_done c.in_ok-insert.field-0 ts (texts_of c.insert.new.self) c.args.index _ c.in_ok-insert.ensures.ok c.in_ok-insert.ensures.within c.requires.within in
     record {
       counted = ap (λ n. n + 1) c.args.self.now.counted ∙ sym (ap length e ∙ length_put ts c.args.index _ c.requires.within);
       ascending = subst IsAscending (sym e) (subst (λ k. IsAscending (insert ts c.args.index k)) (sym c.new.ensures)

@@ -5,4 +5,4 @@ use Rattle.sdb_members.proofs.members.Members.from_sorted.Goals as goal
 
 pub returns-clause-members : goal.returns-clause-members
 returns-clause-members g c =
-    ap (λ l. zip l (items_in c.in_ok-cut.field-0)) c.in_ok-from_vec.ensures.texts ∙ ap (zip _) c.in_ok-cut.ensures.items
+    ap (λ l. zip l (items_in c.in_ok-in_blocks.field-0)) c.in_ok-from_vec.ensures.texts ∙ ap (zip _) c.in_ok-in_blocks.ensures.items
