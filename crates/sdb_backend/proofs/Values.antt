@@ -63,12 +63,12 @@ module _ (T : RattleType) (s : IsSend T) (y : IsSync T) where
 
 pub Json-send : IsSend (Json.the_field).row
 Json-send =
-    knot.both_send-Json (search sendable) (search sendable) (search sendable) (search sendable) (search (sendable, crosses, maps.crosses) depth 40)
-    (search (sendable, crosses, maps.crosses) depth 40) (λ h s y. Pieces-send h s y) (λ h s y. Pieces-sync h s y)
+    knot.both_send-Json (search sendable) (search sendable) (search sendable) (search sendable) (search (sendable, crosses, maps.crosses) depth 60 fits 100000)
+    (search (sendable, crosses, maps.crosses) depth 60 fits 100000) (λ h s y. Pieces-send h s y) (λ h s y. Pieces-sync h s y)
     (λ h s y. Object-send h s y) (λ h s y. Object-sync h s y)
 
 pub Json-sync : IsSync (Json.the_field).row
 Json-sync =
-    knot.both_sync-Json (search sendable) (search sendable) (search sendable) (search sendable) (search (sendable, crosses, maps.crosses) depth 40)
-    (search (sendable, crosses, maps.crosses) depth 40) (λ h s y. Pieces-send h s y) (λ h s y. Pieces-sync h s y)
+    knot.both_sync-Json (search sendable) (search sendable) (search sendable) (search sendable) (search (sendable, crosses, maps.crosses) depth 60 fits 100000)
+    (search (sendable, crosses, maps.crosses) depth 60 fits 100000) (λ h s y. Pieces-send h s y) (λ h s y. Pieces-sync h s y)
     (λ h s y. Object-send h s y) (λ h s y. Object-sync h s y)

@@ -1,4 +1,4 @@
-use Rattle.std.proofs.Common.{◌≡◌, arith, refl, Ok, Err, take, ap, sym, ◌∙◌, subst, length-take}
+use Rattle.std.proofs.Common.{◌≡◌, ℕ, Option, Some, None, arith, refl, Ok, Err, take, ap, sym, ◌∙◌, subst, length-take}
 use Rattle.std.proofs.lemmas.Result.{err_from_is_err_and}
 use Rattle.std.specs.Prelude.{IfErr, IfSome}
 use Rattle.std.proofs.Common.{List}
@@ -7,6 +7,7 @@ use Rattle.sdb_dump.specs.Cut.{check_text}
 use Rattle.sdb_dump.specs.Dumps.{PlainLine}
 use Rattle.sdb_dump.specs.Stages.{PlainStage, ended}
 use Rattle.sdb_dump.specs.Faults.{IsFault}
+use Rattle.sdb_dump.specs.declared.checking.DumpFault.TheVariants.{Read}
 use Rattle.sdb_dump.proofs.Going.{went_start, went_on, went_wrong, went_accepted, went_refused, if_ok_then, if_err_then}
 use Rattle.sdb_dump.proofs.stream.check_dump.Goals as goal
 
@@ -54,3 +55,10 @@ returns-in_err-take_piece-in-Ok-clause-wrong g c =
     let p = err_from_is_err_and c.from_residual-in_err-take_piece-in-Ok.result c.from_residual-in_err-take_piece-in-Ok.ensures.1 in
     subst (λ o. IfErr o (λ f. IfSome (g.R.Source.left c.args.reader.now) (λ text. IsFault f (check_text text)))) (sym (p.1 ∙ ap Err p.2))
     (went_wrong _ (take c.in-Ok.n c.take.new.buf) f c.loop-turn.invariant.went c.in-Ok.ensures.bytes.0 c.in_err-take_piece-in-Ok.ensures.wrong)
+
+unread : (o : Option (List ℕ)) → IfSome o (λ text. IsFault Read (check_text text))
+unread None = tt
+unread (Some text) = tt
+
+pub returns-clause-wrong : goal.returns-clause-wrong
+returns-clause-wrong g c = unread (g.R.Source.left c.args.reader.now)
