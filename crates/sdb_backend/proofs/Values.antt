@@ -6,6 +6,7 @@ use denote.Param.SendFields.{as_row_send, as_row_sync, declared_send, declared_s
 use Rattle.std.proofs.Crossing.{Vec-send, Vec-sync, Arc-send, Arc-sync, crosses}
 use Rattle.std.proofs.MapsCrossing as maps
 use Rattle.sdb_pieces.specs.contracts.block.Block as Block
+use Rattle.sdb_pieces.specs.contracts.group.Group as Group
 use Rattle.sdb_pieces.specs.contracts.pieces.Form as Form
 use Rattle.sdb_pieces.specs.contracts.pieces.Pieces as Pieces
 use Rattle.sdb_members.specs.contracts.key.Key as Key
@@ -23,11 +24,18 @@ module _ (T : RattleType) (s : IsSend T) (y : IsSync T) where
   Block-sync = variants_sync (Block.enum T) ((Vec-sync T y, tt), ((Arc-sync _ (Vec-send T s) (Vec-sync T y), tt), tt))
 
 module _ (T : RattleType) (s : IsSend T) (y : IsSync T) where
+  Group-send : IsSend (Group.the_row T)
+  Group-send = declared_send (Group.the_type T) (search sendable, (Block-send _ (Block-send T s y) (Block-sync T s y), tt))
+
+  Group-sync : IsSync (Group.the_row T)
+  Group-sync = declared_sync (Group.the_type T) (search sendable, (Block-sync _ (Block-send T s y) (Block-sync T s y), tt))
+
+module _ (T : RattleType) (s : IsSend T) (y : IsSync T) where
   Form-send : IsSend (Form.the_row T)
-  Form-send = variants_send (Form.enum T) ((Block-send T s y, tt), ((Block-send _ (Block-send T s y) (Block-sync T s y), tt), tt))
+  Form-send = variants_send (Form.enum T) ((Block-send T s y, tt), ((Block-send _ (Block-send T s y) (Block-sync T s y), tt), ((Block-send _ (Group-send T s y) (Group-sync T s y), tt), tt)))
 
   Form-sync : IsSync (Form.the_row T)
-  Form-sync = variants_sync (Form.enum T) ((Block-sync T s y, tt), ((Block-sync _ (Block-send T s y) (Block-sync T s y), tt), tt))
+  Form-sync = variants_sync (Form.enum T) ((Block-sync T s y, tt), ((Block-sync _ (Block-send T s y) (Block-sync T s y), tt), ((Block-sync _ (Group-send T s y) (Group-sync T s y), tt), tt)))
 
   Pieces-send : IsSend (Pieces.the_row T)
   Pieces-send = declared_send (Pieces.the_type T) (Form-send, tt)

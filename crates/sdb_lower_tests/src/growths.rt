@@ -1,8 +1,11 @@
 //! Calls that find no memory: what they leave, and the same call with memory. Run as they stand, these
 //! tests find memory at once; `tests/growths.py` refuses each allocation of each in turn.
+use crate::pieces::{Number, numbered, share};
 use crate::texts::{extended, is_printed, is_shown, json, op};
 use sdb_apply::{ApplyFault, apply, apply_whole};
 use sdb_component::Op;
+use sdb_members::Members;
+use sdb_pieces::{Form, Pieces};
 use sdb_text::Text;
 use sdb_transform::{Crossed, Fault, cross};
 use std::alloc::Global;
@@ -163,4 +166,95 @@ fn a_removal_from_a_shared_text(rt: HostRuntime) {
     let front = plain.get(..60_000).expect(&rt, "within");
     let left = extended(&rt, rt.alloc(), front, rest, 1);
     assert!(rt; is(&rt, rt.alloc(), &text, left.as_str()));
+}
+
+// Whether it has the numbers from 0 on, and so many of them.
+fn counts_to(list: &Pieces<Number>, count: u64) -> bool {
+    list.iter().map(|item| item.0).eq(0..count)
+}
+
+#[test]
+fn a_long_list_shared(rt: HostRuntime) {
+    let mut form = numbered(&rt, rt.alloc(), 1_100).into_form();
+    mark(&rt, rt.alloc());
+    let outcome = form.share_in_place(rt.alloc());
+    mark(&rt, rt.alloc());
+    if outcome.is_err() {
+        let list = Pieces::from_form(form);
+        assert!(rt; counts_to(&list, 1_100));
+        form = list.into_form();
+        assert!(rt; form.share_in_place(rt.alloc()).is_ok());
+    }
+    assert!(rt; matches!(&form, Form::Groups(_)) && counts_to(&Pieces::from_form(form), 1_100));
+}
+
+#[test]
+fn an_insert_into_a_shared_list(rt: HostRuntime) {
+    let list = numbered(&rt, rt.alloc(), 1_100);
+    let mut list = share(&rt, rt.alloc(), list);
+    mark(&rt, rt.alloc());
+    let outcome = list.insert(rt.alloc(), 1_100, Number(1_100));
+    mark(&rt, rt.alloc());
+    if outcome.is_err() {
+        assert!(rt;
+            counts_to(&list, 1_100)
+                && list
+                    .insert(rt.alloc(), 1_100, Number(1_100))
+                    .unwrap_or(false)
+        );
+    }
+    assert!(rt; list.is_in_groups() && counts_to(&list, 1_101));
+}
+
+#[test]
+fn a_removal_from_a_shared_list(rt: HostRuntime) {
+    let list = numbered(&rt, rt.alloc(), 1_100);
+    let mut list = share(&rt, rt.alloc(), list);
+    mark(&rt, rt.alloc());
+    let outcome = list.remove(rt.alloc(), 1_099);
+    mark(&rt, rt.alloc());
+    if outcome.is_err() {
+        assert!(rt; counts_to(&list, 1_100) && list.remove(rt.alloc(), 1_099).is_ok());
+    }
+    assert!(rt; list.is_in_groups() && counts_to(&list, 1_099));
+}
+
+fn key(rt: &impl Abort, alloc: Global, number: u64) -> String {
+    let mut key = String::new(alloc);
+    for digit in [1_000, 100, 10, 1] {
+        let at = char::from_digit((number / digit % 10) as u32, 10).expect(rt, "a digit");
+        key.push(at).expect(rt, "out of memory");
+    }
+    key
+}
+
+// Members of so many keys that they and their values are in groups.
+fn long_members(rt: &impl Abort, alloc: Global) -> Members<Number> {
+    let mut members = Members::new(alloc);
+    for number in 0..2_000 {
+        let put = members.insert(alloc, key(rt, alloc, number), Number(number));
+        drop(put.expect(rt, "out of memory"));
+    }
+    members
+        .keys
+        .share_in_place(alloc)
+        .expect(rt, "out of memory");
+    members.values = share(rt, alloc, members.values);
+    members
+}
+
+#[test]
+fn a_key_put_into_shared_members(rt: HostRuntime) {
+    let mut members = long_members(&rt, rt.alloc());
+    let next = key(&rt, rt.alloc(), 2_000);
+    mark(&rt, rt.alloc());
+    let outcome = members.insert(rt.alloc(), next, Number(2_000));
+    mark(&rt, rt.alloc());
+    if outcome.is_err() {
+        assert!(rt; members.keys.len() == 2_000 && counts_to(&members.values, 2_000));
+        let next = key(&rt, rt.alloc(), 2_000);
+        assert!(rt; members.insert(rt.alloc(), next, Number(2_000)).is_ok());
+    }
+    assert!(rt; members.keys.len() == 2_001 && counts_to(&members.values, 2_001));
+    assert!(rt; members.get("1234").map(|number| number.0) == Some(1_234));
 }

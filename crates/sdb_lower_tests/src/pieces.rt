@@ -29,8 +29,8 @@ fn push_all(rt: &impl Abort, found: &mut Vec<u64>, items: &[Number]) {
 // The numbers of all blocks.
 fn numbers(rt: &impl Abort, alloc: Global, list: &Pieces<Number>) -> Vec<u64> {
     let mut found = Vec::new(alloc);
-    for at in 0..list.part_count() {
-        push_all(rt, &mut found, list.part(at));
+    for block in list.blocks() {
+        push_all(rt, &mut found, block.items());
     }
     found
 }
@@ -97,7 +97,7 @@ fn a_list_of_many_blocks_is_that_of_a_vector(rt: HostRuntime) {
     let mut plain = Vec::new(rt.alloc());
     let mut list = Pieces::from_vec(Vec::new(rt.alloc()));
     put_all(&rt, rt.alloc(), &mut list, &mut plain);
-    assert!(rt; list.part_count() > 3 && is(&rt, rt.alloc(), &list, &plain));
+    assert!(rt; list.blocks().count() > 3 && is(&rt, rt.alloc(), &list, &plain));
     take_all(&rt, rt.alloc(), &mut list, &mut plain);
     assert!(rt; is(&rt, rt.alloc(), &list, &plain));
 }
@@ -136,7 +136,7 @@ fn one_block(rt: &impl Abort, alloc: Global, plain: &mut Vec<u64>) -> Pieces<Num
 fn copies_are_changed_apart(rt: HostRuntime) {
     let mut plain = Vec::new(rt.alloc());
     let mut list = one_block(&rt, rt.alloc(), &mut plain);
-    assert!(rt; list.part_count() == 1 && is(&rt, rt.alloc(), &list, &plain));
+    assert!(rt; list.blocks().count() == 1 && is(&rt, rt.alloc(), &list, &plain));
     change_apart(&rt, rt.alloc(), &mut list, &mut plain);
 }
 
@@ -168,4 +168,50 @@ fn an_item_is_changed_in_place(rt: HostRuntime) {
     );
     let mut list = shared(&rt, rt.alloc(), list);
     assert!(rt; !changed(&mut list, 1));
+}
+
+// The list shared in place.
+pub(crate) fn share(rt: &impl Abort, alloc: Global, list: Pieces<Number>) -> Pieces<Number> {
+    let mut form = list.into_form();
+    form.share_in_place(alloc).expect(rt, "out of memory");
+    Pieces::from_form(form)
+}
+
+// The numbers from 0 on, so many of them, in blocks.
+pub(crate) fn numbered(rt: &impl Abort, alloc: Global, count: u64) -> Pieces<Number> {
+    let mut items = Vec::new(alloc);
+    for number in 0..count {
+        items.push(Number(number)).expect(rt, "out of memory");
+    }
+    Pieces::in_blocks(alloc, items).expect(rt, "out of memory")
+}
+
+#[test]
+fn a_list_in_groups_is_that_of_a_vector(rt: HostRuntime) {
+    let mut plain = Vec::new(rt.alloc());
+    let mut list = Pieces::from_vec(Vec::new(rt.alloc()));
+    put_all(&rt, rt.alloc(), &mut list, &mut plain);
+    let mut list = share(&rt, rt.alloc(), list);
+    put_all(&rt, rt.alloc(), &mut list, &mut plain);
+    assert!(rt; list.is_in_groups() && is(&rt, rt.alloc(), &list, &plain));
+    let mut list = share(&rt, rt.alloc(), list);
+    take_all(&rt, rt.alloc(), &mut list, &mut plain);
+    assert!(rt; list.get(7).map(|item| item.0) == plain.get(7).copied());
+    let mut list = share(&rt, rt.alloc(), list);
+    assert!(rt; is(&rt, rt.alloc(), &list, &plain));
+    change_apart(&rt, rt.alloc(), &mut list, &mut plain);
+}
+
+// All is taken out of a list in groups, and one put in again.
+#[test]
+fn groups_are_emptied(rt: HostRuntime) {
+    let list = numbered(&rt, rt.alloc(), 1_500);
+    let mut list = share(&rt, rt.alloc(), list);
+    for number in 0..1_500 {
+        let first = list.remove(rt.alloc(), 0).expect(&rt, "out of memory");
+        assert!(rt; first.map(|item| item.0) == Some(number));
+    }
+    assert!(rt; list.blocks().count() == 0 && list.get(0).is_none());
+    assert!(rt; list.insert(rt.alloc(), 0, Number(3)).unwrap_or(false));
+    assert!(rt; list.is_in_groups() && list.get(0).map(|item| item.0) == Some(3));
 }

@@ -1,5 +1,6 @@
 -- Lists that are changed, and what calls answer.
-use Rattle.std.proofs.Common.{◌≡◌, ℕ, zero, suc, ◌+◌, ◌-◌, ◌<◌, ◌≤◌, List, [], ◌∷◌, ◌++◌, length, map, refl, sym, ap, ◌∙◌, subst, arith, append_assoc, Option, Some, None, option_map, slice_get, slice_set, get_or, set, Bool, true, false, cond, ◌&&◌, if◌then◌else◌, nat_le, Result, Ok, Err, OnOk, OnErr, IfOk}
+use Rattle.std.proofs.Common.{◌≡◌, ℕ, zero, suc, ◌+◌, ◌-◌, ◌<◌, ◌≤◌, List, [], ◌∷◌, ◌++◌, length, map, refl, sym, ap, ◌∙◌, subst, arith, length-append, Option, Some, None, option_map, slice_get, slice_set, get_or, set, Bool, true, false, cond, ◌&&◌, if◌then◌else◌, nat_le, Result, Ok, Err, OnOk, OnErr, IfOk}
+use Rattle.std.proofs.Math.ListN.{length-map}
 use Rattle.std.specs.declared.alloc.AllocError.{AllocError}
 use Rattle.std.proofs.lemmas.Bool.{le-leb}
 use Rattle.std.specs.Option.{is_some, IfSome}
@@ -10,10 +11,11 @@ use Rattle.sdb_pieces.specs.Block.{items_of, is_own}
 use Rattle.sdb_pieces.specs.Pieces.{parts_in, all_own}
 use Rattle.sdb_pieces.specs.Laws.{seen_parts}
 use Rattle.sdb_pieces.specs.declared.block.Block.{Block}
+use Rattle.sdb_pieces.specs.declared.group.Group.{Group}
 use Rattle.sdb_pieces.specs.declared.pieces.Pieces.{Pieces}
 use Rattle.sdb_members.specs.Key.{key_bytes}
 use Rattle.sdb_members.specs.Order.{by_bytes, IsFound}
-use Rattle.sdb_members.specs.Search.{texts_of, block_texts}
+use Rattle.sdb_members.specs.Search.{texts_of, part_texts, block_texts, group_texts, groups_texts}
 use Rattle.sdb_members.specs.declared.key.Key.{Key}
 use Rattle.sdb_members.specs.Laws.{found_lookup}
 use Rattle.sdb_members.proofs.Ordered.{found_insert, found_remove, found_past}
@@ -131,13 +133,24 @@ none_there ts i o e is h =
 pub same_parts : (l m : Pieces Key) → parts_in l ≡ parts_in m → texts_of l ≡ texts_of m
 same_parts l m e = seen_parts key_bytes l ∙ ap (λ p. map key_bytes (flat_map (λ xs. xs) p)) e ∙ sym (seen_parts key_bytes m)
 
-flat_set : (bs : List (Block Key)) (k : ℕ) (a d : Block Key) → k < length bs → d ≡ get_or bs k d → items_of a ≡ items_of d → flat_map items_of (set bs k a) ≡ flat_map items_of bs
-flat_set [] k a d h e s = absurd (omega (arith, h))
-flat_set (b ∷ bs) zero a d h e s = ap (λ l. l ++ flat_map items_of bs) (s ∙ ap items_of e)
-flat_set (b ∷ bs) (suc k) a d h e s = ap (λ l. items_of b ++ l) (flat_set bs k a d (omega (arith, h)) e s)
+flat_set : {X : Type 0} (t : X → List (List ℕ)) (ps : List X) (k : ℕ) (a d : X) → k < length ps → d ≡ get_or ps k d → t a ≡ t d
+    → flat_map t (set ps k a) ≡ flat_map t ps
+flat_set t [] k a d h e s = absurd (omega (arith, h))
+flat_set t (p ∷ ps) zero a d h e s = ap (λ l. l ++ flat_map t ps) (s ∙ ap t e)
+flat_set t (p ∷ ps) (suc k) a d h e s = ap (λ l. t p ++ l) (flat_set t ps k a d (omega (arith, h)) e s)
 
 pub same_block : (bs : List (Block Key)) (k : ℕ) (a d : Block Key) → k < length bs → d ≡ get_or bs k d → items_of a ≡ items_of d → block_texts (set bs k a) ≡ block_texts bs
-same_block bs k a d h e s = ap (map key_bytes) (flat_set bs k a d h e s)
+same_block bs k a d h e s = flat_set part_texts bs k a d h e (ap (map key_bytes) s)
+
+pub same_group : (gs : List (Group Key)) (k : ℕ) (a d : Group Key) → k < length gs → d ≡ get_or gs k d → group_texts a ≡ group_texts d
+    → groups_texts (set gs k a) ≡ groups_texts gs
+same_group gs k a d h e s = flat_set group_texts gs k a d h e s
+
+-- as many texts as keys
+pub count_texts : (bs : List (Block Key)) → length (block_texts bs) ≡ length (flat_map items_of bs)
+count_texts [] = refl
+count_texts (b ∷ bs) =
+    omega (arith, count_texts bs, length-map (items_of b) key_bytes, length-append (part_texts b) (block_texts bs), length-append (items_of b) (flat_map items_of bs))
 
 -- ---- the map that keys and values make, where a call changes them
 
@@ -176,21 +189,6 @@ put_undone (y ∷ xs) zero x h = refl
 put_undone (y ∷ xs) (suc i) x h = ap (λ l. y ∷ l) (put_undone xs i x (omega (arith, h)))
 
 -- one more block
-append_none : (xs : List Key) → xs ++ [] ≡ xs
-append_none [] = refl
-append_none (x ∷ xs) = ap (λ l. x ∷ l) (append_none xs)
-
-map_append : (xs ys : List Key) → map key_bytes (xs ++ ys) ≡ map key_bytes xs ++ map key_bytes ys
-map_append [] ys = refl
-map_append (x ∷ xs) ys = ap (λ l. key_bytes x ∷ l) (map_append xs ys)
-
-flat_more : (bs : List (Block Key)) (b : Block Key) → flat_map items_of (bs ++ b ∷ []) ≡ flat_map items_of bs ++ items_of b
-flat_more [] b = append_none (items_of b)
-flat_more (a ∷ bs) b = ap (λ l. items_of a ++ l) (flat_more bs b) ∙ sym (append_assoc (items_of a) (flat_map items_of bs) (items_of b))
-
-pub more_texts : (bs : List (Block Key)) (b : Block Key) → block_texts (bs ++ b ∷ []) ≡ block_texts bs ++ map key_bytes (items_of b)
-more_texts bs b = ap (map key_bytes) (flat_more bs b) ∙ map_append (flat_map items_of bs) (items_of b)
-
 pub more_own : {X : Type 0} (bs : List (Block X)) (b : Block X) → all_own bs ≡ true → is_own b ≡ true → all_own (bs ++ b ∷ []) ≡ true
 more_own [] b all own = own_both (is_own b) true own refl
 more_own (a ∷ bs) b all own =

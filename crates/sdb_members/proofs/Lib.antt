@@ -1,4 +1,4 @@
-pub mod Blocks
+pub mod Parts
 pub mod Edits
 pub mod Entries
 pub mod Ordered

@@ -1,10 +1,11 @@
 -- The texts of keys in pieces.
-use Rattle.std.specs.Prelude.{ℕ, List, [], ◌∷◌, map, take, drop, Bool, false, not}
+use Rattle.std.specs.Prelude.{ℕ, List, map, take, drop, Option, Some, None, Bool, false, not}
 use Rattle.std.specs.List.{flat_map}
 use Rattle.std.specs.Ordering.{is_lt}
-use Rattle.sdb_pieces.specs.Block.{items_of}
-use Rattle.sdb_pieces.specs.Pieces.{seen_in, parts_in, blocks_form}
+use Rattle.sdb_pieces.specs.Group.{seen_group, joined_groups}
+use Rattle.sdb_pieces.specs.Pieces.{seen_items, joined, seen_form, seen_in}
 use Rattle.sdb_pieces.specs.declared.block.Block.{Block}
+use Rattle.sdb_pieces.specs.declared.group.Group.{Group}
 use Rattle.sdb_pieces.specs.declared.pieces.Form.{Form}
 use Rattle.sdb_pieces.specs.declared.pieces.Pieces.{Pieces}
 use Rattle.sdb_members.specs.Key.{key_bytes}
@@ -18,26 +19,36 @@ texts ks = map key_bytes ks
 abbrev pub texts_of : Pieces Key → List (List ℕ)
 texts_of l = seen_in key_bytes l
 
--- those of blocks
-abbrev pub block_texts : List (Block Key) → List (List ℕ)
-block_texts bs = texts (flat_map items_of bs)
-
 abbrev pub form_texts : Form Key → List (List ℕ)
-form_texts w = block_texts (blocks_form w)
+form_texts w = seen_form key_bytes w
 
--- those in the first blocks, and those in the others
-abbrev pub first_texts : Pieces Key → ℕ → List (List ℕ)
-first_texts l n = texts (flat_map (λ xs. xs) (take n (parts_in l)))
+-- those of a block, and of blocks
+abbrev pub part_texts : Block Key → List (List ℕ)
+part_texts b = seen_items key_bytes b
 
-abbrev pub other_texts : Pieces Key → ℕ → List (List ℕ)
-other_texts l n = texts (flat_map (λ xs. xs) (drop n (parts_in l)))
+abbrev pub block_texts : List (Block Key) → List (List ℕ)
+block_texts bs = joined key_bytes bs
+
+-- those of a group, and of groups
+abbrev pub group_texts : Group Key → List (List ℕ)
+group_texts g = seen_group key_bytes g
+
+abbrev pub groups_texts : List (Group Key) → List (List ℕ)
+groups_texts gs = joined_groups key_bytes gs
+
+-- of parts of which t sees the texts, those in the first, and those in the others
+abbrev pub first_texts : {P : Type 0} → (P → List (List ℕ)) → List P → ℕ → List (List ℕ)
+first_texts t ps n = flat_map t (take n ps)
+
+abbrev pub other_texts : {P : Type 0} → (P → List (List ℕ)) → List P → ℕ → List (List ℕ)
+other_texts t ps n = flat_map t (drop n ps)
 
 -- there is a first text, and it is above the key
-abbrev pub starts_above : List ℕ → List Key → Bool
-starts_above k [] = false
-starts_above k (t ∷ ts) = is_lt (by_bytes k (key_bytes t))
+abbrev pub starts_above : List ℕ → Option (List ℕ) → Bool
+starts_above k None = false
+starts_above k (Some t) = is_lt (by_bytes k t)
 
 -- there is a first text, and it is the key or below it
-abbrev pub starts_by : List ℕ → List Key → Bool
-starts_by k [] = false
-starts_by k (t ∷ ts) = not (is_lt (by_bytes k (key_bytes t)))
+abbrev pub starts_by : List ℕ → Option (List ℕ) → Bool
+starts_by k None = false
+starts_by k (Some t) = not (is_lt (by_bytes k t))

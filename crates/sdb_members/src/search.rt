@@ -1,29 +1,94 @@
 //! Where a key stands among keys in pieces.
-ghost use Rattle.std.specs.Prelude.{◌≡◌, ◌≤◌, ◌<◌, ◌-◌, ◌^◌, length, IfOk, IfErr};
-ghost use Rattle.sdb_pieces.specs.Pieces.{blocks_in};
+ghost use Rattle.std.specs.List.{flat_map};
+ghost use Rattle.std.specs.Prelude.{◌≡◌, ◌≤◌, ◌<◌, ◌-◌, ◌^◌, ℕ, List, length, slice_get, option_map, IfOk, IfErr};
 ghost use Rattle.sdb_members.specs.Order.{IsAscending, IsAboveAll, IsBelowAll, IsFound, IsGap};
 ghost use Rattle.sdb_members.specs.Search.{texts, texts_of, first_texts, other_texts, starts_above, starts_by};
 
 use crate::key::Key;
-use sdb_pieces::Pieces;
+use sdb_pieces::{Block, Form, Group, Pieces};
 use std::cmp::Ordering;
 
+// A run of keys: a block, or a group of blocks.
+trait Part {
+    // The texts of its keys.
+    ghost key_texts: { Self → List (List ℕ) };
+
+    // Its first key, or `None` where it has no keys.
+    fn first_key(&self) -> Option<&str>
+        ensures { option_map (λ t. t.now) result ≡ slice_get (key_texts self.now) 0 };
+
+    // How many keys.
+    fn count(&self) -> u128
+        ensures { result ≡ length (key_texts self.now) };
+
+    // The place of a key in it.
+    fn find(&self, key: &str) -> Result<usize, usize>
+        requires ascending { IsAscending (key_texts self.now) }
+        requires small { length (key_texts self.now) < 2 ^ 64 }
+        ensures found { IfOk result (λ i. IsFound (key_texts self.now) key.now i) }
+        ensures gap { IfErr result (λ i. IsGap (key_texts self.now) key.now i) };
+}
+
+impl Part for Block<Key> {
+    ghost use Rattle.sdb_members.specs.Search.{part_texts};
+
+    ghost key_texts = { part_texts };
+
+    fn first_key(&self) -> Option<&str> {
+        match self.items().first() {
+            Some(key) => Some(key.as_str()),
+            None => None,
+        }
+    }
+
+    fn count(&self) -> u128 {
+        self.len() as u128
+    }
+
+    fn find(&self, key: &str) -> Result<usize, usize> {
+        find_in(self.items(), key)
+    }
+}
+
+impl Part for Group<Key> {
+    ghost use Rattle.sdb_members.specs.Search.{group_texts};
+
+    ghost key_texts = { group_texts };
+
+    fn first_key(&self) -> Option<&str> {
+        for block in self.blocks() {
+            if let Some(first) = block.first_key() {
+                return Some(first);
+            }
+        }
+        None
+    }
+
+    fn count(&self) -> u128 {
+        self.len()
+    }
+
+    fn find(&self, key: &str) -> Result<usize, usize> {
+        find_among(self.blocks(), key)
+    }
+}
+
 // Whether there is a first key, and it is above this one.
-fn is_before(key: &str, keys: &[Key]) -> bool
-    ensures { result ≡ starts_above key.now keys.now }
+fn is_before(key: &str, first: Option<&str>) -> bool
+    ensures { result ≡ starts_above key.now (option_map (λ t. t.now) first.entry) }
 {
-    match keys.first() {
-        Some(first) => key.cmp(first.as_str()).is_lt(),
+    match first {
+        Some(first) => key.cmp(first).is_lt(),
         None => false,
     }
 }
 
 // Whether there is a first key, and it is this one or below it.
-fn is_not_before(key: &str, keys: &[Key]) -> bool
-    ensures { result ≡ starts_by key.now keys.now }
+fn is_not_before(key: &str, first: Option<&str>) -> bool
+    ensures { result ≡ starts_by key.now (option_map (λ t. t.now) first.entry) }
 {
-    match keys.first() {
-        Some(first) => !key.cmp(first.as_str()).is_lt(),
+    match first {
+        Some(first) => !key.cmp(first).is_lt(),
         None => false,
     }
 }
@@ -47,17 +112,17 @@ fn find_in(keys: &[Key], key: &str) -> Result<usize, usize>
     Err(low)
 }
 
-// The keys in the blocks from the answer on are above this one.
-fn last_block(keys: &Pieces<Key>, key: &str) -> usize
-    requires { IsAscending (texts_of keys.now) }
-    ensures within { result ≤ length (blocks_in keys.now) }
-    ensures below { IsBelowAll key.now (other_texts keys.now result) }
+// The keys in the parts from the answer on are above this one.
+fn last_part<P: Part>(parts: &[P], key: &str) -> usize
+    requires { IsAscending (flat_map P.key_texts parts.now) }
+    ensures within { result ≤ length parts.now }
+    ensures below { IsBelowAll key.now (other_texts P.key_texts parts.now result) }
 {
     let mut low = 0;
-    let mut high = keys.part_count();
+    let mut high = parts.len();
     while low < high {
         let middle = low + (high - low) / 2;
-        if is_before(key, keys.part(middle)) {
+        if is_before(key, parts[middle].first_key()) {
             high = middle;
         } else {
             low = middle + 1;
@@ -66,17 +131,17 @@ fn last_block(keys: &Pieces<Key>, key: &str) -> usize
     high
 }
 
-// The keys in the blocks from the answer on are above this one, and those in the blocks but one before it
+// The keys in the parts from the answer on are above this one, and those in the parts but one before it
 // are below it.
-fn block_end(keys: &Pieces<Key>, key: &str) -> usize
-    requires { IsAscending (texts_of keys.now) }
-    ensures within { result ≤ length (blocks_in keys.now) }
-    ensures above { IsAboveAll key.now (first_texts keys.now (result - 1)) }
-    ensures below { IsBelowAll key.now (other_texts keys.now result) }
+fn part_end<P: Part>(parts: &[P], key: &str) -> usize
+    requires { IsAscending (flat_map P.key_texts parts.now) }
+    ensures within { result ≤ length parts.now }
+    ensures above { IsAboveAll key.now (first_texts P.key_texts parts.now (result - 1)) }
+    ensures below { IsBelowAll key.now (other_texts P.key_texts parts.now result) }
 {
-    let mut end = last_block(keys, key);
+    let mut end = last_part(parts, key);
     while end > 0 {
-        if is_not_before(key, keys.part(end - 1)) {
+        if is_not_before(key, parts[end - 1].first_key()) {
             return end;
         }
         end -= 1;
@@ -84,17 +149,34 @@ fn block_end(keys: &Pieces<Key>, key: &str) -> usize
     end
 }
 
-// How many keys stand in the blocks before one.
-fn start_of(keys: &Pieces<Key>, at: usize) -> usize
-    requires within { at ≤ length (blocks_in keys.now) }
-    requires small { length (texts_of keys.now) < 2 ^ 64 }
-    ensures { result ≡ length (first_texts keys.now at) }
+// How many keys stand in parts.
+fn count_in<P: Part>(parts: &[P]) -> usize
+    requires { length (flat_map P.key_texts parts.now) < 2 ^ 64 }
+    ensures { result ≡ length (flat_map P.key_texts parts.now) }
 {
-    let mut start = 0;
-    for block in 0..at {
-        start += keys.part(block).len();
+    let mut count = 0;
+    for part in parts {
+        count += part.count();
     }
-    start
+    count as usize
+}
+
+// The place of a key among parts.
+fn find_among<P: Part>(parts: &[P], key: &str) -> Result<usize, usize>
+    requires ascending { IsAscending (flat_map P.key_texts parts.now) }
+    requires small { length (flat_map P.key_texts parts.now) < 2 ^ 64 }
+    ensures found { IfOk result (λ i. IsFound (flat_map P.key_texts parts.now) key.now i) }
+    ensures gap { IfErr result (λ i. IsGap (flat_map P.key_texts parts.now) key.now i) }
+{
+    let end = part_end(parts, key);
+    if end == 0 {
+        return Err(0);
+    }
+    let start = count_in(&parts[..end - 1]);
+    match parts[end - 1].find(key) {
+        Ok(at) => Ok(start + at),
+        Err(at) => Err(start + at),
+    }
 }
 
 /// The index of the key, or the one where it can be put.
@@ -104,13 +186,9 @@ pub(crate) fn find(keys: &Pieces<Key>, key: &str) -> Result<usize, usize>
     ensures found { IfOk result (λ i. IsFound (texts_of keys.now) key.now i) }
     ensures gap { IfErr result (λ i. IsGap (texts_of keys.now) key.now i) }
 {
-    let end = block_end(keys, key);
-    if end == 0 {
-        return Err(0);
-    }
-    let start = start_of(keys, end - 1);
-    match find_in(keys.part(end - 1), key) {
-        Ok(at) => Ok(start + at),
-        Err(at) => Err(start + at),
+    match keys.form() {
+        Form::One(block) => block.find(key),
+        Form::Many(blocks) => find_among(blocks.items(), key),
+        Form::Groups(groups) => find_among(groups.items(), key),
     }
 }

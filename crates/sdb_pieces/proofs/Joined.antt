@@ -7,11 +7,12 @@ use Rattle.std.specs.List.{insert, remove, flat_map}
 use Rattle.std.proofs.lemmas.List.{take_more, drop_more, take-append-drop, reverse-append}
 use Rattle.std.proofs.lemmas.List.Edits.{insert-append_left, insert-append_right}
 use Rattle.sdb_pieces.specs.Block.{items_of, is_own}
-use Rattle.sdb_pieces.specs.Pieces.{seen_items, joined, all_own, own_among}
+use Rattle.sdb_pieces.specs.Blocks.{seen_block}
+use Rattle.sdb_pieces.specs.Pieces.{joined, all_own, own_among}
 use Rattle.sdb_pieces.specs.Place.{IsPlace, IsItem}
 use Rattle.sdb_pieces.specs.declared.block.Block.{Block}
 
-append_none : {X : Type 0} (xs : List X) → xs ++ [] ≡ xs
+pub append_none : {X : Type 0} (xs : List X) → xs ++ [] ≡ xs
 append_none [] = refl
 append_none (x ∷ xs) = ap (λ l. x ∷ l) (append_none xs)
 
@@ -57,124 +58,132 @@ own_both : (a b : Bool) → a ≡ true → b ≡ true → cond a b false ≡ tru
 own_both true b h e = e
 own_both false b h e = h
 
-module _ {X S : Type 0} (f : X → S) where
-  pub joined_append : (ps qs : List (Block X)) → joined f (ps ++ qs) ≡ joined f ps ++ joined f qs
+module _ {X S : Type 0} (s : X → List S) where
+  pub joined_append : (ps qs : List X) → flat_map s (ps ++ qs) ≡ flat_map s ps ++ flat_map s qs
   joined_append [] qs = refl
-  joined_append (p ∷ ps) qs = ap (λ l. seen_items f p ++ l) (joined_append ps qs) ∙ sym (append_assoc (seen_items f p) (joined f ps) (joined f qs))
+  joined_append (p ∷ ps) qs = ap (λ l. s p ++ l) (joined_append ps qs) ∙ sym (append_assoc (s p) (flat_map s ps) (flat_map s qs))
 
   -- the first blocks and one more
-  pub joined_more : (ps : List (Block X)) (k : ℕ) (d : Block X) → k < length ps → joined f (take (k + 1) ps) ≡ joined f (take k ps) ++ seen_items f (get_or ps k d)
-  joined_more ps k d h = ap (joined f) (take_more ps k d h) ∙ joined_append (take k ps) (get_or ps k d ∷ []) ∙ ap (λ l. joined f (take k ps) ++ l) (append_none (seen_items f (get_or ps k d)))
+  pub joined_more : (ps : List X) (k : ℕ) (d : X) → k < length ps → flat_map s (take (k + 1) ps) ≡ flat_map s (take k ps) ++ s (get_or ps k d)
+  joined_more ps k d h = ap (flat_map s) (take_more ps k d h) ∙ joined_append (take k ps) (get_or ps k d ∷ []) ∙ ap (λ l. flat_map s (take k ps) ++ l) (append_none (s (get_or ps k d)))
 
   -- a block, and those before and behind it
-  pub joined_around : (ps : List (Block X)) (k : ℕ) (d : Block X) → k < length ps → joined f ps ≡ joined f (take k ps) ++ (seen_items f (get_or ps k d) ++ joined f (drop (suc k) ps))
+  pub joined_around : (ps : List X) (k : ℕ) (d : X) → k < length ps → flat_map s ps ≡ flat_map s (take k ps) ++ (s (get_or ps k d) ++ flat_map s (drop (suc k) ps))
   joined_around [] k d h = absurd (omega (arith, h))
   joined_around (p ∷ ps) zero d h = refl
-  joined_around (p ∷ ps) (suc k) d h = ap (λ l. seen_items f p ++ l) (joined_around ps k d (omega (arith, h))) ∙ sym (append_assoc (seen_items f p) (joined f (take k ps)) _)
+  joined_around (p ∷ ps) (suc k) d h = ap (λ l. s p ++ l) (joined_around ps k d (omega (arith, h))) ∙ sym (append_assoc (s p) (flat_map s (take k ps)) _)
 
   -- another in its place
-  pub joined_set : (ps : List (Block X)) (k : ℕ) (a : Block X) → k < length ps → joined f (set ps k a) ≡ joined f (take k ps) ++ (seen_items f a ++ joined f (drop (suc k) ps))
+  pub joined_set : (ps : List X) (k : ℕ) (a : X) → k < length ps → flat_map s (set ps k a) ≡ flat_map s (take k ps) ++ (s a ++ flat_map s (drop (suc k) ps))
   joined_set [] k a h = absurd (omega (arith, h))
   joined_set (p ∷ ps) zero a h = refl
-  joined_set (p ∷ ps) (suc k) a h = ap (λ l. seen_items f p ++ l) (joined_set ps k a (omega (arith, h))) ∙ sym (append_assoc (seen_items f p) (joined f (take k ps)) _)
+  joined_set (p ∷ ps) (suc k) a h = ap (λ l. s p ++ l) (joined_set ps k a (omega (arith, h))) ∙ sym (append_assoc (s p) (flat_map s (take k ps)) _)
 
   -- two in its place
-  pub joined_two : (ps : List (Block X)) (k : ℕ) (a b : Block X) → k < length ps → joined f (set (insert ps (suc k) b) k a) ≡ joined f (take k ps) ++ (seen_items f a ++ (seen_items f b ++ joined f (drop (suc k) ps)))
+  pub joined_two : (ps : List X) (k : ℕ) (a b : X) → k < length ps → flat_map s (set (insert ps (suc k) b) k a) ≡ flat_map s (take k ps) ++ (s a ++ (s b ++ flat_map s (drop (suc k) ps)))
   joined_two [] k a b h = absurd (omega (arith, h))
   joined_two (p ∷ ps) zero a b h = refl
-  joined_two (p ∷ ps) (suc k) a b h = ap (λ l. seen_items f p ++ l) (joined_two ps k a b (omega (arith, h))) ∙ sym (append_assoc (seen_items f p) (joined f (take k ps)) _)
+  joined_two (p ∷ ps) (suc k) a b h = ap (λ l. s p ++ l) (joined_two ps k a b (omega (arith, h))) ∙ sym (append_assoc (s p) (flat_map s (take k ps)) _)
 
   -- an item more in one block is an item more in the list
-  pub joined_insert : (ps : List (Block X)) (index k i : ℕ) (x : S) (a d : Block X) → IsPlace f ps index k i → seen_items f a ≡ insert (seen_items f (get_or ps k d)) i x
-      → joined f (set ps k a) ≡ insert (joined f ps) index x
+  pub joined_insert : (ps : List X) (index k i : ℕ) (x : S) (a d : X) → IsPlace s ps index k i → s a ≡ insert (s (get_or ps k d)) i x
+      → flat_map s (set ps k a) ≡ insert (flat_map s ps) index x
   joined_insert ps index k i x a d at e =
-      let q = seen_items f (get_or ps k d) in
-      let J = joined f (take k ps) in
-      let R = joined f (drop (suc k) ps) in
+      let q = s (get_or ps k d) in
+      let J = flat_map s (take k ps) in
+      let R = flat_map s (drop (suc k) ps) in
       let lo : length J ≤ index = omega (arith, at.sum) in
-      let s : index - length J ≡ i = omega (arith, at.sum) in
-      joined_set ps k a at.inside ∙ ap (λ l. J ++ l) (ap (λ l. l ++ R) e ∙ sym (insert-append_left q R i x (at.within d)) ∙ ap (λ n. insert (q ++ R) n x) (sym s))
+      let n : index - length J ≡ i = omega (arith, at.sum) in
+      joined_set ps k a at.inside ∙ ap (λ l. J ++ l) (ap (λ l. l ++ R) e ∙ sym (insert-append_left q R i x (at.within d)) ∙ ap (λ m. insert (q ++ R) m x) (sym n))
       ∙ sym (insert-append_right J (q ++ R) (length J) index x refl lo) ∙ ap (λ l. insert l index x) (sym (joined_around ps k d at.inside))
 
   -- a block that has the same items in its place
-  pub joined_same : (ps : List (Block X)) (k : ℕ) (a d : Block X) → k < length ps → seen_items f a ≡ seen_items f (get_or ps k d) → joined f (set ps k a) ≡ joined f ps
-  joined_same ps k a d h e = joined_set ps k a h ∙ ap (λ l. joined f (take k ps) ++ (l ++ joined f (drop (suc k) ps))) e ∙ sym (joined_around ps k d h)
+  pub joined_same : (ps : List X) (k : ℕ) (a d : X) → k < length ps → s a ≡ s (get_or ps k d) → flat_map s (set ps k a) ≡ flat_map s ps
+  joined_same ps k a d h e = joined_set ps k a h ∙ ap (λ l. flat_map s (take k ps) ++ (l ++ flat_map s (drop (suc k) ps))) e ∙ sym (joined_around ps k d h)
 
-  drop_joined : (ps : List (Block X)) (k : ℕ) (d : Block X) → k < length ps → joined f (drop k ps) ≡ seen_items f (get_or ps k d) ++ joined f (drop (k + 1) ps)
-  drop_joined ps k d h = ap (joined f) (drop_more ps k d h)
+  drop_joined : (ps : List X) (k : ℕ) (d : X) → k < length ps → flat_map s (drop k ps) ≡ s (get_or ps k d) ++ flat_map s (drop (k + 1) ps)
+  drop_joined ps k d h = ap (flat_map s) (drop_more ps k d h)
 
   -- in the block at k, and behind it
-  pub get_here : (ps : List (Block X)) (k i : ℕ) (p : Block X) → k < length ps → p ≡ get_or ps k p → i < length (seen_items f p) → slice_get (joined f (drop k ps)) i ≡ slice_get (seen_items f p) i
+  pub get_here : (ps : List X) (k i : ℕ) (p : X) → k < length ps → p ≡ get_or ps k p → i < length (s p) → slice_get (flat_map s (drop k ps)) i ≡ slice_get (s p) i
   get_here ps k i p h e l =
-      ap (λ xs. slice_get xs i) (drop_joined ps k p h ∙ ap (λ q. seen_items f q ++ joined f (drop (k + 1) ps)) (sym e)) ∙ get_front (seen_items f p) (joined f (drop (k + 1) ps)) i l
+      ap (λ xs. slice_get xs i) (drop_joined ps k p h ∙ ap (λ q. s q ++ flat_map s (drop (k + 1) ps)) (sym e)) ∙ get_front (s p) (flat_map s (drop (k + 1) ps)) i l
 
-  pub get_past : (ps : List (Block X)) (k i n : ℕ) (p : Block X) → k < length ps → p ≡ get_or ps k p → i ≡ length (seen_items f p) + n → slice_get (joined f (drop k ps)) i ≡ slice_get (joined f (drop (k + 1) ps)) n
+  pub get_past : (ps : List X) (k i n : ℕ) (p : X) → k < length ps → p ≡ get_or ps k p → i ≡ length (s p) + n → slice_get (flat_map s (drop k ps)) i ≡ slice_get (flat_map s (drop (k + 1) ps)) n
   get_past ps k i n p h e l =
-      ap (λ xs. slice_get xs i) (drop_joined ps k p h ∙ ap (λ q. seen_items f q ++ joined f (drop (k + 1) ps)) (sym e)) ∙ get_behind (seen_items f p) (joined f (drop (k + 1) ps)) i n l
+      ap (λ xs. slice_get xs i) (drop_joined ps k p h ∙ ap (λ q. s q ++ flat_map s (drop (k + 1) ps)) (sym e)) ∙ get_behind (s p) (flat_map s (drop (k + 1) ps)) i n l
 
-  pub joined_replace : (ps : List (Block X)) (index k i : ℕ) (x : S) (a d : Block X) → IsItem f ps index k i → seen_items f a ≡ set (seen_items f (get_or ps k d)) i x
-      → joined f (set ps k a) ≡ set (joined f ps) index x
+  pub joined_replace : (ps : List X) (index k i : ℕ) (x : S) (a d : X) → IsItem s ps index k i → s a ≡ set (s (get_or ps k d)) i x
+      → flat_map s (set ps k a) ≡ set (flat_map s ps) index x
   joined_replace ps index k i x a d at e =
-      let q = seen_items f (get_or ps k d) in
-      let J = joined f (take k ps) in
-      let R = joined f (drop (suc k) ps) in
+      let q = s (get_or ps k d) in
+      let J = flat_map s (take k ps) in
+      let R = flat_map s (drop (suc k) ps) in
       joined_set ps k a at.inside ∙ ap (λ l. J ++ l) (ap (λ l. l ++ R) e ∙ sym (set_front q R i x (at.within d)))
       ∙ sym (set_behind J (q ++ R) index i x (sym at.sum)) ∙ ap (λ l. set l index x) (sym (joined_around ps k d at.inside))
 
-  pub joined_remove : (ps : List (Block X)) (index k i : ℕ) (a d : Block X) → IsItem f ps index k i → seen_items f a ≡ remove (seen_items f (get_or ps k d)) i
-      → joined f (set ps k a) ≡ remove (joined f ps) index
+  pub joined_remove : (ps : List X) (index k i : ℕ) (a d : X) → IsItem s ps index k i → s a ≡ remove (s (get_or ps k d)) i
+      → flat_map s (set ps k a) ≡ remove (flat_map s ps) index
   joined_remove ps index k i a d at e =
-      let q = seen_items f (get_or ps k d) in
-      let J = joined f (take k ps) in
-      let R = joined f (drop (suc k) ps) in
+      let q = s (get_or ps k d) in
+      let J = flat_map s (take k ps) in
+      let R = flat_map s (drop (suc k) ps) in
       joined_set ps k a at.inside ∙ ap (λ l. J ++ l) (ap (λ l. l ++ R) e ∙ sym (remove_front q R i (at.within d)))
       ∙ sym (remove_behind J (q ++ R) index i (sym at.sum)) ∙ ap (λ l. remove l index) (sym (joined_around ps k d at.inside))
 
   -- a block, its two halves, the second in the place of one that was put in behind it
-  joined_pair : (ps : List (Block X)) (k : ℕ) (a b e : Block X) → k < length ps → joined f (set (set (insert ps (suc k) e) k a) (suc k) b) ≡ joined f (take k ps) ++ (seen_items f a ++ (seen_items f b ++ joined f (drop (suc k) ps)))
+  joined_pair : (ps : List X) (k : ℕ) (a b e : X) → k < length ps → flat_map s (set (set (insert ps (suc k) e) k a) (suc k) b) ≡ flat_map s (take k ps) ++ (s a ++ (s b ++ flat_map s (drop (suc k) ps)))
   joined_pair [] k a b e h = absurd (omega (arith, h))
   joined_pair (p ∷ ps) zero a b e h = refl
-  joined_pair (p ∷ ps) (suc k) a b e h = ap (λ l. seen_items f p ++ l) (joined_pair ps k a b e (omega (arith, h))) ∙ sym (append_assoc (seen_items f p) (joined f (take k ps)) _)
+  joined_pair (p ∷ ps) (suc k) a b e h = ap (λ l. s p ++ l) (joined_pair ps k a b e (omega (arith, h))) ∙ sym (append_assoc (s p) (flat_map s (take k ps)) _)
 
-  pub joined_split : (ps : List (Block X)) (k m : ℕ) (a b d e : Block X) → k < length ps → seen_items f a ≡ take m (seen_items f (get_or ps k d)) → seen_items f b ≡ drop m (seen_items f (get_or ps k d))
-      → joined f (set (set (insert ps (k + 1) e) k a) (k + 1) b) ≡ joined f ps
+  pub joined_split : (ps : List X) (k m : ℕ) (a b d e : X) → k < length ps → s a ≡ take m (s (get_or ps k d)) → s b ≡ drop m (s (get_or ps k d))
+      → flat_map s (set (set (insert ps (k + 1) e) k a) (k + 1) b) ≡ flat_map s ps
   joined_split ps k m a b d e h u v =
-      let s : k + 1 ≡ suc k = omega arith in
-      let q = seen_items f (get_or ps k d) in
-      let R = joined f (drop (suc k) ps) in
-      ap (λ n. joined f (set (set (insert ps n e) k a) n b)) s ∙ joined_pair ps k a b e h
-      ∙ ap (λ l. joined f (take k ps) ++ l) (sym (append_assoc (seen_items f a) (seen_items f b) R) ∙ ap (λ l. l ++ R) (ap (λ l. l ++ seen_items f b) u ∙ ap (λ l. take m q ++ l) v ∙ take-append-drop m q))
+      let n : k + 1 ≡ suc k = omega arith in
+      let q = s (get_or ps k d) in
+      let R = flat_map s (drop (suc k) ps) in
+      ap (λ m. flat_map s (set (set (insert ps m e) k a) m b)) n ∙ joined_pair ps k a b e h
+      ∙ ap (λ l. flat_map s (take k ps) ++ l) (sym (append_assoc (s a) (s b) R) ∙ ap (λ l. l ++ R) (ap (λ l. l ++ s b) u ∙ ap (λ l. take m q ++ l) v ∙ take-append-drop m q))
       ∙ sym (joined_around ps k d h)
 
+  -- a part, what stands in its place of it, and what stands behind it
+  pub joined_halves : (ps : List X) (k : ℕ) (a b d e : X) → k < length ps → s a ++ s b ≡ s (get_or ps k d) → flat_map s (set (set (insert ps (k + 1) e) k a) (k + 1) b) ≡ flat_map s ps
+  joined_halves ps k a b d e h u =
+      let n : k + 1 ≡ suc k = omega arith in
+      let R = flat_map s (drop (suc k) ps) in
+      ap (λ m. flat_map s (set (set (insert ps m e) k a) m b)) n ∙ joined_pair ps k a b e h
+      ∙ ap (λ l. flat_map s (take k ps) ++ l) (sym (append_assoc (s a) (s b) R) ∙ ap (λ l. l ++ R) u) ∙ sym (joined_around ps k d h)
+
   -- an empty block behind one that has the same items
-  pub joined_spare : (ps : List (Block X)) (k : ℕ) (a d e : Block X) → k < length ps → seen_items f e ≡ [] → seen_items f a ≡ seen_items f (get_or ps k d) → joined f (set (insert ps (k + 1) e) k a) ≡ joined f ps
+  pub joined_spare : (ps : List X) (k : ℕ) (a d e : X) → k < length ps → s e ≡ [] → s a ≡ s (get_or ps k d) → flat_map s (set (insert ps (k + 1) e) k a) ≡ flat_map s ps
   joined_spare ps k a d e h u v =
-      let s : k + 1 ≡ suc k = omega arith in
-      let R = joined f (drop (suc k) ps) in
-      ap (λ n. joined f (set (insert ps n e) k a)) s ∙ joined_two ps k a e h
-      ∙ ap (λ l. joined f (take k ps) ++ (seen_items f a ++ (l ++ R))) u ∙ ap (λ l. joined f (take k ps) ++ (l ++ R)) v ∙ sym (joined_around ps k d h)
+      let n : k + 1 ≡ suc k = omega arith in
+      let R = flat_map s (drop (suc k) ps) in
+      ap (λ m. flat_map s (set (insert ps m e) k a)) n ∙ joined_two ps k a e h
+      ∙ ap (λ l. flat_map s (take k ps) ++ (s a ++ (l ++ R))) u ∙ ap (λ l. flat_map s (take k ps) ++ (l ++ R)) v ∙ sym (joined_around ps k d h)
 
   -- an empty block taken out
-  pub joined_without : (ps : List (Block X)) (k : ℕ) (d : Block X) → k < length ps → seen_items f (get_or ps k d) ≡ [] → joined f (remove ps k) ≡ joined f ps
+  pub joined_without : (ps : List X) (k : ℕ) (d : X) → k < length ps → s (get_or ps k d) ≡ [] → flat_map s (remove ps k) ≡ flat_map s ps
   joined_without [] k d h e = absurd (omega (arith, h))
-  joined_without (p ∷ ps) zero d h e = sym (ap (λ l. l ++ joined f ps) e)
-  joined_without (p ∷ ps) (suc k) d h e = ap (λ l. seen_items f p ++ l) (joined_without ps k d (omega (arith, h)) e)
+  joined_without (p ∷ ps) zero d h e = sym (ap (λ l. l ++ flat_map s ps) e)
+  joined_without (p ∷ ps) (suc k) d h e = ap (λ l. s p ++ l) (joined_without ps k d (omega (arith, h)) e)
 
   -- an item of a block is one of the list
-  pub joined_get : (ps : List (Block X)) (index k i : ℕ) (d : Block X) → IsItem f ps index k i → slice_get (seen_items f (get_or ps k d)) i ≡ slice_get (joined f ps) index
+  pub joined_get : (ps : List X) (index k i : ℕ) (d : X) → IsItem s ps index k i → slice_get (s (get_or ps k d)) i ≡ slice_get (flat_map s ps) index
   joined_get ps index k i d at =
-      let q = seen_items f (get_or ps k d) in
-      let J = joined f (take k ps) in
-      let R = joined f (drop (suc k) ps) in
+      let q = s (get_or ps k d) in
+      let J = flat_map s (take k ps) in
+      let R = flat_map s (drop (suc k) ps) in
       sym (ap (λ l. slice_get l index) (joined_around ps k d at.inside) ∙ get_behind J (q ++ R) index i (sym at.sum) ∙ get_front q R i (at.within d))
 
-  pub place_within : (ps : List (Block X)) (index k i : ℕ) (d : Block X) → IsPlace f ps index k i → index ≤ length (joined f ps)
+  pub place_within : (ps : List X) (index k i : ℕ) (d : X) → IsPlace s ps index k i → index ≤ length (flat_map s ps)
   place_within ps index k i d at =
-      let q = seen_items f (get_or ps k d) in
-      let J = joined f (take k ps) in
-      let R = joined f (drop (suc k) ps) in
-      let s = ap length (joined_around ps k d at.inside) ∙ length-append J (q ++ R) in
-      omega (arith, s, length-append q R, at.sum, at.within d)
+      let q = s (get_or ps k d) in
+      let J = flat_map s (take k ps) in
+      let R = flat_map s (drop (suc k) ps) in
+      let n = ap length (joined_around ps k d at.inside) ∙ length-append J (q ++ R) in
+      omega (arith, n, length-append q R, at.sum, at.within d)
 
 -- ---- whose the blocks are
 
@@ -200,12 +209,12 @@ own_remove [] (suc k) e = e
 own_remove (b ∷ bs) zero e = own_rest (is_own b) (all_own bs) e
 own_remove (b ∷ bs) (suc k) e = own_both (is_own b) (all_own (remove bs k)) (own_first (is_own b) (all_own bs) e) (own_remove bs k (own_rest (is_own b) (all_own bs) e))
 
-get_first : {X : Type 0} (bs : List (Block X)) (k : ℕ) (e d : Block X) → k < length bs → get_or (insert bs (suc k) e) k d ≡ get_or bs k d
+get_first : {X : Type 0} (bs : List X) (k : ℕ) (e d : X) → k < length bs → get_or (insert bs (suc k) e) k d ≡ get_or bs k d
 get_first [] k e d h = absurd (omega (arith, h))
 get_first (b ∷ bs) zero e d h = refl
 get_first (b ∷ bs) (suc k) e d h = get_first bs k e d (omega (arith, h))
 
-pub get_before : {X : Type 0} (bs : List (Block X)) (k : ℕ) (e d : Block X) → k < length bs → get_or (insert bs (k + 1) e) k d ≡ get_or bs k d
+pub get_before : {X : Type 0} (bs : List X) (k : ℕ) (e d : X) → k < length bs → get_or (insert bs (k + 1) e) k d ≡ get_or bs k d
 get_before bs k e d h =
     let s : k + 1 ≡ suc k = omega arith in
     ap (λ n. get_or (insert bs n e) k d) s ∙ get_first bs k e d h
@@ -236,11 +245,11 @@ pub cc_false : (b : Bool) → b ≡ true → b ≡ false → ⊥
 cc_false true p q = cc
 cc_false false p q = cc
 
-if_same : {A : Type 0} (b : Bool) (x y : A) → b ≡ true → (if b then x else y) ≡ x
+pub if_same : {A : Type 0} (b : Bool) (x y : A) → b ≡ true → (if b then x else y) ≡ x
 if_same true x y e = refl
 if_same false x y e = cc
 
-if_other : {A : Type 0} (b : Bool) (x y : A) → b ≡ false → (if b then x else y) ≡ y
+pub if_other : {A : Type 0} (b : Bool) (x y : A) → b ≡ false → (if b then x else y) ≡ y
 if_other true x y e = cc
 if_other false x y e = refl
 
@@ -274,16 +283,13 @@ among_set f (b ∷ bs) index (suc k) i a h s w =
 
 -- ---- what copies have in common
 
-abbrev pub seen_block : {X S : Type 0} → (X → S) → Block X → List S × Bool
-seen_block f b = (map f (items_of b), is_own b)
-
 abbrev pub seen_blocks : {X S : Type 0} → (X → S) → Block (Block X) → List (List S × Bool) × Bool
 seen_blocks f b = (map (seen_block f) (items_of b), is_own b)
 
 abbrev pub seen_all : {X S : Type 0} → (X → S) → Block (Block X) → List S × Bool
 seen_all f b = (joined f (items_of b), cond (is_own b) (all_own (items_of b)) false)
 
-abbrev flat : {S : Type 0} → List (List S × Bool) → List S
+abbrev pub flat : {S : Type 0} → List (List S × Bool) → List S
 flat [] = []
 flat (p ∷ ps) = p.0 ++ flat ps
 
@@ -291,7 +297,7 @@ abbrev flat_own : {S : Type 0} → List (List S × Bool) → Bool
 flat_own [] = true
 flat_own (p ∷ ps) = cond p.1 (flat_own ps) false
 
-flat_joined : {X S : Type 0} (f : X → S) (bs : List (Block X)) → joined f bs ≡ flat (map (seen_block f) bs)
+pub flat_joined : {X S : Type 0} (f : X → S) (bs : List (Block X)) → joined f bs ≡ flat (map (seen_block f) bs)
 flat_joined f [] = refl
 flat_joined f (b ∷ bs) = ap (λ l. map f (items_of b) ++ l) (flat_joined f bs)
 
@@ -305,11 +311,11 @@ joined_alike f bs cs e = flat_joined f bs ∙ ap flat e ∙ sym (flat_joined f c
 pub own_alike : {X S : Type 0} (f : X → S) (bs cs : List (Block X)) → map (seen_block f) bs ≡ map (seen_block f) cs → all_own bs ≡ all_own cs
 own_alike f bs cs e = flat_all_own f bs ∙ ap flat_own e ∙ sym (flat_all_own f cs)
 
-abbrev flat_among : {S : Type 0} → List (List S × Bool) → ℕ → Bool
+abbrev pub flat_among : {S : Type 0} → List (List S × Bool) → ℕ → Bool
 flat_among [] i = true
 flat_among (p ∷ ps) i = if ltb i (length p.0) then p.1 else flat_among ps (i - length p.0)
 
-flat_own_among : {X S : Type 0} (f : X → S) (bs : List (Block X)) (i : ℕ) → own_among bs i ≡ flat_among (map (seen_block f) bs) i
+pub flat_own_among : {X S : Type 0} (f : X → S) (bs : List (Block X)) (i : ℕ) → own_among bs i ≡ flat_among (map (seen_block f) bs) i
 flat_own_among f [] i = refl
 flat_own_among f (b ∷ bs) i =
     ap (λ n. if ltb i n then is_own b else own_among bs (i - n)) (sym (length-map (items_of b) f))
@@ -386,7 +392,7 @@ past_of i n e = ltb-false i n (sym e)
 within_of : (i n : ℕ) → true ≡ ltb i n → i < n
 within_of i n e = ltb-true i n (sym e)
 
-get_none : {X : Type 0} (xs : List X) (i : ℕ) → length xs ≤ i → slice_get xs i ≡ None
+pub get_none : {X : Type 0} (xs : List X) (i : ℕ) → length xs ≤ i → slice_get xs i ≡ None
 get_none [] i h = refl
 get_none (x ∷ xs) zero h = absurd (omega (arith, h))
 get_none (x ∷ xs) (suc i) h = get_none xs i (omega (arith, h))
@@ -400,6 +406,10 @@ pub seen_of_mut : {X S : Type 0} (f : X → S) (r : Option (MutBor X)) (xs : Lis
     → option_map (λ x. f x.now) r ≡ slice_get (map f xs) i
 seen_of_mut f None xs i b e = sym (map_get f xs i ∙ ap (option_map f) (get_none xs i (past_of i (length xs) b)))
 seen_of_mut f (Some x) xs i b e = sym (map_get f xs i ∙ ap (option_map f) (get_some xs i x.now (within_of i (length xs) b) ∙ ap Some (sym e)))
+
+pub if_some_also : {A P Q : Type 0} (r : Option A) → IfSome r (λ _. P) → (P → Q) → IfSome r (λ _. Q)
+if_some_also None p h = tt
+if_some_also (Some x) p h = h p
 
 pub if_some : {A P : Type 0} (r : Option A) → P → IfSome r (λ _. P)
 if_some None p = tt

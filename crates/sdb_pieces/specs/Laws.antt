@@ -4,9 +4,11 @@ use Rattle.std.proofs.Common.{ap, sym, ◌∙◌, append_assoc}
 use Rattle.std.specs.List.{flat_map}
 use Rattle.sdb_pieces.specs.Block.{items_of, is_own}
 use Rattle.sdb_pieces.specs.Pieces.{seen_form, seen_in, joined, all_own, own_among, is_own_form, is_own_form_at, is_own_list, is_own_at, blocks_form, blocks_in, items_in, parts_in}
+use Rattle.sdb_pieces.specs.Group.{blocks_of, seen_group, joined_groups}
 use Rattle.sdb_pieces.specs.declared.block.Block.{Block}
+use Rattle.sdb_pieces.specs.declared.group.Group.{Group}
 use Rattle.sdb_pieces.specs.declared.pieces.Form.{Form}
-use Rattle.sdb_pieces.specs.declared.pieces.Form.TheVariants.{One, Many}
+use Rattle.sdb_pieces.specs.declared.pieces.Form.TheVariants.{One, Many, Groups}
 use Rattle.sdb_pieces.specs.declared.pieces.Pieces.{Pieces}
 
 -- ---- the list is that of its parts
@@ -24,9 +26,19 @@ joined_parts f [] = refl
 joined_parts f (b ∷ bs) =
     ap (λ l. map f (items_of b) ++ l) (joined_parts f bs) ∙ sym (map_append f (items_of b) (flat_map (λ xs. xs) (map items_of bs)))
 
+joined_append : {X S : Type 0} (f : X → S) (bs cs : List (Block X)) → joined f (bs ++ cs) ≡ joined f bs ++ joined f cs
+joined_append f [] cs = refl
+joined_append f (b ∷ bs) cs = ap (λ l. map f (items_of b) ++ l) (joined_append f bs cs) ∙ sym (append_assoc (map f (items_of b)) (joined f bs) (joined f cs))
+
+-- what is seen of groups is what is seen of their blocks
+pub groups_blocks : {X S : Type 0} (f : X → S) (gs : List (Group X)) → joined_groups f gs ≡ joined f (flat_map blocks_of gs)
+groups_blocks f [] = refl
+groups_blocks f (g ∷ gs) = ap (λ l. seen_group f g ++ l) (groups_blocks f gs) ∙ sym (joined_append f (blocks_of g) (flat_map blocks_of gs))
+
 form_parts : {X S : Type 0} (f : X → S) (w : Form X) → seen_form f w ≡ map f (flat_map (λ xs. xs) (map items_of (blocks_form w)))
 form_parts f (One b) = ap (map f) (sym (append_none (items_of b)))
 form_parts f (Many bs) = joined_parts f (items_of bs)
+form_parts f (Groups gs) = groups_blocks f (items_of gs) ∙ joined_parts f (flat_map blocks_of (items_of gs))
 
 pub seen_parts : {X S : Type 0} (f : X → S) (l : Pieces X) → seen_in f l ≡ map f (flat_map (λ xs. xs) (parts_in l))
 seen_parts f l = form_parts f l.form
@@ -34,6 +46,7 @@ seen_parts f l = form_parts f l.form
 form_blocks : {X S : Type 0} (f : X → S) (w : Form X) → seen_form f w ≡ joined f (blocks_form w)
 form_blocks f (One b) = sym (append_none (map f (items_of b)))
 form_blocks f (Many bs) = refl
+form_blocks f (Groups gs) = groups_blocks f (items_of gs)
 
 -- and that of its blocks
 pub seen_blocks : {X S : Type 0} (f : X → S) (l : Pieces X) → seen_in f l ≡ joined f (blocks_in l)
@@ -77,6 +90,7 @@ own_form_anywhere (One b) i e = e
 own_form_anywhere (Many bs) i e =
     both (is_own bs) (own_among (items_of bs) i) (both_first (is_own bs) (all_own (items_of bs)) e)
     (own_anywhere (items_of bs) i (both_second (is_own bs) (all_own (items_of bs)) e))
+own_form_anywhere (Groups gs) i e = cc
 
 pub own_everywhere : {X : Type 0} (l : Pieces X) (i : ℕ) → is_own_list l ≡ true → is_own_at l i ≡ true
 own_everywhere l i e = own_form_anywhere l.form i e

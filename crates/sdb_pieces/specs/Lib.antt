@@ -1,4 +1,7 @@
 pub mod Block
+pub mod Blocks
+pub mod formers
+pub mod Group
 pub mod Iter
 pub mod Laws
 pub mod Pieces

@@ -29,7 +29,7 @@ pub enum Block<T> {
 }
 
 // The same items, in memory of their own.
-fn copies<T: Share>(alloc: Global, items: &[T]) -> Result<Vec<T>, AllocError>
+pub(crate) fn copies<T: Share>(alloc: Global, items: &[T]) -> Result<Vec<T>, AllocError>
     ensures { IfOk result (λ v. map T.seen v.items ≡ map T.seen items.now) }
 {
     let mut copies = Vec::with_capacity(alloc, items.len())?;

@@ -3,15 +3,16 @@ ghost use Rattle.std.specs.Prelude.{◌≡◌, ◌≤◌, ◌<◌, ◌/◌, true
 ghost use Rattle.std.specs.Prelude.{nat_le, if◌then◌else◌, option_map, IfOk, IfSome, IfNone, OnOk, OnErr};
 ghost use Rattle.std.specs.List.{insert, remove};
 ghost use Rattle.sdb_pieces.specs.Block.{items_of, is_own};
-ghost use Rattle.sdb_pieces.specs.Pieces.{joined, all_own, own_among};
+ghost use Rattle.sdb_pieces.specs.Pieces.{seen_items, joined, all_own, own_among};
 ghost use Rattle.sdb_pieces.specs.Place.{IsPlace, IsItem};
 
 use crate::block::{Block, Share};
 use std::alloc::{AllocError, Global};
 use std::mem::replace;
 
-// How many items a block may have in a list of few blocks, and how many in one of many.
-const FEW: usize = 32;
+// How many items a block may have in a list of few blocks, and how many in one of many. So few blocks may a list have
+// that is shared without groups.
+pub(crate) const FEW: usize = 32;
 
 const MANY: usize = 512;
 
@@ -21,20 +22,9 @@ pub(crate) fn bound(blocks: usize) -> usize {
     blocks.clamp(FEW, MANY)
 }
 
-// The same for a list of so many items that is cut into blocks.
-pub(crate) fn bound_for(items: usize) -> usize
-    ensures { 0 < result }
-{
-    let mut bound = FEW;
-    while bound < MANY && items / bound > bound {
-        bound *= 2;
-    }
-    bound
-}
-
 // The block where an item can be put at the index, and the place in it. `None` where there is none.
 fn place<T: Share>(blocks: &[Block<T>], index: usize) -> Option<(usize, usize)>
-    ensures place { IfSome result (λ r. IsPlace T.seen blocks.now index r.0 r.1) }
+    ensures place { IfSome result (λ r. IsPlace (seen_items T.seen) blocks.now index r.0 r.1) }
     ensures none { IfNone result (index ≤ length (joined T.seen blocks.now) → blocks.now ≡ []) }
 {
     let mut left = index;
@@ -49,7 +39,7 @@ fn place<T: Share>(blocks: &[Block<T>], index: usize) -> Option<(usize, usize)>
 
 // The block of the item at the index, and the place in it. `None` past the end.
 fn place_of<T: Share>(blocks: &[Block<T>], index: usize) -> Option<(usize, usize)>
-    ensures item { IfSome result (λ r. IsItem T.seen blocks.now index r.0 r.1) }
+    ensures item { IfSome result (λ r. IsItem (seen_items T.seen) blocks.now index r.0 r.1) }
     ensures none { IfNone result (length (joined T.seen blocks.now) ≤ index) }
 {
     let mut left = index;
@@ -141,7 +131,10 @@ pub(crate) fn replace_in<T: Share>(
 }
 
 // Leaves the first half of a block's items in it, and answers the others.
-fn upper_half<T: Share>(alloc: Global, block: &mut Block<T>) -> Result<Block<T>, AllocError>
+pub(crate) fn upper_half<T: Share>(
+    alloc: Global,
+    block: &mut Block<T>,
+) -> Result<Block<T>, AllocError>
     ensures low { OnOk result (map T.seen (items_of block.new)
         ≡ take (length (items_of block.old) / 2) (map T.seen (items_of block.old))) }
     ensures high { IfOk result (λ b. map T.seen (items_of b)

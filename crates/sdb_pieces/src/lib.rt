@@ -5,10 +5,14 @@ mod among;
 mod block;
 mod change;
 mod cut;
+mod group;
+mod grouping;
+mod groups;
 mod iter;
 mod pieces;
 
 pub use block::{Block, Share};
 pub use change::split_block;
-pub use iter::Iter;
+pub use group::Group;
+pub use iter::{Blocks, Iter};
 pub use pieces::{Form, Pieces};

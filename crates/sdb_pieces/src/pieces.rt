@@ -1,16 +1,19 @@
 //! Lists in pieces.
 ghost use Rattle.std.specs.List.{insert, remove};
-ghost use Rattle.sdb_pieces.specs.Iter.{rest};
-ghost use Rattle.std.specs.Prelude.{◌≡◌, ◌<◌, ◌++◌, ◌∷◌, [], true, false, Some, length, map, slice_get, slice_set, option_map, nat_le};
+ghost use Rattle.sdb_pieces.specs.Iter.{rest, rest_blocks};
+ghost use Rattle.std.specs.Prelude.{◌≡◌, ◌∷◌, [], true, false, length, map, slice_get, slice_set, option_map, nat_le};
 ghost use Rattle.std.specs.Prelude.{if◌then◌else◌, IfOk, IfSome, is_some, OnOk, OnErr};
-ghost use Rattle.sdb_pieces.specs.Pieces.{seen_in, is_own_list, is_own_at, is_shared_list, is_vector, all_own, all_shared, blocks_in, items_in, parts_in};
+ghost use Rattle.sdb_pieces.specs.Pieces.{seen_in, is_own_list, is_own_at, is_shared_list, is_vector, is_in_groups, all_own, all_shared, blocks_in, items_in, parts_in};
 
 use crate::among::{block_item, insert_among, one_block, remove_among, replace_among};
 use crate::block::{Block, Share};
-use crate::change::{bound, bound_for, insert_in, item_in, item_mut, remove_in, replace_in};
+use crate::change::{FEW, bound, insert_in, item_in, item_mut, remove_in, replace_in};
 use crate::cut::cut_blocks;
-use crate::iter::Iter;
+use crate::group::Group;
+use crate::groups::{insert_grouped, item_grouped, remove_grouped, replace_grouped};
+use crate::iter::{Blocks, Iter};
 use std::alloc::{AllocError, Global};
+use std::slice;
 use std::sync::Arc;
 
 /// A list: in one block while it is short, and else in blocks of bounded size. Each is the list's own,
@@ -27,6 +30,8 @@ pub enum Form<T> {
     One(Block<T>),
     /// In one block after the other.
     Many(Block<Block<T>>),
+    /// In many blocks, in groups: so is a long list once it was shared.
+    Groups(Block<Group<T>>),
 }
 
 impl<T> Pieces<T> {
@@ -62,16 +67,32 @@ impl<T> Pieces<T> {
         match &self.form {
             Form::One(block) => !block.is_own(),
             Form::Many(blocks) => !blocks.is_own(),
+            Form::Groups(groups) => !groups.is_own(),
         }
     }
 
-    /// In how many blocks the items stand, from 0 on.
-    pub fn part_count(&self) -> usize
-        ensures { result ≡ length (blocks_in self.now) }
+    /// Whether it is in groups of blocks.
+    pub fn is_in_groups(&self) -> bool
+        ensures { result ≡ is_in_groups self.now.form }
+    {
+        matches!(&self.form, Form::Groups(_))
+    }
+
+    /// Where its items stand.
+    pub fn form(&self) -> &Form<T>
+        ensures { result.now ≡ self.now.form }
+    {
+        &self.form
+    }
+
+    /// Its blocks, one after the other.
+    pub fn blocks(&self) -> Blocks<'_, T>
+        ensures { rest_blocks result ≡ blocks_in self.now }
     {
         match &self.form {
-            Form::One(_) => 1,
-            Form::Many(blocks) => blocks.len(),
+            Form::One(block) => Blocks::new(slice::from_ref(block), &[]),
+            Form::Many(blocks) => Blocks::new(blocks.items(), &[]),
+            Form::Groups(groups) => Blocks::new(&[], groups.items()),
         }
     }
 
@@ -82,26 +103,8 @@ impl<T> Pieces<T> {
         match &self.form {
             Form::One(block) => Iter::new(block.items(), &[]),
             Form::Many(blocks) => Iter::new(&[], blocks.items()),
+            Form::Groups(groups) => Iter::of_groups(groups.items()),
         }
-    }
-
-    /// One of its blocks.
-    pub fn block(&self, at: usize) -> &Block<T>
-        requires { at < length (blocks_in self.now) }
-        ensures { slice_get (blocks_in self.now) at ≡ Some result.now }
-    {
-        match &self.form {
-            Form::One(block) => block,
-            Form::Many(blocks) => &blocks.items()[at],
-        }
-    }
-
-    /// The items of one of its blocks.
-    pub fn part(&self, at: usize) -> &[T]
-        requires { at < length (blocks_in self.now) }
-        ensures { slice_get (parts_in self.now) at ≡ Some result.now }
-    {
-        self.block(at).items()
     }
 }
 
@@ -123,17 +126,15 @@ impl<T: Drop> Pieces<T> {
         }
     }
 
-    /// A list of these items: of at most 32 in the vector's own memory, of more in blocks of 32 to 512, the longer the
-    /// more there are.
+    /// A list of these items: of at most 32 in the vector's own memory, of more in blocks of 32.
     pub fn in_blocks(alloc: Global, items: Vec<T>) -> Result<Pieces<T>, AllocError>
         ensures items { IfOk result (λ l. items_in l ≡ items.items) }
         ensures own { IfOk result (λ l. is_own_list l ≡ true) }
     {
-        let most = bound_for(items.len());
-        if items.len() <= most {
+        if items.len() <= FEW {
             return Ok(Pieces::from_form(Form::One(Block::Own(items))));
         }
-        Ok(Pieces::from_blocks(cut_blocks(alloc, items, most)?))
+        Ok(Pieces::from_blocks(cut_blocks(alloc, items, FEW)?))
     }
 
     /// The list of these blocks, in order, so that the next copy of it is a pointer where the blocks are shared.
@@ -181,6 +182,12 @@ impl<T> Pieces<T> {
                 })),
                 None => Ok(None),
             },
+            Form::Groups(groups) => match groups.share_pointer()? {
+                Some(groups) => Ok(Some(Pieces {
+                    form: Form::Groups(groups),
+                })),
+                None => Ok(None),
+            },
         }
     }
 }
@@ -206,12 +213,14 @@ impl<T: Share> Pieces<T> {
         match &self.form {
             Form::One(block) => block_item(block, index),
             Form::Many(blocks) => item_in(blocks.items(), index),
+            Form::Groups(groups) => item_grouped(groups.items(), index),
         }
     }
 
-    /// The item at the index, to be changed, or `None` past the end, and where its block is shared.
+    /// The item at the index, to be changed, or `None` past the end, and where its block is shared or the list is in
+    /// groups.
     pub fn get_mut(&mut self, index: usize) -> Option<&mut T>
-        ensures { is_own_at self.old index ≡ true
+        ensures { is_own_at self.old index ≡ true → is_in_groups self.old.form ≡ false
             → option_map (λ x. T.seen x.now) result ≡ slice_get (seen_in T.seen self.old) index }
     {
         match &mut self.form {
@@ -223,6 +232,15 @@ impl<T: Share> Pieces<T> {
                 Block::Own(blocks) => item_mut(blocks, index),
                 Block::Shared(_) => None,
             },
+            Form::Groups(_) => None,
+        }
+    }
+
+    // How many items a block may have.
+    fn most(&self) -> usize {
+        match &self.form {
+            Form::Many(blocks) => bound(blocks.len()),
+            _ => FEW,
         }
     }
 
@@ -242,7 +260,8 @@ impl<T: Share> Pieces<T> {
 
     /// Puts an item at the index, from 0 to the length, before those from there on. `false`, with the list
     /// unchanged, where the index is past the length, and `Err`, with the list unchanged, where memory is
-    /// wanting. A block that has as many items as the list has blocks is split first, but none of fewer than 32.
+    /// wanting. A block that has as many items as the list has blocks, or in groups one of 32, is split first, but
+    /// none of fewer; so is a group that has as many blocks as there are groups.
     pub fn insert(&mut self, alloc: Global, index: usize, item: T) -> Result<bool, AllocError>
         ensures ok { IfOk result (λ done. seen_in T.seen self.new ≡ (if done
             then insert (seen_in T.seen self.old) index (T.seen item) else seen_in T.seen self.old)) }
@@ -251,7 +270,7 @@ impl<T: Share> Pieces<T> {
         ensures own { is_own_list self.old ≡ true → is_own_list self.new ≡ true }
         ensures now_own { IfOk result (λ done. done ≡ true → is_own_at self.new index ≡ true) }
     {
-        let most = bound(self.part_count());
+        let most = self.most();
         self.make_room(alloc, most)?;
         match &mut self.form {
             Form::One(block) => {
@@ -263,6 +282,10 @@ impl<T: Share> Pieces<T> {
             }
             Form::Many(blocks) => {
                 let done = insert_among(alloc, blocks, index, item, most)?;
+                Ok(done)
+            }
+            Form::Groups(groups) => {
+                let done = insert_grouped(alloc, groups, index, item)?;
                 Ok(done)
             }
         }
@@ -289,6 +312,10 @@ impl<T: Share> Pieces<T> {
             }
             Form::Many(blocks) => {
                 let item = remove_among(alloc, blocks, index)?;
+                Ok(item)
+            }
+            Form::Groups(groups) => {
+                let item = remove_grouped(alloc, groups, index)?;
                 Ok(item)
             }
         }
@@ -319,18 +346,12 @@ impl<T: Share> Pieces<T> {
                 let old = replace_among(alloc, blocks, index, item)?;
                 Ok(old)
             }
+            Form::Groups(groups) => {
+                let old = replace_grouped(alloc, groups, index, item)?;
+                Ok(old)
+            }
         }
     }
-}
-
-// Has the items of a block again, behind others.
-fn push_again<T: Share>(alloc: Global, items: &mut Vec<T>, block: &[T]) -> Result<(), AllocError>
-    ensures { OnOk result (map T.seen items.new.items ≡ map T.seen items.old.items ++ map T.seen block.now) }
-{
-    for item in block {
-        items.push(item.share(alloc)?)?;
-    }
-    Ok(())
 }
 
 // Has all items again, in one vector.
@@ -338,8 +359,8 @@ fn items_again<T: Share>(alloc: Global, list: &Pieces<T>) -> Result<Vec<T>, Allo
     ensures { IfOk result (λ v. map T.seen v.items ≡ seen_in T.seen list.now) }
 {
     let mut items = Vec::new(alloc);
-    for at in 0..list.part_count() {
-        push_again(alloc, &mut items, list.part(at))?;
+    for item in list.iter() {
+        items.push(item.share(alloc)?)?;
     }
     Ok(items)
 }
@@ -359,6 +380,9 @@ impl<T: Share> Share for Pieces<T> {
             }),
             Form::Many(blocks) => Ok(Pieces {
                 form: Form::Many(blocks.share(alloc)?),
+            }),
+            Form::Groups(groups) => Ok(Pieces {
+                form: Form::Groups(groups.share(alloc)?),
             }),
         }
     }

@@ -1,5 +1,5 @@
 //! Reads the pieces of a text.
-ghost use Rattle.std.specs.Prelude.{◌≡◌, length, min, string_bytes, IfOk, IfSome};
+ghost use Rattle.std.specs.Prelude.{◌≡◌, is_some, length, min, nat_eq, string_bytes, IfOk, IfSome};
 ghost use Rattle.std.specs.List.{concat};
 ghost use Rattle.sdb_pieces.specs.Block.{items_of};
 ghost use Rattle.sdb_pieces.specs.Iter.{rest};
@@ -38,7 +38,8 @@ pub(crate) fn joined(alloc: Global, parts: Iter<'_, Part>) -> Result<String, All
 
 /// The text of the only piece. `None` where there is none, or more than one.
 pub(crate) fn only<'a>(mut parts: Iter<'a, Part>) -> Option<&'a str>
-    ensures { IfSome result (λ s. s.now ≡ concat (texts_of (rest parts.entry))) }
+    ensures text { IfSome result (λ s. s.now ≡ concat (texts_of (rest parts.entry))) }
+    ensures found { is_some result ≡ nat_eq (length (texts_of (rest parts.entry))) 1 }
 {
     let first = parts.next()?;
     match parts.next() {

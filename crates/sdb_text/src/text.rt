@@ -1,5 +1,5 @@
 //! A text in pieces.
-ghost use Rattle.std.specs.Prelude.{◌≡◌, ◌<◌, true, false, length, min, string_bytes};
+ghost use Rattle.std.specs.Prelude.{◌≡◌, ◌<◌, true, false, is_some, length, min, nat_eq, string_bytes};
 ghost use Rattle.std.specs.Prelude.{IfOk, OnOk, OnErr, IfSome, IsTrue, IsFalse};
 ghost use Rattle.std.specs.List.{concat};
 ghost use Rattle.sdb_pieces.specs.Iter.{rest};
@@ -95,9 +95,10 @@ impl Text {
         }
     }
 
-    /// The whole text, where it is in one piece.
+    /// The whole text, where it is in one piece; `None` where it isn't.
     pub fn as_str(&self) -> Option<&str>
-        ensures { IfSome result (λ s. s.now ≡ bytes_in self.now) }
+        ensures text { IfSome result (λ s. s.now ≡ bytes_in self.now) }
+        ensures found { is_some result ≡ nat_eq (length (parts_in self.now)) 1 }
     {
         match &self.form {
             Form::One(chars) => Some(chars.as_str()),

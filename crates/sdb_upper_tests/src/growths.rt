@@ -72,7 +72,7 @@ fn present(rt: &impl Abort, board: &mut Board) -> State
 
 fn count(document: Option<&Json>) -> Option<usize> {
     match document {
-        Some(Json::List(items)) if items.part_count() == 1 => Some(items.part(0).len()),
+        Some(Json::List(items)) => Some(items.iter().count()),
         _ => None,
     }
 }

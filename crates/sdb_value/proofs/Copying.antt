@@ -3,7 +3,7 @@ use Rattle.std.proofs.Common.{◌≡◌, List, [], ◌∷◌, ◌++◌, map, Opt
 use Rattle.std.specs.List.{flat_map}
 use Rattle.std.specs.Option.{is_some, IfSome, IfNone}
 use Rattle.sdb_pieces.specs.Block.{items_of as block_items, is_own as block_own, is_shared as block_shared}
-use Rattle.sdb_pieces.specs.Pieces.{all_own, all_shared, blocks_in, items_in, parts_in, is_own_form, is_own_list, is_shared_form, is_shared_list}
+use Rattle.sdb_pieces.specs.Pieces.{all_own, all_shared, blocks_in, items_in, parts_in, is_in_groups, is_own_form, is_own_list, is_shared_form, is_shared_list}
 use Rattle.sdb_members.specs.Keys.{texts_in, is_own as keys_own, is_shared as keys_shared}
 use Rattle.sdb_members.specs.Object.{members_in, is_shared as object_shared}
 use Rattle.sdb_members.specs.declared.members.Members.{Members as Held}
@@ -11,7 +11,7 @@ use Rattle.sdb_members.specs.declared.object.Object.{Object}
 use Rattle.sdb_pieces.specs.declared.block.Block.{Block}
 use Rattle.sdb_pieces.specs.declared.block.Block.TheVariants.{Own, Shared}
 use Rattle.sdb_pieces.specs.declared.pieces.Form.{Form}
-use Rattle.sdb_pieces.specs.declared.pieces.Form.TheVariants.{One, Many}
+use Rattle.sdb_pieces.specs.declared.pieces.Form.TheVariants.{One, Many, Groups}
 use Rattle.sdb_pieces.specs.declared.pieces.Pieces.{Pieces}
 use Rattle.sdb_value.specs.Copies.{IsCopied, block_all_own, blocks_all_own}
 use Rattle.sdb_value.specs.Owns.{all_true, is_own, is_pointer, items_own, list_own, held_own, object_own}
@@ -54,6 +54,7 @@ shared_form_not_own (One (Own v)) h = absurd (true≢false (sym h))
 shared_form_not_own (One (Shared a)) h = refl
 shared_form_not_own (Many (Own v)) h = absurd (true≢false (sym h))
 shared_form_not_own (Many (Shared a)) h = refl
+shared_form_not_own (Groups gs) h = refl
 
 shared_list_own : (l : Pieces Json) → is_shared_list l ≡ true → list_own l ≡ false
 shared_list_own l h = ap (λ b. cond b (items_own (items_in l)) false) (shared_form_not_own l.form h)
@@ -139,13 +140,14 @@ one_own : (b : Bool) → b ≡ cond b true false
 one_own true = refl
 one_own false = refl
 
-unshared_form : {X : Type 0} (w : Form X) → is_shared_form w ≡ false → is_own_form w ≡ all_own (blocks_in (record { form = w }))
-unshared_form (One b) h = one_own (block_own b)
-unshared_form (Many (Own v)) h = refl
-unshared_form (Many (Shared a)) h = absurd (true≢false h)
+unshared_form : {X : Type 0} (w : Form X) → is_in_groups w ≡ false → is_shared_form w ≡ false → is_own_form w ≡ all_own (blocks_in (record { form = w }))
+unshared_form (One b) g h = one_own (block_own b)
+unshared_form (Many (Own v)) g h = refl
+unshared_form (Many (Shared a)) g h = absurd (true≢false h)
+unshared_form (Groups gs) g h = absurd (true≢false g)
 
-pub unshared_list : (l : Pieces Json) → is_shared_list l ≡ false → list_own l ≡ blocks_all_own (blocks_in l)
-unshared_list l h = list_of_blocks l (blocks_in l) refl (unshared_form l.form h)
+pub unshared_list : (l : Pieces Json) → is_in_groups l.form ≡ false → is_shared_list l ≡ false → list_own l ≡ blocks_all_own (blocks_in l)
+unshared_list l g h = list_of_blocks l (blocks_in l) refl (unshared_form l.form g h)
 
 pub copied_by : (m : Manner) (a b p c d q : Bool) → c ≡ a → d ≡ b → q ≡ p → IsCopied m a b p → IsCopied m c d q
 copied_by manner.Same a b p c d q e f g h = f ∙ h ∙ sym e
@@ -173,12 +175,12 @@ copied_object m v s new is h =
     (ap is_own is ∙ owned_object s) (owned_object new) (pointer_object new) h
 
 -- a list made of copied blocks
-pub made_of_blocks : (m : Manner) (l new : Pieces Json) (bs : List (Block Json)) → (m ≡ manner.Shared → ⊥) → (m ≡ manner.Same → is_shared_list l ≡ false)
-    → blocks_in new ≡ bs → is_own_list new ≡ all_own bs → IsCopied m (blocks_all_own (blocks_in l)) (blocks_all_own bs) (all_shared bs)
-    → IsCopied m (list_own l) (list_own new) (is_shared_list new)
-made_of_blocks manner.Same l new bs h k e o c = list_of_blocks new bs e o ∙ c ∙ sym (unshared_list l (k refl))
-made_of_blocks manner.Own l new bs h k e o c = list_of_blocks new bs e o ∙ c
-made_of_blocks manner.Shared l new bs h k e o c = absurd (h refl)
+pub made_of_blocks : (m : Manner) (l new : Pieces Json) (bs : List (Block Json)) → (m ≡ manner.Shared → ⊥) → (m ≡ manner.Same → is_in_groups l.form ≡ false)
+    → (m ≡ manner.Same → is_shared_list l ≡ false) → blocks_in new ≡ bs → is_own_list new ≡ all_own bs
+    → IsCopied m (blocks_all_own (blocks_in l)) (blocks_all_own bs) (all_shared bs) → IsCopied m (list_own l) (list_own new) (is_shared_list new)
+made_of_blocks manner.Same l new bs h g k e o c = list_of_blocks new bs e o ∙ c ∙ sym (unshared_list l (g refl) (k refl))
+made_of_blocks manner.Own l new bs h g k e o c = list_of_blocks new bs e o ∙ c
+made_of_blocks manner.Shared l new bs h g k e o c = absurd (h refl)
 
 pub made_view : (l new : Pieces Json) (bs : List (Block Json)) → blocks_in new ≡ bs → items_view (flat_map block_items bs) ≡ list_view l → list_view new ≡ list_view l
 made_view l new bs e h = ap (λ b. items_view (flat_map block_items b)) e ∙ h

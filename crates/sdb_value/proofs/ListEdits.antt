@@ -4,7 +4,9 @@ use Rattle.std.specs.List.{insert, remove}
 use Rattle.std.specs.Option.{is_some, IfSome, IfNone}
 use Rattle.std.proofs.lemmas.Bool.Decides.{nat_tests}
 use Rattle.sdb_pieces.specs.Laws.{seen_items_in, own_everywhere}
-use Rattle.sdb_pieces.specs.Pieces.{seen_in, items_in, is_own_at, is_own_list}
+use Rattle.sdb_pieces.specs.Pieces.{seen_in, items_in, is_in_groups, is_own_at, is_own_form, is_own_list}
+use Rattle.sdb_pieces.specs.declared.pieces.Form.{Form}
+use Rattle.sdb_pieces.specs.declared.pieces.Form.TheVariants.{One, Many, Groups}
 use Rattle.sdb_pieces.specs.declared.pieces.Pieces.{Pieces}
 use Rattle.sdb_text.specs.Edits.{Edits}
 use Rattle.sdb_value.specs.Owns.{all_true, is_own, items_own, list_own, seen}
@@ -387,6 +389,14 @@ found_own r n l i h own = some_mapped r n (own_taken (option_map n r) l i (optio
 
 pub own_place : (l : Pieces Json) (i : ℕ) → list_own l ≡ true → is_own_at l i ≡ true
 own_place l i own = own_everywhere l i (both_first (is_own_list l) (items_own (items_in l)) own)
+
+own_form : {X : Type 0} (w : Form X) → is_own_form w ≡ true → is_in_groups w ≡ false
+own_form (One b) own = refl
+own_form (Many bs) own = refl
+own_form (Groups gs) own = absurd (true≢false (sym own))
+
+pub own_in_blocks : (l : Pieces Json) → list_own l ≡ true → is_in_groups l.form ≡ false
+own_in_blocks l own = own_form l.form (both_first (is_own_list l) (items_own (items_in l)) own)
 
 shared_or : (b : Bool) (l : Pieces Json) (i : ℕ) → list_own l ≡ b → is_own_at l i ≡ false → b ≡ false
 shared_or true l i own h = absurd (true≢false (sym (own_place l i own) ∙ h))

@@ -8,7 +8,7 @@ use Rattle.sdb_pieces.specs.Pieces.{seen_in, all_own, is_own_form, is_own_list, 
 use Rattle.sdb_pieces.specs.declared.block.Block.{Block}
 use Rattle.sdb_pieces.specs.declared.block.Block.TheVariants.{Own, Shared}
 use Rattle.sdb_pieces.specs.declared.pieces.Form.{Form}
-use Rattle.sdb_pieces.specs.declared.pieces.Form.TheVariants.{One, Many}
+use Rattle.sdb_pieces.specs.declared.pieces.Form.TheVariants.{One, Many, Groups}
 use Rattle.sdb_pieces.specs.declared.pieces.Pieces.{Pieces}
 use Rattle.sdb_members.specs.Keys.{is_own as keys_own}
 use Rattle.sdb_members.specs.Object.{members_in, is_shared as object_shared}
@@ -36,6 +36,7 @@ own_once f (One (Own v)) = refl
 own_once f (One (Shared a)) = refl
 own_once f (Many (Own v)) = all_own_once _ v.items (λ w. refl) (λ w. refl)
 own_once f (Many (Shared a)) = refl
+own_once f (Groups gs) = refl
 
 pub former_own : {X Y : Type 0} (f : X → Y) (l : Pieces X) → is_own_list ((json.TheShapes.former-Json-List-0).map X Y f l) ≡ is_own_list l
 former_own f l = own_once f l.form
@@ -46,6 +47,8 @@ shared_once f (One (Own v)) = refl
 shared_once f (One (Shared a)) = refl
 shared_once f (Many (Own v)) = refl
 shared_once f (Many (Shared a)) = refl
+shared_once f (Groups (Own v)) = refl
+shared_once f (Groups (Shared a)) = refl
 
 pub former_shared : {X Y : Type 0} (f : X → Y) (l : Pieces X) → is_shared_list ((json.TheShapes.former-Json-List-0).map X Y f l) ≡ is_shared_list l
 former_shared f l = shared_once f l.form
@@ -74,6 +77,7 @@ values_own f m (One (Own v)) = refl
 values_own f m (One (Shared a)) = refl
 values_own f m (Many (Own v)) = all_own_once _ v.items (λ w. refl) (λ w. refl)
 values_own f m (Many (Shared a)) = refl
+values_own f m (Groups gs) = refl
 
 members_own : (m : Held Json) → members_step (mapped is_own m) ≡ object_own m
 members_own m =

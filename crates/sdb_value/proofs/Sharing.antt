@@ -1,34 +1,62 @@
 -- What sharing in place leaves as it was, and how much a walk through a value has still to go.
-use Rattle.std.proofs.Common.{◌≡◌, ℕ, zero, suc, ◌+◌, ◌≤◌, ◌<◌, List, [], ◌∷◌, length, map, get_or, set, Option, Some, None, option_map, slice_get, false, true≢false, sym, ap, ◌∙◌, arith}
+use Rattle.std.proofs.Common.{◌≡◌, ℕ, zero, suc, ◌+◌, ◌≤◌, ◌<◌, List, [], ◌∷◌, ◌++◌, length, map, get_or, set, Option, Some, None, option_map, slice_get, false, true≢false, refl, sym, ap, ◌∙◌, append_assoc, arith}
 use Rattle.std.proofs.lemmas.List.{get_or-map, map-set, set-get_or}
 use Rattle.std.specs.List.{flat_map, zip}
 use Rattle.std.specs.Option.{is_some}
 use Rattle.sdb_pieces.specs.Block.{items_of as block_items}
+use Rattle.sdb_pieces.specs.Group.{blocks_of}
+use Rattle.sdb_pieces.specs.Laws.{seen_items_in}
+use Rattle.sdb_pieces.specs.Pieces.{items_in, seen_form}
 use Rattle.sdb_pieces.specs.declared.block.Block.{Block}
+use Rattle.sdb_pieces.specs.declared.group.Group.{Group}
+use Rattle.sdb_pieces.specs.declared.pieces.Form.{Form}
+use Rattle.sdb_pieces.specs.declared.pieces.Pieces.{Pieces}
 use Rattle.sdb_value.specs.Size.{size, items_size, members_size}
 use Rattle.sdb_value.specs.Value.{null, Items, no_items, item, join}
 use Rattle.sdb_value.specs.Owns.{seen}
-use Rattle.sdb_value.specs.View.{view, items_of, items_view, members_view}
+use Rattle.sdb_value.specs.View.{view, form_view, group_items, items_of, items_view, members_view}
 use Rattle.sdb_value.specs.declared.value.Json.{Json}
 use Rattle.sdb_value.proofs.Copying.{join_view}
 use Rattle.sdb_value.proofs.Views.{seen_list, seen_object}
 
--- ---- an item, and a block, in place of one that is seen the same
+-- ---- an item, and a block or a group, in place of one that is seen the same
 
 pub same_item : (vs : List Json) (k : ℕ) (v w : Json) → k < length vs → v ≡ get_or vs k v → view w ≡ view v → items_view (set vs k w) ≡ items_view vs
 same_item vs k v w h is e =
     let here : view w ≡ get_or (map view vs) k null = e ∙ ap view is ∙ sym (get_or-map view vs k v null h) in
     ap items_of (map-set view vs k w ∙ ap (set (map view vs) k) here ∙ set-get_or (map view vs) k null)
 
-pub same_block : (bs : List (Block Json)) (k : ℕ) (b c : Block Json) → k < length bs → b ≡ get_or bs k b → items_view (block_items c) ≡ items_view (block_items b)
-    → items_view (flat_map block_items (set bs k c)) ≡ items_view (flat_map block_items bs)
-same_block [] k b c h is e = absurd (omega (arith, h))
-same_block (x ∷ bs) zero b c h is e =
-    join_view (block_items c) (flat_map block_items bs) ∙ ap (λ d. join d (items_view (flat_map block_items bs))) (e ∙ ap (λ y. items_view (block_items y)) is)
-    ∙ sym (join_view (block_items x) (flat_map block_items bs))
-same_block (x ∷ bs) (suc k) b c h is e =
-    join_view (block_items x) (flat_map block_items (set bs k c)) ∙ ap (join (items_view (block_items x))) (same_block bs k b c (omega (arith, h)) is e)
-    ∙ sym (join_view (block_items x) (flat_map block_items bs))
+pub same_part : {X : Type 0} (f : X → List Json) (xs : List X) (k : ℕ) (x y : X) → k < length xs → x ≡ get_or xs k x → items_view (f y) ≡ items_view (f x)
+    → items_view (flat_map f (set xs k y)) ≡ items_view (flat_map f xs)
+same_part f [] k x y h is e = absurd (omega (arith, h))
+same_part f (z ∷ xs) zero x y h is e =
+    join_view (f y) (flat_map f xs) ∙ ap (λ d. join d (items_view (flat_map f xs))) (e ∙ ap (λ w. items_view (f w)) is) ∙ sym (join_view (f z) (flat_map f xs))
+same_part f (z ∷ xs) (suc k) x y h is e =
+    join_view (f z) (flat_map f (set xs k y)) ∙ ap (join (items_view (f z))) (same_part f xs k x y (omega (arith, h)) is e) ∙ sym (join_view (f z) (flat_map f xs))
+
+-- ---- the items of groups are those of their blocks
+
+flat_append : (bs cs : List (Block Json)) → flat_map block_items (bs ++ cs) ≡ flat_map block_items bs ++ flat_map block_items cs
+flat_append [] cs = refl
+flat_append (b ∷ bs) cs = ap (λ l. block_items b ++ l) (flat_append bs cs) ∙ sym (append_assoc (block_items b) (flat_map block_items bs) (flat_map block_items cs))
+
+pub group_parts : (gs : List (Group Json)) → flat_map block_items (flat_map blocks_of gs) ≡ flat_map group_items gs
+group_parts [] = refl
+group_parts (g ∷ gs) = flat_append (blocks_of g) (flat_map blocks_of gs) ∙ ap (λ l. group_items g ++ l) (group_parts gs)
+
+-- ---- a list whose items are seen the same
+
+views_seen : (vs : List Json) → map view vs ≡ map (λ s. s.0) (map seen vs)
+views_seen [] = refl
+views_seen (v ∷ vs) = ap (λ l. view v ∷ l) (views_seen vs)
+
+form_views : (w : Form Json) → form_view w ≡ items_of (map (λ s. s.0) (seen_form seen w))
+form_views w =
+    let l : Pieces Json = record { form = w } in
+    ap items_of (views_seen (items_in l)) ∙ ap (λ ss. items_of (map (λ s. s.0) ss)) (sym (seen_items_in seen l))
+
+pub same_form : (w x : Form Json) → seen_form seen x ≡ seen_form seen w → form_view x ≡ form_view w
+same_form w x e = form_views x ∙ ap (λ ss. items_of (map (λ s. s.0) ss)) e ∙ sym (form_views w)
 
 -- ---- one of several is no greater than all
 
@@ -41,20 +69,19 @@ join_size : (ds es : Items) → items_size (join ds es) ≡ items_size ds + item
 join_size no_items es = omega arith
 join_size (item d ds) es = let rest = join_size ds es in omega (arith, rest)
 
-first_size : (b : Block Json) (bs : List (Block Json))
-    → items_size (items_view (flat_map block_items (b ∷ bs))) ≡ items_size (items_view (block_items b)) + items_size (items_view (flat_map block_items bs))
-first_size b bs = ap items_size (join_view (block_items b) (flat_map block_items bs)) ∙ join_size (items_view (block_items b)) (items_view (flat_map block_items bs))
+first_size : (vs ws : List Json) → items_size (items_view (vs ++ ws)) ≡ items_size (items_view vs) + items_size (items_view ws)
+first_size vs ws = ap items_size (join_view vs ws) ∙ join_size (items_view vs) (items_view ws)
 
-pub block_within : (bs : List (Block Json)) (k : ℕ) (b : Block Json) → k < length bs → b ≡ get_or bs k b
-    → items_size (items_view (block_items b)) ≤ items_size (items_view (flat_map block_items bs))
-block_within [] k b h is = absurd (omega (arith, h))
-block_within (x ∷ bs) zero b h is =
-    let same : items_size (items_view (block_items b)) ≡ items_size (items_view (block_items x)) = ap (λ y. items_size (items_view (block_items y))) is in
-    let all = first_size x bs in
+pub part_within : {X : Type 0} (f : X → List Json) (xs : List X) (k : ℕ) (x : X) → k < length xs → x ≡ get_or xs k x
+    → items_size (items_view (f x)) ≤ items_size (items_view (flat_map f xs))
+part_within f [] k x h is = absurd (omega (arith, h))
+part_within f (z ∷ xs) zero x h is =
+    let same : items_size (items_view (f x)) ≡ items_size (items_view (f z)) = ap (λ y. items_size (items_view (f y))) is in
+    let all = first_size (f z) (flat_map f xs) in
     omega (arith, same, all)
-block_within (x ∷ bs) (suc k) b h is =
-    let rest = block_within bs k b (omega (arith, h)) is in
-    let all = first_size x bs in
+part_within f (z ∷ xs) (suc k) x h is =
+    let rest = part_within f xs k x (omega (arith, h)) is in
+    let all = first_size (f z) (flat_map f xs) in
     omega (arith, rest, all)
 
 -- where there is no value past the keys, the values are no greater than the object

@@ -1,5 +1,5 @@
 -- How much there is of a value: what a walk through it goes down by.
-use Rattle.std.proofs.Common.{◌≡◌, ℕ, zero, suc, ◌+◌, ◌≤◌, ◌<◌, List, [], ◌∷◌, ◌++◌, length, get_or, slice_get, Some, map, refl, ap, ◌∙◌, arith, rules}
+use Rattle.std.proofs.Common.{◌≡◌, ℕ, zero, suc, ◌+◌, ◌≤◌, ◌<◌, List, [], ◌∷◌, ◌++◌, length, get_or, map, refl, ap, ◌∙◌, arith, rules}
 use Rattle.std.specs.List.{flat_map, zip}
 use Rattle.sdb_pieces.specs.Block.{items_of as block_items}
 use Rattle.sdb_pieces.specs.declared.block.Block.{Block}
@@ -73,7 +73,7 @@ rest_below vs ws v n e h = let s : weights vs ≡ weight v + weights ws = ap wei
 pub members_rest_below : (es fs : List (List ℕ × Json)) (e : List ℕ × Json) (n : ℕ) → es ≡ e ∷ fs → members_weight es ≤ n → members_weight fs ≤ n
 members_rest_below es fs e n h k = let s : members_weight es ≡ weight e.1 + members_weight fs = ap members_weight h in omega (arith, s, k)
 
--- one of a list, and of a list of blocks, weighs no more than all
+-- one of a list, and the first of a list of blocks, weighs no more than all; nor do the others
 pub item_fits : (vs : List Json) (k : ℕ) (v : Json) → k < length vs → v ≡ get_or vs k v → weight v ≤ weights vs
 item_fits [] k v h is = absurd (omega (arith, h))
 item_fits (x ∷ vs) zero v h is = let same : weight v ≡ weight x = ap weight is in omega (arith, same)
@@ -83,17 +83,17 @@ weights_join : (vs ws : List Json) → weights (vs ++ ws) ≡ weights vs + weigh
 weights_join [] ws = omega arith
 weights_join (v ∷ vs) ws = let rest = weights_join vs ws in omega (arith, rest)
 
-pub block_fits : (bs : List (Block Json)) (k : ℕ) (b : Block Json) → slice_get bs k ≡ Some b → weights (block_items b) ≤ weights (flat_map block_items bs)
-block_fits [] k b is = cc
-block_fits (x ∷ bs) zero b is =
-    let same : x ≡ b = cc in
-    let first : weights (block_items x) ≡ weights (block_items b) = ap (λ y. weights (block_items y)) same in
-    let all = weights_join (block_items x) (flat_map block_items bs) in
-    omega (arith, first, all)
-block_fits (x ∷ bs) (suc k) b is =
-    let rest = block_fits bs k b is in
-    let all = weights_join (block_items x) (flat_map block_items bs) in
-    omega (arith, rest, all)
+pub first_fits : (bs cs : List (Block Json)) (b : Block Json) → bs ≡ b ∷ cs → weights (block_items b) ≤ weights (flat_map block_items bs)
+first_fits bs cs b e =
+    let s : weights (flat_map block_items bs) ≡ weights (block_items b ++ flat_map block_items cs) = ap (λ l. weights (flat_map block_items l)) e in
+    let all = weights_join (block_items b) (flat_map block_items cs) in
+    omega (arith, s, all)
+
+pub blocks_below : (bs cs : List (Block Json)) (b : Block Json) (n : ℕ) → bs ≡ b ∷ cs → weights (flat_map block_items bs) ≤ n → weights (flat_map block_items cs) ≤ n
+blocks_below bs cs b n e h =
+    let s : weights (flat_map block_items bs) ≡ weights (block_items b ++ flat_map block_items cs) = ap (λ l. weights (flat_map block_items l)) e in
+    let all = weights_join (block_items b) (flat_map block_items cs) in
+    omega (arith, s, all, h)
 
 -- one level of a list, and of an object: what it is, and what it weighs
 pub ruleset levels = (seen_list, seen_object, weigh_list, weigh_object, members_fit)

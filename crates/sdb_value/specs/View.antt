@@ -3,7 +3,9 @@ use Rattle.std.specs.Prelude.{ℕ, List, [], ◌∷◌, map, String, string_byte
 use Rattle.std.specs.declared.alloc.Global.{Global}
 use Rattle.std.specs.List.{flat_map}
 use Rattle.sdb_pieces.specs.Block.{items_of as block_items}
+use Rattle.sdb_pieces.specs.Group.{blocks_of}
 use Rattle.sdb_pieces.specs.Pieces.{seen_in, blocks_form, items_in}
+use Rattle.sdb_pieces.specs.declared.group.Group.{Group}
 use Rattle.sdb_pieces.specs.declared.pieces.Form.{Form}
 use Rattle.sdb_pieces.specs.declared.pieces.Pieces.{Pieces}
 use Rattle.sdb_members.specs.Members.{entries_in, entries_seen}
@@ -53,6 +55,10 @@ list_view l = items_view (items_in l)
 
 abbrev pub form_view : Form Json → Items
 form_view w = items_view (flat_map block_items (blocks_form w))
+
+-- the items of a group of blocks
+abbrev pub group_items : Group Json → List Json
+group_items g = flat_map block_items (blocks_of g)
 
 abbrev pub object_view : Held Json → Members
 object_view m = members_view (entries_in m)

@@ -2,7 +2,8 @@
 ghost use Rattle.std.specs.Prelude.{◌≡◌, true, false, IfOk, IfSome, IfNone};
 ghost use Rattle.std.specs.List.{flat_map};
 ghost use Rattle.sdb_pieces.specs.Block.{items_of, is_own as block_own, is_shared as block_shared};
-ghost use Rattle.sdb_pieces.specs.Pieces.{all_shared, blocks_in, is_shared_list};
+ghost use Rattle.sdb_pieces.specs.Pieces.{all_shared, blocks_in, is_in_groups, is_shared_list};
+ghost use Rattle.sdb_pieces.specs.declared.pieces.Pieces.{Pieces};
 ghost use Rattle.sdb_members.specs.Keys.{texts_in, is_own as keys_own, is_shared as keys_shared};
 ghost use Rattle.sdb_members.specs.Object.{is_shared as object_shared};
 ghost use Rattle.sdb_text.specs.Held.{bytes_in, is_own as text_own, is_shared as text_shared};
@@ -10,6 +11,7 @@ ghost use Rattle.sdb_value.specs.Copies.{IsCopied, block_all_own, blocks_all_own
 ghost use Rattle.sdb_value.specs.Owns.{is_own, is_pointer, items_own, list_own, held_own, object_own};
 ghost use Rattle.sdb_value.specs.View.{view, held_view, items_view, list_view, object_view};
 ghost use Rattle.sdb_value.specs.declared.copy.Manner.TheVariants.{Same};
+ghost use Rattle.sdb_value.specs.declared.value.Json.{Json};
 
 use crate::value::{Json, List, Members, Object};
 use sdb_members::Keys;
@@ -79,8 +81,9 @@ fn copy_list(alloc: Global, items: &List, manner: Manner) -> Result<List, AllocE
     if let Some(list) = list_pointer(items, manner)? {
         return Ok(list);
     }
-    let copies = copy_blocks(alloc, items, manner)?;
-    match manner {
+    let inner = blocks_manner(items, manner);
+    let copies = copy_blocks(alloc, items, inner)?;
+    match inner {
         Manner::Shared => Pieces::from_shared_blocks(alloc, copies),
         _ => Ok(Pieces::from_blocks(copies)),
     }
@@ -99,15 +102,28 @@ fn list_pointer(items: &List, manner: Manner) -> Result<Option<List>, AllocError
     }
 }
 
+// How the blocks of a list are copied. A list in groups isn't its own, and so its copy in blocks is shared.
+fn blocks_manner(items: &List, manner: Manner) -> Manner
+    ensures copied { (l : Pieces Json) → IsCopied result (list_own items.now) (list_own l) (is_shared_list l)
+        → IsCopied manner (list_own items.now) (list_own l) (is_shared_list l) }
+    ensures same { result ≡ Same → manner ≡ Same }
+    ensures in_blocks { result ≡ Same → is_in_groups items.now.form ≡ false }
+{
+    if items.is_in_groups() && matches!(manner, Manner::Same) {
+        return Manner::Shared;
+    }
+    manner
+}
+
 #[cycle(copy)]
 fn copy_blocks(alloc: Global, items: &List, manner: Manner) -> Result<Vec<Block<Json>>, AllocError>
     ensures items { IfOk result (λ v. items_view (flat_map items_of v.items) ≡ list_view items.now) }
     ensures own { IfOk result (λ v. IsCopied manner
         (blocks_all_own (blocks_in items.now)) (blocks_all_own v.items) (all_shared v.items)) }
 {
-    let mut copies = Vec::with_capacity(alloc, items.part_count())?;
-    for at in 0..items.part_count() {
-        copies.push(copy_block(alloc, items.block(at), manner)?)?;
+    let mut copies = Vec::new(alloc);
+    for block in items.blocks() {
+        copies.push(copy_block(alloc, block, manner)?)?;
     }
     Ok(copies)
 }

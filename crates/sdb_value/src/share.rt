@@ -5,10 +5,10 @@ ghost use Rattle.sdb_pieces.specs.Block.{items_of, is_shared as block_shared};
 ghost use Rattle.sdb_pieces.specs.Pieces.{is_shared_form, is_shared_list};
 ghost use Rattle.sdb_members.specs.Object.{is_shared as object_shared};
 ghost use Rattle.sdb_value.specs.Owns.{is_pointer};
-ghost use Rattle.sdb_value.specs.View.{view, form_view, held_view, items_view, list_view, object_view};
+ghost use Rattle.sdb_value.specs.View.{view, form_view, group_items, held_view, items_view, list_view, object_view};
 
 use crate::value::{Json, List, Members, Object};
-use sdb_pieces::{Block, Form, Pieces};
+use sdb_pieces::{Block, Form, Group, Pieces};
 use std::alloc::{AllocError, Global};
 use std::mem::replace;
 
@@ -71,20 +71,57 @@ fn share_form(alloc: Global, form: &mut Form<Json>) -> Result<(), AllocError>
     ensures items { form_view form.new ≡ form_view form.old }
     ensures shared { OnOk result (is_shared_form form.new ≡ true) }
 {
+    share_own_parts(alloc, form)?;
+    form.share_in_place(alloc)
+}
+
+// Makes what the list consists of shared, where the list isn't yet.
+#[cycle(share)]
+fn share_own_parts(alloc: Global, form: &mut Form<Json>) -> Result<(), AllocError>
+    ensures { form_view form.new ≡ form_view form.old }
+{
     match form {
-        Form::One(block) => share_block(alloc, block),
-        Form::Many(blocks) => share_blocks(alloc, blocks),
+        Form::One(block) => share_own_items(alloc, block),
+        Form::Many(blocks) => share_own_blocks(alloc, blocks),
+        Form::Groups(groups) => share_own_groups(alloc, groups),
+    }
+}
+
+// Makes the blocks of each group shared, where the list of the groups isn't yet.
+#[cycle(share)]
+fn share_own_groups(alloc: Global, groups: &mut Block<Group<Json>>) -> Result<(), AllocError>
+    ensures { items_view (flat_map group_items (items_of groups.new))
+        ≡ items_view (flat_map group_items (items_of groups.old)) }
+{
+    match groups {
+        Block::Own(groups) => share_each_group(alloc, groups),
+        Block::Shared(_) => Ok(()),
     }
 }
 
 #[cycle(share)]
-fn share_blocks(alloc: Global, blocks: &mut Block<Block<Json>>) -> Result<(), AllocError>
-    ensures items { items_view (flat_map items_of (items_of blocks.new))
-        ≡ items_view (flat_map items_of (items_of blocks.old)) }
-    ensures shared { OnOk result (block_shared blocks.new ≡ true) }
+fn share_each_group(alloc: Global, groups: &mut Vec<Group<Json>>) -> Result<(), AllocError>
+    ensures { items_view (flat_map group_items groups.new.items) ≡ items_view (flat_map group_items groups.old.items) }
 {
-    share_own_blocks(alloc, blocks)?;
-    blocks.share_in_place(alloc)
+    for at in 0..groups.len() {
+        share_group(alloc, &mut groups[at])?;
+    }
+    Ok(())
+}
+
+// Makes each block of a group shared, where the group isn't yet.
+#[cycle(share)]
+fn share_group(alloc: Global, group: &mut Group<Json>) -> Result<(), AllocError>
+    ensures { items_view (group_items group.new) ≡ items_view (group_items group.old) }
+{
+    if group.is_shared() {
+        return Ok(());
+    }
+    let empty = Group::new(Block::Own(Vec::new(alloc)));
+    let mut blocks = replace(group, empty).into_blocks();
+    let done = share_own_blocks(alloc, &mut blocks);
+    *group = Group::new(blocks);
+    done
 }
 
 // Makes each block shared, where the list of them isn't yet.

@@ -10,7 +10,7 @@ returns-then-len-eq0-clause-same g c =
     let d = c.index.result.now in
     let none : length (items_of d) ≡ 0 = sym c.len.ensures ∙ c.if-len-eq0.true in
     ap (joined f) c.remove.ensures.items
-    ∙ joined_without f c.args.blocks.now.items c.args.at d c.requires (ap (seen_items f) (sym c.index.ensures) ∙ map_none f (items_of d) none)
+    ∙ joined_without (seen_items f) c.args.blocks.now.items c.args.at d c.requires (ap (seen_items f) (sym c.index.ensures) ∙ map_none f (items_of d) none)
 
 pub returns-then-len-eq0-clause-own : goal.returns-then-len-eq0-clause-own
 returns-then-len-eq0-clause-own g c = λ all. ap all_own c.remove.ensures.items ∙ own_remove c.args.blocks.now.items c.args.at all

@@ -14,8 +14,8 @@ returns-in_err-insert_in-in-Some-clause-err g c =
     let bs = c.args.blocks.now.items in
     let k = c.in-Some.at in
     let d = c.index_mut.result.now in
-    let at = subst (λ l. IsPlace f l c.args.index k c.in-Some.inside) c.deref.ensures.value c.in-Some.ensures.place in
-    on_err c.from_residual.result (joined_same f bs k c.insert_in.new.block d at.inside (c.in_err-insert_in-in-Some.ensures.err ∙ ap (seen_items f) c.index_mut.ensures.value))
+    let at = subst (λ l. IsPlace (seen_items f) l c.args.index k c.in-Some.inside) c.deref.ensures.value c.in-Some.ensures.place in
+    on_err c.from_residual.result (joined_same (seen_items f) bs k c.insert_in.new.block d at.inside (c.in_err-insert_in-in-Some.ensures.err ∙ ap (seen_items f) c.index_mut.ensures.value))
 
 pub returns-in_err-insert_in-in-Some-clause-own : goal.returns-in_err-insert_in-in-Some-clause-own
 returns-in_err-insert_in-in-Some-clause-own g c =
@@ -23,7 +23,7 @@ returns-in_err-insert_in-in-Some-clause-own g c =
     let bs = c.args.blocks.now.items in
     let k = c.in-Some.at in
     let d = c.index_mut.result.now in
-    let at = subst (λ l. IsPlace f l c.args.index k c.in-Some.inside) c.deref.ensures.value c.in-Some.ensures.place in
+    let at = subst (λ l. IsPlace (seen_items f) l c.args.index k c.in-Some.inside) c.deref.ensures.value c.in-Some.ensures.place in
     own_changed bs k c.insert_in.new.block d at.inside c.index_mut.ensures.value c.in_err-insert_in-in-Some.ensures.own
 
 pub returns-in_ok-insert_in-in-Some-clause-ok : goal.returns-in_ok-insert_in-in-Some-clause-ok
@@ -32,8 +32,8 @@ returns-in_ok-insert_in-in-Some-clause-ok g c =
     let bs = c.args.blocks.now.items in
     let k = c.in-Some.at in
     let d = c.index_mut.result.now in
-    let at = subst (λ l. IsPlace f l c.args.index k c.in-Some.inside) c.deref.ensures.value c.in-Some.ensures.place in
-    joined_insert f bs c.args.index k c.in-Some.inside (f c.args.item) c.insert_in.new.block d at
+    let at = subst (λ l. IsPlace (seen_items f) l c.args.index k c.in-Some.inside) c.deref.ensures.value c.in-Some.ensures.place in
+    joined_insert (seen_items f) bs c.args.index k c.in-Some.inside (f c.args.item) c.insert_in.new.block d at
     (c.in_ok-insert_in-in-Some.ensures.ok ∙ ap (λ b. insert (seen_items f b) c.in-Some.inside (f c.args.item)) c.index_mut.ensures.value)
 
 pub returns-in_ok-insert_in-in-Some-clause-within : goal.returns-in_ok-insert_in-in-Some-clause-within
@@ -42,8 +42,8 @@ returns-in_ok-insert_in-in-Some-clause-within g c =
     let bs = c.args.blocks.now.items in
     let k = c.in-Some.at in
     let d = c.index_mut.result.now in
-    let at = subst (λ l. IsPlace f l c.args.index k c.in-Some.inside) c.deref.ensures.value c.in-Some.ensures.place in
-    sym (le-leb c.args.index (length (joined f bs)) (place_within f bs c.args.index k c.in-Some.inside d at))
+    let at = subst (λ l. IsPlace (seen_items f) l c.args.index k c.in-Some.inside) c.deref.ensures.value c.in-Some.ensures.place in
+    sym (le-leb c.args.index (length (joined f bs)) (place_within (seen_items f) bs c.args.index k c.in-Some.inside d at))
 
 pub returns-in_ok-insert_in-in-Some-clause-own : goal.returns-in_ok-insert_in-in-Some-clause-own
 returns-in_ok-insert_in-in-Some-clause-own g c =
@@ -51,7 +51,7 @@ returns-in_ok-insert_in-in-Some-clause-own g c =
     let bs = c.args.blocks.now.items in
     let k = c.in-Some.at in
     let d = c.index_mut.result.now in
-    let at = subst (λ l. IsPlace f l c.args.index k c.in-Some.inside) c.deref.ensures.value c.in-Some.ensures.place in
+    let at = subst (λ l. IsPlace (seen_items f) l c.args.index k c.in-Some.inside) c.deref.ensures.value c.in-Some.ensures.place in
     own_changed bs k c.insert_in.new.block d at.inside c.index_mut.ensures.value c.in_ok-insert_in-in-Some.ensures.own
 
 pub returns-in_ok-insert_in-in-Some-clause-now_own : goal.returns-in_ok-insert_in-in-Some-clause-now_own
@@ -62,7 +62,7 @@ returns-in_ok-insert_in-in-Some-clause-now_own g c =
     let i = c.in-Some.inside in
     let d = c.index_mut.result.now in
     let a = c.insert_in.new.block in
-    let at = subst (λ l. IsPlace f l c.args.index k i) c.deref.ensures.value c.in-Some.ensures.place in
+    let at = subst (λ l. IsPlace (seen_items f) l c.args.index k i) c.deref.ensures.value c.in-Some.ensures.place in
     let was : d ≡ get_or bs k d = c.index_mut.ensures.value in
     let put : map f (items_of a) ≡ insert (map f (items_of (get_or bs k d))) i (f c.args.item) =
     c.in_ok-insert_in-in-Some.ensures.ok ∙ ap (λ b. insert (map f (items_of b)) i (f c.args.item)) was in

@@ -13,11 +13,11 @@ returns-in-Own g c =
     let k = c.in_ok-at.at in
     let i = c.in_ok-at.inside in
     let d = c.in_ok-items.field-0.now in
-    let at = subst (λ l. IsItem f l c.args.index k i) c.deref.ensures.value c.in_ok-at.ensures.item in
+    let at = subst (λ l. IsItem (seen_items f) l c.args.index k i) c.deref.ensures.value c.in_ok-at.ensures.item in
     let is : d ≡ get_or bs k d = c.in_ok-items.ensures.value in
     let e = c.get_mut-in-Own.ensures.item in
     λ _. seen_of_mut f c.get_mut-in-Own.result c.in-Own.items.items i e.0 e.1
-    ∙ ap (λ b. slice_get (seen_items f b) i) (sym c.in-Own.is ∙ is) ∙ joined_get f bs c.args.index k i d at
+    ∙ ap (λ b. slice_get (seen_items f b) i) (sym c.in-Own.is ∙ is) ∙ joined_get (seen_items f) bs c.args.index k i d at
 
 pub returns-in-Shared : goal.returns-in-Shared
 returns-in-Shared g c =
@@ -26,7 +26,7 @@ returns-in-Shared g c =
     let k = c.in_ok-at.at in
     let i = c.in_ok-at.inside in
     let d = c.in_ok-items.field-0.now in
-    let at = subst (λ l. IsItem f l c.args.index k i) c.deref.ensures.value c.in_ok-at.ensures.item in
+    let at = subst (λ l. IsItem (seen_items f) l c.args.index k i) c.deref.ensures.value c.in_ok-at.ensures.item in
     let is : d ≡ get_or bs k d = c.in_ok-items.ensures.value in
     let within : i < length (items_of (get_or bs k d)) = omega (arith, at.within d, length-map (items_of (get_or bs k d)) f) in
     λ t. absurd (cc_false (own_among bs c.args.index) t

@@ -12,8 +12,8 @@ returns-in_err-old-clause-err g c =
     let bs = c.args.blocks.now.items in
     let k = c.in-Some.at in
     let d = c.index_mut.result.now in
-    let at = subst (λ l. IsItem f l c.args.index k c.in-Some.inside) c.deref.ensures.value c.in-Some.ensures.item in
-    on_err c.from_residual.result (joined_same f bs k c.replace_in.new.block d at.inside (c.in_err-old.ensures.err ∙ ap (seen_items f) c.index_mut.ensures.value))
+    let at = subst (λ l. IsItem (seen_items f) l c.args.index k c.in-Some.inside) c.deref.ensures.value c.in-Some.ensures.item in
+    on_err c.from_residual.result (joined_same (seen_items f) bs k c.replace_in.new.block d at.inside (c.in_err-old.ensures.err ∙ ap (seen_items f) c.index_mut.ensures.value))
 
 pub returns-in_err-old-clause-own : goal.returns-in_err-old-clause-own
 returns-in_err-old-clause-own g c =
@@ -21,7 +21,7 @@ returns-in_err-old-clause-own g c =
     let bs = c.args.blocks.now.items in
     let k = c.in-Some.at in
     let d = c.index_mut.result.now in
-    let at = subst (λ l. IsItem f l c.args.index k c.in-Some.inside) c.deref.ensures.value c.in-Some.ensures.item in
+    let at = subst (λ l. IsItem (seen_items f) l c.args.index k c.in-Some.inside) c.deref.ensures.value c.in-Some.ensures.item in
     own_changed bs k c.replace_in.new.block d at.inside c.index_mut.ensures.value c.in_err-old.ensures.own
 
 pub returns-in_err-old-clause-shared : goal.returns-in_err-old-clause-shared
@@ -30,7 +30,7 @@ returns-in_err-old-clause-shared g c =
     let bs = c.args.blocks.now.items in
     let k = c.in-Some.at in
     let d = c.index_mut.result.now in
-    let at = subst (λ l. IsItem f l c.args.index k c.in-Some.inside) c.deref.ensures.value c.in-Some.ensures.item in
+    let at = subst (λ l. IsItem (seen_items f) l c.args.index k c.in-Some.inside) c.deref.ensures.value c.in-Some.ensures.item in
     let within : c.in-Some.inside < length (items_of (get_or bs k d)) = omega (arith, at.within d, length-map (items_of (get_or bs k d)) f) in
     on_err c.from_residual.result (among_here f bs c.args.index k c.in-Some.inside d at.inside at.sum within ∙ sym (ap is_own c.index_mut.ensures.value) ∙ c.in_err-old.ensures.shared)
 
@@ -40,8 +40,8 @@ returns-clause-item g c =
     let bs = c.args.blocks.now.items in
     let k = c.in-Some.at in
     let d = c.index_mut.result.now in
-    let at = subst (λ l. IsItem f l c.args.index k c.in-Some.inside) c.deref.ensures.value c.in-Some.ensures.item in
-    c.in_ok-old.ensures.item ∙ ap (λ b. slice_get (seen_items f b) c.in-Some.inside) c.index_mut.ensures.value ∙ joined_get f bs c.args.index k c.in-Some.inside d at
+    let at = subst (λ l. IsItem (seen_items f) l c.args.index k c.in-Some.inside) c.deref.ensures.value c.in-Some.ensures.item in
+    c.in_ok-old.ensures.item ∙ ap (λ b. slice_get (seen_items f b) c.in-Some.inside) c.index_mut.ensures.value ∙ joined_get (seen_items f) bs c.args.index k c.in-Some.inside d at
 
 pub returns-clause-ok : goal.returns-clause-ok
 returns-clause-ok g c =
@@ -49,8 +49,8 @@ returns-clause-ok g c =
     let bs = c.args.blocks.now.items in
     let k = c.in-Some.at in
     let d = c.index_mut.result.now in
-    let at = subst (λ l. IsItem f l c.args.index k c.in-Some.inside) c.deref.ensures.value c.in-Some.ensures.item in
-    joined_replace f bs c.args.index k c.in-Some.inside (f c.args.item) c.replace_in.new.block d at
+    let at = subst (λ l. IsItem (seen_items f) l c.args.index k c.in-Some.inside) c.deref.ensures.value c.in-Some.ensures.item in
+    joined_replace (seen_items f) bs c.args.index k c.in-Some.inside (f c.args.item) c.replace_in.new.block d at
     (c.in_ok-old.ensures.ok ∙ ap (λ b. set (seen_items f b) c.in-Some.inside (f c.args.item)) c.index_mut.ensures.value)
 
 pub returns-clause-own : goal.returns-clause-own
@@ -59,7 +59,7 @@ returns-clause-own g c =
     let bs = c.args.blocks.now.items in
     let k = c.in-Some.at in
     let d = c.index_mut.result.now in
-    let at = subst (λ l. IsItem f l c.args.index k c.in-Some.inside) c.deref.ensures.value c.in-Some.ensures.item in
+    let at = subst (λ l. IsItem (seen_items f) l c.args.index k c.in-Some.inside) c.deref.ensures.value c.in-Some.ensures.item in
     own_changed bs k c.replace_in.new.block d at.inside c.index_mut.ensures.value c.in_ok-old.ensures.own
 
 pub returns-clause-now_own : goal.returns-clause-now_own
@@ -69,7 +69,7 @@ returns-clause-now_own g c =
     let k = c.in-Some.at in
     let d = c.index_mut.result.now in
     let a = c.replace_in.new.block in
-    let at = subst (λ l. IsItem f l c.args.index k c.in-Some.inside) c.deref.ensures.value c.in-Some.ensures.item in
+    let at = subst (λ l. IsItem (seen_items f) l c.args.index k c.in-Some.inside) c.deref.ensures.value c.in-Some.ensures.item in
     let was : d ≡ get_or bs k d = c.index_mut.ensures.value in
     let m = ap length c.in_ok-old.ensures.ok ∙ length-set (map f (items_of d)) c.in-Some.inside (f c.args.item) ∙ ap (λ b. length (map f (items_of b))) was in
     let within : c.in-Some.inside < length (items_of a) = omega (arith, at.within d, m, length-map (items_of a) f) in

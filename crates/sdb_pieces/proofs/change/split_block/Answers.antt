@@ -16,7 +16,7 @@ returns-in_err-high-clause-same g c =
     let put : c.insert.new.self.items ≡ insert bs (k + 1) e = c.in_ok-insert.ensures.items in
     let is : d ≡ get_or bs k d = c.index_mut.ensures.value ∙ ap (λ l. get_or l k d) put ∙ get_before bs k e d c.requires in
     let a = c.upper_half.new.block in
-    ap (λ l. joined f (set l k a)) put ∙ joined_spare f bs k a d e c.requires (ap (map f) c.new.ensures.items) (c.in_err-high.ensures.err ∙ ap (seen_items f) is)
+    ap (λ l. joined f (set l k a)) put ∙ joined_spare (seen_items f) bs k a d e c.requires (ap (map f) c.new.ensures.items) (c.in_err-high.ensures.err ∙ ap (seen_items f) is)
 
 pub returns-in_err-high-clause-own : goal.returns-in_err-high-clause-own
 returns-in_err-high-clause-own g c =
@@ -43,7 +43,7 @@ returns-clause-same g c =
     let b = c.in_ok-high.high in
     let m = length (items_of d) / 2 in
     ap (λ l. joined f (set (set l k a) (k + 1) b)) put
-    ∙ joined_split f bs k m a b d e c.requires (c.in_ok-high.ensures.low ∙ ap (λ x. take m (seen_items f x)) is) (c.in_ok-high.ensures.high ∙ ap (λ x. drop m (seen_items f x)) is)
+    ∙ joined_split (seen_items f) bs k m a b d e c.requires (c.in_ok-high.ensures.low ∙ ap (λ x. take m (seen_items f x)) is) (c.in_ok-high.ensures.high ∙ ap (λ x. drop m (seen_items f x)) is)
 
 pub returns-clause-own : goal.returns-clause-own
 returns-clause-own g c =

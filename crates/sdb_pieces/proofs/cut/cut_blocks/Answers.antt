@@ -1,4 +1,4 @@
-use Rattle.std.proofs.Common.{◌-◌, length, refl, ap, ◌∙◌}
+use Rattle.std.proofs.Common.{refl, ap, ◌∙◌}
 use Rattle.sdb_pieces.specs.Pieces.{all_own}
 use Rattle.sdb_pieces.specs.declared.block.Block.TheVariants.{Own}
 use Rattle.sdb_pieces.proofs.Joined.{own_more, own_reverse, cut_off}

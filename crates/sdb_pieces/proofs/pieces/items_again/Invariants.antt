@@ -1,8 +1,7 @@
-use Rattle.std.proofs.Common.{◌≡◌, take, map}
-use Rattle.std.specs.List.{flat_map}
-use Rattle.sdb_pieces.specs.Pieces.{parts_in}
+use Rattle.std.proofs.Common.{◌≡◌, ◌++◌, map}
+use Rattle.sdb_pieces.specs.Iter.{rest}
+use Rattle.sdb_pieces.specs.Pieces.{items_in}
 use Rattle.sdb_pieces.proofs.pieces.items_again.Given as goal
 
-abbrev pub invariant-loop-at : goal.invariant-loop-at
-invariant-loop-at g l =
-    map g.T.Share.seen l.items.items ≡ map g.T.Share.seen (flat_map (λ xs. xs) (take l.at (parts_in l.list)))
+abbrev pub invariant-loop-item : goal.invariant-loop-item
+invariant-loop-item g l = map g.T.Share.seen l.items.items ++ map g.T.Share.seen (rest l.item-iterator) ≡ map g.T.Share.seen (items_in l.list)

@@ -8,11 +8,53 @@ use Rattle.sdb_pieces.specs.Laws.{seen_items_in}
 use Rattle.sdb_pieces.specs.Pieces.{items_in, seen_in}
 use Rattle.sdb_value.specs.Owns.{seen}
 use Rattle.sdb_value.specs.Size.{items_size}
-use Rattle.sdb_value.specs.View.{items_view}
+use Rattle.sdb_value.specs.View.{form_view, group_items, items_view}
 use Rattle.sdb_value.specs.declared.value.Json.{Json}
 use Rattle.sdb_value.proofs.Pairs.{same_object}
-use Rattle.sdb_value.proofs.Sharing.{block_within, item_within, none_found, same_block, same_item, values_within}
+use Rattle.sdb_value.proofs.Sharing.{group_parts, item_within, none_found, part_within, same_form, same_item, same_part, values_within}
 use Rattle.sdb_value.proofs.share.+share.Goals as goal
+
+-- ---- the list of them
+
+pub share_form-returns-clause-items : goal.share_form-returns-clause-items
+share_form-returns-clause-items t c = same_form c.share_own_parts.new.form c.share_in_place.new.self c.share_in_place.ensures.same ∙ c.share_own_parts.ensures
+
+pub share_own_parts-share_own_groups-requires : goal.share_own_parts-share_own_groups-requires
+share_own_parts-share_own_groups-requires t c =
+    let gs = items_of c.in-Groups.groups in
+    let same : items_size (form_view c.args.form.now) ≡ items_size (items_view (flat_map group_items gs)) =
+    ap (λ w. items_size (form_view w)) c.in-Groups.is ∙ ap (λ vs. items_size (items_view vs)) (group_parts gs) in
+    (omega (arith, same, c.decreases), tt)
+
+pub share_own_parts-returns-in-Groups : goal.share_own_parts-returns-in-Groups
+share_own_parts-returns-in-Groups t c =
+    ap items_view (group_parts (items_of c.share_own_groups.new.groups)) ∙ c.share_own_groups.ensures
+    ∙ sym (ap form_view c.in-Groups.is ∙ ap items_view (group_parts (items_of c.in-Groups.groups)))
+
+-- ---- one group of several
+
+pub share_each_group-share_group-requires : goal.share_each_group-share_group-requires
+share_each_group-share_group-requires t c =
+    let gs = c.loop-at.groups.items in
+    let inside : c.loop-at.at < length gs = omega (arith, c.loop-at-test.true, c.len-at-end.ensures, c.loop-at.invariant.count) in
+    let below = part_within group_items gs c.loop-at.at c.index_mut.result.now inside c.index_mut.ensures.value in
+    let same : items_size (items_view (flat_map group_items gs)) ≡ items_size (items_view (flat_map group_items c.args.groups.now.items)) = ap items_size c.loop-at.invariant.same in
+    (omega (arith, below, same, c.decreases), tt)
+
+pub share_each_group-returns-in_err-share_group : goal.share_each_group-returns-in_err-share_group
+share_each_group-returns-in_err-share_group t c =
+    let gs = c.loop-at.groups.items in
+    let inside : c.loop-at.at < length gs = omega (arith, c.loop-at-test.true, c.len-at-end.ensures, c.loop-at.invariant.count) in
+    same_part group_items gs c.loop-at.at c.index_mut.result.now c.share_group.new.group inside c.index_mut.ensures.value c.share_group.ensures ∙ c.loop-at.invariant.same
+
+pub share_each_group-loop-at-preserved : goal.share_each_group-loop-at-preserved
+share_each_group-loop-at-preserved t c =
+    let gs = c.loop-at.groups.items in
+    let inside : c.loop-at.at < length gs = omega (arith, c.loop-at-test.true, c.len-at-end.ensures, c.loop-at.invariant.count) in
+    record {
+      same = same_part group_items gs c.loop-at.at c.index_mut.result.now c.share_group.new.group inside c.index_mut.ensures.value c.share_group.ensures ∙ c.loop-at.invariant.same;
+      count = length-set gs c.loop-at.at c.share_group.new.group ∙ c.loop-at.invariant.count;
+    }
 
 -- ---- one block of several
 
@@ -20,7 +62,7 @@ pub share_each_block-share_block-requires : goal.share_each_block-share_block-re
 share_each_block-share_block-requires t c =
     let bs = c.loop-at.blocks.items in
     let inside : c.loop-at.at < length bs = omega (arith, c.loop-at-test.true, c.len-at-end.ensures, c.loop-at.invariant.count) in
-    let below = block_within bs c.loop-at.at c.index_mut.result.now inside c.index_mut.ensures.value in
+    let below = part_within items_of bs c.loop-at.at c.index_mut.result.now inside c.index_mut.ensures.value in
     let same : items_size (items_view (flat_map items_of bs)) ≡ items_size (items_view (flat_map items_of c.args.blocks.now.items)) = ap items_size c.loop-at.invariant.same in
     (omega (arith, below, same, c.decreases), tt)
 
@@ -28,14 +70,14 @@ pub share_each_block-returns-in_err-share_block : goal.share_each_block-returns-
 share_each_block-returns-in_err-share_block t c =
     let bs = c.loop-at.blocks.items in
     let inside : c.loop-at.at < length bs = omega (arith, c.loop-at-test.true, c.len-at-end.ensures, c.loop-at.invariant.count) in
-    same_block bs c.loop-at.at c.index_mut.result.now c.share_block.new.block inside c.index_mut.ensures.value c.share_block.ensures.items ∙ c.loop-at.invariant.same
+    same_part items_of bs c.loop-at.at c.index_mut.result.now c.share_block.new.block inside c.index_mut.ensures.value c.share_block.ensures.items ∙ c.loop-at.invariant.same
 
 pub share_each_block-loop-at-preserved : goal.share_each_block-loop-at-preserved
 share_each_block-loop-at-preserved t c =
     let bs = c.loop-at.blocks.items in
     let inside : c.loop-at.at < length bs = omega (arith, c.loop-at-test.true, c.len-at-end.ensures, c.loop-at.invariant.count) in
     record {
-      same = same_block bs c.loop-at.at c.index_mut.result.now c.share_block.new.block inside c.index_mut.ensures.value c.share_block.ensures.items ∙ c.loop-at.invariant.same;
+      same = same_part items_of bs c.loop-at.at c.index_mut.result.now c.share_block.new.block inside c.index_mut.ensures.value c.share_block.ensures.items ∙ c.loop-at.invariant.same;
       count = length-set bs c.loop-at.at c.share_block.new.block ∙ c.loop-at.invariant.count;
     }
 

@@ -2,47 +2,62 @@ use Rattle.std.proofs.Common.{◌≡◌, ◌+◌, ◌*◌, length}
 use Rattle.std.specs.List.{flat_map}
 use Rattle.sdb_pieces.specs.Block.{items_of}
 use Rattle.sdb_value.specs.Size.{size, items_size, members_size}
-use Rattle.sdb_value.specs.View.{view, form_view, held_view, items_view, list_view, object_view}
+use Rattle.sdb_value.specs.View.{view, form_view, group_items, held_view, items_view, list_view, object_view}
 use Rattle.sdb_value.proofs.share.+share.Given as goal
 
 abbrev pub decreases-share : goal.decreases-share
-decreases-share l = 15 * size (view l.value.now) + 1
+decreases-share l = 20 * size (view l.value.now) + 1
 
 abbrev pub decreases-share_parts : goal.decreases-share_parts
-decreases-share_parts l = 15 * size (view l.value.now)
+decreases-share_parts l = 20 * size (view l.value.now)
 
 abbrev pub decreases-share_list : goal.decreases-share_list
-decreases-share_list l = 15 * items_size (list_view l.items.now) + 11
+decreases-share_list l = 20 * items_size (list_view l.items.now) + 14
 
 abbrev pub decreases-share_form : goal.decreases-share_form
-decreases-share_form l = 15 * items_size (form_view l.form.now) + 10
+decreases-share_form l = 20 * items_size (form_view l.form.now) + 13
 
-abbrev pub decreases-share_blocks : goal.decreases-share_blocks
-decreases-share_blocks l = 15 * items_size (items_view (flat_map items_of (items_of l.blocks.now))) + 9
+abbrev pub decreases-share_own_parts : goal.decreases-share_own_parts
+decreases-share_own_parts l = 20 * items_size (form_view l.form.now) + 12
+
+abbrev pub decreases-share_own_groups : goal.decreases-share_own_groups
+decreases-share_own_groups l = 20 * items_size (items_view (flat_map group_items (items_of l.groups.now))) + 11
+
+abbrev pub decreases-share_each_group : goal.decreases-share_each_group
+decreases-share_each_group l = 20 * items_size (items_view (flat_map group_items l.groups.now.items)) + 10
+
+abbrev pub decreases-share_group : goal.decreases-share_group
+decreases-share_group l = 20 * items_size (items_view (group_items l.group.now)) + 9
 
 abbrev pub decreases-share_own_blocks : goal.decreases-share_own_blocks
-decreases-share_own_blocks l = 15 * items_size (items_view (flat_map items_of (items_of l.blocks.now))) + 8
+decreases-share_own_blocks l = 20 * items_size (items_view (flat_map items_of (items_of l.blocks.now))) + 8
 
 abbrev pub decreases-share_each_block : goal.decreases-share_each_block
-decreases-share_each_block l = 15 * items_size (items_view (flat_map items_of l.blocks.now.items)) + 7
+decreases-share_each_block l = 20 * items_size (items_view (flat_map items_of l.blocks.now.items)) + 7
 
 abbrev pub decreases-share_block : goal.decreases-share_block
-decreases-share_block l = 15 * items_size (items_view (items_of l.block.now)) + 6
+decreases-share_block l = 20 * items_size (items_view (items_of l.block.now)) + 6
 
 abbrev pub decreases-share_own_items : goal.decreases-share_own_items
-decreases-share_own_items l = 15 * items_size (items_view (items_of l.block.now)) + 5
+decreases-share_own_items l = 20 * items_size (items_view (items_of l.block.now)) + 5
 
 abbrev pub decreases-share_each_item : goal.decreases-share_each_item
-decreases-share_each_item l = 15 * items_size (items_view l.items.now.items) + 4
+decreases-share_each_item l = 20 * items_size (items_view l.items.now.items) + 4
 
 abbrev pub decreases-share_object : goal.decreases-share_object
-decreases-share_object l = 15 * members_size (held_view l.object.now) + 14
+decreases-share_object l = 20 * members_size (held_view l.object.now) + 17
 
 abbrev pub decreases-share_own_members : goal.decreases-share_own_members
-decreases-share_own_members l = 15 * members_size (held_view l.object.now) + 13
+decreases-share_own_members l = 20 * members_size (held_view l.object.now) + 16
 
 abbrev pub decreases-share_members : goal.decreases-share_members
-decreases-share_members l = 15 * members_size (object_view l.members.now) + 12
+decreases-share_members l = 20 * members_size (object_view l.members.now) + 15
+
+abbrev pub invariant-share_each_group-loop-at : goal.invariant-share_each_group-loop-at
+invariant-share_each_group-loop-at l = record {
+  same : items_view (flat_map group_items l.groups.items) ≡ items_view (flat_map group_items l.initial.groups.items);
+  count : length l.groups.items ≡ length l.initial.groups.items;
+}
 
 abbrev pub invariant-share_each_block-loop-at : goal.invariant-share_each_block-loop-at
 invariant-share_each_block-loop-at l = record {
