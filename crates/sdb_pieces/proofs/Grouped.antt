@@ -170,6 +170,19 @@ module _ {X S : Type 0} (f : X → S) where
       let z : suc i + m ≡ suc (i + m) = omega arith in
       ap (λ k. take k (x ∷ xs)) z ∙ ap (λ l. x ∷ l) (take_next xs i m)
 
+  map_append : (xs ys : List X) → map f (xs ++ ys) ≡ map f xs ++ map f ys
+  map_append [] ys = refl
+  map_append (x ∷ xs) ys = ap (λ l. f x ∷ l) (map_append xs ys)
+
+  -- the next items in a block of their own
+  pub part_next : (ps bs all : List (Block X)) (xs us : List X) (b : Block X) (i m n : ℕ) → joined f bs ≡ joined f ps ++ map f (take i xs) → all ≡ bs ++ b ∷ [] → items_of b ≡ us
+      → map f us ≡ map f (take n (drop i xs)) → n ≡ m → joined f all ≡ joined f ps ++ map f (take (i + m) xs)
+  part_next ps bs all xs us b i m n before pushed is seen count =
+      let here : map f (items_of b) ≡ map f (take m (drop i xs)) = ap (map f) is ∙ seen ∙ ap (λ k. map f (take k (drop i xs))) count in
+      ap (joined f) pushed ∙ joined_append (seen_items f) bs (b ∷ []) ∙ ap (λ l. joined f bs ++ l) (append_none (map f (items_of b)) ∙ here)
+      ∙ ap (λ l. l ++ map f (take m (drop i xs))) before ∙ append_assoc (joined f ps) (map f (take i xs)) (map f (take m (drop i xs)))
+      ∙ ap (λ l. joined f ps ++ l) (sym (map_append (take i xs) (take m (drop i xs))) ∙ ap (map f) (sym (take_next xs i m)))
+
   groups_append : (gs : List (Group X)) (g : Group X) → joined_groups f (gs ++ g ∷ []) ≡ joined_groups f gs ++ seen_group f g
   groups_append [] g = append_none (seen_group f g)
   groups_append (h ∷ gs) g = ap (λ l. seen_group f h ++ l) (groups_append gs g) ∙ sym (append_assoc (seen_group f h) (joined_groups f gs) (seen_group f g))

@@ -22,6 +22,17 @@ pub(crate) fn bound(blocks: usize) -> usize {
     blocks.clamp(FEW, MANY)
 }
 
+// The same for a list of so many items that is cut into blocks.
+pub(crate) fn bound_for(items: usize) -> usize
+    ensures { 0 < result }
+{
+    let mut bound = FEW;
+    while bound < MANY && items / bound > bound {
+        bound *= 2;
+    }
+    bound
+}
+
 // The block where an item can be put at the index, and the place in it. `None` where there is none.
 fn place<T: Share>(blocks: &[Block<T>], index: usize) -> Option<(usize, usize)>
     ensures place { IfSome result (λ r. IsPlace (seen_items T.seen) blocks.now index r.0 r.1) }

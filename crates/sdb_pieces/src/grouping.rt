@@ -1,8 +1,8 @@
 //! Lists made shared: a long list's blocks are put in groups.
-ghost use Rattle.std.specs.Prelude.{◌≡◌, ◌<◌, true, IfOk, IfSome, OnOk};
+ghost use Rattle.std.specs.Prelude.{◌≡◌, ◌<◌, ◌++◌, true, map, IfOk, IfSome, OnOk};
 ghost use Rattle.sdb_pieces.specs.Block.{items_of, is_shared};
 ghost use Rattle.sdb_pieces.specs.Group.{joined_groups};
-ghost use Rattle.sdb_pieces.specs.Pieces.{joined, seen_form, is_shared_form};
+ghost use Rattle.sdb_pieces.specs.Pieces.{joined, seen_items, seen_form, is_shared_form};
 
 use crate::block::{Block, Share, copies};
 use crate::change::FEW;
@@ -19,6 +19,52 @@ fn group_size(blocks: usize) -> usize
         size *= 2;
     }
     size
+}
+
+// Has the items of a block again, behind others, in blocks of at most 32: by a pointer where it is such and shared.
+fn push_short<T: Share>(
+    alloc: Global,
+    blocks: &mut Vec<Block<T>>,
+    block: &Block<T>,
+) -> Result<(), AllocError>
+    ensures { OnOk result (joined T.seen blocks.new.items
+        ≡ joined T.seen blocks.old.items ++ seen_items T.seen block.now) }
+{
+    if block.len() <= FEW {
+        blocks.push(block.share(alloc)?)?;
+        return Ok(());
+    }
+    push_parts(alloc, blocks, block.items())
+}
+
+// Has the items again, in blocks of 32 that are shared.
+fn push_parts<T: Share>(
+    alloc: Global,
+    blocks: &mut Vec<Block<T>>,
+    items: &[T],
+) -> Result<(), AllocError>
+    ensures { OnOk result (joined T.seen blocks.new.items
+        ≡ joined T.seen blocks.old.items ++ map T.seen items.now) }
+{
+    let mut start = 0;
+    while start < items.len() {
+        let end = start + (items.len() - start).min(FEW);
+        let part = copies(alloc, &items[start..end])?;
+        blocks.push(Block::Own(part).into_shared(alloc)?)?;
+        start = end;
+    }
+    Ok(())
+}
+
+// The same items, in blocks of at most 32.
+fn short_blocks<T: Share>(alloc: Global, blocks: &[Block<T>]) -> Result<Vec<Block<T>>, AllocError>
+    ensures { IfOk result (λ v. joined T.seen v.items ≡ joined T.seen blocks.now) }
+{
+    let mut short = Vec::with_capacity(alloc, blocks.len())?;
+    for block in blocks {
+        push_short(alloc, &mut short, block)?;
+    }
+    Ok(short)
 }
 
 // The same blocks, in groups.
@@ -76,14 +122,16 @@ impl<T: Share> Form<T> {
                 if !blocks.is_own() || blocks.len() <= FEW {
                     return Ok(None);
                 }
-                Ok(Some(cut_groups(alloc, blocks.items())?))
+                let short = short_blocks(alloc, blocks.items())?;
+                Ok(Some(cut_groups(alloc, &short)?))
             }
             _ => Ok(None),
         }
     }
 
-    /// Makes the list shared in place, so that the next copy of it is a pointer: of more than 32 blocks it puts
-    /// those in groups. The blocks are shared already, or else had again. Fails only where memory is wanting.
+    /// Makes the list shared in place, so that the next copy of it is a pointer: the items of more than 32 blocks are
+    /// put in groups of blocks of at most 32. Blocks that aren't shared are had again there. Fails only where memory
+    /// is wanting.
     pub fn share_in_place(&mut self, alloc: Global) -> Result<(), AllocError>
         ensures same { seen_form T.seen self.new ≡ seen_form T.seen self.old }
         ensures shared { OnOk result (is_shared_form self.new ≡ true) }

@@ -7,7 +7,7 @@ ghost use Rattle.sdb_pieces.specs.Pieces.{seen_in, is_own_list, is_own_at, is_sh
 
 use crate::among::{block_item, insert_among, one_block, remove_among, replace_among};
 use crate::block::{Block, Share};
-use crate::change::{FEW, bound, insert_in, item_in, item_mut, remove_in, replace_in};
+use crate::change::{FEW, bound, bound_for, insert_in, item_in, item_mut, remove_in, replace_in};
 use crate::cut::cut_blocks;
 use crate::group::Group;
 use crate::groups::{insert_grouped, item_grouped, remove_grouped, replace_grouped};
@@ -126,15 +126,17 @@ impl<T: Drop> Pieces<T> {
         }
     }
 
-    /// A list of these items: of at most 32 in the vector's own memory, of more in blocks of 32.
+    /// A list of these items: of at most 32 in the vector's own memory, of more in blocks of 32 to 512, the longer the
+    /// more there are.
     pub fn in_blocks(alloc: Global, items: Vec<T>) -> Result<Pieces<T>, AllocError>
         ensures items { IfOk result (λ l. items_in l ≡ items.items) }
         ensures own { IfOk result (λ l. is_own_list l ≡ true) }
     {
-        if items.len() <= FEW {
+        let most = bound_for(items.len());
+        if items.len() <= most {
             return Ok(Pieces::from_form(Form::One(Block::Own(items))));
         }
-        Ok(Pieces::from_blocks(cut_blocks(alloc, items, FEW)?))
+        Ok(Pieces::from_blocks(cut_blocks(alloc, items, most)?))
     }
 
     /// The list of these blocks, in order, so that the next copy of it is a pointer where the blocks are shared.

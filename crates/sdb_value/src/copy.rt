@@ -31,20 +31,44 @@ pub(crate) enum Manner {
     Shared,
 }
 
-// What is shared at the cost of a pointer, all else in memory of its own. The pointer to an object, which most copies
-// are, is told at once.
+// A pointer to the value, where it is an object that is shared, as most are that are copied.
 #[inline(always)]
-pub(crate) fn share_copy(alloc: Global, value: &Json) -> Result<Json, AllocError>
-    ensures value { IfOk result (λ v. view v ≡ view value.now) }
-    ensures own { IfOk result (λ v. is_own v ≡ is_own value.now) }
+fn object_again(value: &Json) -> Result<Option<Json>, AllocError>
+    ensures value { IfOk result (λ o. IfSome o (λ v. view v ≡ view value.now)) }
+    ensures own { IfOk result (λ o. IfSome o (λ v. is_own v ≡ is_own value.now)) }
+    ensures pointer { IfOk result (λ o. IfSome o (λ v. is_pointer v ≡ true)) }
 {
     if let Json::Object(object) = value
         && let Object::Shared(members) = object
     {
         let members = Arc::try_clone(members)?;
-        return Ok(Json::Object(Object::Shared(members)));
+        return Ok(Some(Json::Object(Object::Shared(members))));
     }
-    copy(alloc, value, Manner::Same)
+    Ok(None)
+}
+
+// What is shared at the cost of a pointer, all else in memory of its own.
+#[inline(always)]
+pub(crate) fn share_copy(alloc: Global, value: &Json) -> Result<Json, AllocError>
+    ensures value { IfOk result (λ v. view v ≡ view value.now) }
+    ensures own { IfOk result (λ v. is_own v ≡ is_own value.now) }
+{
+    match object_again(value)? {
+        Some(copy) => Ok(copy),
+        None => copy(alloc, value, Manner::Same),
+    }
+}
+
+// All of it shared, at the cost of what isn't yet.
+#[inline(always)]
+pub(crate) fn shared_copy(alloc: Global, value: &Json) -> Result<Json, AllocError>
+    ensures value { IfOk result (λ v. view v ≡ view value.now) }
+    ensures pointer { IfOk result (λ v. is_pointer v ≡ true) }
+{
+    match object_again(value)? {
+        Some(copy) => Ok(copy),
+        None => copy(alloc, value, Manner::Shared),
+    }
 }
 
 #[cycle(copy)]

@@ -6,7 +6,7 @@ ghost use Rattle.sdb_value.specs.Size.{size};
 ghost use Rattle.sdb_value.specs.Value.{as_object, depth, list, null, object};
 ghost use Rattle.sdb_value.specs.View.{view, items_view, map_view, object_view};
 
-use crate::copy::{Manner, copy, share_copy};
+use crate::copy::{Manner, copy, share_copy, shared_copy};
 use crate::measures::{depth_of, size_of};
 use crate::numbers::MAX;
 use crate::share::share;
@@ -182,7 +182,7 @@ impl Json {
         ensures value { IfOk result (λ v. view v ≡ view self.now) }
         ensures pointer { IfOk result (λ v. is_pointer v ≡ true) }
     {
-        copy(alloc, self, Manner::Shared)
+        shared_copy(alloc, self)
     }
 
     /// Makes all of it shared in place, so that a copy of it is a pointer. It costs a pointer for each text, list

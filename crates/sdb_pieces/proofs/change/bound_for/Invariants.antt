@@ -1,0 +1,8 @@
+use Rattle.std.proofs.Common.{◌<◌, ◌-◌}
+use Rattle.sdb_pieces.proofs.change.bound_for.Given as goal
+
+abbrev pub invariant-loop-bound : goal.invariant-loop-bound
+invariant-loop-bound l = 0 < l.bound
+
+abbrev pub decreases-loop-bound : goal.decreases-loop-bound
+decreases-loop-bound l = 512 - l.bound

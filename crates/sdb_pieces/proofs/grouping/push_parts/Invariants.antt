@@ -1,0 +1,12 @@
+use Rattle.std.proofs.Common.{◌≡◌, ◌≤◌, ◌-◌, ◌++◌, length, map, take}
+use Rattle.sdb_pieces.specs.Pieces.{joined}
+use Rattle.sdb_pieces.proofs.grouping.push_parts.Given as goal
+
+abbrev pub invariant-loop-start : goal.invariant-loop-start
+invariant-loop-start g l = record {
+  within : l.start ≤ length l.items;
+  same : joined g.T.Share.seen l.blocks.items ≡ joined g.T.Share.seen l.initial.blocks.items ++ map g.T.Share.seen (take l.start l.items);
+}
+
+abbrev pub decreases-loop-start : goal.decreases-loop-start
+decreases-loop-start g l = length l.items - l.start

@@ -1,0 +1,6 @@
+use Rattle.std.proofs.Common.{◌≡◌, take}
+use Rattle.sdb_pieces.specs.Pieces.{joined}
+use Rattle.sdb_pieces.proofs.grouping.short_blocks.Given as goal
+
+abbrev pub invariant-loop-block : goal.invariant-loop-block
+invariant-loop-block g l = joined g.T.Share.seen l.short.items ≡ joined g.T.Share.seen (take l.block-index l.blocks)
