@@ -175,48 +175,48 @@ fn counts_to(list: &Pieces<Number>, count: u64) -> bool {
 
 #[test]
 fn a_long_list_shared(rt: HostRuntime) {
-    let mut form = numbered(&rt, rt.alloc(), 1_100).into_form();
+    let mut form = numbered(&rt, rt.alloc(), 4_000).into_form();
     mark(&rt, rt.alloc());
     let outcome = form.share_in_place(rt.alloc());
     mark(&rt, rt.alloc());
     if outcome.is_err() {
         let list = Pieces::from_form(form);
-        assert!(rt; counts_to(&list, 1_100));
+        assert!(rt; counts_to(&list, 4_000));
         form = list.into_form();
         assert!(rt; form.share_in_place(rt.alloc()).is_ok());
     }
-    assert!(rt; matches!(&form, Form::Groups(_)) && counts_to(&Pieces::from_form(form), 1_100));
+    assert!(rt; matches!(&form, Form::Groups(_)) && counts_to(&Pieces::from_form(form), 4_000));
 }
 
 #[test]
 fn an_insert_into_a_shared_list(rt: HostRuntime) {
-    let list = numbered(&rt, rt.alloc(), 1_100);
+    let list = numbered(&rt, rt.alloc(), 4_000);
     let mut list = share(&rt, rt.alloc(), list);
     mark(&rt, rt.alloc());
-    let outcome = list.insert(rt.alloc(), 1_100, Number(1_100));
+    let outcome = list.insert(rt.alloc(), 4_000, Number(4_000));
     mark(&rt, rt.alloc());
     if outcome.is_err() {
         assert!(rt;
-            counts_to(&list, 1_100)
+            counts_to(&list, 4_000)
                 && list
-                    .insert(rt.alloc(), 1_100, Number(1_100))
+                    .insert(rt.alloc(), 4_000, Number(4_000))
                     .unwrap_or(false)
         );
     }
-    assert!(rt; list.is_in_groups() && counts_to(&list, 1_101));
+    assert!(rt; list.is_in_groups() && counts_to(&list, 4_001));
 }
 
 #[test]
 fn a_removal_from_a_shared_list(rt: HostRuntime) {
-    let list = numbered(&rt, rt.alloc(), 1_100);
+    let list = numbered(&rt, rt.alloc(), 4_000);
     let mut list = share(&rt, rt.alloc(), list);
     mark(&rt, rt.alloc());
-    let outcome = list.remove(rt.alloc(), 1_099);
+    let outcome = list.remove(rt.alloc(), 3_999);
     mark(&rt, rt.alloc());
     if outcome.is_err() {
-        assert!(rt; counts_to(&list, 1_100) && list.remove(rt.alloc(), 1_099).is_ok());
+        assert!(rt; counts_to(&list, 4_000) && list.remove(rt.alloc(), 3_999).is_ok());
     }
-    assert!(rt; list.is_in_groups() && counts_to(&list, 1_099));
+    assert!(rt; list.is_in_groups() && counts_to(&list, 3_999));
 }
 
 fn key(rt: &impl Abort, alloc: Global, number: u64) -> String {

@@ -205,9 +205,9 @@ fn a_list_in_groups_is_that_of_a_vector(rt: HostRuntime) {
 // All is taken out of a list in groups, and one put in again.
 #[test]
 fn groups_are_emptied(rt: HostRuntime) {
-    let list = numbered(&rt, rt.alloc(), 1_500);
+    let list = numbered(&rt, rt.alloc(), 4_000);
     let mut list = share(&rt, rt.alloc(), list);
-    for number in 0..1_500 {
+    for number in 0..4_000 {
         let first = list.remove(rt.alloc(), 0).expect(&rt, "out of memory");
         assert!(rt; first.map(|item| item.0) == Some(number));
     }
