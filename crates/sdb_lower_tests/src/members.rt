@@ -1,6 +1,6 @@
 //! Members of an object, beside a map.
 
-use crate::pieces::Number;
+use crate::pieces::{Number, block_count};
 use crate::texts::{scattered, text_of};
 use sdb_members::Members;
 use sdb_pieces::Share;
@@ -86,7 +86,7 @@ fn members_in_blocks_are_those_of_a_map(rt: HostRuntime) {
     let mut plain = BTreeMap::new(rt.alloc());
     let mut members = Members::new(rt.alloc());
     put_all(&rt, rt.alloc(), &mut members, &mut plain);
-    assert!(rt; members.values.blocks().count() > 40 && is(&members, &plain));
+    assert!(rt; block_count(&members.values) > 40 && is(&members, &plain));
     take_all(&rt, rt.alloc(), &mut members, &mut plain);
     assert!(rt; is(&members, &plain));
 }
@@ -114,7 +114,7 @@ fn members_of_a_map_are_found(rt: HostRuntime) {
         drop(added.expect(&rt, "out of memory"));
     }
     let members = Members::from_map(rt.alloc(), plain).expect(&rt, "out of memory");
-    assert!(rt; members.keys.len() == 300 && members.values.blocks().count() == 10);
+    assert!(rt; members.keys.len() == 300 && block_count(&members.values) == 10);
     let second = name(&rt, rt.alloc(), 1);
     assert!(rt;
         members.get(second.as_str()).map(|number| number.0) == Some(1) && members.get("").is_none()

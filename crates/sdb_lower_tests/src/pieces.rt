@@ -35,6 +35,14 @@ fn numbers(rt: &impl Abort, alloc: Global, list: &Pieces<Number>) -> Vec<u64> {
     found
 }
 
+pub(crate) fn block_count(list: &Pieces<Number>) -> u64 {
+    let mut count: u64 = 0;
+    for _ in list.blocks() {
+        count = count.saturating_add(1);
+    }
+    count
+}
+
 fn is(rt: &impl Abort, alloc: Global, list: &Pieces<Number>, plain: &Vec<u64>) -> bool {
     numbers(rt, alloc, list).as_slice() == plain.as_slice()
 }
@@ -97,7 +105,7 @@ fn a_list_of_many_blocks_is_that_of_a_vector(rt: HostRuntime) {
     let mut plain = Vec::new(rt.alloc());
     let mut list = Pieces::from_vec(Vec::new(rt.alloc()));
     put_all(&rt, rt.alloc(), &mut list, &mut plain);
-    assert!(rt; list.blocks().count() > 3 && is(&rt, rt.alloc(), &list, &plain));
+    assert!(rt; block_count(&list) > 3 && is(&rt, rt.alloc(), &list, &plain));
     take_all(&rt, rt.alloc(), &mut list, &mut plain);
     assert!(rt; is(&rt, rt.alloc(), &list, &plain));
 }
@@ -136,7 +144,7 @@ fn one_block(rt: &impl Abort, alloc: Global, plain: &mut Vec<u64>) -> Pieces<Num
 fn copies_are_changed_apart(rt: HostRuntime) {
     let mut plain = Vec::new(rt.alloc());
     let mut list = one_block(&rt, rt.alloc(), &mut plain);
-    assert!(rt; list.blocks().count() == 1 && is(&rt, rt.alloc(), &list, &plain));
+    assert!(rt; block_count(&list) == 1 && is(&rt, rt.alloc(), &list, &plain));
     change_apart(&rt, rt.alloc(), &mut list, &mut plain);
 }
 
@@ -211,7 +219,7 @@ fn groups_are_emptied(rt: HostRuntime) {
         let first = list.remove(rt.alloc(), 0).expect(&rt, "out of memory");
         assert!(rt; first.map(|item| item.0) == Some(number));
     }
-    assert!(rt; list.blocks().count() == 0 && list.get(0).is_none());
+    assert!(rt; block_count(&list) == 0 && list.get(0).is_none());
     assert!(rt; list.insert(rt.alloc(), 0, Number(3)).unwrap_or(false));
     assert!(rt; list.is_in_groups() && list.get(0).map(|item| item.0) == Some(3));
 }

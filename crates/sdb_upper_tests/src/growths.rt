@@ -71,10 +71,14 @@ fn present(rt: &impl Abort, board: &mut Board) -> State
 }
 
 fn count(document: Option<&Json>) -> Option<usize> {
-    match document {
-        Some(Json::List(items)) => Some(items.iter().count()),
-        _ => None,
+    let Some(Json::List(items)) = document else {
+        return None;
+    };
+    let mut count: usize = 0;
+    for _ in items.iter() {
+        count = count.saturating_add(1);
     }
+    Some(count)
 }
 
 // The version that is stored at or shown, and how many entries were missed. None for want of memory.
