@@ -496,7 +496,8 @@ fn members_are_a_value_again(rt: HostRuntime) {
     let mut copy = members.share(rt.alloc()).expect(&rt, "out of memory");
     let key = text_of(&rt, rt.alloc(), &"a");
     put_member(rt.alloc(), &mut copy, key, Json::Null).expect(&rt, "out of memory");
-    assert!(rt; same_value(&object, &Json::of_members(copy)));
+    let again = Json::of_members(rt.alloc(), copy).expect(&rt, "out of memory");
+    assert!(rt; same_value(&object, &again));
 }
 
 // A value with a list and an object of several blocks and a text of several pieces.

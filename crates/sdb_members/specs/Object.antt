@@ -5,7 +5,7 @@ use Rattle.sdb_members.specs.declared.object.Object.{Object}
 use Rattle.sdb_members.specs.declared.object.Object.TheVariants.{Own, Shared}
 
 abbrev pub members_in : {X : Type 0} → Object X → Members X
-members_in (Own m) = m
+members_in (Own b) = b.value
 members_in (Shared a) = a.value
 
 abbrev pub is_shared : {X : Type 0} → Object X → Bool

@@ -13,7 +13,7 @@ use std::sync::Arc;
 #[derive(Drop)]
 pub enum Object<V> {
     /// Of one owner.
-    Own(Members<V>),
+    Own(Box<Members<V>>),
     /// Of as many as have the pointer.
     Shared(Arc<Members<V>>),
 }
@@ -24,7 +24,7 @@ impl<V> Object<V> {
         ensures { result.now ≡ members_in self.now }
     {
         match self {
-            Object::Own(members) => members,
+            Object::Own(members) => &**members,
             Object::Shared(members) => &**members,
         }
     }
@@ -60,7 +60,10 @@ impl<V: Drop> Object<V> {
         ensures shared { IfOk result (λ x. is_shared x ≡ true) }
     {
         match self {
-            Object::Own(members) => Ok(Object::Shared(Arc::new(alloc, members)?)),
+            Object::Own(mut members) => {
+                let held = replace(&mut *members, Members::new(alloc));
+                Ok(Object::Shared(Arc::new(alloc, held)?))
+            }
             Object::Shared(members) => Ok(Object::Shared(members)),
         }
     }
@@ -71,20 +74,17 @@ impl<V: Drop> Object<V> {
         ensures same { members_in self.new ≡ members_in self.old }
         ensures shared { OnOk result (is_shared self.new ≡ true) }
     {
-        match replace(self, Object::Own(Members::new(alloc))) {
-            Object::Own(members) => match Arc::new(alloc, members) {
-                Ok(shared) => {
-                    *self = Object::Shared(shared);
-                    Ok(())
-                }
-                Err(refused) => {
-                    *self = Object::Own(refused.value);
-                    Err(AllocError)
-                }
-            },
-            Object::Shared(shared) => {
+        let Object::Own(members) = self else {
+            return Ok(());
+        };
+        match Arc::new(alloc, replace(&mut **members, Members::new(alloc))) {
+            Ok(shared) => {
                 *self = Object::Shared(shared);
                 Ok(())
+            }
+            Err(refused) => {
+                **members = refused.value;
+                Err(AllocError)
             }
         }
     }
@@ -99,23 +99,11 @@ impl<V: Share> Object<V> {
         ensures same { is_shared self.old ≡ false → self.new ≡ self.old }
         ensures shared { OnErr result (is_shared self.old ≡ true) }
     {
-        match replace(self, Object::Own(Members::new(alloc))) {
-            Object::Own(members) => {
-                *self = Object::Own(members);
-                Ok(())
-            }
-            Object::Shared(shared) => match Arc::try_unwrap(shared) {
-                Ok(members) => {
-                    *self = Object::Own(members);
-                    Ok(())
-                }
-                Err(shared) => {
-                    let copied = shared.share(alloc);
-                    *self = Object::Shared(shared);
-                    *self = Object::Own(copied?);
-                    Ok(())
-                }
-            },
-        }
+        let Object::Shared(members) = &*self else {
+            return Ok(());
+        };
+        let copied = members.share(alloc)?;
+        *self = Object::Own(Box::new(alloc, copied)?);
+        Ok(())
     }
 }

@@ -28,11 +28,15 @@ pub enum Block<T> {
     Shared(Arc<Vec<T>>),
 }
 
-// The same items, in memory of their own.
-pub(crate) fn copies<T: Share>(alloc: Global, items: &[T]) -> Result<Vec<T>, AllocError>
+// The same items, in memory of their own, with room for so many more.
+pub(crate) fn copies<T: Share>(
+    alloc: Global,
+    items: &[T],
+    room: usize,
+) -> Result<Vec<T>, AllocError>
     ensures { IfOk result (λ v. map T.seen v.items ≡ map T.seen items.now) }
 {
-    let mut copies = Vec::with_capacity(alloc, items.len())?;
+    let mut copies = Vec::with_capacity(alloc, items.len().saturating_add(room))?;
     for item in items {
         copies.push(item.share(alloc)?)?;
     }
@@ -145,6 +149,19 @@ impl<T: Share> Block<T> {
         ensures own { OnOk result (is_own self.new ≡ true) }
         ensures shared { OnErr result (is_own self.old ≡ false) }
     {
+        self.make_own_with_room(alloc, 0)
+    }
+
+    // The same, where so many items are going to be put in: a copy has room for them.
+    pub(crate) fn make_own_with_room(
+        &mut self,
+        alloc: Global,
+        room: usize,
+    ) -> Result<(), AllocError>
+        ensures same { map T.seen (items_of self.new) ≡ map T.seen (items_of self.old) }
+        ensures own { OnOk result (is_own self.new ≡ true) }
+        ensures shared { OnErr result (is_own self.old ≡ false) }
+    {
         match replace(self, Block::Own(Vec::new(alloc))) {
             Block::Own(items) => {
                 *self = Block::Own(items);
@@ -156,7 +173,7 @@ impl<T: Share> Block<T> {
                     Ok(())
                 }
                 Err(shared) => {
-                    let copied = copies(alloc, &shared);
+                    let copied = copies(alloc, &shared, room);
                     *self = Block::Shared(shared);
                     *self = Block::Own(copied?);
                     Ok(())
@@ -176,7 +193,7 @@ impl<T: Share> Share for Block<T> {
 
     fn share(&self, alloc: Global) -> Result<Block<T>, AllocError> {
         match self {
-            Block::Own(items) => Ok(Block::Own(copies(alloc, items)?)),
+            Block::Own(items) => Ok(Block::Own(copies(alloc, items, 0)?)),
             Block::Shared(items) => Ok(Block::Shared(Arc::try_clone(items)?)),
         }
     }

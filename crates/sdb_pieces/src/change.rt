@@ -12,7 +12,7 @@ use std::mem::replace;
 
 // How many items a block may have in a list of few blocks, and how many in one of many. So few blocks may a list have
 // that is shared without groups.
-pub(crate) const FEW: usize = 32;
+pub(crate) const FEW: usize = 20;
 
 const MANY: usize = 512;
 
@@ -28,7 +28,7 @@ pub(crate) fn bound_for(items: usize) -> usize
 {
     let mut bound = FEW;
     while bound < MANY && items / bound > bound {
-        bound *= 2;
+        bound = (bound * 2).min(MANY);
     }
     bound
 }
@@ -91,7 +91,7 @@ pub(crate) fn insert_in<T: Share>(
     ensures own { is_own block.old ≡ true → is_own block.new ≡ true }
     ensures now_own { OnOk result (is_own block.new ≡ true) }
 {
-    block.make_own(alloc)?;
+    block.make_own_with_room(alloc, 1)?;
     if let Block::Own(items) = block {
         items.insert(index, item)?;
     }

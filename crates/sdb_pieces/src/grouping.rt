@@ -21,7 +21,7 @@ fn group_size(blocks: usize) -> usize
     size
 }
 
-// Has the items of a block again, behind others, in blocks of at most 32: by a pointer where it is such and shared.
+// Has the items of a block again, behind others, in blocks of at most 20: by a pointer where it is such and shared.
 fn push_short<T: Share>(
     alloc: Global,
     blocks: &mut Vec<Block<T>>,
@@ -37,7 +37,7 @@ fn push_short<T: Share>(
     push_parts(alloc, blocks, block.items())
 }
 
-// Has the items again, in blocks of 32 that are shared.
+// Has the items again, in blocks of 20 that are shared.
 fn push_parts<T: Share>(
     alloc: Global,
     blocks: &mut Vec<Block<T>>,
@@ -49,14 +49,14 @@ fn push_parts<T: Share>(
     let mut start = 0;
     while start < items.len() {
         let end = start + (items.len() - start).min(FEW);
-        let part = copies(alloc, &items[start..end])?;
+        let part = copies(alloc, &items[start..end], 0)?;
         blocks.push(Block::Own(part).into_shared(alloc)?)?;
         start = end;
     }
     Ok(())
 }
 
-// The same items, in blocks of at most 32.
+// The same items, in blocks of at most 20.
 fn short_blocks<T: Share>(alloc: Global, blocks: &[Block<T>]) -> Result<Vec<Block<T>>, AllocError>
     ensures { IfOk result (λ v. joined T.seen v.items ≡ joined T.seen blocks.now) }
 {
@@ -76,7 +76,7 @@ fn cut_groups<T: Share>(alloc: Global, blocks: &[Block<T>]) -> Result<Vec<Group<
     let mut start = 0;
     while start < blocks.len() {
         let end = start + (blocks.len() - start).min(size);
-        let group = copies(alloc, &blocks[start..end])?;
+        let group = copies(alloc, &blocks[start..end], 0)?;
         groups.push(Group::new(Block::Own(group)))?;
         start = end;
     }
@@ -129,8 +129,8 @@ impl<T: Share> Form<T> {
         }
     }
 
-    /// Makes the list shared in place, so that the next copy of it is a pointer: the items of more than 32 blocks are
-    /// put in groups of blocks of at most 32. Blocks that aren't shared are had again there. Fails only where memory
+    /// Makes the list shared in place, so that the next copy of it is a pointer: the items of more than 20 blocks are
+    /// put in groups of blocks of at most 20. Blocks that aren't shared are had again there. Fails only where memory
     /// is wanting.
     pub fn share_in_place(&mut self, alloc: Global) -> Result<(), AllocError>
         ensures same { seen_form T.seen self.new ≡ seen_form T.seen self.old }

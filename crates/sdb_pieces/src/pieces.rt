@@ -126,7 +126,7 @@ impl<T: Drop> Pieces<T> {
         }
     }
 
-    /// A list of these items: of at most 32 in the vector's own memory, of more in blocks of 32 to 512, the longer the
+    /// A list of these items: of at most 20 in the vector's own memory, of more in blocks of 20 to 512, the longer the
     /// more there are.
     pub fn in_blocks(alloc: Global, items: Vec<T>) -> Result<Pieces<T>, AllocError>
         ensures items { IfOk result (λ l. items_in l ≡ items.items) }
@@ -262,7 +262,7 @@ impl<T: Share> Pieces<T> {
 
     /// Puts an item at the index, from 0 to the length, before those from there on. `false`, with the list
     /// unchanged, where the index is past the length, and `Err`, with the list unchanged, where memory is
-    /// wanting. A block that has as many items as the list has blocks, or in groups one of 32, is split first, but
+    /// wanting. A block that has as many items as the list has blocks, or in groups one of 20, is split first, but
     /// none of fewer; so is a group that has as many blocks as there are groups.
     pub fn insert(&mut self, alloc: Global, index: usize, item: T) -> Result<bool, AllocError>
         ensures ok { IfOk result (λ done. seen_in T.seen self.new ≡ (if done

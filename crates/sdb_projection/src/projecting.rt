@@ -20,7 +20,7 @@ pub fn project_data(
     ensures { IfOk result (λ v. view v ≡ proj (fields_of projection.now) (view value.now)) }
 {
     match value.members() {
-        Some(members) => Ok(Json::of_members(shown(alloc, projection, members)?)),
+        Some(members) => Json::of_members(alloc, shown(alloc, projection, members)?),
         None => Ok(Json::Null),
     }
 }

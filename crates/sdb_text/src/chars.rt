@@ -21,6 +21,15 @@ pub enum Chars {
     Shared(Arc<String>),
 }
 
+// The same bytes, with room for so many more.
+fn with_room(alloc: Global, text: &str, room: usize) -> Result<String, AllocError>
+    ensures { IfOk result (λ s. string_bytes s ≡ text.now) }
+{
+    let mut copy = String::with_capacity(alloc, text.len().saturating_add(room))?;
+    copy.push_str(text)?;
+    Ok(copy)
+}
+
 impl Chars {
     pub(crate) fn as_str(&self) -> &str
         ensures { result.now ≡ chars_bytes self.now }
@@ -38,6 +47,16 @@ impl Chars {
         ensures shared { OnErr result (chars_own self.old ≡ false) }
         ensures kept { chars_own self.old ≡ true → chars_own self.new ≡ true }
     {
+        self.make_own_with_room(alloc, 0)
+    }
+
+    // The same, where so many bytes are going to be put in: a copy has room for them.
+    fn make_own_with_room(&mut self, alloc: Global, room: usize) -> Result<(), AllocError>
+        ensures same { chars_bytes self.new ≡ chars_bytes self.old }
+        ensures own { OnOk result (chars_own self.new ≡ true) }
+        ensures shared { OnErr result (chars_own self.old ≡ false) }
+        ensures kept { chars_own self.old ≡ true → chars_own self.new ≡ true }
+    {
         match replace(self, Chars::Own(String::new(alloc))) {
             Chars::Own(text) => {
                 *self = Chars::Own(text);
@@ -49,7 +68,7 @@ impl Chars {
                     Ok(())
                 }
                 Err(shared) => {
-                    let copied = String::from_str(alloc, shared.as_str());
+                    let copied = with_room(alloc, shared.as_str(), room);
                     *self = Chars::Shared(shared);
                     *self = Chars::Own(copied?);
                     Ok(())
@@ -65,7 +84,7 @@ impl Chars {
         ensures err { OnErr result (chars_bytes self.new ≡ chars_bytes self.old) }
         ensures own { chars_own self.old ≡ true → chars_own self.new ≡ true }
     {
-        self.make_own(alloc)?;
+        self.make_own_with_room(alloc, new.len())?;
         match self {
             Chars::Own(text) => text.insert_str(at, new)?,
             Chars::Shared(_) => unreachable!(),

@@ -86,7 +86,7 @@ members_own m =
     ∙ ap (λ bs. cond (keys_own m.keys) (cond (is_own_list m.values) (all_true bs) false) false) (former_values is_own m ∙ seen_items_in is_own m.values)
 
 former_pointer : {X Y : Type 0} (f : X → Y) (o : Object X) → object_shared ((json.TheShapes.former-Json-Object-0).map X Y f o) ≡ object_shared o
-former_pointer f (held.Own m) = refl
+former_pointer f (held.Own b) = refl
 former_pointer f (held.Shared a) = refl
 
 pub owned_object : (o : Object Json) → is_own (json.Object o) ≡ held_own o

@@ -1,5 +1,5 @@
 -- Members that are put in and taken out, and the object that they make.
-use Rattle.std.proofs.Common.{◌≡◌, ℕ, List, [], ◌∷◌, map, Option, Some, None, option_map, Bool, true, false, cond, ◌&&◌, Ordering, Less, Equal, Greater, is_eq, refl, sym, ap, ◌∙◌}
+use Rattle.std.proofs.Common.{Box, Global, ◌≡◌, ℕ, List, [], ◌∷◌, map, Option, Some, None, option_map, Bool, true, false, cond, ◌&&◌, Ordering, Less, Equal, Greater, is_eq, refl, sym, ap, ◌∙◌}
 use Rattle.std.specs.List.{list_all}
 use Rattle.std.specs.Map.{lookup, remove_entry}
 use Rattle.std.specs.BTreeMap.{insert_entry, is_at}
@@ -105,23 +105,25 @@ turned false b h e = refl
 
 -- where an object is its owner's own, so are its members, their keys and the list of their values
 pub held_holds : (o : Object Json) → held_own o ≡ true → holds_own o ≡ true
-held_holds (Own m) own = (parts (keys_own m.keys) (is_own_list m.values) (items_own (items_in m.values)) own).0
+held_holds (Own b) own =
+    let m = b.value in
+    (parts (keys_own m.keys) (is_own_list m.values) (items_own (items_in m.values)) own).0
 held_holds (Shared a) own = cc
 
 pub not_held : (o : Object Json) → holds_own o ≡ false → held_own o ≡ false
 not_held o h = turned (held_own o) (holds_own o) (held_holds o) h
 
--- an object that was made its own where it was shared, and is n then, with the members m
-module _ (n : Object Json) (m : Held Json) (is : n ≡ Own m) where
-  pub holds_inside : (o : Object Json) → (is_shared o ≡ false → n ≡ o) → members_own m ≡ false → holds_own o ≡ false
+-- an object that was made its own where it was shared, and is n then, with the members in b
+module _ (n : Object Json) (b : Box (Held Json) Global) (is : n ≡ Own b) where
+  pub holds_inside : (o : Object Json) → (is_shared o ≡ false → n ≡ o) → members_own b.value ≡ false → holds_own o ≡ false
   holds_inside (Own s) keeps h = ap holds_own (sym (keeps refl) ∙ is) ∙ h
   holds_inside (Shared a) keeps h = refl
 
-  pub shared_inside : (o : Object Json) → (is_shared o ≡ false → n ≡ o) → object_own m ≡ false → held_own o ≡ false
+  pub shared_inside : (o : Object Json) → (is_shared o ≡ false → n ≡ o) → object_own b.value ≡ false → held_own o ≡ false
   shared_inside (Own s) keeps h = ap held_own (sym (keeps refl) ∙ is) ∙ h
   shared_inside (Shared a) keeps h = refl
 
-  pub own_inside : (o : Object Json) → (is_shared o ≡ false → n ≡ o) → held_own o ≡ true → object_own m ≡ true
+  pub own_inside : (o : Object Json) → (is_shared o ≡ false → n ≡ o) → held_own o ≡ true → object_own b.value ≡ true
   own_inside (Own s) keeps h = ap held_own (sym is ∙ keeps refl) ∙ h
   own_inside (Shared a) keeps h = cc
 

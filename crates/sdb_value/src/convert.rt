@@ -73,7 +73,8 @@ fn read<D: JsonData>(alloc: Global, value: &D, left: u64) -> Result<Json, ValueF
         if left == 0 {
             return Err(ValueFault::Depth);
         }
-        return Ok(Json::of_members(read_members(alloc, &members, left - 1)?));
+        let held = read_members(alloc, &members, left - 1)?;
+        return Ok(Json::of_members(alloc, held)?);
     }
     read_leaf(alloc, value)
 }

@@ -202,7 +202,7 @@ fn copy_object(alloc: Global, object: &Object, manner: Manner) -> Result<Object,
     if let Some(object) = object_pointer(object, manner)? {
         return Ok(object);
     }
-    let copy = Object::Own(copy_members(alloc, object.members(), manner)?);
+    let copy = Object::Own(Box::new(alloc, copy_members(alloc, object.members(), manner)?)?);
     match manner {
         Manner::Shared => copy.into_shared(alloc),
         _ => Ok(copy),

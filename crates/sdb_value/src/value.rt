@@ -126,15 +126,17 @@ impl Json {
         ensures value { IfOk result (λ v. view v ≡ object (map_view members.entries)) }
         ensures own { map_own members.entries ≡ true → IfOk result (λ v. is_own v ≡ true) }
     {
-        Ok(Json::of_members(Members::from_map(alloc, members)?))
+        let object = Json::of_members(alloc, Members::from_map(alloc, members)?)?;
+        Ok(object)
     }
 
-    /// An object that holds these members, their parts as they are.
-    pub fn of_members(held: Members) -> Json
-        ensures value { view result ≡ object (object_view held) }
-        ensures own { is_own result ≡ object_own held }
+    /// An object that holds these members, their parts as they are. Fails only where memory is wanting.
+    pub fn of_members(alloc: Global, held: Members) -> Result<Json, AllocError>
+        ensures value { IfOk result (λ v. view v ≡ object (object_view held)) }
+        ensures own { IfOk result (λ v. is_own v ≡ object_own held) }
     {
-        Json::Object(Object::Own(held))
+        let members = Box::new(alloc, held)?;
+        Ok(Json::Object(Object::Own(members)))
     }
 
     /// Whether it is `null`.

@@ -2,6 +2,7 @@ use Rattle.std.proofs.Common.{refl, ◌∷◌, option_map, ap, sym, ◌∙◌}
 use Rattle.std.proofs.lemmas.Result.{on_err_weaker}
 use Rattle.sdb_value.specs.FrontLaws.{on_any_err}
 use Rattle.sdb_value.specs.Law.{known, list_is, object_is}
+use Rattle.sdb_value.specs.Owns.{object_own}
 use Rattle.sdb_value.specs.Value.{null, list, object, key, set_item}
 use Rattle.sdb_value.specs.View.{view, plain_step, plain_path, held_view, list_view}
 use Rattle.sdb_value.proofs.ListEdits.{shared_place}
@@ -97,9 +98,11 @@ change_value-returns-in-Err-clause-done g t c = key_missing c.args.members.now c
 
 pub change_member-returns-clause-own : goal.change_member-returns-clause-own
 change_member-returns-clause-own g t c keeps own =
-    c.change_value.ensures.own keeps (own_inside c.make_own.new.object c.in-Own.own c.in-Own.is c.args.members.now c.make_own.ensures.own own)
+    c.change_value.ensures.own keeps (ap object_own c.deref_mut.ensures.value
+    ∙ own_inside c.make_own.new.object c.in-Own.own c.in-Own.is c.args.members.now c.make_own.ensures.own own)
 
 pub change_member-returns-clause-shared : goal.change_member-returns-clause-shared
 change_member-returns-clause-shared g t c =
     on_err_weaker c.change_value.result
-    (shared_inside c.make_own.new.object c.in-Own.own c.in-Own.is c.args.members.now c.make_own.ensures.own) c.change_value.ensures.shared
+    (λ h. shared_inside c.make_own.new.object c.in-Own.own c.in-Own.is c.args.members.now c.make_own.ensures.own
+    (ap object_own (sym c.deref_mut.ensures.value) ∙ h)) c.change_value.ensures.shared

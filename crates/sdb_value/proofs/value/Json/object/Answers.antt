@@ -13,10 +13,10 @@ seconds [] = refl
 seconds (e ∷ es) = ap (λ b. cond (is_own e.1) b false) (seconds es)
 
 pub returns-clause-value : goal.returns-clause-value
-returns-clause-value c = c.of_members.ensures.value ∙ ap (λ es. object (members_view es)) c.in_ok-from_map.ensures.members
+returns-clause-value c = c.in_ok-object.ensures.value ∙ ap (λ es. object (members_view es)) c.in_ok-from_map.ensures.members
 
 pub returns-clause-own : goal.returns-clause-own
 returns-clause-own c own =
     let m = c.in_ok-from_map.field-0 in
-    c.of_members.ensures.own ∙ whole (keys_own m.keys) (is_own_list m.values) (items_own (items_in m.values)) c.in_ok-from_map.ensures.own
+    c.in_ok-object.ensures.own ∙ whole (keys_own m.keys) (is_own_list m.values) (items_own (items_in m.values)) c.in_ok-from_map.ensures.own
     (ap items_own c.in_ok-from_map.ensures.values ∙ seconds c.args.members.entries ∙ own)
