@@ -1,5 +1,5 @@
 //! What each act does at its place.
-ghost use Rattle.std.specs.Prelude.{◌≡◌, ◌+ℤ◌, false, true, if◌then◌else◌};
+ghost use Rattle.std.specs.Prelude.{◌≡◌, ◌+ℤ◌, false, true, if◌then◌else◌, IfOk};
 ghost use Rattle.sdb_value.specs.Owns.{is_own};
 ghost use Rattle.sdb_value.specs.Profile.{in_range};
 ghost use Rattle.sdb_text.specs.Text.{insert_text, remove_text};
@@ -16,7 +16,7 @@ use sdb_value::{
     Json, Whole, insert_item, list_mut, object_mut, put_at_key, remove_at_key, remove_item,
     replace_item, text_mut,
 };
-use std::alloc::Global;
+use std::alloc::{AllocError, Global};
 
 pub(crate) fn act_on(alloc: Global, place: &mut Json, act: &Act) -> Result<(), ApplyFault>
     ensures outcome { Outcome (needs (takes_memory (plain_act act.now)) (is_own place.old)) result
@@ -80,7 +80,7 @@ fn insert(alloc: Global, place: &mut Json, index: u64, value: &Json) -> Result<(
         (on_list (insert_item index (view value.now)) (view place.old)) (view place.old) (view place.new) }
     ensures own { is_own place.old ≡ true → is_own place.new ≡ true }
 {
-    let copy = value.own_copy(alloc)?;
+    let copy = copy_for(alloc, place, value)?;
     match list_mut(place) {
         Some(items) => done_if(insert_item(alloc, items, index, copy)?),
         None => Err(ApplyFault::NotApplied),
@@ -103,7 +103,7 @@ fn replace(alloc: Global, place: &mut Json, index: u64, value: &Json) -> Result<
         (on_list (replace_item index (view value.now)) (view place.old)) (view place.old) (view place.new) }
     ensures own { is_own place.old ≡ true → is_own place.new ≡ true }
 {
-    let copy = value.own_copy(alloc)?;
+    let copy = copy_for(alloc, place, value)?;
     match list_mut(place) {
         Some(items) => done_if(replace_item(alloc, items, index, copy)?),
         None => Err(ApplyFault::NotApplied),
@@ -116,7 +116,7 @@ fn set_key(alloc: Global, place: &mut Json, key: &str, value: &Json) -> Result<(
     ensures own { is_own place.old ≡ true → is_own place.new ≡ true }
 {
     let name = String::from_str(alloc, key)?;
-    let copy = value.own_copy(alloc)?;
+    let copy = copy_for(alloc, place, value)?;
     match object_mut(place) {
         Some(object) => Ok(put_at_key(alloc, object, name, copy)?),
         None => Err(ApplyFault::NotApplied),
@@ -135,6 +135,18 @@ fn remove_key(alloc: Global, place: &mut Json, key: &str) -> Result<(), ApplyFau
         }
         None => Err(ApplyFault::NotApplied),
     }
+}
+
+// A copy of a value that is put in: where the place is shared, at the cost of a pointer as far as the value is; where
+// it may be its owner's own, all of the copy is.
+fn copy_for(alloc: Global, place: &Json, value: &Json) -> Result<Json, AllocError>
+    ensures value { IfOk result (λ v. view v ≡ view value.now) }
+    ensures own { is_own place.now ≡ true → IfOk result (λ v. is_own v ≡ true) }
+{
+    if place.is_shared() {
+        return value.try_clone(alloc);
+    }
+    value.own_copy(alloc)
 }
 
 fn done_if(done: bool) -> Result<(), ApplyFault>

@@ -32,6 +32,7 @@ pub(crate) fn text_at<D: JsonData>(alloc: Global, value: &D, key: &str) -> Resul
     }
 }
 
+// A value that is taken out.
 pub(crate) fn value_at<D: JsonData>(
     alloc: Global,
     value: &D,
@@ -40,11 +41,33 @@ pub(crate) fn value_at<D: JsonData>(
     ensures ok { IfOk result (λ j. value_at key.now (D.json value.now) ≡ Some (view (arc_value j))) }
     ensures err { IfErr result (λ f. Unread (value_at key.now (D.json value.now)) f) }
 {
+    let json = json_at(alloc, value, key)?;
+    Ok(shared(alloc, json)?)
+}
+
+// A value that is put in: all of it is shared, so that a document that shares has it by a pointer.
+pub(crate) fn new_value_at<D: JsonData>(
+    alloc: Global,
+    value: &D,
+    key: &str,
+) -> Result<Arc<Json>, OpFault>
+    ensures ok { IfOk result (λ j. value_at key.now (D.json value.now) ≡ Some (view (arc_value j))) }
+    ensures err { IfErr result (λ f. Unread (value_at key.now (D.json value.now)) f) }
+{
+    let mut json = json_at(alloc, value, key)?;
+    json.share(alloc)?;
+    Ok(shared(alloc, json)?)
+}
+
+fn json_at<D: JsonData>(alloc: Global, value: &D, key: &str) -> Result<Json, OpFault>
+    ensures ok { IfOk result (λ j. value_at key.now (D.json value.now) ≡ Some (view j)) }
+    ensures err { IfErr result (λ f. Unread (value_at key.now (D.json value.now)) f) }
+{
     let Some(member) = value.get(key) else {
         return Err(OpFault::Form);
     };
     match from_value(alloc, member) {
-        Ok(json) => Ok(shared(alloc, json)?),
+        Ok(json) => Ok(json),
         Err(fault) => match fault {
             ValueFault::Number => Err(OpFault::Form),
             ValueFault::Depth => Err(OpFault::Form),

@@ -4,7 +4,7 @@ ghost use Rattle.sdb_component.specs.Reads.{Unread, shaped};
 ghost use Rattle.sdb_value.specs.View.{plain_path};
 
 use crate::component::{Act, Component};
-use crate::members::{text_at, value_at, whole_at};
+use crate::members::{new_value_at, text_at, value_at, whole_at};
 use crate::path::Path;
 use crate::paths::{index_last, key_last};
 use crate::piece::Piece;
@@ -97,7 +97,7 @@ fn insert_item<D: JsonData>(
     ensures err { IfErr result (λ f. Unread (shaped Shape.Li (plain_path path.items) (D.json value.now)) f) }
 {
     let (container, index) = index_last(alloc, path)?;
-    let new = value_at(alloc, value, "li")?;
+    let new = new_value_at(alloc, value, "li")?;
     Ok(Some(Component::new(container, Act::Li(index, new))))
 }
 
@@ -126,7 +126,7 @@ fn replace_item<D: JsonData>(
 {
     let (container, index) = index_last(alloc, path)?;
     let old = value_at(alloc, value, "ld")?;
-    let new = value_at(alloc, value, "li")?;
+    let new = new_value_at(alloc, value, "li")?;
     Ok(Some(Component::new(container, Act::Lr(index, old, new))))
 }
 
@@ -140,7 +140,7 @@ fn insert_key<D: JsonData>(
     ensures err { IfErr result (λ f. Unread (shaped Shape.Oi (plain_path path.items) (D.json value.now)) f) }
 {
     let (container, key) = key_last(alloc, path)?;
-    let new = value_at(alloc, value, "oi")?;
+    let new = new_value_at(alloc, value, "oi")?;
     Ok(Some(Component::new(container, Act::Oi(key, new))))
 }
 
@@ -169,6 +169,6 @@ fn replace_key<D: JsonData>(
 {
     let (container, key) = key_last(alloc, path)?;
     let old = value_at(alloc, value, "od")?;
-    let new = value_at(alloc, value, "oi")?;
+    let new = new_value_at(alloc, value, "oi")?;
     Ok(Some(Component::new(container, Act::Or(key, old, new))))
 }

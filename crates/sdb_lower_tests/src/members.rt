@@ -114,7 +114,7 @@ fn members_of_a_map_are_found(rt: HostRuntime) {
         drop(added.expect(&rt, "out of memory"));
     }
     let members = Members::from_map(rt.alloc(), plain).expect(&rt, "out of memory");
-    assert!(rt; members.keys.len() == 300 && block_count(&members.values) == 10);
+    assert!(rt; members.keys.len() == 300 && block_count(&members.values) == 15);
     let second = name(&rt, rt.alloc(), 1);
     assert!(rt;
         members.get(second.as_str()).map(|number| number.0) == Some(1) && members.get("").is_none()

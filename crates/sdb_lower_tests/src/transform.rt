@@ -3,10 +3,13 @@ use crate::texts::{
     add, component, each_row, extended, is_op, is_printed, joined, op, op_of, says, text_of,
 };
 use sdb_component::{Component, Op};
-use sdb_transform::{Fault, Side, cross, transform, transform_given, transform_one};
+use sdb_transform::{
+    Fault, Side, cross, transform, transform_given, transform_one, transform_or_stay,
+};
 use serde_json::Value;
 use std::alloc::Global;
 use std::process::Abort;
+use std::sync::Arc;
 
 // The rows of the table, each a JSON array: a component, another one, the side, and what stands for the
 // first after the second, or E8.
@@ -332,8 +335,39 @@ fn is_left_as(rt: &impl Abort, alloc: Global, side: Side, wanted: &str) -> bool 
     let insert = op(rt, alloc, r#"[{"li":"B","p":[0]}]"#);
     let other = op(rt, alloc, r#"[{"li":"A","p":[0]}]"#);
     let after = transform(alloc, &insert, &other, side).expect(rt, "transformed");
-    let given = transform_given(alloc, insert, &other, side).expect(rt, "transformed");
-    is_printed(rt, alloc, &after, wanted) && is_printed(rt, alloc, &given, wanted)
+    let lent = transform_or_stay(alloc, &insert, &other, side).expect(rt, "transformed");
+    let shared = Arc::new(alloc, insert).expect(rt, "out of memory");
+    let given = transform_given(alloc, shared, &other, side).expect(rt, "transformed");
+    is_printed(rt, alloc, &after, wanted)
+        && lent.is_some_and(|op| is_printed(rt, alloc, &op, wanted))
+        && is_printed(rt, alloc, &given, wanted)
+}
+
+// Whether it is known that this stays as it is after the other one, and is the same when it is given up.
+fn stays(rt: &impl Abort, alloc: Global, text: &str, other: &str) -> bool {
+    let other = op(rt, alloc, other);
+    let lent = transform_or_stay(alloc, &op(rt, alloc, text), &other, Side::Left);
+    let shared = Arc::new(alloc, op(rt, alloc, text)).expect(rt, "out of memory");
+    let given = transform_given(alloc, shared, &other, Side::Left).expect(rt, "transformed");
+    lent.expect(rt, "transformed").is_none() && is_printed(rt, alloc, &given, text)
+}
+
+#[test]
+fn operations_apart_stay_as_they_are(rt: HostRuntime) {
+    let moved = r#"[{"ld":1,"p":["a",0]},{"li":1,"p":["b",3]}]"#;
+    let put = r#"[{"li":2,"p":["c",0]}]"#;
+    let added = r#"[{"na":1,"p":["n"]}]"#;
+    assert!(rt;
+        stays(&rt, rt.alloc(), moved, put)
+            && stays(&rt, rt.alloc(), added, added)
+            && stays(&rt, rt.alloc(), put, added)
+            && !stays(
+                &rt,
+                rt.alloc(),
+                r#"[{"li":2,"p":["c",1]}]"#,
+                r#"[{"li":2,"p":["c",1]}]"#
+            )
+    );
 }
 
 #[test]

@@ -477,7 +477,10 @@ fn a_wide_object_is_changed_beside_its_copy(rt: HostRuntime) {
     let whole = numbered(&rt, rt.alloc(), true);
     let half = numbered(&rt, rt.alloc(), false);
     let mut object = json(&rt, rt.alloc(), whole.as_str());
-    object.share(rt.alloc()).expect(&rt, "out of memory");
+    assert!(rt; !object.is_shared());
+    // `Share::share` is in scope too, and copies
+    Json::share(&mut object, rt.alloc()).expect(&rt, "out of memory");
+    assert!(rt; object.is_shared() && !Json::Null.is_shared());
     let copy = object.try_clone(rt.alloc()).expect(&rt, "out of memory");
     change_odd(&rt, rt.alloc(), &mut object, false);
     assert!(rt; is_shown(&rt, rt.alloc(), &object, half.as_str()));

@@ -1,5 +1,5 @@
 -- Where a content that is carried along stored entries takes memory.
-use Rattle.std.proofs.Common.{◌≡◌, ℕ, ◌+◌, ◌<◌, List, [], ◌∷◌, length, get_or, Bool, true, false, Option, Some, None, unwrap_or, Ok, refl, sym, ap, ◌∙◌, arith}
+use Rattle.std.proofs.Common.{◌≡◌, ℕ, zero, suc, ◌+◌, ◌<◌, List, [], ◌∷◌, length, get_or, Bool, true, false, Option, Some, None, unwrap_or, Ok, refl, sym, ap, ◌∙◌, arith}
 use Rattle.sdb_oplog.specs.Plain.{PlainContent, create, delete, edit, PlainEntry}
 use Rattle.sdb_oplog.specs.Over.{over, over_takes_memory, carrying_takes_memory}
 
@@ -10,7 +10,7 @@ is_edit (edit op) = true
 
 -- what was carried as far as this place: nothing at first, and an edit only where the first entry is one too
 abbrev pub Carries : PlainContent → List PlainEntry → Option PlainContent → ℕ → Type 0
-Carries m es None i = i ≡ 0
+Carries m es None i = 0 < i → is_edit m ≡ true → carrying_takes_memory m es ≡ true
 Carries m es (Some k) i = is_edit k ≡ true → carrying_takes_memory m es ≡ true
 
 takes_edit : (m stored : PlainContent) → over_takes_memory m stored ≡ true → is_edit m ≡ true
@@ -35,12 +35,12 @@ edit_takes (edit op) (edit other) k e h = refl
 pub carries_here : (m : PlainContent) (es : List PlainEntry) (o : Option PlainContent) (i : ℕ) (e : PlainEntry) → i < length es
     → e ≡ get_or es i e → Carries m es o i → over_takes_memory (unwrap_or o m) e.content ≡ true → carrying_takes_memory m es ≡ true
 carries_here m es (Some k) i e below is carries h = carries (takes_edit k e.content h)
-carries_here m [] None i e below is carries h = absurd (omega arith)
-carries_here m (x ∷ es) None i e below is carries h =
-    let first : e ≡ x = is ∙ ap (λ n. get_or (x ∷ es) n e) carries in
-    sym (ap (λ (y : PlainEntry). over_takes_memory m y.content) first) ∙ h
+carries_here m es None (suc i) e below is carries h = carries (omega arith) (takes_edit m e.content h)
+carries_here m [] None zero e below is carries h = absurd (omega (arith, below))
+carries_here m (x ∷ es) None zero e below is carries h = sym (ap (λ (y : PlainEntry). over_takes_memory m y.content) is) ∙ h
 
 -- and what comes out of it is carried on
-pub carries_on : (m : PlainContent) (es : List PlainEntry) (o : Option PlainContent) (i : ℕ) (e : PlainEntry) (k : PlainContent) → i < length es
-    → e ≡ get_or es i e → Carries m es o i → over (unwrap_or o m) e.content ≡ Ok k → Carries m es (Some k) (i + 1)
-carries_on m es o i e k below is carries makes h = carries_here m es o i e below is carries (edit_takes (unwrap_or o m) e.content k makes h)
+pub carries_on : (m : PlainContent) (es : List PlainEntry) (o : Option PlainContent) (i : ℕ) (e : PlainEntry) (n : Option PlainContent) → i < length es
+    → e ≡ get_or es i e → Carries m es o i → over (unwrap_or o m) e.content ≡ Ok (unwrap_or n m) → Carries m es n (i + 1)
+carries_on m es o i e None below is carries makes = λ some h. carries_here m es o i e below is carries (edit_takes (unwrap_or o m) e.content m makes h)
+carries_on m es o i e (Some k) below is carries makes = λ h. carries_here m es o i e below is carries (edit_takes (unwrap_or o m) e.content k makes h)

@@ -29,8 +29,20 @@ fn same_entry(a: &Entry, b: &Entry) -> bool
 {
     a.version() == b.version()
         && a.moment().milliseconds() == b.moment().milliseconds()
-        && same_content(a.content(), b.content())
         && same_submission(a.arrived(), b.arrived())
+        && same_stored(a, b)
+}
+
+// Whether of one submission the same is stored.
+fn same_stored(a: &Entry, b: &Entry) -> bool
+    requires { a.now.arrived ≡ b.now.arrived }
+    ensures same { IsTrue result → a.now.content ≡ b.now.content }
+    ensures other { IsFalse result → a.now.content ≡ b.now.content → ⊥ }
+{
+    if a.is_as_arrived() && b.is_as_arrived() {
+        return true;
+    }
+    same_content(a.content(), b.content())
 }
 
 fn same_submission(a: &Submission, b: &Submission) -> bool

@@ -15,7 +15,7 @@ use crate::codes::Code;
 use crate::entries::Entry;
 use sdb_apply::apply_whole;
 use sdb_component::{Op, Path};
-use sdb_transform::{Side, transform, transform_given};
+use sdb_transform::{Side, transform, transform_given, transform_or_stay};
 use sdb_value::Json;
 use std::alloc::{AllocError, Global};
 use std::marker::Model;
@@ -221,7 +221,7 @@ fn edit_over(alloc: Global, op: &Op, other: &Op) -> Result<Content, Code>
 }
 
 /// What a content becomes along stored entries, each after the one before, up to the first refusal.
-/// `None` where there are no entries: the content stays as it is.
+/// `None` where it is known to stay as it is, as where there are no entries.
 pub fn over_all(
     alloc: Global,
     content: &Content,
@@ -233,28 +233,61 @@ pub fn over_all(
 {
     let mut carried = None;
     for entry in entries {
-        carried = Some(carry(alloc, carried, content, entry.content())?);
+        carried = carry(alloc, carried, content, entry.content())?;
     }
     Ok(carried)
 }
 
-// What a content becomes after one stored content more. What it became before is given up.
+// What a content becomes after one stored content more. What it became before is given up. `None` where it is known
+// to have stayed as it is.
 fn carry(
     alloc: Global,
     carried: Option<Content>,
     content: &Content,
     stored: &Content,
-) -> Result<Content, Code>
-    ensures ok { IfOk result (λ c. over (unwrap_or carried content.now) stored.now ≡ Ok c) }
+) -> Result<Option<Content>, Code>
+    ensures ok { IfOk result (λ m. over (unwrap_or carried content.now) stored.now ≡ Ok (unwrap_or m content.now)) }
     ensures err { IfErr result (λ code. RefusedBy (over (unwrap_or carried content.now) stored.now) code) }
     ensures memory { IsErrOf result E10 → over_takes_memory (unwrap_or carried content.now) stored.now ≡ true }
 {
-    let Some(carried) = carried else {
-        return over(alloc, content, stored);
-    };
+    match carried {
+        None => carry_first(alloc, content, stored),
+        Some(carried) => Ok(Some(carry_on(alloc, carried, stored)?)),
+    }
+}
+
+// The same of a content that stayed as it is so far.
+fn carry_first(alloc: Global, content: &Content, stored: &Content) -> Result<Option<Content>, Code>
+    ensures ok { IfOk result (λ m. over content.now stored.now ≡ Ok (unwrap_or m content.now)) }
+    ensures err { IfErr result (λ code. RefusedBy (over content.now stored.now) code) }
+    ensures memory { IsErrOf result E10 → over_takes_memory content.now stored.now ≡ true }
+{
+    match (content.kind(), stored.kind()) {
+        (Kind::Edit(op), Kind::Edit(other)) => edit_or_stay(alloc, op, other),
+        _ => Ok(Some(over(alloc, content, stored)?)),
+    }
+}
+
+// The same of a content that it became, which is given up.
+fn carry_on(alloc: Global, carried: Content, stored: &Content) -> Result<Content, Code>
+    ensures ok { IfOk result (λ c. over carried stored.now ≡ Ok c) }
+    ensures err { IfErr result (λ code. RefusedBy (over carried stored.now) code) }
+    ensures memory { IsErrOf result E10 → over_takes_memory carried stored.now ≡ true }
+{
     match (carried.kind, stored.kind()) {
         (Kind::Edit(op), Kind::Edit(other)) => edit_given_over(alloc, op, other),
         (kind, _) => over(alloc, &Content { kind }, stored),
+    }
+}
+
+// As `edit_over`, but `None` where the edit is known to stay as it is.
+fn edit_or_stay(alloc: Global, op: &Op, other: &Op) -> Result<Option<Content>, Code>
+    ensures ok { IfOk result (λ m. edit_over op.now other.now ≡ Ok (unwrap_or m (edit op.now))) }
+    ensures err { IfErr result (λ code. RefusedBy (edit_over op.now other.now) code) }
+{
+    match transform_or_stay(alloc, op, other, Side::Left)? {
+        Some(carried) => Ok(Some(Content::edit(alloc, carried)?)),
+        None => Ok(None),
     }
 }
 
@@ -263,10 +296,8 @@ fn edit_given_over(alloc: Global, op: Arc<Op>, other: &Op) -> Result<Content, Co
     ensures ok { IfOk result (λ c. edit_over (arc_value op) other.now ≡ Ok c) }
     ensures err { IfErr result (λ code. RefusedBy (edit_over (arc_value op) other.now) code) }
 {
-    let op = match Arc::try_unwrap(op) {
-        Ok(op) => op,
-        Err(shared) => return edit_over(alloc, &shared, other),
-    };
     let carried = transform_given(alloc, op, other, Side::Left)?;
-    Ok(Content::edit(alloc, carried)?)
+    Ok(Content {
+        kind: Kind::Edit(carried),
+    })
 }

@@ -1,6 +1,6 @@
 //! What is sent, and what is stored of it.
 ghost use Rattle.std.specs.Arc.{arc_value};
-ghost use Rattle.std.specs.Prelude.{◌≡◌, ◌<◌, IfOk, OnErr, length, string_bytes, unwrap_or};
+ghost use Rattle.std.specs.Prelude.{◌≡◌, ◌<◌, IfOk, IsTrue, OnErr, length, string_bytes, unwrap_or};
 
 use crate::contents::Content;
 use crate::moments::Moment;
@@ -226,6 +226,13 @@ impl Entry {
             Some(content) => content,
             None => self.arrived.content(),
         }
+    }
+
+    /// Whether it is known to be stored as it arrived.
+    pub(crate) fn is_as_arrived(&self) -> bool
+        ensures { IsTrue result → self.now.content ≡ self.now.arrived.content }
+    {
+        self.content.is_none()
     }
 
     /// The submission as it arrived.

@@ -20,7 +20,7 @@ mod websocket_session;
 pub use clock::{Clock, ListClock, SystemClock};
 pub use connections::{listen, listen_until_stopped};
 pub use deadline_stream::DeadlineStream;
-pub use line_session::run_lines;
+pub use line_session::{run_lines, run_lines_at_exit};
 pub use server_state::{CLIENT_LIMIT, ServerState, set_socket_options};
 pub use websocket_session::serve;
 

@@ -18,6 +18,7 @@ use sdb_projection::Table;
 use sdb_session::{Session, Texts};
 use sdb_submit::Solo;
 use std::alloc::{AllocError, Global};
+use std::mem::forget;
 use std::sync::Arc;
 
 // The source of the one session.
@@ -107,6 +108,36 @@ pub fn run_lines<C: Clock + Drop, R: Source, W: Sink>(
         session: new_session(alloc)?,
     };
     run(alloc, &mut line_session, reader, writer)
+}
+
+/// As [`run_lines`], for a program that ends then: what was stored isn't let go, entry by entry, but with the program.
+pub fn run_lines_at_exit<C: Clock + Drop, R: Source, W: Sink>(
+    alloc: Global,
+    table: &Table,
+    clock: C,
+    reader: &mut R,
+    writer: &mut W,
+) -> Result<Counts, RunFault>
+    ensures whole { OnOk result (IfSome (R.left reader.old) (λ input. Wrote table.now (C.ahead clock)
+        (map reading_of (lines_of input)) (W.contents writer.old) (W.contents writer.new))) }
+    ensures counts { IfOk result (λ counts. IfSome (R.left reader.old) (λ input. CountsAll is_request input counts)) }
+    // After a fault a front of the opening and the answers to the first lines was written.
+    ensures front { OnErr result (IfSome (R.left reader.old) (λ input. WroteFront table.now (C.ahead clock)
+        (map reading_of (lines_of input)) (W.contents writer.old) (W.contents writer.new))) }
+    // No read failed, and no write or flush, but for the one that is the fault.
+    ensures reads { Reads result (R.calls reader.old) (R.failures reader.old)
+        (R.calls reader.new) (R.failures reader.new) }
+    ensures writes { Writes result (W.failures writer.old) (W.failures writer.new) }
+{
+    let mut kept = LineSession {
+        table,
+        clock,
+        shard: Shard::new(alloc),
+        session: new_session(alloc)?,
+    };
+    let counts = run(alloc, &mut kept, reader, writer);
+    forget(kept);
+    counts
 }
 
 // The session. It prints once what it tells of an operation several times.

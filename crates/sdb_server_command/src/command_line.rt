@@ -6,7 +6,7 @@ use clap::{Arg, ArgAction, ArgGroup, ArgMatches, Command, Error};
 use sdb_command_line::{DONE, answer_no_run, end_with, refuse};
 use sdb_lines::{WatchedReader, WatchedWriter};
 use sdb_projection::{Table, TableFault};
-use sdb_server::{SystemClock, run_lines};
+use sdb_server::{SystemClock, run_lines_at_exit};
 use std::alloc::{AllocError, Global};
 use std::io;
 use std::io::{Read, StdinLock};
@@ -244,7 +244,7 @@ where
 {
     let mut reader = WatchedReader::new(input);
     let mut writer = WatchedWriter::new(io::writer(rt));
-    match run_lines(rt.alloc(), table, clock, &mut reader, &mut writer) {
+    match run_lines_at_exit(rt.alloc(), table, clock, &mut reader, &mut writer) {
         Ok(_) => DONE,
         Err(fault) => end_with(rt, fault),
     }

@@ -3,7 +3,7 @@
 use sdb_lines::{RunFault, WatchedReader, WatchedWriter};
 use sdb_oplog::Moment;
 use sdb_projection::Table;
-use sdb_server::{ListClock, run_lines};
+use sdb_server::{ListClock, run_lines, run_lines_at_exit};
 use std::alloc::Global;
 use std::io;
 use std::io::{ErrorKind, Read, Write};
@@ -118,6 +118,17 @@ fn written_by(alloc: Global, clock: ListClock, lines: &str) -> Vec<u8> {
     let mut writer = WatchedWriter::new(Vec::new(alloc));
     let _ = run_lines(alloc, &Table::new(alloc), clock, &mut reader, &mut writer);
     writer.stream
+}
+
+#[test]
+fn the_same_is_written_by_a_program_that_ends(rt: HostRuntime) {
+    let clock = ListClock::new(Vec::new(rt.alloc()));
+    let wanted = written_by(rt.alloc(), clock, MOMENTS);
+    let mut reader = WatchedReader::new(MOMENTS.as_bytes());
+    let mut writer = WatchedWriter::new(Vec::new(rt.alloc()));
+    let (table, clock) = (Table::new(rt.alloc()), ListClock::new(Vec::new(rt.alloc())));
+    let ended = run_lines_at_exit(rt.alloc(), &table, clock, &mut reader, &mut writer);
+    assert!(rt; ended.is_ok() && writer.stream.as_slice() == wanted.as_slice());
 }
 
 #[test]

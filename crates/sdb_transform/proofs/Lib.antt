@@ -1,6 +1,7 @@
 pub mod Behind
 pub mod Cuts
 pub mod Grid
+pub mod Kept
 pub mod MeetActs
 pub mod MeetBounds
 pub mod MeetLists

@@ -11,7 +11,8 @@ use Rattle.sdb_transform.specs.declared.outlook.Outlook.TheVariants.{Refused, Mo
 use Rattle.sdb_transform.specs.declared.components.Successors.{Successors}
 use Rattle.sdb_transform.specs.declared.components.Successors.TheVariants.{One, Many}
 use Rattle.sdb_value.specs.Value.{PlainStep}
-use Rattle.sdb_transform.specs.Transform.{Acts, Moved, Result, at_path}
+use Rattle.sdb_transform.specs.Acts.{opposite}
+use Rattle.sdb_transform.specs.Transform.{Acts, Moved, Result, at_path, transform}
 
 -- the act at another offset or index
 abbrev pub placed : ℕ → PlainAct → PlainAct
@@ -67,6 +68,10 @@ ForeseesStep (Moves Dropped) s m = m ≡ Some None
 ForeseesStep (Moves Stays) s m = m ≡ Some (Some s)
 ForeseesStep (Moves (To n)) s m = ⊥
 ForeseesStep Reworked s m = is_none m ≡ false
+
+-- the component stays as it is past the other one, and that past the component
+abbrev pub Stay : Side → PlainComponent → PlainComponent → Type 0
+Stay side c o = (transform side c o ≡ Some (c ∷ [])) × (transform (opposite side) o c ≡ Some (o ∷ []))
 
 -- what stands for a component, in order
 abbrev pub successors : Successors → List PlainComponent

@@ -1,5 +1,6 @@
 //! Operations, carried past one another.
-ghost use Rattle.std.specs.Prelude.{◌≡◌, ◌≤◌, ◌*◌, List, ◌∷◌, [], IfOk, IfErr, Some};
+ghost use Rattle.std.specs.Arc.{arc_value};
+ghost use Rattle.std.specs.Prelude.{◌≡◌, ◌≤◌, ◌*◌, List, ◌∷◌, [], IfOk, IfErr, Some, unwrap_or};
 ghost use Rattle.sdb_component.specs.Plain.{PlainComponent};
 ghost use Rattle.sdb_component.specs.Weighs.{weight};
 ghost use Rattle.sdb_transform.specs.Acts.{IsFaultOf};
@@ -11,10 +12,12 @@ ghost use Rattle.sdb_transform.specs.Transform.{transform};
 use crate::components::{Successors, copies};
 use crate::outlook::{Outlook, foresee, past};
 use crate::side::{Fault, Side};
+use crate::staying::stays;
 use crate::transforming::transform_one;
 use crate::turns::{Progress, from_top, pop_work, push_moving, push_pieces};
 use sdb_component::{Component, Op};
 use std::alloc::Global;
+use std::sync::Arc;
 
 /// Two operations that were carried past one another.
 #[derive(Drop)]
@@ -117,8 +120,41 @@ pub fn transform(alloc: Global, op: &Op, other: &Op, side: Side) -> Result<Op, F
     }
 }
 
-/// As [`transform`], but the operation is given up: one that [`Op::one`] made isn't copied.
-pub fn transform_given(alloc: Global, op: Op, other: &Op, side: Side) -> Result<Op, Fault>
+/// As [`transform`], but `None` where both operations are known to stay as they are: nothing is copied then.
+pub fn transform_or_stay(
+    alloc: Global,
+    op: &Op,
+    other: &Op,
+    side: Side,
+) -> Result<Option<Op>, Fault>
+    ensures ok { IfOk result (λ t. carried side op.now other.now ≡ Some (unwrap_or t op.now)) }
+    ensures err { IfErr result (λ f. IsFaultOf f (carried side op.now other.now)) }
+{
+    if stays(op.components(), other.components(), side) {
+        return Ok(None);
+    }
+    let carried = transform(alloc, op, other, side)?;
+    Ok(Some(carried))
+}
+
+/// As [`transform`], but the operation is given up. Where both are known to stay as they are, it is the same one, and
+/// one that [`Op::one`] made and that nothing else has isn't copied.
+pub fn transform_given(alloc: Global, op: Arc<Op>, other: &Op, side: Side) -> Result<Arc<Op>, Fault>
+    ensures ok { IfOk result (λ t. carried side (arc_value op) other.now ≡ Some (arc_value t)) }
+    ensures err { IfErr result (λ f. IsFaultOf f (carried side (arc_value op) other.now)) }
+{
+    if stays(op.components(), other.components(), side) {
+        return Ok(op);
+    }
+    let carried = match Arc::try_unwrap(op) {
+        Ok(op) => given_past(alloc, op, other, side)?,
+        Err(op) => transform(alloc, &op, other, side)?,
+    };
+    Ok(Arc::new(alloc, carried)?)
+}
+
+// What stands for an operation after the other one. One that `Op::one` made isn't copied.
+fn given_past(alloc: Global, op: Op, other: &Op, side: Side) -> Result<Op, Fault>
     ensures ok { IfOk result (λ t. carried side op other.now ≡ Some t) }
     ensures err { IfErr result (λ f. IsFaultOf f (carried side op other.now)) }
 {

@@ -12,10 +12,11 @@ mod outlook;
 mod paths;
 mod removed;
 mod side;
+mod staying;
 mod texts;
 mod transforming;
 mod turns;
 
-pub use crossing::{Crossed, cross, transform, transform_given};
+pub use crossing::{Crossed, cross, transform, transform_given, transform_or_stay};
 pub use side::{Fault, Side};
 pub use transforming::transform_one;

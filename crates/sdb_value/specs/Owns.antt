@@ -62,6 +62,10 @@ pointer_step _ = true
 abbrev pub is_pointer : Json → Bool
 is_pointer = fold-Json Bool pointer_step
 
+-- shared as a whole: a text, a list or an object of which a copy is a pointer
+abbrev pub is_shared_value : Json → Bool
+is_shared_value v = cond (is_own v) false (is_pointer v)
+
 -- what copies of a `Json` have in common
 abbrev pub seen : Json → Value × Bool
 seen v = (view v, is_own v)

@@ -1,6 +1,6 @@
 //! What a document holds.
 ghost use Rattle.std.specs.Prelude.{◌≡◌, ◌+ℤ◌, IfOk, IsFalse, IsTrue, OnOk, map, min, option_map, true};
-ghost use Rattle.sdb_value.specs.Owns.{all_true, is_own, is_pointer, map_own, object_own};
+ghost use Rattle.sdb_value.specs.Owns.{all_true, is_own, is_pointer, is_shared_value, map_own, object_own};
 ghost use Rattle.sdb_value.specs.Profile.{in_range};
 ghost use Rattle.sdb_value.specs.Size.{size};
 ghost use Rattle.sdb_value.specs.Value.{as_object, depth, list, null, object};
@@ -146,6 +146,18 @@ impl Json {
     {
         match self {
             Json::Null => true,
+            _ => false,
+        }
+    }
+
+    /// Whether it is a text, a list or an object that is shared as a whole, so that a copy of it is a pointer.
+    pub fn is_shared(&self) -> bool
+        ensures { result ≡ is_shared_value self.now }
+    {
+        match self {
+            Json::Text(text) => text.is_shared(),
+            Json::List(items) => items.is_shared(),
+            Json::Object(object) => object.is_shared(),
             _ => false,
         }
     }

@@ -23,7 +23,7 @@ returns-in_ok-replace_item-in-Some-clause-outcome c =
     (subst Done c.in_ok-copy.ensures.value c.in_ok-replace_item-in-Some.ensures.ok)
 
 pub returns-in_ok-replace_item-in-Some-clause-own : goal.returns-in_ok-replace_item-in-Some-clause-own
-returns-in_ok-replace_item-in-Some-clause-own c own = (known _ _ c.in-Some.is (c.list_mut.follows.holds _)).1 ∙ c.replace_item.ensures.own (c.in-Some.ensures.own ∙ own) c.in_ok-copy.ensures.own
+returns-in_ok-replace_item-in-Some-clause-own c own = (known _ _ c.in-Some.is (c.list_mut.follows.holds _)).1 ∙ c.replace_item.ensures.own (c.in-Some.ensures.own ∙ own) (c.in_ok-copy.ensures.own own)
 
 pub returns-in_err-replace_item-in-Some-clause-own : goal.returns-in_err-replace_item-in-Some-clause-own
-returns-in_err-replace_item-in-Some-clause-own c own = (known _ _ c.in-Some.is (c.list_mut.follows.holds _)).1 ∙ c.replace_item.ensures.own (c.in-Some.ensures.own ∙ own) c.in_ok-copy.ensures.own
+returns-in_err-replace_item-in-Some-clause-own c own = (known _ _ c.in-Some.is (c.list_mut.follows.holds _)).1 ∙ c.replace_item.ensures.own (c.in-Some.ensures.own ∙ own) (c.in_ok-copy.ensures.own own)

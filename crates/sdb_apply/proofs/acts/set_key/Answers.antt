@@ -19,7 +19,7 @@ returns-in_ok-put_at_key-in-Some-clause-outcome c =
     (c.in_ok-put_at_key-in-Some.ensures.ok ∙ ap (λ k. put k (view c.in_ok-copy.copy) ms) c.in_ok-name.ensures.ok ∙ ap (λ v. put c.args.key.now v ms) c.in_ok-copy.ensures.value)
 
 pub returns-in_ok-put_at_key-in-Some-clause-own : goal.returns-in_ok-put_at_key-in-Some-clause-own
-returns-in_ok-put_at_key-in-Some-clause-own c own = (known _ _ c.in-Some.is (c.object_mut.follows.holds _)).1 ∙ c.put_at_key.ensures.own (c.in-Some.ensures.own ∙ own) c.in_ok-copy.ensures.own
+returns-in_ok-put_at_key-in-Some-clause-own c own = (known _ _ c.in-Some.is (c.object_mut.follows.holds _)).1 ∙ c.put_at_key.ensures.own (c.in-Some.ensures.own ∙ own) (c.in_ok-copy.ensures.own own)
 
 pub returns-in_err-put_at_key-in-Some-clause-own : goal.returns-in_err-put_at_key-in-Some-clause-own
-returns-in_err-put_at_key-in-Some-clause-own c own = (known _ _ c.in-Some.is (c.object_mut.follows.holds _)).1 ∙ c.put_at_key.ensures.own (c.in-Some.ensures.own ∙ own) c.in_ok-copy.ensures.own
+returns-in_err-put_at_key-in-Some-clause-own c own = (known _ _ c.in-Some.is (c.object_mut.follows.holds _)).1 ∙ c.put_at_key.ensures.own (c.in-Some.ensures.own ∙ own) (c.in_ok-copy.ensures.own own)
