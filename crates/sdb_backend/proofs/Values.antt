@@ -3,7 +3,7 @@ use denote.RattleType.{RattleType}
 use denote.Struct.Field.{Field, row_field}
 use denote.Param.Send.{IsSend, IsSync, sendable}
 use denote.Param.SendFields.{as_row_send, as_row_sync, declared_send, declared_sync, variants_send, variants_sync}
-use Rattle.std.proofs.Crossing.{Vec-send, Vec-sync, Arc-send, Arc-sync, crosses}
+use Rattle.std.proofs.Crossing.{Box-send, Box-sync, Vec-send, Vec-sync, Arc-send, Arc-sync, crosses}
 use Rattle.std.proofs.MapsCrossing as maps
 use Rattle.sdb_pieces.specs.contracts.block.Block as Block
 use Rattle.sdb_pieces.specs.contracts.group.Group as Group
@@ -64,10 +64,10 @@ module _ (T : RattleType) (s : IsSend T) (y : IsSync T) where
 
 module _ (T : RattleType) (s : IsSend T) (y : IsSync T) where
   Object-send : IsSend (Object.the_row T)
-  Object-send = variants_send (Object.enum T) ((Members-send T s y, tt), ((Arc-send _ (Members-send T s y) (Members-sync T s y), tt), tt))
+  Object-send = variants_send (Object.enum T) ((Box-send _ (Members-send T s y), tt), ((Arc-send _ (Members-send T s y) (Members-sync T s y), tt), tt))
 
   Object-sync : IsSync (Object.the_row T)
-  Object-sync = variants_sync (Object.enum T) ((Members-sync T s y, tt), ((Arc-sync _ (Members-send T s y) (Members-sync T s y), tt), tt))
+  Object-sync = variants_sync (Object.enum T) ((Box-sync _ (Members-sync T s y), tt), ((Arc-sync _ (Members-send T s y) (Members-sync T s y), tt), tt))
 
 pub Json-send : IsSend (Json.the_field).row
 Json-send =
