@@ -14,17 +14,17 @@ pub returns-clause-whole : goal.returns-clause-whole
 returns-clause-whole g c =
     let s = plain_session c.in_ok-new_session.field-0 in
     let source = c.in_ok-new_session.ensures.source in
-    on_ok c.run_lines.result (λ h. IfSome_then (g.R.Source.left c.args.reader.now) h
-    (λ input a. wrote_all {S = LineSession g.row.C.Denot} (λ s. s.table) (λ x. x.now) (timed_by g.C.Clock.ahead) _ c.run_lines.new.machine c.args.table.now (g.C.Clock.ahead c.args.clock) (map reading_of (lines_of input)) _ _ _ refl
-    (timed_first (machine_of c.new.result) s own_source c.new.ensures.logs c.new.ensures.queues source c.in_ok-new_session.ensures.subs (g.C.Clock.ahead c.args.clock)) (ap opening source) a)) c.run_lines.ensures.whole
+    on_ok c.run_lines-counts.result (λ h. IfSome_then (g.R.Source.left c.args.reader.now) h
+    (λ input a. wrote_all {S = LineSession g.row.C.Denot} (λ s. s.table) (λ x. x.now) (timed_by g.C.Clock.ahead) _ c.run_lines-counts.new.machine c.args.table.now (g.C.Clock.ahead c.args.clock) (map reading_of (lines_of input)) _ _ _ refl
+    (timed_first (machine_of c.new.result) s own_source c.new.ensures.logs c.new.ensures.queues source c.in_ok-new_session.ensures.subs (g.C.Clock.ahead c.args.clock)) (ap opening source) a)) c.run_lines-counts.ensures.whole
 
 pub returns-clause-front : goal.returns-clause-front
 returns-clause-front g c =
     let s = plain_session c.in_ok-new_session.field-0 in
     let source = c.in_ok-new_session.ensures.source in
-    on_err c.run_lines.result (λ h. IfSome_then (g.R.Source.left c.args.reader.now) h
+    on_err c.run_lines-counts.result (λ h. IfSome_then (g.R.Source.left c.args.reader.now) h
     (λ input a. wrote_front {S = LineSession g.row.C.Denot} (λ s. s.table) (λ x. x.now) (timed_by g.C.Clock.ahead) _ c.args.table.now (g.C.Clock.ahead c.args.clock) (map reading_of (lines_of input)) _ _ _ refl
-    (timed_first (machine_of c.new.result) s own_source c.new.ensures.logs c.new.ensures.queues source c.in_ok-new_session.ensures.subs (g.C.Clock.ahead c.args.clock)) (ap opening source) a)) c.run_lines.ensures.front
+    (timed_first (machine_of c.new.result) s own_source c.new.ensures.logs c.new.ensures.queues source c.in_ok-new_session.ensures.subs (g.C.Clock.ahead c.args.clock)) (ap opening source) a)) c.run_lines-counts.ensures.front
 
 pub returns-in_err-new_session-clause-front : goal.returns-in_err-new_session-clause-front
 returns-in_err-new_session-clause-front g c =
