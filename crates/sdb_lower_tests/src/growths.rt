@@ -188,10 +188,17 @@ fn a_long_list_shared(rt: HostRuntime) {
     assert!(rt; matches!(&form, Form::Groups(_)) && counts_to(&Pieces::from_form(form), 4_000));
 }
 
+// The same list by a pointer, so that a change of one of them copies what is on its way.
+fn copied(rt: &impl Abort, list: &Pieces<Number>) -> Pieces<Number> {
+    let copy = list.share_pointer().expect(rt, "out of memory");
+    copy.expect(rt, "a shared list")
+}
+
 #[test]
 fn an_insert_into_a_shared_list(rt: HostRuntime) {
     let list = numbered(&rt, rt.alloc(), 4_000);
     let mut list = share(&rt, rt.alloc(), list);
+    let copy = copied(&rt, &list);
     mark(&rt, rt.alloc());
     let outcome = list.insert(rt.alloc(), 4_000, Number(4_000));
     mark(&rt, rt.alloc());
@@ -203,20 +210,21 @@ fn an_insert_into_a_shared_list(rt: HostRuntime) {
                     .unwrap_or(false)
         );
     }
-    assert!(rt; list.is_in_groups() && counts_to(&list, 4_001));
+    assert!(rt; list.is_in_groups() && counts_to(&list, 4_001) && counts_to(&copy, 4_000));
 }
 
 #[test]
 fn a_removal_from_a_shared_list(rt: HostRuntime) {
     let list = numbered(&rt, rt.alloc(), 4_000);
     let mut list = share(&rt, rt.alloc(), list);
+    let copy = copied(&rt, &list);
     mark(&rt, rt.alloc());
     let outcome = list.remove(rt.alloc(), 3_999);
     mark(&rt, rt.alloc());
     if outcome.is_err() {
         assert!(rt; counts_to(&list, 4_000) && list.remove(rt.alloc(), 3_999).is_ok());
     }
-    assert!(rt; list.is_in_groups() && counts_to(&list, 3_999));
+    assert!(rt; list.is_in_groups() && counts_to(&list, 3_999) && counts_to(&copy, 4_000));
 }
 
 fn key(rt: &impl Abort, alloc: Global, number: u64) -> String {
