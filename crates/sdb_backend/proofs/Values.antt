@@ -3,16 +3,15 @@ use denote.RattleType.{RattleType}
 use denote.Struct.Field.{Field, row_field}
 use denote.Param.Send.{IsSend, IsSync, sendable}
 use denote.Param.SendFields.{as_row_send, as_row_sync, declared_send, declared_sync, variants_send, variants_sync}
-use Rattle.std.proofs.Crossing.{Box-send, Box-sync, Vec-send, Vec-sync, Arc-send, Arc-sync, crosses}
+use Rattle.std.proofs.Crossing.{Vec-send, Vec-sync, Arc-send, Arc-sync, crosses}
 use Rattle.std.proofs.MapsCrossing as maps
 use Rattle.sdb_pieces.specs.contracts.block.Block as Block
 use Rattle.sdb_pieces.specs.contracts.group.Group as Group
 use Rattle.sdb_pieces.specs.contracts.pieces.Form as Form
 use Rattle.sdb_pieces.specs.contracts.pieces.Pieces as Pieces
 use Rattle.sdb_members.specs.contracts.key.Key as Key
-use Rattle.sdb_members.specs.contracts.keys.Keys as Keys
+use Rattle.sdb_members.specs.contracts.member.Member as Member
 use Rattle.sdb_members.specs.contracts.members.Members as Members
-use Rattle.sdb_members.specs.contracts.object.Object as Object
 use Rattle.sdb_value.specs.contracts.value.Json as Json
 use Rattle.sdb_value.proofs.value.Json.TheLaws.TheKnot as knot
 
@@ -43,40 +42,35 @@ module _ (T : RattleType) (s : IsSend T) (y : IsSync T) where
   Pieces-sync : IsSync (Pieces.the_row T)
   Pieces-sync = declared_sync (Pieces.the_type T) (Form-sync, tt)
 
+-- of a key, by what is in it
 Key-send : IsSend Key.the_row
 Key-send = search (sendable, crosses, maps.crosses) depth 40
 
 Key-sync : IsSync Key.the_row
 Key-sync = search (sendable, crosses, maps.crosses) depth 40
 
-Keys-send : IsSend Keys.the_row
-Keys-send = declared_send Keys.the_type (Pieces-send Key.the_row Key-send Key-sync, (search sendable, tt))
+module _ (T : RattleType) (s : IsSend T) (y : IsSync T) where
+  Member-send : IsSend (Member.the_row T)
+  Member-send = declared_send (Member.the_type T) (Key-send, (as_row_send (row_field T) s, tt))
 
-Keys-sync : IsSync Keys.the_row
-Keys-sync = declared_sync Keys.the_type (Pieces-sync Key.the_row Key-send Key-sync, (search sendable, tt))
+  Member-sync : IsSync (Member.the_row T)
+  Member-sync = declared_sync (Member.the_type T) (Key-sync, (as_row_sync (row_field T) y, tt))
 
 module _ (T : RattleType) (s : IsSend T) (y : IsSync T) where
   Members-send : IsSend (Members.the_row T)
-  Members-send = declared_send (Members.the_type T) (Keys-send, (Pieces-send T s y, tt))
+  Members-send = declared_send (Members.the_type T) (Pieces-send (Member.the_row T) (Member-send T s y) (Member-sync T s y), tt)
 
   Members-sync : IsSync (Members.the_row T)
-  Members-sync = declared_sync (Members.the_type T) (Keys-sync, (Pieces-sync T s y, tt))
-
-module _ (T : RattleType) (s : IsSend T) (y : IsSync T) where
-  Object-send : IsSend (Object.the_row T)
-  Object-send = variants_send (Object.enum T) ((Box-send _ (Members-send T s y), tt), ((Arc-send _ (Members-send T s y) (Members-sync T s y), tt), tt))
-
-  Object-sync : IsSync (Object.the_row T)
-  Object-sync = variants_sync (Object.enum T) ((Box-sync _ (Members-sync T s y), tt), ((Arc-sync _ (Members-send T s y) (Members-sync T s y), tt), tt))
+  Members-sync = declared_sync (Members.the_type T) (Pieces-sync (Member.the_row T) (Member-send T s y) (Member-sync T s y), tt)
 
 pub Json-send : IsSend (Json.the_field).row
 Json-send =
     knot.both_send-Json (search sendable) (search sendable) (search sendable) (search sendable) (search (sendable, crosses, maps.crosses) depth 60 fits 100000)
     (search (sendable, crosses, maps.crosses) depth 60 fits 100000) (λ h s y. Pieces-send h s y) (λ h s y. Pieces-sync h s y)
-    (λ h s y. Object-send h s y) (λ h s y. Object-sync h s y)
+    (λ h s y. Members-send h s y) (λ h s y. Members-sync h s y)
 
 pub Json-sync : IsSync (Json.the_field).row
 Json-sync =
     knot.both_sync-Json (search sendable) (search sendable) (search sendable) (search sendable) (search (sendable, crosses, maps.crosses) depth 60 fits 100000)
     (search (sendable, crosses, maps.crosses) depth 60 fits 100000) (λ h s y. Pieces-send h s y) (λ h s y. Pieces-sync h s y)
-    (λ h s y. Object-send h s y) (λ h s y. Object-sync h s y)
+    (λ h s y. Members-send h s y) (λ h s y. Members-sync h s y)

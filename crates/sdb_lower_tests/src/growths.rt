@@ -1,5 +1,6 @@
 //! Calls that find no memory: what they leave, and the same call with memory. Run as they stand, these
 //! tests find memory at once; `tests/growths.py` refuses each allocation of each in turn.
+use crate::members::{copied as copied_members, shared};
 use crate::pieces::{Number, numbered, share};
 use crate::texts::{extended, is_printed, is_shown, json, op};
 use sdb_apply::{ApplyFault, apply, apply_whole};
@@ -236,33 +237,52 @@ fn key(rt: &impl Abort, alloc: Global, number: u64) -> String {
     key
 }
 
-// Members of so many keys that they and their values are in groups.
+// Members of so many keys that they are in groups.
 fn long_members(rt: &impl Abort, alloc: Global) -> Members<Number> {
     let mut members = Members::new(alloc);
     for number in 0..2_000 {
         let put = members.insert(alloc, key(rt, alloc, number), Number(number));
         drop(put.expect(rt, "out of memory"));
     }
-    members
-        .keys
-        .share_in_place(alloc)
-        .expect(rt, "out of memory");
-    members.values = share(rt, alloc, members.values);
-    members
+    shared(rt, alloc, members)
+}
+
+// Whether their values are the numbers from 0 on, and so many of them.
+fn values_count_to(members: &Members<Number>, count: u64) -> bool {
+    members.iter().map(|member| member.1.0).eq(0..count)
 }
 
 #[test]
 fn a_key_put_into_shared_members(rt: HostRuntime) {
     let mut members = long_members(&rt, rt.alloc());
+    let copy = copied_members(&rt, &members);
     let next = key(&rt, rt.alloc(), 2_000);
     mark(&rt, rt.alloc());
     let outcome = members.insert(rt.alloc(), next, Number(2_000));
     mark(&rt, rt.alloc());
     if outcome.is_err() {
-        assert!(rt; members.keys.len() == 2_000 && counts_to(&members.values, 2_000));
+        assert!(rt; values_count_to(&members, 2_000));
         let next = key(&rt, rt.alloc(), 2_000);
         assert!(rt; members.insert(rt.alloc(), next, Number(2_000)).is_ok());
     }
-    assert!(rt; members.keys.len() == 2_001 && counts_to(&members.values, 2_001));
-    assert!(rt; members.get("1234").map(|number| number.0) == Some(1_234));
+    assert!(rt; values_count_to(&members, 2_001) && values_count_to(&copy, 2_000));
+    assert!(rt;
+        members.pieces().is_in_groups()
+            && members.get("1234").map(|number| number.0) == Some(1_234)
+            && members.get("2000").map(|number| number.0) == Some(2_000)
+    );
+}
+
+#[test]
+fn a_key_taken_out_of_shared_members(rt: HostRuntime) {
+    let mut members = long_members(&rt, rt.alloc());
+    let copy = copied_members(&rt, &members);
+    mark(&rt, rt.alloc());
+    let outcome = members.remove(rt.alloc(), "1999");
+    mark(&rt, rt.alloc());
+    if outcome.is_err() {
+        assert!(rt; values_count_to(&members, 2_000));
+        assert!(rt; members.remove(rt.alloc(), "1999").is_ok());
+    }
+    assert!(rt; values_count_to(&members, 1_999) && values_count_to(&copy, 2_000));
 }

@@ -2,8 +2,8 @@
 
 use crate::pieces::{Number, block_count};
 use crate::texts::{scattered, text_of};
-use sdb_members::Members;
-use sdb_pieces::Share;
+use sdb_members::{Key, Member, Members};
+use sdb_pieces::{Pieces, Share};
 use std::alloc::Global;
 use std::collections::BTreeMap;
 use std::process::Abort;
@@ -81,29 +81,51 @@ fn take_all(
     }
 }
 
+// The members shared in place: in groups where they are many.
+pub(crate) fn shared(rt: &impl Abort, alloc: Global, members: Members<Number>) -> Members<Number> {
+    let mut form = members.into_pieces().into_form();
+    form.share_in_place(alloc).expect(rt, "out of memory");
+    Members::from_pieces(Pieces::from_form(form))
+}
+
+// The same members by a pointer, so that a change of one of them copies what is on its way.
+pub(crate) fn copied(rt: &impl Abort, members: &Members<Number>) -> Members<Number> {
+    let copy = members.share_pointer().expect(rt, "out of memory");
+    copy.expect(rt, "shared members")
+}
+
+// The same members, made of the vector of them.
+fn again(rt: &impl Abort, alloc: Global, members: Members<Number>) -> Members<Number> {
+    let entries = members.into_pieces().into_vec(alloc);
+    Members::from_sorted(alloc, entries.expect(rt, "out of memory")).expect(rt, "out of memory")
+}
+
 #[test]
 fn members_in_blocks_are_those_of_a_map(rt: HostRuntime) {
     let mut plain = BTreeMap::new(rt.alloc());
     let mut members = Members::new(rt.alloc());
     put_all(&rt, rt.alloc(), &mut members, &mut plain);
-    assert!(rt; block_count(&members.values) > 40 && is(&members, &plain));
+    assert!(rt; block_count(members.pieces()) > 40 && is(&members, &plain));
     take_all(&rt, rt.alloc(), &mut members, &mut plain);
+    assert!(rt; !members.is_shared() && is(&members, &plain));
+    let members = again(&rt, rt.alloc(), members);
     assert!(rt; is(&members, &plain));
 }
 
 #[test]
-fn a_copy_with_shared_keys_is_changed_apart(rt: HostRuntime) {
+fn shared_members_are_changed_beside_their_copy(rt: HostRuntime) {
     let mut plain = BTreeMap::new(rt.alloc());
     let mut members = Members::new(rt.alloc());
     put_all(&rt, rt.alloc(), &mut members, &mut plain);
-    members
-        .keys
-        .share_in_place(rt.alloc())
-        .expect(&rt, "out of memory");
-    let copy = members.share(rt.alloc()).expect(&rt, "out of memory");
-    assert!(rt; is(&copy, &plain));
+    let mut members = shared(&rt, rt.alloc(), members);
+    let copy = copied(&rt, &members);
+    assert!(rt; members.pieces().is_in_groups() && copy.is_shared() && is(&copy, &plain));
     take_all(&rt, rt.alloc(), &mut members, &mut plain);
-    assert!(rt; is(&members, &plain) && copy.get("17").is_some() && copy.keys.len() == 5_003);
+    assert!(rt; is(&members, &plain) && copy.get("17").is_some() && copy.len() == 5_003);
+    put_all(&rt, rt.alloc(), &mut members, &mut plain);
+    assert!(rt; is(&members, &plain));
+    let copy = again(&rt, rt.alloc(), copy);
+    assert!(rt; !copy.is_shared() && copy.get("17").is_some() && copy.len() == 5_003);
 }
 
 #[test]
@@ -114,9 +136,88 @@ fn members_of_a_map_are_found(rt: HostRuntime) {
         drop(added.expect(&rt, "out of memory"));
     }
     let members = Members::from_map(rt.alloc(), plain).expect(&rt, "out of memory");
-    assert!(rt; members.keys.len() == 300 && block_count(&members.values) == 15);
+    assert!(rt; members.len() == 300 && block_count(members.pieces()) == 15);
     let second = name(&rt, rt.alloc(), 1);
     assert!(rt;
         members.get(second.as_str()).map(|number| number.0) == Some(1) && members.get("").is_none()
+    );
+}
+
+// Two members, of the keys "a" and "c".
+fn two(rt: &impl Abort, alloc: Global) -> Members<Number> {
+    let mut members = Members::new(alloc);
+    for (key, number) in [("c", 3), ("a", 1)] {
+        let put = members.insert(alloc, text_of(rt, alloc, &key), Number(number));
+        assert!(rt; put.expect(rt, "out of memory").is_none());
+    }
+    members
+}
+
+#[test]
+fn places_of_keys_are_found(rt: HostRuntime) {
+    let members = two(&rt, rt.alloc());
+    assert!(rt;
+        matches!(members.find("a"), Ok(0))
+            && matches!(members.find("c"), Ok(1))
+            && matches!(members.find("b"), Err(1))
+            && matches!(members.find("d"), Err(2))
+    );
+}
+
+fn changed(members: &mut Members<Number>, key: &str) -> bool {
+    match members.get_mut(key) {
+        Some(number) => {
+            number.0 = 9;
+            true
+        }
+        None => false,
+    }
+}
+
+#[test]
+fn a_value_is_changed_in_place(rt: HostRuntime) {
+    let mut members = two(&rt, rt.alloc());
+    assert!(rt;
+        changed(&mut members, "c")
+            && !changed(&mut members, "b")
+            && members.get("c").map(|number| number.0) == Some(9)
+            && members.get("a").map(|number| number.0) == Some(1)
+    );
+    let mut members = shared(&rt, rt.alloc(), members);
+    assert!(rt; !changed(&mut members, "c") && members.len() == 2);
+}
+
+#[test]
+fn a_copy_of_a_member_is_the_same(rt: HostRuntime) {
+    let member = Member {
+        key: Key::new(text_of(&rt, rt.alloc(), &"a key of more than one word")),
+        value: Number(7),
+    };
+    let copy = member.share(rt.alloc()).expect(&rt, "out of memory");
+    assert!(rt; copy.key.as_str() == member.key.as_str() && copy.value.0 == 7);
+}
+
+// A key of so many of these letters, read, had again, and made of a text of its own.
+fn is_kept(rt: &impl Abort, alloc: Global, letter: char, count: u64) -> bool {
+    let mut text = String::new(alloc);
+    for _ in 0..count {
+        text.push(letter).expect(rt, "out of memory");
+    }
+    let key = Key::from_str(alloc, text.as_str()).expect(rt, "out of memory");
+    let copy = key.share(alloc).expect(rt, "out of memory");
+    let same = key.as_str() == text.as_str() && copy.as_str() == text.as_str();
+    let moved = Key::new(text);
+    same && moved.as_str() == key.as_str()
+}
+
+#[test]
+fn keys_of_every_length(rt: HostRuntime) {
+    for count in 0..90 {
+        assert!(rt;
+            is_kept(&rt, rt.alloc(), 'k', count) && is_kept(&rt, rt.alloc(), '\u{e9}', count)
+        );
+    }
+    assert!(rt;
+        is_kept(&rt, rt.alloc(), '\u{20ac}', 13) && is_kept(&rt, rt.alloc(), '\u{1f511}', 10)
     );
 }

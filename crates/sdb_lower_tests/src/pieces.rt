@@ -35,7 +35,7 @@ fn numbers(rt: &impl Abort, alloc: Global, list: &Pieces<Number>) -> Vec<u64> {
     found
 }
 
-pub(crate) fn block_count(list: &Pieces<Number>) -> u64 {
+pub(crate) fn block_count<T>(list: &Pieces<T>) -> u64 {
     let mut count: u64 = 0;
     for _ in list.blocks() {
         count = count.saturating_add(1);

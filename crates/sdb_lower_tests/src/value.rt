@@ -6,10 +6,9 @@ use crate::texts::{
     add, each_row, extended, is_shown, joined, json, json_of, parsed, says, shown, text_of,
 };
 use json::Writer;
-use sdb_pieces::Share;
 use sdb_value::{
-    Change, Json, List, MAX, Object, Path, Step, ValueFault, Whole, change_at, count_of, cut_at,
-    find, find_mut, insert_item, laws, list_mut, object_mut, put_at_key, put_member, remove_at_key,
+    Change, Json, List, MAX, Members, Path, Step, ValueFault, Whole, change_at, count_of, cut_at,
+    find, find_mut, insert_item, laws, list_mut, object_mut, put_at_key, remove_at_key,
     remove_item, replace_item, same_value, text_mut, units, whole_of, write_value,
 };
 use serde_json::Value;
@@ -405,14 +404,14 @@ fn a_list_is_changed_in_place(rt: HostRuntime) {
     assert!(rt; is_shown(&rt, rt.alloc(), &list, r#"[2,"q",4]"#));
 }
 
-fn put(rt: &impl Abort, alloc: Global, object: &mut Object, key: &str, value: Json) {
-    put_at_key(alloc, object, text_of(rt, alloc, &key), value).expect(rt, "out of memory");
+fn put(rt: &impl Abort, alloc: Global, members: &mut Members, key: &str, value: Json) {
+    put_at_key(alloc, members, text_of(rt, alloc, &key), value).expect(rt, "out of memory");
 }
 
-fn change_members(rt: &impl Abort, alloc: Global, object: &mut Object) {
-    put(rt, alloc, object, "b", json(rt, alloc, "2"));
-    put(rt, alloc, object, "c", Json::Null);
-    remove_at_key(alloc, object, "a").expect(rt, "out of memory");
+fn change_members(rt: &impl Abort, alloc: Global, members: &mut Members) {
+    put(rt, alloc, members, "b", json(rt, alloc, "2"));
+    put(rt, alloc, members, "c", Json::Null);
+    remove_at_key(alloc, members, "a").expect(rt, "out of memory");
 }
 
 #[test]
@@ -478,8 +477,7 @@ fn a_wide_object_is_changed_beside_its_copy(rt: HostRuntime) {
     let half = numbered(&rt, rt.alloc(), false);
     let mut object = json(&rt, rt.alloc(), whole.as_str());
     assert!(rt; !object.is_shared());
-    // `Share::share` is in scope too, and copies
-    Json::share(&mut object, rt.alloc()).expect(&rt, "out of memory");
+    object.share(rt.alloc()).expect(&rt, "out of memory");
     assert!(rt; object.is_shared() && !Json::Null.is_shared());
     let copy = object.try_clone(rt.alloc()).expect(&rt, "out of memory");
     change_odd(&rt, rt.alloc(), &mut object, false);
@@ -493,14 +491,14 @@ fn a_wide_object_is_changed_beside_its_copy(rt: HostRuntime) {
 
 #[test]
 fn members_are_a_value_again(rt: HostRuntime) {
-    let object = json(&rt, rt.alloc(), r#"{"a":null}"#);
+    let mut object = json(&rt, rt.alloc(), r#"{"a":null}"#);
+    object.share(rt.alloc()).expect(&rt, "out of memory");
     let members = object.members().expect(&rt, "an object");
     assert!(rt; members.get("a").expect(&rt, "a member").is_null() && !object.is_null());
-    let mut copy = members.share(rt.alloc()).expect(&rt, "out of memory");
-    let key = text_of(&rt, rt.alloc(), &"a");
-    put_member(rt.alloc(), &mut copy, key, Json::Null).expect(&rt, "out of memory");
-    let again = Json::of_members(rt.alloc(), copy).expect(&rt, "out of memory");
-    assert!(rt; same_value(&object, &again));
+    let copy = members.share_pointer().expect(&rt, "out of memory");
+    let mut copy = copy.expect(&rt, "shared members");
+    put(&rt, rt.alloc(), &mut copy, "a", Json::Null);
+    assert!(rt; same_value(&object, &Json::of_members(copy)));
 }
 
 // A value with a list and an object of several blocks and a text of several pieces.

@@ -1,28 +1,22 @@
 -- Members that are made of a map, and gone through.
-use Rattle.std.proofs.Common.{◌≡◌, ℕ, List, [], ◌∷◌, ◌++◌, map, refl, sym, ap, ◌∙◌, subst, String, string_bytes, Option, None}
+use Rattle.std.proofs.Common.{◌≡◌, ℕ, List, [], ◌∷◌, ◌++◌, map, refl, sym, ap, ◌∙◌, subst, String, string_bytes, Option, Some, None}
 use Rattle.std.specs.declared.alloc.Global.{Global}
 use Rattle.std.specs.Iterator.{YieldsFirstBy}
-use Rattle.std.specs.List.{AllByRecursion, zip}
+use Rattle.std.specs.Option.{IfSome}
+use Rattle.std.specs.List.{AllByRecursion, flat_map}
 use Rattle.std.specs.List.Sorted.{IsStrictlySortedBy}
 use Rattle.std.specs.Map.{keys_of}
 use Rattle.std.specs.String.{string_cmp}
 use Rattle.std.specs.declared.cmp.Ordering.TheVariants.{Less}
+use Rattle.sdb_pieces.specs.Block.{items_of}
 use Rattle.sdb_pieces.specs.Laws.{seen_items_in}
-use Rattle.sdb_pieces.specs.Pieces.{items_in}
+use Rattle.sdb_pieces.specs.Pieces.{blocks_in, items_in, parts_in}
+use Rattle.sdb_pieces.specs.declared.block.Block.{Block}
 use Rattle.sdb_pieces.specs.declared.pieces.Pieces.{Pieces}
-use Rattle.sdb_members.specs.Key.{key_bytes}
-use Rattle.sdb_members.specs.Members.{names}
+use Rattle.sdb_members.specs.Member.{entry, name}
 use Rattle.sdb_members.specs.Order.{by_bytes, IsAscending}
 use Rattle.sdb_members.specs.Search.{texts, texts_of}
-use Rattle.sdb_members.specs.declared.key.Key.{Key}
-
-pub none_paired : {X : Type 0} (ts : List (List ℕ)) (vs : List X) → vs ≡ [] → zip ts vs ≡ []
-none_paired [] vs e = refl
-none_paired (t ∷ ts) vs e = ap (zip (t ∷ ts)) e
-
-pub zip_maps : {E A B : Type 0} (f : E → A) (g : E → B) (es : List E) → zip (map f es) (map g es) ≡ map (λ e. (f e, g e)) es
-zip_maps f g [] = refl
-zip_maps f g (e ∷ es) = ap (λ l. (f e, g e) ∷ l) (zip_maps f g es)
+use Rattle.sdb_members.specs.declared.member.Member.{Member}
 
 map_more : {E A : Type 0} (f : E → A) (es : List E) (e : E) → map f (es ++ e ∷ []) ≡ map f es ++ f e ∷ []
 map_more f [] e = refl
@@ -33,9 +27,6 @@ pub more : {E X A : Type 0} (h : X → A) (f : E → A) (xs ys : List X) (x : X)
     → map h ys ≡ map f (es ++ e ∷ [])
 more h f xs ys x es e p q r =
     ap (map h) p ∙ map_more h xs x ∙ ap (λ l. l ++ h x ∷ []) q ∙ ap (λ a. map f es ++ a ∷ []) r ∙ sym (map_more f es e)
-
-pub more_values : {E X : Type 0} (f : E → X) (xs ys : List X) (es : List E) (e : E) → ys ≡ xs ++ f e ∷ [] → xs ≡ map f es → ys ≡ map f (es ++ e ∷ [])
-more_values f xs ys es e p q = p ∙ ap (λ l. l ++ f e ∷ []) q ∙ sym (map_more f es e)
 
 append_none : {E : Type 0} (xs : List E) → xs ++ [] ≡ xs
 append_none [] = refl
@@ -57,18 +48,29 @@ unfolding IsStrictlySortedBy
 ascending_bytes [] s = tt
 ascending_bytes (e ∷ es) s = (below_bytes e.0 es s.0, ascending_bytes es s.1)
 
-pub texts_kept : (l : Pieces Key) (ks : List Key) → items_in l ≡ ks → texts_of l ≡ texts ks
-texts_kept l ks e = seen_items_in key_bytes l ∙ ap texts e
+-- the keys of members, by their entries
+pub texts_entries : {X E : Type 0} (f : E → List ℕ) (g : E → X) (ms : List (Member X)) (es : List E) → map entry ms ≡ map (λ e. (f e, g e)) es → texts ms ≡ map f es
+texts_entries f g [] [] e = refl
+texts_entries f g [] (d ∷ es) e = cc
+texts_entries f g (m ∷ ms) [] e = cc
+texts_entries f g (m ∷ ms) (d ∷ es) e =
+    let first : name m ≡ f d = let whole : entry m ≡ (f d, g d) = cc in ap (λ x. x.0) whole in
+    let rest : map entry ms ≡ map (λ x. (f x, g x)) es = cc in
+    ap (λ t. t ∷ texts ms) first ∙ ap (λ l. f d ∷ l) (texts_entries f g ms es rest)
 
--- the keys of members ascend
-below_names : {X : Type 0} (k : List ℕ) (ts : List (List ℕ)) (vs : List X) → AllByRecursion (λ y. by_bytes k y ≡ Less) ts
-    → AllByRecursion (λ y. by_bytes k y ≡ Less) (names (zip ts vs))
-below_names k [] vs h = tt
-below_names k (t ∷ ts) [] h = tt
-below_names k (t ∷ ts) (v ∷ vs) h = (h.0, below_names k ts vs h.1)
+-- lists of the same parts
+pub pointed : {X : Type 0} (o : Option (Pieces X)) (l m : Pieces X) → o ≡ Some m → IfSome o (λ n. parts_in n ≡ parts_in l) → parts_in m ≡ parts_in l
+pointed o l m e h = subst (λ p. IfSome p (λ n. parts_in n ≡ parts_in l)) e h
 
-pub names_ascend : {X : Type 0} (ts : List (List ℕ)) (vs : List X) → IsAscending ts → IsAscending (names (zip ts vs))
-unfolding IsStrictlySortedBy
-names_ascend [] vs h = tt
-names_ascend (t ∷ ts) [] h = tt
-names_ascend (t ∷ ts) (v ∷ vs) h = (below_names t ts vs h.0, names_ascend ts vs h.1)
+flat_blocks : {X : Type 0} (bs : List (Block X)) → flat_map items_of bs ≡ flat_map (λ xs. xs) (map items_of bs)
+flat_blocks [] = refl
+flat_blocks (b ∷ bs) = ap (λ l. items_of b ++ l) (flat_blocks bs)
+
+pub items_parts : {X : Type 0} (l : Pieces X) → items_in l ≡ flat_map (λ xs. xs) (parts_in l)
+items_parts l = flat_blocks (blocks_in l)
+
+pub same_items : {X : Type 0} (l m : Pieces X) → parts_in m ≡ parts_in l → items_in m ≡ items_in l
+same_items l m e = items_parts m ∙ ap (flat_map (λ xs. xs)) e ∙ sym (items_parts l)
+
+pub same_texts : {X : Type 0} (l m : Pieces (Member X)) → parts_in m ≡ parts_in l → texts_of m ≡ texts_of l
+same_texts l m e = seen_items_in name m ∙ ap texts (same_items l m e) ∙ sym (seen_items_in name l)

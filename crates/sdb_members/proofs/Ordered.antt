@@ -1,6 +1,6 @@
 -- Where a key stands among texts in order, and what that says of a map.
 use Rattle.std.proofs.Common.{◌≡◌, ℕ, zero, suc, ◌<◌, ◌≤◌, List, [], ◌∷◌, length, take, drop, refl, sym, ap, ◌∙◌, arith, Some, slice_get, slice_set, cond}
-use Rattle.std.specs.List.{insert, remove, zip}
+use Rattle.std.specs.List.{insert, remove}
 use Rattle.std.specs.List.Sorted.{IsStrictlySortedBy}
 use Rattle.std.specs.Ordering.{is_eq, ordering_reverse, match_ordering}
 use Rattle.std.specs.declared.cmp.Ordering.TheVariants.{Less, Equal, Greater}
@@ -10,6 +10,7 @@ use Rattle.std.specs.Cmp.{IsTotalOrder}
 use Rattle.std.proofs.lemmas.Cmp.{nat_list_cmp_total}
 use Rattle.std.proofs.lemmas.Map.Lookups.{exact_bytes}
 use Rattle.sdb_members.specs.Laws.{same_equal}
+use Rattle.sdb_members.specs.Members.{names}
 use Rattle.sdb_members.specs.Order.{by_bytes, IsAscending, IsAboveAll, IsBelowAll, IsGap, IsFound}
 
 order : IsTotalOrder by_bytes
@@ -88,87 +89,60 @@ ascending_taken [] (suc i) s = tt
 ascending_taken (x ∷ xs) zero s = s.1
 ascending_taken (x ∷ xs) (suc i) s = (below_taken x xs i s.0, ascending_taken xs i s.1)
 
--- ---- the map of the keys and values
+-- ---- the map that members are
 
 module _ {X : Type 0} (k : List ℕ) where
-  found_put : (ts : List (List ℕ)) (vs : List X) (i : ℕ) (v : X) → slice_get ts i ≡ Some k → IsAboveAll k (take i ts) → i < length vs
-      → insert_entry by_bytes (zip ts vs) k v ≡ zip ts (slice_set vs i v)
-  found_put [] vs i v e a w = cc
-  found_put (t ∷ ts) [] i v e a w = absurd (omega (arith, w))
-  found_put (t ∷ ts) (u ∷ vs) zero v e a w = let is : t ≡ k = cc in
-      ap (λ o. match_ordering o ((k, v) ∷ (t, u) ∷ zip ts vs) ((t, v) ∷ zip ts vs) ((t, u) ∷ insert_entry by_bytes (zip ts vs) k v)) (same_equal k t is)
-  found_put (t ∷ ts) (u ∷ vs) (suc i) v e a w =
-      ap (λ o. match_ordering o ((k, v) ∷ (t, u) ∷ zip ts vs) ((t, v) ∷ zip ts vs) ((t, u) ∷ insert_entry by_bytes (zip ts vs) k v)) a.0
-      ∙ ap (λ es. (t, u) ∷ es) (found_put ts vs i v e a.1 (omega (arith, w)))
+  found_put : (es : List (List ℕ × X)) (i : ℕ) (v : X) → slice_get (names es) i ≡ Some k → IsAboveAll k (take i (names es))
+      → insert_entry by_bytes es k v ≡ slice_set es i (k, v)
+  found_put [] i v e a = cc
+  found_put (d ∷ es) zero v e a = let is : d.0 ≡ k = cc in
+      ap (λ o. match_ordering o ((k, v) ∷ d ∷ es) ((d.0, v) ∷ es) (d ∷ insert_entry by_bytes es k v)) (same_equal k d.0 is) ∙ ap (λ t. (t, v) ∷ es) is
+  found_put (d ∷ es) (suc i) v e a =
+      ap (λ o. match_ordering o ((k, v) ∷ d ∷ es) ((d.0, v) ∷ es) (d ∷ insert_entry by_bytes es k v)) a.0
+      ∙ ap (λ l. d ∷ l) (found_put es i v e a.1)
 
-  pub found_insert : (ts : List (List ℕ)) (vs : List X) (i : ℕ) (v : X) → IsFound ts k i → i < length vs
-      → insert_entry by_bytes (zip ts vs) k v ≡ zip ts (slice_set vs i v)
-  found_insert ts vs i v f w = found_put ts vs i v f.is f.above w
+  pub found_insert : (es : List (List ℕ × X)) (i : ℕ) (v : X) → IsFound (names es) k i → insert_entry by_bytes es k v ≡ slice_set es i (k, v)
+  found_insert es i v f = found_put es i v f.is f.above
 
-  found_taken : (ts : List (List ℕ)) (vs : List X) (i : ℕ) → slice_get ts i ≡ Some k → IsAboveAll k (take i ts) → i < length vs
-      → remove_entry (is_at (by_bytes k)) (zip ts vs) ≡ zip (remove ts i) (remove vs i)
-  found_taken [] vs i e a w = cc
-  found_taken (t ∷ ts) [] i e a w = absurd (omega (arith, w))
-  found_taken (t ∷ ts) (u ∷ vs) zero e a w = let is : t ≡ k = cc in
-      ap (λ o. cond (is_eq o) (zip ts vs) ((t, u) ∷ remove_entry (is_at (by_bytes k)) (zip ts vs))) (same_equal k t is)
-  found_taken (t ∷ ts) (u ∷ vs) (suc i) e a w =
-      ap (λ o. cond (is_eq o) (zip ts vs) ((t, u) ∷ remove_entry (is_at (by_bytes k)) (zip ts vs))) a.0
-      ∙ ap (λ es. (t, u) ∷ es) (found_taken ts vs i e a.1 (omega (arith, w)))
+  found_taken : (es : List (List ℕ × X)) (i : ℕ) → slice_get (names es) i ≡ Some k → IsAboveAll k (take i (names es))
+      → remove_entry (is_at (by_bytes k)) es ≡ remove es i
+  found_taken [] i e a = cc
+  found_taken (d ∷ es) zero e a = let is : d.0 ≡ k = cc in
+      ap (λ o. cond (is_eq o) es (d ∷ remove_entry (is_at (by_bytes k)) es)) (same_equal k d.0 is)
+  found_taken (d ∷ es) (suc i) e a =
+      ap (λ o. cond (is_eq o) es (d ∷ remove_entry (is_at (by_bytes k)) es)) a.0 ∙ ap (λ l. d ∷ l) (found_taken es i e a.1)
 
-  pub found_remove : (ts : List (List ℕ)) (vs : List X) (i : ℕ) → IsFound ts k i → i < length vs
-      → remove_entry (is_at (by_bytes k)) (zip ts vs) ≡ zip (remove ts i) (remove vs i)
-  found_remove ts vs i f w = found_taken ts vs i f.is f.above w
-
-  -- a key that no value belongs to
-  past_taken : (ts : List (List ℕ)) (vs : List X) (i : ℕ) → IsAboveAll k (take i ts) → length vs ≤ i
-      → remove_entry (is_at (by_bytes k)) (zip ts vs) ≡ zip ts vs
-  past_taken [] vs i a w = refl
-  past_taken (t ∷ ts) [] i a w = refl
-  past_taken (t ∷ ts) (u ∷ vs) zero a w = absurd (omega (arith, w))
-  past_taken (t ∷ ts) (u ∷ vs) (suc i) a w =
-      ap (λ o. cond (is_eq o) (zip ts vs) ((t, u) ∷ remove_entry (is_at (by_bytes k)) (zip ts vs))) a.0
-      ∙ ap (λ es. (t, u) ∷ es) (past_taken ts vs i a.1 (omega (arith, w)))
-
-  pub found_past : (ts : List (List ℕ)) (vs : List X) (i : ℕ) → IsFound ts k i → length vs ≤ i
-      → remove_entry (is_at (by_bytes k)) (zip ts vs) ≡ zip ts vs
-  found_past ts vs i f w = past_taken ts vs i f.above w
+  pub found_remove : (es : List (List ℕ × X)) (i : ℕ) → IsFound (names es) k i → remove_entry (is_at (by_bytes k)) es ≡ remove es i
+  found_remove es i f = found_taken es i f.is f.above
 
   -- a key that isn't there
-  kept_below : (ts : List (List ℕ)) (vs : List X) → IsBelowAll k ts → remove_entry (is_at (by_bytes k)) (zip ts vs) ≡ zip ts vs
-  kept_below [] vs b = refl
-  kept_below (t ∷ ts) [] b = refl
-  kept_below (t ∷ ts) (v ∷ vs) b =
-      ap (λ o. cond (is_eq o) (zip ts vs) ((t, v) ∷ remove_entry (is_at (by_bytes k)) (zip ts vs))) b.0
-      ∙ ap (λ es. (t, v) ∷ es) (kept_below ts vs b.1)
+  kept_below : (es : List (List ℕ × X)) → IsBelowAll k (names es) → remove_entry (is_at (by_bytes k)) es ≡ es
+  kept_below [] b = refl
+  kept_below (d ∷ es) b =
+      ap (λ o. cond (is_eq o) es (d ∷ remove_entry (is_at (by_bytes k)) es)) b.0 ∙ ap (λ l. d ∷ l) (kept_below es b.1)
 
-  kept_at : (ts : List (List ℕ)) (vs : List X) (i : ℕ) → IsAboveAll k (take i ts) → IsBelowAll k (drop i ts)
-      → remove_entry (is_at (by_bytes k)) (zip ts vs) ≡ zip ts vs
-  kept_at [] vs i a b = refl
-  kept_at (t ∷ ts) [] i a b = refl
-  kept_at (t ∷ ts) (v ∷ vs) zero a b = kept_below (t ∷ ts) (v ∷ vs) b
-  kept_at (t ∷ ts) (v ∷ vs) (suc i) a b =
-      ap (λ o. cond (is_eq o) (zip ts vs) ((t, v) ∷ remove_entry (is_at (by_bytes k)) (zip ts vs))) a.0
-      ∙ ap (λ es. (t, v) ∷ es) (kept_at ts vs i a.1 b)
+  kept_at : (es : List (List ℕ × X)) (i : ℕ) → IsAboveAll k (take i (names es)) → IsBelowAll k (drop i (names es))
+      → remove_entry (is_at (by_bytes k)) es ≡ es
+  kept_at [] i a b = refl
+  kept_at (d ∷ es) zero a b = kept_below (d ∷ es) b
+  kept_at (d ∷ es) (suc i) a b =
+      ap (λ o. cond (is_eq o) es (d ∷ remove_entry (is_at (by_bytes k)) es)) a.0 ∙ ap (λ l. d ∷ l) (kept_at es i a.1 b)
 
-  pub gap_remove : (ts : List (List ℕ)) (vs : List X) (i : ℕ) → IsGap ts k i → remove_entry (is_at (by_bytes k)) (zip ts vs) ≡ zip ts vs
-  gap_remove ts vs i g = kept_at ts vs i g.above g.below
+  pub gap_remove : (es : List (List ℕ × X)) (i : ℕ) → IsGap (names es) k i → remove_entry (is_at (by_bytes k)) es ≡ es
+  gap_remove es i g = kept_at es i g.above g.below
 
-  put_at : (ts : List (List ℕ)) (vs : List X) (i : ℕ) (v : X) → i ≤ length ts → i ≤ length vs → IsAboveAll k (take i ts) → IsBelowAll k (drop i ts)
-      → insert_entry by_bytes (zip ts vs) k v ≡ zip (insert ts i k) (insert vs i v)
-  put_at [] [] zero v n w a b = refl
-  put_at [] (u ∷ vs) zero v n w a b = refl
-  put_at [] vs (suc i) v n w a b = absurd (omega (arith, n))
-  put_at (t ∷ ts) [] zero v n w a b = refl
-  put_at (t ∷ ts) [] (suc i) v n w a b = absurd (omega (arith, w))
-  put_at (t ∷ ts) (u ∷ vs) zero v n w a b =
-      ap (λ o. match_ordering o ((k, v) ∷ (t, u) ∷ zip ts vs) ((t, v) ∷ zip ts vs) ((t, u) ∷ insert_entry by_bytes (zip ts vs) k v)) b.0
-  put_at (t ∷ ts) (u ∷ vs) (suc i) v n w a b =
-      ap (λ o. match_ordering o ((k, v) ∷ (t, u) ∷ zip ts vs) ((t, v) ∷ zip ts vs) ((t, u) ∷ insert_entry by_bytes (zip ts vs) k v)) a.0
-      ∙ ap (λ es. (t, u) ∷ es) (put_at ts vs i v (omega (arith, n)) (omega (arith, w)) a.1 b)
+  put_at : (es : List (List ℕ × X)) (i : ℕ) (v : X) → i ≤ length (names es) → IsAboveAll k (take i (names es)) → IsBelowAll k (drop i (names es))
+      → insert_entry by_bytes es k v ≡ insert es i (k, v)
+  put_at [] zero v n a b = refl
+  put_at [] (suc i) v n a b = absurd (omega (arith, n))
+  put_at (d ∷ es) zero v n a b =
+      ap (λ o. match_ordering o ((k, v) ∷ d ∷ es) ((d.0, v) ∷ es) (d ∷ insert_entry by_bytes es k v)) b.0
+  put_at (d ∷ es) (suc i) v n a b =
+      ap (λ o. match_ordering o ((k, v) ∷ d ∷ es) ((d.0, v) ∷ es) (d ∷ insert_entry by_bytes es k v)) a.0
+      ∙ ap (λ l. d ∷ l) (put_at es i v (omega (arith, n)) a.1 b)
 
-  pub gap_insert : (ts : List (List ℕ)) (vs : List X) (i : ℕ) (v : X) → IsGap ts k i → i ≤ length vs
-      → insert_entry by_bytes (zip ts vs) k v ≡ zip (insert ts i k) (insert vs i v)
-  gap_insert ts vs i v g w = put_at ts vs i v g.within w g.above g.below
+  pub gap_insert : (es : List (List ℕ × X)) (i : ℕ) (v : X) → IsGap (names es) k i → insert_entry by_bytes es k v ≡ insert es i (k, v)
+  gap_insert es i v g = put_at es i v g.within g.above g.below
 
 pub no_texts : IsAscending []
 unfolding IsStrictlySortedBy

@@ -1,8 +1,9 @@
+pub mod formers
 pub mod Iter
 pub mod Key
-pub mod Keys
 pub mod Laws
+pub mod Member
 pub mod Members
-pub mod Object
 pub mod Order
+pub mod Rows
 pub mod Search

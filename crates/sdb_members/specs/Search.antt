@@ -1,40 +1,28 @@
--- The texts of keys in pieces.
+-- The names of members in pieces.
 use Rattle.std.specs.Prelude.{ℕ, List, map, take, drop, Option, Some, None, Bool, false, not}
 use Rattle.std.specs.List.{flat_map}
 use Rattle.std.specs.Ordering.{is_lt}
-use Rattle.sdb_pieces.specs.Group.{seen_group, joined_groups}
-use Rattle.sdb_pieces.specs.Pieces.{seen_items, joined, seen_form, seen_in}
+use Rattle.sdb_pieces.specs.Group.{seen_group}
+use Rattle.sdb_pieces.specs.Pieces.{seen_items, seen_in}
 use Rattle.sdb_pieces.specs.declared.block.Block.{Block}
 use Rattle.sdb_pieces.specs.declared.group.Group.{Group}
-use Rattle.sdb_pieces.specs.declared.pieces.Form.{Form}
 use Rattle.sdb_pieces.specs.declared.pieces.Pieces.{Pieces}
-use Rattle.sdb_members.specs.Key.{key_bytes}
+use Rattle.sdb_members.specs.Member.{name}
 use Rattle.sdb_members.specs.Order.{by_bytes}
-use Rattle.sdb_members.specs.declared.key.Key.{Key}
+use Rattle.sdb_members.specs.declared.member.Member.{Member}
 
--- the texts of keys
-abbrev pub texts : List Key → List (List ℕ)
-texts ks = map key_bytes ks
+-- the keys of members, of a block's, of a group's, and of a list's
+abbrev pub texts : {X : Type 0} → List (Member X) → List (List ℕ)
+texts ms = map name ms
 
-abbrev pub texts_of : Pieces Key → List (List ℕ)
-texts_of l = seen_in key_bytes l
+abbrev pub part_texts : {X : Type 0} → Block (Member X) → List (List ℕ)
+part_texts b = seen_items name b
 
-abbrev pub form_texts : Form Key → List (List ℕ)
-form_texts w = seen_form key_bytes w
+abbrev pub group_texts : {X : Type 0} → Group (Member X) → List (List ℕ)
+group_texts g = seen_group name g
 
--- those of a block, and of blocks
-abbrev pub part_texts : Block Key → List (List ℕ)
-part_texts b = seen_items key_bytes b
-
-abbrev pub block_texts : List (Block Key) → List (List ℕ)
-block_texts bs = joined key_bytes bs
-
--- those of a group, and of groups
-abbrev pub group_texts : Group Key → List (List ℕ)
-group_texts g = seen_group key_bytes g
-
-abbrev pub groups_texts : List (Group Key) → List (List ℕ)
-groups_texts gs = joined_groups key_bytes gs
+abbrev pub texts_of : {X : Type 0} → Pieces (Member X) → List (List ℕ)
+texts_of l = seen_in name l
 
 -- of parts of which t sees the texts, those in the first, and those in the others
 abbrev pub first_texts : {P : Type 0} → (P → List (List ℕ)) → List P → ℕ → List (List ℕ)

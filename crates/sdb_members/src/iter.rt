@@ -4,24 +4,19 @@ ghost use Rattle.std.specs.Iterator.{YieldsFirstBy, item_count};
 ghost use Rattle.sdb_pieces.specs.Iter.{rest as items_left};
 ghost use Rattle.sdb_members.specs.Iter.{rest};
 
-use crate::key::Key;
+use crate::member::Member;
 
 /// What is left of members that are gone through, in the order of their keys.
 #[derive(Drop)]
 pub struct Iter<'a, V> {
-    keys: sdb_pieces::Iter<'a, Key>,
-    values: sdb_pieces::Iter<'a, V>,
+    entries: sdb_pieces::Iter<'a, Member<V>>,
 }
 
 impl<'a, V> Iter<'a, V> {
-    pub(crate) fn new(
-        keys: sdb_pieces::Iter<'a, Key>,
-        values: sdb_pieces::Iter<'a, V>,
-    ) -> Iter<'a, V>
-        ensures keys { items_left result.keys ≡ items_left keys.entry }
-        ensures values { items_left result.values ≡ items_left values.entry }
+    pub(crate) fn new(entries: sdb_pieces::Iter<'a, Member<V>>) -> Iter<'a, V>
+        ensures { items_left result.entries ≡ items_left entries.entry }
     {
-        Iter { keys, values }
+        Iter { entries }
     }
 }
 
@@ -33,8 +28,7 @@ impl<'a, V> Iterator for Iter<'a, V> {
     ghost remaining = { item_count rest };
 
     fn next(&mut self) -> Option<(&'a str, &'a V)> {
-        let key = self.keys.next()?;
-        let value = self.values.next()?;
-        Some((key.as_str(), value))
+        let member = self.entries.next()?;
+        Some((member.key.as_str(), &member.value))
     }
 }

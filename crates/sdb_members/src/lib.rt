@@ -1,18 +1,14 @@
-//! Members of an object: keys in the order of their bytes, and a value for each, both in pieces.
+//! Members of an object, in the order of their keys' bytes, in pieces.
 #![tactic(auto)]
 
 mod iter;
 mod key;
-mod keys;
-mod made;
+mod lends;
+mod member;
 mod members;
-mod object;
-mod pairs;
 mod search;
-mod sharing;
 
 pub use iter::Iter;
 pub use key::Key;
-pub use keys::Keys;
+pub use member::Member;
 pub use members::Members;
-pub use object::Object;

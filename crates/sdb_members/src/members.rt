@@ -1,44 +1,69 @@
 //! The members of an object.
-ghost use Rattle.std.specs.Prelude.{◌≡◌, Bool, [], map, true, false, None, length, string_bytes, option_map, is_some, IfOk, IfSome, IfNone, OnOk, OnErr};
+ghost use Rattle.std.specs.Prelude.{◌≡◌, ◌<◌, ◌^◌, [], map, true, false, None, length, string_bytes, option_map, is_some, IfOk, IfErr, IfSome, OnOk, OnErr};
+ghost use Rattle.std.proofs.Props.{props};
 ghost use Rattle.std.specs.Map.{lookup, remove_entry};
 ghost use Rattle.std.specs.BTreeMap.{insert_entry, is_at};
 ghost use Rattle.sdb_members.specs.Iter.{rest};
-ghost use Rattle.sdb_members.specs.Keys.{texts_in};
-ghost use Rattle.sdb_members.specs.Members.{entries_in, entries_seen, is_own, is_shared, names};
-ghost use Rattle.std.specs.List.{list_all, zip};
-ghost use Rattle.sdb_pieces.specs.Pieces.{items_in, parts_in, seen_in};
-ghost use Rattle.sdb_members.specs.Order.{IsAscending, IsFound, by_bytes};
-ghost use Rattle.sdb_members.specs.Search.{texts};
+ghost use Rattle.sdb_members.specs.Member.{entry};
+ghost use Rattle.sdb_members.specs.Order.{IsAscending, IsFound, IsGap, by_bytes};
+ghost use Rattle.sdb_members.specs.Search.{texts, texts_of};
 
 use crate::iter::Iter;
 use crate::key::Key;
-use crate::keys::Keys;
-use crate::made::parted;
-use crate::pairs::{insert_new, remove_at};
+use crate::lends::value_mut;
+use crate::member::Member;
+use crate::search::{count_of, find};
 use sdb_pieces::{Pieces, Share};
 use std::alloc::{AllocError, Global};
 use std::collections::BTreeMap;
 
-/// Keys in the order of their bytes, and the value of each: that of the first key first. A key that has no value,
-/// and a value that has no key, are no member.
+/// Members in the order of their keys' bytes, no key twice.
 #[derive(Drop)]
 pub struct Members<V> {
-    /// The keys.
-    pub keys: Keys,
-    /// Their values.
-    pub values: Pieces<V>,
+    entries: Pieces<Member<V>>,
+    ghost small: { length (texts_of entries) < 2 ^ 64 },
+    ghost ascending: { IsAscending (texts_of entries) } by { Prim.hlevel props },
 }
 
 impl<V> Members<V> {
+    ghost use Rattle.sdb_members.specs.Members.{entries_in, is_own, is_shared, names, names_in, pieces_in};
+
     /// No members.
     pub fn new(alloc: Global) -> Members<V>
         ensures members { entries_in result ≡ [] }
         ensures own { is_own result ≡ true }
     {
         Members {
-            keys: Keys::new(alloc),
-            values: Pieces::from_vec(Vec::new(alloc)),
+            entries: Pieces::from_vec(Vec::new(alloc)),
         }
+    }
+
+    /// The members of a list in which their keys ascend.
+    pub fn from_pieces(entries: Pieces<Member<V>>) -> Members<V>
+        requires small { length (texts_of entries) < 2 ^ 64 }
+        requires ascending { IsAscending (texts_of entries) }
+        ensures { pieces_in result ≡ entries }
+    {
+        Members { entries }
+    }
+
+    /// The list of the members.
+    pub fn into_pieces(self) -> Pieces<Member<V>>
+        ensures same { result ≡ pieces_in self }
+        ensures small { length (texts_of result) < 2 ^ 64 }
+        ensures ascending { IsAscending (texts_of result) }
+    {
+        let Members { entries } = self;
+        entries
+    }
+
+    /// The list of the members.
+    pub fn pieces(&self) -> &Pieces<Member<V>>
+        ensures same { result.now ≡ pieces_in self.now }
+        ensures small { length (texts_of result.now) < 2 ^ 64 }
+        ensures ascending { IsAscending (texts_of result.now) }
+    {
+        &self.entries
     }
 
     /// The members, in the order of their keys.
@@ -46,73 +71,99 @@ impl<V> Members<V> {
         ensures members { rest result ≡ entries_in self.now }
         ensures ordered { IsAscending (names (entries_in self.now)) }
     {
-        Iter::new(self.keys.iter(), self.values.iter())
+        Iter::new(self.entries.iter())
+    }
+
+    /// How many members.
+    pub fn len(&self) -> usize
+        ensures { result ≡ length (names_in self.now) }
+    {
+        count_of(&self.entries)
+    }
+
+    /// The index of the key's member, or else the one where it can be put.
+    pub fn find(&self, key: &str) -> Result<usize, usize>
+        ensures found { IfOk result (λ i. IsFound (names_in self.now) key.now i) }
+        ensures gap { IfErr result (λ i. IsGap (names_in self.now) key.now i) }
+    {
+        find(&self.entries, key)
     }
 
     /// Whether a copy of them is a pointer.
     pub fn is_shared(&self) -> bool
         ensures { result ≡ is_shared self.now }
     {
-        self.keys.is_shared() && self.values.is_shared()
+        self.entries.is_shared()
     }
 
     /// The same members again, as a pointer to them, where they are shared; `None` where they aren't. Fails only
     /// where no more pointers can be counted.
     pub fn share_pointer(&self) -> Result<Option<Members<V>>, AllocError>
-        ensures keys { IfOk result (λ o. IfSome o (λ m. texts_in m.keys ≡ texts_in self.now.keys)) }
-        ensures values { IfOk result (λ o. IfSome o (λ m. parts_in m.values ≡ parts_in self.now.values)) }
+        ensures same { IfOk result (λ o. IfSome o (λ m. entries_in m ≡ entries_in self.now)) }
         ensures shared { IfOk result (λ o. IfSome o (λ m. is_shared m ≡ true)) }
         ensures found { IfOk result (λ o. is_some o ≡ is_shared self.now) }
     {
-        match self.keys.share_pointer()? {
-            Some(keys) => match self.values.share_pointer()? {
-                Some(values) => Ok(Some(Members { keys, values })),
-                None => Ok(None),
-            },
+        match self.entries.share_pointer()? {
+            Some(entries) => Ok(Some(Members { entries })),
             None => Ok(None),
         }
     }
 }
 
 impl<V: Drop> Members<V> {
-    /// The members of a map, in blocks. Fails only where memory is wanting.
-    pub fn from_map(alloc: Global, entries: BTreeMap<String, V>) -> Result<Members<V>, AllocError>
-        ensures members { IfOk result (λ m. entries_in m
-            ≡ map (λ e. (string_bytes e.0, e.1)) entries.entries) }
-        ensures values { IfOk result (λ m. items_in m.values ≡ map (λ e. e.1) entries.entries) }
-        ensures own { IfOk result (λ m. is_own m ≡ true) }
-    {
-        let (keys, values) = parted(alloc, entries)?;
-        Members::from_sorted(alloc, keys, values)
-    }
+    ghost use Rattle.sdb_members.specs.Members.{entries_in, is_own};
 
-    /// The members of keys that stand in order and of their values, that of the first key first, in blocks. Fails
+    /// The members of a vector in which their keys ascend: up to 20 in the vector's own memory, more in blocks. Fails
     /// only where memory is wanting.
-    pub fn from_sorted(
-        alloc: Global,
-        keys: Vec<Key>,
-        values: Vec<V>,
-    ) -> Result<Members<V>, AllocError>
-        requires { IsAscending (texts keys.items) }
-        ensures members { IfOk result (λ m. entries_in m ≡ zip (texts keys.items) values.items) }
-        ensures values { IfOk result (λ m. items_in m.values ≡ values.items) }
+    pub fn from_sorted(alloc: Global, entries: Vec<Member<V>>) -> Result<Members<V>, AllocError>
+        requires { IsAscending (texts entries.items) }
+        ensures members { IfOk result (λ m. entries_in m ≡ map entry entries.items) }
         ensures own { IfOk result (λ m. is_own m ≡ true) }
     {
         Ok(Members {
-            keys: Keys::from_vec(alloc, keys)?,
-            values: Pieces::in_blocks(alloc, values)?,
+            entries: Pieces::in_blocks(alloc, entries)?,
         })
+    }
+
+    /// The members of a map. Fails only where memory is wanting.
+    pub fn from_map(alloc: Global, entries: BTreeMap<String, V>) -> Result<Members<V>, AllocError>
+        ensures members { IfOk result (λ m. entries_in m
+            ≡ map (λ e. (string_bytes e.0, e.1)) entries.entries) }
+        ensures own { IfOk result (λ m. is_own m ≡ true) }
+    {
+        let mut members = Vec::with_capacity(alloc, entries.len())?;
+        for (key, value) in entries {
+            members.push(Member {
+                key: Key::new(key),
+                value,
+            })?;
+        }
+        Members::from_sorted(alloc, members)
     }
 }
 
 impl<V: Share> Members<V> {
+    ghost use Rattle.sdb_members.specs.Members.{entries_seen, is_own};
+
     /// The value of the key, or `None` where no member has it.
     pub fn get(&self, key: &str) -> Option<&V>
         ensures { option_map (λ v. V.seen v.now) result
             ≡ lookup (is_at (by_bytes key.now)) (entries_seen V.seen self.now) }
     {
-        match self.keys.find(key) {
-            Ok(index) => self.values.get(index),
+        match self.find(key) {
+            Ok(index) => Some(&self.entries.get(index)?.value),
+            Err(_) => None,
+        }
+    }
+
+    /// The value of the key, to be changed, or `None` where no member has it, and where its block is shared or the
+    /// members are in groups.
+    pub fn get_mut(&mut self, key: &str) -> Option<&mut V>
+        ensures { is_own self.old ≡ true → option_map (λ v. V.seen v.now) result
+            ≡ lookup (is_at (by_bytes key.now)) (entries_seen V.seen self.old) }
+    {
+        match self.find(key) {
+            Ok(index) => value_mut(&mut self.entries, index),
             Err(_) => None,
         }
     }
@@ -128,16 +179,27 @@ impl<V: Share> Members<V> {
         ensures absent { is_own self.old ≡ true → OnErr result
             (lookup (is_at (by_bytes (string_bytes key))) (entries_seen V.seen self.old) ≡ None) }
         ensures own { is_own self.old ≡ true → is_own self.new ≡ true }
-        ensures values { (p : V.Seen → Bool) → list_all p (seen_in V.seen self.old.values) ≡ true
-            → p (V.seen value) ≡ true → list_all p (seen_in V.seen self.new.values) ≡ true }
     {
-        match self.keys.find(key.as_str()) {
-            Ok(index) => match self.values.replace(alloc, index, value)? {
-                Some(old) => Ok(Some(old)),
-                None => Err(AllocError),
-            },
+        match self.find(key.as_str()) {
+            Ok(index) => {
+                let member = Member {
+                    key: Key::new(key),
+                    value,
+                };
+                match self.entries.replace(alloc, index, member)? {
+                    Some(old) => Ok(Some(old.value)),
+                    None => unreachable!(),
+                }
+            }
             Err(index) => {
-                insert_new(alloc, &mut self.keys, &mut self.values, index, key, value)?;
+                if self.len() == usize::MAX {
+                    return Err(AllocError);
+                }
+                let member = Member {
+                    key: Key::new(key),
+                    value,
+                };
+                let _ = self.entries.insert(alloc, index, member)?;
                 Ok(None)
             }
         }
@@ -152,32 +214,14 @@ impl<V: Share> Members<V> {
             ≡ lookup (is_at (by_bytes key.now)) (entries_seen V.seen self.old)) }
         ensures err { OnErr result (entries_seen V.seen self.new ≡ entries_seen V.seen self.old) }
         ensures own { is_own self.old ≡ true → is_own self.new ≡ true }
-        ensures values { (p : V.Seen → Bool) → list_all p (seen_in V.seen self.old.values) ≡ true
-            → list_all p (seen_in V.seen self.new.values) ≡ true }
         ensures shared { OnErr result (is_own self.old ≡ false) }
     {
-        match self.keys.find(key) {
-            Ok(index) => {
-                let value = remove_at(alloc, &mut self.keys, &mut self.values, index)?;
-                Ok(value)
-            }
+        match self.find(key) {
+            Ok(index) => match self.entries.remove(alloc, index)? {
+                Some(member) => Ok(Some(member.value)),
+                None => unreachable!(),
+            },
             Err(_) => Ok(None),
         }
-    }
-}
-
-impl<V: Share> Share for Members<V> {
-    ghost use Rattle.std.specs.Prelude.{List, ℕ, Bool};
-    ghost use Rattle.sdb_members.specs.Members.{entries_seen, is_own};
-
-    ghost Seen = { List (List ℕ × V.Seen) × Bool };
-
-    ghost seen = { λ m. (entries_seen V.seen m, is_own m) };
-
-    fn share(&self, alloc: Global) -> Result<Members<V>, AllocError> {
-        Ok(Members {
-            keys: self.keys.share(alloc)?,
-            values: self.values.share(alloc)?,
-        })
     }
 }

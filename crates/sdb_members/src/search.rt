@@ -1,23 +1,23 @@
-//! Where a key stands among keys in pieces.
+//! Where a key stands among members in pieces.
 ghost use Rattle.std.specs.List.{flat_map};
 ghost use Rattle.std.specs.Prelude.{◌≡◌, ◌≤◌, ◌<◌, ◌-◌, ◌^◌, ℕ, List, length, slice_get, option_map, IfOk, IfErr};
 ghost use Rattle.sdb_members.specs.Order.{IsAscending, IsAboveAll, IsBelowAll, IsFound, IsGap};
 ghost use Rattle.sdb_members.specs.Search.{texts, texts_of, first_texts, other_texts, starts_above, starts_by};
 
-use crate::key::Key;
+use crate::member::Member;
 use sdb_pieces::{Block, Form, Group, Pieces};
 use std::cmp::Ordering;
 
-// A run of keys: a block, or a group of blocks.
+// A run of members: a block, or a group of blocks.
 trait Part {
-    // The texts of its keys.
+    // Their keys.
     ghost key_texts: { Self → List (List ℕ) };
 
-    // Its first key, or `None` where it has no keys.
+    // The first key, or `None` where there is no member.
     fn first_key(&self) -> Option<&str>
         ensures { option_map (λ t. t.now) result ≡ slice_get (key_texts self.now) 0 };
 
-    // How many keys.
+    // How many members.
     fn count(&self) -> u128
         ensures { result ≡ length (key_texts self.now) };
 
@@ -29,14 +29,14 @@ trait Part {
         ensures gap { IfErr result (λ i. IsGap (key_texts self.now) key.now i) };
 }
 
-impl Part for Block<Key> {
+impl<V> Part for Block<Member<V>> {
     ghost use Rattle.sdb_members.specs.Search.{part_texts};
 
     ghost key_texts = { part_texts };
 
     fn first_key(&self) -> Option<&str> {
         match self.items().first() {
-            Some(key) => Some(key.as_str()),
+            Some(member) => Some(member.key.as_str()),
             None => None,
         }
     }
@@ -50,7 +50,7 @@ impl Part for Block<Key> {
     }
 }
 
-impl Part for Group<Key> {
+impl<V> Part for Group<Member<V>> {
     ghost use Rattle.sdb_members.specs.Search.{group_texts};
 
     ghost key_texts = { group_texts };
@@ -94,16 +94,16 @@ fn is_not_before(key: &str, first: Option<&str>) -> bool
 }
 
 // The place of a key in one block.
-fn find_in(keys: &[Key], key: &str) -> Result<usize, usize>
-    requires { IsAscending (texts keys.now) }
-    ensures found { IfOk result (λ i. IsFound (texts keys.now) key.now i) }
-    ensures gap { IfErr result (λ i. IsGap (texts keys.now) key.now i) }
+fn find_in<V>(members: &[Member<V>], key: &str) -> Result<usize, usize>
+    requires { IsAscending (texts members.now) }
+    ensures found { IfOk result (λ i. IsFound (texts members.now) key.now i) }
+    ensures gap { IfErr result (λ i. IsGap (texts members.now) key.now i) }
 {
     let mut low = 0;
-    let mut high = keys.len();
+    let mut high = members.len();
     while low < high {
         let middle = low + (high - low) / 2;
-        match key.cmp(keys[middle].as_str()) {
+        match key.cmp(members[middle].key.as_str()) {
             Ordering::Less => high = middle,
             Ordering::Greater => low = middle + 1,
             Ordering::Equal => return Ok(middle),
@@ -149,7 +149,7 @@ fn part_end<P: Part>(parts: &[P], key: &str) -> usize
     end
 }
 
-// How many keys stand in parts.
+// How many members stand in parts.
 fn count_in<P: Part>(parts: &[P]) -> usize
     requires { length (flat_map P.key_texts parts.now) < 2 ^ 64 }
     ensures { result ≡ length (flat_map P.key_texts parts.now) }
@@ -179,14 +179,26 @@ fn find_among<P: Part>(parts: &[P], key: &str) -> Result<usize, usize>
     }
 }
 
-/// The index of the key, or the one where it can be put.
-pub(crate) fn find(keys: &Pieces<Key>, key: &str) -> Result<usize, usize>
-    requires ascending { IsAscending (texts_of keys.now) }
-    requires small { length (texts_of keys.now) < 2 ^ 64 }
-    ensures found { IfOk result (λ i. IsFound (texts_of keys.now) key.now i) }
-    ensures gap { IfErr result (λ i. IsGap (texts_of keys.now) key.now i) }
+/// How many members there are.
+pub(crate) fn count_of<V>(entries: &Pieces<Member<V>>) -> usize
+    requires { length (texts_of entries.now) < 2 ^ 64 }
+    ensures { result ≡ length (texts_of entries.now) }
 {
-    match keys.form() {
+    match entries.form() {
+        Form::One(block) => block.len(),
+        Form::Many(blocks) => count_in(blocks.items()),
+        Form::Groups(groups) => count_in(groups.items()),
+    }
+}
+
+/// The index of the key's member, or the one where it can be put.
+pub(crate) fn find<V>(entries: &Pieces<Member<V>>, key: &str) -> Result<usize, usize>
+    requires ascending { IsAscending (texts_of entries.now) }
+    requires small { length (texts_of entries.now) < 2 ^ 64 }
+    ensures found { IfOk result (λ i. IsFound (texts_of entries.now) key.now i) }
+    ensures gap { IfErr result (λ i. IsGap (texts_of entries.now) key.now i) }
+{
+    match entries.form() {
         Form::One(block) => block.find(key),
         Form::Many(blocks) => find_among(blocks.items(), key),
         Form::Groups(groups) => find_among(groups.items(), key),

@@ -407,6 +407,11 @@ pub seen_of_mut : {X S : Type 0} (f : X → S) (r : Option (MutBor X)) (xs : Lis
 seen_of_mut f None xs i b e = sym (map_get f xs i ∙ ap (option_map f) (get_none xs i (past_of i (length xs) b)))
 seen_of_mut f (Some x) xs i b e = sym (map_get f xs i ∙ ap (option_map f) (get_some xs i x.now (within_of i (length xs) b) ∙ ap Some (sym e)))
 
+-- what is lent is what is found
+pub lent_item : {X S : Type 0} (f : X → S) (r : Option (MutBor X)) (o : Option S) → option_map (λ x. f x.now) r ≡ o → IfSome r (λ x. o ≡ Some (f x.now))
+lent_item f None o e = tt
+lent_item f (Some x) o e = sym e
+
 pub if_some_also : {A P Q : Type 0} (r : Option A) → IfSome r (λ _. P) → (P → Q) → IfSome r (λ _. Q)
 if_some_also None p h = tt
 if_some_also (Some x) p h = h p

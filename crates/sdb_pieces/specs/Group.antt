@@ -2,7 +2,7 @@
 use Rattle.std.specs.Prelude.{ℕ, ◌-◌, List, [], ◌∷◌, Bool, true, false, cond, nat_lt, if◌then◌else◌}
 use Rattle.std.specs.List.{flat_map}
 use Rattle.sdb_pieces.specs.Block.{items_of, is_own}
-use Rattle.sdb_pieces.specs.Blocks.{joined, own_among}
+use Rattle.sdb_pieces.specs.Blocks.{joined, own_among, longest}
 use Rattle.sdb_pieces.specs.declared.block.Block.{Block}
 use Rattle.sdb_pieces.specs.declared.group.Group.{Group}
 
@@ -30,3 +30,7 @@ is_own_group_at g i = cond (is_own (block_list g)) (own_among (blocks_of g) i) f
 abbrev pub own_in_groups : {X : Type 0} → List (Group X) → ℕ → Bool
 own_in_groups [] i = true
 own_in_groups (g ∷ gs) i = if nat_lt i g.count then is_own_group_at g i else own_in_groups gs (i - g.count)
+
+-- the greatest number of items of one block of the groups
+abbrev pub longest_grouped : {X : Type 0} → List (Group X) → ℕ
+longest_grouped gs = longest (flat_map blocks_of gs)

@@ -6,3 +6,4 @@ pub mod Iter
 pub mod Laws
 pub mod Pieces
 pub mod Place
+pub mod Rows

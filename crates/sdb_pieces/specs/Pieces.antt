@@ -7,7 +7,7 @@ use Rattle.sdb_pieces.specs.declared.block.Block.{Block}
 use Rattle.sdb_pieces.specs.declared.pieces.Form.{Form}
 use Rattle.sdb_pieces.specs.declared.pieces.Form.TheVariants.{One, Many, Groups}
 use Rattle.sdb_pieces.specs.declared.pieces.Pieces.{Pieces}
-pub use Rattle.sdb_pieces.specs.Blocks.{seen_items, joined, all_own, own_among, all_shared}
+pub use Rattle.sdb_pieces.specs.Blocks.{seen_items, joined, all_own, own_among, all_shared, longest}
 
 abbrev pub seen_form : {X S : Type 0} → (X → S) → Form X → List S
 seen_form f (One b) = seen_items f b

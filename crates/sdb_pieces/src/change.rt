@@ -1,8 +1,13 @@
 //! Blocks changed in place.
-ghost use Rattle.std.specs.Prelude.{◌≡◌, ◌≤◌, ◌<◌, ◌/◌, true, false, [], length, map, take, drop, slice_get, slice_set, Some};
+ghost use Rattle.std.specs.Prelude.{◌≡◌, ◌≤◌, ◌<◌, ◌+◌, ◌*◌, ◌/◌, true, false, [], ℕ, length, map, take, drop, max};
+ghost use Rattle.std.specs.Prelude.{slice_get, slice_set, Some};
 ghost use Rattle.std.specs.Prelude.{nat_le, if◌then◌else◌, option_map, IfOk, IfSome, IfNone, OnOk, OnErr};
 ghost use Rattle.std.specs.List.{insert, remove};
+ghost use Rattle.std.specs.Option.{OnSome};
+ghost use Rattle.std.specs.Borrow.{LendsSo, sem};
+ghost use Rattle.sdb_pieces.specs.Rows.{blocks_row};
 ghost use Rattle.sdb_pieces.specs.Block.{items_of, is_own};
+ghost use Rattle.sdb_pieces.specs.Blocks.{longest, block_at, items_at};
 ghost use Rattle.sdb_pieces.specs.Pieces.{seen_items, joined, all_own, own_among};
 ghost use Rattle.sdb_pieces.specs.Place.{IsPlace, IsItem};
 
@@ -18,13 +23,17 @@ const MANY: usize = 512;
 
 // How many items a block may have in a list of so many blocks: as many, within bounds. So a change copies about as many
 // blocks as items of one block, where both are shared.
-pub(crate) fn bound(blocks: usize) -> usize {
+pub(crate) fn bound(blocks: usize) -> usize
+    ensures low { 20 ≤ result }
+    ensures high { result ≤ 512 }
+{
     blocks.clamp(FEW, MANY)
 }
 
 // The same for a list of so many items that is cut into blocks.
 pub(crate) fn bound_for(items: usize) -> usize
-    ensures { 0 < result }
+    ensures some { 0 < result }
+    ensures high { result ≤ 512 }
 {
     let mut bound = FEW;
     while bound < MANY && items / bound > bound {
@@ -36,6 +45,7 @@ pub(crate) fn bound_for(items: usize) -> usize
 // The block where an item can be put at the index, and the place in it. `None` where there is none.
 fn place<T: Share>(blocks: &[Block<T>], index: usize) -> Option<(usize, usize)>
     ensures place { IfSome result (λ r. IsPlace (seen_items T.seen) blocks.now index r.0 r.1) }
+    ensures first { IfSome result (λ r. r.0 ≡ block_at blocks.now index) }
     ensures none { IfNone result (index ≤ length (joined T.seen blocks.now) → blocks.now ≡ []) }
 {
     let mut left = index;
@@ -90,6 +100,7 @@ pub(crate) fn insert_in<T: Share>(
     ensures err { OnErr result (map T.seen (items_of block.new) ≡ map T.seen (items_of block.old)) }
     ensures own { is_own block.old ≡ true → is_own block.new ≡ true }
     ensures now_own { OnOk result (is_own block.new ≡ true) }
+    ensures bound { length (items_of block.new) ≤ length (items_of block.old) + 1 }
 {
     block.make_own_with_room(alloc, 1)?;
     if let Block::Own(items) = block {
@@ -110,6 +121,7 @@ pub(crate) fn remove_in<T: Share>(
     ensures err { OnErr result (map T.seen (items_of block.new) ≡ map T.seen (items_of block.old)) }
     ensures own { is_own block.old ≡ true → is_own block.new ≡ true }
     ensures shared { OnErr result (is_own block.old ≡ false) }
+    ensures bound { length (items_of block.new) ≤ length (items_of block.old) }
 {
     block.make_own(alloc)?;
     match block {
@@ -133,6 +145,7 @@ pub(crate) fn replace_in<T: Share>(
     ensures own { is_own block.old ≡ true → is_own block.new ≡ true }
     ensures shared { OnErr result (is_own block.old ≡ false) }
     ensures now_own { OnOk result (is_own block.new ≡ true) }
+    ensures bound { length (items_of block.new) ≤ length (items_of block.old) }
 {
     block.make_own(alloc)?;
     match block {
@@ -171,6 +184,9 @@ pub fn split_block<T: Share>(
     requires { at < length blocks.old.items }
     ensures same { joined T.seen blocks.new.items ≡ joined T.seen blocks.old.items }
     ensures own { all_own blocks.old.items ≡ true → all_own blocks.new.items ≡ true }
+    ensures bound { longest blocks.new.items ≤ longest blocks.old.items }
+    ensures half { OnOk result ((i : ℕ) → block_at blocks.old.items i ≡ at
+        → 2 * items_at blocks.new.items i ≤ items_at blocks.old.items i + 1) }
 {
     blocks.insert(at + 1, Block::Own(Vec::new(alloc)))?;
     let high = upper_half(alloc, &mut blocks[at])?;
@@ -192,6 +208,7 @@ fn insert_at<T: Share>(
     ensures err { OnErr result (joined T.seen blocks.new.items ≡ joined T.seen blocks.old.items) }
     ensures own { all_own blocks.old.items ≡ true → all_own blocks.new.items ≡ true }
     ensures now_own { IfOk result (λ done. done ≡ true → own_among blocks.new.items index ≡ true) }
+    ensures bound { longest blocks.new.items ≤ max (items_at blocks.old.items index + 1) (longest blocks.old.items) }
 {
     match place(blocks, index) {
         Some((at, inside)) => {
@@ -218,12 +235,14 @@ pub(crate) fn insert_item<T: Share>(
     item: T,
     most: usize,
 ) -> Result<bool, AllocError>
+    requires { 1 < most }
     ensures ok { IfOk result (λ done. joined T.seen blocks.new.items ≡ (if done
         then insert (joined T.seen blocks.old.items) index (T.seen item) else joined T.seen blocks.old.items)) }
     ensures within { IfOk result (λ done. done ≡ nat_le index (length (joined T.seen blocks.old.items))) }
     ensures err { OnErr result (joined T.seen blocks.new.items ≡ joined T.seen blocks.old.items) }
     ensures own { all_own blocks.old.items ≡ true → all_own blocks.new.items ≡ true }
     ensures now_own { IfOk result (λ done. done ≡ true → own_among blocks.new.items index ≡ true) }
+    ensures bound { longest blocks.new.items ≤ max most (longest blocks.old.items) }
 {
     if let Some((at, _)) = place(blocks, index) {
         if blocks[at].len() >= most {
@@ -239,6 +258,7 @@ fn drop_empty<T: Share>(blocks: &mut Vec<Block<T>>, at: usize)
     requires { at < length blocks.old.items }
     ensures same { joined T.seen blocks.new.items ≡ joined T.seen blocks.old.items }
     ensures own { all_own blocks.old.items ≡ true → all_own blocks.new.items ≡ true }
+    ensures bound { longest blocks.new.items ≤ longest blocks.old.items }
 {
     if blocks[at].len() == 0 {
         drop(blocks.remove(at));
@@ -257,6 +277,7 @@ pub(crate) fn remove_item<T: Share>(
     ensures own { all_own blocks.old.items ≡ true → all_own blocks.new.items ≡ true }
     ensures shared { OnErr result (all_own blocks.old.items ≡ false) }
     ensures shared_there { OnErr result (own_among blocks.old.items index ≡ false) }
+    ensures bound { longest blocks.new.items ≤ longest blocks.old.items }
 {
     let Some((at, inside)) = place_of(blocks, index) else {
         return Ok(None);
@@ -281,6 +302,7 @@ pub(crate) fn replace_item<T: Share>(
     ensures own { all_own blocks.old.items ≡ true → all_own blocks.new.items ≡ true }
     ensures shared { OnErr result (own_among blocks.old.items index ≡ false) }
     ensures now_own { IfOk result (λ x. IfSome x (λ _. own_among blocks.new.items index ≡ true)) }
+    ensures bound { longest blocks.new.items ≤ longest blocks.old.items }
 {
     let Some((at, inside)) = place_of(blocks, index) else {
         return Ok(None);
@@ -291,7 +313,11 @@ pub(crate) fn replace_item<T: Share>(
 
 // The item at the index, to be changed, where its block is its owner's own.
 pub(crate) fn item_mut<T: Share>(blocks: &mut Vec<Block<T>>, index: usize) -> Option<&mut T>
-    ensures { own_among blocks.old.items index ≡ true
+    ensures* writes_back { sem 𝓛 (LendsSo (blocks_row T.row) T.row blocks.entry result
+        (λ n w. OnSome result (joined T.seen n.items ≡ slice_set (joined T.seen blocks.old.items) index (T.seen w)))
+        (λ n. joined T.seen n.items ≡ joined T.seen blocks.old.items)) }
+    ensures item { IfSome result (λ x. slice_get (joined T.seen blocks.old.items) index ≡ Some (T.seen x.now)) }
+    ensures value { own_among blocks.old.items index ≡ true
         → option_map (λ x. T.seen x.now) result ≡ slice_get (joined T.seen blocks.old.items) index }
 {
     let (at, inside) = place_of(blocks, index)?;

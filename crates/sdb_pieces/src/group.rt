@@ -84,9 +84,10 @@ impl<T: Drop> Group<T> {
 
 impl<T: Share> Group<T> {
     ghost use Rattle.std.specs.List.{insert, remove};
-    ghost use Rattle.std.specs.Prelude.{◌≤◌, ◌<◌, ◌++◌, true, false, slice_get, slice_set, option_map};
+    ghost use Rattle.std.specs.Prelude.{◌≤◌, ◌<◌, ◌++◌, true, false, slice_get, slice_set, option_map, max};
     ghost use Rattle.std.specs.Prelude.{IfOk, IfSome, OnOk, OnErr};
-    ghost use Rattle.sdb_pieces.specs.Group.{seen_group, is_own_group_at};
+    ghost use Rattle.sdb_pieces.specs.Blocks.{longest};
+    ghost use Rattle.sdb_pieces.specs.Group.{blocks_of, seen_group, is_own_group_at};
 
     // The item at the index.
     pub(crate) fn get(&self, index: usize) -> Option<&T>
@@ -102,6 +103,7 @@ impl<T: Share> Group<T> {
             ≡ insert (seen_group T.seen self.old) index (T.seen item)) }
         ensures err { OnErr result (seen_group T.seen self.new ≡ seen_group T.seen self.old) }
         ensures now_own { OnOk result (is_own_group_at self.new index ≡ true) }
+        ensures bound { longest (blocks_of self.new) ≤ max 20 (longest (blocks_of self.old)) }
     {
         let _ = insert_among(alloc, &mut self.blocks, index, item, FEW)?;
         self.count += 1;
@@ -115,6 +117,7 @@ impl<T: Share> Group<T> {
         ensures ok { OnOk result (seen_group T.seen self.new ≡ remove (seen_group T.seen self.old) index) }
         ensures err { OnErr result (seen_group T.seen self.new ≡ seen_group T.seen self.old) }
         ensures shared { OnErr result (is_own_group_at self.old index ≡ false) }
+        ensures bound { longest (blocks_of self.new) ≤ longest (blocks_of self.old) }
     {
         let item = remove_among(alloc, &mut self.blocks, index)?;
         self.count -= 1;
@@ -134,6 +137,7 @@ impl<T: Share> Group<T> {
         ensures err { OnErr result (seen_group T.seen self.new ≡ seen_group T.seen self.old) }
         ensures shared { OnErr result (is_own_group_at self.old index ≡ false) }
         ensures now_own { IfOk result (λ x. IfSome x (λ _. is_own_group_at self.new index ≡ true)) }
+        ensures bound { longest (blocks_of self.new) ≤ longest (blocks_of self.old) }
     {
         let old = replace_among(alloc, &mut self.blocks, index, item)?;
         Ok(old)
@@ -144,6 +148,8 @@ impl<T: Share> Group<T> {
         ensures ok { IfOk result (λ h. seen_group T.seen self.new ++ seen_group T.seen h
             ≡ seen_group T.seen self.old) }
         ensures err { OnErr result (seen_group T.seen self.new ≡ seen_group T.seen self.old) }
+        ensures bound { longest (blocks_of self.new) ≤ longest (blocks_of self.old) }
+        ensures high { IfOk result (λ h. longest (blocks_of h) ≤ longest (blocks_of self.old)) }
     {
         let high = upper_half(alloc, &mut self.blocks)?;
         self.count = count_items(self.blocks.items());

@@ -1,8 +1,8 @@
 //! Lists made shared: a long list's blocks are put in groups.
-ghost use Rattle.std.specs.Prelude.{◌≡◌, ◌<◌, ◌++◌, true, map, IfOk, IfSome, OnOk};
+ghost use Rattle.std.specs.Prelude.{◌≡◌, ◌≤◌, ◌<◌, ◌++◌, true, map, max, IfOk, IfSome, OnOk};
 ghost use Rattle.sdb_pieces.specs.Block.{items_of, is_shared};
-ghost use Rattle.sdb_pieces.specs.Group.{joined_groups};
-ghost use Rattle.sdb_pieces.specs.Pieces.{joined, seen_items, seen_form, is_shared_form};
+ghost use Rattle.sdb_pieces.specs.Group.{joined_groups, longest_grouped};
+ghost use Rattle.sdb_pieces.specs.Pieces.{joined, seen_items, seen_form, is_shared_form, blocks_form, longest};
 
 use crate::block::{Block, Share, copies};
 use crate::change::FEW;
@@ -27,8 +27,9 @@ fn push_short<T: Share>(
     blocks: &mut Vec<Block<T>>,
     block: &Block<T>,
 ) -> Result<(), AllocError>
-    ensures { OnOk result (joined T.seen blocks.new.items
+    ensures items { OnOk result (joined T.seen blocks.new.items
         ≡ joined T.seen blocks.old.items ++ seen_items T.seen block.now) }
+    ensures bound { OnOk result (longest blocks.new.items ≤ max 20 (longest blocks.old.items)) }
 {
     if block.len() <= FEW {
         blocks.push(block.share(alloc)?)?;
@@ -43,8 +44,9 @@ fn push_parts<T: Share>(
     blocks: &mut Vec<Block<T>>,
     items: &[T],
 ) -> Result<(), AllocError>
-    ensures { OnOk result (joined T.seen blocks.new.items
+    ensures items { OnOk result (joined T.seen blocks.new.items
         ≡ joined T.seen blocks.old.items ++ map T.seen items.now) }
+    ensures bound { OnOk result (longest blocks.new.items ≤ max 20 (longest blocks.old.items)) }
 {
     let mut start = 0;
     while start < items.len() {
@@ -58,7 +60,8 @@ fn push_parts<T: Share>(
 
 // The same items, in blocks of at most 20.
 fn short_blocks<T: Share>(alloc: Global, blocks: &[Block<T>]) -> Result<Vec<Block<T>>, AllocError>
-    ensures { IfOk result (λ v. joined T.seen v.items ≡ joined T.seen blocks.now) }
+    ensures items { IfOk result (λ v. joined T.seen v.items ≡ joined T.seen blocks.now) }
+    ensures bound { IfOk result (λ v. longest v.items ≤ 20) }
 {
     let mut short = Vec::with_capacity(alloc, blocks.len())?;
     for block in blocks {
@@ -69,7 +72,8 @@ fn short_blocks<T: Share>(alloc: Global, blocks: &[Block<T>]) -> Result<Vec<Bloc
 
 // The same blocks, in groups.
 fn cut_groups<T: Share>(alloc: Global, blocks: &[Block<T>]) -> Result<Vec<Group<T>>, AllocError>
-    ensures { IfOk result (λ v. joined_groups T.seen v.items ≡ joined T.seen blocks.now) }
+    ensures items { IfOk result (λ v. joined_groups T.seen v.items ≡ joined T.seen blocks.now) }
+    ensures bound { IfOk result (λ v. longest_grouped v.items ≤ longest blocks.now) }
 {
     let size = group_size(blocks.len());
     let mut groups = Vec::with_capacity(alloc, blocks.len() / size + 1)?;
@@ -85,7 +89,8 @@ fn cut_groups<T: Share>(alloc: Global, blocks: &[Block<T>]) -> Result<Vec<Group<
 
 // Makes the list of each group's blocks shared.
 fn share_each<T: Share>(alloc: Global, groups: &mut Vec<Group<T>>) -> Result<(), AllocError>
-    ensures { joined_groups T.seen groups.new.items ≡ joined_groups T.seen groups.old.items }
+    ensures same { joined_groups T.seen groups.new.items ≡ joined_groups T.seen groups.old.items }
+    ensures bound { longest_grouped groups.new.items ≡ longest_grouped groups.old.items }
 {
     for at in 0..groups.len() {
         groups[at].share_in_place(alloc)?;
@@ -95,7 +100,8 @@ fn share_each<T: Share>(alloc: Global, groups: &mut Vec<Group<T>>) -> Result<(),
 
 // The same, where the list of the groups isn't shared yet.
 fn share_own<T: Share>(alloc: Global, groups: &mut Block<Group<T>>) -> Result<(), AllocError>
-    ensures { joined_groups T.seen (items_of groups.new) ≡ joined_groups T.seen (items_of groups.old) }
+    ensures same { joined_groups T.seen (items_of groups.new) ≡ joined_groups T.seen (items_of groups.old) }
+    ensures bound { longest_grouped (items_of groups.new) ≡ longest_grouped (items_of groups.old) }
 {
     match groups {
         Block::Own(groups) => share_each(alloc, groups),
@@ -107,6 +113,7 @@ fn share_own<T: Share>(alloc: Global, groups: &mut Block<Group<T>>) -> Result<()
 fn share_groups<T: Share>(alloc: Global, groups: &mut Block<Group<T>>) -> Result<(), AllocError>
     ensures same { joined_groups T.seen (items_of groups.new) ≡ joined_groups T.seen (items_of groups.old) }
     ensures shared { OnOk result (is_shared groups.new ≡ true) }
+    ensures bound { longest_grouped (items_of groups.new) ≡ longest_grouped (items_of groups.old) }
 {
     share_own(alloc, groups)?;
     groups.share_in_place(alloc)
@@ -115,7 +122,9 @@ fn share_groups<T: Share>(alloc: Global, groups: &mut Block<Group<T>>) -> Result
 impl<T: Share> Form<T> {
     // The blocks of a list of many in groups, where the list of them is its own.
     fn to_groups(&self, alloc: Global) -> Result<Option<Vec<Group<T>>>, AllocError>
-        ensures { IfOk result (λ o. IfSome o (λ v. joined_groups T.seen v.items ≡ seen_form T.seen self.now)) }
+        ensures items { IfOk result (λ o. IfSome o (λ v. joined_groups T.seen v.items
+            ≡ seen_form T.seen self.now)) }
+        ensures bound { IfOk result (λ o. IfSome o (λ v. longest_grouped v.items ≤ 20)) }
     {
         match self {
             Form::Many(blocks) => {
@@ -135,6 +144,7 @@ impl<T: Share> Form<T> {
     pub fn share_in_place(&mut self, alloc: Global) -> Result<(), AllocError>
         ensures same { seen_form T.seen self.new ≡ seen_form T.seen self.old }
         ensures shared { OnOk result (is_shared_form self.new ≡ true) }
+        ensures bound { longest (blocks_form self.new) ≤ max 20 (longest (blocks_form self.old)) }
     {
         if let Some(groups) = self.to_groups(alloc)? {
             *self = Form::Groups(Block::Own(groups));

@@ -1,9 +1,9 @@
 //! Lists in groups of blocks, changed in place.
 ghost use Rattle.std.specs.List.{insert, remove};
-ghost use Rattle.std.specs.Prelude.{◌≡◌, ◌≤◌, ◌<◌, true, false, [], ℕ, length, slice_get, slice_set, option_map, nat_le};
-ghost use Rattle.std.specs.Prelude.{if◌then◌else◌, IfOk, IfSome, IfNone, OnOk, OnErr};
+ghost use Rattle.std.specs.Prelude.{◌≡◌, ◌≤◌, ◌<◌, true, false, [], ℕ, length, max, slice_get, slice_set};
+ghost use Rattle.std.specs.Prelude.{option_map, nat_le, if◌then◌else◌, IfOk, IfSome, IfNone, OnOk, OnErr};
 ghost use Rattle.sdb_pieces.specs.Block.{items_of, is_own};
-ghost use Rattle.sdb_pieces.specs.Group.{seen_group, joined_groups, own_in_groups};
+ghost use Rattle.sdb_pieces.specs.Group.{seen_group, joined_groups, own_in_groups, longest_grouped};
 ghost use Rattle.sdb_pieces.specs.Pieces.{is_own_form_at};
 ghost use Rattle.sdb_pieces.specs.Place.{IsPlace, IsItem};
 ghost use Rattle.sdb_pieces.specs.declared.pieces.Form.TheVariants.{Groups};
@@ -59,6 +59,7 @@ fn own_groups<T: Share>(alloc: Global, groups: &mut Block<Group<T>>) -> Result<(
     ensures among { (i : ℕ) → own_in_groups (items_of groups.new) i ≡ own_in_groups (items_of groups.old) i }
     ensures own { OnOk result (is_own groups.new ≡ true) }
     ensures shared { OnErr result (is_own groups.old ≡ false) }
+    ensures bound { longest_grouped (items_of groups.new) ≡ longest_grouped (items_of groups.old) }
 {
     groups.make_own(alloc)?;
     Ok(())
@@ -71,7 +72,8 @@ fn split_group<T: Share>(
     at: usize,
 ) -> Result<(), AllocError>
     requires { at < length groups.old.items }
-    ensures { joined_groups T.seen groups.new.items ≡ joined_groups T.seen groups.old.items }
+    ensures same { joined_groups T.seen groups.new.items ≡ joined_groups T.seen groups.old.items }
+    ensures bound { longest_grouped groups.new.items ≤ longest_grouped groups.old.items }
 {
     groups.insert(at + 1, Group::new(Block::Own(Vec::new(alloc))))?;
     let high = groups[at].upper_half(alloc)?;
@@ -85,7 +87,8 @@ fn split_long<T: Share>(
     groups: &mut Vec<Group<T>>,
     index: usize,
 ) -> Result<(), AllocError>
-    ensures { joined_groups T.seen groups.new.items ≡ joined_groups T.seen groups.old.items }
+    ensures same { joined_groups T.seen groups.new.items ≡ joined_groups T.seen groups.old.items }
+    ensures bound { longest_grouped groups.new.items ≤ longest_grouped groups.old.items }
 {
     if let Some((at, _)) = place(groups, index) {
         if groups[at].blocks().len() >= groups.len().max(FEW) {
@@ -99,6 +102,7 @@ fn split_long<T: Share>(
 fn some_group<T: Share>(alloc: Global, groups: &mut Vec<Group<T>>) -> Result<(), AllocError>
     ensures same { joined_groups T.seen groups.new.items ≡ joined_groups T.seen groups.old.items }
     ensures some { OnOk result (0 < length groups.new.items) }
+    ensures bound { longest_grouped groups.new.items ≤ longest_grouped groups.old.items }
 {
     if groups.is_empty() {
         groups.push(Group::new(Block::Own(Vec::new(alloc))))?;
@@ -121,6 +125,7 @@ fn insert_at<T: Share>(
         ≡ nat_le index (length (joined_groups T.seen groups.old.items))) }
     ensures err { OnErr result (joined_groups T.seen groups.new.items ≡ joined_groups T.seen groups.old.items) }
     ensures now_own { IfOk result (λ done. done ≡ true → own_in_groups groups.new.items index ≡ true) }
+    ensures bound { longest_grouped groups.new.items ≤ max 20 (longest_grouped groups.old.items) }
 {
     match place(groups, index) {
         Some((at, inside)) => {
@@ -145,6 +150,7 @@ fn insert_item<T: Share>(
         ≡ nat_le index (length (joined_groups T.seen groups.old.items))) }
     ensures err { OnErr result (joined_groups T.seen groups.new.items ≡ joined_groups T.seen groups.old.items) }
     ensures now_own { IfOk result (λ done. done ≡ true → own_in_groups groups.new.items index ≡ true) }
+    ensures bound { longest_grouped groups.new.items ≤ max 20 (longest_grouped groups.old.items) }
 {
     split_long(alloc, groups, index)?;
     some_group(alloc, groups)?;
@@ -167,6 +173,7 @@ pub(crate) fn insert_grouped<T: Share>(
     ensures err { OnErr result (joined_groups T.seen (items_of groups.new)
         ≡ joined_groups T.seen (items_of groups.old)) }
     ensures now_own { IfOk result (λ done. done ≡ true → is_own_form_at (Groups groups.new) index ≡ true) }
+    ensures bound { longest_grouped (items_of groups.new) ≤ max 20 (longest_grouped (items_of groups.old)) }
 {
     own_groups(alloc, groups)?;
     match groups {
@@ -181,7 +188,8 @@ pub(crate) fn insert_grouped<T: Share>(
 // Takes a group out that has no blocks left.
 fn drop_empty<T: Share>(groups: &mut Vec<Group<T>>, at: usize)
     requires { at < length groups.old.items }
-    ensures { joined_groups T.seen groups.new.items ≡ joined_groups T.seen groups.old.items }
+    ensures same { joined_groups T.seen groups.new.items ≡ joined_groups T.seen groups.old.items }
+    ensures bound { longest_grouped groups.new.items ≤ longest_grouped groups.old.items }
 {
     if groups[at].blocks().len() == 0 {
         drop(groups.remove(at));
@@ -200,6 +208,7 @@ fn remove_item<T: Share>(
         ≡ remove (joined_groups T.seen groups.old.items) index) }
     ensures err { OnErr result (joined_groups T.seen groups.new.items ≡ joined_groups T.seen groups.old.items) }
     ensures shared { OnErr result (own_in_groups groups.old.items index ≡ false) }
+    ensures bound { longest_grouped groups.new.items ≤ longest_grouped groups.old.items }
 {
     let Some((at, inside)) = place_of(groups, index) else {
         return Ok(None);
@@ -222,6 +231,7 @@ pub(crate) fn remove_grouped<T: Share>(
     ensures err { OnErr result (joined_groups T.seen (items_of groups.new)
         ≡ joined_groups T.seen (items_of groups.old)) }
     ensures shared { OnErr result (is_own_form_at (Groups groups.old) index ≡ false) }
+    ensures bound { longest_grouped (items_of groups.new) ≤ longest_grouped (items_of groups.old) }
 {
     own_groups(alloc, groups)?;
     match groups {
@@ -248,6 +258,7 @@ fn replace_item<T: Share>(
     ensures err { OnErr result (joined_groups T.seen groups.new.items ≡ joined_groups T.seen groups.old.items) }
     ensures shared { OnErr result (own_in_groups groups.old.items index ≡ false) }
     ensures now_own { IfOk result (λ x. IfSome x (λ _. own_in_groups groups.new.items index ≡ true)) }
+    ensures bound { longest_grouped groups.new.items ≤ longest_grouped groups.old.items }
 {
     let Some((at, inside)) = place_of(groups, index) else {
         return Ok(None);
@@ -271,6 +282,7 @@ pub(crate) fn replace_grouped<T: Share>(
         ≡ joined_groups T.seen (items_of groups.old)) }
     ensures shared { OnErr result (is_own_form_at (Groups groups.old) index ≡ false) }
     ensures now_own { IfOk result (λ x. IfSome x (λ _. is_own_form_at (Groups groups.new) index ≡ true)) }
+    ensures bound { longest_grouped (items_of groups.new) ≤ longest_grouped (items_of groups.old) }
 {
     own_groups(alloc, groups)?;
     match groups {

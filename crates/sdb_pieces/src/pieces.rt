@@ -1,11 +1,19 @@
 //! Lists in pieces.
 ghost use Rattle.std.specs.List.{insert, remove};
+ghost use Rattle.std.specs.Option.{OnSome};
+ghost use Rattle.std.specs.Borrow.{LendsSo, sem};
+ghost use Rattle.sdb_pieces.specs.Rows.{pieces_row};
 ghost use Rattle.sdb_pieces.specs.Iter.{rest, rest_blocks};
-ghost use Rattle.std.specs.Prelude.{◌≡◌, ◌∷◌, [], true, false, length, map, slice_get, slice_set, option_map, nat_le};
-ghost use Rattle.std.specs.Prelude.{if◌then◌else◌, IfOk, IfSome, is_some, OnOk, OnErr};
+ghost use Rattle.std.specs.Prelude.{◌≡◌, ◌≤◌, ◌<◌, ◌∷◌, [], true, false, length, max, map, slice_get, slice_set};
+ghost use Rattle.std.specs.Prelude.{option_map, nat_le, if◌then◌else◌, Some, IfOk, IfSome, is_some, OnOk, OnErr};
 ghost use Rattle.sdb_pieces.specs.Pieces.{seen_in, is_own_list, is_own_at, is_shared_list, is_vector, is_in_groups, all_own, all_shared, blocks_in, items_in, parts_in};
+ghost use Rattle.sdb_pieces.specs.Block.{items_of};
+ghost use Rattle.sdb_pieces.specs.Blocks.{longest};
+ghost use Rattle.sdb_pieces.specs.declared.pieces.Form.TheVariants.{One};
 
-use crate::among::{block_item, insert_among, one_block, remove_among, replace_among};
+use crate::among::{
+    block_item, block_item_mut, insert_among, one_block, remove_among, replace_among,
+};
 use crate::block::{Block, Share};
 use crate::change::{FEW, bound, bound_for, insert_in, item_in, item_mut, remove_in, replace_in};
 use crate::cut::cut_blocks;
@@ -131,6 +139,7 @@ impl<T: Drop> Pieces<T> {
     pub fn in_blocks(alloc: Global, items: Vec<T>) -> Result<Pieces<T>, AllocError>
         ensures items { IfOk result (λ l. items_in l ≡ items.items) }
         ensures own { IfOk result (λ l. is_own_list l ≡ true) }
+        ensures bound { IfOk result (λ l. longest (blocks_in l) ≤ 512) }
     {
         let most = bound_for(items.len());
         if items.len() <= most {
@@ -222,14 +231,15 @@ impl<T: Share> Pieces<T> {
     /// The item at the index, to be changed, or `None` past the end, and where its block is shared or the list is in
     /// groups.
     pub fn get_mut(&mut self, index: usize) -> Option<&mut T>
-        ensures { is_own_at self.old index ≡ true → is_in_groups self.old.form ≡ false
+        ensures* writes_back { sem 𝓛 (LendsSo (pieces_row T.row) T.row self.entry result
+            (λ n w. OnSome result (seen_in T.seen n ≡ slice_set (seen_in T.seen self.old) index (T.seen w)))
+            (λ n. seen_in T.seen n ≡ seen_in T.seen self.old)) }
+        ensures item { IfSome result (λ x. slice_get (seen_in T.seen self.old) index ≡ Some (T.seen x.now)) }
+        ensures value { is_own_at self.old index ≡ true → is_in_groups self.old.form ≡ false
             → option_map (λ x. T.seen x.now) result ≡ slice_get (seen_in T.seen self.old) index }
     {
         match &mut self.form {
-            Form::One(block) => match block {
-                Block::Own(items) => items.get_mut(index),
-                Block::Shared(_) => None,
-            },
+            Form::One(block) => block_item_mut(block, index),
             Form::Many(blocks) => match blocks {
                 Block::Own(blocks) => item_mut(blocks, index),
                 Block::Shared(_) => None,
@@ -239,7 +249,10 @@ impl<T: Share> Pieces<T> {
     }
 
     // How many items a block may have.
-    fn most(&self) -> usize {
+    fn most(&self) -> usize
+        ensures low { 20 ≤ result }
+        ensures high { result ≤ 512 }
+    {
         match &self.form {
             Form::Many(blocks) => bound(blocks.len()),
             _ => FEW,
@@ -250,6 +263,8 @@ impl<T: Share> Pieces<T> {
     fn make_room(&mut self, alloc: Global, most: usize) -> Result<(), AllocError>
         ensures same { seen_in T.seen self.new ≡ seen_in T.seen self.old }
         ensures own { is_own_list self.old ≡ true → is_own_list self.new ≡ true }
+        ensures blocks { blocks_in self.new ≡ blocks_in self.old }
+        ensures room { OnOk result ((b : Block T) → self.new.form ≡ One b → length (items_of b) < most) }
     {
         if let Form::One(block) = &mut self.form {
             if block.len() >= most {
@@ -271,6 +286,7 @@ impl<T: Share> Pieces<T> {
         ensures err { OnErr result (seen_in T.seen self.new ≡ seen_in T.seen self.old) }
         ensures own { is_own_list self.old ≡ true → is_own_list self.new ≡ true }
         ensures now_own { IfOk result (λ done. done ≡ true → is_own_at self.new index ≡ true) }
+        ensures bound { longest (blocks_in self.new) ≤ max 512 (longest (blocks_in self.old)) }
     {
         let most = self.most();
         self.make_room(alloc, most)?;
@@ -303,6 +319,7 @@ impl<T: Share> Pieces<T> {
         ensures own { is_own_list self.old ≡ true → is_own_list self.new ≡ true }
         ensures shared { OnErr result (is_own_list self.old ≡ false) }
         ensures shared_there { OnErr result (is_own_at self.old index ≡ false) }
+        ensures bound { longest (blocks_in self.new) ≤ longest (blocks_in self.old) }
     {
         match &mut self.form {
             Form::One(block) => {
@@ -335,6 +352,7 @@ impl<T: Share> Pieces<T> {
         ensures own { is_own_list self.old ≡ true → is_own_list self.new ≡ true }
         ensures shared { OnErr result (is_own_at self.old index ≡ false) }
         ensures now_own { IfOk result (λ x. IfSome x (λ _. is_own_at self.new index ≡ true)) }
+        ensures bound { longest (blocks_in self.new) ≤ longest (blocks_in self.old) }
     {
         match &mut self.form {
             Form::One(block) => {

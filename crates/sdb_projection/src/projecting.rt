@@ -7,7 +7,7 @@ ghost use Rattle.sdb_projection.specs.View.{fields_of};
 use crate::projection::Projection;
 use sdb_component::Op;
 use sdb_oplog::{Content, Kind};
-use sdb_value::{Json, Members, put_member};
+use sdb_value::{Json, Members, put_at_key};
 use std::alloc::{AllocError, Global};
 
 /// What the projection shows of a document's data: of an object its fields alone, and null of other
@@ -20,7 +20,7 @@ pub fn project_data(
     ensures { IfOk result (λ v. view v ≡ proj (fields_of projection.now) (view value.now)) }
 {
     match value.members() {
-        Some(members) => Json::of_members(alloc, shown(alloc, projection, members)?),
+        Some(members) => Ok(Json::of_members(shown(alloc, projection, members)?)),
         None => Ok(Json::Null),
     }
 }
@@ -34,7 +34,7 @@ fn shown(alloc: Global, projection: &Projection, members: &Members) -> Result<Me
     for (key, member) in members.iter() {
         if projection.is_field(key) {
             let name = String::from_str(alloc, key)?;
-            put_member(alloc, &mut copies, name, member.try_clone(alloc)?)?;
+            put_at_key(alloc, &mut copies, name, member.try_clone(alloc)?)?;
         }
     }
     Ok(copies)

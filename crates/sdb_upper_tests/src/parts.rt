@@ -66,7 +66,7 @@ pub(crate) fn number(document: Option<&Json>) -> Option<i64> {
 // The number at `n`.
 pub(crate) fn counted(document: Option<&Json>) -> Option<i64> {
     match document {
-        Some(Json::Object(object)) => number(object.members().get("n")),
+        Some(Json::Object(members)) => number(members.get("n")),
         _ => None,
     }
 }

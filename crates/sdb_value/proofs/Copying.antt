@@ -1,28 +1,30 @@
 -- Copies in their three manners.
-use Rattle.std.proofs.Common.{◌≡◌, List, [], ◌∷◌, ◌++◌, map, Option, Some, None, Bool, true, false, cond, Result, Ok, Err, IfOk, true≢false, refl, sym, ap, ◌∙◌, append_assoc}
+use Rattle.std.proofs.Common.{◌≡◌, ℕ, ◌<◌, ◌^◌, length, subst, List, [], ◌∷◌, ◌++◌, map, Option, Some, None, Bool, true, false, cond, Result, Ok, Err, IfOk, true≢false, refl, sym, ap, ◌∙◌, append_assoc}
 use Rattle.std.specs.List.{flat_map}
 use Rattle.std.specs.Option.{is_some, IfSome, IfNone}
 use Rattle.sdb_pieces.specs.Block.{items_of as block_items, is_own as block_own, is_shared as block_shared}
 use Rattle.sdb_pieces.specs.Pieces.{all_own, all_shared, blocks_in, items_in, parts_in, is_in_groups, is_own_form, is_own_list, is_shared_form, is_shared_list}
-use Rattle.sdb_members.specs.Keys.{texts_in, is_own as keys_own, is_shared as keys_shared}
-use Rattle.sdb_members.specs.Object.{members_in, is_shared as object_shared}
+use Rattle.sdb_pieces.specs.Laws.{seen_items_in}
+use Rattle.sdb_members.specs.Member.{name}
+use Rattle.sdb_members.specs.Members.{entries_in, is_shared as members_shared}
+use Rattle.sdb_members.specs.Order.{IsAscending}
+use Rattle.sdb_members.specs.Search.{texts, texts_of}
+use Rattle.sdb_members.specs.declared.member.Member.{Member}
 use Rattle.sdb_members.specs.declared.members.Members.{Members as Held}
-use Rattle.sdb_members.specs.declared.object.Object.{Object}
 use Rattle.sdb_pieces.specs.declared.block.Block.{Block}
 use Rattle.sdb_pieces.specs.declared.block.Block.TheVariants.{Own, Shared}
 use Rattle.sdb_pieces.specs.declared.pieces.Form.{Form}
 use Rattle.sdb_pieces.specs.declared.pieces.Form.TheVariants.{One, Many, Groups}
 use Rattle.sdb_pieces.specs.declared.pieces.Pieces.{Pieces}
-use Rattle.sdb_value.specs.Copies.{IsCopied, block_all_own, blocks_all_own}
-use Rattle.sdb_value.specs.Owns.{all_true, is_own, is_pointer, items_own, list_own, held_own, object_own}
-use Rattle.sdb_value.specs.View.{view, items_view, list_view, object_view}
-use Rattle.sdb_value.specs.Value.{list, object, item, join}
+use Rattle.sdb_value.specs.Copies.{IsCopied}
+use Rattle.sdb_value.specs.Owns.{all_true, is_own, is_pointer, items_own, list_own, object_own}
+use Rattle.sdb_value.specs.View.{view, entries_view, items_view, list_view, members_view, object_view}
+use Rattle.sdb_value.specs.Value.{list, object, item, join, Members, no_members, member}
 use Rattle.sdb_value.specs.declared.copy.Manner.{Manner}
 use Rattle.sdb_value.specs.declared.copy.Manner.TheVariants as manner
 use Rattle.sdb_value.specs.declared.value.Json.{Json}
 use Rattle.sdb_value.specs.declared.value.Json as json
 use Rattle.sdb_value.proofs.Owned.{items_parts, owned_list, owned_object, pointer_list, pointer_object}
-use Rattle.sdb_value.proofs.Pairs.{paired, object_pairs}
 use Rattle.sdb_value.proofs.Views.{seen_list, seen_object}
 
 -- ---- a pointer
@@ -31,6 +33,10 @@ copied_pointer : (m : Manner) (was now pointer : Bool) → (m ≡ manner.Own →
 copied_pointer manner.Same was now pointer h w n p = n ∙ sym w
 copied_pointer manner.Own was now pointer h w n p = absurd (h refl)
 copied_pointer manner.Shared was now pointer h w n p = p
+
+-- what an option holds
+pub if_some_at : {A : Type 0} (P : A → Type 0) (o : Option A) (x : A) → o ≡ Some x → IfSome o P → P x
+if_some_at P o x e h = subst (λ p. IfSome p P) e h
 
 -- what an option of a result holds
 pub some_of : {A E : Type 0} {P Q : A → Type 0} (r : Result (Option A) E) → ((x : A) → P x → Q x) → IfOk r (λ o. IfSome o P) → IfOk r (λ o. IfSome o Q)
@@ -56,23 +62,31 @@ shared_form_not_own (Many (Own v)) h = absurd (true≢false (sym h))
 shared_form_not_own (Many (Shared a)) h = refl
 shared_form_not_own (Groups gs) h = refl
 
-shared_list_own : (l : Pieces Json) → is_shared_list l ≡ true → list_own l ≡ false
-shared_list_own l h = ap (λ b. cond b (items_own (items_in l)) false) (shared_form_not_own l.form h)
-
 pub list_again : (l new : Pieces Json) → parts_in new ≡ parts_in l → list_view new ≡ list_view l
 list_again l new e = ap items_view (items_parts new ∙ ap (flat_map (λ xs. xs)) e ∙ sym (items_parts l))
 
-pub list_pointed : (m : Manner) (l new : Pieces Json) → (m ≡ manner.Own → ⊥) → is_shared_list l ≡ true → is_shared_list new ≡ true
-    → IsCopied m (list_own l) (list_own new) (is_shared_list new)
-list_pointed m l new h was now = copied_pointer m (list_own l) (list_own new) (is_shared_list new) h (shared_list_own l was) (shared_list_own new now) now
+-- of items of which q tells whether they are their owner's own
+module _ {X : Type 0} (q : X → Bool) where
+  abbrev list_all_own : Pieces X → Bool
+  list_all_own l = cond (is_own_list l) (all_true (map q (items_in l))) false
 
-shared_block_own : (b : Block Json) → block_shared b ≡ true → block_all_own b ≡ false
-shared_block_own (Own v) h = absurd (true≢false (sym h))
-shared_block_own (Shared a) h = refl
+  abbrev each_own : Block X → Bool
+  each_own b = cond (block_own b) (all_true (map q (block_items b))) false
 
-pub block_pointed : (m : Manner) (b new : Block Json) → (m ≡ manner.Own → ⊥) → block_shared b ≡ true → block_shared new ≡ true
-    → IsCopied m (block_all_own b) (block_all_own new) (block_shared new)
-block_pointed m b new h was now = copied_pointer m (block_all_own b) (block_all_own new) (block_shared new) h (shared_block_own b was) (shared_block_own new now) now
+  pub shared_list_own : (l : Pieces X) → is_shared_list l ≡ true → list_all_own l ≡ false
+  shared_list_own l h = ap (λ b. cond b (all_true (map q (items_in l))) false) (shared_form_not_own l.form h)
+
+  pub list_pointed : (m : Manner) (l new : Pieces X) → (m ≡ manner.Own → ⊥) → is_shared_list l ≡ true → is_shared_list new ≡ true
+      → IsCopied m (list_all_own l) (list_all_own new) (is_shared_list new)
+  list_pointed m l new h was now = copied_pointer m (list_all_own l) (list_all_own new) (is_shared_list new) h (shared_list_own l was) (shared_list_own new now) now
+
+  shared_block_own : (b : Block X) → block_shared b ≡ true → each_own b ≡ false
+  shared_block_own (Own v) h = absurd (true≢false (sym h))
+  shared_block_own (Shared a) h = refl
+
+  pub block_pointed : (m : Manner) (b new : Block X) → (m ≡ manner.Own → ⊥) → block_shared b ≡ true → block_shared new ≡ true
+      → IsCopied m (each_own b) (each_own new) (block_shared new)
+  block_pointed m b new h was now = copied_pointer m (each_own b) (each_own new) (block_shared new) h (shared_block_own b was) (shared_block_own new now) now
 
 pub not_shared_own : {X : Type 0} (b : Block X) → block_shared b ≡ false → block_own b ≡ true
 not_shared_own (Own v) h = refl
@@ -123,19 +137,6 @@ swap_and true false true d = refl
 swap_and true false false d = refl
 swap_and false b c d = refl
 
-blocks_own : (bs : List (Block Json)) → cond (all_own bs) (items_own (flat_map block_items bs)) false ≡ blocks_all_own bs
-blocks_own [] = refl
-blocks_own (b ∷ bs) =
-    ap (λ x. cond (cond (block_own b) (all_own bs) false) x false)
-    (ap all_true (map_append is_own (block_items b) (flat_map block_items bs)) ∙ all_append (map is_own (block_items b)) (map is_own (flat_map block_items bs)))
-    ∙ swap_and (block_own b) (all_own bs) (items_own (block_items b)) (items_own (flat_map block_items bs))
-    ∙ ap (λ x. cond (block_all_own b) x false) (blocks_own bs)
-
--- a list whose blocks tell whether it is its own
-pub list_of_blocks : (l : Pieces Json) (bs : List (Block Json)) → blocks_in l ≡ bs → is_own_list l ≡ all_own bs → list_own l ≡ blocks_all_own bs
-list_of_blocks l bs e o =
-    ap (λ x. cond x (items_own (items_in l)) false) o ∙ ap (λ x. cond (all_own bs) (items_own (flat_map block_items x)) false) e ∙ blocks_own bs
-
 one_own : (b : Bool) → b ≡ cond b true false
 one_own true = refl
 one_own false = refl
@@ -146,8 +147,47 @@ unshared_form (Many (Own v)) g h = refl
 unshared_form (Many (Shared a)) g h = absurd (true≢false h)
 unshared_form (Groups gs) g h = absurd (true≢false g)
 
-pub unshared_list : (l : Pieces Json) → is_in_groups l.form ≡ false → is_shared_list l ≡ false → list_own l ≡ blocks_all_own (blocks_in l)
-unshared_list l g h = list_of_blocks l (blocks_in l) refl (unshared_form l.form g h)
+grouped_own : {X : Type 0} (w : Form X) → is_in_groups w ≡ true → is_own_form w ≡ false
+grouped_own (One b) h = absurd (true≢false (sym h))
+grouped_own (Many bs) h = absurd (true≢false (sym h))
+grouped_own (Groups gs) h = refl
+
+module _ {X : Type 0} (q : X → Bool) where
+  abbrev blocks_each : List (Block X) → Bool
+  blocks_each bs = all_true (map (each_own q) bs)
+
+  blocks_own : (bs : List (Block X)) → cond (all_own bs) (all_true (map q (flat_map block_items bs))) false ≡ blocks_each bs
+  blocks_own [] = refl
+  blocks_own (b ∷ bs) =
+      ap (λ x. cond (cond (block_own b) (all_own bs) false) x false)
+      (ap all_true (map_append q (block_items b) (flat_map block_items bs)) ∙ all_append (map q (block_items b)) (map q (flat_map block_items bs)))
+      ∙ swap_and (block_own b) (all_own bs) (all_true (map q (block_items b))) (all_true (map q (flat_map block_items bs)))
+      ∙ ap (λ x. cond (each_own q b) x false) (blocks_own bs)
+
+  -- a list whose blocks tell whether it is its own
+  list_of_blocks : (l : Pieces X) (bs : List (Block X)) → blocks_in l ≡ bs → is_own_list l ≡ all_own bs → list_all_own q l ≡ blocks_each bs
+  list_of_blocks l bs e o =
+      ap (λ x. cond x (all_true (map q (items_in l))) false) o ∙ ap (λ x. cond (all_own bs) (all_true (map q (flat_map block_items x))) false) e ∙ blocks_own bs
+
+  unshared_list : (l : Pieces X) → is_in_groups l.form ≡ false → is_shared_list l ≡ false → list_all_own q l ≡ blocks_each (blocks_in l)
+  unshared_list l g h = list_of_blocks l (blocks_in l) refl (unshared_form l.form g h)
+
+  -- one in groups isn't its own
+  pub in_groups_own : (l : Pieces X) → is_in_groups l.form ≡ true → list_all_own q l ≡ false
+  in_groups_own l h = ap (λ b. cond b (all_true (map q (items_in l))) false) (grouped_own l.form h)
+
+  -- a list made of copied blocks
+  pub made_of_blocks : (m : Manner) (l new : Pieces X) (bs : List (Block X)) → (m ≡ manner.Shared → ⊥) → (m ≡ manner.Same → is_in_groups l.form ≡ false)
+      → (m ≡ manner.Same → is_shared_list l ≡ false) → blocks_in new ≡ bs → is_own_list new ≡ all_own bs
+      → IsCopied m (blocks_each (blocks_in l)) (blocks_each bs) (all_shared bs) → IsCopied m (list_all_own q l) (list_all_own q new) (is_shared_list new)
+  made_of_blocks manner.Same l new bs h g k e o c = list_of_blocks new bs e o ∙ c ∙ sym (unshared_list l (g refl) (k refl))
+  made_of_blocks manner.Own l new bs h g k e o c = list_of_blocks new bs e o ∙ c
+  made_of_blocks manner.Shared l new bs h g k e o c = absurd (h refl)
+
+-- a copy in blocks of a list, which is shared where the list is in groups
+pub by_manner : (inner m : Manner) (groups was now pointer : Bool) → ((was now pointer : Bool) → (groups ≡ true → was ≡ false) → (pointer ≡ true → now ≡ false)
+    → IsCopied inner was now pointer → IsCopied m was now pointer) → (groups ≡ true → was ≡ false) → (pointer ≡ true → now ≡ false) → IsCopied inner was now pointer → IsCopied m was now pointer
+by_manner inner m groups was now pointer h g p c = h was now pointer g p c
 
 pub copied_by : (m : Manner) (a b p c d q : Bool) → c ≡ a → d ≡ b → q ≡ p → IsCopied m a b p → IsCopied m c d q
 copied_by manner.Same a b p c d q e f g h = f ∙ h ∙ sym e
@@ -164,23 +204,14 @@ copied_list m v l new is h =
     copied_by m (list_own l) (list_own new) (is_shared_list new) (is_own v) (is_own (json.List new)) (is_pointer (json.List new))
     (ap is_own is ∙ owned_list l) (owned_list new) (pointer_list new) h
 
-pub value_object : (v : Json) (s new : Object Json) → v ≡ json.Object s → object_view (members_in new) ≡ object_view (members_in s)
-    → view (json.Object new) ≡ view v
+pub value_object : (v : Json) (s new : Held Json) → v ≡ json.Object s → object_view new ≡ object_view s → view (json.Object new) ≡ view v
 value_object v s new is e = seen_object new ∙ ap object e ∙ sym (ap view is ∙ seen_object s)
 
-pub copied_object : (m : Manner) (v : Json) (s new : Object Json) → v ≡ json.Object s
-    → IsCopied m (held_own s) (held_own new) (object_shared new) → IsCopied m (is_own v) (is_own (json.Object new)) (is_pointer (json.Object new))
+pub copied_object : (m : Manner) (v : Json) (s new : Held Json) → v ≡ json.Object s
+    → IsCopied m (object_own s) (object_own new) (members_shared new) → IsCopied m (is_own v) (is_own (json.Object new)) (is_pointer (json.Object new))
 copied_object m v s new is h =
-    copied_by m (held_own s) (held_own new) (object_shared new) (is_own v) (is_own (json.Object new)) (is_pointer (json.Object new))
+    copied_by m (object_own s) (object_own new) (members_shared new) (is_own v) (is_own (json.Object new)) (is_pointer (json.Object new))
     (ap is_own is ∙ owned_object s) (owned_object new) (pointer_object new) h
-
--- a list made of copied blocks
-pub made_of_blocks : (m : Manner) (l new : Pieces Json) (bs : List (Block Json)) → (m ≡ manner.Shared → ⊥) → (m ≡ manner.Same → is_in_groups l.form ≡ false)
-    → (m ≡ manner.Same → is_shared_list l ≡ false) → blocks_in new ≡ bs → is_own_list new ≡ all_own bs
-    → IsCopied m (blocks_all_own (blocks_in l)) (blocks_all_own bs) (all_shared bs) → IsCopied m (list_own l) (list_own new) (is_shared_list new)
-made_of_blocks manner.Same l new bs h g k e o c = list_of_blocks new bs e o ∙ c ∙ sym (unshared_list l (g refl) (k refl))
-made_of_blocks manner.Own l new bs h g k e o c = list_of_blocks new bs e o ∙ c
-made_of_blocks manner.Shared l new bs h g k e o c = absurd (h refl)
 
 pub made_view : (l new : Pieces Json) (bs : List (Block Json)) → blocks_in new ≡ bs → items_view (flat_map block_items bs) ≡ list_view l → list_view new ≡ list_view l
 made_view l new bs e h = ap (λ b. items_view (flat_map block_items b)) e ∙ h
@@ -191,60 +222,88 @@ pub join_view : (xs ys : List Json) → items_view (xs ++ ys) ≡ join (items_vi
 join_view [] ys = refl
 join_view (x ∷ xs) ys = ap (item (view x)) (join_view xs ys)
 
+abbrev pub join_members : Members → Members → Members
+join_members no_members ns = ns
+join_members (member k d ms) ns = member k d (join_members ms ns)
+
+pub join_entries : (ms ns : List (Member Json)) → entries_view (ms ++ ns) ≡ join_members (entries_view ms) (entries_view ns)
+join_entries [] ns = refl
+join_entries (m ∷ ms) ns = ap (member (name m) (view m.value)) (join_entries ms ns)
+
 append_none : {A : Type 0} (xs : List A) → xs ++ [] ≡ xs
 append_none [] = refl
 append_none (x ∷ xs) = ap (λ l. x ∷ l) (append_none xs)
 
-flat_more : (bs : List (Block Json)) (b : Block Json) → flat_map block_items (bs ++ b ∷ []) ≡ flat_map block_items bs ++ block_items b
+flat_more : {X : Type 0} (bs : List (Block X)) (b : Block X) → flat_map block_items (bs ++ b ∷ []) ≡ flat_map block_items bs ++ block_items b
 flat_more [] b = append_none (block_items b)
 flat_more (c ∷ bs) b = ap (λ l. block_items c ++ l) (flat_more bs b) ∙ sym (append_assoc (block_items c) (flat_map block_items bs) (block_items b))
 
-pub blocks_more : (bs cs : List (Block Json)) (b c : Block Json) → items_view (flat_map block_items cs) ≡ items_view (flat_map block_items bs)
+-- of lists that V sees, and J joins
+module _ {X M : Type 0} (V : List X → M) (J : M → M → M) (join_of : (xs ys : List X) → V (xs ++ ys) ≡ J (V xs) (V ys)) where
+  pub blocks_more : (bs cs : List (Block X)) (b c : Block X) → V (flat_map block_items cs) ≡ V (flat_map block_items bs)
+      → V (block_items c) ≡ V (block_items b) → V (flat_map block_items (cs ++ c ∷ [])) ≡ V (flat_map block_items (bs ++ b ∷ []))
+  blocks_more bs cs b c e h =
+      ap V (flat_more cs c) ∙ join_of (flat_map block_items cs) (block_items c) ∙ ap (λ d. J d (V (block_items c))) e
+      ∙ ap (J (V (flat_map block_items bs))) h ∙ sym (ap V (flat_more bs b) ∙ join_of (flat_map block_items bs) (block_items b))
+
+  pub one_more : (xs ys : List X) (x y : X) → V ys ≡ V xs → V (y ∷ []) ≡ V (x ∷ []) → V (ys ++ y ∷ []) ≡ V (xs ++ x ∷ [])
+  one_more xs ys x y e h = join_of ys (y ∷ []) ∙ ap (λ d. J d (V (y ∷ []))) e ∙ ap (J (V xs)) h ∙ sym (join_of xs (x ∷ []))
+
+pub items_more : (bs cs : List (Block Json)) (b c : Block Json) → items_view (flat_map block_items cs) ≡ items_view (flat_map block_items bs)
     → items_view (block_items c) ≡ items_view (block_items b) → items_view (flat_map block_items (cs ++ c ∷ [])) ≡ items_view (flat_map block_items (bs ++ b ∷ []))
-blocks_more bs cs b c e h =
-    ap items_view (flat_more cs c) ∙ join_view (flat_map block_items cs) (block_items c) ∙ ap (λ d. join d (items_view (block_items c))) e
-    ∙ ap (join (items_view (flat_map block_items bs))) h ∙ sym (ap items_view (flat_more bs b) ∙ join_view (flat_map block_items bs) (block_items b))
+items_more = blocks_more items_view join join_view
 
-pub blocks_copied_more : (m : Manner) (bs cs : List (Block Json)) (b c : Block Json) → IsCopied m (blocks_all_own bs) (blocks_all_own cs) (all_shared cs)
-    → IsCopied m (block_all_own b) (block_all_own c) (block_shared c)
-    → IsCopied m (blocks_all_own (bs ++ b ∷ [])) (blocks_all_own (cs ++ c ∷ [])) (all_shared (cs ++ c ∷ []))
-blocks_copied_more m bs cs b c h k =
-    copied_by m (cond (blocks_all_own bs) (block_all_own b) false) (cond (blocks_all_own cs) (block_all_own c) false) (cond (all_shared cs) (block_shared c) false)
-    (blocks_all_own (bs ++ b ∷ [])) (blocks_all_own (cs ++ c ∷ [])) (all_shared (cs ++ c ∷ []))
-    (ap all_true (map_append block_all_own bs (b ∷ [])) ∙ all_more (map block_all_own bs) (block_all_own b))
-    (ap all_true (map_append block_all_own cs (c ∷ [])) ∙ all_more (map block_all_own cs) (block_all_own c)) (shared_more cs c)
-    (copied_more m (blocks_all_own bs) (blocks_all_own cs) (all_shared cs) (block_all_own b) (block_all_own c) (block_shared c) h k)
+pub entries_more : (bs cs : List (Block (Member Json))) (b c : Block (Member Json)) → entries_view (flat_map block_items cs) ≡ entries_view (flat_map block_items bs)
+    → entries_view (block_items c) ≡ entries_view (block_items b) → entries_view (flat_map block_items (cs ++ c ∷ [])) ≡ entries_view (flat_map block_items (bs ++ b ∷ []))
+entries_more = blocks_more entries_view join_members join_entries
 
-pub items_copied_more : (m : Manner) (vs cs : List Json) (v c : Json) (p : Bool) → IsCopied m (items_own vs) (items_own cs) true → IsCopied m (is_own v) (is_own c) p
-    → IsCopied m (items_own (vs ++ v ∷ [])) (items_own (cs ++ c ∷ [])) true
-items_copied_more m vs cs v c p h k =
-    both_of m (items_own vs) (items_own cs) (is_own v) (is_own c) (items_own (vs ++ v ∷ [])) (items_own (cs ++ c ∷ [])) p
-    (ap all_true (map_append is_own vs (v ∷ [])) ∙ all_more (map is_own vs) (is_own v)) (ap all_true (map_append is_own cs (c ∷ [])) ∙ all_more (map is_own cs) (is_own c)) h k
+pub entry_more : (ms cs : List (Member Json)) (m c : Member Json) → entries_view cs ≡ entries_view ms → entries_view (c ∷ []) ≡ entries_view (m ∷ []) → entries_view (cs ++ c ∷ []) ≡ entries_view (ms ++ m ∷ [])
+entry_more = one_more entries_view join_members join_entries
 
-pub same_entries : (s new : Held Json) → texts_in new.keys ≡ texts_in s.keys → list_view new.values ≡ list_view s.values → object_view new ≡ object_view s
-same_entries s new k v =
-    object_pairs new ∙ ap (λ ts. paired ts (list_view new.values)) k ∙ ap (paired (texts_in s.keys)) v ∙ sym (object_pairs s)
+pub same_member : (m c : Member Json) → name c ≡ name m → view c.value ≡ view m.value → entries_view (c ∷ []) ≡ entries_view (m ∷ [])
+same_member m c e f = ap (λ t. member t (view c.value) no_members) e ∙ ap (λ d. member (name m) d no_members) f
 
-pub keys_values : (m : Manner) (s new : Held Json) → IsCopied m (keys_own s.keys) (keys_own new.keys) (keys_shared new.keys)
-    → IsCopied m (list_own s.values) (list_own new.values) (is_shared_list new.values) → IsCopied m (object_own s) (object_own new) true
-keys_values manner.Same s new h k = and_both (keys_own new.keys) (list_own new.values) (keys_own s.keys) (list_own s.values) h k
-keys_values manner.Own s new h k = and_both (keys_own new.keys) (list_own new.values) true true h k
-keys_values manner.Shared s new h k = refl
+module _ {X : Type 0} (q : X → Bool) where
+  pub blocks_copied_more : (m : Manner) (bs cs : List (Block X)) (b c : Block X) → IsCopied m (blocks_each q bs) (blocks_each q cs) (all_shared cs)
+      → IsCopied m (each_own q b) (each_own q c) (block_shared c)
+      → IsCopied m (blocks_each q (bs ++ b ∷ [])) (blocks_each q (cs ++ c ∷ [])) (all_shared (cs ++ c ∷ []))
+  blocks_copied_more m bs cs b c h k =
+      copied_by m (cond (blocks_each q bs) (each_own q b) false) (cond (blocks_each q cs) (each_own q c) false) (cond (all_shared cs) (block_shared c) false)
+      (blocks_each q (bs ++ b ∷ [])) (blocks_each q (cs ++ c ∷ [])) (all_shared (cs ++ c ∷ []))
+      (ap all_true (map_append (each_own q) bs (b ∷ [])) ∙ all_more (map (each_own q) bs) (each_own q b))
+      (ap all_true (map_append (each_own q) cs (c ∷ [])) ∙ all_more (map (each_own q) cs) (each_own q c)) (shared_more cs c)
+      (copied_more m (blocks_each q bs) (blocks_each q cs) (all_shared cs) (each_own q b) (each_own q c) (block_shared c) h k)
 
--- an object of copied members
-pub made_of_members : (m : Manner) (o : Object Json) (new : Held Json) → (m ≡ manner.Shared → ⊥) → (m ≡ manner.Same → object_shared o ≡ false)
-    → IsCopied m (object_own (members_in o)) (object_own new) true → IsCopied m (held_own o) (object_own new) false
-made_of_members manner.Same o new h k c = c ∙ sym (ap (λ b. cond b false (object_own (members_in o))) (k refl))
-made_of_members manner.Own o new h k c = c
-made_of_members manner.Shared o new h k c = absurd (h refl)
+  pub items_copied_more : (m : Manner) (vs cs : List X) (v c : X) (p : Bool) → IsCopied m (all_true (map q vs)) (all_true (map q cs)) true → IsCopied m (q v) (q c) p
+      → IsCopied m (all_true (map q (vs ++ v ∷ []))) (all_true (map q (cs ++ c ∷ []))) true
+  items_copied_more m vs cs v c p h k =
+      both_of m (all_true (map q vs)) (all_true (map q cs)) (q v) (q c) (all_true (map q (vs ++ v ∷ []))) (all_true (map q (cs ++ c ∷ []))) p
+      (ap all_true (map_append q vs (v ∷ [])) ∙ all_more (map q vs) (q v)) (ap all_true (map_append q cs (c ∷ [])) ∙ all_more (map q cs) (q c)) h k
 
-shared_object_own : (o : Object Json) → object_shared o ≡ true → held_own o ≡ false
-shared_object_own o h = ap (λ b. cond b false (object_own (members_in o))) h
+-- the keys of members, by what is seen of them
+abbrev keys : Members → List (List ℕ)
+keys no_members = []
+keys (member k d ms) = k ∷ keys ms
 
-pub object_pointed : (m : Manner) (o new : Object Json) → (m ≡ manner.Own → ⊥) → object_shared o ≡ true → object_shared new ≡ true
-    → IsCopied m (held_own o) (held_own new) (object_shared new)
-object_pointed m o new h was now =
-    copied_pointer m (held_own o) (held_own new) (object_shared new) h (shared_object_own o was) (shared_object_own new now) now
+entries_keys : (ms : List (Member Json)) → keys (entries_view ms) ≡ texts ms
+entries_keys [] = refl
+entries_keys (m ∷ ms) = ap (λ l. name m ∷ l) (entries_keys ms)
+
+pub texts_viewed : (l m : Pieces (Member Json)) → entries_view (items_in m) ≡ entries_view (items_in l) → texts_of m ≡ texts_of l
+texts_viewed l m e =
+    seen_items_in name m ∙ sym (entries_keys (items_in m)) ∙ ap keys e ∙ entries_keys (items_in l) ∙ sym (seen_items_in name l)
+
+pub small_viewed : (l m : Pieces (Member Json)) → entries_view (items_in m) ≡ entries_view (items_in l) → length (texts_of l) < 2 ^ 64 → length (texts_of m) < 2 ^ 64
+small_viewed l m e h = subst (λ ts. length ts < 2 ^ 64) (sym (texts_viewed l m e)) h
+
+pub ascending_viewed : (l m : Pieces (Member Json)) → entries_view (items_in m) ≡ entries_view (items_in l) → IsAscending (texts_of l) → IsAscending (texts_of m)
+ascending_viewed l m e h = subst IsAscending (sym (texts_viewed l m e)) h
+
+abbrev pub value_own : Member Json → Bool
+value_own m = is_own m.value
+
+pub members_again : (m new : Held Json) → entries_in new ≡ entries_in m → object_view new ≡ object_view m
+members_again m new e = ap members_view e
 
 pub view_more : (cs vs : List Json) (c v : Json) → map view cs ≡ map view vs → view c ≡ view v → map view (cs ++ c ∷ []) ≡ map view (vs ++ v ∷ [])
 view_more cs vs c v h e = map_append view cs (c ∷ []) ∙ ap (λ l. l ++ view c ∷ []) h ∙ ap (λ d. map view vs ++ d ∷ []) e ∙ sym (map_append view vs (v ∷ []))

@@ -4,6 +4,7 @@ pub mod Copying
 pub mod Depths
 pub mod Read
 pub mod ListEdits
+pub mod MemberEdits
 pub mod Ordered
 pub mod Owned
 pub mod Pairs

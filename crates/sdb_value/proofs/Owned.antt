@@ -10,17 +10,18 @@ use Rattle.sdb_pieces.specs.declared.block.Block.TheVariants.{Own, Shared}
 use Rattle.sdb_pieces.specs.declared.pieces.Form.{Form}
 use Rattle.sdb_pieces.specs.declared.pieces.Form.TheVariants.{One, Many, Groups}
 use Rattle.sdb_pieces.specs.declared.pieces.Pieces.{Pieces}
-use Rattle.sdb_members.specs.Keys.{is_own as keys_own}
-use Rattle.sdb_members.specs.Object.{members_in, is_shared as object_shared}
+use mathlib.Core.Former.{this}
+use Rattle.sdb_members.specs.formers.members.Members.{member_former, pieces_former}
+use Rattle.sdb_members.specs.Member.{seen_member}
+use Rattle.sdb_members.specs.Members.{entries_seen, is_own as members_own, is_shared as members_shared, pieces_in}
+use Rattle.sdb_members.specs.declared.member.Member.{Member}
 use Rattle.sdb_members.specs.declared.members.Members.{Members as Held}
-use Rattle.sdb_members.specs.declared.object.Object.{Object}
-use Rattle.sdb_members.specs.declared.object.Object.TheVariants as held
 use Rattle.sdb_text.specs.Held.{is_own as text_own}
 use Rattle.sdb_text.specs.declared.text.Text.{Text}
-use Rattle.sdb_value.specs.Owns.{all_true, is_own, is_pointer, list_own, held_own, members_step, object_own}
+use Rattle.sdb_value.specs.Owns.{all_true, is_own, is_pointer, list_own, object_own}
 use Rattle.sdb_value.specs.declared.value.Json.{Json, the_lemmas}
 use Rattle.sdb_value.specs.declared.value.Json as json
-use Rattle.sdb_value.proofs.Views.{former_seen, former_values, mapped, mapped_in, seen_list, seen_object}
+use Rattle.sdb_value.proofs.Views.{former_seen, former_entries, mapped, seen_list, seen_object}
 
 -- ---- through the fold
 
@@ -71,34 +72,41 @@ owned_null = search (rules, the_lemmas)
 pub owned_text : (t : Text) → is_own (json.Text t) ≡ text_own t
 owned_text t = search (rules, the_lemmas)
 
-values_own : {X Y : Type 0} (f : X → Y) (m : Held X) (w : Form X)
-    → is_own_list (mapped f (record { keys = m.keys; values = record { form = w } })).values ≡ is_own_form w
-values_own f m (One (Own v)) = refl
-values_own f m (One (Shared a)) = refl
-values_own f m (Many (Own v)) = all_own_once _ v.items (λ w. refl) (λ w. refl)
-values_own f m (Many (Shared a)) = refl
-values_own f m (Groups gs) = refl
+own_entries : {X Y : Type 0} (f : X → Y) (w : Form (Member X)) → is_own_list ((pieces_former (member_former this)).map X Y f (record { form = w })) ≡ is_own_form w
+own_entries f (One (Own v)) = refl
+own_entries f (One (Shared a)) = refl
+own_entries f (Many (Own v)) = all_own_once _ v.items (λ w. refl) (λ w. refl)
+own_entries f (Many (Shared a)) = refl
+own_entries f (Groups gs) = refl
 
-members_own : (m : Held Json) → members_step (mapped is_own m) ≡ object_own m
-members_own m =
+shared_entries : {X Y : Type 0} (f : X → Y) (w : Form (Member X)) → is_shared_list ((pieces_former (member_former this)).map X Y f (record { form = w })) ≡ is_shared_form w
+shared_entries f (One (Own v)) = refl
+shared_entries f (One (Shared a)) = refl
+shared_entries f (Many (Own v)) = refl
+shared_entries f (Many (Shared a)) = refl
+shared_entries f (Groups (Own v)) = refl
+shared_entries f (Groups (Shared a)) = refl
+
+mapped_own : {X Y : Type 0} (f : X → Y) (m : Held X) → members_own (mapped f m) ≡ members_own m
+mapped_own f m = own_entries f (pieces_in m).form
+
+mapped_shared : {X Y : Type 0} (f : X → Y) (m : Held X) → members_shared (mapped f m) ≡ members_shared m
+mapped_shared f m = shared_entries f (pieces_in m).form
+
+own_each : (ms : List (Member Json)) → map (λ e. e.1) (map (seen_member is_own) ms) ≡ map (λ m. is_own m.value) ms
+own_each [] = refl
+own_each (m ∷ ms) = ap (λ l. is_own m.value ∷ l) (own_each ms)
+
+pub owned_object : (m : Held Json) → is_own (json.Object m) ≡ object_own m
+owned_object m =
     let n = mapped is_own m in
-    ap (λ b. cond (keys_own m.keys) (cond b (all_true (seen_in (λ b. b) n.values)) false) false) (values_own is_own m m.values.form)
-    ∙ ap (λ bs. cond (keys_own m.keys) (cond (is_own_list m.values) (all_true bs) false) false) (former_values is_own m ∙ seen_items_in is_own m.values)
+    let e : is_own (json.Object m) ≡ cond (members_own n) (all_true (map (λ e. e.1) (entries_seen (λ b. b) n))) false = search (rules, the_lemmas) in
+    e ∙ ap (λ b. cond b (all_true (map (λ e. e.1) (entries_seen (λ b. b) n))) false) (mapped_own is_own m)
+    ∙ ap (λ es. cond (members_own m) (all_true (map (λ e. e.1) es)) false) (former_entries is_own m ∙ seen_items_in (seen_member is_own) (pieces_in m))
+    ∙ ap (λ bs. cond (members_own m) (all_true bs) false) (own_each (items_in (pieces_in m)))
 
-former_pointer : {X Y : Type 0} (f : X → Y) (o : Object X) → object_shared ((json.TheShapes.former-Json-Object-0).map X Y f o) ≡ object_shared o
-former_pointer f (held.Own b) = refl
-former_pointer f (held.Shared a) = refl
-
-pub owned_object : (o : Object Json) → is_own (json.Object o) ≡ held_own o
-owned_object o =
-    let n = (json.TheShapes.former-Json-Object-0).map Json Bool is_own o in
-    let e : is_own (json.Object o) ≡ cond (object_shared n) false (members_step (members_in n)) = search (rules, the_lemmas) in
-    e ∙ ap (λ b. cond b false (members_step (members_in n))) (former_pointer is_own o)
-    ∙ ap (λ m. cond (object_shared o) false (members_step m)) (mapped_in is_own o)
-    ∙ ap (cond (object_shared o) false) (members_own (members_in o))
-
-pub pointer_object : (o : Object Json) → is_pointer (json.Object o) ≡ object_shared o
-pointer_object o = search (rules, the_lemmas, former_pointer)
+pub pointer_object : (m : Held Json) → is_pointer (json.Object m) ≡ members_shared m
+pointer_object m = search (rules, the_lemmas, mapped_shared)
 
 -- ---- blocks
 

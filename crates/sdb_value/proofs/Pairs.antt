@@ -1,16 +1,20 @@
 -- An object as its keys and the list of its values.
-use Rattle.std.proofs.Common.{◌≡◌, ℕ, zero, suc, List, [], ◌∷◌, take, drop, Option, Some, None, refl, sym, ap, ◌∙◌, subst, slice_get, cond, Bool, true, false, Result, Ok, Err, IfOk}
-use Rattle.std.specs.List.{zip}
+use Rattle.std.proofs.Common.{◌≡◌, ℕ, zero, suc, List, [], ◌∷◌, map, take, drop, Option, Some, None, refl, sym, ap, ◌∙◌, subst, slice_get, cond, Bool, true, false, Result, Ok, Err, IfOk}
 use Rattle.std.specs.Option.{option_and_then, option_map_or, MatchOption}
 use Rattle.std.specs.Ordering.{is_eq}
+use Rattle.sdb_pieces.specs.Laws.{seen_items_in}
 use Rattle.sdb_pieces.specs.Pieces.{items_in}
-use Rattle.sdb_members.specs.Keys.{texts_in}
+use Rattle.sdb_members.specs.Member.{name}
+use Rattle.sdb_members.specs.Members.{names_in, pieces_in}
+use Rattle.sdb_members.specs.Search.{texts, texts_of}
+use Rattle.sdb_members.specs.declared.member.Member.{Member}
+use Rattle.sdb_pieces.specs.declared.pieces.Pieces.{Pieces}
 use Rattle.sdb_members.specs.Laws.{same_equal}
 use Rattle.sdb_members.specs.Order.{IsAboveAll, IsBelowAll, IsFound, IsGap}
 use Rattle.sdb_members.specs.declared.members.Members.{Members as Held}
 use Rattle.sdb_value.specs.Change.{ChangedAt, NothingAt}
 use Rattle.sdb_value.specs.Value.{Value, list, object, Items, no_items, item, Members, no_members, member, PlainStep, key, index, item_at, member_at, set_item, set_member, at, with}
-use Rattle.sdb_value.specs.View.{view, items_view, list_view, members_view, object_view}
+use Rattle.sdb_value.specs.View.{view, entries_view, items_of, object_view, values_view}
 use Rattle.sdb_value.specs.declared.value.Json.{Json}
 
 abbrev pub paired : List (List ℕ) → Items → Members
@@ -18,13 +22,12 @@ paired [] ds = no_members
 paired (t ∷ ts) no_items = no_members
 paired (t ∷ ts) (item d ds) = member t d (paired ts ds)
 
-pub paired_view : (ts : List (List ℕ)) (vs : List Json) → members_view (zip ts vs) ≡ paired ts (items_view vs)
-paired_view [] vs = refl
-paired_view (t ∷ ts) [] = refl
-paired_view (t ∷ ts) (v ∷ vs) = ap (member t (view v)) (paired_view ts vs)
+paired_view : (ms : List (Member Json)) → entries_view ms ≡ paired (texts ms) (items_of (map (λ m. view m.value) ms))
+paired_view [] = refl
+paired_view (m ∷ ms) = ap (member (name m) (view m.value)) (paired_view ms)
 
-pub object_pairs : (m : Held Json) → object_view m ≡ paired (texts_in m.keys) (list_view m.values)
-object_pairs m = paired_view (texts_in m.keys) (items_in m.values)
+pub object_pairs : (m : Held Json) → object_view m ≡ paired (names_in m) (values_view (pieces_in m))
+object_pairs m = paired_view (items_in (pieces_in m)) ∙ ap (λ ts. paired ts (values_view (pieces_in m))) (sym (seen_items_in name (pieces_in m)))
 
 module _ (k : List ℕ) where
   member_in : (ts : List (List ℕ)) (ds : Items) (i : ℕ) → slice_get ts i ≡ Some k → IsAboveAll k (take i ts) → member_at k (paired ts ds) ≡ item_at i ds
@@ -114,41 +117,35 @@ module _ {O E : Type 0} (r : Result (Option O) E) (R : O → Value → Value →
       by (Ok (Some x)) h = changed_in k (R x) ts ds es i p f h
       by (Err e) h = tt
 
-  pub told_pairs : (s new : Held Json) → texts_in new.keys ≡ texts_in s.keys → IsFound (texts_in s.keys) k i
-      → IfOk r (λ o. MatchOption o (NothingAt (list (list_view s.values)) (index i ∷ p) (list (list_view new.values)))
-      (λ x. ChangedAt (R x) (list (list_view s.values)) (index i ∷ p) (list (list_view new.values))))
+  told_pairs : (s new : Held Json) → names_in new ≡ names_in s → IsFound (names_in s) k i
+      → IfOk r (λ o. MatchOption o (NothingAt (list (values_view (pieces_in s))) (index i ∷ p) (list (values_view (pieces_in new))))
+      (λ x. ChangedAt (R x) (list (values_view (pieces_in s))) (index i ∷ p) (list (values_view (pieces_in new)))))
       → IfOk r (λ o. MatchOption o (NothingAt (object (object_view s)) (key k ∷ p) (object (object_view new)))
       (λ x. ChangedAt (R x) (object (object_view s)) (key k ∷ p) (object (object_view new))))
   told_pairs s new e f h =
       let P : Members → Members → Type 0 = λ ms ns. IfOk r (λ o. MatchOption o (NothingAt (object ms) (key k ∷ p) (object ns)) (λ x. ChangedAt (R x) (object ms) (key k ∷ p) (object ns))) in
-      let ts = texts_in s.keys in
-      let after : object_view new ≡ paired ts (list_view new.values) = object_pairs new ∙ ap (λ us. paired us (list_view new.values)) e in
-      subst (λ ms. P ms (object_view new)) (sym (object_pairs s))
-      (subst (P (paired ts (list_view s.values))) (sym after) (told ts (list_view s.values) (list_view new.values) f h))
+      let ts = names_in s in
+      let ds = values_view (pieces_in s) in
+      let es = values_view (pieces_in new) in
+      let after : object_view new ≡ paired ts es = object_pairs new ∙ ap (λ us. paired us es) e in
+      subst (λ ms. P ms (object_view new)) (sym (object_pairs s)) (subst (P (paired ts ds)) (sym after) (told ts ds es f h))
 
-pub key_missing : (s : Held Json) (k : List ℕ) (i : ℕ) (p : List PlainStep) → IsGap (texts_in s.keys) k i
+  -- the same of lists of members that were taken out and put back
+  abbrev Told : Pieces (Member Json) → Pieces (Member Json) → Type 0
+  Told l n = IfOk r (λ o. MatchOption o (NothingAt (list (values_view l)) (index i ∷ p) (list (values_view n)))
+      (λ x. ChangedAt (R x) (list (values_view l)) (index i ∷ p) (list (values_view n))))
+
+  pub told_members : (s new : Held Json) (l n : Pieces (Member Json)) → l ≡ pieces_in s → pieces_in new ≡ n → texts_of n ≡ texts_of l → IsFound (names_in s) k i
+      → Told l n → IfOk r (λ o. MatchOption o (NothingAt (object (object_view s)) (key k ∷ p) (object (object_view new)))
+      (λ x. ChangedAt (R x) (object (object_view s)) (key k ∷ p) (object (object_view new))))
+  told_members s new l n a b e f h =
+      told_pairs s new (ap texts_of b ∙ e ∙ ap texts_of a) f (subst (λ x. Told x (pieces_in new)) a (subst (Told l) (sym b) h))
+
+pub key_missing : (s : Held Json) (k : List ℕ) (i : ℕ) (p : List PlainStep) → IsGap (names_in s) k i
     → NothingAt (object (object_view s)) (key k ∷ p) (object (object_view s))
 key_missing s k i p g =
-    subst (λ ms. NothingAt (object ms) (key k ∷ p) (object ms)) (sym (object_pairs s)) (nothing_there k (texts_in s.keys) (list_view s.values) i p g)
+    subst (λ ms. NothingAt (object ms) (key k ∷ p) (object ms)) (sym (object_pairs s)) (nothing_there k (names_in s) (values_view (pieces_in s)) i p g)
 
-pub key_found : (s : Held Json) (k : List ℕ) (i : ℕ) → IsFound (texts_in s.keys) k i → item_at i (list_view s.values) ≡ member_at k (object_view s)
-key_found s k i f = sym (ap (member_at k) (object_pairs s) ∙ member_found k (texts_in s.keys) (list_view s.values) i f)
-
-pub key_absent : (s : Held Json) (k : List ℕ) (i : ℕ) → IsGap (texts_in s.keys) k i → None ≡ member_at k (object_view s)
-key_absent s k i g = sym (ap (member_at k) (object_pairs s) ∙ member_missing k (texts_in s.keys) (list_view s.values) i g)
-
-pub same_object : (s new : Held Json) → texts_in new.keys ≡ texts_in s.keys → list_view new.values ≡ list_view s.values → object_view new ≡ object_view s
+pub same_object : (s new : Held Json) → names_in new ≡ names_in s → values_view (pieces_in new) ≡ values_view (pieces_in s) → object_view new ≡ object_view s
 same_object s new k v =
-    object_pairs new ∙ ap (λ ts. paired ts (list_view new.values)) k ∙ ap (paired (texts_in s.keys)) v ∙ sym (object_pairs s)
-
-pub values_own : (a b : Bool) → cond a b false ≡ true → b ≡ true
-values_own true b e = e
-values_own false b e = cc
-
-pub both_own : (a b : Bool) → a ≡ true → b ≡ true → cond a b false ≡ true
-both_own true b p q = q
-both_own false b p q = p
-
-pub not_own : (a b : Bool) → b ≡ false → cond a b false ≡ false
-not_own true b e = e
-not_own false b e = refl
+    object_pairs new ∙ ap (λ ts. paired ts (values_view (pieces_in new))) k ∙ ap (paired (names_in s)) v ∙ sym (object_pairs s)

@@ -1,16 +1,20 @@
 -- What is read of a list or an object, part by part.
-use Rattle.std.proofs.Common.{◌≡◌, ℕ, ◌<◌, ◌≤◌, List, [], ◌∷◌, ◌++◌, map, Option, Some, None, option_map, nat_cmp, Ordering, Less, refl, sym, ap, ◌∙◌, subst, arith}
+use Rattle.std.proofs.Common.{◌≡◌, ℕ, ◌<◌, ◌≤◌, List, [], ◌∷◌, ◌++◌, map, Option, Some, None, option_map, Bool, true, false, cond, nat_cmp, Ordering, Less, refl, sym, ap, ◌∙◌, subst, arith}
 use Rattle.std.specs.Bool.{⊤}
 use Rattle.std.specs.Borrow.{Bor}
 use Rattle.std.specs.Cmp.Lexicographic.{slice_cmp}
-use Rattle.std.specs.List.{AllByRecursion, zip}
+use Rattle.std.specs.List.{AllByRecursion}
 use Rattle.std.specs.List.Sorted.{IsStrictlySortedBy}
 use Rattle.std.specs.Map.{keys_of}
 use Rattle.std.specs.Option.{option_and_then}
 use Rattle.serde_json.specs.Data as raw
 use Rattle.serde_json.specs.Find.{as_array, as_bool, as_number, as_object, as_str}
 use Rattle.sdb_json.specs.Tree.{sorted_members}
+use Rattle.sdb_members.specs.Member.{entry}
 use Rattle.sdb_members.specs.Order.{by_bytes, IsAscending}
+use Rattle.sdb_members.specs.Search.{texts}
+use Rattle.sdb_members.specs.declared.member.Member.{Member}
+use Rattle.sdb_value.specs.Owns.{all_true, is_own, values_own}
 use Rattle.sdb_value.specs.Value.{Value, Items, no_items, item, join, Members, member, depth, items_depth, members_depth}
 use Rattle.sdb_value.specs.Profile.{of_data, of_items, of_members}
 use Rattle.sdb_value.specs.View.{view, items_view, members_view}
@@ -52,12 +56,42 @@ text_cmp k l = slice_cmp nat_cmp k.now l.now
 abbrev pub names : {D : Type 0} → List (Entry D) → List (List ℕ)
 names es = map (λ e. e.0.now) es
 
--- each entry's value is read
-abbrev pub AreRead : {D : Type 0} → (D → raw.Data) → List (Entry D) → List Json → Type 0
-AreRead f [] [] = ⊤
-AreRead f [] (v ∷ vs) = ⊥
-AreRead f (e ∷ es) [] = ⊥
-AreRead f (e ∷ es) (v ∷ vs) = (of_data (f e.1.now) ≡ Some (view v)) × AreRead f es vs
+-- each entry is read: its key is the member's, and its value too
+abbrev pub AreMembers : {D : Type 0} → (D → raw.Data) → List (Entry D) → List (List ℕ × Json) → Type 0
+AreMembers f [] [] = ⊤
+AreMembers f [] (m ∷ ms) = ⊥
+AreMembers f (e ∷ es) [] = ⊥
+AreMembers f (e ∷ es) (m ∷ ms) = (m.0 ≡ e.0.now) × (of_data (f e.1.now) ≡ Some (view m.1)) × AreMembers f es ms
+
+-- all values are their owner's own
+abbrev pub entries_own : List (List ℕ × Json) → Bool
+entries_own es = all_true (map (λ e. is_own e.1) es)
+
+pub owns_of : (ms : List (Member Json)) → values_own ms ≡ entries_own (map entry ms)
+owns_of [] = refl
+owns_of (m ∷ ms) = ap (λ b. cond (is_own m.value) b false) (owns_of ms)
+
+own_end : (a b : Bool) → a ≡ true → b ≡ true → cond a b false ≡ true
+own_end true b p q = q
+own_end false b p q = p
+
+own_first : (a b : Bool) → cond a b false ≡ true → a ≡ true
+own_first true b e = refl
+own_first false b e = e
+
+own_rest : (a b : Bool) → cond a b false ≡ true → b ≡ true
+own_rest true b e = e
+own_rest false b e = cc
+
+pub member_own : (es : List (List ℕ × Json)) (e : List ℕ × Json) → entries_own es ≡ true → is_own e.1 ≡ true → entries_own (es ++ e ∷ []) ≡ true
+member_own [] e h k = own_end (is_own e.1) true k refl
+member_own (d ∷ es) e h k =
+    own_end (is_own d.1) (entries_own (es ++ e ∷ [])) (own_first (is_own d.1) (entries_own es) h) (member_own es e (own_rest (is_own d.1) (entries_own es) h) k)
+
+pub member_low : (es : List (List ℕ × Json)) (e : List ℕ × Json) (n : ℕ) → members_depth (members_view es) ≤ n → depth (view e.1) ≤ n
+    → members_depth (members_view (es ++ e ∷ [])) ≤ n
+member_low [] e n h k = omega arith
+member_low (d ∷ es) e n h k = let r : members_depth (members_view (es ++ e ∷ [])) ≤ n = member_low es e n (omega arith) k in omega arith
 
 built : (o : Option Value) (p : Option Members) (k : List ℕ) (v : Value) (ns : Members) → o ≡ Some v → p ≡ Some ns
     → option_and_then (λ v. option_map (member k v) p) o ≡ Some (member k v ns)
@@ -66,10 +100,6 @@ built o p k v ns e f = rw (e, f) refl
 none_after : (o : Option Value) (k : List ℕ) (p : Option Members) → p ≡ None → option_and_then (λ v. option_map (member k v) p) o ≡ None
 none_after None k p e = refl
 none_after (Some v) k p e = rw e refl
-
-pub names_more : {D : Type 0} (es : List (Entry D)) (e : Entry D) → names (es ++ e ∷ []) ≡ names es ++ e.0.now ∷ []
-names_more [] e = refl
-names_more (d ∷ es) e = ap (λ l. d.0.now ∷ l) (names_more es e)
 
 below_names : {D : Type 0} (k : Bor (List ℕ)) (es : List (Entry D)) → AllByRecursion (λ y. text_cmp k y ≡ Less) (keys_of es)
     → AllByRecursion (λ t. by_bytes k.now t ≡ Less) (names es)
@@ -95,33 +125,35 @@ pub all_ascend : {D : Type 0} (es done left : List (Entry D)) (ts : List (List �
 all_ascend es done left ts split none keys sorted =
     subst IsAscending (sym (keys ∙ ap names (all_done es done left split none))) (ascending_names es sorted)
 
-pub object_low : (ts : List (List ℕ)) (vs : List Json) (n : ℕ) → items_depth (items_view vs) ≤ n → members_depth (members_view (zip ts vs)) ≤ n
-object_low [] vs n h = omega arith
-object_low (t ∷ ts) [] n h = omega arith
-object_low (t ∷ ts) (v ∷ vs) n h = let r : members_depth (members_view (zip ts vs)) ≤ n = object_low ts vs n (omega arith) in omega arith
-
 module _ {D : Type 0} (f : D → raw.Data) where
   -- one more member is read
-  pub member_more : (es : List (Entry D)) (vs : List Json) (e : Entry D) (v : Json) → AreRead f es vs → of_data (f e.1.now) ≡ Some (view v)
-      → AreRead f (es ++ e ∷ []) (vs ++ v ∷ [])
-  member_more [] [] e v r h = (h, tt)
-  member_more [] (u ∷ us) e v r h = absurd r
+  pub member_more : (es : List (Entry D)) (ms : List (List ℕ × Json)) (e : Entry D) (v : Json) → AreMembers f es ms → of_data (f e.1.now) ≡ Some (view v)
+      → AreMembers f (es ++ e ∷ []) (ms ++ (e.0.now, v) ∷ [])
+  member_more [] [] e v r h = (refl, h, tt)
+  member_more [] (m ∷ ms) e v r h = absurd r
   member_more (d ∷ es) [] e v r h = absurd r
-  member_more (d ∷ es) (u ∷ us) e v r h = (r.0, member_more es us e v r.1 h)
+  member_more (d ∷ es) (m ∷ ms) e v r h = (r.0, r.1, member_more es ms e v r.2 h)
 
-  object_read : (es : List (Entry D)) (vs : List Json) → AreRead f es vs → of_members (sorted_members f es) ≡ Some (members_view (zip (names es) vs))
+  object_read : (es : List (Entry D)) (ms : List (List ℕ × Json)) → AreMembers f es ms → of_members (sorted_members f es) ≡ Some (members_view ms)
   object_read [] [] r = refl
-  object_read [] (v ∷ vs) r = absurd r
+  object_read [] (m ∷ ms) r = absurd r
   object_read (e ∷ es) [] r = absurd r
-  object_read (e ∷ es) (v ∷ vs) r =
-      built (of_data (f e.1.now)) (of_members (sorted_members f es)) e.0.now (view v) (members_view (zip (names es) vs)) r.0 (object_read es vs r.1)
+  object_read (e ∷ es) (m ∷ ms) r =
+      built (of_data (f e.1.now)) (of_members (sorted_members f es)) e.0.now (view m.1) (members_view ms) r.1 (object_read es ms r.2)
+      ∙ ap (λ k. Some (member k (view m.1) (members_view ms))) (sym r.0)
 
-  -- the object of all members, which its keys and values make
-  pub object_made : (es done left : List (Entry D)) (ts : List (List ℕ)) (vs : List Json) (ms : List (List ℕ × Json)) → es ≡ done ++ left → left ≡ []
-      → ts ≡ names done → AreRead f done vs → ms ≡ zip ts vs → of_members (sorted_members f es) ≡ Some (members_view ms)
-  object_made es done left ts vs ms split none keys reads made =
-      ap (λ ds. of_members (sorted_members f ds)) (sym (all_done es done left split none)) ∙ object_read done vs reads
-      ∙ ap (λ ks. Some (members_view (zip ks vs))) (sym keys) ∙ ap (λ ns. Some (members_view ns)) (sym made)
+  -- the object of all members
+  pub object_made : (es done left : List (Entry D)) (ms ns : List (List ℕ × Json)) → es ≡ done ++ left → left ≡ [] → AreMembers f done ms → ns ≡ ms
+      → of_members (sorted_members f es) ≡ Some (members_view ns)
+  object_made es done left ms ns split none reads made =
+      ap (λ ds. of_members (sorted_members f ds)) (sym (all_done es done left split none)) ∙ object_read done ms reads ∙ ap (λ l. Some (members_view l)) (sym made)
+
+  -- and their keys
+  pub members_names : (es : List (Entry D)) (ms : List (Member Json)) → AreMembers f es (map entry ms) → texts ms ≡ names es
+  members_names [] [] r = refl
+  members_names [] (m ∷ ms) r = absurd r
+  members_names (e ∷ es) [] r = absurd r
+  members_names (e ∷ es) (m ∷ ms) r = ap (λ k. k ∷ texts ms) r.0 ∙ ap (λ l. e.0.now ∷ l) (members_names es ms r.2)
 
   pub member_none : (done : List (Entry D)) (e : Entry D) (more : List (Entry D)) → of_data (f e.1.now) ≡ None → of_members (sorted_members f (done ++ e ∷ more)) ≡ None
   member_none [] e more k = rw k refl

@@ -1,8 +1,7 @@
 -- What sharing in place leaves as it was, and how much a walk through a value has still to go.
-use Rattle.std.proofs.Common.{◌≡◌, ℕ, zero, suc, ◌+◌, ◌≤◌, ◌<◌, List, [], ◌∷◌, ◌++◌, length, map, get_or, set, Option, Some, None, option_map, slice_get, false, true≢false, refl, sym, ap, ◌∙◌, append_assoc, arith}
+use Rattle.std.proofs.Common.{◌≡◌, ℕ, zero, suc, ◌+◌, ◌≤◌, ◌<◌, List, [], ◌∷◌, ◌++◌, length, map, get_or, set, refl, sym, ap, ◌∙◌, append_assoc, arith}
 use Rattle.std.proofs.lemmas.List.{get_or-map, map-set, set-get_or}
-use Rattle.std.specs.List.{flat_map, zip}
-use Rattle.std.specs.Option.{is_some}
+use Rattle.std.specs.List.{flat_map}
 use Rattle.sdb_pieces.specs.Block.{items_of as block_items}
 use Rattle.sdb_pieces.specs.Group.{blocks_of}
 use Rattle.sdb_pieces.specs.Laws.{seen_items_in}
@@ -12,11 +11,13 @@ use Rattle.sdb_pieces.specs.declared.group.Group.{Group}
 use Rattle.sdb_pieces.specs.declared.pieces.Form.{Form}
 use Rattle.sdb_pieces.specs.declared.pieces.Pieces.{Pieces}
 use Rattle.sdb_value.specs.Size.{size, items_size, members_size}
-use Rattle.sdb_value.specs.Value.{null, Items, no_items, item, join}
+use Rattle.sdb_members.specs.Member.{name, seen_member}
+use Rattle.sdb_members.specs.declared.member.Member.{Member}
+use Rattle.sdb_value.specs.Value.{null, Items, no_items, item, join, Members, no_members, member}
 use Rattle.sdb_value.specs.Owns.{seen}
-use Rattle.sdb_value.specs.View.{view, form_view, group_items, items_of, items_view, members_view}
+use Rattle.sdb_value.specs.View.{view, entries_view, form_view, items_of, items_view, member_form_view, members_of}
 use Rattle.sdb_value.specs.declared.value.Json.{Json}
-use Rattle.sdb_value.proofs.Copying.{join_view}
+use Rattle.sdb_value.proofs.Copying.{join_entries, join_members, join_view}
 use Rattle.sdb_value.proofs.Views.{seen_list, seen_object}
 
 -- ---- an item, and a block or a group, in place of one that is seen the same
@@ -36,13 +37,13 @@ same_part f (z ∷ xs) (suc k) x y h is e =
 
 -- ---- the items of groups are those of their blocks
 
-flat_append : (bs cs : List (Block Json)) → flat_map block_items (bs ++ cs) ≡ flat_map block_items bs ++ flat_map block_items cs
+flat_append : {X : Type 0} (bs cs : List (Block X)) → flat_map block_items (bs ++ cs) ≡ flat_map block_items bs ++ flat_map block_items cs
 flat_append [] cs = refl
 flat_append (b ∷ bs) cs = ap (λ l. block_items b ++ l) (flat_append bs cs) ∙ sym (append_assoc (block_items b) (flat_map block_items bs) (flat_map block_items cs))
 
-pub group_parts : (gs : List (Group Json)) → flat_map block_items (flat_map blocks_of gs) ≡ flat_map group_items gs
+pub group_parts : {X : Type 0} (gs : List (Group X)) → flat_map block_items (flat_map blocks_of gs) ≡ flat_map (λ g. flat_map block_items (blocks_of g)) gs
 group_parts [] = refl
-group_parts (g ∷ gs) = flat_append (blocks_of g) (flat_map blocks_of gs) ∙ ap (λ l. group_items g ++ l) (group_parts gs)
+group_parts (g ∷ gs) = flat_append (blocks_of g) (flat_map blocks_of gs) ∙ ap (λ l. flat_map block_items (blocks_of g) ++ l) (group_parts gs)
 
 -- ---- a list whose items are seen the same
 
@@ -84,16 +85,59 @@ part_within f (z ∷ xs) (suc k) x h is =
     let all = first_size (f z) (flat_map f xs) in
     omega (arith, rest, all)
 
--- where there is no value past the keys, the values are no greater than the object
-pub values_within : (ts : List (List ℕ)) (vs : List Json) → slice_get (map seen vs) (length ts) ≡ None → items_size (items_view vs) ≤ members_size (members_view (zip ts vs))
-values_within [] [] e = omega arith
-values_within [] (v ∷ vs) e = cc
-values_within (t ∷ ts) [] e = omega arith
-values_within (t ∷ ts) (v ∷ vs) e = let rest = values_within ts vs e in omega (arith, rest)
+-- ---- the same of members
 
-pub none_found : {A B : Type 0} (f : A → B) (o : Option A) (r : Option B) → option_map f o ≡ r → is_some o ≡ false → r ≡ None
-none_found f None r e h = sym e
-none_found f (Some x) r e h = absurd (true≢false h)
+pub same_value : (ms : List (Member Json)) (k : ℕ) (m n : Member Json) → k < length ms → m ≡ get_or ms k m → name n ≡ name m → view n.value ≡ view m.value
+    → entries_view (set ms k n) ≡ entries_view ms
+same_value [] k m n h is e f = absurd (omega (arith, h))
+same_value (x ∷ ms) zero m n h is e f =
+    let same : m ≡ x = is in
+    ap (λ t. member t (view n.value) (entries_view ms)) (e ∙ ap name same) ∙ ap (λ d. member (name x) d (entries_view ms)) (f ∙ ap (λ y. view y.value) same)
+same_value (x ∷ ms) (suc k) m n h is e f = ap (member (name x) (view x.value)) (same_value ms k m n (omega (arith, h)) is e f)
+
+pub same_member_part : {X : Type 0} (f : X → List (Member Json)) (xs : List X) (k : ℕ) (x y : X) → k < length xs → x ≡ get_or xs k x → entries_view (f y) ≡ entries_view (f x)
+    → entries_view (flat_map f (set xs k y)) ≡ entries_view (flat_map f xs)
+same_member_part f [] k x y h is e = absurd (omega (arith, h))
+same_member_part f (z ∷ xs) zero x y h is e =
+    join_entries (f y) (flat_map f xs) ∙ ap (λ d. join_members d (entries_view (flat_map f xs))) (e ∙ ap (λ w. entries_view (f w)) is) ∙ sym (join_entries (f z) (flat_map f xs))
+same_member_part f (z ∷ xs) (suc k) x y h is e =
+    join_entries (f z) (flat_map f (set xs k y)) ∙ ap (join_members (entries_view (f z))) (same_member_part f xs k x y (omega (arith, h)) is e) ∙ sym (join_entries (f z) (flat_map f xs))
+
+members_seen : (ms : List (Member Json)) → entries_view ms ≡ members_of (map (λ s. (s.0, s.1.0)) (map (seen_member seen) ms))
+members_seen [] = refl
+members_seen (m ∷ ms) = ap (member (name m) (view m.value)) (members_seen ms)
+
+member_form_views : (w : Form (Member Json)) → member_form_view w ≡ members_of (map (λ s. (s.0, s.1.0)) (seen_form (seen_member seen) w))
+member_form_views w =
+    let l : Pieces (Member Json) = record { form = w } in
+    members_seen (items_in l) ∙ ap (λ ss. members_of (map (λ s. (s.0, s.1.0)) ss)) (sym (seen_items_in (seen_member seen) l))
+
+pub same_member_form : (w x : Form (Member Json)) → seen_form (seen_member seen) x ≡ seen_form (seen_member seen) w → member_form_view x ≡ member_form_view w
+same_member_form w x e = member_form_views x ∙ ap (λ ss. members_of (map (λ s. (s.0, s.1.0)) ss)) e ∙ sym (member_form_views w)
+
+pub member_within : (ms : List (Member Json)) (k : ℕ) (m : Member Json) → k < length ms → m ≡ get_or ms k m → size (view m.value) ≤ members_size (entries_view ms)
+member_within [] k m h is = absurd (omega (arith, h))
+member_within (x ∷ ms) zero m h is = let same : size (view m.value) ≡ size (view x.value) = ap (λ y. size (view y.value)) is in omega (arith, same)
+member_within (x ∷ ms) (suc k) m h is = let rest = member_within ms k m (omega (arith, h)) is in omega (arith, rest)
+
+members_join_size : (ms ns : Members) → members_size (join_members ms ns) ≡ members_size ms + members_size ns
+members_join_size no_members ns = omega arith
+members_join_size (member k d ms) ns = let rest = members_join_size ms ns in omega (arith, rest)
+
+first_members_size : (ms ns : List (Member Json)) → members_size (entries_view (ms ++ ns)) ≡ members_size (entries_view ms) + members_size (entries_view ns)
+first_members_size ms ns = ap members_size (join_entries ms ns) ∙ members_join_size (entries_view ms) (entries_view ns)
+
+pub member_part_within : {X : Type 0} (f : X → List (Member Json)) (xs : List X) (k : ℕ) (x : X) → k < length xs → x ≡ get_or xs k x
+    → members_size (entries_view (f x)) ≤ members_size (entries_view (flat_map f xs))
+member_part_within f [] k x h is = absurd (omega (arith, h))
+member_part_within f (z ∷ xs) zero x h is =
+    let same : members_size (entries_view (f x)) ≡ members_size (entries_view (f z)) = ap (λ y. members_size (entries_view (f y))) is in
+    let all = first_members_size (f z) (flat_map f xs) in
+    omega (arith, same, all)
+member_part_within f (z ∷ xs) (suc k) x h is =
+    let rest = member_part_within f xs k x (omega (arith, h)) is in
+    let all = first_members_size (f z) (flat_map f xs) in
+    omega (arith, rest, all)
 
 -- one level of a list, and of an object: what it is
 pub ruleset levels = (seen_list, seen_object)

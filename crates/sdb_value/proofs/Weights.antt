@@ -1,20 +1,19 @@
 -- How much there is of a value: what a walk through it goes down by.
 use Rattle.std.proofs.Common.{◌≡◌, ℕ, zero, suc, ◌+◌, ◌≤◌, ◌<◌, List, [], ◌∷◌, ◌++◌, length, get_or, map, refl, ap, ◌∙◌, arith, rules}
-use Rattle.std.specs.List.{flat_map, zip}
+use Rattle.std.specs.List.{flat_map}
 use Rattle.sdb_pieces.specs.Block.{items_of as block_items}
 use Rattle.sdb_pieces.specs.declared.block.Block.{Block}
 use Rattle.sdb_pieces.specs.Laws.{seen_items_in}
 use Rattle.sdb_pieces.specs.Pieces.{seen_in, items_in}
-use Rattle.sdb_members.specs.Keys.{texts_in}
-use Rattle.sdb_members.specs.Members.{entries_in}
+use Rattle.sdb_members.specs.Member.{entry, seen_member}
+use Rattle.sdb_members.specs.Members.{entries_in, entries_seen, pieces_in}
+use Rattle.sdb_members.specs.declared.member.Member.{Member}
 use Rattle.sdb_pieces.specs.declared.pieces.Pieces.{Pieces}
-use Rattle.sdb_members.specs.Object.{members_in}
 use Rattle.sdb_members.specs.declared.members.Members.{Members as Held}
-use Rattle.sdb_members.specs.declared.object.Object.{Object}
 use Rattle.sdb_value.specs.declared.value.Json.{Json, fold-Json, the_lemmas}
 use Rattle.sdb_value.specs.declared.value.Json as json
 use Rattle.sdb_value.specs.declared.value.Json.TheOpen.{Json-F}
-use Rattle.sdb_value.proofs.Views.{former_seen, former_values, mapped_in, seen_list, seen_object}
+use Rattle.sdb_value.proofs.Views.{former_seen, former_entries, mapped, seen_list, seen_object}
 
 abbrev total : List ℕ → ℕ
 total [] = 0
@@ -22,7 +21,7 @@ total (n ∷ ns) = n + total ns
 
 abbrev weight_step : Json-F ℕ → ℕ
 weight_step (Json-F.List l) = suc (suc (total (seen_in (λ n. n) l)))
-weight_step (Json-F.Object o) = suc (suc (total (seen_in (λ n. n) (members_in o).values)))
+weight_step (Json-F.Object m) = suc (suc (total (map (λ e. e.1) (entries_seen (λ n. n) m))))
 weight_step _ = 1
 
 abbrev pub weight : Json → ℕ
@@ -48,24 +47,15 @@ weigh_list l =
     let e : weight (json.List l) ≡ suc (suc (total (seen_in (λ n. n) (inner_list l)))) = search (rules, the_lemmas) in
     e ∙ ap (λ ns. suc (suc (total ns))) (former_seen weight l ∙ seen_items_in weight l) ∙ ap (λ n. suc (suc n)) (weights_are (items_in l))
 
-abbrev inner_object : Object Json → Object ℕ
-inner_object o = (json.TheShapes.former-Json-Object-0).map Json ℕ weight o
+weights_each : (ms : List (Member Json)) → total (map (λ e. e.1) (map (seen_member weight) ms)) ≡ members_weight (map entry ms)
+weights_each [] = refl
+weights_each (m ∷ ms) = ap (λ n. weight m.value + n) (weights_each ms)
 
-pub weigh_object : (o : Object Json) → weight (json.Object o) ≡ suc (suc (weights (items_in (members_in o).values)))
-weigh_object o =
-    let vs = (members_in o).values in
-    let e : weight (json.Object o) ≡ suc (suc (total (seen_in (λ n. n) (members_in (inner_object o)).values))) = search (rules, the_lemmas) in
-    e ∙ ap (λ m. suc (suc (total (seen_in (λ n. n) m.values)))) (mapped_in weight o)
-    ∙ ap (λ ns. suc (suc (total ns))) (former_values weight (members_in o) ∙ seen_items_in weight vs) ∙ ap (λ n. suc (suc n)) (weights_are (items_in vs))
-
-paired_fit : (ts : List (List ℕ)) (vs : List Json) → members_weight (zip ts vs) ≤ weights vs
-paired_fit [] vs = omega arith
-paired_fit (t ∷ ts) [] = omega arith
-paired_fit (t ∷ ts) (v ∷ vs) = let below = paired_fit ts vs in omega (arith, below)
-
--- the members weigh no more than the values
-pub members_fit : (m : Held Json) → members_weight (entries_in m) ≤ weights (items_in m.values)
-members_fit m = paired_fit (texts_in m.keys) (items_in m.values)
+pub weigh_object : (m : Held Json) → weight (json.Object m) ≡ suc (suc (members_weight (entries_in m)))
+weigh_object m =
+    let e : weight (json.Object m) ≡ suc (suc (total (map (λ e. e.1) (entries_seen (λ n. n) (mapped weight m))))) = search (rules, the_lemmas) in
+    e ∙ ap (λ es. suc (suc (total (map (λ e. e.1) es)))) (former_entries weight m ∙ seen_items_in (seen_member weight) (pieces_in m))
+    ∙ ap (λ n. suc (suc n)) (weights_each (items_in (pieces_in m)))
 
 pub rest_below : (vs ws : List Json) (v : Json) (n : ℕ) → vs ≡ v ∷ ws → weights vs ≤ n → weights ws ≤ n
 rest_below vs ws v n e h = let s : weights vs ≡ weight v + weights ws = ap weights e in omega (arith, s, h)
@@ -95,5 +85,32 @@ blocks_below bs cs b n e h =
     let all = weights_join (block_items b) (flat_map block_items cs) in
     omega (arith, s, all, h)
 
+-- ---- the same of members
+
+abbrev pub entries_weight : List (Member Json) → ℕ
+entries_weight ms = members_weight (map entry ms)
+
+pub member_fits : (ms : List (Member Json)) (k : ℕ) (m : Member Json) → k < length ms → m ≡ get_or ms k m → weight m.value ≤ entries_weight ms
+member_fits [] k m h is = absurd (omega (arith, h))
+member_fits (x ∷ ms) zero m h is = let same : weight m.value ≡ weight x.value = ap (λ y. weight y.value) is in omega (arith, same)
+member_fits (x ∷ ms) (suc k) m h is = let rest = member_fits ms k m (omega (arith, h)) is in omega (arith, rest)
+
+entries_join : (ms ns : List (Member Json)) → entries_weight (ms ++ ns) ≡ entries_weight ms + entries_weight ns
+entries_join [] ns = omega arith
+entries_join (m ∷ ms) ns = let rest = entries_join ms ns in omega (arith, rest)
+
+pub first_part_fits : (bs cs : List (Block (Member Json))) (b : Block (Member Json)) → bs ≡ b ∷ cs → entries_weight (block_items b) ≤ entries_weight (flat_map block_items bs)
+first_part_fits bs cs b e =
+    let s : entries_weight (flat_map block_items bs) ≡ entries_weight (block_items b ++ flat_map block_items cs) = ap (λ l. entries_weight (flat_map block_items l)) e in
+    let all = entries_join (block_items b) (flat_map block_items cs) in
+    omega (arith, s, all)
+
+pub parts_below : (bs cs : List (Block (Member Json))) (b : Block (Member Json)) (n : ℕ) → bs ≡ b ∷ cs → entries_weight (flat_map block_items bs) ≤ n
+    → entries_weight (flat_map block_items cs) ≤ n
+parts_below bs cs b n e h =
+    let s : entries_weight (flat_map block_items bs) ≡ entries_weight (block_items b ++ flat_map block_items cs) = ap (λ l. entries_weight (flat_map block_items l)) e in
+    let all = entries_join (block_items b) (flat_map block_items cs) in
+    omega (arith, s, all, h)
+
 -- one level of a list, and of an object: what it is, and what it weighs
-pub ruleset levels = (seen_list, seen_object, weigh_list, weigh_object, members_fit)
+pub ruleset levels = (seen_list, seen_object, weigh_list, weigh_object)

@@ -2,7 +2,8 @@
 use Rattle.std.specs.Prelude.{◌≡◌, List, map, Bool, true, false, cond}
 use Rattle.sdb_pieces.specs.Block.{items_of, is_own as block_own}
 use Rattle.sdb_pieces.specs.declared.block.Block.{Block}
-use Rattle.sdb_value.specs.Owns.{all_true, items_own}
+use Rattle.sdb_members.specs.declared.member.Member.{Member}
+use Rattle.sdb_value.specs.Owns.{all_true, items_own, values_own}
 use Rattle.sdb_value.specs.declared.copy.Manner.{Manner}
 use Rattle.sdb_value.specs.declared.copy.Manner.TheVariants.{Same, Own, Shared}
 use Rattle.sdb_value.specs.declared.value.Json.{Json}
@@ -19,3 +20,10 @@ block_all_own b = cond (block_own b) (items_own (items_of b)) false
 
 abbrev pub blocks_all_own : List (Block Json) → Bool
 blocks_all_own bs = all_true (map block_all_own bs)
+
+-- the same of members
+abbrev pub part_all_own : Block (Member Json) → Bool
+part_all_own b = cond (block_own b) (values_own (items_of b)) false
+
+abbrev pub parts_all_own : List (Block (Member Json)) → Bool
+parts_all_own bs = all_true (map part_all_own bs)

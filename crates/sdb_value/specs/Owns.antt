@@ -2,11 +2,9 @@
 use Rattle.std.specs.Prelude.{List, [], ◌∷◌, map, Bool, true, false, cond, String}
 use Rattle.std.specs.declared.alloc.Global.{Global}
 use Rattle.sdb_pieces.specs.Pieces.{seen_in, items_in, is_own_list, is_shared_list}
-use Rattle.sdb_members.specs.Keys.{is_own as keys_own}
-use Rattle.sdb_members.specs.Members.{is_own as members_own}
-use Rattle.sdb_members.specs.Object.{members_in, is_shared}
+use Rattle.sdb_members.specs.Members.{entries_seen, is_own as members_own, is_shared as members_shared, pieces_in}
+use Rattle.sdb_members.specs.declared.member.Member.{Member}
 use Rattle.sdb_members.specs.declared.members.Members.{Members}
-use Rattle.sdb_members.specs.declared.object.Object.{Object}
 use Rattle.sdb_pieces.specs.declared.pieces.Pieces.{Pieces}
 use Rattle.sdb_text.specs.Held.{is_own as text_own, is_shared as text_shared}
 use Rattle.sdb_value.specs.Value.{Value}
@@ -20,19 +18,19 @@ all_true (b ∷ bs) = cond b (all_true bs) false
 
 -- of members, with the answer for each value already known
 abbrev pub members_step : Members Bool → Bool
-members_step m = cond (keys_own m.keys) (cond (is_own_list m.values) (all_true (seen_in (λ b. b) m.values)) false) false
+members_step m = cond (members_own m) (all_true (map (λ e. e.1) (entries_seen (λ b. b) m))) false
 
 -- one level, with the answer for each value inside already known
 abbrev pub own_step : Json-F Bool → Bool
 own_step (Json-F.Text t) = text_own t
 own_step (Json-F.List l) = cond (is_own_list l) (all_true (seen_in (λ b. b) l)) false
-own_step (Json-F.Object o) = cond (is_shared o) false (members_step (members_in o))
+own_step (Json-F.Object m) = members_step m
 own_step _ = true
 
 abbrev pub is_own : Json → Bool
 is_own = fold-Json Bool own_step
 
--- of a list and all its items, of a map's values, of members and all their values, of an object's
+-- of a list and all its items, of a map's values
 abbrev pub items_own : List Json → Bool
 items_own vs = all_true (map is_own vs)
 
@@ -42,21 +40,21 @@ list_own l = cond (is_own_list l) (items_own (items_in l)) false
 abbrev pub map_own : List (String Global × Json) → Bool
 map_own es = all_true (map (λ e. is_own e.1) es)
 
+-- of the values of members, of a list of members and all their values, of an object's
+abbrev pub values_own : List (Member Json) → Bool
+values_own ms = all_true (map (λ m. is_own m.value) ms)
+
+abbrev pub entries_own : Pieces (Member Json) → Bool
+entries_own l = cond (is_own_list l) (values_own (items_in l)) false
+
 abbrev pub object_own : Members Json → Bool
-object_own m = cond (keys_own m.keys) (list_own m.values) false
-
-abbrev pub held_own : Object Json → Bool
-held_own o = cond (is_shared o) false (object_own (members_in o))
-
--- neither an object's members, nor their keys, nor the list of their values are shared; the values may be
-abbrev pub holds_own : Object Json → Bool
-holds_own o = cond (is_shared o) false (members_own (members_in o))
+object_own m = entries_own (pieces_in m)
 
 -- a copy of it is a pointer, or as little
 abbrev pub pointer_step : Json-F Bool → Bool
 pointer_step (Json-F.Text t) = text_shared t
 pointer_step (Json-F.List l) = is_shared_list l
-pointer_step (Json-F.Object o) = is_shared o
+pointer_step (Json-F.Object m) = members_shared m
 pointer_step _ = true
 
 abbrev pub is_pointer : Json → Bool

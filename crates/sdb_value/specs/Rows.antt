@@ -1,7 +1,7 @@
 -- The types that a `Json` holds, as the logic holds them, for the clauses on what a `&mut` lends.
 use denote.RattleType.{RattleType}
 use Rattle.sdb_pieces.specs.contracts.pieces.Pieces as pieces
-use Rattle.sdb_members.specs.contracts.object.Object as object
+use Rattle.sdb_members.specs.contracts.members.Members as members
 use Rattle.sdb_text.specs.contracts.text.Text as text
 use Rattle.sdb_value.specs.contracts.value.Json.{the_row}
 
@@ -14,5 +14,5 @@ list_row = pieces.the_row the_row
 abbrev pub text_row : RattleType
 text_row = text.the_row
 
-abbrev pub object_row : RattleType
-object_row = object.the_row the_row
+abbrev pub members_row : RattleType
+members_row = members.the_row the_row

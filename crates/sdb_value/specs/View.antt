@@ -8,10 +8,10 @@ use Rattle.sdb_pieces.specs.Pieces.{seen_in, blocks_form, items_in}
 use Rattle.sdb_pieces.specs.declared.group.Group.{Group}
 use Rattle.sdb_pieces.specs.declared.pieces.Form.{Form}
 use Rattle.sdb_pieces.specs.declared.pieces.Pieces.{Pieces}
+use Rattle.sdb_members.specs.Member.{entry}
 use Rattle.sdb_members.specs.Members.{entries_in, entries_seen}
-use Rattle.sdb_members.specs.Object.{members_in}
+use Rattle.sdb_members.specs.declared.member.Member.{Member}
 use Rattle.sdb_members.specs.declared.members.Members.{Members as Held}
-use Rattle.sdb_members.specs.declared.object.Object.{Object}
 use Rattle.sdb_text.specs.Held.{bytes_in}
 use Rattle.sdb_value.specs.Value.{Value, null, truth, whole, text, list, object, Items, no_items, item, Members, no_members, member, PlainStep, key, index}
 use Rattle.sdb_value.specs.declared.value.Json.{Json, fold-Json}
@@ -34,7 +34,7 @@ view_step (Json-F.Bool b) = truth b
 view_step (Json-F.Int n) = whole n
 view_step (Json-F.Text t) = text (bytes_in t)
 view_step (Json-F.List l) = list (items_of (seen_in (λ d. d) l))
-view_step (Json-F.Object o) = object (members_of (entries_seen (λ d. d) (members_in o)))
+view_step (Json-F.Object m) = object (members_of (entries_seen (λ d. d) m))
 
 abbrev pub view : Json → Value
 view = fold-Json Value view_step
@@ -63,8 +63,19 @@ group_items g = flat_map block_items (blocks_of g)
 abbrev pub object_view : Held Json → Members
 object_view m = members_view (entries_in m)
 
-abbrev pub held_view : Object Json → Members
-held_view o = object_view (members_in o)
+-- of members one after the other, of those of a form and of a group
+abbrev pub entries_view : List (Member Json) → Members
+entries_view ms = members_view (map entry ms)
+
+abbrev pub member_form_view : Form (Member Json) → Members
+member_form_view w = entries_view (flat_map block_items (blocks_form w))
+
+abbrev pub group_members : Group (Member Json) → List (Member Json)
+group_members g = flat_map block_items (blocks_of g)
+
+-- the values of a list of members
+abbrev pub values_view : Pieces (Member Json) → Items
+values_view l = items_of (map (λ m. view m.value) (items_in l))
 
 abbrev pub plain_step : Step → PlainStep
 plain_step (Key k) = key (string_bytes k)

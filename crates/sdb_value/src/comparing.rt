@@ -42,7 +42,7 @@ fn same(a: &Json, b: &Json) -> bool
             _ => false,
         },
         Json::Object(x) => match b {
-            Json::Object(y) => same_members(x.members(), y.members()),
+            Json::Object(y) => same_members(x, y),
             _ => false,
         },
     }

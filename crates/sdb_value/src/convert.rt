@@ -8,13 +8,13 @@ ghost use Rattle.sdb_value.specs.View.{view, items_view, object_view};
 ghost use Rattle.serde_json.specs.Find.{as_array, as_object};
 ghost use Rattle.serde_json.specs.View as raw;
 ghost use Rattle.sdb_json.specs.Tree.{sorted_members};
-ghost use Rattle.sdb_members.specs.Search.{texts};
+ghost use Rattle.sdb_members.specs.Member.{entry};
 
 use crate::lists::push_item;
 use crate::numbers::whole_of;
 use crate::value::{Json, Members};
 use sdb_json::JsonData;
-use sdb_members::Key;
+use sdb_members::{Key, Member};
 use sdb_text::Text;
 use std::alloc::{AllocError, Global};
 use std::collections::BTreeMap;
@@ -73,8 +73,7 @@ fn read<D: JsonData>(alloc: Global, value: &D, left: u64) -> Result<Json, ValueF
         if left == 0 {
             return Err(ValueFault::Depth);
         }
-        let held = read_members(alloc, &members, left - 1)?;
-        return Ok(Json::of_members(alloc, held)?);
+        return Ok(Json::of_members(read_members(alloc, &members, left - 1)?));
     }
     read_leaf(alloc, value)
 }
@@ -129,20 +128,24 @@ fn read_members<D: JsonData>(
     ensures own { IfOk result (λ m. object_own m ≡ true) }
     ensures err { IfErr result (λ f. RefusesMembers left (sorted_members D.json members.now.entries) f) }
 {
-    let mut keys = Vec::with_capacity(alloc, members.len())?;
-    let mut values = Vec::with_capacity(alloc, members.len())?;
+    let mut entries = Vec::with_capacity(alloc, members.len())?;
     for (key, member) in members.iter() {
-        let new = read(alloc, *member, left)?;
-        push_key(alloc, &mut keys, key)?;
-        push_item(&mut values, new)?;
+        let value = read(alloc, *member, left)?;
+        push_member(alloc, &mut entries, key, value)?;
     }
-    Ok(Members::from_sorted(alloc, keys, values)?)
+    Ok(Members::from_sorted(alloc, entries)?)
 }
 
-// One more key, of this text.
-fn push_key(alloc: Global, keys: &mut Vec<Key>, text: &str) -> Result<(), AllocError>
-    ensures { OnOk result (texts keys.new.items ≡ texts keys.old.items ++ text.now ∷ []) }
+// One more member, of this key and value.
+fn push_member(
+    alloc: Global,
+    entries: &mut Vec<Member<Json>>,
+    key: &str,
+    value: Json,
+) -> Result<(), AllocError>
+    ensures { OnOk result (map entry entries.new.items ≡ map entry entries.old.items ++ (key.now, value) ∷ []) }
 {
-    keys.push(Key::new(String::from_str(alloc, text)?))?;
+    let key = Key::from_str(alloc, key)?;
+    entries.push(Member { key, value })?;
     Ok(())
 }

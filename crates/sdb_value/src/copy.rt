@@ -1,24 +1,24 @@
 //! Copies.
-ghost use Rattle.std.specs.Prelude.{◌≡◌, true, false, IfOk, IfSome, IfNone};
+ghost use Rattle.std.specs.Prelude.{◌≡◌, Bool, map, true, false, IfOk, IfSome, IfNone};
 ghost use Rattle.std.specs.List.{flat_map};
 ghost use Rattle.sdb_pieces.specs.Block.{items_of, is_own as block_own, is_shared as block_shared};
 ghost use Rattle.sdb_pieces.specs.Pieces.{all_shared, blocks_in, is_in_groups, is_shared_list};
 ghost use Rattle.sdb_pieces.specs.declared.pieces.Pieces.{Pieces};
-ghost use Rattle.sdb_members.specs.Keys.{texts_in, is_own as keys_own, is_shared as keys_shared};
-ghost use Rattle.sdb_members.specs.Object.{is_shared as object_shared};
+ghost use Rattle.sdb_members.specs.Key.{key_bytes};
+ghost use Rattle.sdb_members.specs.Member.{entry};
+ghost use Rattle.sdb_members.specs.Members.{is_shared as members_shared};
 ghost use Rattle.sdb_text.specs.Held.{bytes_in, is_own as text_own, is_shared as text_shared};
-ghost use Rattle.sdb_value.specs.Copies.{IsCopied, block_all_own, blocks_all_own};
-ghost use Rattle.sdb_value.specs.Owns.{is_own, is_pointer, items_own, list_own, held_own, object_own};
-ghost use Rattle.sdb_value.specs.View.{view, held_view, items_view, list_view, object_view};
-ghost use Rattle.sdb_value.specs.declared.copy.Manner.TheVariants.{Same};
+ghost use Rattle.sdb_value.specs.Copies.{IsCopied, block_all_own, blocks_all_own, part_all_own, parts_all_own};
+ghost use Rattle.sdb_value.specs.Owns.{is_own, is_pointer, items_own, list_own, object_own, values_own};
+ghost use Rattle.sdb_value.specs.View.{view, entries_view, items_view, list_view, object_view};
+ghost use Rattle.sdb_value.specs.declared.copy.Manner.TheVariants.{Same, Own};
 ghost use Rattle.sdb_value.specs.declared.value.Json.{Json};
 
-use crate::value::{Json, List, Members, Object};
-use sdb_members::Keys;
+use crate::value::{Json, List, Members};
+use sdb_members::{Key, Member};
 use sdb_pieces::{Block, Pieces, Share};
 use sdb_text::Text;
 use std::alloc::{AllocError, Global};
-use std::sync::Arc;
 
 /// Of whom a copy is.
 #[derive(Clone, Copy, Drop)]
@@ -38,13 +38,13 @@ fn object_again(value: &Json) -> Result<Option<Json>, AllocError>
     ensures own { IfOk result (λ o. IfSome o (λ v. is_own v ≡ is_own value.now)) }
     ensures pointer { IfOk result (λ o. IfSome o (λ v. is_pointer v ≡ true)) }
 {
-    if let Json::Object(object) = value
-        && let Object::Shared(members) = object
-    {
-        let members = Arc::try_clone(members)?;
-        return Ok(Some(Json::Object(Object::Shared(members))));
+    match value {
+        Json::Object(members) => match members.share_pointer()? {
+            Some(members) => Ok(Some(Json::Object(members))),
+            None => Ok(None),
+        },
+        _ => Ok(None),
     }
-    Ok(None)
 }
 
 // What is shared at the cost of a pointer, all else in memory of its own.
@@ -82,7 +82,7 @@ pub(crate) fn copy(alloc: Global, value: &Json, manner: Manner) -> Result<Json, 
         Json::Int(n) => Ok(Json::Int(*n)),
         Json::Text(text) => Ok(Json::Text(copy_text(alloc, text, manner)?)),
         Json::List(items) => Ok(Json::List(copy_list(alloc, items, manner)?)),
-        Json::Object(object) => Ok(Json::Object(copy_object(alloc, object, manner)?)),
+        Json::Object(members) => Ok(Json::Object(copy_members(alloc, members, manner)?)),
     }
 }
 
@@ -127,9 +127,9 @@ fn list_pointer(items: &List, manner: Manner) -> Result<Option<List>, AllocError
 }
 
 // How the blocks of a list are copied. A list in groups isn't its own, and so its copy in blocks is shared.
-fn blocks_manner(items: &List, manner: Manner) -> Manner
-    ensures copied { (l : Pieces Json) → IsCopied result (list_own items.now) (list_own l) (is_shared_list l)
-        → IsCopied manner (list_own items.now) (list_own l) (is_shared_list l) }
+fn blocks_manner<T>(items: &Pieces<T>, manner: Manner) -> Manner
+    ensures copied { (was now pointer : Bool) → (is_in_groups items.now.form ≡ true → was ≡ false)
+        → (pointer ≡ true → now ≡ false) → IsCopied result was now pointer → IsCopied manner was now pointer }
     ensures same { result ≡ Same → manner ≡ Same }
     ensures in_blocks { result ≡ Same → is_in_groups items.now.form ≡ false }
 {
@@ -169,11 +169,11 @@ fn copy_block(alloc: Global, block: &Block<Json>, manner: Manner) -> Result<Bloc
 }
 
 // A pointer to the block, where it is shared and a copy may be one.
-fn block_pointer(block: &Block<Json>, manner: Manner) -> Result<Option<Block<Json>>, AllocError>
-    ensures items { IfOk result (λ o. IfSome o
-        (λ b. items_view (items_of b) ≡ items_view (items_of block.now))) }
-    ensures own { IfOk result (λ o. IfSome o (λ b. IsCopied manner
-        (block_all_own block.now) (block_all_own b) (block_shared b))) }
+fn block_pointer<T>(block: &Block<T>, manner: Manner) -> Result<Option<Block<T>>, AllocError>
+    ensures same { IfOk result (λ o. IfSome o (λ b. items_of b ≡ items_of block.now)) }
+    ensures shared { IfOk result (λ o. IfSome o (λ b. block_shared b ≡ true)) }
+    ensures was { IfOk result (λ o. IfSome o (λ _. block_shared block.now ≡ true)) }
+    ensures other { IfOk result (λ o. IfSome o (λ _. manner ≡ Own → ⊥)) }
     ensures none { IfOk result (λ o. IfNone o (manner ≡ Same → block_own block.now ≡ true)) }
 {
     match manner {
@@ -195,54 +195,97 @@ fn copy_items(alloc: Global, items: &[Json], manner: Manner) -> Result<Vec<Json>
 }
 
 #[cycle(copy)]
-fn copy_object(alloc: Global, object: &Object, manner: Manner) -> Result<Object, AllocError>
-    ensures members { IfOk result (λ o. held_view o ≡ held_view object.now) }
-    ensures own { IfOk result (λ o. IsCopied manner (held_own object.now) (held_own o) (object_shared o)) }
+fn copy_members(alloc: Global, members: &Members, manner: Manner) -> Result<Members, AllocError>
+    ensures members { IfOk result (λ m. object_view m ≡ object_view members.now) }
+    ensures own { IfOk result (λ m. IsCopied manner (object_own members.now) (object_own m) (members_shared m)) }
 {
-    if let Some(object) = object_pointer(object, manner)? {
-        return Ok(object);
+    if let Some(copy) = members_pointer(members, manner)? {
+        return Ok(copy);
     }
-    let copy = Object::Own(Box::new(alloc, copy_members(alloc, object.members(), manner)?)?);
-    match manner {
-        Manner::Shared => copy.into_shared(alloc),
-        _ => Ok(copy),
+    let inner = blocks_manner(members.pieces(), manner);
+    let copies = copy_member_blocks(alloc, members.pieces(), inner)?;
+    match inner {
+        Manner::Shared => {
+            let entries = Pieces::from_shared_blocks(alloc, copies)?;
+            Ok(Members::from_pieces(entries))
+        }
+        _ => Ok(Members::from_pieces(Pieces::from_blocks(copies))),
     }
 }
 
 // A pointer to the members, where they are shared and a copy may be one.
-fn object_pointer(object: &Object, manner: Manner) -> Result<Option<Object>, AllocError>
-    ensures members { IfOk result (λ o. IfSome o (λ x. held_view x ≡ held_view object.now)) }
+fn members_pointer(members: &Members, manner: Manner) -> Result<Option<Members>, AllocError>
+    ensures members { IfOk result (λ o. IfSome o (λ m. object_view m ≡ object_view members.now)) }
     ensures own { IfOk result (λ o. IfSome o
-        (λ x. IsCopied manner (held_own object.now) (held_own x) (object_shared x))) }
-    ensures none { IfOk result (λ o. IfNone o (manner ≡ Same → object_shared object.now ≡ false)) }
+        (λ m. IsCopied manner (object_own members.now) (object_own m) (members_shared m))) }
+    ensures none { IfOk result (λ o. IfNone o (manner ≡ Same → members_shared members.now ≡ false)) }
 {
     match manner {
         Manner::Own => Ok(None),
-        _ => object.share_pointer(),
+        _ => members.share_pointer(),
     }
 }
 
 #[cycle(copy)]
-fn copy_members(alloc: Global, members: &Members, manner: Manner) -> Result<Members, AllocError>
-    ensures members { IfOk result (λ m. object_view m ≡ object_view members.now) }
-    ensures own { IfOk result (λ m. IsCopied manner (object_own members.now) (object_own m) true) }
+fn copy_member_blocks(
+    alloc: Global,
+    entries: &Pieces<Member<Json>>,
+    manner: Manner,
+) -> Result<Vec<Block<Member<Json>>>, AllocError>
+    ensures members { IfOk result (λ v. entries_view (flat_map items_of v.items)
+        ≡ entries_view (flat_map items_of (blocks_in entries.now))) }
+    ensures own { IfOk result (λ v. IsCopied manner
+        (parts_all_own (blocks_in entries.now)) (parts_all_own v.items) (all_shared v.items)) }
 {
-    let keys = copy_keys(alloc, &members.keys, manner)?;
-    let values = copy_list(alloc, &members.values, manner)?;
-    Ok(Members { keys, values })
+    let mut copies = Vec::new(alloc);
+    for block in entries.blocks() {
+        copies.push(copy_member_block(alloc, block, manner)?)?;
+    }
+    Ok(copies)
 }
 
-fn copy_keys(alloc: Global, keys: &Keys, manner: Manner) -> Result<Keys, AllocError>
-    ensures same { IfOk result (λ k. texts_in k ≡ texts_in keys.now) }
-    ensures own { IfOk result (λ k. IsCopied manner (keys_own keys.now) (keys_own k) (keys_shared k)) }
+#[cycle(copy)]
+fn copy_member_block(
+    alloc: Global,
+    block: &Block<Member<Json>>,
+    manner: Manner,
+) -> Result<Block<Member<Json>>, AllocError>
+    ensures members { IfOk result (λ b. entries_view (items_of b) ≡ entries_view (items_of block.now)) }
+    ensures own { IfOk result (λ b. IsCopied manner (part_all_own block.now) (part_all_own b) (block_shared b)) }
 {
-    match manner {
-        Manner::Same => keys.share(alloc),
-        Manner::Own => keys.own_copy(alloc),
-        Manner::Shared => {
-            let mut copy = keys.share(alloc)?;
-            copy.share_in_place(alloc)?;
-            Ok(copy)
-        }
+    if let Some(block) = block_pointer(block, manner)? {
+        return Ok(block);
     }
+    let members = copy_each_member(alloc, block.items(), manner)?;
+    match manner {
+        Manner::Shared => Block::Own(members).into_shared(alloc),
+        _ => Ok(Block::Own(members)),
+    }
+}
+
+#[cycle(copy)]
+fn copy_each_member(
+    alloc: Global,
+    members: &[Member<Json>],
+    manner: Manner,
+) -> Result<Vec<Member<Json>>, AllocError>
+    ensures members { IfOk result (λ v. entries_view v.items ≡ entries_view members.now) }
+    ensures own { IfOk result (λ v. IsCopied manner (values_own members.now) (values_own v.items) true) }
+{
+    let mut copies = Vec::with_capacity(alloc, members.len())?;
+    for member in members {
+        let value = copy(alloc, &member.value, manner)?;
+        copies.push(copy_of(alloc, &member.key, value)?)?;
+    }
+    Ok(copies)
+}
+
+// A member of this key and value.
+fn copy_of(alloc: Global, key: &Key, value: Json) -> Result<Member<Json>, AllocError>
+    ensures { IfOk result (λ m. entry m ≡ (key_bytes key.now, value)) }
+{
+    Ok(Member {
+        key: key.share(alloc)?,
+        value,
+    })
 }

@@ -25,7 +25,7 @@ fn all_well_formed(value: &Json)
         Json::Int(number) => in_range(*number),
         Json::Text(text) => text_is_utf8(text),
         Json::List(items) => items_well_formed(items),
-        Json::Object(object) => members_well_formed(object.members()),
+        Json::Object(members) => members_well_formed(members),
         _ => {}
     }
 }

@@ -13,7 +13,7 @@ pub(crate) fn depth_of(value: &Json) -> u64
 {
     match value {
         Json::List(items) => items_deep(items).saturating_add(1),
-        Json::Object(object) => members_deep(object.members()).saturating_add(1),
+        Json::Object(members) => members_deep(members).saturating_add(1),
         _ => 0,
     }
 }
@@ -51,7 +51,7 @@ pub(crate) fn size_of(value: &Json, limit: u64) -> u64
     match value {
         Json::Text(text) => text.bytes_up_to(limit - 1) + 1,
         Json::List(items) => items_size(items, limit - 1) + 1,
-        Json::Object(object) => members_size(object.members(), limit - 1) + 1,
+        Json::Object(members) => members_size(members, limit - 1) + 1,
         _ => 1,
     }
 }

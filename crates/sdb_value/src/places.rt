@@ -1,15 +1,19 @@
 //! Places in a value.
 ghost use Rattle.std.specs.Prelude.{◌≡◌, ◌∷◌, true, false, option_map, IfOk, IfSome, OnErr, MatchOption};
 ghost use Rattle.sdb_value.specs.Change.{ChangedAt, NothingAt};
-ghost use Rattle.sdb_value.specs.Owns.{is_own, held_own, list_own, object_own};
+ghost use Rattle.sdb_members.specs.Search.{texts_of};
+ghost use Rattle.sdb_value.specs.Owns.{is_own, entries_own, list_own, object_own};
 ghost use Rattle.sdb_value.specs.Value.{Value, at, one, item_at, member_at, key, index, list, object};
-ghost use Rattle.sdb_value.specs.View.{view, plain_step, plain_path, held_view, list_view, object_view};
+ghost use Rattle.sdb_value.specs.View.{view, plain_step, plain_path, list_view, object_view, values_view};
 
 use crate::lends::{list_mut, object_mut};
 use crate::lists::{put_back, take_item};
-use crate::members::make_own;
-use crate::value::{Json, List, Members, Object};
+use crate::members::{put_member_back, take_member};
+use crate::value::{Json, List, Members};
+use sdb_members::Member;
+use sdb_pieces::Pieces;
 use std::alloc::{AllocError, Global};
+use std::mem::replace;
 
 /// One step down: into a member of an object, or an item of a list.
 #[derive(PartialEq, Drop)]
@@ -60,8 +64,8 @@ fn child<'v>(value: &'v Json, step: &Step) -> Option<&'v Json>
             Step::Index(index) => item(items, *index),
             Step::Key(_) => None,
         },
-        Json::Object(object) => match step {
-            Step::Key(key) => member(object.members(), key.as_str()),
+        Json::Object(members) => match step {
+            Step::Key(key) => member(members, key.as_str()),
             Step::Index(_) => None,
         },
         _ => None,
@@ -77,10 +81,7 @@ fn item(items: &List, number: u64) -> Option<&Json>
 fn member<'v>(members: &'v Members, name: &str) -> Option<&'v Json>
     ensures { option_map (λ v. view v.now) result ≡ member_at name.now (object_view members.now) }
 {
-    match members.keys.find(name) {
-        Ok(index) => item(&members.values, index as u64),
-        Err(_) => None,
-    }
+    members.get(name)
 }
 
 // The item at an index, where it is the list's own.
@@ -93,26 +94,12 @@ fn item_mut(items: &mut List, number: u64) -> Option<&mut Json>
 }
 
 // The value of a key, where it is the object's own.
-fn member_mut<'v>(object: &'v mut Object, name: &str) -> Option<&'v mut Json>
-    ensures value { held_own object.old ≡ true
-        → option_map (λ v. view v.now) result ≡ member_at name.now (held_view object.old) }
-    ensures own { held_own object.old ≡ true → IfSome result (λ v. is_own v.now ≡ true) }
-{
-    match object {
-        Object::Own(members) => value_mut(members, name),
-        Object::Shared(_) => None,
-    }
-}
-
-fn value_mut<'v>(members: &'v mut Members, name: &str) -> Option<&'v mut Json>
+fn member_mut<'v>(members: &'v mut Members, name: &str) -> Option<&'v mut Json>
     ensures value { object_own members.old ≡ true
         → option_map (λ v. view v.now) result ≡ member_at name.now (object_view members.old) }
     ensures own { object_own members.old ≡ true → IfSome result (λ v. is_own v.now ≡ true) }
 {
-    match members.keys.find(name) {
-        Ok(index) => item_mut(&mut members.values, index as u64),
-        Err(_) => None,
-    }
+    members.get_mut(name)
 }
 
 /// What is done to the value at a place.
@@ -167,7 +154,7 @@ pub fn change_at<C: Change + Drop>(
             None => Ok(None),
         },
         Step::Key(key) => match object_mut(value) {
-            Some(object) => change_member(alloc, object, key.as_str(), rest, change),
+            Some(members) => change_member(alloc, members, key.as_str(), rest, change),
             None => Ok(None),
         },
     }
@@ -205,34 +192,6 @@ fn change_item<C: Change + Drop>(
 #[cycle(change)]
 fn change_member<C: Change + Drop>(
     alloc: Global,
-    members: &mut Object,
-    name: &str,
-    rest: &[Step],
-    change: C,
-) -> Result<Option<C::Output>, AllocError>
-    ensures done { IfOk result (λ o. MatchOption o
-        (NothingAt (object (held_view members.old)) (key name.now ∷ plain_path rest.now)
-        (object (held_view members.new)))
-        (λ r. ChangedAt (λ u v. C.Change.makes change u v r)
-        (object (held_view members.old)) (key name.now ∷ plain_path rest.now)
-        (object (held_view members.new)))) }
-    ensures err { OnErr result (held_view members.new ≡ held_view members.old) }
-    ensures own { C.Change.keeps_own change → held_own members.old ≡ true → held_own members.new ≡ true }
-    ensures shared { OnErr result (held_own members.old ≡ false) }
-    ensures answer { held_own members.old ≡ true
-        → IfOk result (λ o. IfSome o (λ r. C.Change.answers_own change r)) }
-{
-    make_own(alloc, members)?;
-    match members {
-        Object::Own(own) => change_value(alloc, own, name, rest, change),
-        Object::Shared(_) => unreachable!(),
-    }
-}
-
-// The change below the value of a key, where the members have one owner.
-#[cycle(change)]
-fn change_value<C: Change + Drop>(
-    alloc: Global,
     members: &mut Members,
     name: &str,
     rest: &[Step],
@@ -250,8 +209,43 @@ fn change_value<C: Change + Drop>(
     ensures answer { object_own members.old ≡ true
         → IfOk result (λ o. IfSome o (λ r. C.Change.answers_own change r)) }
 {
-    match members.keys.find(name) {
-        Ok(index) => change_item(alloc, &mut members.values, index as u64, rest, change),
+    match members.find(name) {
+        Ok(index) => {
+            let mut entries = replace(members, Members::new(alloc)).into_pieces();
+            let done = change_value(alloc, &mut entries, index, rest, change);
+            *members = Members::from_pieces(entries);
+            done
+        }
         Err(_) => Ok(None),
     }
+}
+
+// The change below the value of a member. The member is taken out for it and put back.
+#[cycle(change)]
+fn change_value<C: Change + Drop>(
+    alloc: Global,
+    entries: &mut Pieces<Member<Json>>,
+    number: usize,
+    rest: &[Step],
+    change: C,
+) -> Result<Option<C::Output>, AllocError>
+    ensures done { IfOk result (λ o. MatchOption o
+        (NothingAt (list (values_view entries.old)) (index number ∷ plain_path rest.now)
+        (list (values_view entries.new)))
+        (λ r. ChangedAt (λ u v. C.Change.makes change u v r)
+        (list (values_view entries.old)) (index number ∷ plain_path rest.now)
+        (list (values_view entries.new)))) }
+    ensures names { texts_of entries.new ≡ texts_of entries.old }
+    ensures err { OnErr result (values_view entries.new ≡ values_view entries.old) }
+    ensures own { C.Change.keeps_own change → entries_own entries.old ≡ true → entries_own entries.new ≡ true }
+    ensures shared { OnErr result (entries_own entries.old ≡ false) }
+    ensures answer { entries_own entries.old ≡ true
+        → IfOk result (λ o. IfSome o (λ r. C.Change.answers_own change r)) }
+{
+    let Some(mut member) = take_member(alloc, entries, number)? else {
+        return Ok(None);
+    };
+    let done = change_at(alloc, &mut member.value, rest, change);
+    put_member_back(alloc, entries, number, member);
+    done
 }

@@ -28,7 +28,7 @@ fn write(alloc: Global, json: &Json) -> Result<Value, AllocError>
         Json::Int(n) => Ok(Value::Number(Number::from(n.get()))),
         Json::Text(text) => Ok(Value::String(text.to_string(alloc)?)),
         Json::List(items) => Ok(Value::Array(write_items(alloc, items)?)),
-        Json::Object(object) => Ok(Value::Object(write_members(alloc, object.members())?)),
+        Json::Object(members) => Ok(Value::Object(write_members(alloc, members)?)),
     }
 }
 

@@ -3,11 +3,13 @@ ghost use Rattle.std.specs.Prelude.{◌≡◌, true, OnOk};
 ghost use Rattle.std.specs.List.{flat_map};
 ghost use Rattle.sdb_pieces.specs.Block.{items_of, is_shared as block_shared};
 ghost use Rattle.sdb_pieces.specs.Pieces.{is_shared_form, is_shared_list};
-ghost use Rattle.sdb_members.specs.Object.{is_shared as object_shared};
+ghost use Rattle.sdb_members.specs.Members.{is_shared as members_shared};
 ghost use Rattle.sdb_value.specs.Owns.{is_pointer};
-ghost use Rattle.sdb_value.specs.View.{view, form_view, group_items, held_view, items_view, list_view, object_view};
+ghost use Rattle.sdb_value.specs.View.{view, form_view, group_items, items_view, list_view};
+ghost use Rattle.sdb_value.specs.View.{entries_view, group_members, member_form_view, object_view};
 
-use crate::value::{Json, List, Members, Object};
+use crate::value::{Json, List, Members};
+use sdb_members::Member;
 use sdb_pieces::{Block, Form, Group, Pieces};
 use std::alloc::{AllocError, Global};
 use std::mem::replace;
@@ -38,7 +40,7 @@ fn share_parts(alloc: Global, value: &mut Json) -> Result<(), AllocError>
         Json::Int(_) => Ok(()),
         Json::Text(text) => text.share_in_place(alloc),
         Json::List(items) => share_list(alloc, items),
-        Json::Object(object) => share_object(alloc, object),
+        Json::Object(members) => share_members(alloc, members),
     }
 }
 
@@ -51,7 +53,7 @@ fn is_pointer(value: &Json) -> bool
         Json::Null | Json::Bool(_) | Json::Int(_) => true,
         Json::Text(text) => text.is_shared(),
         Json::List(items) => items.is_shared(),
-        Json::Object(object) => object.is_shared(),
+        Json::Object(members) => members.is_shared(),
     }
 }
 
@@ -176,34 +178,138 @@ fn share_each_item(alloc: Global, items: &mut Vec<Json>) -> Result<(), AllocErro
     Ok(())
 }
 
-// The keys and the values, where the members have one owner yet, and then the members.
-#[cycle(share)]
-fn share_object(alloc: Global, object: &mut Object) -> Result<(), AllocError>
-    ensures members { held_view object.new ≡ held_view object.old }
-    ensures shared { OnOk result (object_shared object.new ≡ true) }
-{
-    share_own_members(alloc, object)?;
-    object.share_in_place(alloc)
-}
-
-#[cycle(share)]
-fn share_own_members(alloc: Global, object: &mut Object) -> Result<(), AllocError>
-    ensures { held_view object.new ≡ held_view object.old }
-{
-    match object {
-        Object::Own(members) => share_members(alloc, members),
-        Object::Shared(_) => Ok(()),
-    }
-}
-
-// Values that have no key, which no call makes, stay as they are.
 #[cycle(share)]
 fn share_members(alloc: Global, members: &mut Members) -> Result<(), AllocError>
-    ensures { object_view members.new ≡ object_view members.old }
+    ensures members { object_view members.new ≡ object_view members.old }
+    ensures shared { OnOk result (members_shared members.new ≡ true) }
 {
-    if members.values.get(members.keys.len()).is_some() {
+    let mut form = replace(members, Members::new(alloc))
+        .into_pieces()
+        .into_form();
+    let done = share_member_form(alloc, &mut form);
+    *members = Members::from_pieces(Pieces::from_form(form));
+    done
+}
+
+#[cycle(share)]
+fn share_member_form(alloc: Global, form: &mut Form<Member<Json>>) -> Result<(), AllocError>
+    ensures members { member_form_view form.new ≡ member_form_view form.old }
+    ensures shared { OnOk result (is_shared_form form.new ≡ true) }
+{
+    share_own_member_parts(alloc, form)?;
+    form.share_in_place(alloc)
+}
+
+// Makes what the members consist of shared, where the list of them isn't yet.
+#[cycle(share)]
+fn share_own_member_parts(alloc: Global, form: &mut Form<Member<Json>>) -> Result<(), AllocError>
+    ensures { member_form_view form.new ≡ member_form_view form.old }
+{
+    match form {
+        Form::One(block) => share_own_members(alloc, block),
+        Form::Many(blocks) => share_own_member_blocks(alloc, blocks),
+        Form::Groups(groups) => share_own_member_groups(alloc, groups),
+    }
+}
+
+// Makes the blocks of each group shared, where the list of the groups isn't yet.
+#[cycle(share)]
+fn share_own_member_groups(
+    alloc: Global,
+    groups: &mut Block<Group<Member<Json>>>,
+) -> Result<(), AllocError>
+    ensures { entries_view (flat_map group_members (items_of groups.new))
+        ≡ entries_view (flat_map group_members (items_of groups.old)) }
+{
+    match groups {
+        Block::Own(groups) => share_each_member_group(alloc, groups),
+        Block::Shared(_) => Ok(()),
+    }
+}
+
+#[cycle(share)]
+fn share_each_member_group(
+    alloc: Global,
+    groups: &mut Vec<Group<Member<Json>>>,
+) -> Result<(), AllocError>
+    ensures { entries_view (flat_map group_members groups.new.items)
+        ≡ entries_view (flat_map group_members groups.old.items) }
+{
+    for at in 0..groups.len() {
+        share_member_group(alloc, &mut groups[at])?;
+    }
+    Ok(())
+}
+
+// Makes each block of a group shared, where the group isn't yet.
+#[cycle(share)]
+fn share_member_group(alloc: Global, group: &mut Group<Member<Json>>) -> Result<(), AllocError>
+    ensures { entries_view (group_members group.new) ≡ entries_view (group_members group.old) }
+{
+    if group.is_shared() {
         return Ok(());
     }
-    members.keys.share_in_place(alloc)?;
-    share_list(alloc, &mut members.values)
+    let empty = Group::new(Block::Own(Vec::new(alloc)));
+    let mut blocks = replace(group, empty).into_blocks();
+    let done = share_own_member_blocks(alloc, &mut blocks);
+    *group = Group::new(blocks);
+    done
+}
+
+// Makes each block shared, where the list of them isn't yet.
+#[cycle(share)]
+fn share_own_member_blocks(
+    alloc: Global,
+    blocks: &mut Block<Block<Member<Json>>>,
+) -> Result<(), AllocError>
+    ensures { entries_view (flat_map items_of (items_of blocks.new))
+        ≡ entries_view (flat_map items_of (items_of blocks.old)) }
+{
+    match blocks {
+        Block::Own(blocks) => share_each_member_block(alloc, blocks),
+        Block::Shared(_) => Ok(()),
+    }
+}
+
+#[cycle(share)]
+fn share_each_member_block(
+    alloc: Global,
+    blocks: &mut Vec<Block<Member<Json>>>,
+) -> Result<(), AllocError>
+    ensures { entries_view (flat_map items_of blocks.new.items) ≡ entries_view (flat_map items_of blocks.old.items) }
+{
+    for at in 0..blocks.len() {
+        share_member_block(alloc, &mut blocks[at])?;
+    }
+    Ok(())
+}
+
+#[cycle(share)]
+fn share_member_block(alloc: Global, block: &mut Block<Member<Json>>) -> Result<(), AllocError>
+    ensures members { entries_view (items_of block.new) ≡ entries_view (items_of block.old) }
+    ensures shared { OnOk result (block_shared block.new ≡ true) }
+{
+    share_own_members(alloc, block)?;
+    block.share_in_place(alloc)
+}
+
+// Makes each value shared, where the block isn't yet.
+#[cycle(share)]
+fn share_own_members(alloc: Global, block: &mut Block<Member<Json>>) -> Result<(), AllocError>
+    ensures { entries_view (items_of block.new) ≡ entries_view (items_of block.old) }
+{
+    match block {
+        Block::Own(members) => share_each_value(alloc, members),
+        Block::Shared(_) => Ok(()),
+    }
+}
+
+#[cycle(share)]
+fn share_each_value(alloc: Global, members: &mut Vec<Member<Json>>) -> Result<(), AllocError>
+    ensures { entries_view members.new.items ≡ entries_view members.old.items }
+{
+    for at in 0..members.len() {
+        share(alloc, &mut members[at].value)?;
+    }
+    Ok(())
 }

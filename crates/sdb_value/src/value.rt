@@ -71,9 +71,6 @@ pub type List = Pieces<Json>;
 /// The members of an object, in the order of their keys' bytes, in pieces that copies share.
 pub type Members = sdb_members::Members<Json>;
 
-/// The members of an object, its own or shared with copies as a whole.
-pub type Object = sdb_members::Object<Json>;
-
 /// A value of a document (RFC 8259, section 3), its numbers whole. Its texts, lists and objects are its own,
 /// or shared with copies: a change copies what is shared on its way, and changes what is own in place.
 pub enum Json {
@@ -88,7 +85,7 @@ pub enum Json {
     /// A list, its items counted from 0.
     List(List),
     /// An object, its members in the order of their keys' bytes.
-    Object(Object),
+    Object(Members),
 }
 
 // Written out: so whoever lets a value go calls this, and no proof opens each form of each part there.
@@ -98,7 +95,7 @@ impl Drop for Json {
             Json::Null | Json::Bool(_) | Json::Int(_) => {}
             Json::Text(text) => drop(text),
             Json::List(items) => drop(items),
-            Json::Object(object) => drop(object),
+            Json::Object(members) => drop(members),
         }
     }
 }
@@ -112,7 +109,7 @@ impl Json {
         Json::List(Pieces::from_vec(items))
     }
 
-    /// A list of these items, in pieces. Up to 512 stand in the vector's own memory. Fails only where memory is
+    /// A list of these items, in pieces. Up to 20 stand in the vector's own memory. Fails only where memory is
     /// wanting.
     pub fn list_of(alloc: Global, items: Vec<Json>) -> Result<Json, AllocError>
         ensures value { IfOk result (λ v. view v ≡ list (items_view items.items)) }
@@ -121,22 +118,20 @@ impl Json {
         Ok(Json::List(Pieces::in_blocks(alloc, items)?))
     }
 
-    /// An object of these members. Fails only where memory is wanting.
+    /// An object of the members of a map. Fails only where memory is wanting.
     pub fn object(alloc: Global, members: BTreeMap<String, Json>) -> Result<Json, AllocError>
         ensures value { IfOk result (λ v. view v ≡ object (map_view members.entries)) }
         ensures own { map_own members.entries ≡ true → IfOk result (λ v. is_own v ≡ true) }
     {
-        let object = Json::of_members(alloc, Members::from_map(alloc, members)?)?;
-        Ok(object)
+        Ok(Json::of_members(Members::from_map(alloc, members)?))
     }
 
-    /// An object that holds these members, their parts as they are. Fails only where memory is wanting.
-    pub fn of_members(alloc: Global, held: Members) -> Result<Json, AllocError>
-        ensures value { IfOk result (λ v. view v ≡ object (object_view held)) }
-        ensures own { IfOk result (λ v. is_own v ≡ object_own held) }
+    /// An object of these members, as they are.
+    pub fn of_members(members: Members) -> Json
+        ensures value { view result ≡ object (object_view members) }
+        ensures own { is_own result ≡ object_own members }
     {
-        let members = Box::new(alloc, held)?;
-        Ok(Json::Object(Object::Own(members)))
+        Json::Object(members)
     }
 
     /// Whether it is `null`.
@@ -157,7 +152,7 @@ impl Json {
         match self {
             Json::Text(text) => text.is_shared(),
             Json::List(items) => items.is_shared(),
-            Json::Object(object) => object.is_shared(),
+            Json::Object(members) => members.is_shared(),
             _ => false,
         }
     }
@@ -168,7 +163,7 @@ impl Json {
         ensures { option_map (λ m. object_view m.now) result ≡ as_object (view self.now) }
     {
         match self {
-            Json::Object(object) => Some(object.members()),
+            Json::Object(members) => Some(members),
             _ => None,
         }
     }

@@ -38,9 +38,9 @@ fn write(value: &Json, out: &mut Writer) -> Result<(), AllocError>
             out.begin_array()?;
             write_items(items, out)
         }
-        Json::Object(object) => {
+        Json::Object(members) => {
             out.begin_object()?;
-            write_members(object.members(), out)
+            write_members(members, out)
         }
     }
 }

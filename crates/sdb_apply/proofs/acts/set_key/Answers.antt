@@ -3,7 +3,7 @@ use Rattle.std.proofs.lemmas.Result.{err_from_is_err_and}
 use Rattle.sdb_value.specs.Law.{known}
 use Rattle.sdb_value.specs.Owns.{is_own}
 use Rattle.sdb_value.specs.Value.{put}
-use Rattle.sdb_value.specs.View.{view, held_view}
+use Rattle.sdb_value.specs.View.{view, object_view}
 use Rattle.sdb_apply.proofs.Outcomes.{needs_put, object_done, object_stays}
 use Rattle.sdb_apply.proofs.acts.set_key.Goals as goal
 
@@ -14,7 +14,7 @@ returns-in_err-put_at_key-in-Some-clause-outcome c =
 
 pub returns-in_ok-put_at_key-in-Some-clause-outcome : goal.returns-in_ok-put_at_key-in-Some-clause-outcome
 returns-in_ok-put_at_key-in-Some-clause-outcome c =
-    let ms = held_view c.in-Some.object.now in
+    let ms = object_view c.in-Some.object.now in
     object_done (put c.args.key.now (view c.args.value.now)) ms _ _ _ c.in-Some.ensures.value (known _ _ c.in-Some.is (c.object_mut.follows.holds _)).0
     (c.in_ok-put_at_key-in-Some.ensures.ok ∙ ap (λ k. put k (view c.in_ok-copy.copy) ms) c.in_ok-name.ensures.ok ∙ ap (λ v. put c.args.key.now v ms) c.in_ok-copy.ensures.value)
 

@@ -4,12 +4,12 @@ use Rattle.sdb_members.specs.Search.{texts}
 use Rattle.sdb_members.proofs.search.find_in.Given as goal
 
 abbrev pub invariant-loop-low : goal.invariant-loop-low
-invariant-loop-low l = record {
+invariant-loop-low g l = record {
   ordered : l.low ≤ l.high;
-  within : l.high ≤ length l.keys;
-  above : IsAboveAll l.key (take l.low (texts l.keys));
-  below : IsBelowAll l.key (drop l.high (texts l.keys));
+  within : l.high ≤ length l.members;
+  above : IsAboveAll l.key (take l.low (texts l.members));
+  below : IsBelowAll l.key (drop l.high (texts l.members));
 }
 
 abbrev pub decreases-loop-low : goal.decreases-loop-low
-decreases-loop-low l = l.high - l.low
+decreases-loop-low g l = l.high - l.low

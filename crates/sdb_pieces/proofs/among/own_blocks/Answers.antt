@@ -1,4 +1,5 @@
 use Rattle.sdb_pieces.proofs.Joined.{joined_alike, own_alike, among_alike}
+use Rattle.sdb_pieces.proofs.Bounds.{longest_alike}
 use Rattle.sdb_pieces.proofs.among.own_blocks.Goals as goal
 
 pub returns-in_err-make_own-clause-same : goal.returns-in_err-make_own-clause-same
@@ -18,3 +19,9 @@ returns-in_err-make_own-clause-among g c = among_alike g.T.Share.seen _ _ c.make
 
 pub returns-clause-among : goal.returns-clause-among
 returns-clause-among g c = among_alike g.T.Share.seen _ _ c.make_own.ensures.same
+
+pub returns-in_err-make_own-clause-bound : goal.returns-in_err-make_own-clause-bound
+returns-in_err-make_own-clause-bound g c = longest_alike g.T.Share.seen _ _ c.make_own.ensures.same
+
+pub returns-clause-bound : goal.returns-clause-bound
+returns-clause-bound g c = longest_alike g.T.Share.seen _ _ c.make_own.ensures.same

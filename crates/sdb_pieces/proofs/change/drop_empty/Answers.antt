@@ -1,7 +1,9 @@
-use Rattle.std.proofs.Common.{◌≡◌, length, ap, sym, ◌∙◌}
+use Rattle.std.proofs.Common.{◌≡◌, length, ap, sym, ◌∙◌, arith}
 use Rattle.sdb_pieces.specs.Block.{items_of}
 use Rattle.sdb_pieces.specs.Pieces.{joined, all_own, seen_items}
 use Rattle.sdb_pieces.proofs.Joined.{joined_without, own_remove, map_none}
+use Rattle.sdb_pieces.specs.Blocks.{longest}
+use Rattle.sdb_pieces.proofs.Bounds.{longest_remove}
 use Rattle.sdb_pieces.proofs.change.drop_empty.Goals as goal
 
 pub returns-then-len-eq0-clause-same : goal.returns-then-len-eq0-clause-same
@@ -14,3 +16,9 @@ returns-then-len-eq0-clause-same g c =
 
 pub returns-then-len-eq0-clause-own : goal.returns-then-len-eq0-clause-own
 returns-then-len-eq0-clause-own g c = λ all. ap all_own c.remove.ensures.items ∙ own_remove c.args.blocks.now.items c.args.at all
+
+pub returns-then-len-eq0-clause-bound : goal.returns-then-len-eq0-clause-bound
+returns-then-len-eq0-clause-bound g c =
+    let e = ap longest c.remove.ensures.items in
+    let l = longest_remove c.args.blocks.now.items c.args.at in
+    omega (arith, e, l)

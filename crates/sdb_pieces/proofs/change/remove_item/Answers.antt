@@ -5,6 +5,7 @@ use Rattle.sdb_pieces.specs.Block.{items_of, is_own}
 use Rattle.sdb_pieces.specs.Pieces.{seen_items}
 use Rattle.sdb_pieces.specs.Place.{IsItem}
 use Rattle.sdb_pieces.proofs.Joined.{joined_remove, joined_same, joined_get, own_changed, shared_at, among_here, on_err}
+use Rattle.sdb_pieces.proofs.Bounds.{longest_kept}
 use Rattle.sdb_pieces.proofs.change.remove_item.Goals as goal
 
 pub returns-in_err-item-clause-err : goal.returns-in_err-item-clause-err
@@ -71,3 +72,22 @@ returns-in_err-item-clause-shared_there g c =
     let at = subst (λ l. IsItem (seen_items f) l c.args.index k c.in-Some.inside) c.deref.ensures.value c.in-Some.ensures.item in
     let within : c.in-Some.inside < length (items_of (get_or bs k d)) = omega (arith, at.within d, length-map (items_of (get_or bs k d)) f) in
     on_err c.from_residual.result (among_here f bs c.args.index k c.in-Some.inside d at.inside at.sum within ∙ sym (ap is_own c.index_mut.ensures.value) ∙ c.in_err-item.ensures.shared)
+
+pub returns-in_err-item-clause-bound : goal.returns-in_err-item-clause-bound
+returns-in_err-item-clause-bound g c =
+    let f = g.T.Share.seen in
+    let bs = c.args.blocks.now.items in
+    let k = c.in-Some.at in
+    let d = c.index_mut.result.now in
+    let at = subst (λ l. IsItem (seen_items f) l c.args.index k c.in-Some.inside) c.deref.ensures.value c.in-Some.ensures.item in
+    longest_kept bs k c.remove_in.new.block d at.inside c.index_mut.ensures.value c.in_err-item.ensures.bound
+
+pub returns-clause-bound : goal.returns-clause-bound
+returns-clause-bound g c =
+    let f = g.T.Share.seen in
+    let bs = c.args.blocks.now.items in
+    let k = c.in-Some.at in
+    let d = c.index_mut.result.now in
+    let at = subst (λ l. IsItem (seen_items f) l c.args.index k c.in-Some.inside) c.deref.ensures.value c.in-Some.ensures.item in
+    let l = longest_kept bs k c.remove_in.new.block d at.inside c.index_mut.ensures.value c.in_ok-item.ensures.bound in
+    omega (arith, l, c.drop_empty.ensures.bound)

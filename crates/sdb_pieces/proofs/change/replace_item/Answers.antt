@@ -4,6 +4,7 @@ use Rattle.sdb_pieces.specs.Block.{items_of, is_own}
 use Rattle.sdb_pieces.specs.Pieces.{seen_items}
 use Rattle.sdb_pieces.specs.Place.{IsItem}
 use Rattle.sdb_pieces.proofs.Joined.{joined_replace, joined_same, joined_get, own_changed, among_here, among_set, on_err, if_some}
+use Rattle.sdb_pieces.proofs.Bounds.{longest_kept}
 use Rattle.sdb_pieces.proofs.change.replace_item.Goals as goal
 
 pub returns-in_err-old-clause-err : goal.returns-in_err-old-clause-err
@@ -74,3 +75,21 @@ returns-clause-now_own g c =
     let m = ap length c.in_ok-old.ensures.ok ∙ length-set (map f (items_of d)) c.in-Some.inside (f c.args.item) ∙ ap (λ b. length (map f (items_of b))) was in
     let within : c.in-Some.inside < length (items_of a) = omega (arith, at.within d, m, length-map (items_of a) f) in
     if_some c.in_ok-old.old (among_set f bs c.args.index k c.in-Some.inside a at.inside at.sum within ∙ c.in_ok-old.ensures.now_own)
+
+pub returns-in_err-old-clause-bound : goal.returns-in_err-old-clause-bound
+returns-in_err-old-clause-bound g c =
+    let f = g.T.Share.seen in
+    let bs = c.args.blocks.now.items in
+    let k = c.in-Some.at in
+    let d = c.index_mut.result.now in
+    let at = subst (λ l. IsItem (seen_items f) l c.args.index k c.in-Some.inside) c.deref.ensures.value c.in-Some.ensures.item in
+    longest_kept bs k c.replace_in.new.block d at.inside c.index_mut.ensures.value c.in_err-old.ensures.bound
+
+pub returns-clause-bound : goal.returns-clause-bound
+returns-clause-bound g c =
+    let f = g.T.Share.seen in
+    let bs = c.args.blocks.now.items in
+    let k = c.in-Some.at in
+    let d = c.index_mut.result.now in
+    let at = subst (λ l. IsItem (seen_items f) l c.args.index k c.in-Some.inside) c.deref.ensures.value c.in-Some.ensures.item in
+    longest_kept bs k c.replace_in.new.block d at.inside c.index_mut.ensures.value c.in_ok-old.ensures.bound

@@ -1,9 +1,11 @@
-use Rattle.std.proofs.Common.{◌≡◌, ◌+◌, ◌/◌, length, take, drop, map, set, get_or, ap, ◌∙◌, refl}
+use Rattle.std.proofs.Common.{◌≡◌, ◌+◌, ◌/◌, length, take, drop, map, set, get_or, ap, ◌∙◌, refl, sym, arith}
 use Rattle.std.specs.List.{insert}
 use Rattle.sdb_pieces.specs.Block.{items_of}
 use Rattle.sdb_pieces.specs.Pieces.{joined, all_own, seen_items}
 use Rattle.sdb_pieces.specs.declared.block.Block.TheVariants.{Own}
 use Rattle.sdb_pieces.proofs.Joined.{joined_split, joined_spare, own_inserted, own_set, get_before}
+use Rattle.sdb_pieces.specs.Blocks.{longest, items_at}
+use Rattle.sdb_pieces.proofs.Bounds.{same_count, halves_count, items_here, half_at, longest_at, longest_set, longest_insert, longest_halves}
 use Rattle.sdb_pieces.proofs.change.split_block.Goals as goal
 
 pub returns-in_err-high-clause-same : goal.returns-in_err-high-clause-same
@@ -58,3 +60,61 @@ returns-clause-own g c =
     let b = c.in_ok-high.high in
     λ all. ap (λ l. all_own (set (set l k a) (k + 1) b)) put
     ∙ own_set (set (insert bs (k + 1) e) k a) (k + 1) b c.in_ok-high.ensures.other (own_inserted bs k a e d c.requires refl is c.in_ok-high.ensures.own all)
+
+pub returns-in_err-high-clause-bound : goal.returns-in_err-high-clause-bound
+returns-in_err-high-clause-bound g c =
+    let f = g.T.Share.seen in
+    let bs = c.args.blocks.now.items in
+    let k = c.args.at in
+    let e = Own c.new.result in
+    let d = c.index_mut.result.now in
+    let put : c.insert.new.self.items ≡ insert bs (k + 1) e = c.in_ok-insert.ensures.items in
+    let is : d ≡ get_or bs k d = c.index_mut.ensures.value ∙ ap (λ l. get_or l k d) put ∙ get_before bs k e d c.requires in
+    let a = c.upper_half.new.block in
+    let n = longest bs in
+    let m = ap (λ l. longest (set l k a)) put in
+    let none = ap length c.new.ensures.items in
+    let same = same_count f (items_of a) (items_of d) c.in_err-high.ensures.err in
+    let was = ap (λ b. length (items_of b)) is in
+    let w = longest_at bs k d c.requires in
+    let l = longest_set (insert bs (k + 1) e) k a n (longest_insert bs (k + 1) e n (omega arith) (omega (arith, none))) (omega (arith, same, was, w)) in
+    omega (arith, m, l)
+
+pub returns-clause-bound : goal.returns-clause-bound
+returns-clause-bound g c =
+    let f = g.T.Share.seen in
+    let bs = c.args.blocks.now.items in
+    let k = c.args.at in
+    let e = Own c.new.result in
+    let d = c.index_mut.result.now in
+    let put : c.insert.new.self.items ≡ insert bs (k + 1) e = c.in_ok-insert.ensures.items in
+    let is : d ≡ get_or bs k d = c.index_mut.ensures.value ∙ ap (λ l. get_or l k d) put ∙ get_before bs k e d c.requires in
+    let a = c.upper_half.new.block in
+    let b = c.in_ok-high.high in
+    let n = longest bs in
+    let m = ap (λ l. longest (set (set l k a) (k + 1) b)) put in
+    let none = ap length c.new.ensures.items in
+    let both = halves_count f (items_of a) (items_of b) (items_of d) c.in_ok-high.ensures.low c.in_ok-high.ensures.high in
+    let was = ap (λ b. length (items_of b)) is in
+    let w = longest_at bs k d c.requires in
+    let l = longest_halves bs k a b e n (omega arith) (omega (arith, both.0, was, w)) (omega (arith, both.0, was, w)) (omega (arith, none)) in
+    omega (arith, m, l)
+
+pub returns-clause-half : goal.returns-clause-half
+returns-clause-half g c =
+    let f = g.T.Share.seen in
+    let bs = c.args.blocks.now.items in
+    let k = c.args.at in
+    let e = Own c.new.result in
+    let d = c.index_mut.result.now in
+    let put : c.insert.new.self.items ≡ insert bs (k + 1) e = c.in_ok-insert.ensures.items in
+    let is : d ≡ get_or bs k d = c.index_mut.ensures.value ∙ ap (λ l. get_or l k d) put ∙ get_before bs k e d c.requires in
+    let a = c.upper_half.new.block in
+    let b = c.in_ok-high.high in
+    let both = halves_count f (items_of a) (items_of b) (items_of d) c.in_ok-high.ensures.low c.in_ok-high.ensures.high in
+    let was = ap (λ b. length (items_of b)) is in
+    λ i w.
+    let m = ap (λ l. items_at (set (set l k a) (k + 1) b) i) put in
+    let here = items_here bs i k d c.requires (sym w) in
+    let l = half_at bs i k (length (items_of b)) a b e d c.requires w (omega (arith, both.0, was)) (omega (arith, both.1)) (omega arith) in
+    omega (arith, m, here, was, both.0, both.2, l)

@@ -1,7 +1,9 @@
-use Rattle.std.proofs.Common.{refl, ap, ◌∙◌}
+use Rattle.std.proofs.Common.{refl, ap, ◌∙◌, arith}
 use Rattle.sdb_pieces.specs.Pieces.{all_own}
 use Rattle.sdb_pieces.specs.declared.block.Block.TheVariants.{Own}
 use Rattle.sdb_pieces.proofs.Joined.{own_more, own_reverse, cut_off}
+use Rattle.sdb_pieces.specs.Blocks.{longest}
+use Rattle.sdb_pieces.proofs.Bounds.{longest_push, longest_reverse, cut_short, no_more}
 use Rattle.sdb_pieces.proofs.cut.cut_blocks.Goals as goal
 
 pub loop-left-preserved : goal.loop-left-preserved
@@ -12,9 +14,21 @@ loop-left-preserved g c =
       whole = cut_off xs c.split_off.new.self.items bs c.push.new.self.items (Own c.in_ok-last.last) _
           c.in_ok-last.ensures.items c.in_ok-last.ensures.tail c.in_ok-push.ensures.items ∙ c.loop-left.invariant.whole;
       own = ap all_own c.in_ok-push.ensures.items ∙ own_more bs (Own c.in_ok-last.last) c.loop-left.invariant.own refl;
+      short = cut_short bs c.push.new.self.items xs (Own c.in_ok-last.last) _ c.args.most c.in_ok-push.ensures.items c.in_ok-last.ensures.tail c.loop-left.invariant.short
+          (omega (arith, c.len-in-loop-left.ensures, c.loop-left-test.true));
     }
 
 pub returns-clause-own : goal.returns-clause-own
 returns-clause-own g c =
     let bs = c.loop-left.blocks.items in
     ap all_own c.reverse.ensures.items ∙ own_reverse c.push-2.new.self.items (ap all_own c.in_ok-push-2.ensures.items ∙ own_more bs _ c.loop-left.invariant.own refl)
+
+pub returns-clause-bound : goal.returns-clause-bound
+returns-clause-bound g c =
+    let bs = c.loop-left.blocks.items in
+    let all = c.push-2.new.self.items in
+    let e = ap longest c.reverse.ensures.items in
+    let r = longest_reverse all in
+    let l = longest_push bs all _ c.args.most c.in_ok-push-2.ensures.items c.loop-left.invariant.short
+    (no_more _ _ c.args.most c.shrink_to_fit.ensures.items (omega (arith, c.len-in-loop-left.ensures, c.loop-left-test.false))) in
+    omega (arith, e, r, l)

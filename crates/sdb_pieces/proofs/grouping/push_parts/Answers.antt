@@ -1,5 +1,7 @@
-use Rattle.std.proofs.Common.{arith}
+use Rattle.std.proofs.Common.{max, arith}
 use Rattle.sdb_pieces.proofs.Grouped.{part_next}
+use Rattle.sdb_pieces.specs.Blocks.{longest}
+use Rattle.sdb_pieces.proofs.Bounds.{part_short}
 use Rattle.sdb_pieces.proofs.grouping.push_parts.Goals as goal
 
 pub loop-start-preserved : goal.loop-start-preserved
@@ -7,4 +9,7 @@ loop-start-preserved g c = record {
   within = omega (arith, c.min.ensures, c.loop-start-test.true);
   same = part_next g.T.Share.seen c.args.blocks.now.items c.loop-start.blocks.items c.push.new.self.items c.args.items.now c.in_ok-part.part.items c.in_ok-into_shared.field-0
       c.loop-start.start c.min.result _ c.loop-start.invariant.same c.in_ok-push.ensures.items c.in_ok-into_shared.ensures.same c.in_ok-part.ensures (omega arith);
+  short = part_short g.T.Share.seen c.loop-start.blocks.items c.push.new.self.items c.args.items.now c.in_ok-part.part.items c.in_ok-into_shared.field-0 c.loop-start.start
+      (max 20 (longest c.args.blocks.now.items)) _ c.in_ok-push.ensures.items c.in_ok-into_shared.ensures.same c.in_ok-part.ensures c.loop-start.invariant.short
+      (omega (arith, c.min.ensures));
 }

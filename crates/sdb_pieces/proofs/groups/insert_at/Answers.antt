@@ -5,6 +5,7 @@ use Rattle.sdb_pieces.specs.Group.{seen_group, joined_groups}
 use Rattle.sdb_pieces.specs.Place.{IsPlace}
 use Rattle.sdb_pieces.proofs.Joined.{joined_insert, joined_same, place_within, put_inside, on_err}
 use Rattle.sdb_pieces.proofs.Grouped.{grouped_set}
+use Rattle.sdb_pieces.proofs.Bounds.{grouped_kept}
 use Rattle.sdb_pieces.proofs.groups.insert_at.Goals as goal
 
 pub returns-in_err-insert-in-Some-clause-err : goal.returns-in_err-insert-in-Some-clause-err
@@ -58,3 +59,23 @@ returns-in_ok-insert-in-Some-clause-now_own g c =
     let more = put_inside (s (get_or gs k d)) i (f c.args.item) (at.within d) in
     let within : i < length (s a) = omega (arith, more, ap length put) in
     λ _. grouped_set f gs c.args.index k i a at.inside at.sum within ∙ c.in_ok-insert-in-Some.ensures.now_own
+
+pub returns-in_err-insert-in-Some-clause-bound : goal.returns-in_err-insert-in-Some-clause-bound
+returns-in_err-insert-in-Some-clause-bound g c =
+    let s = seen_group g.T.Share.seen in
+    let gs = c.args.groups.now.items in
+    let k = c.in-Some.at in
+    let d = c.index_mut.result.now in
+    let at = subst (λ l. IsPlace s l c.args.index k c.in-Some.inside) c.deref.ensures.value c.in-Some.ensures.place in
+    let l = grouped_kept gs k c.insert.new.self d 20 at.inside c.index_mut.ensures.value (omega (arith, c.in_err-insert-in-Some.ensures.bound)) in
+    omega (arith, l)
+
+pub returns-in_ok-insert-in-Some-clause-bound : goal.returns-in_ok-insert-in-Some-clause-bound
+returns-in_ok-insert-in-Some-clause-bound g c =
+    let s = seen_group g.T.Share.seen in
+    let gs = c.args.groups.now.items in
+    let k = c.in-Some.at in
+    let d = c.index_mut.result.now in
+    let at = subst (λ l. IsPlace s l c.args.index k c.in-Some.inside) c.deref.ensures.value c.in-Some.ensures.place in
+    let l = grouped_kept gs k c.insert.new.self d 20 at.inside c.index_mut.ensures.value (omega (arith, c.in_ok-insert-in-Some.ensures.bound)) in
+    omega (arith, l)

@@ -1,9 +1,10 @@
-use Rattle.std.proofs.Common.{◌≡◌, slice_get, get_or, ap, sym, ◌∙◌, subst}
+use Rattle.std.proofs.Common.{◌≡◌, slice_get, get_or, ap, sym, ◌∙◌, subst, arith}
 use Rattle.std.specs.List.{remove}
 use Rattle.sdb_pieces.specs.Group.{seen_group, is_own_group_at}
 use Rattle.sdb_pieces.specs.Place.{IsItem}
 use Rattle.sdb_pieces.proofs.Joined.{joined_remove, joined_same, joined_get, on_err}
 use Rattle.sdb_pieces.proofs.Grouped.{grouped_here}
+use Rattle.sdb_pieces.proofs.Bounds.{grouped_kept}
 use Rattle.sdb_pieces.proofs.groups.remove_item.Goals as goal
 
 pub returns-in_err-item-clause-err : goal.returns-in_err-item-clause-err
@@ -52,4 +53,24 @@ returns-clause-ok g c =
     let d = c.index_mut.result.now in
     let was : d ≡ get_or gs k d = c.index_mut.ensures.value in
     let at = subst (λ l. IsItem s l c.args.index k i) c.deref.ensures.value c.in-Some.ensures.item in
-    c.drop_empty.ensures ∙ joined_remove s gs c.args.index k i c.remove.new.self d at (c.in_ok-item.ensures.ok ∙ ap (λ b. remove (s b) i) was)
+    c.drop_empty.ensures.same ∙ joined_remove s gs c.args.index k i c.remove.new.self d at (c.in_ok-item.ensures.ok ∙ ap (λ b. remove (s b) i) was)
+
+pub returns-in_err-item-clause-bound : goal.returns-in_err-item-clause-bound
+returns-in_err-item-clause-bound g c =
+    let s = seen_group g.T.Share.seen in
+    let gs = c.args.groups.now.items in
+    let k = c.in-Some.at in
+    let d = c.index_mut.result.now in
+    let at = subst (λ l. IsItem s l c.args.index k c.in-Some.inside) c.deref.ensures.value c.in-Some.ensures.item in
+    let l = grouped_kept gs k c.remove.new.self d 0 at.inside c.index_mut.ensures.value (omega (arith, c.in_err-item.ensures.bound)) in
+    omega (arith, l)
+
+pub returns-clause-bound : goal.returns-clause-bound
+returns-clause-bound g c =
+    let s = seen_group g.T.Share.seen in
+    let gs = c.args.groups.now.items in
+    let k = c.in-Some.at in
+    let d = c.index_mut.result.now in
+    let at = subst (λ l. IsItem s l c.args.index k c.in-Some.inside) c.deref.ensures.value c.in-Some.ensures.item in
+    let l = grouped_kept gs k c.remove.new.self d 0 at.inside c.index_mut.ensures.value (omega (arith, c.in_ok-item.ensures.bound)) in
+    omega (arith, l, c.drop_empty.ensures.bound)

@@ -3,6 +3,7 @@ use Rattle.sdb_pieces.specs.Group.{seen_group, is_own_group_at}
 use Rattle.sdb_pieces.specs.Place.{IsItem}
 use Rattle.sdb_pieces.proofs.Joined.{joined_replace, joined_same, joined_get, if_some_also, on_err}
 use Rattle.sdb_pieces.proofs.Grouped.{grouped_here, grouped_set}
+use Rattle.sdb_pieces.proofs.Bounds.{grouped_kept}
 use Rattle.sdb_pieces.proofs.groups.replace_item.Goals as goal
 
 pub returns-in_err-old-clause-err : goal.returns-in_err-old-clause-err
@@ -67,3 +68,23 @@ returns-clause-now_own g c =
     let n = ap length c.in_ok-old.ensures.ok ∙ length-set (s d) i (f c.args.item) ∙ ap (λ b. length (s b)) was in
     let within : i < length (s a) = omega (arith, at.within d, n) in
     if_some_also c.in_ok-old.old c.in_ok-old.ensures.now_own (λ own. grouped_set f gs c.args.index k i a at.inside at.sum within ∙ own)
+
+pub returns-in_err-old-clause-bound : goal.returns-in_err-old-clause-bound
+returns-in_err-old-clause-bound g c =
+    let s = seen_group g.T.Share.seen in
+    let gs = c.args.groups.now.items in
+    let k = c.in-Some.at in
+    let d = c.index_mut.result.now in
+    let at = subst (λ l. IsItem s l c.args.index k c.in-Some.inside) c.deref.ensures.value c.in-Some.ensures.item in
+    let l = grouped_kept gs k c.replace.new.self d 0 at.inside c.index_mut.ensures.value (omega (arith, c.in_err-old.ensures.bound)) in
+    omega (arith, l)
+
+pub returns-clause-bound : goal.returns-clause-bound
+returns-clause-bound g c =
+    let s = seen_group g.T.Share.seen in
+    let gs = c.args.groups.now.items in
+    let k = c.in-Some.at in
+    let d = c.index_mut.result.now in
+    let at = subst (λ l. IsItem s l c.args.index k c.in-Some.inside) c.deref.ensures.value c.in-Some.ensures.item in
+    let l = grouped_kept gs k c.replace.new.self d 0 at.inside c.index_mut.ensures.value (omega (arith, c.in_ok-old.ensures.bound)) in
+    omega (arith, l)

@@ -65,7 +65,7 @@ pub split-join : (X : Type 0) (c : Vec X Global ⊎ Arc (Vec X Global) Global) �
 split-join X (inl v) = refl
 split-join X (inr a) = refl
 
-abbrev blocks : Former {0} → Former {0}
+abbrev pub blocks : Former {0} → Former {0}
 blocks g = via (or (vectors g) (pointers g)) (λ X. Block (g.Of X)) (λ X. split (g.Of X)) (λ X. join (g.Of X)) (λ X. join-split (g.Of X)) (λ X. split-join (g.Of X))
 
 module _ {g : Former {0}} (w : Weighed g) where
@@ -75,7 +75,7 @@ module _ {g : Former {0}} (w : Weighed g) where
   abbrev pointers_weighed : Weighed (pointers g)
   pointers_weighed = record { weight = λ X μ d. vectors_weighed.weight X μ d.value; puts = λ X μ d. vectors_weighed.puts X μ d.value }
 
-  abbrev blocks_weighed : Weighed (blocks g)
+  abbrev pub blocks_weighed : Weighed (blocks g)
   blocks_weighed = w_via (w_or vectors_weighed pointers_weighed) (λ X. Block (g.Of X)) (λ X. split (g.Of X)) (λ X. join (g.Of X)) (λ X. join-split (g.Of X)) (λ X. split-join (g.Of X))
 
 abbrev vector_of : RattleType → RattleType
@@ -92,7 +92,7 @@ module _ (R S : RattleType) (h : R.Denot → S.Denot) where
   abbrev on_pointer : Arc (Vec R.Denot Global) Global → Arc (Vec S.Denot Global) Global
   on_pointer d = record { ptr = d.ptr; value = on_vector d.value }
 
-  abbrev on_block : Block R.Denot → Block S.Denot
+  abbrev pub on_block : Block R.Denot → Block S.Denot
   on_block = (blocks this).map R.Denot S.Denot h
 
   vector_places : Alike R S h → Alike (vector_of R) (vector_of S) on_vector
@@ -119,12 +119,12 @@ module _ (R S : RattleType) (h : R.Denot → S.Denot) where
   by_variant (Own v) = refl
   by_variant (Shared a) = refl
 
-  block_places : Alike R S h → Alike (block.the_row R) (block.the_row S) on_block
+  pub block_places : Alike R S h → Alike (block.the_row R) (block.the_row S) on_block
   unfolding part_of
   block_places a = enum_places (block.enum R) (block.enum S) ((on_vector, tt), ((on_pointer, tt), tt)) on_block by_variant refl
       ((laid _ _ _ (vector_places a), tt), ((laid _ _ _ (pointer_places a), tt), tt))
 
-  block_codes : Recodes R S h → Recodes (block.the_row R) (block.the_row S) on_block
+  pub block_codes : Recodes R S h → Recodes (block.the_row R) (block.the_row S) on_block
   unfolding part_of
   block_codes c = enum_codes (block.enum R) (block.enum S) ((on_vector, tt), ((on_pointer, tt), tt)) on_block by_variant
       ((vector_codes c, tt), ((pointer_codes c, tt), tt))
@@ -142,10 +142,10 @@ length-map f [] = refl
 length-map f (x ∷ xs) = ap suc (length-map f xs)
 
 -- and of their shape
-abbrev Shape : Type 0 → Type 0
+abbrev pub Shape : Type 0 → Type 0
 Shape X = Vec X Global ⊎ Arc (Vec X Global) Global
 
-abbrev shape_items : {X : Type 0} → Shape X → List X
+abbrev pub shape_items : {X : Type 0} → Shape X → List X
 shape_items (inl v) = v.items
 shape_items (inr a) = a.value.items
 

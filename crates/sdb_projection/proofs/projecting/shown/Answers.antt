@@ -7,8 +7,8 @@ use Rattle.sdb_projection.specs.View.{fields_of}
 use Rattle.sdb_projection.proofs.Walks.{Entry, one_shown, one_hidden}
 use Rattle.sdb_projection.proofs.projecting.shown.Goals as goal
 
-pub loop-key-preserved-in_ok-put_member : goal.loop-key-preserved-in_ok-put_member
-loop-key-preserved-in_ok-put_member c =
+pub loop-key-preserved-in_ok-put_at_key : goal.loop-key-preserved-in_ok-put_at_key
+loop-key-preserved-in_ok-put_at_key c =
     let fields = fields_of c.args.projection.now in
     let l = c.loop-key in
     let done = l.invariant.0 in
@@ -20,7 +20,7 @@ loop-key-preserved-in_ok-put_member c =
     let named : string_bytes c.in_ok-name.name ≡ e.0 = c.in_ok-name.ensures.ok in (
       done ++ e ∷ [],
       all ∙ sym (append_assoc done (e ∷ []) left),
-      c.in_ok-put_member.ensures.ok ∙ rw (named, c.in_ok-try_clone.ensures.value, l.invariant.2) last,
+      c.in_ok-put_at_key.ensures.ok ∙ rw (named, c.in_ok-try_clone.ensures.value, l.invariant.2) last,
     )
 
 pub loop-key-preserved : goal.loop-key-preserved

@@ -4,16 +4,19 @@ use Rattle.std.proofs.lemmas.Result.{err_from_is_err_and}
 use Rattle.serde_json.specs.Data as raw
 use Rattle.serde_json.specs.View as data-view
 use Rattle.sdb_json.specs.Tree.{sorted_members}
-use Rattle.sdb_members.specs.Members.{entries_in}
+use Rattle.sdb_members.specs.Member.{entry}
+use Rattle.sdb_members.specs.Members.{entries_in, is_own as members_own, pieces_in}
+use Rattle.sdb_pieces.specs.Pieces.{items_in}
 use Rattle.sdb_members.specs.Search.{texts}
-use Rattle.sdb_value.specs.Value.{join, items_depth, members_depth}
+use Rattle.sdb_value.specs.Value.{join, members_depth}
 use Rattle.sdb_value.specs.Profile.{of_items, Refuses, RefusesMembers}
 use Rattle.sdb_value.specs.View.{items_view, members_view}
 use Rattle.sdb_value.specs.declared.convert.ValueFault.{ValueFault}
 use Rattle.sdb_value.specs.declared.convert.ValueFault.TheVariants.{Number, Depth, Memory}
-use Rattle.sdb_value.specs.Owns.{items_own}
+use Rattle.sdb_value.specs.Owns.{items_own, values_own}
 use Rattle.sdb_value.proofs.Copying.{own_push}
-use Rattle.sdb_value.proofs.Read.{Entry, AreRead, names_more, all_ascend, object_low, object_made, read_more, read_all, low_push, member_more, member_none, member_deep}
+use Rattle.sdb_value.proofs.ListEdits.{both}
+use Rattle.sdb_value.proofs.Read.{Entry, AreMembers, entries_own, all_ascend, members_names, member_low, member_own, object_made, owns_of, read_more, read_all, low_push, member_more, member_none, member_deep}
 use Rattle.sdb_value.proofs.convert.+read.Goals as goal
 
 pub read_items-loop-item-preserved : goal.read_items-loop-item-preserved
@@ -43,15 +46,15 @@ refused_below f done e more n Number h = member_none f done e more h
 refused_below f done e more n Depth h = member_deep f done e more n h
 refused_below f done e more n Memory h = tt
 
-pub read_members-returns-in_err-new-clause-err : goal.read_members-returns-in_err-new-clause-err
-read_members-returns-in_err-new-clause-err g t c =
+pub read_members-returns-in_err-value-clause-err : goal.read_members-returns-in_err-value-clause-err
+read_members-returns-in_err-value-clause-err g t c =
     let f = g.D.JsonData.json in
     let e : Entry g.row.D.Denot = (c.in-Some.key.now, c.in-Some.member.now) in
     let l = c.loop-key in
     let all : c.args.members.now.entries ≡ l.invariant.done ++ e ∷ c.next.new.self = l.invariant.split ∙ ap (λ es. l.invariant.done ++ es) c.in-Some.ensures.steps in
-    let refused : RefusesMembers c.args.left (sorted_members f c.args.members.now.entries) c.in_err-new.field-0.0 =
-    rw all (refused_below f l.invariant.done e c.next.new.self c.args.left c.in_err-new.field-0.0 c.in_err-new.ensures.err) in
-    let r = c.from_residual-in_err-new in
+    let refused : RefusesMembers c.args.left (sorted_members f c.args.members.now.entries) c.in_err-value.field-0.0 =
+    rw all (refused_below f l.invariant.done e c.next.new.self c.args.left c.in_err-value.field-0.0 c.in_err-value.ensures.err) in
+    let r = c.from_residual-in_err-value in
     let p = err_from_is_err_and r.result r.ensures.1 in rw (p.1, p.2) refused
 
 pub read_members-loop-key-preserved : goal.read_members-loop-key-preserved
@@ -60,43 +63,46 @@ read_members-loop-key-preserved g t c =
     let done = l.invariant.done in
     let e : Entry g.row.D.Denot = (c.in-Some.key.now, c.in-Some.member.now) in
     let left = c.next.new.self in
-    let pushed = c.in_ok-push_item.ensures.ok in
+    let pushed = c.in_ok-push_member.ensures in
+    let ms = map entry l.entries.items in
     record {
       done = done ++ e ∷ [];
       split = l.invariant.split ∙ ap (λ es. done ++ es) c.in-Some.ensures.steps ∙ sym (append_assoc done (e ∷ []) left);
-      keys = c.in_ok-push_key.ensures ∙ ap (λ ts. ts ++ e.0.now ∷ []) l.invariant.keys ∙ sym (names_more done e);
-      reads = rw pushed (member_more g.D.JsonData.json done l.values.items e c.in_ok-new.new l.invariant.reads c.in_ok-new.ensures.ok);
-      low = rw pushed (low_push l.values.items c.in_ok-new.new c.args.left l.invariant.low c.in_ok-new.ensures.low);
-      own = ap items_own pushed ∙ own_push l.values.items c.in_ok-new.new l.invariant.own c.in_ok-new.ensures.own;
+      reads = rw pushed (member_more g.D.JsonData.json done ms e c.in_ok-value.value l.invariant.reads c.in_ok-value.ensures.ok);
+      low = rw pushed (member_low ms (e.0.now, c.in_ok-value.value) c.args.left l.invariant.low c.in_ok-value.ensures.low);
+      own = ap entries_own pushed ∙ member_own ms (e.0.now, c.in_ok-value.value) l.invariant.own c.in_ok-value.ensures.own;
     }
 
 pub read_members-loop-key-init : goal.read_members-loop-key-init
 read_members-loop-key-init g t c =
-    let none = c.in_ok-values.ensures.items in
+    let none = ap (map entry) c.in_ok-entries.ensures.items in
     record {
       done = [];
       split = sym (c.into_iter-key-iterator.ensures.into_iter_gives ∙ c.iter-key-items.ensures.rest);
-      keys = ap texts c.in_ok-keys.ensures.items;
-      reads = subst (AreRead g.D.JsonData.json []) (sym none) tt;
-      low = subst (λ vs. items_depth (items_view vs) ≤ c.args.left) (sym none) (omega arith);
-      own = ap items_own none;
+      reads = subst (AreMembers g.D.JsonData.json []) (sym none) tt;
+      low = subst (λ es. members_depth (members_view es) ≤ c.args.left) (sym none) (omega arith);
+      own = ap entries_own none;
     }
 
 pub read_members-from_sorted-requires : goal.read_members-from_sorted-requires
 read_members-from_sorted-requires g t c =
     let l = c.loop-key in
-    all_ascend c.args.members.now.entries l.invariant.done l.key-iterator (texts l.keys.items)
-    l.invariant.split c.in-None.ensures.steps.0 l.invariant.keys c.iter-key-items.ensures.ordered
+    all_ascend c.args.members.now.entries l.invariant.done l.key-iterator (texts l.entries.items)
+    l.invariant.split c.in-None.ensures.steps.0 (members_names g.D.JsonData.json l.invariant.done l.entries.items l.invariant.reads) c.iter-key-items.ensures.ordered
 
 pub read_members-returns-clause-ok : goal.read_members-returns-clause-ok
 read_members-returns-clause-ok g t c =
     let l = c.loop-key in
     let made = c.in_ok-from_sorted in
-    object_made g.D.JsonData.json c.args.members.now.entries l.invariant.done l.key-iterator (texts l.keys.items) l.values.items (entries_in made.field-0)
-    l.invariant.split c.in-None.ensures.steps.0 l.invariant.keys l.invariant.reads made.ensures.members
+    object_made g.D.JsonData.json c.args.members.now.entries l.invariant.done l.key-iterator (map entry l.entries.items) (entries_in made.field-0)
+    l.invariant.split c.in-None.ensures.steps.0 l.invariant.reads made.ensures.members
 
 pub read_members-returns-clause-low : goal.read_members-returns-clause-low
 read_members-returns-clause-low g t c =
-    let l = c.loop-key in
-    subst (λ es. members_depth (members_view es) ≤ c.args.left) (sym c.in_ok-from_sorted.ensures.members)
-    (object_low (texts l.keys.items) l.values.items c.args.left l.invariant.low)
+    subst (λ es. members_depth (members_view es) ≤ c.args.left) (sym c.in_ok-from_sorted.ensures.members) c.loop-key.invariant.low
+
+pub read_members-returns-clause-own : goal.read_members-returns-clause-own
+read_members-returns-clause-own g t c =
+    let m = c.in_ok-from_sorted.field-0 in
+    both (members_own m) (values_own (items_in (pieces_in m))) c.in_ok-from_sorted.ensures.own
+    (owns_of (items_in (pieces_in m)) ∙ ap entries_own c.in_ok-from_sorted.ensures.members ∙ c.loop-key.invariant.own)

@@ -1,12 +1,12 @@
 use Rattle.std.proofs.Common.{◌≡◌, ◌≤◌, ◌+◌, ◌*◌, List, ◌++◌, drop, map, true, option_map}
 use Rattle.serde_json.specs.Data as raw
 use Rattle.serde_json.specs.View as data-view
-use Rattle.sdb_members.specs.Search.{texts}
+use Rattle.sdb_members.specs.Member.{entry}
 use Rattle.sdb_value.specs.Owns.{items_own}
-use Rattle.sdb_value.specs.Value.{join, items_depth}
+use Rattle.sdb_value.specs.Value.{join, items_depth, members_depth}
 use Rattle.sdb_value.specs.Profile.{of_items}
-use Rattle.sdb_value.specs.View.{items_view}
-use Rattle.sdb_value.proofs.Read.{Entry, AreRead, names}
+use Rattle.sdb_value.specs.View.{items_view, members_view}
+use Rattle.sdb_value.proofs.Read.{Entry, AreMembers, entries_own}
 use Rattle.sdb_value.proofs.convert.+read.Given as goal
 
 abbrev pub invariant-read_items-loop-item : goal.invariant-read_items-loop-item
@@ -22,10 +22,9 @@ abbrev pub invariant-read_members-loop-key : goal.invariant-read_members-loop-ke
 invariant-read_members-loop-key g l = record {
   done : List (Entry g.row.D.Denot);
   split : l.members.entries ≡ done ++ l.key-iterator;
-  keys : texts l.keys.items ≡ names done;
-  reads : AreRead g.D.JsonData.json done l.values.items;
-  low : items_depth (items_view l.values.items) ≤ l.left;
-  own : items_own l.values.items ≡ true;
+  reads : AreMembers g.D.JsonData.json done (map entry l.entries.items);
+  low : members_depth (members_view (map entry l.entries.items)) ≤ l.left;
+  own : entries_own (map entry l.entries.items) ≡ true;
 }
 
 abbrev pub decreases-read : goal.decreases-read

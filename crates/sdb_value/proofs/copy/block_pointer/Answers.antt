@@ -1,15 +1,16 @@
 use Rattle.std.proofs.Common.{◌≡◌, true, ap}
 use Rattle.sdb_pieces.specs.Block.{is_shared as block_shared}
-use Rattle.sdb_value.specs.View.{items_view}
-use Rattle.sdb_value.proofs.Copying.{some_of, found_of, none_of, block_pointed, not_shared_own}
+use Rattle.sdb_value.proofs.Copying.{some_of, found_of, none_of, not_shared_own}
 use Rattle.sdb_value.proofs.copy.block_pointer.Goals as goal
 
 pub returns-in_default : goal.returns-in_default
-returns-in_default c =
+returns-in_default g c =
     let b = c.args.block.now in
     let e = c.share_pointer.ensures in
     record {
-      items = some_of c.share_pointer.result (λ x h. ap items_view h) e.same;
-      own = found_of {P = λ x. block_shared x ≡ true} c.share_pointer.result (block_shared b) (λ x was now. block_pointed c.args.manner b x c.in_default.not-Own was now) e.found e.shared;
+      same = e.same;
+      shared = e.shared;
+      was = found_of {P = λ x. block_shared x ≡ true} c.share_pointer.result (block_shared b) (λ x was now. was) e.found e.shared;
+      other = some_of {P = λ x. block_shared x ≡ true} c.share_pointer.result (λ x now. c.in_default.not-Own) e.shared;
       none = none_of c.share_pointer.result (block_shared b) e.found (λ h _. not_shared_own b h);
     }

@@ -1,19 +1,28 @@
-use Rattle.std.proofs.Common.{sym, ap, ◌∙◌}
-use Rattle.sdb_members.specs.declared.object.Object.TheVariants.{Shared}
-use Rattle.sdb_value.specs.Owns.{is_own, held_own}
-use Rattle.sdb_value.specs.View.{held_view, object_view}
-use Rattle.sdb_value.proofs.Copying.{value_object}
+use Rattle.std.proofs.Common.{◌≡◌, true, sym, ap, ◌∙◌}
+use Rattle.std.specs.Option.{is_some}
+use Rattle.sdb_members.specs.Members.{entries_in, is_shared, pieces_in}
+use Rattle.sdb_value.specs.Owns.{is_own}
+use Rattle.sdb_value.proofs.Copying.{if_some_at, value_object, members_again, shared_list_own, value_own}
 use Rattle.sdb_value.proofs.Owned.{owned_object, pointer_object}
 use Rattle.sdb_value.proofs.copy.object_again.Goals as goal
 
-pub returns-clause-value : goal.returns-clause-value
-returns-clause-value c =
-    value_object c.args.value.now c.in-Object.object (Shared c.in_ok-members.members) c.in-Object.is
-    (ap object_view c.in_ok-members.ensures ∙ ap held_view (sym c.in-Shared.is))
+pub returns-in-Some-clause-value : goal.returns-in-Some-clause-value
+returns-in-Some-clause-value c =
+    let m = c.in-Object.members in
+    let new = c.in-Some.members in
+    let o = c.in_ok-members-in-Object.field-0 in
+    value_object c.args.value.now m new c.in-Object.is (members_again m new (if_some_at (λ n. entries_in n ≡ entries_in m) o new c.in-Some.is c.in_ok-members-in-Object.ensures.same))
 
-pub returns-clause-own : goal.returns-clause-own
-returns-clause-own c =
-    owned_object (Shared c.in_ok-members.members) ∙ sym (ap is_own c.in-Object.is ∙ owned_object c.in-Object.object ∙ ap held_own c.in-Shared.is)
+pub returns-in-Some-clause-own : goal.returns-in-Some-clause-own
+returns-in-Some-clause-own c =
+    let m = c.in-Object.members in
+    let new = c.in-Some.members in
+    let o = c.in_ok-members-in-Object.field-0 in
+    let now = if_some_at (λ n. is_shared n ≡ true) o new c.in-Some.is c.in_ok-members-in-Object.ensures.shared in
+    let was : is_shared m ≡ true = sym c.in_ok-members-in-Object.ensures.found ∙ ap is_some c.in-Some.is in
+    owned_object new ∙ shared_list_own value_own (pieces_in new) now ∙ sym (ap is_own c.in-Object.is ∙ owned_object m ∙ shared_list_own value_own (pieces_in m) was)
 
-pub returns-clause-pointer : goal.returns-clause-pointer
-returns-clause-pointer c = pointer_object (Shared c.in_ok-members.members)
+pub returns-in-Some-clause-pointer : goal.returns-in-Some-clause-pointer
+returns-in-Some-clause-pointer c =
+    pointer_object c.in-Some.members
+    ∙ if_some_at (λ n. is_shared n ≡ true) c.in_ok-members-in-Object.field-0 c.in-Some.members c.in-Some.is c.in_ok-members-in-Object.ensures.shared

@@ -1,24 +1,20 @@
-use Rattle.std.proofs.Common.{ap, sym, ◌∙◌}
-use Rattle.std.proofs.lemmas.Result.{on_err_weaker}
-use Rattle.sdb_members.specs.Members.{is_own as members_own}
-use Rattle.sdb_value.specs.Owns.{object_own}
-use Rattle.sdb_value.proofs.Puts.{holds_inside, not_held, own_inside}
+use Rattle.sdb_value.specs.FrontLaws.{on_any_err}
+use Rattle.sdb_value.proofs.Puts.{object_without, object_kept, not_held, own_removed}
 use Rattle.sdb_value.proofs.members.remove_at_key.Goals as goal
+
+pub returns-in_err-remove-clause-err : goal.returns-in_err-remove-clause-err
+returns-in_err-remove-clause-err c = on_any_err c.from_residual.result (object_kept c.args.members.now c.remove.new.self c.in_err-remove.ensures.err)
+
+pub returns-in_err-remove-clause-own : goal.returns-in_err-remove-clause-own
+returns-in_err-remove-clause-own c own =
+    own_removed c.remove.result c.args.members.now c.remove.new.self c.args.key.now c.remove.ensures.ok c.remove.ensures.err c.remove.ensures.own own
+
+pub returns-in_err-remove-clause-shared : goal.returns-in_err-remove-clause-shared
+returns-in_err-remove-clause-shared c = on_any_err c.from_residual.result (not_held c.args.members.now c.in_err-remove.ensures.shared)
+
+pub returns-clause-ok : goal.returns-clause-ok
+returns-clause-ok c = object_without c.args.members.now c.remove.new.self c.args.key.now c.in_ok-remove.ensures.ok
 
 pub returns-clause-own : goal.returns-clause-own
 returns-clause-own c own =
-    c.remove_member.ensures.own (ap object_own c.deref_mut.ensures.value
-    ∙ own_inside c.make_own.new.object c.in-Own.members c.in-Own.is c.args.object.now c.make_own.ensures.own own)
-
-pub returns-clause-memory : goal.returns-clause-memory
-returns-clause-memory c =
-    on_err_weaker c.remove_member.result
-    (λ h. holds_inside c.make_own.new.object c.in-Own.members c.in-Own.is c.args.object.now c.make_own.ensures.own
-    (ap members_own (sym c.deref_mut.ensures.value) ∙ h)) c.remove_member.ensures.shared
-
-pub returns-clause-shared : goal.returns-clause-shared
-returns-clause-shared c =
-    on_err_weaker c.remove_member.result
-    (λ h. not_held c.args.object.now (holds_inside c.make_own.new.object c.in-Own.members c.in-Own.is c.args.object.now c.make_own.ensures.own
-    (ap members_own (sym c.deref_mut.ensures.value) ∙ h)))
-    c.remove_member.ensures.shared
+    own_removed c.remove.result c.args.members.now c.remove.new.self c.args.key.now c.remove.ensures.ok c.remove.ensures.err c.remove.ensures.own own

@@ -8,7 +8,7 @@ abbrev pub decreases-change_item : goal.decreases-change_item
 decreases-change_item g l = 4 * length l.rest.now + 1
 
 abbrev pub decreases-change_value : goal.decreases-change_value
-decreases-change_value g l = 4 * length l.rest.now + 2
+decreases-change_value g l = 4 * length l.rest.now + 1
 
 abbrev pub decreases-change_member : goal.decreases-change_member
 decreases-change_member g l = 4 * length l.rest.now + 3

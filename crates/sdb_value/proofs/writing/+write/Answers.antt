@@ -62,14 +62,12 @@ write-returns-in_ok-begin_array-in-List-clause-err t c =
 
 pub write-returns-in_ok-begin_object-in-Object-clause-tokens : goal.write-returns-in_ok-begin_object-in-Object-clause-tokens
 write-returns-in_ok-begin_object-in-Object-clause-tokens t c =
-    object_written c.write_members.result c.args.value.now c.in-Object.object c.args.out.now.tokens c.begin_object.new.self.tokens c.write_members.new.out.tokens c.in-Object.is
+    object_written c.write_members.result c.args.value.now c.in-Object.members c.args.out.now.tokens c.begin_object.new.self.tokens c.write_members.new.out.tokens c.in-Object.is
     c.in_ok-begin_object-in-Object.ensures.ok
-    (subst (λ m. OnOk c.write_members.result (c.write_members.new.out.tokens ≡ c.begin_object.new.self.tokens ++ object_rest (to_members (object_view m))))
-    c.members.ensures c.write_members.ensures.tokens)
+    c.write_members.ensures.tokens
 
 pub write-returns-in_ok-begin_object-in-Object-clause-err : goal.write-returns-in_ok-begin_object-in-Object-clause-err
 write-returns-in_ok-begin_object-in-Object-clause-err t c =
-    object_front c.write_members.result c.args.value.now c.in-Object.object c.args.out.now.tokens c.begin_object.new.self.tokens c.write_members.new.out.tokens c.in-Object.is
+    object_front c.write_members.result c.args.value.now c.in-Object.members c.args.out.now.tokens c.begin_object.new.self.tokens c.write_members.new.out.tokens c.in-Object.is
     c.in_ok-begin_object-in-Object.ensures.ok
-    (subst (λ m. OnErr c.write_members.result (WritesFront c.begin_object.new.self.tokens c.write_members.new.out.tokens (object_rest (to_members (object_view m)))))
-    c.members.ensures c.write_members.ensures.err)
+    c.write_members.ensures.err

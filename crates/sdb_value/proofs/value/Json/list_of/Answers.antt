@@ -4,7 +4,7 @@ use Rattle.sdb_value.specs.Owns.{items_own}
 use Rattle.sdb_value.specs.Value.{list}
 use Rattle.sdb_value.specs.View.{items_view}
 use Rattle.sdb_value.proofs.Owned.{owned_list}
-use Rattle.sdb_value.proofs.Pairs.{both_own}
+use Rattle.sdb_value.proofs.ListEdits.{both as both_own}
 use Rattle.sdb_value.proofs.Views.{seen_list}
 use Rattle.sdb_value.proofs.value.Json.list_of.Goals as goal
 
