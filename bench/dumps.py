@@ -13,7 +13,7 @@ import tempfile
 
 HERE = os.path.dirname(os.path.abspath(__file__))
 CRATES = os.path.join(HERE, "..", "crates")
-STEPS = os.path.join(CRATES, "sdb_steps_program", "out", "sdb_steps_program")
+STEPS = os.path.join(CRATES, "sdb_steps_main", "out", "sdb_steps_main")
 BENCH = os.path.join(CRATES, "sdb_bench", "out", "sdb_bench")
 TYPE = "http://sharejs.org/types/JSONv0"
 DOCUMENTS = 64

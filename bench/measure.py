@@ -8,7 +8,7 @@ import tempfile
 import time
 
 HERE = os.path.dirname(os.path.abspath(__file__))
-SERVER = os.path.join(HERE, "..", "crates", "sdb_server_program", "out", "sdb_server_program")
+SERVER = os.path.join(HERE, "..", "crates", "sdb_server_main", "out", "sdb_server_main")
 BENCH = os.path.join(HERE, "..", "crates", "sdb_bench", "out", "sdb_bench")
 RUNS = 15
 

@@ -125,7 +125,7 @@ def main(words):
     if words[:1] == ["--lines"]:
         return write_lines(int(words[1]), words[2] == "named", sys.stdout)
     runs = int(words[0]) if words else 7
-    plain, program = [build("sdb_bench", "json"), "json"], [build("sdb_steps_program")]
+    plain, program = [build("sdb_bench", "json"), "json"], [build("sdb_steps_main")]
     compare("one document, no edit names a version", plain, program, (1, False), runs)
     compare("64 documents, no edit names a version", plain, program, (64, False), runs)
     compare("64 documents, each edit names one", plain, program, (64, True), runs)

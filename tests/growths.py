@@ -1,7 +1,7 @@
 """Refuses each allocation of the calls of a table in turn, and looks at what comes of it: python3 tests/growths.py
 
 What it tries is what `rt ci` or `rt test` and `rt run` have built: runs of the two programs, and the tests of the modules growths
-of sdb_lower_tests and sdb_upper_tests. A line for each call says how many allocations were refused, how many of them inside the
+of sdb_model_tests and sdb_service_tests. A line for each call says how many allocations were refused, how many of them inside the
 call, and how many runs went wrong; the status is 1 where one did, or where no allocation stood inside a call.
 
 A run of a program is inside its call from end to end. Where the work on a request or a step finds no memory, it is answered E10
@@ -20,9 +20,9 @@ import tempfile
 
 HERE = os.path.dirname(os.path.abspath(__file__))
 CRATES = os.path.join(HERE, "..", "crates")
-SERVER = [os.path.join(CRATES, "sdb_server_program", "out", "sdb_server_program"), "--lines", "--projection", "titles=boards:title"]
-STEPS = [os.path.join(CRATES, "sdb_steps_program", "out", "sdb_steps_program")]
-TESTS = [os.path.join(CRATES, crate, "out", f"{crate}_tests") for crate in ("sdb_lower_tests", "sdb_upper_tests")]
+SERVER = [os.path.join(CRATES, "sdb_server_main", "out", "sdb_server_main"), "--lines", "--projection", "titles=boards:title"]
+STEPS = [os.path.join(CRATES, "sdb_steps_main", "out", "sdb_steps_main")]
+TESTS = [os.path.join(CRATES, crate, "out", f"{crate}_tests") for crate in ("sdb_model_tests", "sdb_service_tests")]
 FAULT = b"fault: memory\n"
 WANTING = (b"ERR_OUT_OF_MEMORY", b'{"error":"E10"}')
 # how a test ends that finds no memory around its call

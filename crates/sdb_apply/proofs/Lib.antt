@@ -1,4 +1,4 @@
-pub mod Changes
-pub mod Lists
-pub mod Outcomes
-pub mod Under
+pub mod ChangeLemmas
+pub mod FoldLemmas
+pub mod OutcomeLemmas
+pub mod BelowLemmas

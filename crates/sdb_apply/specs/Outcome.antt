@@ -1,36 +1,36 @@
 -- How a change in place ends.
 use Rattle.std.specs.Prelude.{◌≡◌, ℕ, zero, suc, List, [], ◌∷◌, Bool, true, false, if◌then◌else◌, Option, Some, None, Result, Ok, Err, ⊤}
 use Rattle.sdb_component.specs.Plain.{PlainAct, na, sd, ld, od, PlainComponent}
-use Rattle.sdb_apply.specs.declared.applying.ApplyFault.{ApplyFault}
-use Rattle.sdb_apply.specs.declared.applying.ApplyFault.TheVariants.{NotApplied, Memory}
+use Rattle.sdb_apply.specs.declared.op_apply.ApplyFault.{ApplyFault}
+use Rattle.sdb_apply.specs.declared.op_apply.ApplyFault.TheVariants.{NotApplied, OutOfMemory}
 
 -- only what puts something in takes memory
-abbrev pub takes_memory : PlainAct → Bool
-takes_memory (na x) = false
-takes_memory (sd p s) = false
-takes_memory (ld i x) = false
-takes_memory (od k x) = false
-takes_memory _ = true
+abbrev pub act_allocates : PlainAct → Bool
+act_allocates (na x) = false
+act_allocates (sd p s) = false
+act_allocates (ld i x) = false
+act_allocates (od k x) = false
+act_allocates _ = true
 
 -- the component that stands behind i others does
-abbrev pub takes_memory_at : ℕ → List PlainComponent → Bool
-takes_memory_at i [] = false
-takes_memory_at zero (c ∷ cs) = takes_memory c.act
-takes_memory_at (suc i) (c ∷ cs) = takes_memory_at i cs
+abbrev pub act_allocates_at : ℕ → List PlainComponent → Bool
+act_allocates_at i [] = false
+act_allocates_at zero (c ∷ cs) = act_allocates c.act
+act_allocates_at (suc i) (c ∷ cs) = act_allocates_at i cs
 
 -- done, and the value is the effect; not applied, there is none, and the value is as it was; or memory was
 -- wanting, and the value is as it was
-abbrev pub Outcome : {A : Type 0} → Bool → Result ⊤ ApplyFault → Option A → A → A → Type 0
-Outcome grows (Ok _) o d e = o ≡ Some e
-Outcome grows (Err NotApplied) o d e = (o ≡ None) × (e ≡ d)
-Outcome grows (Err Memory) o d e = (grows ≡ true) × (e ≡ d)
+abbrev pub IsApplyOutcome : {A : Type 0} → Bool → Result ⊤ ApplyFault → Option A → A → A → Type 0
+IsApplyOutcome grows (Ok _) o d e = o ≡ Some e
+IsApplyOutcome grows (Err NotApplied) o d e = (o ≡ None) × (e ≡ d)
+IsApplyOutcome grows (Err OutOfMemory) o d e = (grows ≡ true) × (e ≡ d)
 
 -- what is its owner's own takes memory only for what is put in; what is shared may take some
-abbrev pub needs : Bool → Bool → Bool
-needs takes own = if own then takes else true
+abbrev pub may_allocate : Bool → Bool → Bool
+may_allocate takes own = if own then takes else true
 
 -- one component takes memory where its act does; of several, the place that they share is made shared
-abbrev pub whole_takes_memory : List PlainComponent → Bool
-whole_takes_memory [] = false
-whole_takes_memory (c ∷ []) = takes_memory c.act
-whole_takes_memory (c ∷ o ∷ cs) = true
+abbrev pub atomic_apply_allocates : List PlainComponent → Bool
+atomic_apply_allocates [] = false
+atomic_apply_allocates (c ∷ []) = act_allocates c.act
+atomic_apply_allocates (c ∷ o ∷ cs) = true

@@ -1,10 +1,10 @@
 //! Operations applied to a value in place.
 #![tactic(auto)]
 
-mod acts;
-mod applying;
+mod act;
+mod atomic_apply;
 pub mod laws;
-mod whole;
+mod op_apply;
 
-pub use applying::{ApplyFault, Refused, apply, apply_at, apply_one};
-pub use whole::apply_whole;
+pub use atomic_apply::apply_atomic;
+pub use op_apply::{ApplyFault, Refused, apply, apply_at, apply_one};

@@ -1,11 +1,11 @@
-mod Values
-pub mod Crossing
-pub mod Ended
-pub mod Gathering
-pub mod Growth
-pub mod Handing
-pub mod Searches
-pub mod Seen
-pub mod Steps
-pub mod Leaving
-pub mod Replays
+mod ValueSend
+pub mod SendSync
+pub mod CloseLemmas
+pub mod GatherLemmas
+pub mod HistoryGrowth
+pub mod ReplySend
+pub mod SearchLemmas
+pub mod SeenLemmas
+pub mod StepLemmas
+pub mod OpenCountLemmas
+pub mod ReplayLemmas

@@ -1,7 +1,7 @@
 //! What was stored, once nobody can store any more.
 ghost use Rattle.std.specs.Prelude.{◌≡◌, length};
 
-use crate::held::Held;
+use crate::shard_value::Held;
 use std::alloc::Global;
 
 /// The logs of all documents of a backend that was closed.
@@ -9,7 +9,7 @@ use std::alloc::Global;
 pub struct Audit {
     pub(crate) alloc: Global,
     pub(crate) shards: Vec<Held>,
-    ghost eight: { length shards.items ≡ 8 },
+    ghost has_every_shard: { length shards.items ≡ 8 },
 }
 
 impl Audit {

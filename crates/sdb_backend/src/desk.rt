@@ -2,18 +2,19 @@
 ghost use Rattle.std.specs.Prelude.{◌≡◌, IfOk, Some, option_map};
 ghost use Rattle.sdb_oplog.specs.Keys.{plain_key};
 ghost use Rattle.sdb_desk.specs.ReplyView.{plain_reply};
-ghost use Rattle.sdb_desk.specs.View.{told_fetched};
-ghost use Rattle.sdb_submit.specs.Calls.{at_time, commit_now, snapshot};
-ghost use Rattle.sdb_backend.specs.Calls.{Answered, IsLookOf, Adds, TakesOn};
-ghost use Rattle.sdb_backend.specs.Passes.{number_of, IsPass};
+ghost use Rattle.sdb_desk.specs.View.{fetch_result_view};
+ghost use Rattle.sdb_submit.specs.Calls.{snapshot_at_time, commit_now, snapshot};
+ghost use Rattle.sdb_backend.specs.CallAnswers.{AnsweredAtExtension, IsLookSeenBy, AddsEntry, TakeContinues};
+ghost use Rattle.sdb_backend.specs.PassModel.{pass_number, IsPassOfBackend};
 
 use crate::backend::Backend;
 use crate::jobs::{
-    AtTime, Commit, CommitLast, CommitNow, Fetch, Forget, Lend, LendThen, LentThen,
-    Look as Looking, Offer, OpsBetween, OpsFrom, SnapshotAt, Subscribe, Take, Unsubscribe, Version,
+    CommitJob, CommitLastJob, CommitNowJob, FetchJob, ForgetJob, LookJob as Looking, OfferJob,
+    OpsBetweenJob, OpsFromJob, ReplayBaseAt, ReplayBaseAtMomentJob, ReplayBaseJob, SnapshotAtJob,
+    SnapshotAtTimeJob, SubscribeJob, TakeJob, UnsubscribeJob, VersionJob,
 };
-use crate::seats::Pass;
-use sdb_desk::{Fetched, Lent, Look, Outcome, Reply, Subscribed, Work};
+use crate::pass::Pass;
+use sdb_desk::{FetchResult, Look, Outcome, ReplayBase, Reply, SubscribeResult, Work};
 use sdb_oplog::{Code, Entry, Key, Moment, Submission};
 use sdb_submit::{Desk, Gate, submit};
 use sdb_subscribe::SubId;
@@ -25,13 +26,13 @@ use std::sync::Wait;
 impl<R: Wait + Drop> Desk for Backend<R> {
     type Pass = Pass;
 
-    ghost takes = { λ b p. IsPass p b };
+    ghost accepts = { λ b p. IsPassOfBackend p b };
 
-    ghost number = { λ b p. number_of p };
+    ghost pass_number = { λ b p. pass_number p };
 
-    ghost acts = { λ b k c p a q. Answered k c p a q };
+    ghost step = { λ b k c p a q. AnsweredAtExtension k c p a q };
 
-    ghost looked = { λ b k a p. IsLookOf p k a };
+    ghost has_seen = { λ b k a p. IsLookSeenBy p k a };
 
     fn look(
         &self,
@@ -43,13 +44,13 @@ impl<R: Wait + Drop> Desk for Backend<R> {
     }
 
     fn commit(&self, pass: &mut Pass, key: &Key, work: &mut Work, now: Moment) -> Outcome {
-        let commit = Commit {
+        let commit = CommitJob {
             key,
             work: &*work,
             now,
         };
         let decision = self.run(pass, key, commit);
-        work.conclude(self.alloc, decision)
+        work.finish(self.alloc, decision)
     }
 
     fn commit_now(
@@ -59,7 +60,7 @@ impl<R: Wait + Drop> Desk for Backend<R> {
         submission: &Submission,
         now: Moment,
     ) -> Reply {
-        let commit = CommitNow {
+        let commit = CommitNowJob {
             key,
             submission,
             now,
@@ -68,19 +69,19 @@ impl<R: Wait + Drop> Desk for Backend<R> {
     }
 
     fn commit_last(&self, pass: &mut Pass, key: &Key, work: Work, now: Moment) -> Reply {
-        self.run(pass, key, CommitLast { key, work, now })
+        self.run(pass, key, CommitLastJob { key, work, now })
     }
 
     fn version(&self, pass: &mut Pass, key: &Key) -> u64 {
-        self.run(pass, key, Version { key })
+        self.run(pass, key, VersionJob { key })
     }
 
-    fn fetch(&self, pass: &mut Pass, key: &Key) -> Result<Fetched, Code> {
-        self.run(pass, key, Fetch { key })
+    fn fetch(&self, pass: &mut Pass, key: &Key) -> Result<FetchResult, Code> {
+        self.run(pass, key, FetchJob { key })
     }
 
     fn ops_from(&self, pass: &mut Pass, key: &Key, version: u64) -> Result<Vec<Entry>, Code> {
-        self.run(pass, key, OpsFrom { key, version })
+        self.run(pass, key, OpsFromJob { key, version })
     }
 
     fn ops_between(
@@ -90,7 +91,7 @@ impl<R: Wait + Drop> Desk for Backend<R> {
         from: u64,
         to: u64,
     ) -> Result<Vec<Entry>, AllocError> {
-        self.run(pass, key, OpsBetween { key, from, to })
+        self.run(pass, key, OpsBetweenJob { key, from, to })
     }
 
     fn snapshot_at(
@@ -98,22 +99,27 @@ impl<R: Wait + Drop> Desk for Backend<R> {
         pass: &mut Pass,
         key: &Key,
         version: Option<u64>,
-    ) -> Result<Fetched, Code> {
+    ) -> Result<FetchResult, Code> {
         match version {
             Some(version) => self.snapshot_of(pass, key, version),
-            None => self.run(pass, key, SnapshotAt { key, version }),
+            None => self.run(pass, key, SnapshotAtJob { key, version }),
         }
     }
 
-    fn at_time(&self, pass: &mut Pass, key: &Key, moment: Option<Moment>) -> Result<Fetched, Code> {
+    fn snapshot_at_time(
+        &self,
+        pass: &mut Pass,
+        key: &Key,
+        moment: Option<Moment>,
+    ) -> Result<FetchResult, Code> {
         match moment {
-            Some(moment) => self.document_then(pass, key, moment),
-            None => self.run(pass, key, AtTime { key, moment }),
+            Some(moment) => self.snapshot_at_moment(pass, key, moment),
+            None => self.run(pass, key, SnapshotAtTimeJob { key, moment }),
         }
     }
 
     fn forget(&self, pass: &mut Pass, key: &Key) {
-        self.run(pass, key, Forget { key })
+        self.run(pass, key, ForgetJob { key })
     }
 
     fn subscribe(
@@ -121,8 +127,8 @@ impl<R: Wait + Drop> Desk for Backend<R> {
         pass: &mut Pass,
         key: &Key,
         version: Option<u64>,
-    ) -> Result<Subscribed, Code> {
-        self.run(pass, key, Subscribe { key, version })
+    ) -> Result<SubscribeResult, Code> {
+        self.run(pass, key, SubscribeJob { key, version })
     }
 
     fn take(
@@ -132,11 +138,11 @@ impl<R: Wait + Drop> Desk for Backend<R> {
         id: SubId,
         max: u64,
     ) -> Result<Option<Vec<Entry>>, AllocError> {
-        self.run(pass, key, Take { key, id, max })
+        self.run(pass, key, TakeJob { key, id, max })
     }
 
     fn unsubscribe(&self, pass: &mut Pass, key: &Key, id: SubId) {
-        self.run(pass, key, Unsubscribe { key, id })
+        self.run(pass, key, UnsubscribeJob { key, id })
     }
 
     fn by(&self, pass: &Pass) -> u64 {
@@ -147,55 +153,63 @@ impl<R: Wait + Drop> Desk for Backend<R> {
 impl<R: Wait + Drop> Backend<R> {
     // The document at a version. What it is made of is lent under the lock, and replayed without it; what was
     // replayed is offered then.
-    fn snapshot_of(&self, pass: &mut Pass, key: &Key, version: u64) -> Result<Fetched, Code>
-        requires { IsPass pass.old self.now }
-        ensures pass { IsPass pass.new self.now }
-        ensures answered { Answered (plain_key key.now) (snapshot (Some version)) pass.old
-            (told_fetched result) pass.new }
+    fn snapshot_of(&self, pass: &mut Pass, key: &Key, version: u64) -> Result<FetchResult, Code>
+        requires { IsPassOfBackend pass.old self.now }
+        ensures pass { IsPassOfBackend pass.new self.now }
+        ensures answered { AnsweredAtExtension (plain_key key.now) (snapshot (Some version)) pass.old
+            (fetch_result_view result) pass.new }
     {
-        let lent = self.run(pass, key, Lend { key, version })?;
+        let lent = self.run(pass, key, ReplayBaseJob { key, version })?;
         if lent.entries.is_empty() {
-            let Lent { snapshot, .. } = lent;
-            return Ok(Fetched { version, snapshot });
+            let ReplayBase { snapshot, .. } = lent;
+            return Ok(FetchResult { version, snapshot });
         }
         let snapshot = lent.replay(self.alloc)?;
-        let offer = Offer {
+        let offer = OfferJob {
             key,
             version,
             snapshot: &snapshot,
         };
         self.run(pass, key, offer);
-        Ok(Fetched { version, snapshot })
+        Ok(FetchResult { version, snapshot })
     }
 
     // The version at a moment, and the document there, replayed without the lock as that of a version is. What is
     // stored meanwhile has a later moment, unless the version was the present one, whose document is lent whole.
-    fn document_then(&self, pass: &mut Pass, key: &Key, moment: Moment) -> Result<Fetched, Code>
-        requires { IsPass pass.old self.now }
-        ensures pass { IsPass pass.new self.now }
-        ensures answered { Answered (plain_key key.now) (at_time (Some moment)) pass.old
-            (told_fetched result) pass.new }
+    fn snapshot_at_moment(
+        &self,
+        pass: &mut Pass,
+        key: &Key,
+        moment: Moment,
+    ) -> Result<FetchResult, Code>
+        requires { IsPassOfBackend pass.old self.now }
+        ensures pass { IsPassOfBackend pass.new self.now }
+        ensures answered { AnsweredAtExtension (plain_key key.now) (snapshot_at_time (Some moment)) pass.old
+            (fetch_result_view result) pass.new }
     {
-        let LentThen { version, lent } = self.run(pass, key, LendThen { key, moment })?;
+        let ReplayBaseAt {
+            version,
+            base: lent,
+        } = self.run(pass, key, ReplayBaseAtMomentJob { key, moment })?;
         if lent.entries.is_empty() {
-            let Lent { snapshot, .. } = lent;
-            return Ok(Fetched { version, snapshot });
+            let ReplayBase { snapshot, .. } = lent;
+            return Ok(FetchResult { version, snapshot });
         }
         let snapshot = lent.replay(self.alloc)?;
-        let offer = Offer {
+        let offer = OfferJob {
             key,
             version,
             snapshot: &snapshot,
         };
         self.run(pass, key, offer);
-        Ok(Fetched { version, snapshot })
+        Ok(FetchResult { version, snapshot })
     }
 }
 
 /// Submits at a moment: the submission is decided in one step, at a history that extends all that the pass has seen.
 /// A reply that it is stored adds the one entry to what stands under the number of the pass, and any
 /// other adds none.
-pub fn submit_shared<R: Wait + Drop, G: Gate>(
+pub fn submit_is_atomic<R: Wait + Drop, G: Gate>(
     alloc: Global,
     backend: &Backend<R>,
     pass: &mut Pass,
@@ -204,29 +218,29 @@ pub fn submit_shared<R: Wait + Drop, G: Gate>(
     now: Moment,
     gate: &G,
 ) -> Reply
-    requires pass { IsPass pass.old backend.now }
-    requires by { submission.now.by ≡ number_of pass.old }
-    ensures pass { IsPass pass.new backend.now }
-    ensures decides { Answered (plain_key key.now) (commit_now submission.now now) pass.old
+    requires pass { IsPassOfBackend pass.old backend.now }
+    requires by { submission.now.by ≡ pass_number pass.old }
+    ensures pass { IsPassOfBackend pass.new backend.now }
+    ensures decides { AnsweredAtExtension (plain_key key.now) (commit_now submission.now now) pass.old
         (plain_reply result) pass.new }
-    ensures adds { Adds (plain_key key.now) submission.now now pass.old (plain_reply result) pass.new }
+    ensures adds { AddsEntry (plain_key key.now) submission.now now pass.old (plain_reply result) pass.new }
 {
     submit(alloc, backend, pass, key, submission, now, gate)
 }
 
 /// The next entries of a queue of the pass, at most `max`, from where its last take ended; `None` where
 /// the pass has no open queue of this number.
-pub fn take_shared<R: Wait + Drop>(
+pub fn take_is_fifo<R: Wait + Drop>(
     backend: &Backend<R>,
     pass: &mut Pass,
     key: &Key,
     id: SubId,
     max: u64,
 ) -> Result<Option<Vec<Entry>>, AllocError>
-    requires { IsPass pass.old backend.now }
-    ensures pass { IsPass pass.new backend.now }
+    requires { IsPassOfBackend pass.old backend.now }
+    ensures pass { IsPassOfBackend pass.new backend.now }
     ensures entries { IfOk result
-        (λ v. TakesOn (plain_key key.now) id max pass.old (option_map (λ es. es.items) v) pass.new) }
+        (λ v. TakeContinues (plain_key key.now) id max pass.old (option_map (λ es. es.items) v) pass.new) }
 {
     backend.take(pass, key, id, max)
 }

@@ -3,35 +3,37 @@ ghost use Rattle.std.specs.Prelude.{◌≡◌, option_map};
 ghost use Rattle.sdb_oplog.specs.Decide.{IsMade};
 ghost use Rattle.sdb_oplog.specs.Keys.{plain_key};
 ghost use Rattle.sdb_desk.specs.ShardView.{machine_of, logs_of};
-ghost use Rattle.sdb_desk.specs.Looked.{IsLook};
-ghost use Rattle.sdb_desk.specs.View.{outcome_of, told_fetched, told_entries, told_subscribed, told_taken};
+ghost use Rattle.sdb_desk.specs.LookLaws.{IsLook};
+ghost use Rattle.sdb_desk.specs.View.{outcome_of_decision, fetch_result_view, entries_view, subscribe_result_view, taken_view};
 ghost use Rattle.sdb_desk.specs.ReplyView.{plain_reply};
-ghost use Rattle.sdb_submit.specs.Calls.{Acts, told_copies, told_look};
+ghost use Rattle.sdb_submit.specs.Calls.{MachineStep, copied_entries_view, look_view};
 ghost use Rattle.sdb_submit.specs.Calls as call;
-ghost use Rattle.sdb_value.specs.View.{view};
-ghost use Rattle.sdb_desk.specs.Machine.{Same};
-ghost use Rattle.sdb_backend.specs.Lending.{IsAt, IsLent, IsLentThen, told_lent, told_lent_then};
+ghost use Rattle.sdb_value.specs.View.{value_of};
+ghost use Rattle.sdb_desk.specs.Machine.{IsUnchanged};
+ghost use Rattle.sdb_backend.specs.ReplayBases.{IsDocumentAt, IsReplayBaseOrError, IsReplayBaseAtOrError, replay_base_view, replay_base_at_view};
 
-use crate::held::Held;
-use sdb_desk::{Decision, Fetched, Lent, Look as Shown, Reply, Subscribed, Work};
+use crate::shard_value::Held;
+use sdb_desk::{
+    CommitDecision, FetchResult, Look as Shown, ReplayBase, Reply, SubscribeResult, Work,
+};
 use sdb_growlock::Job;
 use sdb_oplog::{Code, Entry, Key, Moment, Submission};
 use sdb_subscribe::SubId;
 use sdb_value::Json;
 use std::alloc::AllocError;
 
-pub(crate) struct Look<'a> {
+pub(crate) struct LookJob<'a> {
     pub(crate) key: &'a Key,
     pub(crate) submission: &'a Submission,
 }
 
-impl<'a> Job<Held> for Look<'a> {
+impl<'a> Job<Held> for LookJob<'a> {
     type Answer = Result<Shown, AllocError>;
 
-    ghost ready = { λ j n a. j.submission.now.by ≡ n };
+    ghost precondition = { λ j n a. j.submission.now.by ≡ n };
 
-    ghost does = { λ j n a b r. Acts n (machine_of a.shard) (plain_key j.key.now)
-        (call.look j.submission.now) (told_look r) (machine_of b.shard) };
+    ghost postcondition = { λ j n a b r. MachineStep n (machine_of a.shard) (plain_key j.key.now)
+        (call.look j.submission.now) (look_view r) (machine_of b.shard) };
 
     fn run(self, _number: u64, held: &mut Held) -> Result<Shown, AllocError> {
         let Self { key, submission } = self;
@@ -39,18 +41,18 @@ impl<'a> Job<Held> for Look<'a> {
     }
 }
 
-pub(crate) struct CommitNow<'a> {
+pub(crate) struct CommitNowJob<'a> {
     pub(crate) key: &'a Key,
     pub(crate) submission: &'a Submission,
     pub(crate) now: Moment,
 }
 
-impl<'a> Job<Held> for CommitNow<'a> {
+impl<'a> Job<Held> for CommitNowJob<'a> {
     type Answer = Reply;
 
-    ghost ready = { λ j n a. j.submission.now.by ≡ n };
+    ghost precondition = { λ j n a. j.submission.now.by ≡ n };
 
-    ghost does = { λ j n a b r. Acts n (machine_of a.shard) (plain_key j.key.now)
+    ghost postcondition = { λ j n a b r. MachineStep n (machine_of a.shard) (plain_key j.key.now)
         (call.commit_now j.submission.now j.now) (plain_reply r) (machine_of b.shard) };
 
     fn run(self, _number: u64, held: &mut Held) -> Reply {
@@ -63,18 +65,18 @@ impl<'a> Job<Held> for CommitNow<'a> {
     }
 }
 
-pub(crate) struct CommitLast<'a> {
+pub(crate) struct CommitLastJob<'a> {
     pub(crate) key: &'a Key,
     pub(crate) work: Work,
     pub(crate) now: Moment,
 }
 
-impl<'a> Job<Held> for CommitLast<'a> {
+impl<'a> Job<Held> for CommitLastJob<'a> {
     type Answer = Reply;
 
-    ghost ready = { λ j n a. j.work.submission.by ≡ n };
+    ghost precondition = { λ j n a. j.work.submission.by ≡ n };
 
-    ghost does = { λ j n a b r. Acts n (machine_of a.shard) (plain_key j.key.now)
+    ghost postcondition = { λ j n a b r. MachineStep n (machine_of a.shard) (plain_key j.key.now)
         (call.commit_now j.work.submission j.now) (plain_reply r) (machine_of b.shard) };
 
     fn run(self, _number: u64, held: &mut Held) -> Reply {
@@ -83,36 +85,36 @@ impl<'a> Job<Held> for CommitLast<'a> {
     }
 }
 
-pub(crate) struct Fetch<'a> {
+pub(crate) struct FetchJob<'a> {
     pub(crate) key: &'a Key,
 }
 
-impl<'a> Job<Held> for Fetch<'a> {
-    type Answer = Result<Fetched, Code>;
+impl<'a> Job<Held> for FetchJob<'a> {
+    type Answer = Result<FetchResult, Code>;
 
-    ghost ready = { λ j n a. Unit {0} };
+    ghost precondition = { λ j n a. Unit {0} };
 
-    ghost does = { λ j n a b r. Acts n (machine_of a.shard) (plain_key j.key.now)
-        call.fetch (told_fetched r) (machine_of b.shard) };
+    ghost postcondition = { λ j n a b r. MachineStep n (machine_of a.shard) (plain_key j.key.now)
+        call.fetch (fetch_result_view r) (machine_of b.shard) };
 
-    fn run(self, _number: u64, held: &mut Held) -> Result<Fetched, Code> {
+    fn run(self, _number: u64, held: &mut Held) -> Result<FetchResult, Code> {
         let Self { key } = self;
         held.shard.fetch(key)
     }
 }
 
-pub(crate) struct OpsFrom<'a> {
+pub(crate) struct OpsFromJob<'a> {
     pub(crate) key: &'a Key,
     pub(crate) version: u64,
 }
 
-impl<'a> Job<Held> for OpsFrom<'a> {
+impl<'a> Job<Held> for OpsFromJob<'a> {
     type Answer = Result<Vec<Entry>, Code>;
 
-    ghost ready = { λ j n a. Unit {0} };
+    ghost precondition = { λ j n a. Unit {0} };
 
-    ghost does = { λ j n a b r. Acts n (machine_of a.shard) (plain_key j.key.now)
-        (call.ops_from j.version) (told_entries r) (machine_of b.shard) };
+    ghost postcondition = { λ j n a b r. MachineStep n (machine_of a.shard) (plain_key j.key.now)
+        (call.ops_from j.version) (entries_view r) (machine_of b.shard) };
 
     fn run(self, _number: u64, held: &mut Held) -> Result<Vec<Entry>, Code> {
         let Self { key, version } = self;
@@ -120,19 +122,19 @@ impl<'a> Job<Held> for OpsFrom<'a> {
     }
 }
 
-pub(crate) struct OpsBetween<'a> {
+pub(crate) struct OpsBetweenJob<'a> {
     pub(crate) key: &'a Key,
     pub(crate) from: u64,
     pub(crate) to: u64,
 }
 
-impl<'a> Job<Held> for OpsBetween<'a> {
+impl<'a> Job<Held> for OpsBetweenJob<'a> {
     type Answer = Result<Vec<Entry>, AllocError>;
 
-    ghost ready = { λ j n a. Unit {0} };
+    ghost precondition = { λ j n a. Unit {0} };
 
-    ghost does = { λ j n a b r. Acts n (machine_of a.shard) (plain_key j.key.now)
-        (call.ops_between j.from j.to) (told_copies r) (machine_of b.shard) };
+    ghost postcondition = { λ j n a b r. MachineStep n (machine_of a.shard) (plain_key j.key.now)
+        (call.ops_between j.from j.to) (copied_entries_view r) (machine_of b.shard) };
 
     fn run(self, _number: u64, held: &mut Held) -> Result<Vec<Entry>, AllocError> {
         let Self { key, from, to } = self;
@@ -140,106 +142,111 @@ impl<'a> Job<Held> for OpsBetween<'a> {
     }
 }
 
-pub(crate) struct SnapshotAt<'a> {
+pub(crate) struct SnapshotAtJob<'a> {
     pub(crate) key: &'a Key,
     pub(crate) version: Option<u64>,
 }
 
-impl<'a> Job<Held> for SnapshotAt<'a> {
-    type Answer = Result<Fetched, Code>;
+impl<'a> Job<Held> for SnapshotAtJob<'a> {
+    type Answer = Result<FetchResult, Code>;
 
-    ghost ready = { λ j n a. Unit {0} };
+    ghost precondition = { λ j n a. Unit {0} };
 
-    ghost does = { λ j n a b r. Acts n (machine_of a.shard) (plain_key j.key.now)
-        (call.snapshot j.version) (told_fetched r) (machine_of b.shard) };
+    ghost postcondition = { λ j n a b r. MachineStep n (machine_of a.shard) (plain_key j.key.now)
+        (call.snapshot j.version) (fetch_result_view r) (machine_of b.shard) };
 
-    fn run(self, _number: u64, held: &mut Held) -> Result<Fetched, Code> {
+    fn run(self, _number: u64, held: &mut Held) -> Result<FetchResult, Code> {
         let Self { key, version } = self;
         held.shard.snapshot_at(key, version)
     }
 }
 
-pub(crate) struct AtTime<'a> {
+pub(crate) struct SnapshotAtTimeJob<'a> {
     pub(crate) key: &'a Key,
     pub(crate) moment: Option<Moment>,
 }
 
-impl<'a> Job<Held> for AtTime<'a> {
-    type Answer = Result<Fetched, Code>;
+impl<'a> Job<Held> for SnapshotAtTimeJob<'a> {
+    type Answer = Result<FetchResult, Code>;
 
-    ghost ready = { λ j n a. Unit {0} };
+    ghost precondition = { λ j n a. Unit {0} };
 
-    ghost does = { λ j n a b r. Acts n (machine_of a.shard) (plain_key j.key.now)
-        (call.at_time j.moment) (told_fetched r) (machine_of b.shard) };
+    ghost postcondition = { λ j n a b r. MachineStep n (machine_of a.shard) (plain_key j.key.now)
+        (call.snapshot_at_time j.moment) (fetch_result_view r) (machine_of b.shard) };
 
-    fn run(self, _number: u64, held: &mut Held) -> Result<Fetched, Code> {
+    fn run(self, _number: u64, held: &mut Held) -> Result<FetchResult, Code> {
         let Self { key, moment } = self;
-        held.shard.at_time(key, moment)
+        held.shard.snapshot_at_time(key, moment)
     }
 }
 
 // What is lent for a moment, and the version at it.
 #[derive(Drop)]
-pub(crate) struct LentThen {
+pub(crate) struct ReplayBaseAt {
     pub(crate) version: u64,
-    pub(crate) lent: Lent,
+    pub(crate) base: ReplayBase,
 }
 
-pub(crate) struct LendThen<'a> {
+pub(crate) struct ReplayBaseAtMomentJob<'a> {
     pub(crate) key: &'a Key,
     pub(crate) moment: Moment,
 }
 
-impl<'a> Job<Held> for LendThen<'a> {
-    type Answer = Result<LentThen, Code>;
+impl<'a> Job<Held> for ReplayBaseAtMomentJob<'a> {
+    type Answer = Result<ReplayBaseAt, Code>;
 
-    ghost ready = { λ j n a. Unit {0} };
+    ghost precondition = { λ j n a. Unit {0} };
 
-    ghost does = { λ j n a b r. IsLentThen (machine_of a.shard) (plain_key j.key.now) j.moment (told_lent_then r)
-        × Same (machine_of a.shard) (machine_of b.shard) };
+    ghost postcondition = { λ j n a b r. IsReplayBaseAtOrError (machine_of a.shard) (plain_key j.key.now) j.moment
+        (replay_base_at_view r)
+        × IsUnchanged (machine_of a.shard) (machine_of b.shard) };
 
-    fn run(self, _number: u64, held: &mut Held) -> Result<LentThen, Code> {
+    fn run(self, _number: u64, held: &mut Held) -> Result<ReplayBaseAt, Code> {
         let Self { key, moment } = self;
         let version = held.shard.version_at(key, Some(moment));
-        let lent = held.shard.lend(key, version)?;
-        Ok(LentThen { version, lent })
+        let lent = held.shard.replay_base(key, version)?;
+        Ok(ReplayBaseAt {
+            version,
+            base: lent,
+        })
     }
 }
 
-pub(crate) struct Lend<'a> {
+pub(crate) struct ReplayBaseJob<'a> {
     pub(crate) key: &'a Key,
     pub(crate) version: u64,
 }
 
-impl<'a> Job<Held> for Lend<'a> {
-    type Answer = Result<Lent, Code>;
+impl<'a> Job<Held> for ReplayBaseJob<'a> {
+    type Answer = Result<ReplayBase, Code>;
 
-    ghost ready = { λ j n a. Unit {0} };
+    ghost precondition = { λ j n a. Unit {0} };
 
-    ghost does = { λ j n a b r. IsLent (machine_of a.shard) (plain_key j.key.now) j.version (told_lent r)
-        × Same (machine_of a.shard) (machine_of b.shard) };
+    ghost postcondition = { λ j n a b r. IsReplayBaseOrError (machine_of a.shard) (plain_key j.key.now) j.version
+        (replay_base_view r)
+        × IsUnchanged (machine_of a.shard) (machine_of b.shard) };
 
-    fn run(self, _number: u64, held: &mut Held) -> Result<Lent, Code> {
+    fn run(self, _number: u64, held: &mut Held) -> Result<ReplayBase, Code> {
         let Self { key, version } = self;
-        held.shard.lend(key, version)
+        held.shard.replay_base(key, version)
     }
 }
 
-pub(crate) struct Offer<'a> {
+pub(crate) struct OfferJob<'a> {
     pub(crate) key: &'a Key,
     pub(crate) version: u64,
     pub(crate) snapshot: &'a Option<Json>,
 }
 
-impl<'a> Job<Held> for Offer<'a> {
+impl<'a> Job<Held> for OfferJob<'a> {
     type Answer = ();
 
-    ghost ready = { λ j n a. IsAt (logs_of a.shard (plain_key j.key.now)) j.version
-        (option_map view j.snapshot.now) };
+    ghost precondition = { λ j n a. IsDocumentAt (logs_of a.shard (plain_key j.key.now)) j.version
+        (option_map value_of j.snapshot.now) };
 
-    ghost does = { λ j n a b r. IsAt (logs_of a.shard (plain_key j.key.now)) j.version
-        (option_map view j.snapshot.now) × IsMade (logs_of a.shard (plain_key j.key.now))
-        × Same (machine_of a.shard) (machine_of b.shard) };
+    ghost postcondition = { λ j n a b r. IsDocumentAt (logs_of a.shard (plain_key j.key.now)) j.version
+        (option_map value_of j.snapshot.now) × IsMade (logs_of a.shard (plain_key j.key.now))
+        × IsUnchanged (machine_of a.shard) (machine_of b.shard) };
 
     fn run(self, _number: u64, held: &mut Held) {
         let Self {
@@ -251,16 +258,16 @@ impl<'a> Job<Held> for Offer<'a> {
     }
 }
 
-pub(crate) struct Forget<'a> {
+pub(crate) struct ForgetJob<'a> {
     pub(crate) key: &'a Key,
 }
 
-impl<'a> Job<Held> for Forget<'a> {
+impl<'a> Job<Held> for ForgetJob<'a> {
     type Answer = ();
 
-    ghost ready = { λ j n a. Unit {0} };
+    ghost precondition = { λ j n a. Unit {0} };
 
-    ghost does = { λ j n a b r. Acts n (machine_of a.shard) (plain_key j.key.now)
+    ghost postcondition = { λ j n a b r. MachineStep n (machine_of a.shard) (plain_key j.key.now)
         call.forget tt (machine_of b.shard) };
 
     fn run(self, _number: u64, held: &mut Held) {
@@ -269,38 +276,38 @@ impl<'a> Job<Held> for Forget<'a> {
     }
 }
 
-pub(crate) struct Subscribe<'a> {
+pub(crate) struct SubscribeJob<'a> {
     pub(crate) key: &'a Key,
     pub(crate) version: Option<u64>,
 }
 
-impl<'a> Job<Held> for Subscribe<'a> {
-    type Answer = Result<Subscribed, Code>;
+impl<'a> Job<Held> for SubscribeJob<'a> {
+    type Answer = Result<SubscribeResult, Code>;
 
-    ghost ready = { λ j n a. Unit {0} };
+    ghost precondition = { λ j n a. Unit {0} };
 
-    ghost does = { λ j n a b r. Acts n (machine_of a.shard) (plain_key j.key.now)
-        (call.subscribe j.version) (told_subscribed r) (machine_of b.shard) };
+    ghost postcondition = { λ j n a b r. MachineStep n (machine_of a.shard) (plain_key j.key.now)
+        (call.subscribe j.version) (subscribe_result_view r) (machine_of b.shard) };
 
-    fn run(self, number: u64, held: &mut Held) -> Result<Subscribed, Code> {
+    fn run(self, number: u64, held: &mut Held) -> Result<SubscribeResult, Code> {
         let Self { key, version } = self;
         held.shard.subscribe(key, number, version)
     }
 }
 
-pub(crate) struct Take<'a> {
+pub(crate) struct TakeJob<'a> {
     pub(crate) key: &'a Key,
     pub(crate) id: SubId,
     pub(crate) max: u64,
 }
 
-impl<'a> Job<Held> for Take<'a> {
+impl<'a> Job<Held> for TakeJob<'a> {
     type Answer = Result<Option<Vec<Entry>>, AllocError>;
 
-    ghost ready = { λ j n a. Unit {0} };
+    ghost precondition = { λ j n a. Unit {0} };
 
-    ghost does = { λ j n a b r. Acts n (machine_of a.shard) (plain_key j.key.now)
-        (call.take_next j.id j.max) (told_taken r) (machine_of b.shard) };
+    ghost postcondition = { λ j n a b r. MachineStep n (machine_of a.shard) (plain_key j.key.now)
+        (call.take_next j.id j.max) (taken_view r) (machine_of b.shard) };
 
     fn run(self, number: u64, held: &mut Held) -> Result<Option<Vec<Entry>>, AllocError> {
         let Self { key, id, max } = self;
@@ -308,17 +315,17 @@ impl<'a> Job<Held> for Take<'a> {
     }
 }
 
-pub(crate) struct Unsubscribe<'a> {
+pub(crate) struct UnsubscribeJob<'a> {
     pub(crate) key: &'a Key,
     pub(crate) id: SubId,
 }
 
-impl<'a> Job<Held> for Unsubscribe<'a> {
+impl<'a> Job<Held> for UnsubscribeJob<'a> {
     type Answer = ();
 
-    ghost ready = { λ j n a. Unit {0} };
+    ghost precondition = { λ j n a. Unit {0} };
 
-    ghost does = { λ j n a b r. Acts n (machine_of a.shard) (plain_key j.key.now)
+    ghost postcondition = { λ j n a b r. MachineStep n (machine_of a.shard) (plain_key j.key.now)
         (call.unsubscribe j.id) tt (machine_of b.shard) };
 
     fn run(self, number: u64, held: &mut Held) {
@@ -327,38 +334,38 @@ impl<'a> Job<Held> for Unsubscribe<'a> {
     }
 }
 
-pub(crate) struct Commit<'a> {
+pub(crate) struct CommitJob<'a> {
     pub(crate) key: &'a Key,
     pub(crate) work: &'a Work,
     pub(crate) now: Moment,
 }
 
-impl<'a> Job<Held> for Commit<'a> {
-    type Answer = Decision;
+impl<'a> Job<Held> for CommitJob<'a> {
+    type Answer = CommitDecision;
 
-    ghost ready = { λ j n a. (j.work.now.submission.by ≡ n)
+    ghost precondition = { λ j n a. (j.work.now.submission.by ≡ n)
         × IsLook (logs_of a.shard (plain_key j.key.now)) j.work.now };
 
-    ghost does = { λ j n a b r. Acts n (machine_of a.shard) (plain_key j.key.now)
-        (call.commit j.work.now j.now) (outcome_of j.work.now r) (machine_of b.shard) };
+    ghost postcondition = { λ j n a b r. MachineStep n (machine_of a.shard) (plain_key j.key.now)
+        (call.commit j.work.now j.now) (outcome_of_decision j.work.now r) (machine_of b.shard) };
 
-    fn run(self, _number: u64, held: &mut Held) -> Decision {
+    fn run(self, _number: u64, held: &mut Held) -> CommitDecision {
         let Self { key, work, now } = self;
         held.shard.decide(key, work, now)
     }
 }
 
-pub(crate) struct Version<'a> {
+pub(crate) struct VersionJob<'a> {
     pub(crate) key: &'a Key,
 }
 
-impl<'a> Job<Held> for Version<'a> {
+impl<'a> Job<Held> for VersionJob<'a> {
     type Answer = u64;
 
-    ghost ready = { λ j n a. Unit {0} };
+    ghost precondition = { λ j n a. Unit {0} };
 
-    ghost does = { λ j n a b r. Acts n (machine_of a.shard) (plain_key j.key.now)
-        call.present r (machine_of b.shard) };
+    ghost postcondition = { λ j n a b r. MachineStep n (machine_of a.shard) (plain_key j.key.now)
+        call.current_version r (machine_of b.shard) };
 
     fn run(self, _number: u64, held: &mut Held) -> u64 {
         let Self { key } = self;

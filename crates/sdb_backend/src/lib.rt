@@ -6,16 +6,16 @@
 #![tactic(auto)]
 
 mod audit;
+mod audit_listing;
 mod backend;
 mod desk;
-mod held;
 mod jobs;
-mod listed;
-mod passes;
-mod seats;
+mod pass;
+mod pass_check;
+mod shard_value;
 
 pub use audit::Audit;
-pub use backend::{Backend, Refused, Why};
-pub use desk::{submit_shared, take_shared};
-pub use held::Held;
-pub use seats::{Host, Pass};
+pub use backend::{Backend, CloseError, CloseRefused};
+pub use desk::{submit_is_atomic, take_is_fifo};
+pub use pass::{Host, Pass};
+pub use shard_value::Held;

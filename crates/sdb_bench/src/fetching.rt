@@ -29,7 +29,7 @@ fn commit(
 ) -> Result<(), AllocError> {
     let (src, via) = (String::from_str(alloc, "x")?, String::from_str(alloc, "b")?);
     let submission = Submission::new(alloc, src, seq, None, content, via, 0)?;
-    drop(shard.commit_now(key, &submission, Moment::first()));
+    drop(shard.commit_now(key, &submission, Moment::zero()));
     Ok(())
 }
 

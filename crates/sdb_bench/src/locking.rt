@@ -19,17 +19,17 @@ impl Grows for Count {
 
     ghost blank = { λ _ _. Unit {0} };
 
-    ghost itself = { λ _. tt };
+    ghost extends_refl = { λ _. tt };
 
-    ghost further = { λ _ _ _ _ _. tt };
+    ghost extends_trans = { λ _ _ _ _ _. tt };
 
-    ghost same_itself = { λ _ _. tt };
+    ghost same_refl = { λ _ _. tt };
 
-    ghost same_further = { λ _ _ _ _ _ _. tt };
+    ghost same_trans = { λ _ _ _ _ _ _. tt };
 
-    ghost blank_same = { λ _ _ _ _ _. tt };
+    ghost same_of_blank = { λ _ _ _ _ _. tt };
 
-    ghost same_blank = { λ _ _ _ _ _. tt };
+    ghost blank_of_same = { λ _ _ _ _ _. tt };
 }
 
 #[derive(Drop)]
@@ -38,9 +38,9 @@ struct CountTurn;
 impl Job<Count> for CountTurn {
     type Answer = u64;
 
-    ghost ready = { λ _ _ _. Unit {0} };
+    ghost precondition = { λ _ _ _. Unit {0} };
 
-    ghost does = { λ _ _ _ _ _. Unit {0} };
+    ghost postcondition = { λ _ _ _ _ _. Unit {0} };
 
     fn run(self, _number: u64, count: &mut Count) -> u64 {
         count.turns = count.turns.wrapping_add(1);

@@ -1,5 +1,5 @@
-pub mod Ends
-pub mod Limits
-pub mod Printed
-pub mod Sizes
-pub mod Written
+pub mod LastStep
+pub mod LimitLemmas
+pub mod PrintLemmas
+pub mod SizeLemmas
+pub mod WriteLemmas

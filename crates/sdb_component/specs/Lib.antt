@@ -1,10 +1,10 @@
 pub mod Coding
 pub mod Limits
 pub mod Plain
-pub mod Prints
-pub mod Reads
+pub mod ToJson
+pub mod FromJson
 pub mod Size
 pub mod View
-pub mod Weighs
-pub mod Worked
-pub mod Writes
+pub mod Weight
+pub mod Examples
+pub mod Write

@@ -3,12 +3,12 @@ ghost use Rattle.std.specs.Prelude.{◌≡◌, IfOk, min};
 ghost use Rattle.sdb_value.specs.View.{plain_path};
 ghost use Rattle.sdb_component.specs.Size.{component_size};
 ghost use Rattle.sdb_component.specs.View.{plain_act};
-ghost use Rattle.sdb_component.specs.Weighs.{weigh};
+ghost use Rattle.sdb_component.specs.Weight.{component_weight};
 
-use crate::measures::{size_of_act, size_of_path};
+use crate::non_empty_text::NonEmptyText;
 use crate::path::Path;
-use crate::piece::Piece;
-use sdb_value::{Json, Step, Whole, same_path, units};
+use crate::size::{size_of_act, size_of_path};
+use sdb_value::{Json, Step, Whole, paths_equal, units};
 use std::alloc::AllocError;
 use std::marker::Model;
 use std::sync::Arc;
@@ -20,9 +20,9 @@ pub enum Act {
     /// Adds to the number there.
     Na(Whole),
     /// Inserts into the text at the offset.
-    Si(u64, Piece),
+    Si(u64, NonEmptyText),
     /// Deletes from the text at the offset.
-    Sd(u64, Piece),
+    Sd(u64, NonEmptyText),
     /// Inserts an item at the index.
     Li(u64, Arc<Json>),
     /// Deletes the item at the index.
@@ -105,7 +105,7 @@ impl Component {
     }
 
     /// The container's path, shared. It takes no memory; it fails only where there are 2^63 copies already.
-    pub fn shared_path(&self) -> Result<Path, AllocError>
+    pub fn try_clone_path(&self) -> Result<Path, AllocError>
         ensures { IfOk result (λ p. p ≡ self.now.path) }
     {
         self.path.try_clone()
@@ -129,10 +129,10 @@ impl Component {
 
     /// The component, which shares this path where it is its own. Fails only where there are 2^63 copies of the path
     /// already.
-    pub fn with_path(self, path: &Path) -> Result<Component, AllocError>
+    pub fn with_interned_path(self, path: &Path) -> Result<Component, AllocError>
         ensures { IfOk result (λ c. c ≡ self) }
     {
-        if same_path(self.path(), path.steps()) {
+        if paths_equal(self.path(), path.steps()) {
             let (_, act) = self.into_parts();
             return Ok(Component::new(path.try_clone()?, act));
         }
@@ -151,7 +151,7 @@ impl Component {
 
     /// The UTF-16 units of the text that is deleted, or 1 where the component is no `Act::Sd`.
     pub fn weight(&self) -> u64
-        ensures { result ≡ weigh self.now }
+        ensures { result ≡ component_weight self.now }
     {
         match self.act() {
             Act::Sd(_, text) => units(text.as_str()).max(1),

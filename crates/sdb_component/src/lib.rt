@@ -2,30 +2,30 @@
 //! operations").
 #![tactic(auto)]
 
-mod comparing;
+mod act_kind;
+mod clone_path;
 mod component;
-mod copies;
+mod equality;
+mod fields;
+mod from_act_kind;
+mod from_json;
 pub mod laws;
-mod lists;
-mod measures;
-mod members;
+mod non_empty_text;
+mod op_weight;
 mod operation;
 mod path;
-mod paths;
-mod piece;
-mod printing;
-mod reading;
-mod shape;
-mod shaped;
-mod weighing;
-mod writing;
+mod path_json;
+mod push_option;
+mod size;
+mod to_json;
+mod write;
 
-pub use comparing::same_components;
 pub use component::{Act, Component};
+pub use equality::components_equal;
+pub use from_json::{OpFault, read_op};
+pub use non_empty_text::NonEmptyText;
+pub use op_weight::weight;
 pub use operation::Op;
 pub use path::Path;
-pub use piece::Piece;
-pub use printing::op_value;
-pub use reading::{OpFault, read_op};
-pub use weighing::weight;
-pub use writing::write_op;
+pub use to_json::op_value;
+pub use write::write_op;

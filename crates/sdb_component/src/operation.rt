@@ -88,12 +88,13 @@ impl Op {
         }
     }
 
-    /// The operation. One that [`Op::one`] made shares this path where it is its own ([`Component::with_path`]).
-    pub fn with_path(self, path: &Path) -> Result<Op, AllocError>
+    /// The operation. One that [`Op::one`] made shares this path where it is its own
+    /// ([`Component::with_interned_path`]).
+    pub fn with_interned_path(self, path: &Path) -> Result<Op, AllocError>
         ensures { IfOk result (λ o. o ≡ self) }
     {
         match self.components {
-            Components::One(component) => Ok(Op::one(component.with_path(path)?)),
+            Components::One(component) => Ok(Op::one(component.with_interned_path(path)?)),
             Components::Many(components) => Ok(Op::new(components)),
         }
     }

@@ -4,8 +4,8 @@ ghost use Rattle.std.specs.Prelude.{◌≡◌, IfOk, min};
 ghost use Rattle.sdb_value.specs.View.{plain_path};
 ghost use Rattle.sdb_component.specs.Size.{path_size};
 
-use crate::copies::copy_path;
-use crate::measures::size_of_path;
+use crate::clone_path::clone_path;
+use crate::size::size_of_path;
 use sdb_value::Step;
 use std::alloc::{AllocError, Global};
 use std::marker::Model;
@@ -61,7 +61,7 @@ impl Path {
     {
         match Arc::try_unwrap(self.steps) {
             Ok(steps) => Ok(steps),
-            Err(shared) => copy_path(alloc, shared.as_slice()),
+            Err(shared) => clone_path(alloc, shared.as_slice()),
         }
     }
 

@@ -5,13 +5,13 @@ use Rattle.sdb_oplog.specs.Plain.{PlainEntry, PlainSubmission}
 use Rattle.sdb_oplog.specs.Coding.{submission_code, log_code}
 use Rattle.sdb_value.specs.Coding.{value_code}
 use Rattle.sdb_value.specs.Value.{Value}
-use Rattle.sdb_snapcache.specs.Kept.{Snapshot}
-use Rattle.sdb_snapcache.specs.View.{kept_code}
-use Rattle.sdb_desk.specs.Documents.{PlainDocument}
+use Rattle.sdb_snapcache.specs.CacheModel.{Snapshot}
+use Rattle.sdb_snapcache.specs.View.{snapshots_code}
+use Rattle.sdb_desk.specs.DocumentModel.{PlainDocument}
 use Rattle.sdb_subscribe.specs.Coding.{ringed_queues_code}
 use Rattle.sdb_subscribe.specs.Ring.{RingedQueues}
 use Rattle.sdb_desk.specs.Machine.{PlainLook, PlainAttempt}
-use Rattle.sdb_desk.specs.Topics.{PlainTopic}
+use Rattle.sdb_desk.specs.SlotModel.{PlainSlot}
 
 -- version, repeat, missed, snapshot
 abbrev Look : Type 0
@@ -31,10 +31,10 @@ attempt_code =
 
 abbrev pub document_code : Coded PlainDocument
 document_code =
-    code_by (List PlainEntry × List Snapshot) (coded× log_code kept_code) (λ d. (d.log, d.kept))
-    (λ p. record { log = p.0; kept = p.1 }) (λ _. refl)
+    code_by (List PlainEntry × List Snapshot) (coded× log_code snapshots_code) (λ d. (d.log, d.cache))
+    (λ p. record { log = p.0; cache = p.1 }) (λ _. refl)
 
-abbrev pub topic_code : Coded PlainTopic
-topic_code =
+abbrev pub slot_code : Coded PlainSlot
+slot_code =
     code_by (PlainDocument × RingedQueues) (coded× document_code ringed_queues_code) (λ t. (t.document, t.queues))
     (λ p. record { document = p.0; queues = p.1 }) (λ _. refl)

@@ -5,37 +5,37 @@ use Rattle.std.proofs.lemmas.Map.Text.{is_eq-slice_cmp}
 use Rattle.std.proofs.lemmas.Slice.Eq.{bytes_eq-Decides}
 use Rattle.std.specs.Cmp.Lexicographic.{slice_cmp}
 use Rattle.std.specs.Ordering.{ordering_then}
-use Rattle.sdb_oplog.specs.Keys.{PlainKey, same_key}
-use Rattle.sdb_desk.specs.Machine.{Queued, with_queues}
+use Rattle.sdb_oplog.specs.Keys.{PlainKey, keys_equal}
+use Rattle.sdb_desk.specs.Machine.{QueuesByKey, with_queues}
 
-then_eq : (o p : Ordering) → is_eq (ordering_then o p) ≡ (is_eq o && is_eq p)
-then_eq Less p = refl
-then_eq Equal p = refl
-then_eq Greater p = refl
+ordering_then_eq : (o p : Ordering) → is_eq (ordering_then o p) ≡ (is_eq o && is_eq p)
+ordering_then_eq Less p = refl
+ordering_then_eq Equal p = refl
+ordering_then_eq Greater p = refl
 
-both : (b c : Bool) → (b && c) ≡ true → (b ≡ true) × (c ≡ true)
-both true c e = (refl, e)
-both false c e = cc
+and_elim : (b c : Bool) → (b && c) ≡ true → (b ≡ true) × (c ≡ true)
+and_elim true c e = (refl, e)
+and_elim false c e = cc
 
-equal_texts : (xs ys : List ℕ) → is_eq (slice_cmp nat_cmp xs ys) ≡ true → xs ≡ ys
-equal_texts xs ys e = (bytes_eq-Decides xs ys).0 (sym (is_eq-slice_cmp xs ys) ∙ e)
+eq_of_text_cmp : (xs ys : List ℕ) → is_eq (slice_cmp nat_cmp xs ys) ≡ true → xs ≡ ys
+eq_of_text_cmp xs ys e = (bytes_eq-Decides xs ys).0 (sym (is_eq-slice_cmp xs ys) ∙ e)
 
 -- keys that compare equal are equal
-pub equal_keys : (a b : PlainKey) → same_key a b ≡ true → a ≡ b
-equal_keys a b e =
-    let h = both (is_eq (slice_cmp nat_cmp a.collection b.collection)) (is_eq (slice_cmp nat_cmp a.id b.id))
-    (sym (then_eq (slice_cmp nat_cmp a.collection b.collection) (slice_cmp nat_cmp a.id b.id)) ∙ e) in
-    let c : a.collection ≡ b.collection = equal_texts a.collection b.collection h.0 in
-    let i : a.id ≡ b.id = equal_texts a.id b.id h.1 in
+pub eq_of_keys_equal : (a b : PlainKey) → keys_equal a b ≡ true → a ≡ b
+eq_of_keys_equal a b e =
+    let h = and_elim (is_eq (slice_cmp nat_cmp a.collection b.collection)) (is_eq (slice_cmp nat_cmp a.id b.id))
+    (sym (ordering_then_eq (slice_cmp nat_cmp a.collection b.collection) (slice_cmp nat_cmp a.id b.id)) ∙ e) in
+    let c : a.collection ≡ b.collection = eq_of_text_cmp a.collection b.collection h.0 in
+    let i : a.id ≡ b.id = eq_of_text_cmp a.id b.id h.1 in
     λ j. record { collection = c j; id = i j }
 
-pub same_itself : (a : PlainKey) → same_key a a ≡ true
-same_itself a = rw (tied_itself nat_list_cmp_total a.collection, tied_itself nat_list_cmp_total a.id)
+pub keys_equal_refl : (a : PlainKey) → keys_equal a a ≡ true
+keys_equal_refl a = rw (tied_itself nat_list_cmp_total a.collection, tied_itself nat_list_cmp_total a.id)
 
-kept_if : {A : Type 0} (b : Bool) (x y : A) → (b ≡ true → x ≡ y) → cond b x y ≡ y
-kept_if true x y h = h refl
-kept_if false x y h = refl
+cond_same : {A : Type 0} (b : Bool) (x y : A) → (b ≡ true → x ≡ y) → cond b x y ≡ y
+cond_same true x y h = h refl
+cond_same false x y h = refl
 
 -- the queues of a key, written there again, change nothing
-pub queues_kept : (f : Queued) (k : PlainKey) → with_queues f k (f k) ≡ f
-queues_kept f k = λ i q. kept_if (same_key k q) (f k) (f q) (λ h. ap f (equal_keys k q h)) i
+pub with_queues_same : (f : QueuesByKey) (k : PlainKey) → with_queues f k (f k) ≡ f
+with_queues_same f k = λ i q. cond_same (keys_equal k q) (f k) (f q) (λ h. ap f (eq_of_keys_equal k q h)) i

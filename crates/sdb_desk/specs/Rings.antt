@@ -2,19 +2,19 @@
 use Rattle.std.specs.Prelude.{◌≡◌, ℕ, List, [], ◌∷◌, ◌++◌}
 use Rattle.sdb_oplog.specs.Keys.{PlainKey, Logs}
 use Rattle.sdb_oplog.specs.Plain.{PlainEntry}
-use Rattle.sdb_subscribe.specs.Ring.{RingedQueue, AreNoted}
-use Rattle.sdb_desk.specs.ShardView.{Ringed}
+use Rattle.sdb_subscribe.specs.Ring.{RingedQueue, ArePushed}
+use Rattle.sdb_desk.specs.ShardView.{RingedQueuesByKey}
 
 -- the rings of a key stay as they are where its log does; each notes the entry that its log gains
-pub record IsNotedIn (log new : List PlainEntry) (qs after : List (ℕ × RingedQueue)) : Type 0 where
-  pub same : new ≡ log → after ≡ qs
-  pub noted : (entry : PlainEntry) → new ≡ log ++ entry ∷ [] → AreNoted entry qs after
+pub record RingsAfterAppend (log new : List PlainEntry) (qs after : List (ℕ × RingedQueue)) : Type 0 where
+  pub unchanged_if_log_unchanged : new ≡ log → after ≡ qs
+  pub pushed_if_log_grows : (entry : PlainEntry) → new ≡ log ++ entry ∷ [] → ArePushed entry qs after
 
 -- those of each key
-abbrev pub Notes : Logs → Logs → Ringed → Ringed → Type 0
-Notes logs new qs after = (k : PlainKey) → IsNotedIn (logs k) (new k) (qs k) (after k)
+abbrev pub RingsFollowLogs : Logs → Logs → RingedQueuesByKey → RingedQueuesByKey → Type 0
+RingsFollowLogs logs new qs after = (k : PlainKey) → RingsAfterAppend (logs k) (new k) (qs k) (after k)
 
 -- one more queue of a number, with nothing at hand
-abbrev pub opened_ringed : ℕ → ℕ → ℕ → List (ℕ × RingedQueue) → List (ℕ × RingedQueue)
-opened_ringed id by start qs =
+abbrev pub append_ringed_queue : ℕ → ℕ → ℕ → List (ℕ × RingedQueue) → List (ℕ × RingedQueue)
+append_ringed_queue id by start qs =
     qs ++ (id, record { queue = record { start = start; taken = 0; by = by }; ring = [] }) ∷ []

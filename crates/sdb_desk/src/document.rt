@@ -1,23 +1,23 @@
 //! One document: its log, and what it makes.
 ghost use Rattle.std.specs.Prelude.{◌≡◌, ◌≢◌, ℕ, ◌<◌, ◌≤◌, [], ◌∷◌, true, length, take, OnOk, OnErr, IfOk, IfErr, IsErrOf, IfSome, OnSome, IfNone, is_some, Some, Ok, Err, option_map, unwrap_or};
-ghost use Rattle.sdb_value.specs.Owns.{is_pointer};
-ghost use Rattle.sdb_value.specs.View.{view};
-ghost use Rattle.sdb_oplog.specs.Decide.{decide, stored, missed, IsMade, storing_takes_memory};
-ghost use Rattle.sdb_oplog.specs.Refused.{RefusedBy};
-ghost use Rattle.sdb_oplog.specs.Snap.{becomes, document, snap};
+ghost use Rattle.sdb_value.specs.Uniqueness.{is_frozen};
+ghost use Rattle.sdb_value.specs.View.{value_of};
+ghost use Rattle.sdb_oplog.specs.Decide.{decide, stored, missed_entries, IsMade, apply_to_copy_allocates};
+ghost use Rattle.sdb_oplog.specs.Refusal.{IsRefusalOrOutOfMemory};
+ghost use Rattle.sdb_oplog.specs.Snap.{apply_content, document_of, snap};
 ghost use Rattle.sdb_oplog.specs.declared.codes.Code.TheVariants.{E10};
-ghost use Rattle.sdb_desk.specs.Machine.{between, look_at, looking_takes_memory};
-ghost use Rattle.sdb_desk.specs.View.{plain_lent, plain_look};
+ghost use Rattle.sdb_desk.specs.Machine.{operations_between, look_at, look_allocates};
+ghost use Rattle.sdb_desk.specs.View.{plain_replay_base, plain_look};
 ghost use Rattle.sdb_desk.specs.ReplyView.{plain_reply};
-ghost use Rattle.sdb_snapcache.specs.Kept.{nearest, used_for};
-ghost use Rattle.sdb_snapcache.specs.View.{snapshot};
-ghost use Rattle.sdb_desk.specs.Documents.{IsMadeDocument, IsOpen, Settles, Begins, IsUnstored};
-ghost use Rattle.sdb_snapcache.specs.Snaps.{AreSnapsOf};
-ghost use Rattle.sdb_desk.specs.Read.{Leaves, Offers, Lends, LendsFrom, Uses};
+ghost use Rattle.sdb_snapcache.specs.CacheModel.{nearest, promote_nearest};
+ghost use Rattle.sdb_snapcache.specs.View.{plain_snapshot};
+ghost use Rattle.sdb_desk.specs.DocumentModel.{IsMadeDocument, CanStore, WillStore, IsReplayStart, StoresNothing};
+ghost use Rattle.sdb_snapcache.specs.SnapInvariant.{AreSnapsOf};
+ghost use Rattle.sdb_desk.specs.Reads.{CacheAfterRead, CacheAfterOffer, IsReplayBase, IsCachedReplayBase, CacheAfterUse};
 
-use crate::attempts::Look;
-use crate::lending::Lent;
-use sdb_oplog::{Code, Content, Entry, Kind, Log, Moment, Submission, Unprepared, copy_entries};
+use crate::replay_base::ReplayBase;
+use crate::work::Look;
+use sdb_oplog::{Code, Content, Entry, Kind, Log, Moment, ReserveError, Submission, clone_entries};
 use sdb_snapcache::Cache;
 use sdb_value::{Json, MAX};
 use std::alloc::{AllocError, Global};
@@ -39,40 +39,40 @@ pub enum Reply {
 #[derive(Drop)]
 pub(crate) struct Document {
     log: Log,
-    present: Option<Json>,
+    current: Option<Json>,
     cache: Cache,
 }
 
 impl Model for Document {
     ghost use Rattle.sdb_desk.specs.Coding.{document_code};
-    ghost use Rattle.sdb_desk.specs.Documents.{PlainDocument, IsDocument};
+    ghost use Rattle.sdb_desk.specs.DocumentModel.{PlainDocument, IsDocument};
 
     ghost Value = { PlainDocument };
 
     ghost coded = { document_code };
 
-    ghost view = { λ d. record { log = d.log; kept = d.cache } };
+    ghost view = { λ d. record { log = d.log; cache = d.cache } };
 
-    ghost invariant = { λ d. IsDocument d.log d.present d.cache };
+    ghost invariant = { λ d. IsDocument d.log d.current d.cache };
 }
 
 impl Document {
     // What a submission that is the first of its key makes.
-    pub(crate) fn first(
+    pub(crate) fn with_first_entry(
         alloc: Global,
         submission: Submission,
         now: Moment,
         content: Option<Content>,
         made: Option<Json>,
     ) -> Result<Document, AllocError>
-        requires { Settles [] submission content (option_map view made) }
+        requires { WillStore [] submission content (option_map value_of made) }
         ensures log { IfOk result (λ d. d.log ≡ (decide [] submission now).log) }
-        ensures kept { IfOk result (λ d. d.kept ≡ []) }
-        ensures reply { OnOk result ((decide [] submission now).reply ≡ stored 0 (missed [] submission)) }
+        ensures kept { IfOk result (λ d. d.cache ≡ []) }
+        ensures reply { OnOk result ((decide [] submission now).reply ≡ stored 0 (missed_entries [] submission)) }
     {
         let mut log = Log::new(alloc);
         let mut present = None;
-        store(
+        append_entry(
             alloc,
             &mut log,
             &mut present,
@@ -84,7 +84,7 @@ impl Document {
         let cache = Cache::new(alloc);
         Ok(Document {
             log,
-            present,
+            current: present,
             cache,
         })
     }
@@ -98,33 +98,33 @@ impl Document {
     }
 
     // The present document.
-    pub(crate) fn present(&self) -> Option<&Json>
-        ensures { option_map (λ v. view v.now) result ≡ document self.now.log }
+    pub(crate) fn current(&self) -> Option<&Json>
+        ensures { option_map (λ v. value_of v.now) result ≡ document_of self.now.log }
     {
-        self.present.as_ref()
+        self.current.as_ref()
     }
 
     // A copy of the present document, which shares all of it.
-    pub(crate) fn share(&mut self, alloc: Global) -> Result<Option<Json>, AllocError>
-        ensures copy { IfOk result (λ d. option_map view d ≡ document self.old.log) }
-        ensures pointer { IfOk result (λ d. IfSome d (λ v. is_pointer v ≡ true)) }
-        ensures some { OnErr result (is_some (document self.old.log) ≡ true) }
+    pub(crate) fn freeze(&mut self, alloc: Global) -> Result<Option<Json>, AllocError>
+        ensures copy { IfOk result (λ d. option_map value_of d ≡ document_of self.old.log) }
+        ensures pointer { IfOk result (λ d. IfSome d (λ v. is_frozen v ≡ true)) }
+        ensures some { OnErr result (is_some (document_of self.old.log) ≡ true) }
         ensures same { self.new ≡ self.old }
     {
-        share(alloc, &mut self.present)
+        freeze_document(alloc, &mut self.current)
     }
 
     // How many snapshots are kept.
-    pub(crate) fn kept(&self) -> usize
-        ensures count { result ≡ length self.now.kept }
-        ensures few { length self.now.kept ≤ 8 }
-        ensures snaps { AreSnapsOf self.now.log self.now.kept }
+    pub(crate) fn cached_count(&self) -> usize
+        ensures count { result ≡ length self.now.cache }
+        ensures few { length self.now.cache ≤ 8 }
+        ensures snaps { AreSnapsOf self.now.log self.now.cache }
     {
         self.cache.len()
     }
 
     // Stores now what a submission has become, with the document that it makes.
-    pub(crate) fn store(
+    pub(crate) fn append(
         &mut self,
         alloc: Global,
         submission: Submission,
@@ -132,60 +132,68 @@ impl Document {
         content: Option<Content>,
         made: Option<Json>,
     ) -> Result<(), AllocError>
-        requires { Settles self.old.log submission content (option_map view made) }
+        requires { WillStore self.old.log submission content (option_map value_of made) }
         ensures log { OnOk result (self.new.log ≡ (decide self.old.log submission now).log) }
         ensures reply { OnOk result ((decide self.old.log submission now).reply ≡
-            stored (length self.old.log) (missed self.old.log submission)) }
+            stored (length self.old.log) (missed_entries self.old.log submission)) }
         ensures same { OnErr result (self.new.log ≡ self.old.log) }
-        ensures kept { self.new.kept ≡ self.old.kept }
+        ensures kept { self.new.cache ≡ self.old.cache }
     {
-        let Document { log, present, .. } = self;
-        store(alloc, log, present, submission, now, content, made)
+        let Document {
+            log,
+            current: present,
+            ..
+        } = self;
+        append_entry(alloc, log, present, submission, now, content, made)
     }
 
     // The document at a version, made of the nearest snapshot that is kept. It is kept then, where there
     // is memory for it.
     pub(crate) fn snapshot_at(&mut self, alloc: Global, version: u64) -> Result<Option<Json>, Code>
         requires { version ≤ length self.old.log }
-        ensures snap { IfOk result (λ d. snap (take version self.old.log) ≡ Some (option_map view d)) }
+        ensures snap { IfOk result (λ d. snap (take version self.old.log) ≡ Some (option_map value_of d)) }
         ensures err { IfErr result (λ code. code ≡ E10) }
         ensures memory { OnErr result (0 < version) }
         ensures log { self.new.log ≡ self.old.log }
-        ensures kept { Leaves self.old.log version self.old.kept self.new.kept }
+        ensures kept { CacheAfterRead self.old.log version self.old.cache self.new.cache }
     {
         if version == self.log.len() {
-            return Ok(self.share(alloc)?);
+            return Ok(self.freeze(alloc)?);
         }
         let (from, base) = self.nearest(alloc, version)?;
         if from == version {
             return Ok(base);
         }
-        let snapshot = self.log.replay_on(base, from, version)?;
+        let snapshot = self.log.replay_from(base, from, version)?;
         self.offer(alloc, version, snapshot.as_ref());
         Ok(snapshot)
     }
 
     // What the document at a version is made of: the nearest snapshot that is kept, and the entries behind it.
-    pub(crate) fn lend(&mut self, alloc: Global, version: u64) -> Result<Lent, AllocError>
+    pub(crate) fn replay_base(
+        &mut self,
+        alloc: Global,
+        version: u64,
+    ) -> Result<ReplayBase, AllocError>
         requires { version ≤ length self.old.log }
-        ensures lends { IfOk result (λ l. Lends self.old.log version (plain_lent l)) }
-        ensures from { IfOk result (λ l. LendsFrom self.old.log self.old.kept version (plain_lent l)) }
+        ensures lends { IfOk result (λ l. IsReplayBase self.old.log version (plain_replay_base l)) }
+        ensures from { IfOk result (λ l. IsCachedReplayBase self.old.log self.old.cache version (plain_replay_base l)) }
         ensures present { IfOk result (λ l. version ≡ length self.old.log → l.entries.items ≡ []) }
         ensures memory { OnErr result (0 < version) }
         ensures log { self.new.log ≡ self.old.log }
-        ensures kept { Uses self.old.log version self.old.kept self.new.kept }
+        ensures kept { CacheAfterUse self.old.log version self.old.cache self.new.cache }
     {
         if self.log.len() == version {
-            return Ok(Lent {
+            return Ok(ReplayBase {
                 version,
-                snapshot: self.share(alloc)?,
+                snapshot: self.freeze(alloc)?,
                 entries: Vec::new(alloc),
             });
         }
         let (from, snapshot) = self.nearest(alloc, version)?;
         let between = (version - from) as usize;
-        let entries = copy_entries(alloc, &self.log.entries_from(from)[..between])?;
-        Ok(Lent {
+        let entries = clone_entries(alloc, &self.log.entries_from(from)[..between])?;
+        Ok(ReplayBase {
             version: from,
             snapshot,
             entries,
@@ -197,25 +205,26 @@ impl Document {
     fn nearest(&mut self, alloc: Global, version: u64) -> Result<(u64, Option<Json>), AllocError>
         requires { version ≤ length self.old.log }
         ensures up_to { IfOk result (λ r. r.0 ≤ version) }
-        ensures snap { IfOk result (λ r. snap (take r.0 self.old.log) ≡ Some (option_map view r.1)) }
-        ensures begins { IfOk result (λ r. Begins (nearest version self.old.kept) r.0 (option_map view r.1)) }
+        ensures snap { IfOk result (λ r. snap (take r.0 self.old.log) ≡ Some (option_map value_of r.1)) }
+        ensures begins { IfOk result (λ r. IsReplayStart (nearest version self.old.cache) r.0
+            (option_map value_of r.1)) }
         ensures memory { OnErr result (0 < version) }
         ensures log { self.new.log ≡ self.old.log }
-        ensures kept { self.new.kept ≡ used_for version self.old.kept }
+        ensures kept { self.new.cache ≡ promote_nearest version self.old.cache }
     {
-        let found = copy_nearest(alloc, &mut self.cache, version)?;
-        Ok(base_of(found))
+        let found = clone_nearest(alloc, &mut self.cache, version)?;
+        Ok(replay_start(found))
     }
 
     // Keeps a copy of the snapshot, where there is one, and memory for it.
     pub(crate) fn offer(&mut self, alloc: Global, version: u64, snapshot: Option<&Json>)
         requires reached { version ≤ length self.old.log }
-        requires snapshot { document (take version self.old.log) ≡ option_map (λ v. view v.now) snapshot }
+        requires snapshot { document_of (take version self.old.log) ≡ option_map (λ v. value_of v.now) snapshot }
         ensures log { self.new.log ≡ self.old.log }
-        ensures kept { Offers version (option_map (λ v. view v.now) snapshot.entry) self.old.kept self.new.kept }
+        ensures kept { CacheAfterOffer version (option_map (λ v. value_of v.now) snapshot.entry) self.old.cache self.new.cache }
         ensures made { IsMade self.old.log }
     {
-        if let Ok(Some(copy)) = shared_copy_of(alloc, snapshot) {
+        if let Ok(Some(copy)) = clone_document(alloc, snapshot) {
             let _ = self.cache.offer(version, copy);
         }
     }
@@ -223,20 +232,20 @@ impl Document {
     // Lets the kept snapshots go.
     pub(crate) fn forget(&mut self)
         ensures log { self.new.log ≡ self.old.log }
-        ensures kept { self.new.kept ≡ [] }
+        ensures kept { self.new.cache ≡ [] }
     {
         self.cache.forget();
     }
 }
 
 // The kept snapshot of the greatest version up to this one, copied.
-fn copy_nearest(
+fn clone_nearest(
     alloc: Global,
     cache: &mut Cache,
     version: u64,
 ) -> Result<Option<(u64, Json)>, AllocError>
-    ensures found { IfOk result (λ o. option_map snapshot o ≡ nearest version cache.old) }
-    ensures used { cache.new ≡ used_for version cache.old }
+    ensures found { IfOk result (λ o. option_map plain_snapshot o ≡ nearest version cache.old) }
+    ensures used { cache.new ≡ promote_nearest version cache.old }
     ensures some { OnErr result (is_some (nearest version cache.old) ≡ true) }
 {
     match cache.nearest(version) {
@@ -246,8 +255,8 @@ fn copy_nearest(
 }
 
 // The version and the document to begin a replay with.
-fn base_of(found: Option<(u64, Json)>) -> (u64, Option<Json>)
-    ensures { Begins (option_map snapshot found) result.0 (option_map view result.1) }
+fn replay_start(found: Option<(u64, Json)>) -> (u64, Option<Json>)
+    ensures { IsReplayStart (option_map plain_snapshot found) result.0 (option_map value_of result.1) }
 {
     match found {
         Some((at, value)) => (at, Some(value)),
@@ -256,60 +265,60 @@ fn base_of(found: Option<(u64, Json)>) -> (u64, Option<Json>)
 }
 
 // A copy of a document, which may be none, all of it shared: the next copy of it is a pointer.
-pub(crate) fn shared_copy_of(
+pub(crate) fn clone_document(
     alloc: Global,
     document: Option<&Json>,
 ) -> Result<Option<Json>, AllocError>
-    ensures copy { IfOk result (λ d. option_map view d ≡ option_map (λ v. view v.now) document.entry) }
-    ensures pointer { IfOk result (λ d. IfSome d (λ v. is_pointer v ≡ true)) }
+    ensures copy { IfOk result (λ d. option_map value_of d ≡ option_map (λ v. value_of v.now) document.entry) }
+    ensures pointer { IfOk result (λ d. IfSome d (λ v. is_frozen v ≡ true)) }
     ensures some { OnErr result (is_some document.entry ≡ true) }
 {
     match document {
-        Some(value) => Ok(Some(value.shared_copy(alloc)?)),
+        Some(value) => Ok(Some(value.frozen_clone(alloc)?)),
         None => Ok(None),
     }
 }
 
 // A copy of a document, which may be none. It and the document share all of it then; what they shared before
 // costs a pointer.
-fn share(alloc: Global, document: &mut Option<Json>) -> Result<Option<Json>, AllocError>
-    ensures copy { IfOk result (λ d. option_map view d ≡ option_map view document.old) }
-    ensures pointer { IfOk result (λ d. IfSome d (λ v. is_pointer v ≡ true)) }
-    ensures same { option_map view document.new ≡ option_map view document.old }
+fn freeze_document(alloc: Global, document: &mut Option<Json>) -> Result<Option<Json>, AllocError>
+    ensures copy { IfOk result (λ d. option_map value_of d ≡ option_map value_of document.old) }
+    ensures pointer { IfOk result (λ d. IfSome d (λ v. is_frozen v ≡ true)) }
+    ensures same { option_map value_of document.new ≡ option_map value_of document.old }
     ensures some { OnErr result (is_some document.old ≡ true) }
 {
     match document {
-        Some(value) => Ok(Some(share_value(alloc, value)?)),
+        Some(value) => Ok(Some(freeze_value(alloc, value)?)),
         None => Ok(None),
     }
 }
 
-fn share_value(alloc: Global, value: &mut Json) -> Result<Json, AllocError>
-    ensures copy { IfOk result (λ v. view v ≡ view value.old) }
-    ensures pointer { IfOk result (λ v. is_pointer v ≡ true) }
-    ensures same { view value.new ≡ view value.old }
+fn freeze_value(alloc: Global, value: &mut Json) -> Result<Json, AllocError>
+    ensures copy { IfOk result (λ v. value_of v ≡ value_of value.old) }
+    ensures pointer { IfOk result (λ v. is_frozen v ≡ true) }
+    ensures same { value_of value.new ≡ value_of value.old }
 {
-    value.share(alloc)?;
-    value.shared_copy(alloc)
+    value.freeze(alloc)?;
+    value.frozen_clone(alloc)
 }
 
 // Makes a document, which may be none, shared: the next copy of it is a pointer.
-fn share_all(alloc: Global, document: &mut Option<Json>) -> Result<(), AllocError>
-    ensures { option_map view document.new ≡ option_map view document.old }
+fn freeze_all(alloc: Global, document: &mut Option<Json>) -> Result<(), AllocError>
+    ensures { option_map value_of document.new ≡ option_map value_of document.old }
 {
     match document {
-        Some(value) => value.share(alloc),
+        Some(value) => value.freeze(alloc),
         None => Ok(()),
     }
 }
 
 // What a submission is answered whatever it asks and whenever, where it isn't to be carried: a repeat, a full
 // log, a version too new.
-pub(crate) fn reply_at_sight(log: &Log, submission: &Submission) -> Option<Reply>
+pub(crate) fn early_reply(log: &Log, submission: &Submission) -> Option<Reply>
     ensures reply { (t : ℕ) → IfSome result (λ r. plain_reply r ≡ (decide log.now submission.now t).reply) }
     ensures log { (t : ℕ) → OnSome result ((decide log.now submission.now t).log ≡ log.now) }
-    ensures unstored { IfSome result (λ r. IsUnstored (plain_reply r)) }
-    ensures open { IfNone result (IsOpen log.now submission.now) }
+    ensures unstored { IfSome result (λ r. StoresNothing (plain_reply r)) }
+    ensures open { IfNone result (CanStore log.now submission.now) }
 {
     if let Some(v) = log.stored_at(submission.src(), submission.seq()) {
         return Some(Reply::Repeat { v });
@@ -326,34 +335,35 @@ pub(crate) fn reply_at_sight(log: &Log, submission: &Submission) -> Option<Reply
 
 // What a content makes of a document, which may be none: a copy, all of it shared, which shares with the document
 // what the content doesn't touch. A delete takes no memory.
-pub(crate) fn made_of(
+pub(crate) fn apply_content(
     alloc: Global,
     content: &Content,
     document: Option<&Json>,
 ) -> Result<Option<Json>, Code>
-    ensures ok { IfOk result (λ d. becomes content.now (option_map (λ v. view v.now) document.entry) ≡
-        Ok (option_map view d)) }
+    ensures ok { IfOk result (λ d. apply_content content.now (option_map (λ v. value_of v.now) document.entry) ≡
+        Ok (option_map value_of d)) }
     ensures err { IfErr result
-        (λ code. RefusedBy (becomes content.now (option_map (λ v. view v.now) document.entry)) code) }
+        (λ code. IsRefusalOrOutOfMemory (apply_content content.now (option_map
+        (λ v. value_of v.now) document.entry)) code) }
     ensures memory { IsErrOf result E10 →
-        storing_takes_memory content.now (option_map (λ v. view v.now) document.entry) ≡ true }
+        apply_to_copy_allocates content.now (option_map (λ v. value_of v.now) document.entry) ≡ true }
 {
     check_presence(content, document)?;
     if matches!(content.kind(), Kind::Delete) {
         return Ok(None);
     }
-    let mut made = shared_copy_of(alloc, document)?;
+    let mut made = clone_document(alloc, document)?;
     content.apply_to(alloc, &mut made)?;
-    share_all(alloc, &mut made)?;
+    freeze_all(alloc, &mut made)?;
     Ok(made)
 }
 
 // Refuses a create on a document, and an edit of none.
 fn check_presence(content: &Content, document: Option<&Json>) -> Result<(), Code>
     ensures ok { OnOk result
-        (storing_takes_memory content.now (option_map (λ v. view v.now) document.entry) ≡ true) }
+        (apply_to_copy_allocates content.now (option_map (λ v. value_of v.now) document.entry) ≡ true) }
     ensures err { IfErr result
-        (λ code. becomes content.now (option_map (λ v. view v.now) document.entry) ≡ Err code) }
+        (λ code. apply_content content.now (option_map (λ v. value_of v.now) document.entry) ≡ Err code) }
 {
     match content.kind() {
         Kind::Create(_) => match document {
@@ -369,7 +379,7 @@ fn check_presence(content: &Content, document: Option<&Json>) -> Result<(), Code
 }
 
 // Stores what a submission has become, and swaps in the document that it makes.
-fn store(
+fn append_entry(
     alloc: Global,
     log: &mut Log,
     present: &mut Option<Json>,
@@ -379,20 +389,20 @@ fn store(
     made: Option<Json>,
 ) -> Result<(), AllocError>
     requires document { IsMadeDocument log.old present.old }
-    requires settles { Settles log.old submission content (option_map view made) }
+    requires settles { WillStore log.old submission content (option_map value_of made) }
     ensures log { OnOk result (log.new ≡ (decide log.old submission now).log) }
     ensures reply { OnOk result
-        ((decide log.old submission now).reply ≡ stored (length log.old) (missed log.old submission)) }
+        ((decide log.old submission now).reply ≡ stored (length log.old) (missed_entries log.old submission)) }
     ensures same { OnErr result (log.new ≡ log.old) }
     ensures document { IsMadeDocument log.new present.new }
 {
-    match mem::replace(log, Log::new(alloc)).prepare(submission) {
+    match mem::replace(log, Log::new(alloc)).reserve_append(submission) {
         Ok(prepared) => {
-            *log = prepared.store(now, content);
+            *log = prepared.commit(now, content);
             *present = made;
             Ok(())
         }
-        Err(Unprepared { log: kept, error }) => {
+        Err(ReserveError { log: kept, error }) => {
             *log = kept;
             Err(error)
         }
@@ -406,9 +416,9 @@ pub(crate) fn look_at(
     present: Option<&Json>,
     submission: &Submission,
 ) -> Result<Look, AllocError>
-    requires { option_map (λ v. view v.now) present ≡ document log.now }
+    requires { option_map (λ v. value_of v.now) present ≡ document_of log.now }
     ensures look { IfOk result (λ l. plain_look l ≡ look_at log.now submission.now) }
-    ensures memory { OnErr result (looking_takes_memory log.now submission.now ≡ true) }
+    ensures memory { OnErr result (look_allocates log.now submission.now ≡ true) }
 {
     let version = log.len();
     if let Some(v) = log.stored_at(submission.src(), submission.seq()) {
@@ -422,14 +432,14 @@ pub(crate) fn look_at(
     Ok(Look {
         version,
         repeat: None,
-        missed: copy_entries(alloc, missed_of(log, submission))?,
-        snapshot: shared_copy_of(alloc, present)?,
+        missed: clone_entries(alloc, missed_entries(log, submission))?,
+        snapshot: clone_document(alloc, present)?,
     })
 }
 
 // The entries that the submission has not seen.
-pub(crate) fn missed_of<'l>(log: &'l Log, submission: &Submission) -> &'l [Entry]
-    ensures { result.now ≡ missed log.now submission.now }
+pub(crate) fn missed_entries<'l>(log: &'l Log, submission: &Submission) -> &'l [Entry]
+    ensures { result.now ≡ missed_entries log.now submission.now }
 {
     let version = log.len();
     let since = submission.version().unwrap_or(version).min(version);
@@ -438,7 +448,7 @@ pub(crate) fn missed_of<'l>(log: &'l Log, submission: &Submission) -> &'l [Entry
 
 // The entries from a version on, before another one, as far as the log has come.
 pub(crate) fn entries_between(log: &Log, from: u64, to: u64) -> &[Entry]
-    ensures { result.now ≡ between log.now from to }
+    ensures { result.now ≡ operations_between log.now from to }
 {
     let end = to.min(log.len());
     let start = from.min(end);

@@ -1,14 +1,14 @@
 //! The documents of a server: what a look at one shows, and how a submission is committed to it.
 #![tactic(auto)]
 
-mod attempts;
 mod document;
-mod lending;
-mod resuming;
+mod document_slot;
+mod replay_base;
+mod resume;
 mod shard;
-mod topic;
+mod work;
 
-pub use attempts::{Attempt, Look, Work, WorkedContent};
 pub use document::Reply;
-pub use lending::Lent;
-pub use shard::{Decision, Fetched, Outcome, Shard, Subscribed};
+pub use replay_base::ReplayBase;
+pub use shard::{CommitDecision, FetchResult, Outcome, Shard, SubscribeResult};
+pub use work::{Attempt, Look, RebasedContent, Work};

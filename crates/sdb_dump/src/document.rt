@@ -1,14 +1,14 @@
 //! One document: its log, and what it makes.
 ghost use Rattle.std.specs.Prelude.{◌≡◌, [], IfOk, IfErr, option_map};
-ghost use Rattle.sdb_desk.specs.Documents.{IsOpen, Settles};
+ghost use Rattle.sdb_desk.specs.DocumentModel.{CanStore, WillStore};
 ghost use Rattle.sdb_oplog.specs.Decide.{IsMade};
-ghost use Rattle.sdb_oplog.specs.Snap.{document};
-ghost use Rattle.sdb_value.specs.View.{view};
-ghost use Rattle.sdb_dump.specs.Dumps.{stored_by};
-ghost use Rattle.sdb_dump.specs.Storing.{Grows, IsRefusedBy, TellsOpen};
+ghost use Rattle.sdb_oplog.specs.Snap.{document_of};
+ghost use Rattle.sdb_value.specs.View.{value_of};
+ghost use Rattle.sdb_dump.specs.DumpText.{decided_entry};
+ghost use Rattle.sdb_dump.specs.DecideModel.{LogAfterStore, IsNeverStoredOrOutOfMemory, IsCanStoreTest};
 
-use crate::lines::unless_refused;
-use sdb_oplog::{Code, Content, Log, Moment, Submission, over_all};
+use crate::dump_line::none_if_refused;
+use sdb_oplog::{Code, Content, Log, Moment, Submission, rebase};
 use sdb_value::{Json, MAX};
 use std::alloc::{AllocError, Global};
 use std::marker::Model;
@@ -45,14 +45,14 @@ impl MadeLog {
 
 /// Such a log, with the document that it makes beside it.
 #[derive(Drop)]
-pub(crate) struct Document {
+pub(crate) struct DecidedLog {
     log: Log,
-    present: Option<Json>,
+    current: Option<Json>,
 }
 
-impl Model for Document {
+impl Model for DecidedLog {
     ghost use Rattle.std.specs.Prelude.{List};
-    ghost use Rattle.sdb_desk.specs.Documents.{IsMadeDocument};
+    ghost use Rattle.sdb_desk.specs.DocumentModel.{IsMadeDocument};
     ghost use Rattle.sdb_oplog.specs.Coding.{log_code};
     ghost use Rattle.sdb_oplog.specs.Plain.{PlainEntry};
 
@@ -62,17 +62,17 @@ impl Model for Document {
 
     ghost view = { λ d. d.log };
 
-    ghost invariant = { λ d. IsMadeDocument d.log d.present };
+    ghost invariant = { λ d. IsMadeDocument d.log d.current };
 }
 
-impl Document {
+impl DecidedLog {
     /// Nothing is stored of it.
-    pub fn new(alloc: Global) -> Document
+    pub fn new(alloc: Global) -> DecidedLog
         ensures { result ≡ [] }
     {
-        Document {
+        DecidedLog {
             log: Log::new(alloc),
-            present: None,
+            current: None,
         }
     }
 
@@ -83,25 +83,29 @@ impl Document {
     }
 
     /// Stores a submission at a moment. `None` where it was stored long since, or is refused.
-    pub fn store(
+    pub fn append_decided(
         self,
         alloc: Global,
         submission: Submission,
         now: Moment,
-    ) -> Result<Option<Document>, AllocError>
-        ensures { IfOk result (Grows self (stored_by self submission now)) }
+    ) -> Result<Option<DecidedLog>, AllocError>
+        ensures { IfOk result (LogAfterStore self (decided_entry self submission now)) }
     {
-        let Document { log, mut present } = self;
-        if !is_open(&log, &submission) {
+        let DecidedLog {
+            log,
+            current: mut present,
+        } = self;
+        if !can_store(&log, &submission) {
             return Ok(None);
         }
-        let Some(content) = unless_refused(settle(alloc, &log, &submission, &mut present))? else {
+        let Some(content) = none_if_refused(decide_content(alloc, &log, &submission, &mut present))?
+        else {
             return Ok(None);
         };
-        match log.prepare(submission) {
-            Ok(prepared) => Ok(Some(Document {
-                log: prepared.store(now, content),
-                present,
+        match log.reserve_append(submission) {
+            Ok(prepared) => Ok(Some(DecidedLog {
+                log: prepared.commit(now, content),
+                current: present,
             })),
             Err(unprepared) => Err(unprepared.error),
         }
@@ -111,14 +115,14 @@ impl Document {
     pub fn into_log(self) -> MadeLog
         ensures { result ≡ self }
     {
-        let Document { log, .. } = self;
+        let DecidedLog { log, .. } = self;
         MadeLog { log }
     }
 }
 
 // Whether the submission is new, there is room, and its version has been reached.
-fn is_open(log: &Log, submission: &Submission) -> bool
-    ensures { TellsOpen log.now submission.now result }
+fn can_store(log: &Log, submission: &Submission) -> bool
+    ensures { IsCanStoreTest log.now submission.now result }
 {
     let version = log.len();
     log.stored_at(submission.src(), submission.seq()).is_none()
@@ -128,20 +132,20 @@ fn is_open(log: &Log, submission: &Submission) -> bool
 
 // What the content of a submission becomes along the entries that it missed, if it doesn't stay as it arrived; it is
 // applied to the document.
-fn settle(
+fn decide_content(
     alloc: Global,
     log: &Log,
     submission: &Submission,
     present: &mut Option<Json>,
 ) -> Result<Option<Content>, Code>
-    requires open { IsOpen log.now submission.now }
-    requires present { option_map view present.old ≡ document log.now }
-    ensures ok { IfOk result (λ content. Settles log.now submission.now content (option_map view present.new)) }
-    ensures err { IfErr result (IsRefusedBy log.now submission.now) }
+    requires open { CanStore log.now submission.now }
+    requires present { option_map value_of present.old ≡ document_of log.now }
+    ensures ok { IfOk result (λ content. WillStore log.now submission.now content (option_map value_of present.new)) }
+    ensures err { IfErr result (IsNeverStoredOrOutOfMemory log.now submission.now) }
 {
     let version = log.len();
     let missed = log.entries_from(submission.version().unwrap_or(version));
-    let content = over_all(alloc, submission.content(), missed)?;
+    let content = rebase(alloc, submission.content(), missed)?;
     match &content {
         Some(content) => content.apply_to(alloc, present)?,
         None => submission.content().apply_to(alloc, present)?,

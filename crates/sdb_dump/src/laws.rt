@@ -1,11 +1,11 @@
 //! Laws of dumps. The functions do nothing; their contracts are the laws.
-ghost use Rattle.sdb_dump.specs.Accepted.{TransformFits, DumpsAreAccepted, AcceptedAreDumps};
-ghost use Rattle.sdb_dump.specs.Cut.{TextIsExact};
-ghost use Rattle.sdb_dump.specs.Exact.{Exact, LineReadsBack};
-ghost use Rattle.sdb_dump.specs.Listed.{LogsAreDumped};
-ghost use Rattle.sdb_dump.specs.OfLogs.{TextIsOfLogs};
-ghost use Rattle.sdb_dump.specs.Printed.{PrintedReadsBack, PrintedIsText};
-ghost use Rattle.sdb_dump.specs.Stages.{StagesAreCheck};
+ghost use Rattle.sdb_dump.specs.DumpLaws.{TransformKeepsLimits, DumpsOfLogsAccepted, AcceptedAreDumpsOfLogs};
+ghost use Rattle.sdb_dump.specs.LineSplit.{TextIsExact};
+ghost use Rattle.sdb_dump.specs.CheckLaws.{CheckIsExact, LineReadsBack};
+ghost use Rattle.sdb_dump.specs.LogListing.{LogsAreDumped};
+ghost use Rattle.sdb_dump.specs.LogDumps.{TextIsOfLogs};
+ghost use Rattle.sdb_dump.specs.PrintLaws.{PrintedReadsBack, PrintedIsText};
+ghost use Rattle.sdb_dump.specs.CheckStages.{StagesAreCheck};
 
 /// The compact text of sound data denotes those data, and is UTF-8.
 pub fn printed_reads_back()
@@ -20,18 +20,18 @@ pub fn line_reads_back()
 
 /// A checker's entries are exactly those whose dump the lines are.
 pub fn check_is_exact()
-    ensures { Exact }
+    ensures { CheckIsExact }
 {}
 
 /// What stands for a component that fits, after another one that fits, fits.
 pub fn transform_fits()
-    ensures { TransformFits }
+    ensures { TransformKeepsLimits }
 {}
 
 /// A checker accepts the dumps of made logs within the limits, and no other lines.
-pub fn dumps_are_accepted()
-    ensures accepted { DumpsAreAccepted }
-    ensures only { AcceptedAreDumps }
+pub fn dump_is_accepted()
+    ensures accepted { DumpsOfLogsAccepted }
+    ensures only { AcceptedAreDumpsOfLogs }
 {}
 
 /// Line by line, the answer is that of the check of all lines.

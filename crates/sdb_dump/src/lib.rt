@@ -1,16 +1,16 @@
 //! Dumps: the text of all that is stored, and a checker of such texts.
 #![tactic(auto)]
 
-mod checking;
+mod check;
+mod checker;
 mod document;
+mod dump_line;
 pub mod laws;
-mod lines;
-mod stream;
-mod texts;
+mod utf8_facts;
 mod version;
-mod writing;
+mod write;
 
-pub use checking::{Checked, DumpFault};
-pub use stream::check_dump;
+pub use check::check_dump;
+pub use checker::{CheckedDump, DumpFault};
 pub use version::DumpVersion;
-pub use writing::{Documents, write_dump};
+pub use write::{DumpSource, write_dump};

@@ -11,22 +11,22 @@ pub trait Grows {
     ghost blank: { ℕ → Self → Type 0 };
 
     /// Each value extends itself.
-    ghost itself: { (a : Self) → extends a a };
+    ghost extends_refl: { (a : Self) → extends a a };
 
     /// What extends a value extends what that one extends.
-    ghost further: { (a b c : Self) → extends c b → extends b a → extends c a };
+    ghost extends_trans: { (a b c : Self) → extends c b → extends b a → extends c a };
 
     /// A value holds the same as itself under each number.
-    ghost same_itself: { (n : ℕ) (a : Self) → same n a a };
+    ghost same_refl: { (n : ℕ) (a : Self) → same n a a };
 
     /// Of three values, where the first and second, and the second and third hold the same, the first and third do.
-    ghost same_further: { (n : ℕ) (a b c : Self) → same n a b → same n b c → same n a c };
+    ghost same_trans: { (n : ℕ) (a b c : Self) → same n a b → same n b c → same n a c };
 
     /// Two values that hold nothing under a number hold the same there.
-    ghost blank_same: { (n : ℕ) (a b : Self) → blank n a → blank n b → same n a b };
+    ghost same_of_blank: { (n : ℕ) (a b : Self) → blank n a → blank n b → same n a b };
 
     /// What holds the same as a value that holds nothing there holds nothing.
-    ghost same_blank: { (n : ℕ) (a b : Self) → same n a b → blank n a → blank n b };
+    ghost blank_of_same: { (n : ℕ) (a b : Self) → same n a b → blank n a → blank n b };
 }
 
 /// What is done once with the value, under the lock.
@@ -34,14 +34,14 @@ pub trait Job<T: Grows> {
     type Answer;
 
     /// The job may be run under this number on this value.
-    ghost ready: { Self → ℕ → T → Type 0 };
+    ghost precondition: { Self → ℕ → T → Type 0 };
     /// What the job does: of the job, the number, the value before, the value after and the answer.
-    ghost does: { Self → ℕ → T → T → Self.Answer → Type 0 };
+    ghost postcondition: { Self → ℕ → T → T → Self.Answer → Type 0 };
 
     /// Changes the value into one that extends it, and nothing that stands under another number.
     fn run(self, number: u64, value: &mut T) -> Self::Answer
-        requires { ready self number value.old }
+        requires { precondition self number value.old }
         ensures extends { T.extends value.new value.old }
         ensures others { (k : ℕ) → k ≢ number → T.same k value.old value.new }
-        ensures does { does self number value.old value.new result };
+        ensures does { postcondition self number value.old value.new result };
 }

@@ -7,12 +7,12 @@
 //! The lock is one word and one slot of an `atomic_table`; its steps and the rule that they keep stand in `rule.rt`.
 #![tactic(auto)]
 
+mod grow_lock;
 mod grows;
 mod lock;
-mod parts;
 mod rule;
 mod view;
 
+pub use grow_lock::{GrowLock, Seat};
 pub use grows::{Grows, Job};
 pub use lock::SplitFault;
-pub use parts::{GrowLock, Seat};

@@ -1,5 +1,5 @@
 //! The rule of the table, and what each of its steps tells the seat that makes it.
-ghost use Rattle.sdb_growlock.specs.Rule.{Kept, stands, taken, freed, looked, left_with, given_off, joined, spent};
+ghost use Rattle.sdb_growlock.specs.LockRule.{LockInvariant, idle_view, acquire_step, release_step, read_step, splitter_view, split_off_view, join_views, empty_view};
 
 use crate::grows::Grows;
 use crate::view::View;
@@ -11,45 +11,45 @@ use std::snapshot::Snapshot;
 pub struct GrowthRule;
 
 impl<T: Grows> TableRule<Option<T>, View<T>, Snapshot<T>> for GrowthRule {
-    ghost holds = { λ _. Kept T.extends T.same T.blank };
+    ghost holds = { λ _. LockInvariant T.extends T.same T.blank };
 
-    ghost first = { λ key. stands 0 key.value 1 };
+    ghost first = { λ key. idle_view 0 key.value 1 };
 }
 
 /// The word is set to 1: where it was 0, the value comes to the seat.
-pub struct TakeStep;
+pub struct AcquireStep;
 
-impl<T: Grows> Play<Option<T>, View<T>> for TakeStep {
-    ghost then = { taken T.extends T.same T.blank };
+impl<T: Grows> Play<Option<T>, View<T>> for AcquireStep {
+    ghost then = { acquire_step T.extends T.same T.blank };
 }
 
 /// The word is set to 0: the value is at home again.
-pub struct FreeStep;
+pub struct ReleaseStep;
 
-impl<T: Grows> Play<Option<T>, View<T>> for FreeStep {
-    ghost then = { freed T.extends T.same T.blank };
+impl<T: Grows> Play<Option<T>, View<T>> for ReleaseStep {
+    ghost then = { release_step T.extends T.same T.blank };
 }
 
 /// The word is read: the first seat learns that nothing stands under the next number.
-pub struct LookStep;
+pub struct ReadStep;
 
-impl<T: Grows> Play<Option<T>, View<T>> for LookStep {
-    ghost then = { looked T.extends T.same T.blank };
+impl<T: Grows> Play<Option<T>, View<T>> for ReadStep {
+    ghost then = { read_step T.extends T.same T.blank };
 }
 
 /// A seat is cut in two, and two are joined.
-pub struct SeatStep;
+pub struct SplitJoinStep;
 
-impl<T> Split<View<T>> for SeatStep {
-    ghost left = { left_with };
+impl<T> Split<View<T>> for SplitJoinStep {
+    ghost left = { splitter_view };
 
-    ghost right = { given_off };
+    ghost right = { split_off_view };
 }
 
-impl<T> Join<View<T>> for SeatStep {
-    ghost both = { joined };
+impl<T> Join<View<T>> for SplitJoinStep {
+    ghost both = { join_views };
 
-    ghost spent = { spent };
+    ghost spent = { empty_view };
 }
 
 pub type LockTable<T> = Table<Option<T>, View<T>, Snapshot<T>, GrowthRule, Global>;

@@ -6,40 +6,40 @@ use Rattle.json.specs.Json.{Parse, parse_map, after_end_array, read_key, items_s
 use Rattle.json.proofs.Grammar.{items_end, items_more, members_end, members_no_key, members_more}
 use Rattle.serde_json.specs.Data.{Data, array, object, Items, no_items, item, Members, no_members, put}
 use Rattle.serde_json.specs.Read.{of_json, of_items, of_members, converted}
-use Rattle.sdb_json.specs.Tree.{items_view, view, whole}
+use Rattle.sdb_json.specs.JsonTree.{items_view, view, complete_value}
 use Rattle.sdb_json.specs.declared.tree.JsonTree.{JsonTree}
 
-abbrev pick : {A : Type 0} → A → Option A → A
-pick d None = d
-pick d (Some a) = a
+abbrev or_default : {A : Type 0} → A → Option A → A
+or_default d None = d
+or_default d (Some a) = a
 
-found : {A B : Type 0} (a : A) (r s : List Token) (x : Option B) (b : B) → option_map {U = B × List Token} (λ y. (y, r)) x ≡ Some (b, s) → (r ≡ s) × (x ≡ Some b)
-found a r s None b e = absurd (cc)
-found a r s (Some y) b e = let same = ap (pick (y, r)) e in (ap (λ p. p.1) same, ap (λ p. Some p.0) same)
+mapped_some : {A B : Type 0} (a : A) (r s : List Token) (x : Option B) (b : B) → option_map {U = B × List Token} (λ y. (y, r)) x ≡ Some (b, s) → (r ≡ s) × (x ≡ Some b)
+mapped_some a r s None b e = absurd (cc)
+mapped_some a r s (Some y) b e = let same = ap (or_default (y, r)) e in (ap (λ p. p.1) same, ap (λ p. Some p.0) same)
 
 pub converted_some : {A B : Type 0} (f : A → Option B) (o : Option (A × List Token)) (b : B) (r : List Token) → converted f o ≡ Some (b, r) → (a : A) × (o ≡ Some (a, r)) × (f a ≡ Some b)
 converted_some f None b r e = absurd (cc)
-converted_some f (Some p) b r e = let both = found p.0 p.1 r (f p.0) b e in (p.0, ap (λ s. Some (p.0, s)) both.0, both.1)
+converted_some f (Some p) b r e = let both = mapped_some p.0 p.1 r (f p.0) b e in (p.0, ap (λ s. Some (p.0, s)) both.0, both.1)
 
-refused : {B : Type 0} (r : List Token) (x : Option B) → option_map {U = B × List Token} (λ y. (y, r)) x ≡ None → x ≡ None
-refused r None e = refl
-refused r (Some y) e = absurd (cc)
+mapped_none : {B : Type 0} (r : List Token) (x : Option B) → option_map {U = B × List Token} (λ y. (y, r)) x ≡ None → x ≡ None
+mapped_none r None e = refl
+mapped_none r (Some y) e = absurd (cc)
 
-twice : {A B : Type 0} (g : A → B) (r : List Token) (x : Option A) → option_map (λ b. (b, r)) (option_map g x) ≡ parse_map g (option_map (λ a. (a, r)) x)
-twice g r None = refl
-twice g r (Some a) = refl
+map_map_pair : {A B : Type 0} (g : A → B) (r : List Token) (x : Option A) → option_map (λ b. (b, r)) (option_map g x) ≡ parse_map g (option_map (λ a. (a, r)) x)
+map_map_pair g r None = refl
+map_map_pair g r (Some a) = refl
 
 pub converted-array : (o : Option (json.Items × List Token)) → converted of_json (parse_map json.array o) ≡ parse_map array (converted of_items o)
 converted-array None = refl
-converted-array (Some p) = twice array p.1 (of_items p.0)
+converted-array (Some p) = map_map_pair array p.1 (of_items p.0)
 
 pub converted-object : (o : Option (json.Members × List Token)) → converted of_json (parse_map json.object o) ≡ parse_map object (converted (λ ms. of_members ms no_members) o)
 converted-object None = refl
-converted-object (Some p) = twice object p.1 (of_members p.0 no_members)
+converted-object (Some p) = map_map_pair object p.1 (of_members p.0 no_members)
 
 with_item : (j : json.Json) (d : Data) → of_json j ≡ Some d → (o : Option (json.Items × List Token)) → converted of_items (parse_map (json.item j) o) ≡ parse_map (item d) (converted of_items o)
 with_item j d e None = refl
-with_item j d e (Some p) = rw e (twice (item d) p.1 (of_items p.0))
+with_item j d e (Some p) = rw e (map_map_pair (item d) p.1 (of_items p.0))
 
 without_item : (j : json.Json) → of_json j ≡ None → (o : Option (json.Items × List Token)) → converted of_items (parse_map (json.item j) o) ≡ None
 without_item j e None = refl
@@ -61,7 +61,7 @@ module _ (p : Parse json.Json) where
 
   no_item : (more : Parse json.Items) (o : Option (json.Json × List Token)) → converted of_json o ≡ None → converted of_items (option_and_then (λ q. parse_map (json.item q.0) (more q.1)) o) ≡ None
   no_item more None e = refl
-  no_item more (Some q) e = without_item q.0 (refused q.1 (of_json q.0) e) (more q.1)
+  no_item more (Some q) e = without_item q.0 (mapped_none q.1 (of_json q.0) e) (more q.1)
 
   pub item_refused : (n : ℕ) (ts : List Token) → after_end_array ts ≡ None → converted of_json (p ts) ≡ None → converted of_items (items p n ts) ≡ None
   unfolding items
@@ -81,7 +81,7 @@ module _ (p : Parse json.Json) where
     no_member : (k : List ℕ) (more : Parse json.Members) (o : Option (json.Json × List Token)) → converted of_json o ≡ None
         → converted (λ ms. of_members ms old) (option_and_then (λ q. parse_map (json.member k q.0) (more q.1)) o) ≡ None
     no_member k more None e = refl
-    no_member k more (Some q) e = without_member k q.0 old (refused q.1 (of_json q.0) e) (more q.1)
+    no_member k more (Some q) e = without_member k q.0 old (mapped_none q.1 (of_json q.0) e) (more q.1)
 
     pub member_refused : (n : ℕ) (k : List ℕ) (ts s : List Token) → read_key ts ≡ Some (Some k, s) → converted of_json (p s) ≡ None → converted (λ ms. of_members ms old) (members p n ts) ≡ None
     unfolding members
@@ -118,13 +118,13 @@ none_before (Some p) = refl
 
 -- ---- the whole text
 
-pub whole_read : (o : Option (json.Json × List Token)) (d : Data) → converted of_json o ≡ Some (d, []) → whole o ≡ Some d
-whole_read o d e = let j = converted_some of_json o d [] e in ap whole j.1 ∙ j.2
+pub whole_read : (o : Option (json.Json × List Token)) (d : Data) → converted of_json o ≡ Some (d, []) → complete_value o ≡ Some d
+whole_read o d e = let j = converted_some of_json o d [] e in ap complete_value j.1 ∙ j.2
 
-pub whole_and_more : (o : Option (json.Json × List Token)) (d : Data) (t : Token) (r : List Token) → converted of_json o ≡ Some (d, t ∷ r) → whole o ≡ None
-whole_and_more o d t r e = ap whole (converted_some of_json o d (t ∷ r) e).1
+pub whole_and_more : (o : Option (json.Json × List Token)) (d : Data) (t : Token) (r : List Token) → converted of_json o ≡ Some (d, t ∷ r) → complete_value o ≡ None
+whole_and_more o d t r e = ap complete_value (converted_some of_json o d (t ∷ r) e).1
 
-pub whole_refused : (o : Option (json.Json × List Token)) → converted of_json o ≡ None → whole o ≡ None
+pub whole_refused : (o : Option (json.Json × List Token)) → converted of_json o ≡ None → complete_value o ≡ None
 whole_refused None e = refl
-whole_refused (Some (j, [])) e = refused [] (of_json j) e
+whole_refused (Some (j, [])) e = mapped_none [] (of_json j) e
 whole_refused (Some (j, t ∷ r)) e = refl

@@ -1,3 +1,3 @@
 pub mod Grammar
-pub mod Objects
-pub mod Views
+pub mod ObjectLemmas
+pub mod ViewLemmas

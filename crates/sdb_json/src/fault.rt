@@ -4,29 +4,29 @@ use std::alloc::AllocError;
 
 // The text is no JSON, or an allocation failed.
 #[derive(Drop)]
-pub(crate) enum Fault {
-    Form,
-    Memory { error: AllocError },
+pub(crate) enum ParseFault {
+    BadlyFormed,
+    OutOfMemory { error: AllocError },
 }
 
-impl From<Invalid> for Fault {
+impl From<Invalid> for ParseFault {
     ghost use Rattle.std.specs.Prelude.{◌≡◌};
-    ghost use Rattle.sdb_json.specs.declared.fault.Fault.TheVariants.{Form};
+    ghost use Rattle.sdb_json.specs.declared.fault.ParseFault.TheVariants.{BadlyFormed};
 
-    ghost from_gives = { λ _ f. f ≡ Form };
+    ghost from_gives = { λ _ f. f ≡ BadlyFormed };
 
-    fn from(_invalid: Invalid) -> Fault {
-        Fault::Form
+    fn from(_invalid: Invalid) -> ParseFault {
+        ParseFault::BadlyFormed
     }
 }
 
-impl From<AllocError> for Fault {
+impl From<AllocError> for ParseFault {
     ghost use Rattle.std.specs.Prelude.{◌≡◌};
-    ghost use Rattle.sdb_json.specs.declared.fault.Fault.TheVariants.{Memory};
+    ghost use Rattle.sdb_json.specs.declared.fault.ParseFault.TheVariants.{OutOfMemory};
 
-    ghost from_gives = { λ e f. f ≡ Memory e };
+    ghost from_gives = { λ e f. f ≡ OutOfMemory e };
 
-    fn from(error: AllocError) -> Fault {
-        Fault::Memory { error }
+    fn from(error: AllocError) -> ParseFault {
+        ParseFault::OutOfMemory { error }
     }
 }

@@ -1,14 +1,14 @@
 //! The members of an object as they came.
 ghost use Rattle.std.specs.Prelude.{◌≡◌, IfOk, bytes_eq, option_map};
 ghost use Rattle.serde_json.specs.Find.{get_member};
-ghost use Rattle.sdb_json.specs.Tree.{fields_view, sorted_members, view};
+ghost use Rattle.sdb_json.specs.JsonTree.{fields_view, sorted_members, view};
 
 use crate::tree::JsonTree;
 use std::alloc::{AllocError, Global};
 use std::collections::BTreeMap;
 
 // The last value of that key.
-pub(crate) fn field<'v, 'a>(
+pub(crate) fn find_field<'v, 'a>(
     fields: &'v [(&'a str, JsonTree<'a>)],
     key: &str,
 ) -> Option<&'v JsonTree<'a>>
@@ -34,7 +34,7 @@ fn is_named(name: &str, key: &str) -> bool
 }
 
 // The last value of each key, by the keys.
-pub(crate) fn sorted<'v, 'a>(
+pub(crate) fn sort_fields<'v, 'a>(
     alloc: Global,
     fields: &'v [(&'a str, JsonTree<'a>)],
 ) -> Result<BTreeMap<&'v str, &'v JsonTree<'a>>, AllocError>

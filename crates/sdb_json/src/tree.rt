@@ -1,8 +1,8 @@
 //! A JSON text as a tree.
-ghost use Rattle.sdb_json.specs.Tree.{view};
+ghost use Rattle.sdb_json.specs.JsonTree.{view};
 
-use crate::data::JsonData;
-use crate::fields::{field, sorted};
+use crate::fields::{find_field, sort_fields};
+use crate::json_data::JsonData;
 use serde_json::Number;
 use std::alloc::{AllocError, Global};
 use std::collections::BTreeMap;
@@ -62,14 +62,14 @@ impl<'a> JsonData for JsonTree<'a> {
 
     fn members(&self, alloc: Global) -> Result<Option<BTreeMap<&str, &JsonTree<'a>>>, AllocError> {
         match self {
-            JsonTree::Object(fields) => Ok(Some(sorted(alloc, fields.as_slice())?)),
+            JsonTree::Object(fields) => Ok(Some(sort_fields(alloc, fields.as_slice())?)),
             _ => Ok(None),
         }
     }
 
     fn get(&self, key: &str) -> Option<&JsonTree<'a>> {
         match self {
-            JsonTree::Object(fields) => field(fields.as_slice(), key),
+            JsonTree::Object(fields) => find_field(fields.as_slice(), key),
             _ => None,
         }
     }

@@ -1,4 +1,4 @@
-pub mod Pieces
+pub mod ChunkLemmas
 pub mod Runs
-pub mod Writing
-pub mod Progress
+pub mod WriteLemmas
+pub mod ProgressLemmas

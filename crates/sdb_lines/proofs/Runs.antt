@@ -3,8 +3,8 @@ use Rattle.std.proofs.Common.{◌≡◌, ℕ, List, [], ◌∷◌, ◌++◌, Non
 use Rattle.std.specs.declared.option.Option.{Option}
 use Rattle.std.specs.Io.KnownBytes.{Appends, Keeps}
 use Rattle.std.proofs.KnownBytes.{Appends-trans}
-use Rattle.sdb_lines.specs.Fronts.{IsFront, AppendsFront}
-use Rattle.sdb_lines.specs.Runs.{GrewBy, Run, Answers, AnswersBut, AnswersFront}
+use Rattle.sdb_lines.specs.Prefixes.{IsPrefix, AppendsPrefix}
+use Rattle.sdb_lines.specs.Runs.{AppendsWhere, Handles, AppendsAnswers, AppendsAnswersUpTo, AppendsAnswerPrefix}
 
 pub Appends-none : (a : Option (List ℕ)) → Appends a a []
 Appends-none None = tt
@@ -16,42 +16,42 @@ Appends-kept (Some x) None c bs p q = absurd p
 Appends-kept (Some x) (Some y) None bs p q = absurd q
 Appends-kept (Some x) (Some y) (Some z) bs p q = q ∙ p
 
-pub front-all : {A : Type 0} (l : List A) → IsFront l l
-front-all l = ([], sym (append-nil l))
+pub prefix-refl : {A : Type 0} (l : List A) → IsPrefix l l
+prefix-refl l = ([], sym (append-nil l))
 
-pub front-on : {A : Type 0} (a b c : List A) → IsFront b c → IsFront (a ++ b) (a ++ c)
-front-on a b c (after, e) = (after, ap (λ l. a ++ l) e ∙ sym (append_assoc a b after))
+pub prefix-trans : {A : Type 0} (a b c : List A) → IsPrefix b c → IsPrefix (a ++ b) (a ++ c)
+prefix-trans a b c (after, e) = (after, ap (λ l. a ++ l) e ∙ sym (append_assoc a b after))
 
-pub front-more : {A : Type 0} (a b c : List A) → IsFront a b → IsFront a (b ++ c)
-front-more a b c (after, e) = (after ++ c, ap (λ l. l ++ c) e ∙ append_assoc a after c)
+pub prefix-append : {A : Type 0} (a b c : List A) → IsPrefix a b → IsPrefix a (b ++ c)
+prefix-append a b c (after, e) = (after ++ c, ap (λ l. l ++ c) e ∙ append_assoc a after c)
 
 -- what comes first is a front of what it is the front of
-pub AppendsFront-more : (a b : Option (List ℕ)) (all more : List ℕ) → AppendsFront a b all → AppendsFront a b (all ++ more)
-AppendsFront-more a b all more (bytes, w, f) = (bytes, w, front-more bytes all more f)
+pub AppendsFront-more : (a b : Option (List ℕ)) (all more : List ℕ) → AppendsPrefix a b all → AppendsPrefix a b (all ++ more)
+AppendsFront-more a b all more (bytes, w, f) = (bytes, w, prefix-append bytes all more f)
 
-AppendsFront-on : (a b c : Option (List ℕ)) (written all : List ℕ) → Appends a b written → AppendsFront b c all → AppendsFront a c (written ++ all)
-AppendsFront-on a b c written all w (bytes, v, f) = (written ++ bytes, Appends-trans a b c written bytes w v, front-on written bytes all f)
+AppendsFront-on : (a b c : Option (List ℕ)) (written all : List ℕ) → Appends a b written → AppendsPrefix b c all → AppendsPrefix a c (written ++ all)
+AppendsFront-on a b c written all w (bytes, v, f) = (written ++ bytes, Appends-trans a b c written bytes w v, prefix-trans written bytes all f)
 
 -- the pieces of two runs in a row
-regroup : (first x y written out : List ℕ) → first ++ x ≡ written ++ out → first ++ (x ++ y) ≡ written ++ (out ++ y)
-regroup first x y written out e = sym (append_assoc first x y) ∙ ap (λ l. l ++ y) e ∙ append_assoc written out y
+append_regroup : (first x y written out : List ℕ) → first ++ x ≡ written ++ out → first ++ (x ++ y) ≡ written ++ (out ++ y)
+append_regroup first x y written out e = sym (append_assoc first x y) ∙ ap (λ l. l ++ y) e ∙ append_assoc written out y
 
 module _ {S : Type 0} (takes : S → Option (List ℕ) → List ℕ → S → Type 0) where
-  pub Run-append : (s t u : S) (a b : List (Option (List ℕ))) (x y : List ℕ) → Run takes s a x t → Run takes t b y u → Run takes s (a ++ b) (x ++ y) u
-  Run-append s t u [] b x y (e, k) r = subst (λ l. Run takes s b (l ++ y) u) (sym e) (subst (λ m. Run takes m b y u) k r)
+  pub Run-append : (s t u : S) (a b : List (Option (List ℕ))) (x y : List ℕ) → Handles takes s a x t → Handles takes t b y u → Handles takes s (a ++ b) (x ++ y) u
+  Run-append s t u [] b x y (e, k) r = subst (λ l. Handles takes s b (l ++ y) u) (sym e) (subst (λ m. Handles takes m b y u) k r)
   Run-append s t u (line ∷ a) b x y (answer, next, more, h, rest, e) r =
       (answer, next, more ++ y, h, Run-append next t u a b more y rest r, ap (λ l. l ++ y) e ∙ append_assoc answer more y)
 
   -- no line
-  pub Run-none : (s : S) → Run takes s [] [] s
+  pub Run-none : (s : S) → Handles takes s [] [] s
   Run-none s = (refl, refl)
 
   -- one line
-  pub Run-one : (s t : S) (line : Option (List ℕ)) (answer : List ℕ) → takes s line answer t → Run takes s (line ∷ []) answer t
+  pub Run-one : (s t : S) (line : Option (List ℕ)) (answer : List ℕ) → takes s line answer t → Handles takes s (line ∷ []) answer t
   Run-one s t line answer h = (answer, t, [], h, (refl, refl), sym (append-nil answer))
 
   -- nothing is taken yet
-  pub nothing-written : (s : S) (first : List ℕ) (old : Option (List ℕ)) (lines : List (Option (List ℕ))) → AnswersFront takes s lines first old old
+  pub nothing-written : (s : S) (first : List ℕ) (old : Option (List ℕ)) (lines : List (Option (List ℕ))) → AppendsAnswerPrefix takes s lines first old old
   nothing-written s first old lines = record {
     taken = [];
     bytes = [];
@@ -62,34 +62,34 @@ module _ {S : Type 0} (takes : S → Option (List ℕ) → List ℕ → S → Ty
   }
 
   -- what comes first is written, and nothing is taken yet
-  pub first-written : (s : S) (first : List ℕ) (old new : Option (List ℕ)) → Appends old new first → Answers takes s [] s first old new
+  pub first-written : (s : S) (first : List ℕ) (old new : Option (List ℕ)) → Appends old new first → AppendsAnswers takes s [] s first old new
   first-written s first old new w = record { bytes = []; run = Run-none s; wrote = subst (Appends old new) (sym (append-nil first)) w }
 
-  pub first-front : (s : S) (first : List ℕ) (old new : Option (List ℕ)) (lines : List (Option (List ℕ))) → AppendsFront old new first → AnswersFront takes s lines first old new
+  pub first-front : (s : S) (first : List ℕ) (old new : Option (List ℕ)) (lines : List (Option (List ℕ))) → AppendsPrefix old new first → AppendsAnswerPrefix takes s lines first old new
   first-front s first old new lines w =
       record { taken = []; bytes = []; last = s; from_first = (lines, refl); run = Run-none s; wrote = AppendsFront-more old new first [] w }
 
   -- the answer to a line is pending
-  pub line-pending : {s t : S} {line : Option (List ℕ)} (first pending : List ℕ) (old : Option (List ℕ)) → GrewBy first pending (λ answer. takes s line answer t) → AnswersBut takes pending s (line ∷ []) t first old old
+  pub line-pending : {s t : S} {line : Option (List ℕ)} (first pending : List ℕ) (old : Option (List ℕ)) → AppendsWhere first pending (λ answer. takes s line answer t) → AppendsAnswersUpTo takes pending s (line ∷ []) t first old old
   line-pending {s} {t} {line} first pending old (answer, e, h) = record { bytes = answer; written = []; run = Run-one s t line answer h; parts = sym e; wrote = Appends-none old }
 
   -- what was pending is written
-  pub pending-written : {s t : S} {lines : List (Option (List ℕ))} {first pending : List ℕ} {old mid : Option (List ℕ)} (new : Option (List ℕ)) → AnswersBut takes pending s lines t first old mid → Appends mid new pending → Answers takes s lines t first old new
+  pub pending-written : {s t : S} {lines : List (Option (List ℕ))} {first pending : List ℕ} {old mid : Option (List ℕ)} (new : Option (List ℕ)) → AppendsAnswersUpTo takes pending s lines t first old mid → Appends mid new pending → AppendsAnswers takes s lines t first old new
   pending-written {pending = pending} {old} {mid} new a v =
       record { bytes = a.bytes; run = a.run; wrote = subst (Appends old new) (sym a.parts) (Appends-trans old mid new a.written pending a.wrote v) }
 
-  pub pending-front : {s t : S} {lines : List (Option (List ℕ))} {first pending : List ℕ} {old mid : Option (List ℕ)} (new : Option (List ℕ)) → AnswersBut takes pending s lines t first old mid → AppendsFront mid new pending → AnswersFront takes s lines first old new
+  pub pending-front : {s t : S} {lines : List (Option (List ℕ))} {first pending : List ℕ} {old mid : Option (List ℕ)} (new : Option (List ℕ)) → AppendsAnswersUpTo takes pending s lines t first old mid → AppendsPrefix mid new pending → AppendsAnswerPrefix takes s lines first old new
   pending-front {t = t} {lines} {pending = pending} {old} {mid} new a v = record {
     taken = lines;
     bytes = a.bytes;
     last = t;
-    from_first = front-all lines;
+    from_first = prefix-refl lines;
     run = a.run;
-    wrote = subst (AppendsFront old new) (sym a.parts) (AppendsFront-on old mid new a.written pending a.wrote v);
+    wrote = subst (AppendsPrefix old new) (sym a.parts) (AppendsFront-on old mid new a.written pending a.wrote v);
   }
 
   -- all is written
-  pub none-pending : {s t : S} {lines : List (Option (List ℕ))} {first : List ℕ} {old new : Option (List ℕ)} (pending : List ℕ) → pending ≡ [] → Answers takes s lines t first old new → AnswersBut takes pending s lines t first old new
+  pub none-pending : {s t : S} {lines : List (Option (List ℕ))} {first : List ℕ} {old new : Option (List ℕ)} (pending : List ℕ) → pending ≡ [] → AppendsAnswers takes s lines t first old new → AppendsAnswersUpTo takes pending s lines t first old new
   none-pending {first = first} pending e a = record {
     bytes = a.bytes;
     written = first ++ a.bytes;
@@ -100,28 +100,28 @@ module _ {S : Type 0} (takes : S → Option (List ℕ) → List ℕ → S → Ty
 
   -- lines after lines
   pub lines-pending : {s t u : S} {a b : List (Option (List ℕ))} {first out pending : List ℕ} {old mid new : Option (List ℕ)}
-      → AnswersBut takes out s a t first old mid → AnswersBut takes pending t b u out mid new → AnswersBut takes pending s (a ++ b) u first old new
+      → AppendsAnswersUpTo takes out s a t first old mid → AppendsAnswersUpTo takes pending t b u out mid new → AppendsAnswersUpTo takes pending s (a ++ b) u first old new
   lines-pending {s} {t} {u} {a} {b} {first} {out} {pending} {old} {mid} {new} x y = record {
     bytes = x.bytes ++ y.bytes;
     written = x.written ++ y.written;
     run = Run-append s t u a b x.bytes y.bytes x.run y.run;
-    parts = regroup first x.bytes y.bytes x.written out x.parts ∙ ap (λ l. x.written ++ l) y.parts ∙ sym (append_assoc x.written y.written pending);
+    parts = append_regroup first x.bytes y.bytes x.written out x.parts ∙ ap (λ l. x.written ++ l) y.parts ∙ sym (append_assoc x.written y.written pending);
     wrote = Appends-trans old mid new x.written y.written x.wrote y.wrote;
   }
 
   pub lines-front : {s t : S} {a b : List (Option (List ℕ))} {first out : List ℕ} {old mid new : Option (List ℕ)}
-      → AnswersBut takes out s a t first old mid → AnswersFront takes t b out mid new → AnswersFront takes s (a ++ b) first old new
+      → AppendsAnswersUpTo takes out s a t first old mid → AppendsAnswerPrefix takes t b out mid new → AppendsAnswerPrefix takes s (a ++ b) first old new
   lines-front {s} {t} {a} {b} {first} {out} {old} {mid} {new} x y = record {
     taken = a ++ y.taken;
     bytes = x.bytes ++ y.bytes;
     last = y.last;
-    from_first = front-on a y.taken b y.from_first;
+    from_first = prefix-trans a y.taken b y.from_first;
     run = Run-append s t y.last a y.taken x.bytes y.bytes x.run y.run;
-    wrote = subst (AppendsFront old new) (sym (regroup first x.bytes y.bytes x.written out x.parts)) (AppendsFront-on old mid new x.written (out ++ y.bytes) x.wrote y.wrote);
+    wrote = subst (AppendsPrefix old new) (sym (append_regroup first x.bytes y.bytes x.written out x.parts)) (AppendsFront-on old mid new x.written (out ++ y.bytes) x.wrote y.wrote);
   }
 
   pub lines-written : {s t u : S} {a b : List (Option (List ℕ))} {first : List ℕ} {old mid new : Option (List ℕ)}
-      → Answers takes s a t first old mid → Answers takes t b u [] mid new → Answers takes s (a ++ b) u first old new
+      → AppendsAnswers takes s a t first old mid → AppendsAnswers takes t b u [] mid new → AppendsAnswers takes s (a ++ b) u first old new
   lines-written {s} {t} {u} {a} {b} {first} {old} {mid} {new} x y = record {
     bytes = x.bytes ++ y.bytes;
     run = Run-append s t u a b x.bytes y.bytes x.run y.run;
@@ -129,17 +129,17 @@ module _ {S : Type 0} (takes : S → Option (List ℕ) → List ℕ → S → Ty
   }
 
   pub lines-written_front : {s t : S} {a b : List (Option (List ℕ))} {first : List ℕ} {old mid new : Option (List ℕ)}
-      → Answers takes s a t first old mid → AnswersFront takes t b [] mid new → AnswersFront takes s (a ++ b) first old new
+      → AppendsAnswers takes s a t first old mid → AppendsAnswerPrefix takes t b [] mid new → AppendsAnswerPrefix takes s (a ++ b) first old new
   lines-written_front x y = lines-front (none-pending [] refl x) y
 
   -- a front of the answers to some lines is one of the answers to more
-  pub all-front : {s t : S} {lines : List (Option (List ℕ))} {first : List ℕ} {old new : Option (List ℕ)} → Answers takes s lines t first old new → AnswersFront takes s lines first old new
+  pub all-front : {s t : S} {lines : List (Option (List ℕ))} {first : List ℕ} {old new : Option (List ℕ)} → AppendsAnswers takes s lines t first old new → AppendsAnswerPrefix takes s lines first old new
   all-front {t = t} {lines} {first} a =
-      record { taken = lines; bytes = a.bytes; last = t; from_first = front-all lines; run = a.run; wrote = (first ++ a.bytes, a.wrote, front-all (first ++ a.bytes)) }
+      record { taken = lines; bytes = a.bytes; last = t; from_first = prefix-refl lines; run = a.run; wrote = (first ++ a.bytes, a.wrote, prefix-refl (first ++ a.bytes)) }
 
-  pub pending-only : {s t : S} {lines : List (Option (List ℕ))} {first pending : List ℕ} {old new : Option (List ℕ)} → AnswersBut takes pending s lines t first old new → AnswersFront takes s lines first old new
+  pub pending-only : {s t : S} {lines : List (Option (List ℕ))} {first pending : List ℕ} {old new : Option (List ℕ)} → AppendsAnswersUpTo takes pending s lines t first old new → AppendsAnswerPrefix takes s lines first old new
   pending-only {t = t} {lines} {pending = pending} a =
-      record { taken = lines; bytes = a.bytes; last = t; from_first = front-all lines; run = a.run; wrote = (a.written, a.wrote, (pending, a.parts)) }
+      record { taken = lines; bytes = a.bytes; last = t; from_first = prefix-refl lines; run = a.run; wrote = (a.written, a.wrote, (pending, a.parts)) }
 
-  pub front-lines : {s : S} {a : List (Option (List ℕ))} (b : List (Option (List ℕ))) {first : List ℕ} {old new : Option (List ℕ)} → AnswersFront takes s a first old new → AnswersFront takes s (a ++ b) first old new
-  front-lines {a = a} b x = record { taken = x.taken; bytes = x.bytes; last = x.last; from_first = front-more x.taken a b x.from_first; run = x.run; wrote = x.wrote }
+  pub front-lines : {s : S} {a : List (Option (List ℕ))} (b : List (Option (List ℕ))) {first : List ℕ} {old new : Option (List ℕ)} → AppendsAnswerPrefix takes s a first old new → AppendsAnswerPrefix takes s (a ++ b) first old new
+  front-lines {a = a} b x = record { taken = x.taken; bytes = x.bytes; last = x.last; from_first = prefix-append x.taken a b x.from_first; run = x.run; wrote = x.wrote }

@@ -1,8 +1,8 @@
-pub mod Counting
-pub mod Fronts
+pub mod Counts
+pub mod Prefixes
 pub mod Limits
 pub mod Lines
-pub mod Pieces
+pub mod Chunks
 pub mod Runs
-pub mod Stalls
+pub mod WriteFaults
 pub mod Streams

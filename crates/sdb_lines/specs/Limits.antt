@@ -2,12 +2,12 @@
 use Rattle.std.specs.Prelude.{ℕ, ◌+◌}
 
 -- the longest line that can be read, in bytes, without its line feed
-abbrev pub longest_line : ℕ
-longest_line = 1048576
+abbrev pub max_line_len : ℕ
+max_line_len = 1048576
 
 -- the most bytes that are held of a line: enough to see that it is too long
-abbrev pub most_held : ℕ
-most_held = longest_line + 1
+abbrev pub max_partial_len : ℕ
+max_partial_len = max_line_len + 1
 
 -- the most reads that one run makes
 abbrev pub read_limit : ℕ

@@ -2,20 +2,20 @@
 use Rattle.std.specs.Prelude.{◌≡◌, ℕ, ◌+◌, ◌-◌, ◌^◌, ◌≤◌, ◌⊎◌, Bool, true, if◌then◌else◌, min, Result, IsErrOf}
 use Rattle.sdb_lines.specs.Limits.{read_limit}
 use Rattle.sdb_lines.specs.declared.runner.RunFault.{RunFault}
-use Rattle.sdb_lines.specs.declared.runner.RunFault.TheVariants.{Read, Write}
+use Rattle.sdb_lines.specs.declared.runner.RunFault.TheVariants.{ReadFailed, WriteFailed}
 
 -- the number of failures after a call that failed or not. It stays at 2^64 - 1 once it gets there
 abbrev pub failures_after : Bool → ℕ → ℕ
 failures_after failed n = if failed then min (n + 1) (2 ^ 64 - 1) else n
 
 -- a run makes at most so many reads. None of them fails but for the one that is its fault, or it made them all
-pub record Reads {A : Type 0} (result : Result A RunFault) (calls failures new_calls new_failures : ℕ) : Type 0 where
+pub record ReadFaultIsCounted {A : Type 0} (result : Result A RunFault) (calls failures new_calls new_failures : ℕ) : Type 0 where
   pub few : new_calls ≤ calls + read_limit
-  pub others : (new_failures ≡ failures) ⊎ IsErrOf result Read
-  pub fault : IsErrOf result Read → (new_failures ≡ failures_after true failures)
+  pub others : (new_failures ≡ failures) ⊎ IsErrOf result ReadFailed
+  pub fault : IsErrOf result ReadFailed → (new_failures ≡ failures_after true failures)
       ⊎ (min (calls + read_limit) (2 ^ 64 - 1) ≤ new_calls)
 
 -- none of its writes and flushes fails, but for the one that is its fault
-pub record Writes {A : Type 0} (result : Result A RunFault) (failures new_failures : ℕ) : Type 0 where
-  pub others : (new_failures ≡ failures) ⊎ IsErrOf result Write
-  pub fault : IsErrOf result Write → new_failures ≡ failures_after true failures
+pub record WriteFaultIsCounted {A : Type 0} (result : Result A RunFault) (failures new_failures : ℕ) : Type 0 where
+  pub others : (new_failures ≡ failures) ⊎ IsErrOf result WriteFailed
+  pub fault : IsErrOf result WriteFailed → new_failures ≡ failures_after true failures

@@ -3,12 +3,12 @@
 //! All that is pending is written and flushed before the next read, so whoever writes a line and waits gets the answer
 //! without having to send more.
 ghost use Rattle.std.specs.Prelude.{◌≡◌, ◌+◌, ◌-◌, ◌^◌, ◌≤◌, ◌<◌, ◌⊎◌, ◌++◌, true, if◌then◌else◌, length, min, map, OnOk, OnErr, IfOk, IfSome, vec_len, IsErrOf};
-ghost use Rattle.sdb_lines.specs.Lines.{reading_of, lines_of};
-ghost use Rattle.sdb_lines.specs.Counting.{CountsAll};
-ghost use Rattle.sdb_lines.specs.Runs.{Answers, AnswersFront};
-ghost use Rattle.sdb_lines.specs.Streams.{Reads, Writes};
+ghost use Rattle.sdb_lines.specs.Lines.{readable_text, lines_of};
+ghost use Rattle.sdb_lines.specs.Counts.{AreCountsOf};
+ghost use Rattle.sdb_lines.specs.Runs.{AppendsAnswers, AppendsAnswerPrefix};
+ghost use Rattle.sdb_lines.specs.Streams.{ReadFaultIsCounted, WriteFaultIsCounted};
 
-use crate::cutting::{Pending, Replier, answer_piece, answer_rest, write_opening};
+use crate::line_reader::{LineBuffer, LineHandler, handle_chunk, handle_rest, write_opening};
 use crate::streams::{Sink, Source};
 use std::alloc::{AllocError, Global};
 use thiserror::Error;
@@ -48,22 +48,22 @@ impl Counts {
 pub enum RunFault {
     /// A read failed, or [`READ_LIMIT`] reads did not reach the end of the input.
     #[error("the input could not be read to its end")]
-    Read,
+    ReadFailed,
     /// A write or a flush failed, or a write took 0 bytes of some.
     #[error("an answer could not be written")]
-    Write,
+    WriteFailed,
     /// There was not enough memory for the 64 KiB that a read fills, for a line or for its answer.
     #[error("out of memory")]
-    Memory,
+    OutOfMemory,
 }
 
 impl From<AllocError> for RunFault {
-    ghost use Rattle.sdb_lines.specs.declared.runner.RunFault.TheVariants.{Memory};
+    ghost use Rattle.sdb_lines.specs.declared.runner.RunFault.TheVariants.{OutOfMemory};
 
-    ghost from_gives = { λ _ fault. fault ≡ Memory };
+    ghost from_gives = { λ _ fault. fault ≡ OutOfMemory };
 
     fn from(_error: AllocError) -> RunFault {
-        RunFault::Memory
+        RunFault::OutOfMemory
     }
 }
 
@@ -76,45 +76,46 @@ impl From<AllocError> for RunFault {
 ///
 /// A last line needs no line feed. After a fault the reader may have given bytes of lines that were not answered, and
 /// the machine may have taken lines whose answers were not written.
-pub fn run_lines<M: Replier, R: Source, W: Sink>(
+pub fn run_lines<M: LineHandler, R: Source, W: Sink>(
     alloc: Global,
     machine: &mut M,
     reader: &mut R,
     writer: &mut W,
 ) -> Result<Counts, RunFault>
     // The machine took the lines of the input, in order and no other, and all that it answered was written.
-    ensures whole { OnOk result (IfSome (R.left reader.old) (λ input.
-        Answers M.takes machine.old (map reading_of (lines_of input)) machine.new
-        (M.opening machine.old) (W.contents writer.old) (W.contents writer.new))) }
-    ensures counts { IfOk result (λ counts. IfSome (R.left reader.old) (λ input. CountsAll M.is_step input counts)) }
+    ensures whole { OnOk result (IfSome (R.remaining_input reader.old) (λ input.
+        AppendsAnswers M.handles machine.old (map readable_text (lines_of input)) machine.new
+        (M.opening machine.old) (W.bytes_written writer.old) (W.bytes_written writer.new))) }
+    ensures counts { IfOk result (λ counts. IfSome (R.remaining_input reader.old)
+        (λ input. AreCountsOf M.counts_as_step input counts)) }
     // After a fault a front of the opening and the answers to the first lines was written.
-    ensures front { OnErr result (IfSome (R.left reader.old) (λ input.
-        AnswersFront M.takes machine.old (map reading_of (lines_of input))
-        (M.opening machine.old) (W.contents writer.old) (W.contents writer.new))) }
+    ensures front { OnErr result (IfSome (R.remaining_input reader.old) (λ input.
+        AppendsAnswerPrefix M.handles machine.old (map readable_text (lines_of input))
+        (M.opening machine.old) (W.bytes_written writer.old) (W.bytes_written writer.new))) }
     // No read failed, and no write or flush, but for the one that is the fault.
-    ensures reads { Reads result (R.calls reader.old) (R.failures reader.old)
+    ensures reads { ReadFaultIsCounted result (R.calls reader.old) (R.failures reader.old)
         (R.calls reader.new) (R.failures reader.new) }
-    ensures writes { Writes result (W.failures writer.old) (W.failures writer.new) }
+    ensures writes { WriteFaultIsCounted result (W.failures writer.old) (W.failures writer.new) }
 {
-    let mut space = room(alloc)?;
+    let mut space = read_buffer(alloc)?;
     let buffer = space.as_mut_slice();
     write_opening(alloc, machine, writer)?;
-    let mut pending = Pending::new(alloc);
+    let mut pending = LineBuffer::new(alloc);
     for _turn in 0..READ_LIMIT {
-        match reader.take(buffer) {
+        match reader.read_into(buffer) {
             Ok(0) => {
-                answer_rest(alloc, machine, &mut pending, writer)?;
+                handle_rest(alloc, machine, &mut pending, writer)?;
                 return Ok(pending.counts);
             }
-            Ok(n) => answer_piece(alloc, machine, &mut pending, writer, &buffer[..n])?,
-            Err(_) => return Err(RunFault::Read),
+            Ok(n) => handle_chunk(alloc, machine, &mut pending, writer, &buffer[..n])?,
+            Err(_) => return Err(RunFault::ReadFailed),
         }
     }
-    Err(RunFault::Read)
+    Err(RunFault::ReadFailed)
 }
 
 // The room for one read.
-fn room(alloc: Global) -> Result<Vec<u8>, AllocError>
+fn read_buffer(alloc: Global) -> Result<Vec<u8>, AllocError>
     ensures { IfOk result (λ buffer. vec_len buffer ≡ BUFFER_LEN) }
 {
     vec![in alloc; 0u8; BUFFER_LEN]

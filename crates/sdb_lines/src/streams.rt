@@ -3,7 +3,7 @@ ghost use Rattle.std.specs.Prelude.{◌≡◌, ℕ, ◌+◌, ◌-◌, ◌^◌, L
 ghost use Rattle.std.specs.declared.option.Option.{Option};
 ghost use Rattle.std.specs.Io.{ReadsAtMost, WritesAtMost};
 ghost use Rattle.std.specs.Io.KnownBytes.{ReadConsumes, WriteAppends, Keeps};
-ghost use Rattle.sdb_lines.specs.Stalls.{stalls};
+ghost use Rattle.sdb_lines.specs.WriteFaults.{is_write_fault};
 ghost use Rattle.sdb_lines.specs.Streams.{failures_after};
 
 use std::io;
@@ -12,7 +12,7 @@ use std::io::{Read, Write};
 /// A reader that counts its reads, and those of them that failed.
 pub trait Source {
     // The bytes that are still to be read, for a reader that can tell.
-    ghost left: { Self → Option (List ℕ) };
+    ghost remaining_input: { Self → Option (List ℕ) };
 
     // The number of reads that answered an error, which stays at 2^64 - 1 once it gets there.
     ghost failures: { Self → ℕ };
@@ -21,16 +21,16 @@ pub trait Source {
     ghost calls: { Self → ℕ };
 
     /// Reads some bytes into the front of `buf`, and answers how many. 0 is the end of the input, where `buf` has room.
-    fn take(&mut self, buf: &mut [u8]) -> io::Result<usize>
+    fn read_into(&mut self, buf: &mut [u8]) -> io::Result<usize>
         ensures bound { ReadsAtMost result buf.new }
-        ensures bytes { ReadConsumes (left self.old) (left self.new) result buf.new }
+        ensures bytes { ReadConsumes (remaining_input self.old) (remaining_input self.new) result buf.new }
         ensures failures { failures self.new ≡ failures_after (is_err result) (failures self.old) }
         ensures calls { calls self.new ≡ min (calls self.old + 1) (2 ^ 64 - 1) };
 }
 
 /// A reader of `std`, watched. A failure stops no later call.
 #[derive(Drop)]
-pub struct WatchedReader<S> {
+pub struct CountingReader<S> {
     /// The reader itself. What is done to it directly isn't watched.
     pub stream: S,
     /// The number of reads that failed, which stays at `u64::MAX` once it gets there.
@@ -39,14 +39,14 @@ pub struct WatchedReader<S> {
     pub calls: u64,
 }
 
-impl<S> WatchedReader<S> {
+impl<S> CountingReader<S> {
     /// Watches a reader from now on.
-    pub fn new(stream: S) -> WatchedReader<S>
+    pub fn new(stream: S) -> CountingReader<S>
         ensures stream { result.stream ≡ stream }
         ensures quiet { result.failures ≡ 0 }
         ensures uncalled { result.calls ≡ 0 }
     {
-        WatchedReader {
+        CountingReader {
             stream,
             failures: 0,
             calls: 0,
@@ -54,14 +54,14 @@ impl<S> WatchedReader<S> {
     }
 }
 
-impl<S: Read> Source for WatchedReader<S> {
-    ghost left = { λ s. S.remaining s.stream };
+impl<S: Read> Source for CountingReader<S> {
+    ghost remaining_input = { λ s. S.remaining s.stream };
 
     ghost failures = { λ s. s.failures };
 
     ghost calls = { λ s. s.calls };
 
-    fn take(&mut self, buf: &mut [u8]) -> io::Result<usize> {
+    fn read_into(&mut self, buf: &mut [u8]) -> io::Result<usize> {
         self.calls = self.calls.saturating_add(1);
         let answer = self.stream.read(buf);
         if answer.is_err() {
@@ -74,52 +74,53 @@ impl<S: Read> Source for WatchedReader<S> {
 /// A writer that counts its writes and flushes that failed.
 pub trait Sink {
     // The bytes that were written, for a writer that can tell.
-    ghost contents: { Self → Option (List ℕ) };
+    ghost bytes_written: { Self → Option (List ℕ) };
 
     // The number of writes and flushes that answered an error, and of writes that took 0 bytes of some. It stays at
     // 2^64 - 1 once it gets there.
     ghost failures: { Self → ℕ };
 
     /// Writes a front of `buf`, and answers its length in bytes. 0 bytes of some is a failure.
-    fn put(&mut self, buf: &[u8]) -> io::Result<usize>
+    fn write_from(&mut self, buf: &[u8]) -> io::Result<usize>
         ensures bound { WritesAtMost result buf.now }
-        ensures bytes { WriteAppends (contents self.old) (contents self.new) result buf.now }
-        ensures failures { failures self.new ≡ failures_after (stalls result (length buf.now)) (failures self.old) };
+        ensures bytes { WriteAppends (bytes_written self.old) (bytes_written self.new) result buf.now }
+        ensures failures { failures self.new
+            ≡ failures_after (is_write_fault result (length buf.now)) (failures self.old) };
 
     /// Flushes what was written.
-    fn push_out(&mut self) -> io::Result<()>
-        ensures bytes { Keeps (contents self.old) (contents self.new) }
+    fn flush_all(&mut self) -> io::Result<()>
+        ensures bytes { Keeps (bytes_written self.old) (bytes_written self.new) }
         ensures failures { failures self.new ≡ failures_after (is_err result) (failures self.old) };
 }
 
 /// A writer of `std`, watched. A failure stops no later call.
 #[derive(Drop)]
-pub struct WatchedWriter<S> {
+pub struct CountingWriter<S> {
     /// The writer itself. What is done to it directly isn't watched.
     pub stream: S,
     /// The number of writes and flushes that failed, which stays at `u64::MAX` once it gets there.
     pub failures: u64,
 }
 
-impl<S> WatchedWriter<S> {
+impl<S> CountingWriter<S> {
     /// Watches a writer from now on.
-    pub fn new(stream: S) -> WatchedWriter<S>
+    pub fn new(stream: S) -> CountingWriter<S>
         ensures stream { result.stream ≡ stream }
         ensures quiet { result.failures ≡ 0 }
     {
-        WatchedWriter {
+        CountingWriter {
             stream,
             failures: 0,
         }
     }
 }
 
-impl<S: Write> Sink for WatchedWriter<S> {
-    ghost contents = { λ s. S.contents s.stream };
+impl<S: Write> Sink for CountingWriter<S> {
+    ghost bytes_written = { λ s. S.contents s.stream };
 
     ghost failures = { λ s. s.failures };
 
-    fn put(&mut self, buf: &[u8]) -> io::Result<usize> {
+    fn write_from(&mut self, buf: &[u8]) -> io::Result<usize> {
         let answer = self.stream.write(buf);
         let is_stalled = match &answer {
             Ok(n) => *n == 0 && !buf.is_empty(),
@@ -131,7 +132,7 @@ impl<S: Write> Sink for WatchedWriter<S> {
         answer
     }
 
-    fn push_out(&mut self) -> io::Result<()> {
+    fn flush_all(&mut self) -> io::Result<()> {
         let answer = self.stream.flush();
         if answer.is_err() {
             self.failures = self.failures.saturating_add(1);

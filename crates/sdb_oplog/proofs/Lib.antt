@@ -1,7 +1,7 @@
-mod Carrying
-mod Used
-pub mod Growing
-pub mod Halving
-pub mod Indexed
-pub mod Logging
-pub mod Numbers
+mod RebaseLemmas
+mod IndexUseLemmas
+pub mod LogGrowth
+pub mod VersionSearch
+pub mod IndexLemmas
+pub mod AppendLemmas
+pub mod NumberMapLemmas

@@ -3,10 +3,10 @@ use Rattle.std.specs.Prelude.{◌≡◌, ℕ, List, [], ◌∷◌, ◌++◌, len
 use Rattle.std.specs.Option.{is_some, option_map_or}
 use Rattle.sdb_value.specs.Value.{Value}
 use Rattle.sdb_oplog.specs.Plain.{PlainContent, create, delete, edit, PlainSubmission, PlainEntry}
-use Rattle.sdb_oplog.specs.Refused.{result_then}
+use Rattle.sdb_oplog.specs.Refusal.{result_and_then}
 use Rattle.sdb_oplog.specs.Moments.{last_moment}
-use Rattle.sdb_oplog.specs.Over.{over_all, carrying_takes_memory}
-use Rattle.sdb_oplog.specs.Snap.{becomes, document, stored_at}
+use Rattle.sdb_oplog.specs.Rebase.{rebase, rebase_allocates}
+use Rattle.sdb_oplog.specs.Snap.{apply_content, document_of, stored_at}
 use Rattle.sdb_oplog.specs.declared.codes.Code.{Code}
 use Rattle.sdb_oplog.specs.declared.codes.Code.TheVariants.{E4, E11}
 
@@ -17,79 +17,79 @@ pub data PlainReply : Type 0 where
   repeated : ℕ → PlainReply
   refused : Code → PlainReply
 
-pub record Decided : Type 0 where
+pub record Decision : Type 0 where
   pub reply : PlainReply
   pub log : List PlainEntry
 
 -- the version that the submission was made at: the present one where it names none
-abbrev pub since : List PlainEntry → PlainSubmission → ℕ
-since log s = unwrap_or s.version (length log)
+abbrev pub base_version : List PlainEntry → PlainSubmission → ℕ
+base_version log s = unwrap_or s.version (length log)
 
 -- the entries that it has not seen
-abbrev pub missed : List PlainEntry → PlainSubmission → List PlainEntry
-missed log s = drop (since log s) log
+abbrev pub missed_entries : List PlainEntry → PlainSubmission → List PlainEntry
+missed_entries log s = drop (base_version log s) log
 
 -- there is no number for another version
-abbrev pub is_full : List PlainEntry → Bool
-is_full log = nat_eq (length log) 9007199254740991
+abbrev pub is_log_full : List PlainEntry → Bool
+is_log_full log = nat_eq (length log) 9007199254740991
 
 -- it was made at a version that the log hasn't reached
-abbrev pub is_newer : List PlainEntry → PlainSubmission → Bool
-is_newer log s = nat_lt (length log) (since log s)
+abbrev pub is_version_too_new : List PlainEntry → PlainSubmission → Bool
+is_version_too_new log s = nat_lt (length log) (base_version log s)
 
 -- the content, if it has an effect on the document
-abbrev pub effective : PlainContent → Option Value → Result PlainContent Code
-effective m d = result_then (λ n. Ok m) (becomes m d)
+abbrev pub applicable_content : PlainContent → Option Value → Result PlainContent Code
+applicable_content m d = result_and_then (λ n. Ok m) (apply_content m d)
 
 -- the content as it will be stored: carried along what it missed, and with an effect there
-abbrev pub settled : List PlainEntry → PlainSubmission → Result PlainContent Code
-settled log s =
-    if is_full log then Err E11
-    else (if is_newer log s then Err E4
-    else (result_then (λ m. effective m (document log)) (over_all s.content (missed log s))))
+abbrev pub rebased_content : List PlainEntry → PlainSubmission → Result PlainContent Code
+rebased_content log s =
+    if is_log_full log then Err E11
+    else (if is_version_too_new log s then Err E4
+    else (result_and_then (λ m. applicable_content m (document_of log)) (rebase s.content (missed_entries log s))))
 
 -- stored now, or with the moment of the entry before it where that is later
-abbrev pub entry_of : List PlainEntry → PlainSubmission → ℕ → PlainContent → PlainEntry
-entry_of log s now m = record { version = length log; moment = max now (last_moment log); content = m; arrived = s }
+abbrev pub new_entry : List PlainEntry → PlainSubmission → ℕ → PlainContent → PlainEntry
+new_entry log s now m = record { version = length log; moment = max now (last_moment log); content = m; arrived = s }
 
 -- a new entry at the end, unless it is refused
-abbrev pub store : List PlainEntry → PlainSubmission → ℕ → Result PlainContent Code → Decided
-store log s now (Err code) = record { reply = refused code; log = log }
-store log s now (Ok m) = record { reply = stored (length log) (missed log s); log = log ++ entry_of log s now m ∷ [] }
+abbrev pub append_decided : List PlainEntry → PlainSubmission → ℕ → Result PlainContent Code → Decision
+append_decided log s now (Err code) = record { reply = refused code; log = log }
+append_decided log s now (Ok m) = record { reply = stored (length log) (missed_entries log s); log = log ++ new_entry log s now m ∷ [] }
 
 -- a repeat, wherever in the log it was stored; or a submission that is settled at this moment
-abbrev pub decide : List PlainEntry → PlainSubmission → ℕ → Decided
+abbrev pub decide : List PlainEntry → PlainSubmission → ℕ → Decision
 decide log s now =
     option_map_or (λ i. record { reply = repeated i; log = log }) (stored_at s.src s.seq log)
-    (store log s now (settled log s))
+    (append_decided log s now (rebased_content log s))
 
 -- a log is made where each entry is the one that `decide` stores for its submission, at its moment, on those before it
-abbrev pub MadeFrom : List PlainEntry → List PlainEntry → Type 0
-MadeFrom before [] = Unit {0}
-MadeFrom before (e ∷ es) = ((decide before e.arrived e.moment).log ≡ before ++ e ∷ []) × MadeFrom (before ++ e ∷ []) es
+abbrev pub IsMadeFrom : List PlainEntry → List PlainEntry → Type 0
+IsMadeFrom before [] = Unit {0}
+IsMadeFrom before (e ∷ es) = ((decide before e.arrived e.moment).log ≡ before ++ e ∷ []) × IsMadeFrom (before ++ e ∷ []) es
 
 abbrev pub IsMade : List PlainEntry → Type 0
-IsMade = MadeFrom []
+IsMade = IsMadeFrom []
 
 -- ---- memory
 
 -- a create on a document and an edit of none are refused at sight; else room for the entry is made before the document
 -- is changed
-abbrev pub storing_takes_memory : PlainContent → Option Value → Bool
-storing_takes_memory (create v) None = true
-storing_takes_memory (create v) (Some d) = false
-storing_takes_memory delete d = true
-storing_takes_memory (edit op) None = false
-storing_takes_memory (edit op) (Some d) = true
+abbrev pub apply_to_copy_allocates : PlainContent → Option Value → Bool
+apply_to_copy_allocates (create v) None = true
+apply_to_copy_allocates (create v) (Some d) = false
+apply_to_copy_allocates delete d = true
+apply_to_copy_allocates (edit op) None = false
+apply_to_copy_allocates (edit op) (Some d) = true
 
 -- and nothing is stored of what was refused on the way
-abbrev pub settling_takes_memory : Result PlainContent Code → Option Value → Bool
-settling_takes_memory (Ok m) d = storing_takes_memory m d
-settling_takes_memory (Err code) d = false
+abbrev pub apply_rebased_allocates : Result PlainContent Code → Option Value → Bool
+apply_rebased_allocates (Ok m) d = apply_to_copy_allocates m d
+apply_rebased_allocates (Err code) d = false
 
 -- what was stored long since, a full log and a version too new are answered without memory
-abbrev pub deciding_takes_memory : List PlainEntry → PlainSubmission → Bool
-deciding_takes_memory log s =
-    if is_some (stored_at s.src s.seq log) || (is_full log || is_newer log s) then false
-    else (carrying_takes_memory s.content (missed log s)
-    || settling_takes_memory (over_all s.content (missed log s)) (document log))
+abbrev pub decide_allocates : List PlainEntry → PlainSubmission → Bool
+decide_allocates log s =
+    if is_some (stored_at s.src s.seq log) || (is_log_full log || is_version_too_new log s) then false
+    else (rebase_allocates s.content (missed_entries log s)
+    || apply_rebased_allocates (rebase s.content (missed_entries log s)) (document_of log))

@@ -15,19 +15,19 @@ abbrev pub plain_key : Key → PlainKey
 plain_key k = record { collection = string_bytes k.collection; id = string_bytes k.id }
 
 -- by collection, then by id
-abbrev pub key_cmp : PlainKey → PlainKey → Ordering
-key_cmp a b = ordering_then (slice_cmp nat_cmp a.collection b.collection) (slice_cmp nat_cmp a.id b.id)
+abbrev pub compare_keys : PlainKey → PlainKey → Ordering
+compare_keys a b = ordering_then (slice_cmp nat_cmp a.collection b.collection) (slice_cmp nat_cmp a.id b.id)
 
-abbrev pub same_key : PlainKey → PlainKey → Bool
-same_key a b = is_eq (key_cmp a b)
+abbrev pub keys_equal : PlainKey → PlainKey → Bool
+keys_equal a b = is_eq (compare_keys a b)
 
 -- the number of the shard that a key falls into, of eight
 abbrev pub shard_of : PlainKey → ℕ
 shard_of k = (sum k.collection + sum k.id) % 8
 
 -- what stands at each key, with this at k
-abbrev pub with_at : {A : Type 0} → (PlainKey → A) → PlainKey → A → PlainKey → A
-with_at f k x q = cond (same_key k q) x (f q)
+abbrev pub with_value_at_key : {A : Type 0} → (PlainKey → A) → PlainKey → A → PlainKey → A
+with_value_at_key f k x q = cond (keys_equal k q) x (f q)
 
 -- an absent key has the empty log
 abbrev pub Logs : Type 0
@@ -37,4 +37,4 @@ abbrev pub no_logs : Logs
 no_logs q = []
 
 abbrev pub with_log : Logs → PlainKey → List PlainEntry → Logs
-with_log = with_at
+with_log = with_value_at_key

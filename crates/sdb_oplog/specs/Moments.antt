@@ -3,17 +3,17 @@ use Rattle.std.specs.Prelude.{ℕ, suc, ◌≤◌, List, [], ◌∷◌, if◌the
 use Rattle.sdb_oplog.specs.Plain.{PlainEntry}
 
 -- the moment of the last entry, or this one where there is none
-abbrev pub last_from : ℕ → List PlainEntry → ℕ
-last_from m [] = m
-last_from m (e ∷ es) = last_from e.moment es
+abbrev pub last_moment_or : ℕ → List PlainEntry → ℕ
+last_moment_or m [] = m
+last_moment_or m (e ∷ es) = last_moment_or e.moment es
 
 abbrev pub last_moment : List PlainEntry → ℕ
-last_moment = last_from 0
+last_moment = last_moment_or 0
 
 -- no entry's moment is below that of the one before it, the first one's not below this one
-abbrev pub AreInTime : ℕ → List PlainEntry → Type 0
-AreInTime m [] = ⊤
-AreInTime m (e ∷ es) = (m ≤ e.moment) × AreInTime e.moment es
+abbrev pub MomentsOrderedFrom : ℕ → List PlainEntry → Type 0
+MomentsOrderedFrom m [] = ⊤
+MomentsOrderedFrom m (e ∷ es) = (m ≤ e.moment) × MomentsOrderedFrom e.moment es
 
 -- the version at a moment: how many entries have a moment that is not above it
 abbrev pub version_at : List PlainEntry → ℕ → ℕ

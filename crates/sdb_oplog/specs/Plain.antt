@@ -25,6 +25,6 @@ pub record PlainEntry : Type 0 where
   pub arrived : PlainSubmission
 
 -- a log, and a submission that room is made for in it
-pub record PlainPrepared : Type 0 where
+pub record PlainReservedAppend : Type 0 where
   pub log : List PlainEntry
   pub submission : PlainSubmission

@@ -46,54 +46,54 @@ impl From<AllocError> for Code {
 }
 
 impl From<ValueFault> for Code {
-    ghost use Rattle.sdb_oplog.specs.Faults.{of_value};
+    ghost use Rattle.sdb_oplog.specs.FaultCodes.{code_of_value_fault};
 
-    ghost from_gives = { λ fault code. code ≡ of_value fault };
+    ghost from_gives = { λ fault code. code ≡ code_of_value_fault fault };
 
     fn from(fault: ValueFault) -> Code {
         match fault {
-            ValueFault::Number => Code::E3,
-            ValueFault::Depth => Code::E3,
-            ValueFault::Memory => Code::E10,
+            ValueFault::NumberOutOfRange => Code::E3,
+            ValueFault::TooDeep => Code::E3,
+            ValueFault::OutOfMemory => Code::E10,
         }
     }
 }
 
 impl From<OpFault> for Code {
-    ghost use Rattle.sdb_oplog.specs.Faults.{of_op};
+    ghost use Rattle.sdb_oplog.specs.FaultCodes.{code_of_op_fault};
 
-    ghost from_gives = { λ fault code. code ≡ of_op fault };
+    ghost from_gives = { λ fault code. code ≡ code_of_op_fault fault };
 
     fn from(fault: OpFault) -> Code {
         match fault {
-            OpFault::Form => Code::E3,
-            OpFault::Memory => Code::E10,
+            OpFault::BadlyFormed => Code::E3,
+            OpFault::OutOfMemory => Code::E10,
         }
     }
 }
 
 impl From<ApplyFault> for Code {
-    ghost use Rattle.sdb_oplog.specs.Faults.{of_apply};
+    ghost use Rattle.sdb_oplog.specs.FaultCodes.{code_of_apply_fault};
 
-    ghost from_gives = { λ fault code. code ≡ of_apply fault };
+    ghost from_gives = { λ fault code. code ≡ code_of_apply_fault fault };
 
     fn from(fault: ApplyFault) -> Code {
         match fault {
             ApplyFault::NotApplied => Code::E8,
-            ApplyFault::Memory => Code::E10,
+            ApplyFault::OutOfMemory => Code::E10,
         }
     }
 }
 
 impl From<Fault> for Code {
-    ghost use Rattle.sdb_oplog.specs.Faults.{of_transform};
+    ghost use Rattle.sdb_oplog.specs.FaultCodes.{code_of_transform_fault};
 
-    ghost from_gives = { λ fault code. code ≡ of_transform fault };
+    ghost from_gives = { λ fault code. code ≡ code_of_transform_fault fault };
 
     fn from(fault: Fault) -> Code {
         match fault {
             Fault::NotTransformed => Code::E8,
-            Fault::Memory => Code::E10,
+            Fault::OutOfMemory => Code::E10,
         }
     }
 }

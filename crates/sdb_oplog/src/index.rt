@@ -1,6 +1,6 @@
 //! Where the submissions of a log stand, by source and number.
 ghost use Rattle.std.specs.Prelude.{◌≡◌, ◌≢◌, ℕ, List, Some, None, IfSome, OnOk, OnErr, if◌then◌else◌, ◌&&◌, bytes_eq, nat_eq};
-ghost use Rattle.sdb_oplog.specs.Placed.{place_in, HasRoom, IsUsed, AreUsed};
+ghost use Rattle.sdb_oplog.specs.IndexModel.{indexed_version, HasReserved, SourceHasEntries, AllSourcesHaveEntries};
 
 use std::alloc::{AllocError, Global};
 use std::collections::HashMap;
@@ -14,8 +14,8 @@ pub(crate) struct Index {
 
 impl Index {
     pub(crate) fn new(alloc: Global) -> Index
-        ensures places { (s : List ℕ) (n : ℕ) → place_in result s n ≡ None }
-        ensures used { AreUsed result }
+        ensures places { (s : List ℕ) (n : ℕ) → indexed_version result s n ≡ None }
+        ensures used { AllSourcesHaveEntries result }
     {
         Index {
             by_source: HashMap::new(alloc),
@@ -24,18 +24,18 @@ impl Index {
 
     // The place of the entry of this source and number.
     pub(crate) fn find(&self, src: &str, seq: u64) -> Option<u64>
-        ensures { result ≡ place_in self.now src.now seq }
+        ensures { result ≡ indexed_version self.now src.now seq }
     {
         let numbers = self.by_source.get(src)?;
         numbers.get(&seq).copied()
     }
 
     // Makes room for one more number of the source.
-    pub(crate) fn make_room(&mut self, alloc: Global, src: &str) -> Result<(), AllocError>
-        ensures same { (s : List ℕ) (n : ℕ) → place_in self.new s n ≡ place_in self.old s n }
-        ensures room { OnOk result (HasRoom self.new src.now) }
-        ensures used { (s : List ℕ) → s ≢ src.now → IsUsed self.old s → IsUsed self.new s }
-        ensures err { OnErr result ((s : List ℕ) → IsUsed self.old s → IsUsed self.new s) }
+    pub(crate) fn reserve(&mut self, alloc: Global, src: &str) -> Result<(), AllocError>
+        ensures same { (s : List ℕ) (n : ℕ) → indexed_version self.new s n ≡ indexed_version self.old s n }
+        ensures room { OnOk result (HasReserved self.new src.now) }
+        ensures used { (s : List ℕ) → s ≢ src.now → SourceHasEntries self.old s → SourceHasEntries self.new s }
+        ensures err { OnErr result ((s : List ℕ) → SourceHasEntries self.old s → SourceHasEntries self.new s) }
     {
         match self.by_source.get_mut(src) {
             Some(numbers) => numbers.reserve(1),
@@ -45,11 +45,11 @@ impl Index {
 
     // Puts a source in that has no number yet.
     fn add_source(&mut self, alloc: Global, src: &str) -> Result<(), AllocError>
-        requires { (n : ℕ) → place_in self.old src.now n ≡ None }
-        ensures same { (s : List ℕ) (n : ℕ) → place_in self.new s n ≡ place_in self.old s n }
-        ensures room { OnOk result (HasRoom self.new src.now) }
-        ensures used { (s : List ℕ) → s ≢ src.now → IsUsed self.old s → IsUsed self.new s }
-        ensures err { OnErr result ((s : List ℕ) → IsUsed self.old s → IsUsed self.new s) }
+        requires { (n : ℕ) → indexed_version self.old src.now n ≡ None }
+        ensures same { (s : List ℕ) (n : ℕ) → indexed_version self.new s n ≡ indexed_version self.old s n }
+        ensures room { OnOk result (HasReserved self.new src.now) }
+        ensures used { (s : List ℕ) → s ≢ src.now → SourceHasEntries self.old s → SourceHasEntries self.new s }
+        ensures err { OnErr result ((s : List ℕ) → SourceHasEntries self.old s → SourceHasEntries self.new s) }
     {
         let mut numbers = HashMap::new(alloc);
         numbers.reserve(1)?;
@@ -59,10 +59,10 @@ impl Index {
     }
 
     // Takes a source out that has no number.
-    pub(crate) fn forget_unused(&mut self, src: &str)
-        ensures same { (s : List ℕ) (n : ℕ) → place_in self.new s n ≡ place_in self.old s n }
-        ensures unused { IsUsed self.new src.now }
-        ensures used { (s : List ℕ) → s ≢ src.now → IsUsed self.old s → IsUsed self.new s }
+    pub(crate) fn remove_unused(&mut self, src: &str)
+        ensures same { (s : List ℕ) (n : ℕ) → indexed_version self.new s n ≡ indexed_version self.old s n }
+        ensures unused { SourceHasEntries self.new src.now }
+        ensures used { (s : List ℕ) → s ≢ src.now → SourceHasEntries self.old s → SourceHasEntries self.new s }
     {
         let Some(numbers) = self.by_source.get(src) else {
             return;
@@ -73,11 +73,11 @@ impl Index {
     }
 
     // Puts the place of one more number of the source. Room is made for it.
-    pub(crate) fn put(&mut self, src: &str, seq: u64, at: u64)
-        requires { HasRoom self.old src.now }
-        ensures places { (s : List ℕ) (n : ℕ) → place_in self.new s n
-            ≡ (if nat_eq seq n && bytes_eq src.now s then Some at else place_in self.old s n) }
-        ensures used { (s : List ℕ) → s ≢ src.now → IsUsed self.old s → IsUsed self.new s }
+    pub(crate) fn insert(&mut self, src: &str, seq: u64, at: u64)
+        requires { HasReserved self.old src.now }
+        ensures places { (s : List ℕ) (n : ℕ) → indexed_version self.new s n
+            ≡ (if nat_eq seq n && bytes_eq src.now s then Some at else indexed_version self.old s n) }
+        ensures used { (s : List ℕ) → s ≢ src.now → SourceHasEntries self.old s → SourceHasEntries self.new s }
     {
         let Some(numbers) = self.by_source.get_mut(src) else {
             unreachable!();

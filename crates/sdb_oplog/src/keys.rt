@@ -29,12 +29,12 @@ impl Key {
         ensures shard { result ≡ shard_of (plain_key self.now) }
         ensures below { result < 8 }
     {
-        (sum_of(self.collection.as_str()) + sum_of(self.id.as_str())) % 8
+        (byte_sum(self.collection.as_str()) + byte_sum(self.id.as_str())) % 8
     }
 }
 
 // The sum of the bytes, modulo 8.
-fn sum_of(text: &str) -> usize
+fn byte_sum(text: &str) -> usize
     ensures { result ≡ sum text.now % 8 }
 {
     let mut sum = 0;

@@ -2,20 +2,20 @@
 #![tactic(auto)]
 
 mod codes;
-mod comparing;
-mod contents;
-mod entries;
+mod content;
+mod entry;
+mod equality;
 mod index;
 mod keys;
-mod last_path;
-mod logs;
-mod moments;
+mod log;
+mod moment;
+mod path_interner;
 
 pub use codes::Code;
-pub use comparing::same_entries;
-pub use contents::{Content, Kind, over, over_all};
-pub use entries::{Entry, Submission, copy_entries};
+pub use content::{Content, Kind, over, rebase};
+pub use entry::{Entry, Submission, clone_entries};
+pub use equality::entries_equal;
 pub use keys::Key;
-pub use last_path::LastPath;
-pub use logs::{Log, Prepared, Unprepared};
-pub use moments::Moment;
+pub use log::{Log, ReserveError, ReservedAppend};
+pub use moment::Moment;
+pub use path_interner::PathInterner;

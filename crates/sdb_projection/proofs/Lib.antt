@@ -1,4 +1,4 @@
-pub mod Commuting
-pub mod Fields
-pub mod Walks
-mod Objects
+pub mod CommuteLemmas
+pub mod FieldLemmas
+pub mod MemberWalk
+mod ObjectLemmas

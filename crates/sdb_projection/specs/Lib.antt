@@ -1,6 +1,6 @@
 pub mod Coding
-pub mod Law
-pub mod Projected
+pub mod ProjectionLaw
+pub mod ProjectionModel
 pub mod Table
 pub mod View
-pub mod Worked
+pub mod Examples

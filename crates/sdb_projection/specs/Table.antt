@@ -3,7 +3,7 @@ use Rattle.std.specs.Prelude.{◌≡◌, ℕ, List, [], ◌∷◌, Bool, true, f
 use Rattle.std.specs.List.{list_any}
 use Rattle.std.specs.Option.{is_some}
 use Rattle.sdb_projection.specs.declared.table.TableFault.{TableFault}
-use Rattle.sdb_projection.specs.declared.table.TableFault.TheVariants.{SecondName, OwnName, OfProjection, NoField, Memory}
+use Rattle.sdb_projection.specs.declared.table.TableFault.TheVariants.{DuplicateName, NameOfBase, BaseIsProjection, NoField, OutOfMemory}
 
 -- a collection name, the collection that it shows, and the fields
 pub record PlainProjection : Type 0 where
@@ -25,15 +25,15 @@ is_empty [] = true
 is_empty (f ∷ fields) = false
 
 -- why the projection is refused; the first that holds
-abbrev pub refusal : PlainProjection → List PlainProjection → Option TableFault
-refusal p table =
-    if is_some (projection_of p.name table) then Some SecondName
-    else (if bytes_eq p.name p.base then Some OwnName
-    else (if is_some (projection_of p.base table) || is_base p.name table then Some OfProjection
+abbrev pub table_fault : PlainProjection → List PlainProjection → Option TableFault
+table_fault p table =
+    if is_some (projection_of p.name table) then Some DuplicateName
+    else (if bytes_eq p.name p.base then Some NameOfBase
+    else (if is_some (projection_of p.base table) || is_base p.name table then Some BaseIsProjection
     else (if is_empty p.fields then Some NoField
     else None)))
 
 -- the fault is the one that is due, or memory was wanting
-abbrev pub RefusedFor : Option TableFault → TableFault → Type 0
-RefusedFor r Memory = ⊤
-RefusedFor r f = r ≡ Some f
+abbrev pub IsTableFault : Option TableFault → TableFault → Type 0
+IsTableFault r OutOfMemory = ⊤
+IsTableFault r f = r ≡ Some f

@@ -1,13 +1,13 @@
 //! Projections: collection names under which some fields of another collection's documents are shown.
 #![tactic(auto)]
 
-mod allowing;
+mod allow;
 pub mod laws;
-mod projecting;
+mod project;
 mod projection;
 mod table;
 
-pub use allowing::allowed;
-pub use projecting::{project_content, project_data, project_op};
+pub use allow::allowed;
+pub use project::{project_content, project_data, project_op};
 pub use projection::Projection;
 pub use table::{Table, TableFault};

@@ -2,8 +2,8 @@
 ghost use Rattle.std.specs.Prelude.{◌≡◌, [], ◌∷◌};
 ghost use Rattle.sdb_value.specs.View.{plain_step};
 ghost use Rattle.sdb_component.specs.View.{plain_act};
-ghost use Rattle.sdb_component.specs.Prints.{last_step};
-ghost use Rattle.sdb_projection.specs.Projected.{is_field, is_shown, leads_to_field};
+ghost use Rattle.sdb_component.specs.ToJson.{last_step};
+ghost use Rattle.sdb_projection.specs.ProjectionModel.{is_field, is_visible_component, path_starts_at_field};
 ghost use Rattle.sdb_projection.specs.View.{fields_of};
 
 use sdb_component::{Act, Component};
@@ -27,17 +27,17 @@ impl Projection {
     }
 
     // Whether the path of the component, as it is sent, begins with a field.
-    pub(crate) fn shows(&self, component: &Component) -> bool
-        ensures { result ≡ is_shown (fields_of self.now) component.now }
+    pub(crate) fn is_visible_component(&self, component: &Component) -> bool
+        ensures { result ≡ is_visible_component (fields_of self.now) component.now }
     {
         match component.path() {
-            [] => self.shows_act(component.act()),
-            [first, ..] => self.shows_step(first),
+            [] => self.is_visible_act(component.act()),
+            [first, ..] => self.is_visible_step(first),
         }
     }
 
-    fn shows_step(&self, step: &Step) -> bool
-        ensures { result ≡ leads_to_field (fields_of self.now) (plain_step step.now ∷ []) }
+    fn is_visible_step(&self, step: &Step) -> bool
+        ensures { result ≡ path_starts_at_field (fields_of self.now) (plain_step step.now ∷ []) }
     {
         match step {
             Step::Key(key) => self.is_field(key.as_str()),
@@ -46,8 +46,8 @@ impl Projection {
     }
 
     // Whether the act's last step is a field.
-    fn shows_act(&self, act: &Act) -> bool
-        ensures { result ≡ leads_to_field (fields_of self.now) (last_step (plain_act act.now)) }
+    fn is_visible_act(&self, act: &Act) -> bool
+        ensures { result ≡ path_starts_at_field (fields_of self.now) (last_step (plain_act act.now)) }
     {
         match act {
             Act::Oi(key, _) | Act::Od(key, _) | Act::Or(key, _, _) => self.is_field(key.as_str()),

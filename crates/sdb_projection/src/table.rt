@@ -1,7 +1,7 @@
 //! The projections of a server.
 ghost use Rattle.std.specs.Prelude.{◌≡◌, [], ◌∷◌, ◌++◌, Some, Err, IfErr, OnOk, OnErr, option_map};
 ghost use Rattle.std.specs.Result.{result_err};
-ghost use Rattle.sdb_projection.specs.Table.{projection_of, is_base, refusal, RefusedFor};
+ghost use Rattle.sdb_projection.specs.Table.{projection_of, is_base, table_fault, IsTableFault};
 ghost use Rattle.sdb_projection.specs.View.{plain_projection};
 
 use crate::projection::Projection;
@@ -14,19 +14,19 @@ use thiserror::Error;
 pub enum TableFault {
     /// The table has a projection of that name.
     #[error("a projection has this name already")]
-    SecondName,
+    DuplicateName,
     /// The name is that of the collection itself.
     #[error("a projection can not have the name of its collection")]
-    OwnName,
+    NameOfBase,
     /// The collection is a projection of the table, or the name is a collection that one of them shows.
     #[error("a projection can not show a projection")]
-    OfProjection,
+    BaseIsProjection,
     /// It shows no field.
     #[error("a projection needs a field")]
     NoField,
     /// An allocation failed.
     #[error("out of memory")]
-    Memory,
+    OutOfMemory,
 }
 
 /// The projections that were taken in, in order.
@@ -62,33 +62,33 @@ impl Table {
     /// Takes a projection in, behind the others. Of the faults the first that holds is answered, in the
     /// order of [`TableFault`], and the table is then unchanged.
     pub fn add(&mut self, projection: Projection) -> Result<(), TableFault>
-        ensures refused { (fault : TableFault) → refusal (plain_projection projection) self.old ≡ Some fault
+        ensures refused { (fault : TableFault) → table_fault (plain_projection projection) self.old ≡ Some fault
             → result ≡ Err fault }
         ensures ok { OnOk result (self.new ≡ self.old ++ plain_projection projection ∷ []) }
-        ensures err { IfErr result (λ fault. RefusedFor (refusal (plain_projection projection) self.old) fault) }
+        ensures err { IfErr result (λ fault. IsTableFault (table_fault (plain_projection projection) self.old) fault) }
         ensures same { OnErr result (self.new ≡ self.old) }
     {
         self.check(&projection)?;
         match self.projections.push(projection) {
             Ok(()) => Ok(()),
-            Err(_) => Err(TableFault::Memory),
+            Err(_) => Err(TableFault::OutOfMemory),
         }
     }
 
     // Refuses a projection that the table can't take in.
     fn check(&self, projection: &Projection) -> Result<(), TableFault>
-        ensures { result_err result ≡ refusal (plain_projection projection.now) self.now }
+        ensures { result_err result ≡ table_fault (plain_projection projection.now) self.now }
     {
         let name = projection.name.as_str();
         let base = projection.base.as_str();
         if self.find(name).is_some() {
-            return Err(TableFault::SecondName);
+            return Err(TableFault::DuplicateName);
         }
         if name == base {
-            return Err(TableFault::OwnName);
+            return Err(TableFault::NameOfBase);
         }
         if self.find(base).is_some() || self.is_base(name) {
-            return Err(TableFault::OfProjection);
+            return Err(TableFault::BaseIsProjection);
         }
         if projection.fields.is_empty() {
             return Err(TableFault::NoField);

@@ -1,3 +1,3 @@
-pub mod LineAnswers
-pub mod Crossing
-pub mod Kept
+pub mod LineSessionLemmas
+pub mod SendSync
+pub mod ListLemmas

@@ -1,6 +1,6 @@
 pub mod Clocks
 pub mod Runs
-pub mod Served
-pub mod Source
+pub mod PassModel
+pub mod LineSource
 pub mod State
-pub mod Threads
+pub mod ThreadModel

@@ -3,7 +3,7 @@ use Rattle.std.specs.Prelude.{ℕ, List, Option}
 use Rattle.sdb_desk.specs.ShardView.{machine_of}
 use Rattle.sdb_session.specs.Dialogue.{State}
 use Rattle.sdb_session.specs.View.{plain_session}
-use Rattle.sdb_server.specs.Clocks.{Timed}
+use Rattle.sdb_server.specs.Clocks.{TimedState}
 use Rattle.sdb_server.specs.declared.line_session.LineSession.{LineSession}
 
 module _ {C : Type 0} where
@@ -11,5 +11,5 @@ module _ {C : Type 0} where
   state_of s = record { machine = machine_of s.shard; session = plain_session s.session }
 
   -- with the moments that its clock tells from here on
-  abbrev pub timed_by : (C → Option (List ℕ)) → LineSession C → Timed
-  timed_by ahead s = record { state = state_of s; ahead = ahead s.clock }
+  abbrev pub timed_by : (C → Option (List ℕ)) → LineSession C → TimedState
+  timed_by ahead s = record { state = state_of s; remaining_moments = ahead s.clock }

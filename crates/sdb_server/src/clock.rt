@@ -1,6 +1,6 @@
 //! Clocks.
 ghost use Rattle.std.specs.Prelude.{◌≡◌, ℕ, List, Option, Some, drop};
-ghost use Rattle.sdb_server.specs.Clocks.{Tells};
+ghost use Rattle.sdb_server.specs.Clocks.{ClockReturns};
 
 use sdb_oplog::Moment;
 use std::time::SystemTime;
@@ -8,39 +8,42 @@ use std::time::SystemTime;
 /// Tells moments: a session asks once for each line or message.
 pub trait Clock {
     // The moments that it tells from here on, in order and then 0, where they are known.
-    ghost ahead: { Self → Option (List ℕ) };
+    ghost remaining_moments: { Self → Option (List ℕ) };
 
     /// The present moment.
     fn now(&mut self) -> Moment
-        ensures { Tells (ahead self.old) result (ahead self.new) };
+        ensures { ClockReturns (remaining_moments self.old) result (remaining_moments self.new) };
 }
 
 /// A clock that tells the moments of a list, one after the other, and then 0.
 #[derive(Drop)]
 pub struct ListClock {
     moments: Vec<Moment>,
-    told: usize,
+    next_index: usize,
 }
 
 impl ListClock {
     /// A clock that tells these moments.
     pub fn new(moments: Vec<Moment>) -> ListClock
-        ensures { drop result.told result.moments.items ≡ moments.items }
+        ensures { drop result.next_index result.moments.items ≡ moments.items }
     {
-        ListClock { moments, told: 0 }
+        ListClock {
+            moments,
+            next_index: 0,
+        }
     }
 }
 
 impl Clock for ListClock {
-    ghost ahead = { λ c. Some (drop c.told c.moments.items) };
+    ghost remaining_moments = { λ c. Some (drop c.next_index c.moments.items) };
 
     fn now(&mut self) -> Moment {
-        match self.moments.get(self.told) {
+        match self.moments.get(self.next_index) {
             Some(moment) => {
-                self.told += 1;
+                self.next_index += 1;
                 *moment
             }
-            None => Moment::first(),
+            None => Moment::zero(),
         }
     }
 }
@@ -63,15 +66,15 @@ impl<'a, T> SystemClock<'a, T> {
 impl<T: std::time::Clock> Clock for SystemClock<'_, T> {
     ghost use Rattle.std.specs.Prelude.{None};
 
-    ghost ahead = { λ c. None };
+    ghost remaining_moments = { λ c. None };
 
     fn now(&mut self) -> Moment {
         let Ok(time) = SystemTime::now(self.time) else {
-            return Moment::first();
+            return Moment::zero();
         };
         match time.duration_since(SystemTime::UNIX_EPOCH) {
-            Ok(past) => Moment::at_most_last(u64::try_from(past.as_millis()).unwrap_or(u64::MAX)),
-            Err(_) => Moment::first(),
+            Ok(past) => Moment::saturating_new(u64::try_from(past.as_millis()).unwrap_or(u64::MAX)),
+            Err(_) => Moment::zero(),
         }
     }
 }

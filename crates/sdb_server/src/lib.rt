@@ -2,27 +2,27 @@
 //! clients in and serves each on a thread of its own.
 #![tactic(auto)]
 
+mod accept_loop;
+mod client_loop;
 mod clock;
-mod connections;
 mod deadline_stream;
-mod followers;
-mod journal;
+mod end_reason;
+mod handshake;
+mod handshake_threads;
 mod line_session;
-mod opening_handshake;
+mod log;
 mod server_state;
-mod session_end;
 mod session_threads;
 mod socket_sink;
-mod visit_threads;
+mod wakeups;
 mod waking_stream;
-mod websocket_session;
 
+pub use accept_loop::{listen, listen_until_stopped};
+pub use client_loop::serve;
 pub use clock::{Clock, ListClock, SystemClock};
-pub use connections::{listen, listen_until_stopped};
 pub use deadline_stream::DeadlineStream;
 pub use line_session::{run_lines, run_lines_at_exit};
 pub use server_state::{CLIENT_LIMIT, ServerState, set_socket_options};
-pub use websocket_session::serve;
 
 // The most entries that are taken of one queue at a time.
 const TAKE_LIMIT: u64 = 64;

@@ -1,21 +1,21 @@
 //! One session over lines.
 ghost use Rattle.std.specs.Prelude.{◌≡◌, [], map, OnOk, OnErr, IfOk, IfSome};
-ghost use Rattle.sdb_lines.specs.Counting.{CountsAll};
-ghost use Rattle.sdb_lines.specs.Lines.{reading_of, lines_of};
-ghost use Rattle.sdb_lines.specs.Streams.{Reads, Writes};
+ghost use Rattle.sdb_lines.specs.Counts.{AreCountsOf};
+ghost use Rattle.sdb_lines.specs.Lines.{readable_text, lines_of};
+ghost use Rattle.sdb_lines.specs.Streams.{ReadFaultIsCounted, WriteFaultIsCounted};
 ghost use Rattle.sdb_session.specs.Dialogue.{opening};
 ghost use Rattle.sdb_session.specs.View.{plain_session};
-ghost use Rattle.sdb_server.specs.Runs.{Wrote, WroteFront};
-ghost use Rattle.sdb_server.specs.Source.{is_request, own_source};
+ghost use Rattle.sdb_server.specs.Runs.{WroteSession, WroteSessionPrefix};
+ghost use Rattle.sdb_server.specs.LineSource.{is_request, own_source};
 ghost use Rattle.sdb_server.specs.Clocks.{TimedDialogue};
 ghost use Rattle.sdb_server.specs.State.{timed_by};
 
 use crate::TAKE_LIMIT;
 use crate::clock::Clock;
 use sdb_desk::Shard;
-use sdb_lines::{Counts, Replier, RunFault, Sink, Source, run_lines as run};
+use sdb_lines::{Counts, LineHandler, RunFault, Sink, Source, run_lines as run};
 use sdb_projection::Table;
-use sdb_session::{Session, Texts};
+use sdb_session::{OpTextCache, Session};
 use sdb_submit::Solo;
 use std::alloc::{AllocError, Global};
 use std::mem::forget;
@@ -33,20 +33,26 @@ struct LineSession<'a, C> {
     session: Session,
 }
 
-impl<C: Clock + Drop> Replier for LineSession<'_, C> {
+impl<C: Clock + Drop> LineHandler for LineSession<'_, C> {
     ghost opening = { λ s. opening (plain_session s.session).source };
 
     // as the dialogue answers it at the moment that the clock tells, and the projections stay
-    ghost takes = { λ s line answer t.
-        TimedDialogue s.table.now (timed_by C.ahead s) line answer (timed_by C.ahead t) × (t.table ≡ s.table) };
+    ghost handles = { λ s line answer t.
+        TimedDialogue s.table.now (timed_by C.remaining_moments s) line answer (timed_by C.remaining_moments t)
+        × (t.table ≡ s.table) };
 
-    ghost is_step = { is_request };
+    ghost counts_as_step = { is_request };
 
-    fn open(&self, _alloc: Global, out: &mut Vec<u8>) -> Result<(), AllocError> {
+    fn write_opening(&self, _alloc: Global, out: &mut Vec<u8>) -> Result<(), AllocError> {
         self.session.opening_to(out)
     }
 
-    fn reply(&mut self, _alloc: Global, line: &str, out: &mut Vec<u8>) -> Result<bool, AllocError> {
+    fn handle(
+        &mut self,
+        _alloc: Global,
+        line: &str,
+        out: &mut Vec<u8>,
+    ) -> Result<bool, AllocError> {
         let LineSession {
             table,
             clock,
@@ -58,7 +64,7 @@ impl<C: Clock + Drop> Replier for LineSession<'_, C> {
         Ok(is_request)
     }
 
-    fn reply_unreadable(&mut self, _alloc: Global, out: &mut Vec<u8>) -> Result<(), AllocError> {
+    fn handle_unreadable(&mut self, _alloc: Global, out: &mut Vec<u8>) -> Result<(), AllocError> {
         let LineSession {
             table,
             clock,
@@ -66,7 +72,7 @@ impl<C: Clock + Drop> Replier for LineSession<'_, C> {
             session,
         } = self;
         clock.now();
-        session.refuse_to(out)?;
+        session.refuse_unreadable_to(out)?;
         session.pump_to(&Solo, shard, table, TAKE_LIMIT, out)?;
         Ok(())
     }
@@ -81,7 +87,7 @@ impl<C: Clock + Drop> Replier for LineSession<'_, C> {
 ///
 /// A request whose call of the documents finds no memory is answered E10 and changes nothing, and the run
 /// goes on. Where a line can't be read, a name not copied or the answer not written for want of memory,
-/// the run ends with [`RunFault::Memory`], and what was written is a front of the whole answer. `lines`
+/// the run ends with [`RunFault::OutOfMemory`], and what was written is a front of the whole answer. `lines`
 /// counts the lines, `steps` those that are requests.
 pub fn run_lines<C: Clock + Drop, R: Source, W: Sink>(
     alloc: Global,
@@ -90,16 +96,19 @@ pub fn run_lines<C: Clock + Drop, R: Source, W: Sink>(
     reader: &mut R,
     writer: &mut W,
 ) -> Result<Counts, RunFault>
-    ensures whole { OnOk result (IfSome (R.left reader.old) (λ input. Wrote table.now (C.ahead clock)
-        (map reading_of (lines_of input)) (W.contents writer.old) (W.contents writer.new))) }
-    ensures counts { IfOk result (λ counts. IfSome (R.left reader.old) (λ input. CountsAll is_request input counts)) }
+    ensures whole { OnOk result (IfSome (R.remaining_input reader.old) (λ input. WroteSession table.now
+        (C.remaining_moments clock)
+        (map readable_text (lines_of input)) (W.bytes_written writer.old) (W.bytes_written writer.new))) }
+    ensures counts { IfOk result (λ counts. IfSome (R.remaining_input reader.old)
+        (λ input. AreCountsOf is_request input counts)) }
     // After a fault a front of the opening and the answers to the first lines was written.
-    ensures front { OnErr result (IfSome (R.left reader.old) (λ input. WroteFront table.now (C.ahead clock)
-        (map reading_of (lines_of input)) (W.contents writer.old) (W.contents writer.new))) }
+    ensures front { OnErr result (IfSome (R.remaining_input reader.old) (λ input. WroteSessionPrefix table.now
+        (C.remaining_moments clock)
+        (map readable_text (lines_of input)) (W.bytes_written writer.old) (W.bytes_written writer.new))) }
     // No read failed, and no write or flush, but for the one that is the fault.
-    ensures reads { Reads result (R.calls reader.old) (R.failures reader.old)
+    ensures reads { ReadFaultIsCounted result (R.calls reader.old) (R.failures reader.old)
         (R.calls reader.new) (R.failures reader.new) }
-    ensures writes { Writes result (W.failures writer.old) (W.failures writer.new) }
+    ensures writes { WriteFaultIsCounted result (W.failures writer.old) (W.failures writer.new) }
 {
     let mut line_session = LineSession {
         table,
@@ -118,16 +127,19 @@ pub fn run_lines_at_exit<C: Clock + Drop, R: Source, W: Sink>(
     reader: &mut R,
     writer: &mut W,
 ) -> Result<Counts, RunFault>
-    ensures whole { OnOk result (IfSome (R.left reader.old) (λ input. Wrote table.now (C.ahead clock)
-        (map reading_of (lines_of input)) (W.contents writer.old) (W.contents writer.new))) }
-    ensures counts { IfOk result (λ counts. IfSome (R.left reader.old) (λ input. CountsAll is_request input counts)) }
+    ensures whole { OnOk result (IfSome (R.remaining_input reader.old) (λ input. WroteSession table.now
+        (C.remaining_moments clock)
+        (map readable_text (lines_of input)) (W.bytes_written writer.old) (W.bytes_written writer.new))) }
+    ensures counts { IfOk result (λ counts. IfSome (R.remaining_input reader.old)
+        (λ input. AreCountsOf is_request input counts)) }
     // After a fault a front of the opening and the answers to the first lines was written.
-    ensures front { OnErr result (IfSome (R.left reader.old) (λ input. WroteFront table.now (C.ahead clock)
-        (map reading_of (lines_of input)) (W.contents writer.old) (W.contents writer.new))) }
+    ensures front { OnErr result (IfSome (R.remaining_input reader.old) (λ input. WroteSessionPrefix table.now
+        (C.remaining_moments clock)
+        (map readable_text (lines_of input)) (W.bytes_written writer.old) (W.bytes_written writer.new))) }
     // No read failed, and no write or flush, but for the one that is the fault.
-    ensures reads { Reads result (R.calls reader.old) (R.failures reader.old)
+    ensures reads { ReadFaultIsCounted result (R.calls reader.old) (R.failures reader.old)
         (R.calls reader.new) (R.failures reader.new) }
-    ensures writes { Writes result (W.failures writer.old) (W.failures writer.new) }
+    ensures writes { WriteFaultIsCounted result (W.failures writer.old) (W.failures writer.new) }
 {
     let mut kept = LineSession {
         table,
@@ -146,6 +158,6 @@ fn new_session(alloc: Global) -> Result<Session, AllocError>
     ensures subs { IfOk result (λ s. (plain_session s).subs ≡ []) }
 {
     let mut session = Session::new(alloc, String::from_str(alloc, SOURCE)?);
-    session.share_texts(Arc::new(alloc, Texts::new(alloc)?)?);
+    session.use_text_cache(Arc::new(alloc, OpTextCache::new(alloc)?)?);
     Ok(session)
 }

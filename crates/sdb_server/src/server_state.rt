@@ -1,18 +1,18 @@
 //! What all connections of a server share.
 ghost use Rattle.std.specs.Prelude.{◌≡◌, IfOk};
-ghost use Rattle.sdb_backend.specs.Passes.{IsPass, IsHost};
-ghost use Rattle.sdb_backend.specs.declared.seats.Host.{Host as Hosting};
-ghost use Rattle.sdb_server.specs.Served.{IsHostOf};
+ghost use Rattle.sdb_backend.specs.PassModel.{IsPassOfBackend, IsHostOfBackend};
+ghost use Rattle.sdb_backend.specs.declared.pass.Host.{Host as Hosting};
+ghost use Rattle.sdb_server.specs.PassModel.{IsHostOfServer};
 
+use crate::client_loop::{Served, Service, close_and_drain, serve_until};
 use crate::clock::SystemClock;
 use crate::deadline_stream::DeadlineStream;
-use crate::followers::Followers;
-use crate::opening_handshake::shake_hands;
+use crate::handshake::handshake;
+use crate::wakeups::WakeRegistry;
 use crate::waking_stream::WakingStream;
-use crate::websocket_session::{Served, Service, close_and_drain, serve_until};
 use sdb_backend::{Backend, Pass};
 use sdb_projection::Table;
-use sdb_session::Texts;
+use sdb_session::OpTextCache;
 use sdb_wire::MESSAGE_LIMIT;
 use std::alloc::{AllocError, Global};
 use std::io;
@@ -27,7 +27,7 @@ use tungstenite::{CloseCode, NoMask, Role, WebSocket, WebSocketConfig};
 pub const CLIENT_LIMIT: usize = 64;
 
 /// The most connections that are in their handshake, or sent away, at once.
-pub(crate) const VISITOR_LIMIT: usize = 64;
+pub(crate) const HANDSHAKE_LIMIT: usize = 64;
 
 // How many bytes a read of a socket asks for, and how many wait before they are written in the middle of
 // a turn.
@@ -57,9 +57,9 @@ pub struct ServerState<R: Wait> {
     // The threads that are about to end.
     ended: Mutex<Vec<Slot>>,
     // The sessions, which are woken where something is stored.
-    followers: Followers,
+    wake_registry: WakeRegistry,
     // What sessions are told of stored operations.
-    texts: Arc<Texts>,
+    texts: Arc<OpTextCache>,
 }
 
 /// Which thread it is of those of its kind.
@@ -68,16 +68,16 @@ pub(crate) enum Slot {
     /// It serves a client.
     Session(usize),
     /// It attends to a connection that isn't served.
-    Visit(usize),
+    Handshake(usize),
 }
 
 /// What is done with a connection that isn't served.
 #[derive(Clone, Copy, Drop)]
-pub(crate) enum Visit {
+pub(crate) enum HandshakeTask {
     /// The handshake.
-    Greet,
+    Handshake,
     /// It is told to come again, or, once the server is ending, that it goes.
-    SendAway,
+    Refuse,
 }
 
 impl<R: Wait + Drop> ServerState<R> {
@@ -88,9 +88,9 @@ impl<R: Wait + Drop> ServerState<R> {
         backend: Backend<R>,
         table: Table,
     ) -> Result<ServerState<R>, AllocError>
-        ensures { IfOk result (λ s. (h : Hosting) → IsHost h backend → IsHostOf h s) }
+        ensures { IfOk result (λ s. (h : Hosting) → IsHostOfBackend h backend → IsHostOfServer h s) }
     {
-        let ended = Vec::with_capacity(alloc, CLIENT_LIMIT + VISITOR_LIMIT)?;
+        let ended = Vec::with_capacity(alloc, CLIENT_LIMIT + HANDSHAKE_LIMIT)?;
         Ok(ServerState {
             backend,
             table,
@@ -101,8 +101,8 @@ impl<R: Wait + Drop> ServerState<R> {
             is_crowded: AtomicBool::new(false),
             is_ending: AtomicBool::new(false),
             ended: Mutex::new(ended),
-            followers: Followers::new(alloc)?,
-            texts: Arc::new(alloc, Texts::new(alloc)?)?,
+            wake_registry: WakeRegistry::new(alloc)?,
+            texts: Arc::new(alloc, OpTextCache::new(alloc)?)?,
         })
     }
 
@@ -155,25 +155,25 @@ impl<R: Wait + Drop> ServerState<R> {
     }
 
     /// Nobody more is served from now on.
-    pub(crate) fn fill(&self) {
+    pub(crate) fn stop_admitting(&self) {
         self.is_full.store(true, Ordering::SeqCst);
     }
 
     /// Whether there is no place for one more handshake. Where there is none, those that last for long are given
     /// up sooner.
-    pub(crate) fn note_crowd(&self, is_crowded: bool) {
+    pub(crate) fn set_handshakes_full(&self, is_crowded: bool) {
         self.is_crowded.store(is_crowded, Ordering::SeqCst);
     }
 
     /// The sessions are to end, and nobody more is served.
     pub(crate) fn end(&self, rt: &R) {
         self.is_ending.store(true, Ordering::SeqCst);
-        self.fill();
-        self.followers.wake_all(rt);
+        self.stop_admitting();
+        self.wake_registry.wake_all(rt);
     }
 
     /// Notes that the thread is about to end.
-    pub(crate) fn note_end(&self, rt: &R, slot: Slot) {
+    pub(crate) fn record_end(&self, rt: &R, slot: Slot) {
         // There is room, since each thread is in the list at most once.
         let _ = self.ended.lock(rt).push(slot);
     }
@@ -188,14 +188,14 @@ impl<R: Wait + Drop> ServerState<R> {
         &self,
         alloc: Global,
         stream: TcpStream,
-        visit: Visit,
+        visit: HandshakeTask,
     ) -> Option<TcpStream> {
         match visit {
-            Visit::Greet => {
+            HandshakeTask::Handshake => {
                 set_socket_options(&stream).ok()?;
-                shake_hands(alloc, stream, &self.is_full, &self.is_crowded)
+                handshake(alloc, stream, &self.is_full, &self.is_crowded)
             }
-            Visit::SendAway => {
+            HandshakeTask::Refuse => {
                 close_and_drain(&mut socket_on(alloc, stream), self.refusal());
                 None
             }
@@ -222,13 +222,13 @@ impl<R: Wait + Drop> ServerState<R> {
     ) -> Served
     where
         R: Net + Clock,
-        requires { IsPass pass self.now.backend }
-        ensures { IsPass result.pass self.now.backend }
+        requires { IsPassOfBackend pass self.now.backend }
+        ensures { IsPassOfBackend result.pass self.now.backend }
     {
         let (stream, waker) = WakingStream::new(rt, alloc, stream, self.longest_wait);
-        let following = self.followers.at(slot);
+        let following = self.wake_registry.handle_at(slot);
         if let Some(following) = following {
-            following.enter(rt, waker);
+            following.register(rt, waker);
         }
         let mut socket = socket_on(alloc, stream);
         let service = Service {
@@ -237,11 +237,11 @@ impl<R: Wait + Drop> ServerState<R> {
             clock: SystemClock::new(rt),
             is_ending: Some(&self.is_ending),
             texts: Some(&self.texts),
-            following,
+            wake_handle: following,
         };
         let served = serve_until(rt, alloc, &mut socket, pass, service);
         if let Some(following) = following {
-            following.leave(rt);
+            following.deregister(rt);
         }
         served
     }

@@ -1,13 +1,13 @@
 //! The threads of clients that are served.
 ghost use Rattle.std.specs.Prelude.{◌≡◌, IfOk, IfSome};
-ghost use Rattle.sdb_backend.specs.Passes.{IsPass};
+ghost use Rattle.sdb_backend.specs.PassModel.{IsPassOfBackend};
 ghost use Rattle.sdb_backend.specs.declared.backend.Backend.{Backend as Documents};
-ghost use Rattle.sdb_growlock.specs.Rule.{Each};
-ghost use Rattle.sdb_server.specs.Threads.{AreOf, AreOfAny, Keeps};
+ghost use Rattle.sdb_growlock.specs.LockRule.{ForEach};
+ghost use Rattle.sdb_server.specs.ThreadModel.{ThreadsOfBackend, NoThreads, SameBackends};
 
-use crate::journal::Report;
+use crate::client_loop::Served;
+use crate::log::SessionReport;
 use crate::server_state::{CLIENT_LIMIT, ServerState, Slot};
-use crate::websocket_session::Served;
 use sdb_backend::{Backend, Pass};
 use std::alloc::{AllocError, Global};
 use std::net::{Net, Shutdown, TcpListener, TcpStream};
@@ -19,18 +19,18 @@ use std::time::Clock;
 
 /// That the pass which a thread gives back is one of the backend.
 #[derive(Drop)]
-pub(crate) struct OfBackend<R: Wait>(Snapshot<Backend<R>>);
+pub(crate) struct BackendPromise<R: Wait>(Snapshot<Backend<R>>);
 
-impl<R: Wait> Promise<Served> for OfBackend<R> {
-    ghost use Rattle.sdb_backend.specs.Passes.{IsPass};
+impl<R: Wait> Promise<Served> for BackendPromise<R> {
+    ghost use Rattle.sdb_backend.specs.PassModel.{IsPassOfBackend};
 
-    ghost kept_by = { λ p served. IsPass served.pass p.0.value };
+    ghost kept_by = { λ p served. IsPassOfBackend served.pass p.0.value };
 }
 
 /// These threads, each in a slot of its own, and the passes that came back.
 #[derive(Drop)]
 pub(crate) struct SessionThreads<R: Wait> {
-    handles: Vec<Option<PromisedHandle<Served, OfBackend<R>>>>,
+    handles: Vec<Option<PromisedHandle<Served, BackendPromise<R>>>>,
     free: Vec<usize>,
     passes: Vec<Pass>,
     // Whether the passes are kept.
@@ -39,7 +39,7 @@ pub(crate) struct SessionThreads<R: Wait> {
 
 /// What a thread is started with.
 #[derive(Drop)]
-pub(crate) struct Place<R: Wait> {
+pub(crate) struct ThreadSlot<R: Wait> {
     slot: usize,
     state: Arc<ServerState<R>, Global>,
     stream: TcpStream,
@@ -50,7 +50,7 @@ pub(crate) struct Place<R: Wait> {
 impl<R: Wait + Drop> SessionThreads<R> {
     /// No threads. It fails only for want of memory.
     pub(crate) fn new(alloc: Global, is_keeping: bool) -> Result<SessionThreads<R>, AllocError>
-        ensures { IfOk result AreOfAny }
+        ensures { IfOk result NoThreads }
     {
         let mut handles = Vec::with_capacity(alloc, CLIENT_LIMIT)?;
         let mut free = Vec::with_capacity(alloc, CLIENT_LIMIT)?;
@@ -72,13 +72,13 @@ impl<R: Wait + Drop> SessionThreads<R> {
     }
 
     /// What a thread for the stream is started with; the stream, where none can be.
-    pub(crate) fn place_for(
+    pub(crate) fn slot_for(
         &mut self,
         state: &Arc<ServerState<R>, Global>,
         stream: TcpStream,
-    ) -> Result<Place<R>, TcpStream>
+    ) -> Result<ThreadSlot<R>, TcpStream>
         ensures state { IfOk result (λ place. place.state.value ≡ state.now.value) }
-        ensures backend { Keeps self.old self.new }
+        ensures backend { SameBackends self.old self.new }
     {
         if !self.has_room() {
             return Err(stream);
@@ -87,7 +87,7 @@ impl<R: Wait + Drop> SessionThreads<R> {
             return Err(stream);
         };
         match self.free.pop() {
-            Some(slot) => Ok(Place {
+            Some(slot) => Ok(ThreadSlot {
                 slot,
                 state,
                 stream,
@@ -99,22 +99,22 @@ impl<R: Wait + Drop> SessionThreads<R> {
 
     // Whether there is room for the passes of all clients.
     fn has_room(&mut self) -> bool
-        ensures backend { Keeps self.old self.new }
+        ensures backend { SameBackends self.old self.new }
     {
         !self.is_keeping || self.passes.reserve(CLIENT_LIMIT).is_ok()
     }
 
     /// The stream of a place that isn't taken.
-    pub(crate) fn give_up(&mut self, place: Place<R>) -> TcpStream
-        ensures backend { Keeps self.old self.new }
+    pub(crate) fn cancel_slot(&mut self, place: ThreadSlot<R>) -> TcpStream
+        ensures backend { SameBackends self.old self.new }
     {
-        let Place { slot, stream, .. } = place;
-        self.give_back(slot);
+        let ThreadSlot { slot, stream, .. } = place;
+        self.return_slot(slot);
         stream
     }
 
-    fn give_back(&mut self, slot: usize)
-        ensures backend { Keeps self.old self.new }
+    fn return_slot(&mut self, slot: usize)
+        ensures backend { SameBackends self.old self.new }
     {
         // There is room, since each slot is in the list at most once.
         let _ = self.free.push(slot);
@@ -122,49 +122,51 @@ impl<R: Wait + Drop> SessionThreads<R> {
 
     /// Starts a thread that serves the client with the pass. False where none can be started: the
     /// connection is closed then.
-    pub(crate) fn start(&mut self, rt: R, alloc: Global, place: Place<R>, pass: Pass) -> bool
+    pub(crate) fn start(&mut self, rt: R, alloc: Global, place: ThreadSlot<R>, pass: Pass) -> bool
     where
         R: Net<Listener = TcpListener, Stream = TcpStream>,
         R: Threads + Clock + Copy + Send + Sync + 'static,
-        requires pass { IsPass pass place.state.value.backend }
-        ensures backend { AreOf self.old place.state.value.backend → AreOf self.new place.state.value.backend }
+        requires pass { IsPassOfBackend pass place.state.value.backend }
+        ensures backend { ThreadsOfBackend self.old place.state.value.backend
+            → ThreadsOfBackend self.new place.state.value.backend }
     {
-        let Place {
+        let ThreadSlot {
             slot,
             state: theirs,
             stream,
             spare,
         } = place;
-        let promise = OfBackend(Snapshot::of(&theirs.backend));
+        let promise = BackendPromise(Snapshot::of(&theirs.backend));
         let run = move || -> Served
-            requires { IsPass pass theirs.value.backend }
-            ensures { IsPass result.pass theirs.value.backend }
+            requires { IsPassOfBackend pass theirs.value.backend }
+            ensures { IsPassOfBackend result.pass theirs.value.backend }
         { serve_in(theirs, rt, alloc, slot, stream, pass) };
         match thread::spawn_with(&rt, promise, run) {
             Ok(handle) => {
-                self.put(slot, handle);
+                self.insert_thread(slot, handle);
                 true
             }
             Err(refused) => {
                 // A session over a closed connection ends at once.
                 let _ = spare.shutdown(Shutdown::Both);
                 let served = (refused.value)();
-                self.keep(served.pass);
+                self.keep_pass(served.pass);
                 false
             }
         }
     }
 
-    fn put(&mut self, slot: usize, handle: PromisedHandle<Served, OfBackend<R>>)
-        ensures { AreOf self.old handle.promise.0.value → AreOf self.new handle.promise.0.value }
+    fn insert_thread(&mut self, slot: usize, handle: PromisedHandle<Served, BackendPromise<R>>)
+        ensures { ThreadsOfBackend self.old handle.promise.0.value → ThreadsOfBackend self.new handle.promise.0.value }
     {
         if let Some(place) = self.handles.get_mut(slot) {
             *place = Some(handle);
         }
     }
 
-    fn keep(&mut self, pass: Pass)
-        ensures { (b : Documents R) → IsPass pass b → AreOf self.old b → AreOf self.new b }
+    fn keep_pass(&mut self, pass: Pass)
+        ensures { (b : Documents R) → IsPassOfBackend pass b → ThreadsOfBackend self.old b
+            → ThreadsOfBackend self.new b }
     {
         if self.is_keeping {
             // There is room for it.
@@ -174,12 +176,12 @@ impl<R: Wait + Drop> SessionThreads<R> {
 
     /// Joins the thread of the slot, which is about to end, and keeps the pass. What is to be told of its
     /// session.
-    pub(crate) fn join(&mut self, rt: &R, slot: usize) -> Option<Report>
+    pub(crate) fn join(&mut self, rt: &R, slot: usize) -> Option<SessionReport>
     where
         R: Threads,
-        ensures backend { Keeps self.old self.new }
+        ensures backend { SameBackends self.old self.new }
     {
-        self.give_back(slot);
+        self.return_slot(slot);
         let handle = self.take(slot)?;
         let Served {
             pass,
@@ -189,8 +191,8 @@ impl<R: Wait + Drop> SessionThreads<R> {
             operations,
         } = handle.join(rt);
         let number = pass.number();
-        self.keep(pass);
-        Some(Report {
+        self.keep_pass(pass);
+        Some(SessionReport {
             number,
             source,
             end,
@@ -199,16 +201,16 @@ impl<R: Wait + Drop> SessionThreads<R> {
         })
     }
 
-    fn take(&mut self, slot: usize) -> Option<PromisedHandle<Served, OfBackend<R>>>
-        ensures handle { IfSome result (λ t. (b : Documents R) → AreOf self.old b → t.promise.0.value ≡ b) }
-        ensures backend { Keeps self.old self.new }
+    fn take(&mut self, slot: usize) -> Option<PromisedHandle<Served, BackendPromise<R>>>
+        ensures handle { IfSome result (λ t. (b : Documents R) → ThreadsOfBackend self.old b → t.promise.0.value ≡ b) }
+        ensures backend { SameBackends self.old self.new }
     {
         self.handles.get_mut(slot)?.take()
     }
 
     /// The passes that came back, where they are kept.
     pub(crate) fn into_passes(self) -> Vec<Pass>
-        ensures { (b : Documents R) → AreOf self b → Each (λ p. IsPass p b) result.items }
+        ensures { (b : Documents R) → ThreadsOfBackend self b → ForEach (λ p. IsPassOfBackend p b) result.items }
     {
         let SessionThreads { passes, .. } = self;
         passes
@@ -224,10 +226,10 @@ fn serve_in<R: Net<Listener = TcpListener, Stream = TcpStream> + Wait + Clock + 
     stream: TcpStream,
     pass: Pass,
 ) -> Served
-    requires { IsPass pass state.value.backend }
-    ensures { IsPass result.pass state.value.backend }
+    requires { IsPassOfBackend pass state.value.backend }
+    ensures { IsPassOfBackend result.pass state.value.backend }
 {
     let served = state.serve(&rt, alloc, slot, stream, pass);
-    state.note_end(&rt, Slot::Session(slot));
+    state.record_end(&rt, Slot::Session(slot));
     served
 }

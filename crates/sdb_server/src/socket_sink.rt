@@ -7,8 +7,8 @@ ghost use Rattle.tungstenite.specs.Connection.{write_step};
 ghost use Rattle.tungstenite.specs.Content.{text};
 
 use crate::deadline_stream::DeadlineStream;
-use crate::followers::Group;
-use sdb_session::ReplySink;
+use crate::wakeups::IdBucket;
+use sdb_session::AnswerSink;
 use sdb_wire::{Answer, reply_text};
 use std::alloc::{AllocError, Global};
 use std::io::{Read, Write};
@@ -20,9 +20,9 @@ use tungstenite::{Error, Message, NoMask, Utf8Bytes, WebSocket};
 pub(crate) struct SocketSink<'a, S> {
     socket: &'a mut WebSocket<DeadlineStream<S>, NoMask>,
     /// Of which document an operation was acknowledged.
-    pub(crate) stored: Option<Group>,
+    pub(crate) stored: Option<IdBucket>,
     /// Which document is followed from now on.
-    pub(crate) followed: Option<Group>,
+    pub(crate) followed: Option<IdBucket>,
     /// Why the socket takes no more.
     pub(crate) failure: Option<Error>,
 }
@@ -38,11 +38,11 @@ impl<'a, S> SocketSink<'a, S> {
         }
     }
 
-    fn note(&mut self, answer: &Answer<'_>) {
+    fn record_failure(&mut self, answer: &Answer<'_>) {
         match answer {
-            Answer::Acknowledged { key, .. } => self.stored = Some(Group::of(key.id.as_str())),
+            Answer::Acknowledged { key, .. } => self.stored = Some(IdBucket::of(key.id.as_str())),
             Answer::Subscribed { key, .. } | Answer::CaughtUp { key } => {
-                self.followed = Some(Group::of(key.id.as_str()));
+                self.followed = Some(IdBucket::of(key.id.as_str()));
             }
             _ => {}
         }
@@ -50,19 +50,19 @@ impl<'a, S> SocketSink<'a, S> {
 }
 
 /// What has reached the client isn't known here, so nothing is said of what was written.
-impl<S: Read + Write + Drop> ReplySink for SocketSink<'_, S> {
+impl<S: Read + Write + Drop> AnswerSink for SocketSink<'_, S> {
     ghost use Rattle.std.specs.Prelude.{[], ⊤};
 
-    ghost Piece = { ⊤ };
+    ghost Item = { ⊤ };
 
-    ghost pieces = { λ a. [] };
+    ghost items = { λ a. [] };
 
-    ghost written = { λ s. [] };
+    ghost contents = { λ s. [] };
 
     fn write(&mut self, alloc: Global, answer: &Answer<'_>) -> Result<(), AllocError> {
-        self.note(answer);
+        self.record_failure(answer);
         if self.failure.is_none() {
-            self.failure = hand_over(alloc, self.socket, answer)?;
+            self.failure = write_item(alloc, self.socket, answer)?;
         }
         Ok(())
     }
@@ -70,7 +70,7 @@ impl<S: Read + Write + Drop> ReplySink for SocketSink<'_, S> {
 
 // Writes an answer to a socket, as one message, and waits for the client where too much isn't sent yet. The
 // socket's error, if there is one.
-fn hand_over<S: Read + Write + Drop>(
+fn write_item<S: Read + Write + Drop>(
     alloc: Global,
     socket: &mut WebSocket<S, NoMask>,
     answer: &Answer<'_>,

@@ -11,7 +11,7 @@ use std::time::{Clock, Duration, Instant};
 // What a wait is told of.
 const INPUT: Token = Token(0);
 
-const WAKING: Token = Token(1);
+const WAKER: Token = Token(1);
 
 /// A stream on which a read waits for input or for a wake-up, and no longer than it may. A read that finds
 /// nothing answers `Interrupted` where its reader was woken, and else `WouldBlock`. So that who is often woken
@@ -49,7 +49,7 @@ impl<'a, R: Clock> InputWait<'a, R> {
         R: Net,
     {
         let poll = Poll::new(rt)?;
-        let waker = Waker::new(poll.registry(), WAKING)?;
+        let waker = Waker::new(poll.registry(), WAKER)?;
         let mut source = SourceFd(&stream.as_raw_fd());
         poll.registry()
             .register(&mut source, INPUT, Interest::READABLE)?;
@@ -66,7 +66,7 @@ impl<'a, R: Clock> InputWait<'a, R> {
 
     // Waits until a read finds something, perhaps only that nothing has come.
     fn wait<S: AsRawFd>(&mut self, stream: &S) -> io::Result<()> {
-        if self.is_left && self.ask_again(stream).is_err() {
+        if self.is_left && self.request_wakeup(stream).is_err() {
             return Ok(());
         }
         let Some(limit) = self.limit() else {
@@ -88,7 +88,7 @@ impl<'a, R: Clock> InputWait<'a, R> {
     }
 
     // Has the system tell again of what is left.
-    fn ask_again<S: AsRawFd>(&mut self, stream: &S) -> io::Result<()> {
+    fn request_wakeup<S: AsRawFd>(&mut self, stream: &S) -> io::Result<()> {
         let mut source = SourceFd(&stream.as_raw_fd());
         let registry = self.poll.registry();
         registry.reregister(&mut source, INPUT, Interest::READABLE)?;

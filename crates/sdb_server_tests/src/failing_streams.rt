@@ -1,6 +1,6 @@
 //! Sessions whose streams fail at any of their calls: what was stored stays, once, and no queue is left. And those
 //! whose streams bring a byte at a time.
-ghost use Rattle.sdb_backend.specs.Passes.{IsHost, IsPass};
+ghost use Rattle.sdb_backend.specs.PassModel.{IsHostOfBackend, IsPassOfBackend};
 
 use crate::websocket_session::{
     AWAY_FRAME, BADLY_FORMED, OPENING, SUBSCRIBE, SUBSCRIBED, TEXT, add, attend, attend_first,
@@ -76,9 +76,9 @@ fn ended<R: Wait + Drop>(
     first: Pass,
     second: Pass,
 ) -> Audit
-    requires host { IsHost host backend }
-    requires first { IsPass first backend }
-    requires second { IsPass second backend }
+    requires host { IsHostOfBackend host backend }
+    requires first { IsPassOfBackend first backend }
+    requires second { IsPassOfBackend second backend }
 {
     let mut passes = Vec::new(alloc);
     passes.push(first).expect(rt, "out of memory");

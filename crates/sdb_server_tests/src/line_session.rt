@@ -1,6 +1,6 @@
 //! Sessions over lines whose streams fail, and by a clock that is known. What else they are answered is in the lines of
 //! the program.
-use sdb_lines::{RunFault, WatchedReader, WatchedWriter};
+use sdb_lines::{CountingReader, CountingWriter, RunFault};
 use sdb_oplog::Moment;
 use sdb_projection::Table;
 use sdb_server::{ListClock, run_lines, run_lines_at_exit};
@@ -57,12 +57,12 @@ const WHOLE: &str =
 // What is written for the fetch where the streams fail after so many calls, and the fault that ended the run.
 fn run(alloc: Global, reads: usize, calls: usize) -> (Vec<u8>, Option<RunFault>) {
     let bytes = FETCH.as_bytes();
-    let mut reader = WatchedReader::new(Input {
+    let mut reader = CountingReader::new(Input {
         bytes,
         calls: reads,
     });
     let bytes = Vec::new(alloc);
-    let mut writer = WatchedWriter::new(Output { bytes, calls });
+    let mut writer = CountingWriter::new(Output { bytes, calls });
     let clock = ListClock::new(Vec::new(alloc));
     let ended = run_lines(alloc, &Table::new(alloc), clock, &mut reader, &mut writer);
     (writer.stream.bytes, ended.err())
@@ -78,13 +78,13 @@ fn ends_with(alloc: Global, reads: usize, calls: usize, fault: RunFault) -> bool
 fn streams_that_fail(rt: HostRuntime) {
     for calls in 0..20 {
         assert!(rt;
-            ends_with(rt.alloc(), 100, calls, RunFault::Write),
+            ends_with(rt.alloc(), 100, calls, RunFault::WriteFailed),
             "after {calls}"
         );
     }
     for reads in 0..5 {
         assert!(rt;
-            ends_with(rt.alloc(), reads, 100, RunFault::Read),
+            ends_with(rt.alloc(), reads, 100, RunFault::ReadFailed),
             "after {reads}"
         );
     }
@@ -114,8 +114,8 @@ const READS: &str = r#"{"a":"op","c":"b","d":"1","seq":3,"src":"w","v":2}
 
 // What is written for lines at these moments.
 fn written_by(alloc: Global, clock: ListClock, lines: &str) -> Vec<u8> {
-    let mut reader = WatchedReader::new(lines.as_bytes());
-    let mut writer = WatchedWriter::new(Vec::new(alloc));
+    let mut reader = CountingReader::new(lines.as_bytes());
+    let mut writer = CountingWriter::new(Vec::new(alloc));
     let _ = run_lines(alloc, &Table::new(alloc), clock, &mut reader, &mut writer);
     writer.stream
 }
@@ -124,8 +124,8 @@ fn written_by(alloc: Global, clock: ListClock, lines: &str) -> Vec<u8> {
 fn the_same_is_written_by_a_program_that_ends(rt: HostRuntime) {
     let clock = ListClock::new(Vec::new(rt.alloc()));
     let wanted = written_by(rt.alloc(), clock, MOMENTS);
-    let mut reader = WatchedReader::new(MOMENTS.as_bytes());
-    let mut writer = WatchedWriter::new(Vec::new(rt.alloc()));
+    let mut reader = CountingReader::new(MOMENTS.as_bytes());
+    let mut writer = CountingWriter::new(Vec::new(rt.alloc()));
     let (table, clock) = (Table::new(rt.alloc()), ListClock::new(Vec::new(rt.alloc())));
     let ended = run_lines_at_exit(rt.alloc(), &table, clock, &mut reader, &mut writer);
     assert!(rt; ended.is_ok() && writer.stream.as_slice() == wanted.as_slice());

@@ -1,5 +1,5 @@
 //! Sessions whose clients are no sockets. What can't be had ends the test.
-ghost use Rattle.sdb_backend.specs.Passes.{IsPass};
+ghost use Rattle.sdb_backend.specs.PassModel.{IsPassOfBackend};
 
 use sdb_backend::{Backend, Pass};
 use sdb_oplog::{Key, Moment};
@@ -135,7 +135,7 @@ pub(crate) fn told(rt: &impl Abort, alloc: Global, texts: &[&str], behind: &[u8]
 pub(crate) fn clock_of(rt: &impl Abort, alloc: Global, told: &[u64]) -> ListClock {
     let mut moments = Vec::new(alloc);
     for milliseconds in told {
-        let moment = Moment::at_most_last(*milliseconds);
+        let moment = Moment::saturating_new(*milliseconds);
         moments.push(moment).expect(rt, "out of memory");
     }
     ListClock::new(moments)
@@ -150,8 +150,8 @@ pub(crate) fn attend<R: Wait + Drop, S: Read + Write + Drop>(
     pass: Pass,
     stream: S,
 ) -> (Pass, S)
-    requires { IsPass pass backend.now }
-    ensures { IsPass result.0 backend.now }
+    requires { IsPassOfBackend pass backend.now }
+    ensures { IsPassOfBackend result.0 backend.now }
 {
     let stream = DeadlineStream::new(stream);
     let mut socket = WebSocket::from_raw_socket(alloc, stream, NoMask, Role::Server, None);
@@ -270,8 +270,8 @@ fn opened<R: Wait + Drop>(
     pass: &mut Pass,
     key: &Key,
 ) -> SubId
-    requires { IsPass pass.old backend.now }
-    ensures { IsPass pass.new backend.now }
+    requires { IsPassOfBackend pass.old backend.now }
+    ensures { IsPassOfBackend pass.new backend.now }
 {
     backend.subscribe(pass, key, None).expect(rt, "a queue").id
 }
@@ -284,8 +284,8 @@ fn is_open<R: Wait + Drop>(
     key: &Key,
     id: SubId,
 ) -> bool
-    requires { IsPass pass.old backend.now }
-    ensures { IsPass pass.new backend.now }
+    requires { IsPassOfBackend pass.old backend.now }
+    ensures { IsPassOfBackend pass.new backend.now }
 {
     let taken = backend.take(pass, key, id, 1);
     taken.expect(rt, "out of memory").is_some()

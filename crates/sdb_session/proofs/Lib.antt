@@ -1,4 +1,4 @@
-pub mod BatchChains
-pub mod Handling
-pub mod Pairs
-pub mod Taking
+pub mod BatchLemmas
+pub mod ResponseLemmas
+pub mod SubscriptionMapLemmas
+pub mod PumpLemmas

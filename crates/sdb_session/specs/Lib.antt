@@ -1,10 +1,10 @@
 pub mod BatchLaws
-pub mod Batches
+pub mod Listing
 pub mod Dialogue
-pub mod Handling
+pub mod Responses
 pub mod Laws
-pub mod Projections
-pub mod Pumps
+pub mod ProjectionModel
+pub mod PumpModel
 pub mod Sessions
 pub mod View
-pub mod Written
+pub mod Output

@@ -9,46 +9,46 @@ pub record QueueId : Type 0 where
   pub id : ℕ
 
 -- the collection name and the id by which a client subscribed, and the queue
-pub record PlainSub : Type 0 where
+pub record PlainSubscription : Type 0 where
   pub key : PlainKey
   pub queue : QueueId
 
 -- the subscriptions stand in the order in which they were made
 pub record PlainSession : Type 0 where
   pub source : List ℕ
-  pub subs : List PlainSub
+  pub subs : List PlainSubscription
 
-abbrev pub same_pair : PlainKey → PlainKey → Bool
-same_pair a b = bytes_eq a.collection b.collection && bytes_eq a.id b.id
+abbrev pub document_keys_equal : PlainKey → PlainKey → Bool
+document_keys_equal a b = bytes_eq a.collection b.collection && bytes_eq a.id b.id
 
 -- the queue of this pair
-abbrev pub queue_of : PlainKey → List PlainSub → Option QueueId
+abbrev pub queue_of : PlainKey → List PlainSubscription → Option QueueId
 queue_of k [] = None
-queue_of k (s ∷ subs) = if same_pair k s.key then Some s.queue else queue_of k subs
+queue_of k (s ∷ subs) = if document_keys_equal k s.key then Some s.queue else queue_of k subs
 
 -- the pair is subscribed to by this queue: a pair that is there keeps its place, another goes last
-abbrev pub put : PlainKey → QueueId → List PlainSub → List PlainSub
-put k q [] = record { key = k; queue = q } ∷ []
-put k q (s ∷ subs) = if same_pair k s.key then record { key = s.key; queue = q } ∷ subs else s ∷ put k q subs
+abbrev pub insert_subscription : PlainKey → QueueId → List PlainSubscription → List PlainSubscription
+insert_subscription k q [] = record { key = k; queue = q } ∷ []
+insert_subscription k q (s ∷ subs) = if document_keys_equal k s.key then record { key = s.key; queue = q } ∷ subs else s ∷ insert_subscription k q subs
 
 -- the subscriptions without that of this pair
-abbrev pub without_pair : PlainKey → List PlainSub → List PlainSub
-without_pair k [] = []
-without_pair k (s ∷ subs) = if same_pair k s.key then subs else s ∷ without_pair k subs
+abbrev pub remove_subscription : PlainKey → List PlainSubscription → List PlainSubscription
+remove_subscription k [] = []
+remove_subscription k (s ∷ subs) = if document_keys_equal k s.key then subs else s ∷ remove_subscription k subs
 
 -- the most subscriptions of one session
 abbrev pub subscription_limit : ℕ
 subscription_limit = 64
 
 -- whether there is no room for this pair
-abbrev pub is_full : PlainKey → List PlainSub → Bool
-is_full k subs = not (is_some (queue_of k subs)) && nat_le subscription_limit (length subs)
+abbrev pub is_subscription_full : PlainKey → List PlainSubscription → Bool
+is_subscription_full k subs = not (is_some (queue_of k subs)) && nat_le subscription_limit (length subs)
 
 abbrev pub with_source : PlainSession → Option (List ℕ) → PlainSession
 with_source s n = record { source = unwrap_or n s.source; subs = s.subs }
 
-abbrev pub with_sub : PlainSession → PlainKey → QueueId → PlainSession
-with_sub s k q = record { source = s.source; subs = put k q s.subs }
+abbrev pub with_subscription : PlainSession → PlainKey → QueueId → PlainSession
+with_subscription s k q = record { source = s.source; subs = insert_subscription k q s.subs }
 
-abbrev pub without_sub : PlainSession → PlainKey → PlainSession
-without_sub s k = record { source = s.source; subs = without_pair k s.subs }
+abbrev pub without_subscription : PlainSession → PlainKey → PlainSession
+without_subscription s k = record { source = s.source; subs = remove_subscription k s.subs }

@@ -1,18 +1,18 @@
 //! One session: each message is answered, and what was stored meanwhile is sent.
 #![tactic(auto)]
 
-mod batches;
-mod handlers;
-mod names;
-mod projected;
-mod pumping;
-mod replies;
-mod reply_sink;
+mod answer_sink;
+mod answers;
+mod dispatch;
+mod interner;
+mod listing;
+mod op_text_cache;
+mod projection;
+mod pump;
 mod session;
 mod subscriptions;
-mod texts;
 
-pub use pumping::Pumped;
-pub use reply_sink::ReplySink;
+pub use answer_sink::AnswerSink;
+pub use op_text_cache::OpTextCache;
+pub use pump::Pumped;
 pub use session::{Ended, Session};
-pub use texts::Texts;

@@ -2,22 +2,22 @@
 ghost use Rattle.std.specs.Prelude.{◌≡◌, ◌∷◌, [], true, false, IfOk, OnOk, map, string_bytes};
 ghost use Rattle.std.specs.Result.{is_err, is_ok};
 ghost use Rattle.sdb_oplog.specs.declared.codes.Code.TheVariants.{E1};
-ghost use Rattle.sdb_session.specs.View.{Wrote, has_ended, plain_session};
-ghost use Rattle.sdb_session.specs.Handling.{Answers, AnswersSome, Handled};
+ghost use Rattle.sdb_session.specs.View.{WroteAnswers, has_ended, plain_session};
+ghost use Rattle.sdb_session.specs.Responses.{TextOutcome, TextInterrupted, OutcomeOrInterrupted};
 ghost use Rattle.sdb_wire.specs.Answers.{answer_text, init, failed};
-ghost use Rattle.sdb_wire.specs.Wire.{nothing_said, parse_message};
+ghost use Rattle.sdb_wire.specs.Wire.{empty_echo, parse_message};
 
-use crate::names::Names;
-use crate::replies::{refuse, say};
-use crate::reply_sink::ReplySink;
+use crate::answer_sink::AnswerSink;
+use crate::answers::{write_answer, write_refusal};
+use crate::interner::NameInterner;
+use crate::op_text_cache::OpTextCache;
 use crate::subscriptions::Subscription;
-use crate::texts::Texts;
 use indexmap::IndexMap;
 use sdb_json::Scratch;
-use sdb_oplog::{Code, Key, LastPath, Moment};
+use sdb_oplog::{Code, Key, Moment, PathInterner};
 use sdb_projection::Table;
 use sdb_submit::Desk;
-use sdb_wire::{Answer, Message, no_echo, parse_message, reply_text};
+use sdb_wire::{Answer, Message, empty_echo, parse_message, reply_text};
 use std::alloc::{AllocError, Global};
 use std::sync::Arc;
 
@@ -46,9 +46,9 @@ pub struct Session {
     pub(crate) alloc: Global,
     pub(crate) source: String,
     pub(crate) subscriptions: IndexMap<Key, Subscription>,
-    pub(crate) names: Names,
-    pub(crate) last_path: LastPath,
-    texts: Option<Arc<Texts>>,
+    pub(crate) names: NameInterner,
+    pub(crate) last_path: PathInterner,
+    texts: Option<Arc<OpTextCache>>,
     // Room for reading, kept from message to message.
     scratch: Option<Box<Scratch>>,
     pub(crate) ended: Option<Ended>,
@@ -66,8 +66,8 @@ impl Session {
             alloc,
             source: id,
             subscriptions: IndexMap::new(alloc),
-            names: Names::new(alloc),
-            last_path: LastPath::new(),
+            names: NameInterner::new(alloc),
+            last_path: PathInterner::new(),
             texts: None,
             scratch: None,
             ended: None,
@@ -75,7 +75,7 @@ impl Session {
     }
 
     /// Shares the texts of operations with other sessions from now on. Without them it prints each by itself.
-    pub fn share_texts(&mut self, texts: Arc<Texts>)
+    pub fn use_text_cache(&mut self, texts: Arc<OpTextCache>)
         ensures session { plain_session self.new ≡ plain_session self.old }
         ensures ended { has_ended self.new ≡ has_ended self.old }
     {
@@ -83,7 +83,7 @@ impl Session {
     }
 
     // The texts that it shares.
-    pub(crate) fn texts(&self) -> Option<&Texts> {
+    pub(crate) fn texts(&self) -> Option<&OpTextCache> {
         self.texts.as_deref()
     }
 
@@ -100,11 +100,11 @@ impl Session {
     }
 
     /// Writes the opening text.
-    pub fn opening_to<O: ReplySink>(&self, out: &mut O) -> Result<(), AllocError>
-        ensures { OnOk result (Wrote O.pieces (O.written out.old) (O.written out.new)
+    pub fn opening_to<O: AnswerSink>(&self, out: &mut O) -> Result<(), AllocError>
+        ensures { OnOk result (WroteAnswers O.items (O.contents out.old) (O.contents out.new)
             (init (plain_session self.now).source ∷ [])) }
     {
-        say(
+        write_answer(
             self.alloc,
             &Answer::Init {
                 src: self.source.as_str(),
@@ -122,18 +122,18 @@ impl Session {
         text: &str,
         now: Moment,
     ) -> Result<Vec<String>, Ended>
-        requires takes { D.takes desk.now pass.old }
-        ensures takes { D.takes desk.now pass.new }
-        ensures number { D.number desk.now pass.new ≡ D.number desk.now pass.old }
+        requires takes { D.accepts desk.now pass.old }
+        ensures takes { D.accepts desk.now pass.new }
+        ensures number { D.pass_number desk.now pass.new ≡ D.pass_number desk.now pass.old }
         ensures ended { has_ended self.new ≡ is_err result }
         ensures again { has_ended self.old ≡ true → is_err result ≡ true }
         // An ended session asks nobody.
         ensures asks { has_ended self.old ≡ true →
             (pass.new ≡ pass.old) × (plain_session self.new ≡ plain_session self.old) }
-        ensures handled { Handled result
-            (Answers (D.acts desk.now) text.now table.now (D.number desk.now pass.old) now
+        ensures handled { OutcomeOrInterrupted result
+            (TextOutcome (D.step desk.now) text.now table.now (D.pass_number desk.now pass.old) now
             (plain_session self.old) pass.old)
-            (AnswersSome (D.acts desk.now) text.now table.now)
+            (TextInterrupted (D.step desk.now) text.now table.now)
             (λ answers. IfOk result (λ texts. map string_bytes texts.items ≡ map answer_text answers))
             (plain_session self.old) pass.old (plain_session self.new) pass.new }
     {
@@ -151,7 +151,7 @@ impl Session {
     /// queue was open, the next number of queues. Where memory is wanting to read a message, to copy a
     /// name or to make the text of an answer, the session is [`Ended`], from then on in every call; what
     /// was stored stays stored, and nothing is said of `out`.
-    pub fn handle_to<D: Desk, O: ReplySink>(
+    pub fn handle_to<D: Desk, O: AnswerSink>(
         &mut self,
         desk: &D,
         pass: &mut D::Pass,
@@ -160,9 +160,9 @@ impl Session {
         now: Moment,
         out: &mut O,
     ) -> Result<bool, Ended>
-        requires takes { D.takes desk.now pass.old }
-        ensures takes { D.takes desk.now pass.new }
-        ensures number { D.number desk.now pass.new ≡ D.number desk.now pass.old }
+        requires takes { D.accepts desk.now pass.old }
+        ensures takes { D.accepts desk.now pass.new }
+        ensures number { D.pass_number desk.now pass.new ≡ D.pass_number desk.now pass.old }
         ensures request { IfOk result (λ b. b ≡ is_ok (parse_message text.now).request) }
         ensures ended { has_ended self.new ≡ is_err result }
         ensures again { has_ended self.old ≡ true → is_err result ≡ true }
@@ -171,11 +171,11 @@ impl Session {
             (pass.new ≡ pass.old) × (plain_session self.new ≡ plain_session self.old) }
         // After an error nothing was done, or all that the message does but for its answers, or a list of
         // operations broke off: a queue that was opened for it is closed again then.
-        ensures handled { Handled result
-            (Answers (D.acts desk.now) text.now table.now (D.number desk.now pass.old) now
+        ensures handled { OutcomeOrInterrupted result
+            (TextOutcome (D.step desk.now) text.now table.now (D.pass_number desk.now pass.old) now
             (plain_session self.old) pass.old)
-            (AnswersSome (D.acts desk.now) text.now table.now)
-            (Wrote O.pieces (O.written out.old) (O.written out.new))
+            (TextInterrupted (D.step desk.now) text.now table.now)
+            (WroteAnswers O.items (O.contents out.old) (O.contents out.new))
             (plain_session self.old) pass.old (plain_session self.new) pass.new }
     {
         if let Some(ended) = self.ended {
@@ -183,11 +183,11 @@ impl Session {
         }
         match self.answer(desk, pass, table, text, now, out) {
             Ok(is_request) => Ok(is_request),
-            Err(error) => Err(self.end_by(error)),
+            Err(error) => Err(self.end_with_error(error)),
         }
     }
 
-    fn answer<D: Desk, O: ReplySink>(
+    fn answer<D: Desk, O: AnswerSink>(
         &mut self,
         desk: &D,
         pass: &mut D::Pass,
@@ -196,16 +196,16 @@ impl Session {
         now: Moment,
         out: &mut O,
     ) -> Result<bool, AllocError>
-        requires takes { D.takes desk.now pass.old }
-        ensures takes { D.takes desk.now pass.new }
-        ensures number { D.number desk.now pass.new ≡ D.number desk.now pass.old }
+        requires takes { D.accepts desk.now pass.old }
+        ensures takes { D.accepts desk.now pass.new }
+        ensures number { D.pass_number desk.now pass.new ≡ D.pass_number desk.now pass.old }
         ensures request { IfOk result (λ b. b ≡ is_ok (parse_message text.now).request) }
         ensures ended { self.new.ended ≡ self.old.ended }
-        ensures handled { Handled result
-            (Answers (D.acts desk.now) text.now table.now (D.number desk.now pass.old) now
+        ensures handled { OutcomeOrInterrupted result
+            (TextOutcome (D.step desk.now) text.now table.now (D.pass_number desk.now pass.old) now
             (plain_session self.old) pass.old)
-            (AnswersSome (D.acts desk.now) text.now table.now)
-            (Wrote O.pieces (O.written out.old) (O.written out.new))
+            (TextInterrupted (D.step desk.now) text.now table.now)
+            (WroteAnswers O.items (O.contents out.old) (O.contents out.new))
             (plain_session self.old) pass.old (plain_session self.new) pass.new }
     {
         let mut scratch = self.take_scratch()?;
@@ -218,12 +218,12 @@ impl Session {
                     true
                 }
                 Err(code) => {
-                    refuse(self.alloc, message, code, out)?;
+                    write_refusal(self.alloc, message, code, out)?;
                     false
                 }
             }
         };
-        self.keep_scratch(scratch, text);
+        self.put_scratch_back(scratch, text);
         Ok(is_request)
     }
 
@@ -234,12 +234,12 @@ impl Session {
     {
         match self.scratch.take() {
             Some(scratch) => Ok(scratch),
-            None => boxed(self.alloc),
+            None => box_scratch(self.alloc),
         }
     }
 
     // Keeps it for the next message. What a long one took goes with it.
-    fn keep_scratch(&mut self, scratch: Box<Scratch>, text: &str)
+    fn put_scratch_back(&mut self, scratch: Box<Scratch>, text: &str)
         ensures session { plain_session self.new ≡ plain_session self.old }
         ensures ended { self.new.ended ≡ self.old.ended }
     {
@@ -250,26 +250,26 @@ impl Session {
 
     /// Writes the answer to a message that has no text: one that is too long, not UTF-8, or binary. It is
     /// E1 and shows nothing of the message.
-    pub fn refuse_to<O: ReplySink>(&mut self, out: &mut O) -> Result<(), Ended>
+    pub fn refuse_unreadable_to<O: AnswerSink>(&mut self, out: &mut O) -> Result<(), Ended>
         ensures session { plain_session self.new ≡ plain_session self.old }
         ensures ended { has_ended self.new ≡ is_err result }
         ensures again { has_ended self.old ≡ true → is_err result ≡ true }
-        ensures says { OnOk result (Wrote O.pieces (O.written out.old) (O.written out.new)
-            (failed nothing_said E1 ∷ [])) }
+        ensures says { OnOk result (WroteAnswers O.items (O.contents out.old) (O.contents out.new)
+            (failed empty_echo E1 ∷ [])) }
     {
         if let Some(ended) = self.ended {
             return Err(ended);
         }
-        let echo = no_echo();
+        let echo = empty_echo();
         let code = Code::E1;
-        match say(self.alloc, &Answer::Failed { echo: &echo, code }, out) {
+        match write_answer(self.alloc, &Answer::Failed { echo: &echo, code }, out) {
             Ok(()) => Ok(()),
-            Err(error) => Err(self.end_by(error)),
+            Err(error) => Err(self.end_with_error(error)),
         }
     }
 
     // Each later call answers so.
-    pub(crate) fn end_by(&mut self, error: AllocError) -> Ended
+    pub(crate) fn end_with_error(&mut self, error: AllocError) -> Ended
         ensures session { plain_session self.new ≡ plain_session self.old }
         ensures ended { has_ended self.new ≡ true }
     {
@@ -279,6 +279,6 @@ impl Session {
     }
 }
 
-fn boxed(alloc: Global) -> Result<Box<Scratch>, AllocError> {
+fn box_scratch(alloc: Global) -> Result<Box<Scratch>, AllocError> {
     Ok(Box::new(alloc, Scratch::new(alloc))?)
 }

@@ -1,9 +1,9 @@
 //! Queues that are opened and closed.
 ghost use Rattle.std.specs.Prelude.{◌≡◌, option_map};
 ghost use Rattle.sdb_oplog.specs.Keys.{plain_key};
-ghost use Rattle.sdb_session.specs.Pumps.{TakesOne};
-ghost use Rattle.sdb_session.specs.View.{plain_queue, told_came};
-ghost use Rattle.sdb_session.specs.Handling.{behind, Closes};
+ghost use Rattle.sdb_session.specs.PumpModel.{TakeCall};
+ghost use Rattle.sdb_session.specs.View.{queue_id_of, taken_entries_view};
+ghost use Rattle.sdb_session.specs.Responses.{first_batch_len, CloseCalls};
 
 use sdb_oplog::{Entry, Key};
 use sdb_submit::Desk;
@@ -18,11 +18,11 @@ pub(crate) struct Subscription {
 }
 
 // Closes the queue, if there is one.
-pub(crate) fn close<D: Desk>(desk: &D, pass: &mut D::Pass, queue: Option<&Subscription>)
-    requires takes { D.takes desk.now pass.old }
-    ensures takes { D.takes desk.now pass.new }
-    ensures number { D.number desk.now pass.new ≡ D.number desk.now pass.old }
-    ensures closes { Closes (D.acts desk.now) (option_map (λ s. plain_queue s.now) queue.entry) pass.old pass.new }
+pub(crate) fn close_queue<D: Desk>(desk: &D, pass: &mut D::Pass, queue: Option<&Subscription>)
+    requires takes { D.accepts desk.now pass.old }
+    ensures takes { D.accepts desk.now pass.new }
+    ensures number { D.pass_number desk.now pass.new ≡ D.pass_number desk.now pass.old }
+    ensures closes { CloseCalls (D.step desk.now) (option_map (λ s. queue_id_of s.now) queue.entry) pass.old pass.new }
 {
     if let Some(queue) = queue {
         desk.unsubscribe(pass, &queue.base, queue.id);
@@ -30,7 +30,7 @@ pub(crate) fn close<D: Desk>(desk: &D, pass: &mut D::Pass, queue: Option<&Subscr
 }
 
 // The next entries of a queue, at most `max`; none of one that isn't known.
-pub(crate) fn take<D: Desk>(
+pub(crate) fn take_entries<D: Desk>(
     alloc: Global,
     desk: &D,
     pass: &mut D::Pass,
@@ -38,11 +38,11 @@ pub(crate) fn take<D: Desk>(
     id: SubId,
     max: u64,
 ) -> Result<Vec<Entry>, AllocError>
-    requires takes { D.takes desk.now pass.old }
-    ensures takes { D.takes desk.now pass.new }
-    ensures number { D.number desk.now pass.new ≡ D.number desk.now pass.old }
-    ensures takes_one { TakesOne (D.acts desk.now) max (record { base = plain_key base.now; id = id })
-        pass.old (told_came result) pass.new }
+    requires takes { D.accepts desk.now pass.old }
+    ensures takes { D.accepts desk.now pass.new }
+    ensures number { D.pass_number desk.now pass.new ≡ D.pass_number desk.now pass.old }
+    ensures takes_one { TakeCall (D.step desk.now) max (record { base = plain_key base.now; id = id })
+        pass.old (taken_entries_view result) pass.new }
 {
     match desk.take(pass, base, id, max) {
         Ok(Some(entries)) => Ok(entries),
@@ -52,8 +52,8 @@ pub(crate) fn take<D: Desk>(
 }
 
 // How many entries there are from the version that was asked for up to the present one.
-pub(crate) fn first_count(version: Option<u64>, present: u64) -> u64
-    ensures { result ≡ behind version present }
+pub(crate) fn first_batch_len(version: Option<u64>, present: u64) -> u64
+    ensures { result ≡ first_batch_len version present }
 {
     match version {
         Some(version) => present.saturating_sub(version),

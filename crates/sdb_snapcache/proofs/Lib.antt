@@ -1,2 +1,2 @@
-pub mod Finding
-pub mod Keeping
+pub mod NearestLemmas
+pub mod LruLemmas

@@ -1,6 +1,6 @@
-pub mod Kept
+pub mod CacheModel
 pub mod Laws
-pub mod Lends
-pub mod Snaps
+pub mod Borrows
+pub mod SnapInvariant
 pub mod View
-pub mod Worked
+pub mod Examples

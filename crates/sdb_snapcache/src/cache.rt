@@ -2,9 +2,9 @@
 ghost use Rattle.std.specs.Prelude.{◌≡◌, ◌≤◌, [], length, map, nat_eq, Some, OnOk, OnErr, option_map};
 ghost use Rattle.std.specs.Borrow.{sem};
 ghost use Rattle.std.specs.List.{IsDistinct};
-ghost use Rattle.sdb_value.specs.View.{view};
-ghost use Rattle.sdb_snapcache.specs.Kept.{nearest, greatest, kept_at, used_for, offered};
-ghost use Rattle.sdb_snapcache.specs.View.{snapshots, IsOfEight};
+ghost use Rattle.sdb_value.specs.View.{value_of};
+ghost use Rattle.sdb_snapcache.specs.CacheModel.{nearest, max_version, snapshot_at_version, promote_nearest, insert_front};
+ghost use Rattle.sdb_snapcache.specs.View.{plain_snapshots, HasCapacityEight};
 ghost use Rattle.std.specs.NonZero.{non_zero_usize_get};
 
 use lru::LruCache;
@@ -14,49 +14,52 @@ use std::marker::Model;
 use std::num::NonZeroUsize;
 
 /// The most snapshots that are kept.
-pub const MOST: usize = 8;
+pub const CACHE_CAPACITY: usize = 8;
 
-/// At most [`MOST`] snapshots of one document, in the order of their last use, each of another
+/// At most [`CACHE_CAPACITY`] snapshots of one document, in the order of their last use, each of another
 /// version.
 #[derive(Drop)]
 pub struct Cache {
     alloc: Global,
     // none before the first is offered
-    kept: Option<LruCache<u64, Json>>,
+    snapshots: Option<LruCache<u64, Json>>,
 }
 
 impl Model for Cache {
     ghost use Rattle.std.specs.Prelude.{List};
-    ghost use Rattle.sdb_snapcache.specs.Kept.{Snapshot};
-    ghost use Rattle.sdb_snapcache.specs.View.{kept_code, plain_kept, HasEight};
+    ghost use Rattle.sdb_snapcache.specs.CacheModel.{Snapshot};
+    ghost use Rattle.sdb_snapcache.specs.View.{snapshots_code, snapshots_of, HasCapacityEightOrNone};
 
     ghost Value = { List Snapshot };
 
-    ghost coded = { kept_code };
+    ghost coded = { snapshots_code };
 
-    ghost view = { λ c. plain_kept c.kept };
+    ghost view = { λ c. snapshots_of c.snapshots };
 
-    ghost invariant = { λ c. HasEight c.kept };
+    ghost invariant = { λ c. HasCapacityEightOrNone c.snapshots };
 }
 
 impl Cache {
-    ghost use Rattle.sdb_snapcache.specs.Lends.{ends_as};
+    ghost use Rattle.sdb_snapcache.specs.Borrows.{borrow_ends_with_cache};
 
     /// A cache without snapshots. It keeps the allocator, and takes no memory before the first snapshot
     /// is offered.
     pub fn new(alloc: Global) -> Cache
         ensures { result ≡ [] }
     {
-        Cache { alloc, kept: None }
+        Cache {
+            alloc,
+            snapshots: None,
+        }
     }
 
     /// How many snapshots are kept.
     pub fn len(&self) -> usize
         ensures len { result ≡ length self.now }
-        ensures few { length self.now ≤ MOST }
+        ensures few { length self.now ≤ CACHE_CAPACITY }
         ensures apart { IsDistinct nat_eq (map (λ s. s.version) self.now) }
     {
-        match &self.kept {
+        match &self.snapshots {
             Some(kept) => kept.len(),
             None => 0,
         }
@@ -65,20 +68,21 @@ impl Cache {
     /// The kept snapshot of the greatest version up to `v`: that version, and what the document holds
     /// there. It is then the most recently used. It takes no memory.
     pub fn nearest(&mut self, v: u64) -> Option<(u64, &Json)>
-        ensures* uses { sem 𝓛 (ends_as self.entry (used_for v self.old)) }
-        ensures value { option_map (λ f. record { version = f.0; value = view f.1.now }) result ≡ nearest v self.old }
+        ensures* uses { sem 𝓛 (borrow_ends_with_cache self.entry (promote_nearest v self.old)) }
+        ensures value { option_map (λ f. record { version = f.0; value = value_of f.1.now }) result
+            ≡ nearest v self.old }
     {
-        let version = self.put_first(v)?;
+        let version = self.promote(v)?;
         let value = self.get(version)?;
         Some((version, value))
     }
 
     // The greatest version up to `v`. Its snapshot is then the most recently used.
-    fn put_first(&mut self, v: u64) -> Option<u64>
+    fn promote(&mut self, v: u64) -> Option<u64>
         ensures version { result ≡ option_map (λ s. s.version) (nearest v self.old) }
-        ensures used { self.new ≡ used_for v self.old }
+        ensures used { self.new ≡ promote_nearest v self.old }
     {
-        let kept = self.kept.as_mut()?;
+        let kept = self.snapshots.as_mut()?;
         let version = nearest_version(kept, v)?;
         kept.promote(&version);
         Some(version)
@@ -86,23 +90,24 @@ impl Cache {
 
     // What the document holds at a version that is kept.
     fn get(&self, version: u64) -> Option<&Json>
-        ensures { option_map (λ d. view d.now) result ≡ option_map (λ s. s.value) (kept_at version self.now) }
+        ensures { option_map (λ d. value_of d.now) result
+            ≡ option_map (λ s. s.value) (snapshot_at_version version self.now) }
     {
-        self.kept.as_ref()?.peek(&version)
+        self.snapshots.as_ref()?.peek(&version)
     }
 
     /// Keeps a snapshot as the most recently used. An older one of the same version goes, and of
     /// nine the least recently used. After want of memory the cache is unchanged.
     pub fn offer(&mut self, version: u64, value: Json) -> Result<(), AllocError>
-        ensures ok { OnOk result (self.new ≡ offered version (view value) self.old) }
+        ensures ok { OnOk result (self.new ≡ insert_front version (value_of value) self.old) }
         ensures err { OnErr result (self.new ≡ self.old) }
     {
-        match &mut self.kept {
-            Some(kept) => put(kept, version, value),
+        match &mut self.snapshots {
+            Some(kept) => insert(kept, version, value),
             None => {
-                let mut kept = LruCache::new(self.alloc, most())?;
-                put(&mut kept, version, value)?;
-                self.kept = Some(kept);
+                let mut kept = LruCache::new(self.alloc, cache_capacity())?;
+                insert(&mut kept, version, value)?;
+                self.snapshots = Some(kept);
                 Ok(())
             }
         }
@@ -112,24 +117,24 @@ impl Cache {
     pub fn forget(&mut self)
         ensures { self.new ≡ [] }
     {
-        self.kept = None;
+        self.snapshots = None;
     }
 }
 
 // How many snapshots there is room for.
-fn most() -> NonZeroUsize
-    ensures { non_zero_usize_get result ≡ MOST }
+fn cache_capacity() -> NonZeroUsize
+    ensures { non_zero_usize_get result ≡ CACHE_CAPACITY }
 {
-    NonZeroUsize::new(MOST).unwrap()
+    NonZeroUsize::new(CACHE_CAPACITY).unwrap()
 }
 
 // Puts a snapshot first. After want of memory all is unchanged.
-fn put(kept: &mut LruCache<u64, Json>, version: u64, value: Json) -> Result<(), AllocError>
-    requires { IsOfEight kept.old }
+fn insert(kept: &mut LruCache<u64, Json>, version: u64, value: Json) -> Result<(), AllocError>
+    requires { HasCapacityEight kept.old }
     ensures ok { OnOk result
-        (snapshots kept.new.entries ≡ offered version (view value) (snapshots kept.old.entries)) }
+        (plain_snapshots kept.new.entries ≡ insert_front version (value_of value) (plain_snapshots kept.old.entries)) }
     ensures err { OnErr result (kept.new ≡ kept.old) }
-    ensures eight { IsOfEight kept.new }
+    ensures eight { HasCapacityEight kept.new }
 {
     drop(kept.put(version, value)?);
     Ok(())
@@ -137,19 +142,19 @@ fn put(kept: &mut LruCache<u64, Json>, version: u64, value: Json) -> Result<(), 
 
 // The greatest of the kept versions up to `v`.
 fn nearest_version(kept: &LruCache<u64, Json>, v: u64) -> Option<u64>
-    ensures { result ≡ option_map (λ s. s.version) (nearest v (snapshots kept.now.entries)) }
+    ensures { result ≡ option_map (λ s. s.version) (nearest v (plain_snapshots kept.now.entries)) }
 {
     let mut found = None;
     for (version, _) in kept.iter() {
         if *version <= v {
-            found = Some(greater(found, *version));
+            found = Some(max_version(found, *version));
         }
     }
     found
 }
 
-fn greater(found: Option<u64>, version: u64) -> u64
-    ensures { Some result ≡ greatest found (Some version) }
+fn max_version(found: Option<u64>, version: u64) -> u64
+    ensures { Some result ≡ max_version found (Some version) }
 {
     match found {
         Some(best) => best.max(version),

@@ -4,4 +4,4 @@
 
 mod cache;
 
-pub use cache::{Cache, MOST};
+pub use cache::{CACHE_CAPACITY, Cache};

@@ -12,39 +12,39 @@ use Rattle.std.specs.Result.{is_ok}
 use Rattle.serde_json.specs.Data.{Data, null, number, unsigned, string, array, object, Items, no_items, item, no_members, member}
 use Rattle.serde_json.specs.Find.{get, as_str}
 use Rattle.serde_json.specs.Written.{compact_text}
-use Rattle.sdb_value.specs.Profile.{count_of, to_data}
+use Rattle.sdb_value.specs.FromJson.{count_of, data_of_value}
 use Rattle.sdb_value.specs.Value.{Value}
 use Rattle.sdb_oplog.specs.Decide.{PlainReply, stored, repeated, refused}
 use Rattle.sdb_oplog.specs.Plain.{PlainEntry}
-use Rattle.sdb_oplog.specs.Refused.{result_then}
+use Rattle.sdb_oplog.specs.Refusal.{result_and_then}
 use Rattle.sdb_oplog.specs.declared.codes.Code.{Code}
 use Rattle.sdb_oplog.specs.declared.codes.Code.TheVariants.{E1, E2, E3, E4, E5, E6, E7, E8, E9, E10, E11}
-use Rattle.sdb_wire.specs.Wire.{count_at, name_at, present, may, key_of, content_of, value_of}
+use Rattle.sdb_wire.specs.Wire.{count_member, name_member, present_member, read_optional, key_of, content_of, parse_data}
 use Rattle.sdb_wire.specs.Answers.{entry_data}
-use Rattle.sdb_steps.specs.OneStep.{Reply, decided, fetched, snapped, timed, subscribed, taken}
+use Rattle.sdb_steps.specs.OneStep.{EventReply, decided, fetched, snapshot_fetched, moment_fetched, subscribed, taken}
 use Rattle.sdb_steps.specs.Picks as plain
-use Rattle.sdb_steps.specs.Picks.{Act, PlainStep, Notice, Answer}
+use Rattle.sdb_steps.specs.Picks.{StepKind, PlainSessionStep, Notice, PlainStepAnswer}
 
 -- ---- reading
 
 -- the number of a session: a whole number from 0 to 63
 abbrev pub session_of : Data → Option ℕ
-session_of d = option_and_then (λ n. if nat_lt n 64 then Some n else None) (count_at (codes "s") d)
+session_of d = option_and_then (λ n. if nat_lt n 64 then Some n else None) (count_member (codes "s") d)
 
 -- what session n does
-abbrev pub step : ℕ → Act → PlainStep
-step n a = record { session = n; act = a }
+abbrev pub step_of_session : ℕ → StepKind → PlainSessionStep
+step_of_session n a = record { session = n; act = a }
 
 -- a submission: the key, the version, the number, the source and the content are read in this order
-abbrev pub begin_of : ℕ → Data → Result PlainStep Code
-begin_of n d =
-    result_then
-    (λ k. result_then
-    (λ v. result_then (λ seq. result_then (λ src. result_then (λ m. Ok (step n (plain.begin k src seq v m)))
+abbrev pub begin_step_of : ℕ → Data → Result PlainSessionStep Code
+begin_step_of n d =
+    result_and_then
+    (λ k. result_and_then
+    (λ v. result_and_then (λ seq. result_and_then (λ src. result_and_then (λ m. Ok (step_of_session n (plain.begin k src seq v m)))
     (content_of d))
-    (ok_or (name_at (codes "src") d) E1))
-    (ok_or (count_at (codes "seq") d) E1))
-    (may count_of (present (codes "v") d)))
+    (ok_or (name_member (codes "src") d) E1))
+    (ok_or (count_member (codes "seq") d) E1))
+    (read_optional count_of (present_member (codes "v") d)))
     (key_of d)
 
 -- the moment of a commit: the number `ms`, or the first moment where there is no such member
@@ -52,68 +52,68 @@ abbrev pub now_of : Data → Result ℕ Code
 now_of d = option_map_or (λ m. ok_or (count_of m) E1) (get (codes "ms") d) (Ok 0)
 
 -- a try at that moment
-abbrev pub commit_of : ℕ → Data → Result PlainStep Code
-commit_of n d = result_then (λ now. Ok (step n (plain.commit now))) (now_of d)
+abbrev pub commit_step_of : ℕ → Data → Result PlainSessionStep Code
+commit_step_of n d = result_and_then (λ now. Ok (step_of_session n (plain.commit now))) (now_of d)
 
 -- the present document of a key
-abbrev pub fetch_of : ℕ → Data → Result PlainStep Code
-fetch_of n d = result_then (λ k. Ok (step n (plain.fetch k))) (key_of d)
+abbrev pub fetch_step_of : ℕ → Data → Result PlainSessionStep Code
+fetch_step_of n d = result_and_then (λ k. Ok (step_of_session n (plain.fetch k))) (key_of d)
 
 -- the document at `v`, or the present one
-abbrev pub snapshot_of : ℕ → Data → Result PlainStep Code
-snapshot_of n d =
-    result_then (λ k. result_then (λ v. Ok (step n (plain.snapshot k v))) (may count_of (present (codes "v") d)))
+abbrev pub snapshot_step_of : ℕ → Data → Result PlainSessionStep Code
+snapshot_step_of n d =
+    result_and_then (λ k. result_and_then (λ v. Ok (step_of_session n (plain.snapshot k v))) (read_optional count_of (present_member (codes "v") d)))
     (key_of d)
 
 -- the document at the moment `ts`, or the present one
-abbrev pub at_time_of : ℕ → Data → Result PlainStep Code
-at_time_of n d =
-    result_then (λ k. result_then (λ t. Ok (step n (plain.at_time k t))) (may count_of (present (codes "ts") d)))
+abbrev pub snapshot_at_time_step_of : ℕ → Data → Result PlainSessionStep Code
+snapshot_at_time_step_of n d =
+    result_and_then (λ k. result_and_then (λ t. Ok (step_of_session n (plain.snapshot_at_time k t))) (read_optional count_of (present_member (codes "ts") d)))
     (key_of d)
 
 -- a queue from `v` on, or from the present version
-abbrev pub subscribe_of : ℕ → Data → Result PlainStep Code
-subscribe_of n d =
-    result_then (λ k. result_then (λ v. Ok (step n (plain.subscribe k v))) (may count_of (present (codes "v") d)))
+abbrev pub subscribe_step_of : ℕ → Data → Result PlainSessionStep Code
+subscribe_step_of n d =
+    result_and_then (λ k. result_and_then (λ v. Ok (step_of_session n (plain.subscribe k v))) (read_optional count_of (present_member (codes "v") d)))
     (key_of d)
 
 -- the next entries of the queue, at most `max`, which is needed
-abbrev pub take_of : ℕ → Data → Result PlainStep Code
-take_of n d =
-    result_then (λ k. result_then (λ max. Ok (step n (plain.take k max))) (ok_or (count_at (codes "max") d) E1))
+abbrev pub take_step_of : ℕ → Data → Result PlainSessionStep Code
+take_step_of n d =
+    result_and_then (λ k. result_and_then (λ max. Ok (step_of_session n (plain.take k max))) (ok_or (count_member (codes "max") d) E1))
     (key_of d)
 
 -- the end of the queue
-abbrev pub unsubscribe_of : ℕ → Data → Result PlainStep Code
-unsubscribe_of n d = result_then (λ k. Ok (step n (plain.unsubscribe k))) (key_of d)
+abbrev pub unsubscribe_step_of : ℕ → Data → Result PlainSessionStep Code
+unsubscribe_step_of n d = result_and_then (λ k. Ok (step_of_session n (plain.unsubscribe k))) (key_of d)
 
 -- the end of the snapshots that are kept of a key
-abbrev pub forget_of : ℕ → Data → Result PlainStep Code
-forget_of n d = result_then (λ k. Ok (step n (plain.forget k))) (key_of d)
+abbrev pub forget_step_of : ℕ → Data → Result PlainSessionStep Code
+forget_step_of n d = result_and_then (λ k. Ok (step_of_session n (plain.forget k))) (key_of d)
 
 -- the step that the text `do` names
-abbrev pub act_of : ℕ → Data → Result PlainStep Code
+abbrev pub act_of : ℕ → Data → Result PlainSessionStep Code
 act_of n d =
     option_map_or
-    (λ a. if bytes_eq a (codes "begin") then begin_of n d
-    else (if bytes_eq a (codes "work") then Ok (step n plain.work)
-    else (if bytes_eq a (codes "commit") then commit_of n d
-    else (if bytes_eq a (codes "fetch") then fetch_of n d
-    else (if bytes_eq a (codes "snapshot") then snapshot_of n d
-    else (if bytes_eq a (codes "at") then at_time_of n d
-    else (if bytes_eq a (codes "subscribe") then subscribe_of n d
-    else (if bytes_eq a (codes "take") then take_of n d
-    else (if bytes_eq a (codes "unsubscribe") then unsubscribe_of n d
-    else (if bytes_eq a (codes "forget") then forget_of n d else Err E1))))))))))
+    (λ a. if bytes_eq a (codes "begin") then begin_step_of n d
+    else (if bytes_eq a (codes "work") then Ok (step_of_session n plain.work)
+    else (if bytes_eq a (codes "commit") then commit_step_of n d
+    else (if bytes_eq a (codes "fetch") then fetch_step_of n d
+    else (if bytes_eq a (codes "snapshot") then snapshot_step_of n d
+    else (if bytes_eq a (codes "at") then snapshot_at_time_step_of n d
+    else (if bytes_eq a (codes "subscribe") then subscribe_step_of n d
+    else (if bytes_eq a (codes "take") then take_step_of n d
+    else (if bytes_eq a (codes "unsubscribe") then unsubscribe_step_of n d
+    else (if bytes_eq a (codes "forget") then forget_step_of n d else Err E1))))))))))
     (option_and_then as_str (get (codes "do") d)) (Err E1)
 
 -- the step, or the first code in order
-abbrev pub step_of : Data → Result PlainStep Code
+abbrev pub step_of : Data → Result PlainSessionStep Code
 step_of d = option_map_or (λ n. act_of n d) (session_of d) (Err E1)
 
 -- the same of a line. One that is too long or has no reading is E1
-abbrev pub read_step : List ℕ → Result PlainStep Code
-read_step line = option_map_or step_of (value_of line) (Err E1)
+abbrev pub read_step : List ℕ → Result PlainSessionStep Code
+read_step line = option_map_or step_of (parse_data line) (Err E1)
 
 -- ---- answers. Members stand in the order of their bytes, and the text is compact
 
@@ -170,13 +170,13 @@ decided_data n (repeated v) = stored_data n v []
 decided_data n (refused code) = refused_data (codes "commit") n code
 
 -- the document at version v, or that there is none
-abbrev pub document_data : List ℕ → ℕ → ℕ → Option Value → Data
-document_data a n v (Some j) = object (
-    member (codes "data") (to_data j)
+abbrev pub step_document_data : List ℕ → ℕ → ℕ → Option Value → Data
+step_document_data a n v (Some j) = object (
+    member (codes "data") (data_of_value j)
     (member (codes "do") (string a)
     (member (codes "s") (number (unsigned n))
     (member (codes "v") (number (unsigned v)) no_members))))
-document_data a n v None = object (
+step_document_data a n v None = object (
     member (codes "do") (string a)
     (member (codes "s") (number (unsigned n))
     (member (codes "type") null
@@ -197,44 +197,44 @@ taken_data n es = object (
     (member (codes "s") (number (unsigned n)) no_members)))
 
 -- the machine's reply to session n
-abbrev pub reply_data : ℕ → Reply → Data
+abbrev pub reply_data : ℕ → EventReply → Data
 reply_data n (decided r) = decided_data n r
-reply_data n (fetched f) = document_data (codes "fetch") n f.version f.snapshot
-reply_data n (snapped (Ok f)) = document_data (codes "snapshot") n f.version f.snapshot
-reply_data n (snapped (Err code)) = refused_data (codes "snapshot") n code
-reply_data n (timed f) = document_data (codes "at") n f.version f.snapshot
+reply_data n (fetched f) = step_document_data (codes "fetch") n f.version f.snapshot
+reply_data n (snapshot_fetched (Ok f)) = step_document_data (codes "snapshot") n f.version f.snapshot
+reply_data n (snapshot_fetched (Err code)) = refused_data (codes "snapshot") n code
+reply_data n (moment_fetched f) = step_document_data (codes "at") n f.version f.snapshot
 reply_data n (subscribed (Ok v)) = started_data n v
 reply_data n (subscribed (Err code)) = refused_data (codes "subscribe") n code
 reply_data n (taken es) = taken_data n es
 
 -- to a step of session n that is no event
-abbrev pub said_data : ℕ → Notice → Data
-said_data n plain.began = notice_data (codes "begin") n
-said_data n plain.worked = notice_data (codes "work") n
-said_data n plain.moved = notice_data (codes "moved") n
-said_data n plain.unsubscribed = notice_data (codes "unsubscribe") n
-said_data n plain.forgotten = notice_data (codes "forget") n
-said_data n plain.idle = notice_data (codes "idle") n
-said_data n plain.full = refused_data (codes "subscribe") n E11
+abbrev pub notice_answer_data : ℕ → Notice → Data
+notice_answer_data n plain.began = notice_data (codes "begin") n
+notice_answer_data n plain.worked = notice_data (codes "work") n
+notice_answer_data n plain.moved = notice_data (codes "moved") n
+notice_answer_data n plain.unsubscribed = notice_data (codes "unsubscribe") n
+notice_answer_data n plain.forgotten = notice_data (codes "forget") n
+notice_answer_data n plain.idle = notice_data (codes "idle") n
+notice_answer_data n plain.full = refused_data (codes "subscribe") n E11
 
 -- the answer to a step of session n
-abbrev pub answer_data : ℕ → Answer → Data
-answer_data n (plain.replied r) = reply_data n r
-answer_data n (plain.said a) = said_data n a
-answer_data n plain.no_memory = refusal_data E10
+abbrev pub step_answer_data : ℕ → PlainStepAnswer → Data
+step_answer_data n (plain.reply_answer r) = reply_data n r
+step_answer_data n (plain.notice_answer a) = notice_answer_data n a
+step_answer_data n plain.out_of_memory = refusal_data E10
 
 -- the line that answers a step of session n
-abbrev pub answer_text : ℕ → Answer → List ℕ
-answer_text n a = compact_text (answer_data n a)
+abbrev pub step_answer_text : ℕ → PlainStepAnswer → List ℕ
+step_answer_text n a = compact_text (step_answer_data n a)
 
 -- the line that answers one that is no step
-abbrev pub refusal_text : Code → List ℕ
-refusal_text code = compact_text (refusal_data code)
+abbrev pub step_refusal_text : Code → List ℕ
+step_refusal_text code = compact_text (refusal_data code)
 
 -- ---- lines
 
 -- the step that a line is, or the code that refuses it. None is a line that is too long or not UTF-8
-abbrev pub reading_step : Option (List ℕ) → Result PlainStep Code
+abbrev pub reading_step : Option (List ℕ) → Result PlainSessionStep Code
 reading_step None = Err E1
 reading_step (Some line) = read_step line
 
@@ -245,14 +245,14 @@ abbrev pub line_of : List ℕ → List ℕ
 line_of text = text ++ 10 ∷ []
 
 -- those that are steps
-abbrev pub steps_in : List (Result PlainStep Code) → List PlainStep
+abbrev pub steps_in : List (Result PlainSessionStep Code) → List PlainSessionStep
 steps_in [] = []
 steps_in (Ok s ∷ readings) = s ∷ steps_in readings
 steps_in (Err code ∷ readings) = steps_in readings
 
 -- one line for each reading: the answers in order for the steps, up to the last, and the codes for the others
-abbrev pub lines_text : List (Result PlainStep Code) → List Answer → List ℕ
+abbrev pub lines_text : List (Result PlainSessionStep Code) → List PlainStepAnswer → List ℕ
 lines_text [] answers = []
-lines_text (Err code ∷ readings) answers = line_of (refusal_text code) ++ lines_text readings answers
+lines_text (Err code ∷ readings) answers = line_of (step_refusal_text code) ++ lines_text readings answers
 lines_text (Ok s ∷ readings) [] = []
-lines_text (Ok s ∷ readings) (a ∷ answers) = line_of (answer_text s.session a) ++ lines_text readings answers
+lines_text (Ok s ∷ readings) (a ∷ answers) = line_of (step_answer_text s.session a) ++ lines_text readings answers

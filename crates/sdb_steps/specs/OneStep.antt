@@ -4,20 +4,20 @@ use Rattle.std.specs.Result.{is_ok}
 use Rattle.sdb_oplog.specs.declared.codes.Code.{Code}
 use Rattle.sdb_oplog.specs.declared.codes.Code.TheVariants.{E11}
 use Rattle.sdb_oplog.specs.Plain.{PlainEntry, PlainSubmission}
-use Rattle.sdb_oplog.specs.Keys.{PlainKey, same_key, Logs, no_logs, with_log}
+use Rattle.sdb_oplog.specs.Keys.{PlainKey, keys_equal, Logs, no_logs, with_log}
 use Rattle.sdb_oplog.specs.Decide.{PlainReply, decide}
-use Rattle.sdb_oplog.specs.Refused.{result_then}
+use Rattle.sdb_oplog.specs.Refusal.{result_and_then}
 use Rattle.sdb_subscribe.specs.Queue.{queue}
 use Rattle.sdb_desk.specs.Machine as desk
-use Rattle.sdb_desk.specs.Machine.{PlainFetched, start_of, snapshot_at, at_moment}
+use Rattle.sdb_desk.specs.Machine.{PlainFetchResult, queue_start, snapshot_at, fetch_at_moment}
 
 -- the log of each key, and how many subscribes of that key were given a start
 pub record OneStep : Type 0 where
   pub logs : Logs
-  pub given : PlainKey → ℕ
+  pub issued_ids : PlainKey → ℕ
 
-abbrev pub empty : OneStep
-empty = record { logs = no_logs; given = λ k. 0 }
+abbrev pub empty_machine : OneStep
+empty_machine = record { logs = no_logs; issued_ids = λ k. 0 }
 
 pub data Event : Type 0 where
   -- at a moment
@@ -26,60 +26,60 @@ pub data Event : Type 0 where
   -- the document at a version, or at the present one
   snapshot : PlainKey → Option ℕ → Event
   -- the document at a moment, or the present one
-  at_time : PlainKey → Option ℕ → Event
+  snapshot_at_time : PlainKey → Option ℕ → Event
   -- from a version on, or from the present one
   subscribe : PlainKey → Option ℕ → Event
   -- of a queue: the entries from this one on, at most so many
   take_from : PlainKey → ℕ → ℕ → Event
 
-pub data Reply : Type 0 where
-  decided : PlainReply → Reply
+pub data EventReply : Type 0 where
+  decided : PlainReply → EventReply
   -- the version, and the document there
-  fetched : PlainFetched → Reply
-  snapped : Result PlainFetched Code → Reply
+  fetched : PlainFetchResult → EventReply
+  snapshot_fetched : Result PlainFetchResult Code → EventReply
   -- the version at a moment, and the document there
-  timed : PlainFetched → Reply
+  moment_fetched : PlainFetchResult → EventReply
   -- the start
-  subscribed : Result ℕ Code → Reply
-  taken : List PlainEntry → Reply
+  subscribed : Result ℕ Code → EventReply
+  taken : List PlainEntry → EventReply
 
 -- where a queue starts: E4 above the length, then E11 where the numbers of this key are used up
-abbrev pub started : OneStep → PlainKey → Option ℕ → Result ℕ Code
-started m k v =
-    result_then (λ start. if nat_eq (m.given k) 18446744073709551615 then Err E11 else Ok start) (start_of (m.logs k) v)
+abbrev pub start_result : OneStep → PlainKey → Option ℕ → Result ℕ Code
+start_result m k v =
+    result_and_then (λ start. if nat_eq (m.issued_ids k) 18446744073709551615 then Err E11 else Ok start) (queue_start (m.logs k) v)
 
-abbrev pub reply : OneStep → Event → Reply
-reply m (submission k s now) = decided (decide (m.logs k) s now).reply
-reply m (fetch k) = fetched (desk.fetched (m.logs k))
-reply m (snapshot k v) = snapped (snapshot_at (m.logs k) v)
-reply m (at_time k t) = timed (at_moment (m.logs k) t)
-reply m (subscribe k v) = subscribed (started m k v)
-reply m (take_from k from n) = taken (queue (m.logs k) from n)
+abbrev pub reply_to_event : OneStep → Event → EventReply
+reply_to_event m (submission k s now) = decided (decide (m.logs k) s now).reply
+reply_to_event m (fetch k) = fetched (desk.fetch_result (m.logs k))
+reply_to_event m (snapshot k v) = snapshot_fetched (snapshot_at (m.logs k) v)
+reply_to_event m (snapshot_at_time k t) = moment_fetched (fetch_at_moment (m.logs k) t)
+reply_to_event m (subscribe k v) = subscribed (start_result m k v)
+reply_to_event m (take_from k from n) = taken (queue (m.logs k) from n)
 
 -- one more start was given at k
-abbrev pub one_given : (PlainKey → ℕ) → PlainKey → PlainKey → ℕ
-one_given f k q = cond (same_key k q) (f k + 1) (f q)
+abbrev pub with_id_issued : (PlainKey → ℕ) → PlainKey → PlainKey → ℕ
+with_id_issued f k q = cond (keys_equal k q) (f k + 1) (f q)
 
 -- only a submission changes a log, and only a subscribe that is given a start a count
-abbrev pub next : OneStep → Event → OneStep
-next m (submission k s now) = record { logs = with_log m.logs k (decide (m.logs k) s now).log; given = m.given }
-next m (fetch k) = m
-next m (snapshot k v) = m
-next m (at_time k t) = m
-next m (subscribe k v) = if is_ok (started m k v) then record { logs = m.logs; given = one_given m.given k } else m
-next m (take_from k from n) = m
+abbrev pub machine_after_event : OneStep → Event → OneStep
+machine_after_event m (submission k s now) = record { logs = with_log m.logs k (decide (m.logs k) s now).log; issued_ids = m.issued_ids }
+machine_after_event m (fetch k) = m
+machine_after_event m (snapshot k v) = m
+machine_after_event m (snapshot_at_time k t) = m
+machine_after_event m (subscribe k v) = if is_ok (start_result m k v) then record { logs = m.logs; issued_ids = with_id_issued m.issued_ids k } else m
+machine_after_event m (take_from k from n) = m
 
 -- ---- events one after the other
 
-abbrev pub after : OneStep → List Event → OneStep
-after m [] = m
-after m (e ∷ events) = after (next m e) events
+abbrev pub machine_after_events : OneStep → List Event → OneStep
+machine_after_events m [] = m
+machine_after_events m (e ∷ events) = machine_after_events (machine_after_event m e) events
 
-abbrev pub replies : OneStep → List Event → List Reply
-replies m [] = []
-replies m (e ∷ events) = reply m e ∷ replies (next m e) events
+abbrev pub replies_to_events : OneStep → List Event → List EventReply
+replies_to_events m [] = []
+replies_to_events m (e ∷ events) = reply_to_event m e ∷ replies_to_events (machine_after_event m e) events
 
 -- the events, one after the other from the empty machine on, give these replies and end with these logs
-pub record Legal (events : List Event) (rs : List Reply) (end : Logs) : Type 0 where
-  pub told : replies empty events ≡ rs
-  pub ends : (after empty events).logs ≡ end
+pub record Legal (events : List Event) (rs : List EventReply) (end : Logs) : Type 0 where
+  pub replies_are : replies_to_events empty_machine events ≡ rs
+  pub logs_are : (machine_after_events empty_machine events).logs ≡ end

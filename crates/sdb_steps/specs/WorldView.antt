@@ -1,12 +1,12 @@
 -- The one-step machine and the sessions that a world stands for.
 use Rattle.sdb_desk.specs.ShardView.{queues_of}
 use Rattle.sdb_steps.specs.OneStep.{OneStep}
-use Rattle.sdb_steps.specs.Picks.{Sessions}
-use Rattle.sdb_steps.specs.StateView.{core_of, plain_sessions}
+use Rattle.sdb_steps.specs.Picks.{SessionStates}
+use Rattle.sdb_steps.specs.StateView.{one_step_of_shard, session_states_of}
 use Rattle.sdb_steps.specs.declared.world.World.{World}
 
-abbrev pub machine_of : World → OneStep
-machine_of w = core_of w.parts.shard
+abbrev pub one_step_of_world : World → OneStep
+one_step_of_world w = one_step_of_shard w.state.shard
 
-abbrev pub sessions_of : World → Sessions
-sessions_of w = plain_sessions (queues_of w.parts.shard) w.parts.sessions.items
+abbrev pub sessions_of : World → SessionStates
+sessions_of w = session_states_of (queues_of w.state.shard) w.state.sessions.items

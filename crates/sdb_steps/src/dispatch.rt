@@ -2,15 +2,15 @@
 ghost use Rattle.std.specs.Prelude.{◌≡◌, ℕ, None, IfOk, OnErr, option_map, string_bytes};
 ghost use Rattle.sdb_oplog.specs.Keys.{plain_key};
 ghost use Rattle.sdb_desk.specs.ShardView.{logs_of, queues_of};
-ghost use Rattle.sdb_steps.specs.Looking.{IsLooked};
+ghost use Rattle.sdb_steps.specs.LookInvariant.{HasLookAt};
 ghost use Rattle.sdb_steps.specs.Picks as plain;
-ghost use Rattle.sdb_steps.specs.Dispatch.{Dispatches, Begins};
-ghost use Rattle.sdb_steps.specs.StateView.{core_of, plain_session, plain_attempt, slots_of};
-ghost use Rattle.sdb_steps.specs.Slots.{AreOpen, Leaves};
-ghost use Rattle.sdb_steps.specs.View.{plain_step, plain_answer, told_snapshot};
+ghost use Rattle.sdb_steps.specs.Dispatch.{DispatchesAct, AttemptBegins};
+ghost use Rattle.sdb_steps.specs.StateView.{one_step_of_shard, session_state_of, plain_open_attempt, queue_slots_of};
+ghost use Rattle.sdb_steps.specs.Slots.{SlotsOpen, OtherQueuesUnchanged};
+ghost use Rattle.sdb_steps.specs.View.{plain_session_step, plain_step_answer, snapshot_refusal_answer};
 
+use crate::session_data::{OpenAttempt, Session};
 use crate::session_number::SessionNumber;
-use crate::session_state::{OpenAttempt, Session};
 use crate::step::{Step, StepAnswer};
 use sdb_desk::Shard;
 use sdb_oplog::{Code, Content, Key, Moment, Submission};
@@ -23,14 +23,17 @@ pub(crate) fn dispatch(
     session: &mut Session,
     step: &Step,
 ) -> StepAnswer
-    requires queues { AreOpen (plain_step step.now).session (queues_of shard.old) (slots_of session.old) }
-    requires looked { IsLooked (logs_of shard.old) session.old.attempt }
-    ensures looked { IsLooked (logs_of shard.new) session.new.attempt }
-    ensures dispatches { Dispatches (plain_step step.now).session (core_of shard.old)
-        (plain_session (queues_of shard.old) session.old) (plain_step step.now).act (plain_answer result)
-        (core_of shard.new) (plain_session (queues_of shard.new) session.new) }
-    ensures leaves { Leaves (plain_step step.now).session (queues_of shard.old) (slots_of session.old)
-        (queues_of shard.new) (slots_of session.new) }
+    requires queues { SlotsOpen (plain_session_step step.now).session (queues_of shard.old)
+        (queue_slots_of session.old) }
+    requires looked { HasLookAt (logs_of shard.old) session.old.attempt }
+    ensures looked { HasLookAt (logs_of shard.new) session.new.attempt }
+    ensures dispatches { DispatchesAct (plain_session_step step.now).session (one_step_of_shard shard.old)
+        (session_state_of (queues_of shard.old) session.old) (plain_session_step step.now).act
+        (plain_step_answer result)
+        (one_step_of_shard shard.new) (session_state_of (queues_of shard.new) session.new) }
+    ensures leaves { OtherQueuesUnchanged (plain_session_step step.now).session (queues_of shard.old)
+        (queue_slots_of session.old)
+        (queues_of shard.new) (queue_slots_of session.new) }
 {
     match step {
         Step::Begin {
@@ -51,7 +54,7 @@ pub(crate) fn dispatch(
         Step::Commit { now, .. } => session.commit(alloc, shard, *now),
         Step::Fetch { key, .. } => fetch(shard, key),
         Step::Snapshot { key, version, .. } => snapshot(shard, key, *version),
-        Step::AtTime { key, moment, .. } => at_time(shard, key, *moment),
+        Step::SnapshotAtTime { key, moment, .. } => snapshot_at_time(shard, key, *moment),
         Step::Subscribe {
             session: number,
             key,
@@ -84,7 +87,8 @@ fn submission_of(
     content: &Content,
 ) -> Result<Submission, AllocError>
     ensures { IfOk result (λ s.
-        s ≡ plain.submission_of number.number (plain_key key.now) (string_bytes src.now) seq version content.now) }
+        s ≡ plain.submission_of_begin number.number (plain_key key.now)
+        (string_bytes src.now) seq version content.now) }
 {
     let src = src.clone()?;
     let content = content.try_clone()?;
@@ -100,70 +104,71 @@ fn begin(
     submission: Result<Submission, AllocError>,
 ) -> StepAnswer
     requires { session.old.attempt ≡ None }
-    ensures slots { slots_of session.new ≡ slots_of session.old }
-    ensures looked { IsLooked (logs_of shard.now) session.new.attempt }
-    ensures begun { IfOk submission (λ s. Begins (core_of shard.now) (plain_key key.now) s
-        (plain_answer result) (option_map plain_attempt session.new.attempt)) }
+    ensures slots { queue_slots_of session.new ≡ queue_slots_of session.old }
+    ensures looked { HasLookAt (logs_of shard.now) session.new.attempt }
+    ensures begun { IfOk submission (λ s. AttemptBegins (one_step_of_shard shard.now) (plain_key key.now) s
+        (plain_step_answer result) (option_map plain_open_attempt session.new.attempt)) }
     ensures wanting { OnErr submission
-        ((plain_answer result ≡ plain.no_memory) × (option_map plain_attempt session.new.attempt ≡ None)) }
+        ((plain_step_answer result ≡ plain.out_of_memory)
+        × (option_map plain_open_attempt session.new.attempt ≡ None)) }
 {
     let Ok(submission) = submission else {
-        return StepAnswer::NoMemory;
+        return StepAnswer::OutOfMemory;
     };
     match OpenAttempt::open(shard, key, submission) {
         Ok(attempt) => {
             session.attempt = Some(attempt);
             StepAnswer::Began
         }
-        Err(_) => StepAnswer::NoMemory,
+        Err(_) => StepAnswer::OutOfMemory,
     }
 }
 
 // Reads the present document.
 fn fetch(shard: &mut Shard, key: &Key) -> StepAnswer
-    ensures dispatches { (i : ℕ) (x : plain.Session) → Dispatches i (core_of shard.old) x
-        (plain.fetch (plain_key key.now)) (plain_answer result) (core_of shard.new) x }
+    ensures dispatches { (i : ℕ) (x : plain.SessionState) → DispatchesAct i (one_step_of_shard shard.old) x
+        (plain.fetch (plain_key key.now)) (plain_step_answer result) (one_step_of_shard shard.new) x }
     ensures logs { logs_of shard.new ≡ logs_of shard.old }
     ensures queues { queues_of shard.new ≡ queues_of shard.old }
 {
     match shard.fetch(key) {
         Ok(fetched) => StepAnswer::Fetched(fetched),
-        Err(_) => StepAnswer::NoMemory,
+        Err(_) => StepAnswer::OutOfMemory,
     }
 }
 
 // Reads the document at a version, or the present one.
 fn snapshot(shard: &mut Shard, key: &Key, version: Option<u64>) -> StepAnswer
-    ensures dispatches { (i : ℕ) (x : plain.Session) → Dispatches i (core_of shard.old) x
-        (plain.snapshot (plain_key key.now) version) (plain_answer result) (core_of shard.new) x }
+    ensures dispatches { (i : ℕ) (x : plain.SessionState) → DispatchesAct i (one_step_of_shard shard.old) x
+        (plain.snapshot (plain_key key.now) version) (plain_step_answer result) (one_step_of_shard shard.new) x }
     ensures logs { logs_of shard.new ≡ logs_of shard.old }
     ensures queues { queues_of shard.new ≡ queues_of shard.old }
 {
     match shard.snapshot_at(key, version) {
-        Ok(fetched) => StepAnswer::Snapped(Ok(fetched)),
+        Ok(fetched) => StepAnswer::SnapshotFetched(Ok(fetched)),
         Err(code) => refused_snapshot(code),
     }
 }
 
 // Reads the document at a moment, or the present one.
-fn at_time(shard: &mut Shard, key: &Key, moment: Option<Moment>) -> StepAnswer
-    ensures dispatches { (i : ℕ) (x : plain.Session) → Dispatches i (core_of shard.old) x
-        (plain.at_time (plain_key key.now) moment) (plain_answer result) (core_of shard.new) x }
+fn snapshot_at_time(shard: &mut Shard, key: &Key, moment: Option<Moment>) -> StepAnswer
+    ensures dispatches { (i : ℕ) (x : plain.SessionState) → DispatchesAct i (one_step_of_shard shard.old) x
+        (plain.snapshot_at_time (plain_key key.now) moment) (plain_step_answer result) (one_step_of_shard shard.new) x }
     ensures logs { logs_of shard.new ≡ logs_of shard.old }
     ensures queues { queues_of shard.new ≡ queues_of shard.old }
 {
-    match shard.at_time(key, moment) {
-        Ok(fetched) => StepAnswer::Timed(fetched),
-        Err(_) => StepAnswer::NoMemory,
+    match shard.snapshot_at_time(key, moment) {
+        Ok(fetched) => StepAnswer::MomentFetched(fetched),
+        Err(_) => StepAnswer::OutOfMemory,
     }
 }
 
 // What a snapshot is answered that the shard refuses.
 fn refused_snapshot(code: Code) -> StepAnswer
-    ensures { plain_answer result ≡ told_snapshot code }
+    ensures { plain_step_answer result ≡ snapshot_refusal_answer code }
 {
     match code {
-        Code::E10 => StepAnswer::NoMemory,
-        code => StepAnswer::Snapped(Err(code)),
+        Code::E10 => StepAnswer::OutOfMemory,
+        code => StepAnswer::SnapshotFetched(Err(code)),
     }
 }

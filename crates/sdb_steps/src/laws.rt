@@ -2,51 +2,53 @@
 ghost use Rattle.std.specs.Prelude.{◌≡◌, ◌<◌, ℕ, IfSome, List, [], ◌∷◌, ◌++◌, length, take, true, is_some};
 ghost use Rattle.sdb_oplog.specs.Plain.{PlainEntry, PlainSubmission};
 ghost use Rattle.sdb_oplog.specs.Keys.{PlainKey, Logs};
-ghost use Rattle.sdb_oplog.specs.Snap.{snap, are_first};
+ghost use Rattle.sdb_oplog.specs.Snap.{snap, are_identifiers_new};
 ghost use Rattle.sdb_oplog.specs.Decide.{decide, stored, repeated, IsMade};
-ghost use Rattle.sdb_steps.specs.OneStep.{OneStep, Event, Legal, empty, after};
-ghost use Rattle.sdb_steps.specs.Picks.{PlainStep, Answer, Sessions, Picks, all_fresh, replies_in};
-ghost use Rattle.sdb_steps.specs.Placed.{PlacedAll};
-ghost use Rattle.sdb_steps.specs.Continued.{ContinuedAll};
+ghost use Rattle.sdb_steps.specs.OneStep.{OneStep, Event, Legal, empty_machine, machine_after_events};
+ghost use Rattle.sdb_steps.specs.Picks.{PlainSessionStep, PlainStepAnswer, SessionStates, Picks, empty_sessions, replies_in};
+ghost use Rattle.sdb_steps.specs.Placement.{SubmissionsArePlaced};
+ghost use Rattle.sdb_steps.specs.TakeContinuation.{TakesContinue};
 ghost use Rattle.sdb_steps.specs.Runs.{IsRun, IsStep};
-ghost use Rattle.sdb_steps.specs.Replays.{ReplaysAll};
-ghost use Rattle.sdb_steps.specs.Took.{TookAll};
+ghost use Rattle.sdb_steps.specs.ReplayLaws.{ReadsAreReplays};
+ghost use Rattle.sdb_steps.specs.TakenEntries.{QueuesTakeAll};
 
 /// No step is a run, from the empty machine and fresh sessions on.
 pub fn runs_begin()
-    ensures { IsRun [] [] empty all_fresh }
+    ensures { IsRun [] [] empty_machine empty_sessions }
 {}
 
 /// A run goes on by each step of a world.
 pub fn runs_go_on()
-    ensures { (n o : OneStep) (u v : Sessions) (steps : List PlainStep) (answers : List Answer)
-        (s : PlainStep) (a : Answer) →
+    ensures { (n o : OneStep) (u v : SessionStates) (steps : List PlainSessionStep) (answers : List PlainStepAnswer)
+        (s : PlainSessionStep) (a : PlainStepAnswer) →
         IsRun steps answers n u → IsStep n u s a o v → IsRun (steps ++ s ∷ []) (answers ++ a ∷ []) o v }
 {}
 
 /// The answers of a run and its logs are the machine's, by events that its steps pick.
 pub fn runs_are_legal()
-    ensures { (steps : List PlainStep) (answers : List Answer) (n : OneStep) (v : Sessions) →
+    ensures { (steps : List PlainSessionStep) (answers : List PlainStepAnswer) (n : OneStep) (v : SessionStates) →
         IsRun steps answers n v →
         (events : List Event) × Picks steps answers events v × Legal events (replies_in answers) n.logs }
 {}
 
 /// Each open queue took the stored entries from its start on, in order, none missing.
 pub fn queues_take_all()
-    ensures { (steps : List PlainStep) (answers : List Answer) (events : List Event) (w : Sessions) (logs : Logs) →
-        Picks steps answers events w → Legal events (replies_in answers) logs → TookAll steps answers w logs }
+    ensures { (steps : List PlainSessionStep) (answers : List PlainStepAnswer) (events : List Event) (w : SessionStates)
+        (logs : Logs) →
+        Picks steps answers events w → Legal events (replies_in answers) logs → QueuesTakeAll steps answers w logs }
 {}
 
 /// What each read of a run was answered is the replay of so many first entries of the log that stands
 /// at the end, at the version that was named, and of none that is later than the moment that was named.
 pub fn reads_are_replays()
-    ensures { (steps : List PlainStep) (answers : List Answer) (events : List Event) (w : Sessions) (logs : Logs) →
-        Picks steps answers events w → Legal events (replies_in answers) logs → ReplaysAll steps answers logs }
+    ensures { (steps : List PlainSessionStep) (answers : List PlainStepAnswer) (events : List Event) (w : SessionStates)
+        (logs : Logs) →
+        Picks steps answers events w → Legal events (replies_in answers) logs → ReadsAreReplays steps answers logs }
 {}
 
 /// Each entry of a log that events make is the one that its submission stores on those before it.
 pub fn logs_are_made()
-    ensures { (events : List Event) (k : PlainKey) → IsMade ((after empty events).logs k) }
+    ensures { (events : List Event) (k : PlainKey) → IsMade ((machine_after_events empty_machine events).logs k) }
 {}
 
 /// A log that is made has a document at each version: the replay of its first entries.
@@ -56,7 +58,7 @@ pub fn snapshots_are_replays()
 
 /// No two entries of a log that is made have one source and number.
 pub fn stored_once()
-    ensures { (log : List PlainEntry) → IsMade log → are_first [] log ≡ true }
+    ensures { (log : List PlainEntry) → IsMade log → are_identifiers_new [] log ≡ true }
 {}
 
 /// A resent operation, whatever its content, version and moment and whatever was stored since, is answered
@@ -79,7 +81,8 @@ pub fn repeats_are_answered()
 
 /// An attempt was tried at most eight times so far: the ninth commit decides.
 pub fn tries_stay_below_nine()
-    ensures { (steps : List PlainStep) (answers : List Answer) (events : List Event) (w : Sessions) →
+    ensures { (steps : List PlainSessionStep) (answers : List PlainStepAnswer) (events : List Event)
+        (w : SessionStates) →
         Picks steps answers events w → (n : ℕ) → IfSome (w n).attempt (λ a. a.tries < 9) }
 {}
 
@@ -87,14 +90,17 @@ pub fn tries_stay_below_nine()
 /// source and number of what its session had begun: the first such place. So two commits of one source
 /// and number on one document are answered with one version.
 pub fn submissions_are_placed()
-    ensures { (steps : List PlainStep) (answers : List Answer) (events : List Event) (w : Sessions) (logs : Logs) →
-        Picks steps answers events w → Legal events (replies_in answers) logs → PlacedAll steps answers logs }
+    ensures { (steps : List PlainSessionStep) (answers : List PlainStepAnswer) (events : List Event) (w : SessionStates)
+        (logs : Logs) →
+        Picks steps answers events w → Legal events (replies_in answers) logs
+        → SubmissionsArePlaced steps answers logs }
 {}
 
 /// Each take of a run was answered the stored entries behind those that the takes of its queue were
 /// answered before, from the start of the queue on, in order, none missing, and no more than it asked
 /// for. A queue starts within the log, at the version that was named, if one was.
 pub fn takes_continue()
-    ensures { (steps : List PlainStep) (answers : List Answer) (events : List Event) (w : Sessions) (logs : Logs) →
-        Picks steps answers events w → Legal events (replies_in answers) logs → ContinuedAll steps answers logs }
+    ensures { (steps : List PlainSessionStep) (answers : List PlainStepAnswer) (events : List Event) (w : SessionStates)
+        (logs : Logs) →
+        Picks steps answers events w → Legal events (replies_in answers) logs → TakesContinue steps answers logs }
 {}

@@ -1,19 +1,19 @@
 //! The steps of one session.
 ghost use Rattle.std.specs.Prelude.{◌≡◌, ℕ, None};
 ghost use Rattle.sdb_oplog.specs.Keys.{Logs};
-ghost use Rattle.sdb_steps.specs.Looking.{IsLooked};
+ghost use Rattle.sdb_steps.specs.LookInvariant.{HasLookAt};
 ghost use Rattle.sdb_oplog.specs.Keys.{plain_key};
 ghost use Rattle.sdb_desk.specs.ShardView.{logs_of, queues_of};
-ghost use Rattle.sdb_desk.specs.Machine.{Queued, with_queues};
+ghost use Rattle.sdb_desk.specs.Machine.{QueuesByKey, with_queues};
 ghost use Rattle.sdb_steps.specs.OneStep.{OneStep};
 ghost use Rattle.sdb_steps.specs.Picks.{work, commit, subscribe, take, unsubscribe};
-ghost use Rattle.sdb_steps.specs.Dispatch.{Dispatches};
-ghost use Rattle.sdb_steps.specs.StateView.{core_of, plain_session, slots_of};
-ghost use Rattle.sdb_steps.specs.Slots.{AreOpen, Leaves, closed_of};
-ghost use Rattle.sdb_steps.specs.View.{plain_answer, told_start};
+ghost use Rattle.sdb_steps.specs.Dispatch.{DispatchesAct};
+ghost use Rattle.sdb_steps.specs.StateView.{one_step_of_shard, session_state_of, queue_slots_of};
+ghost use Rattle.sdb_steps.specs.Slots.{SlotsOpen, OtherQueuesUnchanged, close_in};
+ghost use Rattle.sdb_steps.specs.View.{plain_step_answer, start_refusal_answer};
 
-use crate::queue_slots::{drop_empty_slot, drop_slot, fill_slot, make_slot, queue_of};
-use crate::session_state::Session;
+use crate::session_data::Session;
+use crate::slots::{drop_empty_slot, drop_slot, fill_slot, queue_of, reserve_slot};
 use crate::step::StepAnswer;
 use sdb_desk::Shard;
 use sdb_oplog::{Code, Key, Moment};
@@ -24,7 +24,7 @@ use std::collections::BTreeMap;
 impl Session {
     pub(crate) fn new(alloc: Global) -> Session
         ensures attempt { result.attempt ≡ None }
-        ensures slots { slots_of result ≡ (λ k. None) }
+        ensures slots { queue_slots_of result ≡ (λ k. None) }
     {
         Session {
             attempt: None,
@@ -34,10 +34,11 @@ impl Session {
 
     // Works on the attempt.
     pub(crate) fn work(&mut self, alloc: Global) -> StepAnswer
-        ensures dispatches { (i : ℕ) (m : OneStep) (q : Queued) →
-            Dispatches i m (plain_session q self.old) work (plain_answer result) m (plain_session q self.new) }
-        ensures slots { slots_of self.new ≡ slots_of self.old }
-        ensures looked { (logs : Logs) → IsLooked logs self.old.attempt → IsLooked logs self.new.attempt }
+        ensures dispatches { (i : ℕ) (m : OneStep) (q : QueuesByKey) →
+            DispatchesAct i m (session_state_of q self.old) work (plain_step_answer result) m
+            (session_state_of q self.new) }
+        ensures slots { queue_slots_of self.new ≡ queue_slots_of self.old }
+        ensures looked { (logs : Logs) → HasLookAt logs self.old.attempt → HasLookAt logs self.new.attempt }
     {
         let Some(attempt) = self.attempt.take() else {
             return StepAnswer::Idle;
@@ -49,11 +50,12 @@ impl Session {
 
     // Commits the attempt at a moment.
     pub(crate) fn commit(&mut self, alloc: Global, shard: &mut Shard, now: Moment) -> StepAnswer
-        requires { IsLooked (logs_of shard.old) self.old.attempt }
-        ensures looked { IsLooked (logs_of shard.new) self.new.attempt }
-        ensures dispatches { (i : ℕ) (q : Queued) → Dispatches i (core_of shard.old) (plain_session q self.old)
-            (commit now) (plain_answer result) (core_of shard.new) (plain_session q self.new) }
-        ensures slots { slots_of self.new ≡ slots_of self.old }
+        requires { HasLookAt (logs_of shard.old) self.old.attempt }
+        ensures looked { HasLookAt (logs_of shard.new) self.new.attempt }
+        ensures dispatches { (i : ℕ) (q : QueuesByKey)
+            → DispatchesAct i (one_step_of_shard shard.old) (session_state_of q self.old)
+            (commit now) (plain_step_answer result) (one_step_of_shard shard.new) (session_state_of q self.new) }
+        ensures slots { queue_slots_of self.new ≡ queue_slots_of self.old }
         ensures queues { queues_of shard.new ≡ queues_of shard.old }
     {
         let Some(attempt) = self.attempt.take() else {
@@ -72,25 +74,26 @@ impl Session {
         key: &Key,
         version: Option<u64>,
     ) -> StepAnswer
-        requires { AreOpen by (queues_of shard.old) (slots_of self.old) }
-        ensures dispatches { Dispatches by (core_of shard.old) (plain_session (queues_of shard.old) self.old)
+        requires { SlotsOpen by (queues_of shard.old) (queue_slots_of self.old) }
+        ensures dispatches { DispatchesAct by (one_step_of_shard shard.old) (session_state_of
+            (queues_of shard.old) self.old)
             (subscribe (plain_key key.now) version)
-            (plain_answer result) (core_of shard.new) (plain_session (queues_of shard.new) self.new) }
-        ensures leaves { Leaves by (queues_of shard.old) (slots_of self.old)
-            (queues_of shard.new) (slots_of self.new) }
+            (plain_step_answer result) (one_step_of_shard shard.new) (session_state_of (queues_of shard.new) self.new) }
+        ensures leaves { OtherQueuesUnchanged by (queues_of shard.old) (queue_slots_of self.old)
+            (queues_of shard.new) (queue_slots_of self.new) }
         ensures attempt { self.new.attempt ≡ self.old.attempt }
         ensures logs { logs_of shard.new ≡ logs_of shard.old }
     {
-        if let Err(code) = shard.start_of(key, version) {
+        if let Err(code) = shard.queue_start_or_full(key, version) {
             return refused_start(code);
         }
-        let Ok(old) = make_slot(&mut self.slots, key) else {
-            return StepAnswer::NoMemory;
+        let Ok(old) = reserve_slot(&mut self.slots, key) else {
+            return StepAnswer::OutOfMemory;
         };
         match shard.subscribe(key, by, version) {
             Ok(subscribed) => {
                 fill_slot(&mut self.slots, key, subscribed.id);
-                close(shard, by, key, old);
+                close_queue(shard, by, key, old);
                 StepAnswer::Subscribed(Ok(subscribed.start))
             }
             Err(code) => {
@@ -102,12 +105,13 @@ impl Session {
 
     // Takes the next entries of the queue.
     pub(crate) fn take(&mut self, by: u64, shard: &mut Shard, key: &Key, max: u64) -> StepAnswer
-        requires { AreOpen by (queues_of shard.old) (slots_of self.old) }
-        ensures dispatches { Dispatches by (core_of shard.old) (plain_session (queues_of shard.old) self.old)
+        requires { SlotsOpen by (queues_of shard.old) (queue_slots_of self.old) }
+        ensures dispatches { DispatchesAct by (one_step_of_shard shard.old) (session_state_of
+            (queues_of shard.old) self.old)
             (take (plain_key key.now) max)
-            (plain_answer result) (core_of shard.new) (plain_session (queues_of shard.new) self.new) }
-        ensures leaves { Leaves by (queues_of shard.old) (slots_of self.old)
-            (queues_of shard.new) (slots_of self.new) }
+            (plain_step_answer result) (one_step_of_shard shard.new) (session_state_of (queues_of shard.new) self.new) }
+        ensures leaves { OtherQueuesUnchanged by (queues_of shard.old) (queue_slots_of self.old)
+            (queues_of shard.new) (queue_slots_of self.new) }
         ensures attempt { self.new.attempt ≡ self.old.attempt }
         ensures logs { logs_of shard.new ≡ logs_of shard.old }
     {
@@ -117,18 +121,19 @@ impl Session {
         match shard.take(key, by, id, max) {
             Ok(Some(entries)) => StepAnswer::Taken(entries),
             Ok(None) => StepAnswer::Idle,
-            Err(_) => StepAnswer::NoMemory,
+            Err(_) => StepAnswer::OutOfMemory,
         }
     }
 
     // Closes the queue.
     pub(crate) fn unsubscribe(&mut self, by: u64, shard: &mut Shard, key: &Key) -> StepAnswer
-        requires { AreOpen by (queues_of shard.old) (slots_of self.old) }
-        ensures dispatches { Dispatches by (core_of shard.old) (plain_session (queues_of shard.old) self.old)
+        requires { SlotsOpen by (queues_of shard.old) (queue_slots_of self.old) }
+        ensures dispatches { DispatchesAct by (one_step_of_shard shard.old) (session_state_of
+            (queues_of shard.old) self.old)
             (unsubscribe (plain_key key.now))
-            (plain_answer result) (core_of shard.new) (plain_session (queues_of shard.new) self.new) }
-        ensures leaves { Leaves by (queues_of shard.old) (slots_of self.old)
-            (queues_of shard.new) (slots_of self.new) }
+            (plain_step_answer result) (one_step_of_shard shard.new) (session_state_of (queues_of shard.new) self.new) }
+        ensures leaves { OtherQueuesUnchanged by (queues_of shard.old) (queue_slots_of self.old)
+            (queues_of shard.new) (queue_slots_of self.new) }
         ensures attempt { self.new.attempt ≡ self.old.attempt }
         ensures logs { logs_of shard.new ≡ logs_of shard.old }
     {
@@ -142,10 +147,10 @@ impl Session {
 }
 
 // Closes a queue of the key, if there is one.
-fn close(shard: &mut Shard, by: u64, key: &Key, queue: Option<SubId>)
+fn close_queue(shard: &mut Shard, by: u64, key: &Key, queue: Option<SubId>)
     ensures queues { queues_of shard.new ≡
         with_queues (queues_of shard.old) (plain_key key.now)
-        (closed_of by queue (queues_of shard.old (plain_key key.now))) }
+        (close_in by queue (queues_of shard.old (plain_key key.now))) }
     ensures logs { logs_of shard.new ≡ logs_of shard.old }
 {
     match queue {
@@ -156,10 +161,10 @@ fn close(shard: &mut Shard, by: u64, key: &Key, queue: Option<SubId>)
 
 // What a subscribe is answered that the shard refuses.
 fn refused_start(code: Code) -> StepAnswer
-    ensures { plain_answer result ≡ told_start code }
+    ensures { plain_step_answer result ≡ start_refusal_answer code }
 {
     match code {
-        Code::E10 => StepAnswer::NoMemory,
+        Code::E10 => StepAnswer::OutOfMemory,
         code => StepAnswer::Subscribed(Err(code)),
     }
 }

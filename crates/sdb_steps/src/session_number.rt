@@ -2,7 +2,7 @@
 ghost use Rattle.std.specs.Prelude.{◌≡◌, ◌<◌, ◌≤◌, IfSome, IfNone};
 
 /// How many sessions there are: 64.
-pub const SESSIONS: u64 = 64;
+pub const SESSION_LIMIT: u64 = 64;
 
 /// The number of a session, from 0 to 63.
 #[derive(Clone, Copy, PartialEq, Eq, Debug, Drop)]
@@ -17,7 +17,7 @@ impl SessionNumber {
         ensures some { IfSome result (λ n. n.number ≡ number) }
         ensures none { IfNone result (64 ≤ number) }
     {
-        if number < SESSIONS {
+        if number < SESSION_LIMIT {
             Some(SessionNumber { number })
         } else {
             None

@@ -1,9 +1,9 @@
 //! Steps and their answers.
 ghost use Rattle.std.specs.Prelude.{◌≡◌};
-ghost use Rattle.sdb_steps.specs.View.{plain_step};
+ghost use Rattle.sdb_steps.specs.View.{plain_session_step};
 
 use crate::session_number::SessionNumber;
-use sdb_desk::{Fetched, Reply};
+use sdb_desk::{FetchResult, Reply};
 use sdb_oplog::{Code, Content, Entry, Key, Moment};
 
 /// What one session does.
@@ -44,7 +44,7 @@ pub enum Step {
         version: Option<u64>,
     },
     /// Reads the document at a moment, the present one without.
-    AtTime {
+    SnapshotAtTime {
         session: SessionNumber,
         key: Key,
         moment: Option<Moment>,
@@ -86,11 +86,11 @@ pub enum StepAnswer {
     /// A commit decided: the attempt is at its end.
     Decided(Reply),
     /// The present version and document.
-    Fetched(Fetched),
+    Fetched(FetchResult),
     /// A version and the document there, or E4.
-    Snapped(Result<Fetched, Code>),
+    SnapshotFetched(Result<FetchResult, Code>),
     /// The version at a moment, and the document there.
-    Timed(Fetched),
+    MomentFetched(FetchResult),
     /// The version that the queue starts at, or E4, or E11.
     Subscribed(Result<u64, Code>),
     /// The entries that came.
@@ -102,13 +102,13 @@ pub enum StepAnswer {
     /// There was nothing to do.
     Idle,
     /// A growth was refused (E10): nothing has changed.
-    NoMemory,
+    OutOfMemory,
 }
 
 impl Step {
     /// Whose step it is.
     pub fn session(&self) -> SessionNumber
-        ensures { result.number ≡ (plain_step self.now).session }
+        ensures { result.number ≡ (plain_session_step self.now).session }
     {
         match self {
             Step::Begin { session, .. } => *session,
@@ -116,7 +116,7 @@ impl Step {
             Step::Commit { session, .. } => *session,
             Step::Fetch { session, .. } => *session,
             Step::Snapshot { session, .. } => *session,
-            Step::AtTime { session, .. } => *session,
+            Step::SnapshotAtTime { session, .. } => *session,
             Step::Subscribe { session, .. } => *session,
             Step::Take { session, .. } => *session,
             Step::Unsubscribe { session, .. } => *session,

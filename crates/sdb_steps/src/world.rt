@@ -1,14 +1,14 @@
 //! The world of 64 sessions.
 ghost use Rattle.std.specs.Prelude.{◌≡◌, IfOk};
-ghost use Rattle.sdb_steps.specs.WorldView.{machine_of, sessions_of};
-ghost use Rattle.sdb_steps.specs.OneStep.{empty};
-ghost use Rattle.sdb_steps.specs.Picks.{all_fresh};
+ghost use Rattle.sdb_steps.specs.WorldView.{one_step_of_world, sessions_of};
+ghost use Rattle.sdb_steps.specs.OneStep.{empty_machine};
+ghost use Rattle.sdb_steps.specs.Picks.{empty_sessions};
 ghost use Rattle.sdb_steps.specs.Runs.{IsStep};
-ghost use Rattle.sdb_steps.specs.View.{plain_step, plain_answer};
+ghost use Rattle.sdb_steps.specs.View.{plain_session_step, plain_step_answer};
 
 use crate::step::{Step, StepAnswer};
-use crate::world_parts::Parts;
-use sdb_dump::Documents;
+use crate::world_state::WorldState;
+use sdb_dump::DumpSource;
 use sdb_oplog::{Key, Log};
 use std::alloc::{AllocError, Global};
 
@@ -16,46 +16,48 @@ use std::alloc::{AllocError, Global};
 /// each document.
 #[derive(Drop)]
 pub struct World {
-    parts: Parts,
+    state: WorldState,
 }
 
 impl World {
     /// A world without a log, an attempt or a queue. It keeps the allocator; it fails only for want of
     /// memory.
     pub fn new(alloc: Global) -> Result<World, AllocError>
-        ensures machine { IfOk result (λ w. machine_of w ≡ empty) }
-        ensures sessions { IfOk result (λ w. sessions_of w ≡ all_fresh) }
+        ensures machine { IfOk result (λ w. one_step_of_world w ≡ empty_machine) }
+        ensures sessions { IfOk result (λ w. sessions_of w ≡ empty_sessions) }
     {
         Ok(World {
-            parts: Parts::new(alloc)?,
+            state: WorldState::new(alloc)?,
         })
     }
 
     /// Takes one step. Where memory is wanting nothing has changed.
     pub fn step(&mut self, step: Step) -> StepAnswer
-        ensures { IsStep (machine_of self.old) (sessions_of self.old) (plain_step step) (plain_answer result)
-            (machine_of self.new) (sessions_of self.new) }
+        ensures { IsStep (one_step_of_world self.old) (sessions_of self.old) (plain_session_step step)
+            (plain_step_answer result)
+            (one_step_of_world self.new) (sessions_of self.new) }
     {
-        self.parts.step(&step)
+        self.state.step(&step)
     }
 
     // The same step, lent.
-    pub(crate) fn take(&mut self, step: &Step) -> StepAnswer
-        ensures { IsStep (machine_of self.old) (sessions_of self.old) (plain_step step.now) (plain_answer result)
-            (machine_of self.new) (sessions_of self.new) }
+    pub(crate) fn apply_step(&mut self, step: &Step) -> StepAnswer
+        ensures { IsStep (one_step_of_world self.old) (sessions_of self.old) (plain_session_step step.now)
+            (plain_step_answer result)
+            (one_step_of_world self.new) (sessions_of self.new) }
     {
-        self.parts.step(step)
+        self.state.step(step)
     }
 }
 
-impl Documents for World {
-    ghost logs = { λ w. (machine_of w).logs };
+impl DumpSource for World {
+    ghost logs = { λ w. (one_step_of_world w).logs };
 
     fn keys(&self) -> Result<Vec<Key>, AllocError> {
-        self.parts.shard.documents()
+        self.state.shard.documents()
     }
 
     fn log(&self, key: &Key) -> Option<&Log> {
-        self.parts.shard.log(key)
+        self.state.shard.log(key)
     }
 }

@@ -6,10 +6,10 @@ use Rattle.sdb_oplog.specs.Plain.{PlainEntry, PlainSubmission}
 use Rattle.sdb_oplog.specs.Decide.{PlainReply}
 use Rattle.sdb_oplog.specs.Keys.{PlainKey}
 use Rattle.sdb_oplog.specs.declared.codes.Code.{Code}
-use Rattle.sdb_subscribe.specs.Queue.{queue_at, is_owned}
-use Rattle.sdb_desk.specs.Machine.{PlainLook, PlainAttempt, PlainOutcome, decided, moved, PlainFetched, PlainSubscribed, Machine, Same, look_at, looking_takes_memory, is_filled, has_document, has_version, fetched, operations, between, snapshot_at, at_moment, with_queues, closed, Commits, Decides, Reads, Subscribes, Takes}
+use Rattle.sdb_subscribe.specs.Queue.{queue_at, is_open_by}
+use Rattle.sdb_desk.specs.Machine.{PlainLook, PlainAttempt, PlainOutcome, decided, moved, PlainFetchResult, PlainSubscribeResult, Machine, IsUnchanged, look_at, look_allocates, is_nonempty, read_has_document, read_has_version, fetch_result, operations_from, operations_between, snapshot_at, fetch_at_moment, with_queues, close_queue, CommitsOrOutOfMemory, DecidesOrOutOfMemory, ReadOrOutOfMemory, SubscribesOrOutOfMemory, TakesOrOutOfMemory}
 use Rattle.sdb_desk.specs.View.{plain_look}
-use Rattle.sdb_desk.specs.declared.attempts.Look.{Look}
+use Rattle.sdb_desk.specs.declared.work.Look.{Look}
 
 pub data PlainCall : Type 0 where
   look : PlainSubmission → PlainCall
@@ -17,7 +17,7 @@ pub data PlainCall : Type 0 where
   commit : PlainAttempt → ℕ → PlainCall
   commit_now : PlainSubmission → ℕ → PlainCall
   -- the present version
-  present : PlainCall
+  current_version : PlainCall
   fetch : PlainCall
   -- from a version on
   ops_from : ℕ → PlainCall
@@ -26,7 +26,7 @@ pub data PlainCall : Type 0 where
   -- at a version, or at the present one
   snapshot : Option ℕ → PlainCall
   -- at a moment, or at the present version
-  at_time : Option ℕ → PlainCall
+  snapshot_at_time : Option ℕ → PlainCall
   -- the kept snapshots go
   forget : PlainCall
   -- a queue from a version on, or from the present one
@@ -37,63 +37,63 @@ pub data PlainCall : Type 0 where
   unsubscribe : ℕ → PlainCall
 
 -- what each call answers. A look, a take and operations between two versions are none where memory is wanting
-abbrev pub AnswerTo : PlainCall → Type 0
-AnswerTo (look s) = Option PlainLook
-AnswerTo (commit a now) = PlainOutcome
-AnswerTo (commit_now s now) = PlainReply
-AnswerTo present = ℕ
-AnswerTo fetch = Result PlainFetched Code
-AnswerTo (ops_from v) = Result (List PlainEntry) Code
-AnswerTo (ops_between v w) = Option (List PlainEntry)
-AnswerTo (snapshot v) = Result PlainFetched Code
-AnswerTo (at_time t) = Result PlainFetched Code
-AnswerTo forget = Unit {0}
-AnswerTo (subscribe v) = Result PlainSubscribed Code
-AnswerTo (take_next n max) = Option (Option (List PlainEntry))
-AnswerTo (unsubscribe n) = Unit {0}
+abbrev pub CallAnswer : PlainCall → Type 0
+CallAnswer (look s) = Option PlainLook
+CallAnswer (commit a now) = PlainOutcome
+CallAnswer (commit_now s now) = PlainReply
+CallAnswer current_version = ℕ
+CallAnswer fetch = Result PlainFetchResult Code
+CallAnswer (ops_from v) = Result (List PlainEntry) Code
+CallAnswer (ops_between v w) = Option (List PlainEntry)
+CallAnswer (snapshot v) = Result PlainFetchResult Code
+CallAnswer (snapshot_at_time t) = Result PlainFetchResult Code
+CallAnswer forget = Unit {0}
+CallAnswer (subscribe v) = Result PlainSubscribeResult Code
+CallAnswer (take_next n max) = Option (Option (List PlainEntry))
+CallAnswer (unsubscribe n) = Unit {0}
 
-abbrev pub told_look : Result Look AllocError → Option PlainLook
-told_look (Ok l) = Some (plain_look l)
-told_look (Err e) = None
+abbrev pub look_view : Result Look AllocError → Option PlainLook
+look_view (Ok l) = Some (plain_look l)
+look_view (Err e) = None
 
-abbrev pub told_copies : Result (Vec PlainEntry Global) AllocError → Option (List PlainEntry)
-told_copies (Ok v) = Some v.items
-told_copies (Err e) = None
+abbrev pub copied_entries_view : Result (Vec PlainEntry Global) AllocError → Option (List PlainEntry)
+copied_entries_view (Ok v) = Some v.items
+copied_entries_view (Err e) = None
 
 -- the look that is answered where the log has moved
-abbrev pub IfMoved : PlainOutcome → (PlainLook → Type 0) → Type 0
-IfMoved (decided r) P = Unit {0}
-IfMoved (moved l) P = P l
+abbrev pub OnMoved : PlainOutcome → (PlainLook → Type 0) → Type 0
+OnMoved (decided r) P = Unit {0}
+OnMoved (moved l) P = P l
 
 -- a look shows the log as it is, or memory was wanting for what it shows
-abbrev pub Looks : List PlainEntry → PlainSubmission → Option PlainLook → Type 0
-Looks log s None = looking_takes_memory log s ≡ true
-Looks log s (Some l) = l ≡ look_at log s
+abbrev pub LooksOrOutOfMemory : List PlainEntry → PlainSubmission → Option PlainLook → Type 0
+LooksOrOutOfMemory log s None = look_allocates log s ≡ true
+LooksOrOutOfMemory log s (Some l) = l ≡ look_at log s
 
 -- entries are copied, or memory was wanting for that
-abbrev pub Copies : List PlainEntry → Option (List PlainEntry) → Type 0
-Copies es None = is_filled es ≡ true
-Copies es (Some r) = r ≡ es
+abbrev pub CopiesOrOutOfMemory : List PlainEntry → Option (List PlainEntry) → Type 0
+CopiesOrOutOfMemory es None = is_nonempty es ≡ true
+CopiesOrOutOfMemory es (Some r) = r ≡ es
 
 -- one call of the machine, under the number of who calls. Only what is decided changes a log, and only a call of queues
 -- changes those of its key
-abbrev pub Acts : ℕ → Machine → PlainKey → (c : PlainCall) → AnswerTo c → Machine → Type 0
-Acts by m k (look s) o new = Looks (m.logs k) s o × Same m new
-Acts by m k (commit a now) o new = Commits m.logs k a now o new.logs × (new.queues ≡ m.queues)
-Acts by m k (commit_now s now) r new = Decides m.logs k s now r new.logs × (new.queues ≡ m.queues)
-Acts by m k present v new = (v ≡ length (m.logs k)) × Same m new
-Acts by m k fetch r new = Reads has_document r (Ok (fetched (m.logs k))) × Same m new
-Acts by m k (ops_from v) r new = Reads is_filled r (operations (m.logs k) v) × Same m new
-Acts by m k (ops_between v w) r new = Copies (between (m.logs k) v w) r × Same m new
-Acts by m k (snapshot v) r new = Reads has_version r (snapshot_at (m.logs k) v) × Same m new
-Acts by m k (at_time t) r new = Reads has_version r (Ok (at_moment (m.logs k) t)) × Same m new
-Acts by m k forget u new = Same m new
-Acts by m k (subscribe v) r new =
-    Subscribes (m.logs k) by v (m.queues k) r (new.queues k)
+abbrev pub MachineStep : ℕ → Machine → PlainKey → (c : PlainCall) → CallAnswer c → Machine → Type 0
+MachineStep by m k (look s) o new = LooksOrOutOfMemory (m.logs k) s o × IsUnchanged m new
+MachineStep by m k (commit a now) o new = CommitsOrOutOfMemory m.logs k a now o new.logs × (new.queues ≡ m.queues)
+MachineStep by m k (commit_now s now) r new = DecidesOrOutOfMemory m.logs k s now r new.logs × (new.queues ≡ m.queues)
+MachineStep by m k current_version v new = (v ≡ length (m.logs k)) × IsUnchanged m new
+MachineStep by m k fetch r new = ReadOrOutOfMemory read_has_document r (Ok (fetch_result (m.logs k))) × IsUnchanged m new
+MachineStep by m k (ops_from v) r new = ReadOrOutOfMemory is_nonempty r (operations_from (m.logs k) v) × IsUnchanged m new
+MachineStep by m k (ops_between v w) r new = CopiesOrOutOfMemory (operations_between (m.logs k) v w) r × IsUnchanged m new
+MachineStep by m k (snapshot v) r new = ReadOrOutOfMemory read_has_version r (snapshot_at (m.logs k) v) × IsUnchanged m new
+MachineStep by m k (snapshot_at_time t) r new = ReadOrOutOfMemory read_has_version r (Ok (fetch_at_moment (m.logs k) t)) × IsUnchanged m new
+MachineStep by m k forget u new = IsUnchanged m new
+MachineStep by m k (subscribe v) r new =
+    SubscribesOrOutOfMemory (m.logs k) by v (m.queues k) r (new.queues k)
     × (new.queues ≡ with_queues m.queues k (new.queues k)) × (new.logs ≡ m.logs)
-Acts by m k (take_next n max) r new =
-    Takes (m.logs k) by n max (m.queues k) r (new.queues k)
+MachineStep by m k (take_next n max) r new =
+    TakesOrOutOfMemory (m.logs k) by n max (m.queues k) r (new.queues k)
     × (new.queues ≡ with_queues m.queues k (new.queues k)) × (new.logs ≡ m.logs)
-Acts by m k (unsubscribe n) u new =
-    (new.queues ≡ with_queues m.queues k (closed by n (m.queues k)))
-    × (is_owned by n (m.queues k).queues ≡ true → queue_at n (new.queues k).queues ≡ None) × (new.logs ≡ m.logs)
+MachineStep by m k (unsubscribe n) u new =
+    (new.queues ≡ with_queues m.queues k (close_queue by n (m.queues k)))
+    × (is_open_by by n (m.queues k).queues ≡ true → queue_at n (new.queues k).queues ≡ None) × (new.logs ≡ m.logs)

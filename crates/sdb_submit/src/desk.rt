@@ -1,12 +1,12 @@
 //! Desks: where documents are looked at, submissions committed, documents read and queues taken.
 ghost use Rattle.std.specs.Prelude.{◌≡◌, ℕ, IfOk};
 ghost use Rattle.sdb_oplog.specs.Keys.{PlainKey, plain_key};
-ghost use Rattle.sdb_desk.specs.Machine.{Keeps, PlainAttempt};
-ghost use Rattle.sdb_desk.specs.View.{plain_look, plain_outcome, told_fetched, told_entries, told_subscribed, told_taken};
+ghost use Rattle.sdb_desk.specs.Machine.{WorkAfterCommit, PlainAttempt};
+ghost use Rattle.sdb_desk.specs.View.{plain_look, plain_outcome, fetch_result_view, entries_view, subscribe_result_view, taken_view};
 ghost use Rattle.sdb_desk.specs.ReplyView.{plain_reply};
-ghost use Rattle.sdb_submit.specs.Calls.{PlainCall, look, commit, commit_now, present, fetch, ops_from, ops_between, snapshot, at_time, forget, subscribe, take_next, unsubscribe, AnswerTo, IfMoved, told_copies, told_look};
+ghost use Rattle.sdb_submit.specs.Calls.{PlainCall, look, commit, commit_now, current_version, fetch, ops_from, ops_between, snapshot, snapshot_at_time, forget, subscribe, take_next, unsubscribe, CallAnswer, OnMoved, copied_entries_view, look_view};
 
-use sdb_desk::{Fetched, Look, Outcome, Reply, Subscribed, Work};
+use sdb_desk::{FetchResult, Look, Outcome, Reply, SubscribeResult, Work};
 use sdb_oplog::{Code, Entry, Key, Moment, Submission};
 use sdb_subscribe::SubId;
 use std::alloc::AllocError;
@@ -19,16 +19,16 @@ pub trait Desk {
     type Pass;
 
     // Whether a pass may be used here.
-    ghost takes: { Self → Self.Pass → Type 0 };
+    ghost accepts: { Self → Self.Pass → Type 0 };
 
     // The number of a pass.
-    ghost number: { Self → Self.Pass → ℕ };
+    ghost pass_number: { Self → Self.Pass → ℕ };
 
     // How a call at a key relates the pass before, what is answered and the pass after.
-    ghost acts: { Self → PlainKey → (c : PlainCall) → Self.Pass → AnswerTo c → Self.Pass → Type 0 };
+    ghost step: { Self → PlainKey → (c : PlainCall) → Self.Pass → CallAnswer c → Self.Pass → Type 0 };
 
     // The look of an attempt at a key is one that the pass has seen.
-    ghost looked: { Self → PlainKey → PlainAttempt → Self.Pass → Type 0 };
+    ghost has_seen: { Self → PlainKey → PlainAttempt → Self.Pass → Type 0 };
 
     /// What a look at the document shows for a submission. It fails only for want of memory.
     fn look(
@@ -37,26 +37,26 @@ pub trait Desk {
         key: &Key,
         submission: &Submission,
     ) -> Result<Look, AllocError>
-        requires takes { takes self.now pass.old }
-        requires by { submission.now.by ≡ number self.now pass.old }
-        ensures takes { takes self.now pass.new }
-        ensures number { number self.now pass.new ≡ number self.now pass.old }
-        ensures looked { IfOk result (λ l. looked self.now (plain_key key.now)
+        requires takes { accepts self.now pass.old }
+        requires by { submission.now.by ≡ pass_number self.now pass.old }
+        ensures takes { accepts self.now pass.new }
+        ensures number { pass_number self.now pass.new ≡ pass_number self.now pass.old }
+        ensures looked { IfOk result (λ l. has_seen self.now (plain_key key.now)
             (record { submission = submission.now; look = plain_look l }) pass.new) }
-        ensures acts { acts self.now (plain_key key.now) (look submission.now) pass.old (told_look result) pass.new };
+        ensures acts { step self.now (plain_key key.now) (look submission.now) pass.old (look_view result) pass.new };
 
     /// Decides the submission of the work at a moment, if the log stands as it was looked at. The look is one that the
     /// pass has seen, as is the one that is shown where the log has moved.
     fn commit(&self, pass: &mut Self::Pass, key: &Key, work: &mut Work, now: Moment) -> Outcome
-        requires takes { takes self.now pass.old }
-        requires by { work.old.submission.by ≡ number self.now pass.old }
-        requires looked { looked self.now (plain_key key.now) work.old pass.old }
-        ensures takes { takes self.now pass.new }
-        ensures number { number self.now pass.new ≡ number self.now pass.old }
-        ensures keeps { Keeps (plain_outcome result) work.old work.new }
-        ensures looked { IfMoved (plain_outcome result) (λ l. looked self.now (plain_key key.now)
+        requires takes { accepts self.now pass.old }
+        requires by { work.old.submission.by ≡ pass_number self.now pass.old }
+        requires looked { has_seen self.now (plain_key key.now) work.old pass.old }
+        ensures takes { accepts self.now pass.new }
+        ensures number { pass_number self.now pass.new ≡ pass_number self.now pass.old }
+        ensures keeps { WorkAfterCommit (plain_outcome result) work.old work.new }
+        ensures looked { OnMoved (plain_outcome result) (λ l. has_seen self.now (plain_key key.now)
             (record { submission = work.old.submission; look = l }) pass.new) }
-        ensures acts { acts self.now (plain_key key.now) (commit work.old now) pass.old
+        ensures acts { step self.now (plain_key key.now) (commit work.old now) pass.old
             (plain_outcome result) pass.new };
 
     /// Decides a submission at a moment.
@@ -67,43 +67,43 @@ pub trait Desk {
         submission: &Submission,
         now: Moment,
     ) -> Reply
-        requires takes { takes self.now pass.old }
-        requires by { submission.now.by ≡ number self.now pass.old }
-        ensures takes { takes self.now pass.new }
-        ensures number { number self.now pass.new ≡ number self.now pass.old }
-        ensures acts { acts self.now (plain_key key.now) (commit_now submission.now now) pass.old
+        requires takes { accepts self.now pass.old }
+        requires by { submission.now.by ≡ pass_number self.now pass.old }
+        ensures takes { accepts self.now pass.new }
+        ensures number { pass_number self.now pass.new ≡ pass_number self.now pass.old }
+        ensures acts { step self.now (plain_key key.now) (commit_now submission.now now) pass.old
             (plain_reply result) pass.new };
 
     /// Decides the submission of a work at a moment, whatever has been stored since its look: only that is
     /// carried over.
     fn commit_last(&self, pass: &mut Self::Pass, key: &Key, work: Work, now: Moment) -> Reply
-        requires takes { takes self.now pass.old }
-        requires by { work.submission.by ≡ number self.now pass.old }
-        ensures takes { takes self.now pass.new }
-        ensures number { number self.now pass.new ≡ number self.now pass.old }
-        ensures acts { acts self.now (plain_key key.now) (commit_now work.submission now) pass.old
+        requires takes { accepts self.now pass.old }
+        requires by { work.submission.by ≡ pass_number self.now pass.old }
+        ensures takes { accepts self.now pass.new }
+        ensures number { pass_number self.now pass.new ≡ pass_number self.now pass.old }
+        ensures acts { step self.now (plain_key key.now) (commit_now work.submission now) pass.old
             (plain_reply result) pass.new };
 
     /// The present version; 0 where there is no document yet. It takes no memory.
     fn version(&self, pass: &mut Self::Pass, key: &Key) -> u64
-        requires { takes self.now pass.old }
-        ensures takes { takes self.now pass.new }
-        ensures number { number self.now pass.new ≡ number self.now pass.old }
-        ensures acts { acts self.now (plain_key key.now) present pass.old result pass.new };
+        requires { accepts self.now pass.old }
+        ensures takes { accepts self.now pass.new }
+        ensures number { pass_number self.now pass.new ≡ pass_number self.now pass.old }
+        ensures acts { step self.now (plain_key key.now) current_version pass.old result pass.new };
 
     /// The present version and the document there, or E10.
-    fn fetch(&self, pass: &mut Self::Pass, key: &Key) -> Result<Fetched, Code>
-        requires { takes self.now pass.old }
-        ensures takes { takes self.now pass.new }
-        ensures number { number self.now pass.new ≡ number self.now pass.old }
-        ensures acts { acts self.now (plain_key key.now) fetch pass.old (told_fetched result) pass.new };
+    fn fetch(&self, pass: &mut Self::Pass, key: &Key) -> Result<FetchResult, Code>
+        requires { accepts self.now pass.old }
+        ensures takes { accepts self.now pass.new }
+        ensures number { pass_number self.now pass.new ≡ pass_number self.now pass.old }
+        ensures acts { step self.now (plain_key key.now) fetch pass.old (fetch_result_view result) pass.new };
 
     /// The stored operations from a version on; E4 where it is above the present one; or E10.
     fn ops_from(&self, pass: &mut Self::Pass, key: &Key, version: u64) -> Result<Vec<Entry>, Code>
-        requires { takes self.now pass.old }
-        ensures takes { takes self.now pass.new }
-        ensures number { number self.now pass.new ≡ number self.now pass.old }
-        ensures acts { acts self.now (plain_key key.now) (ops_from version) pass.old (told_entries result) pass.new };
+        requires { accepts self.now pass.old }
+        ensures takes { accepts self.now pass.new }
+        ensures number { pass_number self.now pass.new ≡ pass_number self.now pass.old }
+        ensures acts { step self.now (plain_key key.now) (ops_from version) pass.old (entries_view result) pass.new };
 
     /// The stored operations from a version on, before the version `to`, as far as there are any. It fails only
     /// for want of memory.
@@ -114,11 +114,11 @@ pub trait Desk {
         from: u64,
         to: u64,
     ) -> Result<Vec<Entry>, AllocError>
-        requires { takes self.now pass.old }
-        ensures takes { takes self.now pass.new }
-        ensures number { number self.now pass.new ≡ number self.now pass.old }
-        ensures acts { acts self.now (plain_key key.now) (ops_between from to) pass.old
-            (told_copies result) pass.new };
+        requires { accepts self.now pass.old }
+        ensures takes { accepts self.now pass.new }
+        ensures number { pass_number self.now pass.new ≡ pass_number self.now pass.old }
+        ensures acts { step self.now (plain_key key.now) (ops_between from to) pass.old
+            (copied_entries_view result) pass.new };
 
     /// The version, or the present one where none is named, and the document there; E4 where the version
     /// is above the present one; or E10.
@@ -127,30 +127,32 @@ pub trait Desk {
         pass: &mut Self::Pass,
         key: &Key,
         version: Option<u64>,
-    ) -> Result<Fetched, Code>
-        requires { takes self.now pass.old }
-        ensures takes { takes self.now pass.new }
-        ensures number { number self.now pass.new ≡ number self.now pass.old }
-        ensures acts { acts self.now (plain_key key.now) (snapshot version) pass.old (told_fetched result) pass.new };
+    ) -> Result<FetchResult, Code>
+        requires { accepts self.now pass.old }
+        ensures takes { accepts self.now pass.new }
+        ensures number { pass_number self.now pass.new ≡ pass_number self.now pass.old }
+        ensures acts { step self.now (plain_key key.now) (snapshot version) pass.old
+            (fetch_result_view result) pass.new };
 
     /// The version at a moment, or the present one where none is named, and the document there; or E10.
-    fn at_time(
+    fn snapshot_at_time(
         &self,
         pass: &mut Self::Pass,
         key: &Key,
         moment: Option<Moment>,
-    ) -> Result<Fetched, Code>
-        requires { takes self.now pass.old }
-        ensures takes { takes self.now pass.new }
-        ensures number { number self.now pass.new ≡ number self.now pass.old }
-        ensures acts { acts self.now (plain_key key.now) (at_time moment) pass.old (told_fetched result) pass.new };
+    ) -> Result<FetchResult, Code>
+        requires { accepts self.now pass.old }
+        ensures takes { accepts self.now pass.new }
+        ensures number { pass_number self.now pass.new ≡ pass_number self.now pass.old }
+        ensures acts { step self.now (plain_key key.now) (snapshot_at_time moment) pass.old
+            (fetch_result_view result) pass.new };
 
     /// Lets the snapshots go that are kept of the document. It takes no memory.
     fn forget(&self, pass: &mut Self::Pass, key: &Key)
-        requires { takes self.now pass.old }
-        ensures takes { takes self.now pass.new }
-        ensures number { number self.now pass.new ≡ number self.now pass.old }
-        ensures acts { acts self.now (plain_key key.now) forget pass.old tt pass.new };
+        requires { accepts self.now pass.old }
+        ensures takes { accepts self.now pass.new }
+        ensures number { pass_number self.now pass.new ≡ pass_number self.now pass.old }
+        ensures acts { step self.now (plain_key key.now) forget pass.old tt pass.new };
 
     /// Opens a queue that takes all stored operations from the version on, or from the present one, and
     /// shows the document there; E4 where the version is above the present one; E11 where the numbers of
@@ -160,12 +162,12 @@ pub trait Desk {
         pass: &mut Self::Pass,
         key: &Key,
         version: Option<u64>,
-    ) -> Result<Subscribed, Code>
-        requires { takes self.now pass.old }
-        ensures takes { takes self.now pass.new }
-        ensures number { number self.now pass.new ≡ number self.now pass.old }
-        ensures acts { acts self.now (plain_key key.now) (subscribe version) pass.old
-            (told_subscribed result) pass.new };
+    ) -> Result<SubscribeResult, Code>
+        requires { accepts self.now pass.old }
+        ensures takes { accepts self.now pass.new }
+        ensures number { pass_number self.now pass.new ≡ pass_number self.now pass.old }
+        ensures acts { step self.now (plain_key key.now) (subscribe version) pass.old
+            (subscribe_result_view result) pass.new };
 
     /// The next entries of a queue, at most `max`; `None` where no open queue of the key has the number
     /// `id`, or where a pass of another number opened it. It fails only for want of memory.
@@ -176,22 +178,22 @@ pub trait Desk {
         id: SubId,
         max: u64,
     ) -> Result<Option<Vec<Entry>>, AllocError>
-        requires { takes self.now pass.old }
-        ensures takes { takes self.now pass.new }
-        ensures number { number self.now pass.new ≡ number self.now pass.old }
-        ensures acts { acts self.now (plain_key key.now) (take_next id max) pass.old (told_taken result) pass.new };
+        requires { accepts self.now pass.old }
+        ensures takes { accepts self.now pass.new }
+        ensures number { pass_number self.now pass.new ≡ pass_number self.now pass.old }
+        ensures acts { step self.now (plain_key key.now) (take_next id max) pass.old (taken_view result) pass.new };
 
     /// Closes a queue of the key. It takes no memory. A number that no open queue has, or one that a pass
     /// of another number opened, does nothing.
     fn unsubscribe(&self, pass: &mut Self::Pass, key: &Key, id: SubId)
-        requires { takes self.now pass.old }
-        ensures takes { takes self.now pass.new }
-        ensures number { number self.now pass.new ≡ number self.now pass.old }
-        ensures acts { acts self.now (plain_key key.now) (unsubscribe id) pass.old tt pass.new };
+        requires { accepts self.now pass.old }
+        ensures takes { accepts self.now pass.new }
+        ensures number { pass_number self.now pass.new ≡ pass_number self.now pass.old }
+        ensures acts { step self.now (plain_key key.now) (unsubscribe id) pass.old tt pass.new };
 
     /// The number of a pass: each submission through it has it as its `by`.
     fn by(&self, pass: &Self::Pass) -> u64
-        ensures { result ≡ number self.now pass.now };
+        ensures { result ≡ pass_number self.now pass.now };
 }
 
 /// Is told before each commit of a submission.

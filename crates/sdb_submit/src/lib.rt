@@ -3,10 +3,10 @@
 
 mod desk;
 mod solo;
-mod submitting;
-mod working;
+mod submit_loop;
+mod work_step;
 
 pub use desk::{Desk, Gate, NoGate};
 pub use solo::Solo;
-pub use submitting::submit;
-pub use working::{work, work_on};
+pub use submit_loop::submit;
+pub use work_step::{resume_work, work};

@@ -1,12 +1,12 @@
 //! A desk for one caller, who holds the documents.
 ghost use Rattle.std.specs.Prelude.{◌≡◌, ℕ, [], ⊤};
 ghost use Rattle.sdb_oplog.specs.Keys.{plain_key};
-ghost use Rattle.sdb_desk.specs.ShardView.{machine_of, logs_of, kept_of, with_kept};
-ghost use Rattle.sdb_desk.specs.Looked.{IsLook};
-ghost use Rattle.sdb_submit.specs.Calls.{Acts, forget};
+ghost use Rattle.sdb_desk.specs.ShardView.{machine_of, logs_of, caches_of, with_cache};
+ghost use Rattle.sdb_desk.specs.LookLaws.{IsLook};
+ghost use Rattle.sdb_submit.specs.Calls.{MachineStep, forget};
 
 use crate::desk::Desk;
-use sdb_desk::{Fetched, Look, Outcome, Reply, Shard, Subscribed, Work};
+use sdb_desk::{FetchResult, Look, Outcome, Reply, Shard, SubscribeResult, Work};
 use sdb_oplog::{Code, Entry, Key, Moment, Submission};
 use sdb_subscribe::SubId;
 use std::alloc::AllocError;
@@ -18,13 +18,13 @@ pub struct Solo;
 impl Desk for Solo {
     type Pass = Shard;
 
-    ghost takes = { λ d p. ⊤ };
+    ghost accepts = { λ d p. ⊤ };
 
-    ghost number = { λ d p. 0 };
+    ghost pass_number = { λ d p. 0 };
 
-    ghost acts = { λ d k c p a q. Acts 0 (machine_of p) k c a (machine_of q) };
+    ghost step = { λ d k c p a q. MachineStep 0 (machine_of p) k c a (machine_of q) };
 
-    ghost looked = { λ d k a p. IsLook (logs_of p k) a };
+    ghost has_seen = { λ d k a p. IsLook (logs_of p k) a };
 
     fn look(
         &self,
@@ -57,7 +57,7 @@ impl Desk for Solo {
         pass.version(key)
     }
 
-    fn fetch(&self, pass: &mut Shard, key: &Key) -> Result<Fetched, Code> {
+    fn fetch(&self, pass: &mut Shard, key: &Key) -> Result<FetchResult, Code> {
         pass.fetch(key)
     }
 
@@ -80,24 +80,24 @@ impl Desk for Solo {
         pass: &mut Shard,
         key: &Key,
         version: Option<u64>,
-    ) -> Result<Fetched, Code> {
+    ) -> Result<FetchResult, Code> {
         pass.snapshot_at(key, version)
     }
 
-    fn at_time(
+    fn snapshot_at_time(
         &self,
         pass: &mut Shard,
         key: &Key,
         moment: Option<Moment>,
-    ) -> Result<Fetched, Code> {
-        pass.at_time(key, moment)
+    ) -> Result<FetchResult, Code> {
+        pass.snapshot_at_time(key, moment)
     }
 
     fn forget(&self, pass: &mut Shard, key: &Key)
         ensures takes { ⊤ }
         ensures number { ◌≡◌ {A = ℕ} 0 0 }
-        ensures acts { Acts 0 (machine_of pass.old) (plain_key key.now) forget tt (machine_of pass.new) }
-        ensures kept { kept_of pass.new ≡ with_kept (kept_of pass.old) (plain_key key.now) [] }
+        ensures acts { MachineStep 0 (machine_of pass.old) (plain_key key.now) forget tt (machine_of pass.new) }
+        ensures kept { caches_of pass.new ≡ with_cache (caches_of pass.old) (plain_key key.now) [] }
     {
         pass.forget(key)
     }
@@ -107,7 +107,7 @@ impl Desk for Solo {
         pass: &mut Shard,
         key: &Key,
         version: Option<u64>,
-    ) -> Result<Subscribed, Code> {
+    ) -> Result<SubscribeResult, Code> {
         pass.subscribe(key, 0, version)
     }
 

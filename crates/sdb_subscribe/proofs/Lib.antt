@@ -1,3 +1,3 @@
-pub mod Entries
-pub mod Rings
-pub mod Taking
+pub mod QueueMapLemmas
+pub mod RingLemmas
+pub mod TakeLemmas

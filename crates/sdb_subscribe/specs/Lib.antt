@@ -2,4 +2,4 @@ pub mod Coding
 pub mod Laws
 pub mod Queue
 pub mod Ring
-pub mod Worked
+pub mod Examples

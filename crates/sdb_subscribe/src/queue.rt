@@ -1,8 +1,8 @@
 //! One queue, and its ring.
 ghost use Rattle.std.specs.Prelude.{◌≡◌, ◌+◌, ◌-◌, ◌<◌, ◌≤◌, [], ◌++◌, length, take, drop, vec_len, vec_capacity, IfOk, OnOk, OnErr};
 ghost use Rattle.circular_buffer.specs.Buffer.{buffer};
-ghost use Rattle.sdb_subscribe.specs.Queue.{queue, waiting};
-ghost use Rattle.sdb_subscribe.specs.Ring.{FitsLog, IsNoted, moved_ringed};
+ghost use Rattle.sdb_subscribe.specs.Queue.{queue, pending_entries};
+ghost use Rattle.sdb_subscribe.specs.Ring.{IsRingOfLog, IsPushed, advance_ringed_queue};
 
 use circular_buffer::HeapCircularBuffer;
 use sdb_oplog::{Entry, Log};
@@ -11,7 +11,7 @@ use std::alloc::{AllocError, Global};
 use std::marker::Model;
 
 // How many entries a ring holds at most.
-const RING: usize = 64;
+const RING_CAPACITY: usize = 64;
 
 // Where a queue starts, how many entries were taken of it, the number that it was opened under, and those
 // of the next entries that it has at hand.
@@ -47,7 +47,7 @@ impl Queue {
         ensures { IfOk result
             (λ q. q ≡ record { queue = record { start = start; taken = 0; by = by }; ring = [] }) }
     {
-        let ring = HeapCircularBuffer::with_capacity(alloc, RING)?;
+        let ring = HeapCircularBuffer::with_capacity(alloc, RING_CAPACITY)?;
         Ok(Queue {
             start,
             taken: 0,
@@ -64,7 +64,7 @@ impl Queue {
     }
 
     // How many entries are at hand.
-    pub(crate) fn ringed(&self) -> u64
+    pub(crate) fn ring_entries(&self) -> u64
         ensures { result ≡ length self.now.ring }
     {
         self.ring.len() as u64
@@ -72,8 +72,8 @@ impl Queue {
 
     // Takes in the entry that was just added to the log, unless the position is beyond it. Where memory
     // is wanting for the copy, nothing stays at hand.
-    pub(crate) fn note(&mut self, entry: &Entry)
-        ensures { IsNoted entry.now self.old self.new }
+    pub(crate) fn push_entry(&mut self, entry: &Entry)
+        ensures { IsPushed entry.now self.old self.new }
     {
         if entry.version() < self.start + self.taken {
             return;
@@ -92,29 +92,29 @@ impl Queue {
         log: &Log,
         max: u64,
     ) -> Result<Vec<Entry>, AllocError>
-        requires { FitsLog log.now self.old }
-        ensures entries { IfOk result (λ v. v.items ≡ waiting log.now max self.old.queue) }
-        ensures moved { OnOk result (self.new ≡ moved_ringed log.now max self.old) }
+        requires { IsRingOfLog log.now self.old }
+        ensures entries { IfOk result (λ v. v.items ≡ pending_entries log.now max self.old.queue) }
+        ensures moved { OnOk result (self.new ≡ advance_ringed_queue log.now max self.old) }
         ensures err { OnErr result (self.new ≡ self.old) }
-        ensures some { OnErr result (0 < length (waiting log.now max self.old.queue)) }
+        ensures some { OnErr result (0 < length (pending_entries log.now max self.old.queue)) }
     {
         let position = self.start + self.taken;
-        let waiting = entries_of(log, position, max);
+        let waiting = entries_from_log(log, position, max);
         let count = waiting.len();
         if count == 0 {
             return Ok(Vec::new(alloc));
         }
         let ring_from = log.len() - self.ring.len() as u64;
         let before = ((ring_from - position) as usize).min(count);
-        let mut entries = copies_of(alloc, &waiting[..before], count)?;
-        move_out(&mut self.ring, &mut entries, count - before);
+        let mut entries = clone_entries(alloc, &waiting[..before], count)?;
+        drain_ring(&mut self.ring, &mut entries, count - before);
         self.taken += count as u64;
         Ok(entries)
     }
 }
 
 // The first `max` entries from this one on.
-fn entries_of(log: &Log, from: u64, max: u64) -> &[Entry]
+fn entries_from_log(log: &Log, from: u64, max: u64) -> &[Entry]
     ensures entries { result.now ≡ queue log.now from max }
     ensures within { 0 < length result.now → from + length result.now ≤ length log.now }
     ensures room { length log.now ≤ MAX }
@@ -124,8 +124,8 @@ fn entries_of(log: &Log, from: u64, max: u64) -> &[Entry]
     &entries[..count as usize]
 }
 
-// Copies of the entries, with room for `room` entries in all.
-fn copies_of(alloc: Global, entries: &[Entry], room: usize) -> Result<Vec<Entry>, AllocError>
+// Copies of the entries, with room for `length_in_range` entries in all.
+fn clone_entries(alloc: Global, entries: &[Entry], room: usize) -> Result<Vec<Entry>, AllocError>
     requires { length entries.now ≤ room }
     ensures copies { IfOk result (λ v. v.items ≡ entries.now) }
     ensures room { IfOk result (λ v. room ≤ vec_capacity v) }
@@ -138,7 +138,7 @@ fn copies_of(alloc: Global, entries: &[Entry], room: usize) -> Result<Vec<Entry>
 }
 
 // Moves the first `count` entries of the ring behind those that were taken. There is room for them.
-fn move_out(ring: &mut HeapCircularBuffer<Entry>, entries: &mut Vec<Entry>, count: usize)
+fn drain_ring(ring: &mut HeapCircularBuffer<Entry>, entries: &mut Vec<Entry>, count: usize)
     requires held { count ≤ length ring.old.items }
     requires room { vec_len entries.old + count ≤ vec_capacity entries.old }
     ensures entries { entries.new.items ≡ entries.old.items ++ take count ring.old.items }

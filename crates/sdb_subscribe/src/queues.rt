@@ -3,10 +3,10 @@ ghost use Rattle.std.specs.Prelude.{◌≡◌, ◌∷◌, ◌++◌, ◌<◌, ℕ
 ghost use Rattle.std.specs.List.{IsDistinct};
 ghost use Rattle.std.specs.Map.{keys_of, remove_entry};
 ghost use Rattle.sdb_oplog.specs.Plain.{PlainEntry};
-ghost use Rattle.sdb_oplog.specs.Refused.{RefusedBy};
+ghost use Rattle.sdb_oplog.specs.Refusal.{IsRefusalOrOutOfMemory};
 ghost use Rattle.sdb_oplog.specs.declared.codes.Code.TheVariants.{E11};
-ghost use Rattle.sdb_subscribe.specs.Queue.{opened, queue_at, taken_from, after_take, taken_by, after_take_by, without, without_by, is_owned, numbers, AreGiven};
-ghost use Rattle.sdb_subscribe.specs.Ring.{bare, bare_queues, ring_at, FitLog, IsNoted, AreNoted, after_take_ringed, after_take_ringed_by, without_ringed_by};
+ghost use Rattle.sdb_subscribe.specs.Queue.{open_queue, queue_at, take_result, queues_after_take, take_result_by, queues_after_take_by, remove_queue, remove_queue_by, is_open_by, queue_ids, AreBelowNext};
+ghost use Rattle.sdb_subscribe.specs.Ring.{without_rings, queues_without_rings, ring_at, AreRingsOfLog, IsPushed, ArePushed, ringed_queues_after_take, ringed_queues_after_take_by, remove_ringed_queue_by};
 
 use crate::queue::Queue;
 use sdb_oplog::{Code, Entry, Log};
@@ -41,7 +41,7 @@ pub struct Queues {
 
 impl Model for Queues {
     ghost use Rattle.std.specs.Map.{keys_of};
-    ghost use Rattle.sdb_subscribe.specs.Queue.{AreGiven};
+    ghost use Rattle.sdb_subscribe.specs.Queue.{AreBelowNext};
     ghost use Rattle.sdb_subscribe.specs.Ring.{RingedQueues};
     ghost use Rattle.sdb_subscribe.specs.Coding.{ringed_queues_code};
 
@@ -51,7 +51,7 @@ impl Model for Queues {
 
     ghost view = { λ q. record { next = q.next; queues = q.queues.entries } };
 
-    ghost invariant = { λ q. AreGiven q.next (keys_of q.queues.entries) };
+    ghost invariant = { λ q. AreBelowNext q.next (keys_of q.queues.entries) };
 }
 
 impl Queues {
@@ -67,17 +67,17 @@ impl Queues {
     }
 
     /// How many numbers were given: each below it, once, and no other.
-    pub fn given(&self) -> u64
-        ensures given { result ≡ (bare self.now).next }
-        ensures below { AreGiven (bare self.now).next (numbers (bare self.now).queues) }
+    pub fn next_id(&self) -> u64
+        ensures given { result ≡ (without_rings self.now).next }
+        ensures below { AreBelowNext (without_rings self.now).next (queue_ids (without_rings self.now).queues) }
     {
         self.next
     }
 
     /// How many queues are open. It takes no memory.
     pub fn count(&self) -> u64
-        ensures count { result ≡ length (bare self.now).queues }
-        ensures apart { IsDistinct nat_eq (numbers (bare self.now).queues) }
+        ensures count { result ≡ length (without_rings self.now).queues }
+        ensures apart { IsDistinct nat_eq (queue_ids (without_rings self.now).queues) }
     {
         self.queues.len() as u64
     }
@@ -88,7 +88,7 @@ impl Queues {
         ensures { result ≡ option_map length (ring_at id self.now.queues) }
     {
         match self.queues.get(&id.number) {
-            Some(queue) => Some(queue.ringed()),
+            Some(queue) => Some(queue.ring_entries()),
             None => None,
         }
     }
@@ -97,16 +97,16 @@ impl Queues {
     /// nothing comes before the log is as long. Its ring is empty. E11 where the numbers of queues are
     /// used up, after 18446744073709551615 of them, and E10 for want of memory; nothing has changed then.
     pub fn open(&mut self, by: u64, from: u64) -> Result<SubId, Code>
-        ensures id { IfOk result (λ id. id ≡ (bare self.old).next) }
-        ensures ok { OnOk result (opened by from (bare self.old) ≡ Ok (bare self.new)) }
+        ensures id { IfOk result (λ id. id ≡ (without_rings self.old).next) }
+        ensures ok { OnOk result (open_queue by from (without_rings self.old) ≡ Ok (without_rings self.new)) }
         ensures open { IfOk result
-            (λ id. queue_at id (bare self.new).queues ≡ Some (record { start = from; taken = 0; by = by })) }
-        ensures full { (bare self.old).next ≡ 18446744073709551615 → result ≡ Err E11 }
-        ensures err { IfErr result (λ code. RefusedBy (opened by from (bare self.old)) code) }
+            (λ id. queue_at id (without_rings self.new).queues ≡ Some (record { start = from; taken = 0; by = by })) }
+        ensures full { (without_rings self.old).next ≡ 18446744073709551615 → result ≡ Err E11 }
+        ensures err { IfErr result (λ code. IsRefusalOrOutOfMemory (open_queue by from (without_rings self.old)) code) }
         ensures same { OnErr result (self.new ≡ self.old) }
         ensures rings { OnOk result (self.new.queues ≡ self.old.queues ++
             (self.old.next, record { queue = record { start = from; taken = 0; by = by }; ring = [] }) ∷ []) }
-        ensures fit { (log : List PlainEntry) → FitLog log self.old.queues → FitLog log self.new.queues }
+        ensures fit { (log : List PlainEntry) → AreRingsOfLog log self.old.queues → AreRingsOfLog log self.new.queues }
     {
         let number = self.next;
         if number == u64::MAX {
@@ -124,18 +124,18 @@ impl Queues {
     /// Puts the entry that was just added to the log into each ring, unless the position of its queue is
     /// beyond the entry: the oldest entry leaves a full ring. A ring that the copy finds no memory for is
     /// emptied, and its queue is served from the log.
-    pub fn note(&mut self, entry: &Entry)
-        ensures noted { AreNoted entry.now self.old.queues self.new.queues }
-        ensures bare { bare self.new ≡ bare self.old }
-        ensures fit { (log : List PlainEntry) → FitLog log self.old.queues → entry.now.version ≡ length log
-            → FitLog (log ++ entry.now ∷ []) self.new.queues }
+    pub fn push_entry(&mut self, entry: &Entry)
+        ensures noted { ArePushed entry.now self.old.queues self.new.queues }
+        ensures bare { without_rings self.new ≡ without_rings self.old }
+        ensures fit { (log : List PlainEntry) → AreRingsOfLog log self.old.queues → entry.now.version ≡ length log
+            → AreRingsOfLog (log ++ entry.now ∷ []) self.new.queues }
     {
         self.queues.retain(
             |_number: &u64, queue: &mut Queue| -> bool
                 ensures kept { result ≡ true }
-                ensures noted { IsNoted entry.entry.now queue.old queue.new }
+                ensures noted { IsPushed entry.entry.now queue.old queue.new }
             {
-                queue.note(entry);
+                queue.push_entry(entry);
                 true
             },
         );
@@ -152,52 +152,55 @@ impl Queues {
         id: SubId,
         max: u64,
     ) -> Result<Option<Vec<Entry>>, AllocError>
-        requires { FitLog log.now self.old.queues }
+        requires { AreRingsOfLog log.now self.old.queues }
         ensures entries { IfOk result
-            (λ v. option_map (λ es. es.items) v ≡ taken_by log.now by id max (bare self.old).queues) }
+            (λ v. option_map (λ es. es.items) v ≡ take_result_by log.now by id max (without_rings self.old).queues) }
         ensures moved { OnOk result
-            ((bare self.new).queues ≡ after_take_by log.now by id max (bare self.old).queues) }
+            ((without_rings self.new).queues ≡ queues_after_take_by log.now by id max (without_rings self.old).queues) }
         ensures err { OnErr result (self.new.queues ≡ self.old.queues) }
         ensures some { OnErr result
-            (0 < length (unwrap_or (taken_by log.now by id max (bare self.old).queues) [])) }
+            (0 < length (unwrap_or (take_result_by log.now by id max (without_rings self.old).queues) [])) }
         ensures next { self.new.next ≡ self.old.next }
-        ensures rings { OnOk result (self.new.queues ≡ after_take_ringed_by log.now by id max self.old.queues) }
-        ensures fit { FitLog log.now self.new.queues }
+        ensures rings { OnOk result (self.new.queues ≡ ringed_queues_after_take_by log.now by id max self.old.queues) }
+        ensures fit { AreRingsOfLog log.now self.new.queues }
     {
         if !self.owns(by, id) {
             return Ok(None);
         }
-        self.take_owned(log, id, max)
+        self.take_as_owner(log, id, max)
     }
 
     // Takes the next entries of a queue, whoever opened it.
-    fn take_owned(
+    fn take_as_owner(
         &mut self,
         log: &Log,
         id: SubId,
         max: u64,
     ) -> Result<Option<Vec<Entry>>, AllocError>
-        requires { FitLog log.now self.old.queues }
+        requires { AreRingsOfLog log.now self.old.queues }
         ensures entries { IfOk result
-            (λ v. option_map (λ es. es.items) v ≡ taken_from log.now id max (bare self.old).queues) }
-        ensures moved { OnOk result ((bare self.new).queues ≡ after_take log.now id max (bare self.old).queues) }
+            (λ v. option_map (λ es. es.items) v ≡ take_result log.now id max (without_rings self.old).queues) }
+        ensures moved { OnOk result ((without_rings self.new).queues
+            ≡ queues_after_take log.now id max (without_rings self.old).queues) }
         ensures err { OnErr result (self.new.queues ≡ self.old.queues) }
-        ensures some { OnErr result (0 < length (unwrap_or (taken_from log.now id max (bare self.old).queues) [])) }
+        ensures some { OnErr result (0 < length (unwrap_or (take_result log.now id max
+            (without_rings self.old).queues) [])) }
         ensures next { self.new.next ≡ self.old.next }
-        ensures rings { OnOk result (self.new.queues ≡ after_take_ringed log.now id max self.old.queues) }
-        ensures fit { FitLog log.now self.new.queues }
+        ensures rings { OnOk result (self.new.queues ≡ ringed_queues_after_take log.now id max self.old.queues) }
+        ensures fit { AreRingsOfLog log.now self.new.queues }
     {
-        take_from(&mut self.queues, self.alloc, log, id.number, max)
+        take_from_queue(&mut self.queues, self.alloc, log, id.number, max)
     }
 
     /// Closes a queue, which isn't found afterwards. It takes no memory, and where no queue is left none is
     /// held. A number that no open queue has, or one that was opened under another number, does nothing.
     pub fn close(&mut self, by: u64, id: SubId)
-        ensures queues { (bare self.new).queues ≡ without_by by id (bare self.old).queues }
-        ensures gone { is_owned by id (bare self.old).queues ≡ true → queue_at id (bare self.new).queues ≡ None }
+        ensures queues { (without_rings self.new).queues ≡ remove_queue_by by id (without_rings self.old).queues }
+        ensures gone { is_open_by by id (without_rings self.old).queues ≡ true
+            → queue_at id (without_rings self.new).queues ≡ None }
         ensures next { self.new.next ≡ self.old.next }
-        ensures rings { self.new.queues ≡ without_ringed_by by id self.old.queues }
-        ensures fit { (log : List PlainEntry) → FitLog log self.old.queues → FitLog log self.new.queues }
+        ensures rings { self.new.queues ≡ remove_ringed_queue_by by id self.old.queues }
+        ensures fit { (log : List PlainEntry) → AreRingsOfLog log self.old.queues → AreRingsOfLog log self.new.queues }
     {
         if self.owns(by, id) {
             self.remove(id);
@@ -207,7 +210,7 @@ impl Queues {
     /// The number that an open queue was opened under: `None` where no open queue has the number `id`. It
     /// takes no memory.
     pub fn owner(&self, id: SubId) -> Option<u64>
-        ensures { result ≡ option_map (λ w. w.by) (queue_at id (bare self.now).queues) }
+        ensures { result ≡ option_map (λ w. w.by) (queue_at id (without_rings self.now).queues) }
     {
         match self.queues.get(&id.number) {
             Some(queue) => Some(queue.by()),
@@ -217,7 +220,7 @@ impl Queues {
 
     // Whether the queue is open, and was opened under the number.
     fn owns(&self, by: u64, id: SubId) -> bool
-        ensures { result ≡ is_owned by id (bare self.now).queues }
+        ensures { result ≡ is_open_by by id (without_rings self.now).queues }
     {
         match self.owner(id) {
             Some(owner) => owner == by,
@@ -227,19 +230,19 @@ impl Queues {
 
     // Closes a queue, whoever opened it.
     fn remove(&mut self, id: SubId)
-        ensures gone { queue_at id (bare self.new).queues ≡ None }
-        ensures queues { (bare self.new).queues ≡ without id (bare self.old).queues }
+        ensures gone { queue_at id (without_rings self.new).queues ≡ None }
+        ensures queues { (without_rings self.new).queues ≡ remove_queue id (without_rings self.old).queues }
         ensures next { self.new.next ≡ self.old.next }
         ensures rings { self.new.queues ≡ remove_entry (nat_eq id) self.old.queues }
-        ensures fit { (log : List PlainEntry) → FitLog log self.old.queues → FitLog log self.new.queues }
+        ensures fit { (log : List PlainEntry) → AreRingsOfLog log self.old.queues → AreRingsOfLog log self.new.queues }
     {
         drop(self.queues.remove(&id.number));
-        free_empty(&mut self.queues);
+        release_if_empty(&mut self.queues);
     }
 }
 
 // A map that was emptied keeps a block until it is cleared.
-fn free_empty(queues: &mut BTreeMap<u64, Queue>)
+fn release_if_empty(queues: &mut BTreeMap<u64, Queue>)
     ensures { queues.new.entries ≡ queues.old.entries }
 {
     if queues.is_empty() {
@@ -248,20 +251,21 @@ fn free_empty(queues: &mut BTreeMap<u64, Queue>)
 }
 
 // Takes the next entries of the queue of this number. After want of memory all is unchanged.
-fn take_from(
+fn take_from_queue(
     queues: &mut BTreeMap<u64, Queue>,
     alloc: Global,
     log: &Log,
     number: u64,
     max: u64,
 ) -> Result<Option<Vec<Entry>>, AllocError>
-    requires { FitLog log.now queues.old.entries }
+    requires { AreRingsOfLog log.now queues.old.entries }
     ensures entries { IfOk result
-        (λ v. option_map (λ es. es.items) v ≡ taken_from log.now number max (bare_queues queues.old.entries)) }
-    ensures rings { OnOk result (queues.new.entries ≡ after_take_ringed log.now number max queues.old.entries) }
+        (λ v. option_map (λ es. es.items) v
+        ≡ take_result log.now number max (queues_without_rings queues.old.entries)) }
+    ensures rings { OnOk result (queues.new.entries ≡ ringed_queues_after_take log.now number max queues.old.entries) }
     ensures err { OnErr result (queues.new.entries ≡ queues.old.entries) }
     ensures some { OnErr result
-        (0 < length (unwrap_or (taken_from log.now number max (bare_queues queues.old.entries)) [])) }
+        (0 < length (unwrap_or (take_result log.now number max (queues_without_rings queues.old.entries)) [])) }
     ensures numbers { keys_of queues.new.entries ≡ keys_of queues.old.entries }
 {
     match queues.get_mut(&number) {

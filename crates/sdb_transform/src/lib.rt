@@ -2,21 +2,21 @@
 //! `cross` and `transform` for two operations, and the laws that hold of them.
 #![tactic(auto)]
 
-mod components;
-mod crossing;
-mod foreseen;
+mod classify;
+mod classify_act;
+mod commutes;
+mod component_list;
+mod component_transform;
+mod cross_stack;
 pub mod laws;
-mod lists;
-mod objects;
-mod outlook;
-mod paths;
-mod removed;
+mod op_transform;
+mod path_transform;
+mod removed_value;
+mod rewrite_list;
+mod rewrite_object;
+mod rewrite_text;
 mod side;
-mod staying;
-mod texts;
-mod transforming;
-mod turns;
 
-pub use crossing::{Crossed, cross, transform, transform_given, transform_or_stay};
+pub use component_transform::transform_one;
+pub use op_transform::{Crossed, cross, transform, transform_if_changed, transform_owned};
 pub use side::{Fault, Side};
-pub use transforming::transform_one;

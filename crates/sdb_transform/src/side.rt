@@ -1,6 +1,6 @@
 //! Sides, faults, and what comes of one act.
 ghost use Rattle.std.specs.Prelude.{◌≡◌};
-ghost use Rattle.sdb_transform.specs.Acts.{opposite};
+ghost use Rattle.sdb_transform.specs.ActModel.{opposite};
 
 use sdb_component::Act;
 use std::alloc::{AllocError, AllocFailed};
@@ -35,34 +35,34 @@ pub enum Fault {
     NotTransformed,
     /// A growth was refused: E10.
     #[error("out of memory")]
-    Memory,
+    OutOfMemory,
 }
 
 impl From<AllocError> for Fault {
     ghost use Rattle.std.specs.Prelude.{◌≡◌};
-    ghost use Rattle.sdb_transform.specs.declared.side.Fault.TheVariants.{Memory};
+    ghost use Rattle.sdb_transform.specs.declared.side.Fault.TheVariants.{OutOfMemory};
 
-    ghost from_gives = { λ _ f. f ≡ Memory };
+    ghost from_gives = { λ _ f. f ≡ OutOfMemory };
 
     fn from(_error: AllocError) -> Fault {
-        Fault::Memory
+        Fault::OutOfMemory
     }
 }
 
 impl<T: Drop> From<AllocFailed<T>> for Fault {
     ghost use Rattle.std.specs.Prelude.{◌≡◌};
-    ghost use Rattle.sdb_transform.specs.declared.side.Fault.TheVariants.{Memory};
+    ghost use Rattle.sdb_transform.specs.declared.side.Fault.TheVariants.{OutOfMemory};
 
-    ghost from_gives = { λ _ f. f ≡ Memory };
+    ghost from_gives = { λ _ f. f ≡ OutOfMemory };
 
     fn from(_error: AllocFailed<T>) -> Fault {
-        Fault::Memory
+        Fault::OutOfMemory
     }
 }
 
 // What remains of one act after another.
 #[derive(Drop)]
-pub(crate) enum Remaining {
+pub(crate) enum RemainingActs {
     Dropped,
     One(Act),
     Two(Act, Act),

@@ -1,8 +1,8 @@
 -- The types that a `Json` holds, as the logic holds them, for the clauses on what a `&mut` lends.
 use denote.RattleType.{RattleType}
-use Rattle.sdb_pieces.specs.contracts.pieces.Pieces as pieces
-use Rattle.sdb_members.specs.contracts.members.Members as members
-use Rattle.sdb_text.specs.contracts.text.Text as text
+use Rattle.sdb_chunks.specs.contracts.chunked_vec.ChunkedVec as pieces
+use Rattle.sdb_sorted_map.specs.contracts.sorted_map.SortedMap as members
+use Rattle.sdb_rope.specs.contracts.rope.Rope as text
 use Rattle.sdb_value.specs.contracts.value.Json.{the_row}
 
 abbrev pub json_row : RattleType

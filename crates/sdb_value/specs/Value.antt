@@ -27,13 +27,13 @@ pub data PlainStep : Type 0 where
   key : List ℕ → PlainStep
   index : ℕ → PlainStep
 
-abbrev pub same_text : List ℕ → List ℕ → Bool
-same_text k l = is_eq (slice_cmp nat_cmp k l)
+abbrev pub texts_equal : List ℕ → List ℕ → Bool
+texts_equal k l = is_eq (slice_cmp nat_cmp k l)
 
-abbrev pub same_step : PlainStep → PlainStep → Bool
-same_step (key k) (key l) = same_text k l
-same_step (index i) (index j) = nat_eq i j
-same_step _ _ = false
+abbrev pub steps_equal : PlainStep → PlainStep → Bool
+steps_equal (key k) (key l) = texts_equal k l
+steps_equal (index i) (index j) = nat_eq i j
+steps_equal _ _ = false
 
 -- the item at i, the member at k
 abbrev pub item_at : ℕ → Items → Option Value
@@ -43,7 +43,7 @@ item_at (suc i) (item d ds) = item_at i ds
 
 abbrev pub member_at : List ℕ → Members → Option Value
 member_at k no_members = None
-member_at k (member l d ms) = cond (same_text k l) (Some d) (member_at k ms)
+member_at k (member l d ms) = cond (texts_equal k l) (Some d) (member_at k ms)
 
 -- the same, with u in its place
 abbrev pub set_item : ℕ → Items → Value → Items
@@ -53,24 +53,24 @@ set_item (suc i) (item d ds) u = item d (set_item i ds u)
 
 abbrev pub set_member : List ℕ → Members → Value → Members
 set_member k no_members u = no_members
-set_member k (member l d ms) u = cond (same_text k l) (member l u ms) (member l d (set_member k ms u))
+set_member k (member l d ms) u = cond (texts_equal k l) (member l u ms) (member l d (set_member k ms u))
 
 -- the members, with u at k: an equal key takes u, and a new one goes to its place in the order of bytes
-abbrev pub put : List ℕ → Value → Members → Members
-put k u no_members = member k u no_members
-put k u (member l d ms) =
-    match_ordering (slice_cmp nat_cmp k l) (member k u (member l d ms)) (member l u ms) (member l d (put k u ms))
+abbrev pub put_member : List ℕ → Value → Members → Members
+put_member k u no_members = member k u no_members
+put_member k u (member l d ms) =
+    match_ordering (slice_cmp nat_cmp k l) (member k u (member l d ms)) (member l u ms) (member l d (put_member k u ms))
 
 -- the members without k
-abbrev pub without : List ℕ → Members → Members
-without k no_members = no_members
-without k (member l d ms) = cond (same_text k l) ms (member l d (without k ms))
+abbrev pub without_member : List ℕ → Members → Members
+without_member k no_members = no_members
+without_member k (member l d ms) = cond (texts_equal k l) ms (member l d (without_member k ms))
 
 -- ---- lists, as joined pieces
 
-abbrev pub count : Items → ℕ
-count no_items = 0
-count (item d ds) = suc (count ds)
+abbrev pub item_count : Items → ℕ
+item_count no_items = 0
+item_count (item d ds) = suc (item_count ds)
 
 -- the first i items, and those from i on
 abbrev pub take_items : ℕ → Items → Items
@@ -83,22 +83,22 @@ drop_items zero ds = ds
 drop_items (suc i) no_items = no_items
 drop_items (suc i) (item d ds) = drop_items i ds
 
-abbrev pub join : Items → Items → Items
-join no_items es = es
-join (item d ds) es = item d (join ds es)
+abbrev pub append_items : Items → Items → Items
+append_items no_items es = es
+append_items (item d ds) es = item d (append_items ds es)
 
 -- u stands at i, and the items from i on follow; i is up to the length
 abbrev pub insert_item : ℕ → Value → Items → Option Items
-insert_item i u ds = if nat_le i (count ds) then Some (join (take_items i ds) (item u (drop_items i ds))) else None
+insert_item i u ds = if nat_le i (item_count ds) then Some (append_items (take_items i ds) (item u (drop_items i ds))) else None
 
 -- the item at i is taken out
 abbrev pub remove_item : ℕ → Items → Option Items
-remove_item i ds = if nat_lt i (count ds) then Some (join (take_items i ds) (drop_items (suc i) ds)) else None
+remove_item i ds = if nat_lt i (item_count ds) then Some (append_items (take_items i ds) (drop_items (suc i) ds)) else None
 
 -- the item at i becomes u
 abbrev pub replace_item : ℕ → Value → Items → Option Items
 replace_item i u ds =
-    if nat_lt i (count ds) then Some (join (take_items i ds) (item u (drop_items (suc i) ds))) else None
+    if nat_lt i (item_count ds) then Some (append_items (take_items i ds) (item u (drop_items (suc i) ds))) else None
 
 -- how deep lists and objects nest
 abbrev mutual
@@ -132,23 +132,23 @@ as_object (object ms) = Some ms
 as_object _ = None
 
 -- one step down
-abbrev pub one : PlainStep → Value → Option Value
-one (index i) (list ds) = item_at i ds
-one (key k) (object ms) = member_at k ms
-one _ _ = None
+abbrev pub child : PlainStep → Value → Option Value
+child (index i) (list ds) = item_at i ds
+child (key k) (object ms) = member_at k ms
+child _ _ = None
 
 -- d with what lies one step down replaced
-abbrev pub with_one : PlainStep → Value → Value → Value
-with_one (index i) (list ds) u = list (set_item i ds u)
-with_one (key k) (object ms) u = object (set_member k ms u)
-with_one _ d u = d
+abbrev pub with_child : PlainStep → Value → Value → Value
+with_child (index i) (list ds) u = list (set_item i ds u)
+with_child (key k) (object ms) u = object (set_member k ms u)
+with_child _ d u = d
 
--- `Place`: the value at the path p, if any
-abbrev pub at : Value → List PlainStep → Option Value
-at d [] = Some d
-at d (w ∷ p) = option_and_then (λ c. at c p) (one w d)
+-- `ThreadSlot`: the value at the path p, if any
+abbrev pub value_at : Value → List PlainStep → Option Value
+value_at d [] = Some d
+value_at d (w ∷ p) = option_and_then (λ c. value_at c p) (child w d)
 
--- `Place`: d with the one place at p replaced by u
-abbrev pub with : Value → List PlainStep → Value → Value
-with d [] u = u
-with d (w ∷ p) u = option_map_or (λ c. with_one w d (with c p u)) (one w d) d
+-- `ThreadSlot`: d with the one place at p replaced by u
+abbrev pub with_value_at : Value → List PlainStep → Value → Value
+with_value_at d [] u = u
+with_value_at d (w ∷ p) u = option_map_or (λ c. with_child w d (with_value_at c p u)) (child w d) d

@@ -12,9 +12,9 @@ abbrev pub IsInRange : ℤ → Type 0
 IsInRange z = (negsuc 9007199254740990 ≤ℤ z) × (z ≤ℤ pos 9007199254740991)
 
 -- the key is below each of the members' keys
-abbrev pub IsBelow : List ℕ → Members → Type 0
-IsBelow k no_members = ⊤
-IsBelow k (member l d ms) = (slice_cmp nat_cmp k l ≡ Less) × IsBelow k ms
+abbrev pub IsKeyBelowAll : List ℕ → Members → Type 0
+IsKeyBelowAll k no_members = ⊤
+IsKeyBelowAll k (member l d ms) = (slice_cmp nat_cmp k l ≡ Less) × IsKeyBelowAll k ms
 
 abbrev mutual
   pub IsWellFormed : Value → Type 0
@@ -31,4 +31,4 @@ abbrev mutual
 
   pub MembersWellFormed : Members → Type 0
   MembersWellFormed no_members = ⊤
-  MembersWellFormed (member k d ms) = IsUtf8 k × IsWellFormed d × IsBelow k ms × MembersWellFormed ms
+  MembersWellFormed (member k d ms) = IsUtf8 k × IsWellFormed d × IsKeyBelowAll k ms × MembersWellFormed ms

@@ -1,30 +1,30 @@
 //! JSON values of whole numbers, the places in them, and texts measured in UTF-16 units.
 #![tactic(auto)]
 
-mod comparing;
-mod convert;
-mod copy;
+mod clone_modes;
+mod depth_and_size;
+mod equality;
+mod freeze;
+mod from_json;
+mod inner_mut;
 pub mod laws;
-mod lends;
-mod lists;
-mod measures;
-mod members;
+mod list_edits;
 mod numbers;
-mod places;
-mod print;
-mod share;
+mod object_edits;
+mod path;
+mod to_json;
 mod value;
-mod writing;
+mod write;
 
-pub use comparing::{same_path, same_value};
-pub use convert::{ValueFault, from_value};
-pub use lends::{list_mut, object_mut, text_mut};
-pub use lists::{insert_item, remove_item, replace_item};
-pub use members::{put_at_key, remove_at_key};
+pub use equality::{paths_equal, values_equal};
+pub use from_json::{ValueFault, from_value};
+pub use inner_mut::{list_mut, object_mut, text_mut};
+pub use list_edits::{insert_item, remove_item, replace_item};
 pub use numbers::{MAX, count_of, whole_of};
-pub use places::{Change, Path, Step, change_at, find, find_mut};
-pub use print::to_value;
-pub use sdb_text::Text;
-pub use sdb_text::units::{cut_at, units};
+pub use object_edits::{put_at_key, remove_at_key};
+pub use path::{Change, Path, Step, change_at, find, find_mut};
+pub use sdb_rope::Rope;
+pub use sdb_rope::utf16::{cut_at, units};
+pub use to_json::to_value;
 pub use value::{Json, List, Members, Whole};
-pub use writing::write_value;
+pub use write::write_value;

@@ -1,6 +1,6 @@
 //! Whole numbers as JSON has them.
 ghost use Rattle.std.specs.Prelude.{◌≡◌};
-ghost use Rattle.sdb_value.specs.Profile.{count_of, whole_of};
+ghost use Rattle.sdb_value.specs.FromJson.{count_of, whole_of};
 ghost use Rattle.serde_json.specs.View.{number_view};
 
 use crate::value::Whole;

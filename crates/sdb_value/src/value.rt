@@ -1,17 +1,17 @@
 //! What a document holds.
 ghost use Rattle.std.specs.Prelude.{◌≡◌, ◌+ℤ◌, IfOk, IsFalse, IsTrue, OnOk, map, min, option_map, true};
-ghost use Rattle.sdb_value.specs.Owns.{all_true, is_own, is_pointer, is_shared_value, map_own, object_own};
-ghost use Rattle.sdb_value.specs.Profile.{in_range};
+ghost use Rattle.sdb_value.specs.Uniqueness.{all_true, is_unique, is_frozen, is_shared_json, map_unique, object_unique};
+ghost use Rattle.sdb_value.specs.FromJson.{checked_whole};
 ghost use Rattle.sdb_value.specs.Size.{size};
 ghost use Rattle.sdb_value.specs.Value.{as_object, depth, list, null, object};
-ghost use Rattle.sdb_value.specs.View.{view, items_view, map_view, object_view};
+ghost use Rattle.sdb_value.specs.View.{value_of, items_value, map_value, object_value};
 
-use crate::copy::{Manner, copy, share_copy, shared_copy};
-use crate::measures::{depth_of, size_of};
+use crate::clone_modes::{CloneMode, clone_frozen, clone_preserving, copy};
+use crate::depth_and_size::{depth_of, size_of};
+use crate::freeze::freeze_value;
 use crate::numbers::MAX;
-use crate::share::share;
-use sdb_pieces::{Pieces, Share};
-use sdb_text::Text;
+use sdb_chunks::{ChunkedVec, TryClone};
+use sdb_rope::Rope;
 use std::alloc::{AllocError, Global};
 use std::collections::BTreeMap;
 use std::marker::Model;
@@ -42,7 +42,7 @@ impl Whole {
     /// The whole number of this value, or `None` where it is below -9007199254740991 or above
     /// 9007199254740991.
     pub fn new(value: i64) -> Option<Whole>
-        ensures { result ≡ in_range value }
+        ensures { result ≡ checked_whole value }
     {
         if value < -Whole::MAX || value > Whole::MAX {
             return None;
@@ -58,18 +58,18 @@ impl Whole {
     }
 
     /// The sum, or `None` where it is below -9007199254740991 or above 9007199254740991.
-    pub fn plus(self, other: Whole) -> Option<Whole>
-        ensures { result ≡ in_range (self +ℤ other) }
+    pub fn checked_add(self, other: Whole) -> Option<Whole>
+        ensures { result ≡ checked_whole (self +ℤ other) }
     {
         Whole::new(self.get() + other.get())
     }
 }
 
 /// The items of a list, in pieces that copies share.
-pub type List = Pieces<Json>;
+pub type List = ChunkedVec<Json>;
 
 /// The members of an object, in the order of their keys' bytes, in pieces that copies share.
-pub type Members = sdb_members::Members<Json>;
+pub type Members = sdb_sorted_map::SortedMap<Json>;
 
 /// A value of a document (RFC 8259, section 3), its numbers whole. Its texts, lists and objects are its own,
 /// or shared with copies: a change copies what is shared on its way, and changes what is own in place.
@@ -81,7 +81,7 @@ pub enum Json {
     /// A number, whole and within ±9007199254740991.
     Int(Whole),
     /// A text. Its offsets count UTF-16 units ([`crate::units`]).
-    Text(Text),
+    Text(Rope),
     /// A list, its items counted from 0.
     List(List),
     /// An object, its members in the order of their keys' bytes.
@@ -103,41 +103,41 @@ impl Drop for Json {
 impl Json {
     /// A list of these items, in the vector's own memory.
     pub fn list(items: Vec<Json>) -> Json
-        ensures value { view result ≡ list (items_view items.items) }
-        ensures own { all_true (map is_own items.items) ≡ true → is_own result ≡ true }
+        ensures value { value_of result ≡ list (items_value items.items) }
+        ensures own { all_true (map is_unique items.items) ≡ true → is_unique result ≡ true }
     {
-        Json::List(Pieces::from_vec(items))
+        Json::List(ChunkedVec::from_vec(items))
     }
 
     /// A list of these items, in pieces. Up to 20 stand in the vector's own memory. Fails only where memory is
     /// wanting.
-    pub fn list_of(alloc: Global, items: Vec<Json>) -> Result<Json, AllocError>
-        ensures value { IfOk result (λ v. view v ≡ list (items_view items.items)) }
-        ensures own { all_true (map is_own items.items) ≡ true → IfOk result (λ v. is_own v ≡ true) }
+    pub fn from_items(alloc: Global, items: Vec<Json>) -> Result<Json, AllocError>
+        ensures value { IfOk result (λ v. value_of v ≡ list (items_value items.items)) }
+        ensures own { all_true (map is_unique items.items) ≡ true → IfOk result (λ v. is_unique v ≡ true) }
     {
-        Ok(Json::List(Pieces::in_blocks(alloc, items)?))
+        Ok(Json::List(ChunkedVec::from_vec_chunked(alloc, items)?))
     }
 
     /// An object of the members of a map. Fails only where memory is wanting.
     pub fn object(alloc: Global, members: BTreeMap<String, Json>) -> Result<Json, AllocError>
-        ensures value { IfOk result (λ v. view v ≡ object (map_view members.entries)) }
-        ensures own { map_own members.entries ≡ true → IfOk result (λ v. is_own v ≡ true) }
+        ensures value { IfOk result (λ v. value_of v ≡ object (map_value members.entries)) }
+        ensures own { map_unique members.entries ≡ true → IfOk result (λ v. is_unique v ≡ true) }
     {
-        Ok(Json::of_members(Members::from_map(alloc, members)?))
+        Ok(Json::from_members(Members::from_map(alloc, members)?))
     }
 
     /// An object of these members, as they are.
-    pub fn of_members(members: Members) -> Json
-        ensures value { view result ≡ object (object_view members) }
-        ensures own { is_own result ≡ object_own members }
+    pub fn from_members(members: Members) -> Json
+        ensures value { value_of result ≡ object (object_value members) }
+        ensures own { is_unique result ≡ object_unique members }
     {
         Json::Object(members)
     }
 
     /// Whether it is `null`.
     pub fn is_null(&self) -> bool
-        ensures null { IsTrue result → view self.now ≡ null }
-        ensures other { IsFalse result → view self.now ≡ null → ⊥ }
+        ensures null { IsTrue result → value_of self.now ≡ null }
+        ensures other { IsFalse result → value_of self.now ≡ null → ⊥ }
     {
         match self {
             Json::Null => true,
@@ -147,7 +147,7 @@ impl Json {
 
     /// Whether it is a text, a list or an object that is shared as a whole, so that a copy of it is a pointer.
     pub fn is_shared(&self) -> bool
-        ensures { result ≡ is_shared_value self.now }
+        ensures { result ≡ is_shared_json self.now }
     {
         match self {
             Json::Text(text) => text.is_shared(),
@@ -158,9 +158,9 @@ impl Json {
     }
 
     /// The members, or `None` where the value is no object.
-    #[tactic(auto, using(crate::proofs::Views::seen_object))]
+    #[tactic(auto, using(crate::proofs::ViewLemmas::seen_object))]
     pub fn members(&self) -> Option<&Members>
-        ensures { option_map (λ m. object_view m.now) result ≡ as_object (view self.now) }
+        ensures { option_map (λ m. object_value m.now) result ≡ as_object (value_of self.now) }
     {
         match self {
             Json::Object(members) => Some(members),
@@ -171,43 +171,43 @@ impl Json {
     /// The same value again: what is shared at the cost of a pointer, all else in memory of its own. Fails
     /// only where memory is wanting.
     pub fn try_clone(&self, alloc: Global) -> Result<Json, AllocError>
-        ensures value { IfOk result (λ v. view v ≡ view self.now) }
-        ensures own { IfOk result (λ v. is_own v ≡ is_own self.now) }
+        ensures value { IfOk result (λ v. value_of v ≡ value_of self.now) }
+        ensures own { IfOk result (λ v. is_unique v ≡ is_unique self.now) }
     {
-        share_copy(alloc, self)
+        clone_preserving(alloc, self)
     }
 
     /// The same value again, all of it in memory of its own. Fails only where memory is wanting.
-    pub fn own_copy(&self, alloc: Global) -> Result<Json, AllocError>
-        ensures value { IfOk result (λ v. view v ≡ view self.now) }
-        ensures own { IfOk result (λ v. is_own v ≡ true) }
+    pub fn deep_clone(&self, alloc: Global) -> Result<Json, AllocError>
+        ensures value { IfOk result (λ v. value_of v ≡ value_of self.now) }
+        ensures own { IfOk result (λ v. is_unique v ≡ true) }
     {
-        copy(alloc, self, Manner::Own)
+        copy(alloc, self, CloneMode::Unique)
     }
 
     /// The same value again, all of it shared, so that the next copy of it is a pointer. It costs what isn't
     /// shared yet. Fails only where memory is wanting.
-    pub fn shared_copy(&self, alloc: Global) -> Result<Json, AllocError>
-        ensures value { IfOk result (λ v. view v ≡ view self.now) }
-        ensures pointer { IfOk result (λ v. is_pointer v ≡ true) }
+    pub fn frozen_clone(&self, alloc: Global) -> Result<Json, AllocError>
+        ensures value { IfOk result (λ v. value_of v ≡ value_of self.now) }
+        ensures pointer { IfOk result (λ v. is_frozen v ≡ true) }
     {
-        shared_copy(alloc, self)
+        clone_frozen(alloc, self)
     }
 
     /// Makes all of it shared in place, so that a copy of it is a pointer. It costs a pointer for each text, list
     /// and object in it that isn't shared yet, and for each of their pieces, which are moved. What is shared already
     /// isn't looked into. Fails only where memory is wanting; the value is the same then.
-    pub fn share(&mut self, alloc: Global) -> Result<(), AllocError>
-        ensures value { view self.new ≡ view self.old }
-        ensures pointer { OnOk result (is_pointer self.new ≡ true) }
+    pub fn freeze(&mut self, alloc: Global) -> Result<(), AllocError>
+        ensures value { value_of self.new ≡ value_of self.old }
+        ensures pointer { OnOk result (is_frozen self.new ≡ true) }
     {
-        share(alloc, self)
+        freeze_value(alloc, self)
     }
 
     /// How deep lists and objects nest: 0 for a value that is neither, and for a list or an object
     /// one more than the deepest value in it. `u64::MAX` where that is more.
     pub fn depth(&self) -> u64
-        ensures { result ≡ min (depth (view self.now)) 18446744073709551615 }
+        ensures { result ≡ min (depth (value_of self.now)) 18446744073709551615 }
     {
         depth_of(self)
     }
@@ -215,22 +215,22 @@ impl Json {
     /// How much there is to copy, up to the limit: the number of values in it, itself too, and the
     /// bytes of its texts and keys. Where that is more, it is the limit, and the rest isn't looked at.
     pub fn size(&self, limit: u64) -> u64
-        ensures { result ≡ min limit (size (view self.now)) }
+        ensures { result ≡ min limit (size (value_of self.now)) }
     {
         size_of(self, limit)
     }
 }
 
-impl Share for Json {
+impl TryClone for Json {
     ghost use Rattle.std.specs.Prelude.{Bool};
     ghost use Rattle.sdb_value.specs.Value.{Value};
-    ghost use Rattle.sdb_value.specs.Owns.{seen};
+    ghost use Rattle.sdb_value.specs.Uniqueness.{value_model};
 
-    ghost Seen = { Value × Bool };
+    ghost Model = { Value × Bool };
 
-    ghost seen = { seen };
+    ghost model = { value_model };
 
-    fn share(&self, alloc: Global) -> Result<Json, AllocError> {
-        share_copy(alloc, self)
+    fn try_clone(&self, alloc: Global) -> Result<Json, AllocError> {
+        clone_preserving(alloc, self)
     }
 }

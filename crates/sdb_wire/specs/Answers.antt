@@ -4,24 +4,24 @@ use Rattle.json.specs.Token.{Token}
 use Rattle.serde_json.specs.Data.{Data, null, boolean, number, unsigned, string, object, Members, no_members, member}
 use Rattle.serde_json.specs.Written.{compact_text}
 use Rattle.sdb_value.specs.Value.{Value}
-use Rattle.sdb_value.specs.Printed.{data_tokens}
-use Rattle.sdb_value.specs.Profile.{to_data}
-use Rattle.sdb_component.specs.Prints.{op_data}
+use Rattle.sdb_value.specs.ToJson.{data_tokens}
+use Rattle.sdb_value.specs.FromJson.{data_of_value}
+use Rattle.sdb_component.specs.ToJson.{op_data}
 use Rattle.sdb_oplog.specs.Keys.{PlainKey}
 use Rattle.sdb_oplog.specs.Plain.{PlainContent, create, delete, edit, PlainEntry}
 use Rattle.sdb_oplog.specs.declared.codes.Code.{Code}
 use Rattle.sdb_oplog.specs.declared.codes.Code.TheVariants.{E1, E2, E3, E4, E5, E6, E7, E8, E9, E10, E11}
-use Rattle.sdb_wire.specs.Wire.{PlainEcho, PlainWord, text, count}
+use Rattle.sdb_wire.specs.Wire.{PlainEcho, PlainEchoValue, text, count}
 
 pub data PlainAnswer : Type 0 where
   -- the session's source
   init : List ℕ → PlainAnswer
   -- the session's source, to a client that said who it is
-  named : List ℕ → PlainAnswer
+  hello_ack : List ℕ → PlainAnswer
   -- the present version, and the document there
   fetched : PlainKey → ℕ → Option Value → PlainAnswer
   -- the end of a list of stored operations
-  listed : PlainKey → PlainAnswer
+  list_end : PlainKey → PlainAnswer
   -- the present version and the document there, to a subscriber
   subscribed : PlainKey → ℕ → Option Value → PlainAnswer
   -- the end of the list of stored operations, to a subscriber
@@ -30,7 +30,7 @@ pub data PlainAnswer : Type 0 where
   -- the number of the request, a version, and the document there
   snapshot : ℕ → ℕ → Option Value → PlainAnswer
   -- the same, to a request that names a moment
-  at_time : ℕ → ℕ → Option Value → PlainAnswer
+  snapshot_at_time : ℕ → ℕ → Option Value → PlainAnswer
   -- a stored operation
   op_message : PlainKey → PlainEntry → PlainAnswer
   -- a submission of this source and number is stored at this version
@@ -68,17 +68,17 @@ snapshot_data v None = object (
     member (codes "type") null
     (member (codes "v") (number (unsigned v)) no_members))
 snapshot_data v (Some d) = object (
-    member (codes "data") (to_data d)
+    member (codes "data") (data_of_value d)
     (member (codes "v") (number (unsigned v)) no_members))
 
-abbrev pub word_data : PlainWord → Data
-word_data (text s) = string s
-word_data (count n) = number (unsigned n)
+abbrev pub echo_value_data : PlainEchoValue → Data
+echo_value_data (text s) = string s
+echo_value_data (count n) = number (unsigned n)
 
 -- a member before the others, unless it is none
-abbrev pub some_member : List ℕ → Option PlainWord → Members → Members
-some_member k None ms = ms
-some_member k (Some w) ms = member k (word_data w) ms
+abbrev pub push_member : List ℕ → Option PlainEchoValue → Members → Members
+push_member k None ms = ms
+push_member k (Some w) ms = member k (echo_value_data w) ms
 
 abbrev pub error_data : Code → Data
 error_data e = object (
@@ -91,7 +91,7 @@ type_data = string (codes "http://sharejs.org/types/JSONv0")
 -- ---- a stored operation
 
 abbrev pub create_data : Value → Data
-create_data v = object (member (codes "data") (to_data v) (member (codes "type") type_data no_members))
+create_data v = object (member (codes "data") (data_of_value v) (member (codes "type") type_data no_members))
 
 -- what follows the content
 abbrev pub op_tail : PlainEntry → Members
@@ -130,8 +130,8 @@ with_content e m = record { version = e.version; moment = e.moment; content = m;
 
 -- ---- answers that differ by their word
 
-abbrev pub greeting_data : List ℕ → List ℕ → Data
-greeting_data a src = object (
+abbrev pub hello_data : List ℕ → List ℕ → Data
+hello_data a src = object (
     member (codes "a") (string a)
     (member (codes "id") (string src)
     (member (codes "protocol") (number (unsigned 1))
@@ -159,7 +159,7 @@ version_data a n v None = object (
     (member (codes "v") (number (unsigned v)) no_members))))
 version_data a n v (Some d) = object (
     member (codes "a") (string a)
-    (member (codes "data") (to_data d)
+    (member (codes "data") (data_of_value d)
     (member (codes "id") (number (unsigned n))
     (member (codes "type") type_data
     (member (codes "v") (number (unsigned v)) no_members)))))
@@ -167,15 +167,15 @@ version_data a n v (Some d) = object (
 -- ---- answers
 
 abbrev pub answer_data : PlainAnswer → Data
-answer_data (init src) = greeting_data (codes "init") src
-answer_data (named src) = greeting_data (codes "hs") src
+answer_data (init src) = hello_data (codes "init") src
+answer_data (hello_ack src) = hello_data (codes "hs") src
 answer_data (fetched k v d) = document_data (codes "f") k v d
-answer_data (listed k) = key_data (codes "f") k
+answer_data (list_end k) = key_data (codes "f") k
 answer_data (subscribed k v d) = document_data (codes "s") k v d
 answer_data (caught_up k) = key_data (codes "s") k
 answer_data (unsubscribed k) = key_data (codes "u") k
 answer_data (snapshot n v d) = version_data (codes "nf") n v d
-answer_data (at_time n v d) = version_data (codes "nt") n v d
+answer_data (snapshot_at_time n v d) = version_data (codes "nt") n v d
 answer_data (op_message k e) = object (
     member (codes "a") (string (codes "op"))
     (content_members k e.content (op_tail e)))
@@ -187,13 +187,13 @@ answer_data (acknowledged k src seq v) = object (
     (member (codes "src") (string src)
     (member (codes "v") (number (unsigned v)) no_members))))))
 answer_data (failed s e) = object (
-    some_member (codes "a") s.a
-    (some_member (codes "c") s.c
-    (some_member (codes "d") s.d
+    push_member (codes "a") s.a
+    (push_member (codes "c") s.c
+    (push_member (codes "d") s.d
     (member (codes "error") (error_data e)
-    (some_member (codes "id") s.id
-    (some_member (codes "seq") s.seq
-    (some_member (codes "src") s.src no_members)))))))
+    (push_member (codes "id") s.id
+    (push_member (codes "seq") s.seq
+    (push_member (codes "src") s.src no_members)))))))
 
 abbrev pub answer_text : PlainAnswer → List ℕ
 answer_text a = compact_text (answer_data a)

@@ -11,5 +11,5 @@ key_code =
     code_by (List ℕ × List ℕ) (coded× text_code text_code) (λ k. (k.collection, k.id))
     (λ p. record { collection = p.0; id = p.1 }) (λ _. refl)
 
-abbrev pub told_code : Coded (PlainKey × PlainEntry)
-told_code = coded× key_code entry_code
+abbrev pub op_text_code : Coded (PlainKey × PlainEntry)
+op_text_code = coded× key_code entry_code

@@ -1,5 +1,5 @@
 pub mod Answers
 pub mod Coding
-pub mod Pieces
+pub mod FastPath
 pub mod View
 pub mod Wire

@@ -8,7 +8,7 @@ use std::alloc::AllocError;
 
 /// The code, where it refuses what was asked. E10 refuses nothing: it is want of memory, and becomes the
 /// allocator's error again.
-pub fn refusal(code: Code) -> Result<Code, AllocError>
+pub fn refusal_code(code: Code) -> Result<Code, AllocError>
     ensures code { IfOk result (λ c. c ≡ code) }
     ensures refuses { OnOk result (code ≡ E10 → ⊥) }
     ensures memory { OnErr result (code ≡ E10) }

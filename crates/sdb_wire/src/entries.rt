@@ -2,10 +2,10 @@
 ghost use Rattle.std.specs.Prelude.{◌≡◌, IfOk, OnOk};
 ghost use Rattle.serde_json.specs.Data.{no_members};
 ghost use Rattle.serde_json.specs.View.{view as data_view, members_view};
-ghost use Rattle.sdb_value.specs.View.{view};
+ghost use Rattle.sdb_value.specs.View.{value_of};
 ghost use Rattle.sdb_wire.specs.Answers.{create_data, entry_data, entry_members, op_tail};
 
-use crate::requests::TYPE;
+use crate::message::TYPE;
 use sdb_component::op_value;
 use sdb_oplog::{Entry, Kind};
 use sdb_value::{Json, to_value};
@@ -19,13 +19,13 @@ pub fn entry_value(alloc: Global, entry: &Entry) -> Result<Value, AllocError>
     ensures { IfOk result (λ v. data_view v ≡ entry_data entry.now) }
 {
     let mut members = BTreeMap::new(alloc);
-    put_tail(alloc, &mut members, entry)?;
-    put_content(alloc, &mut members, entry)?;
+    push_tail(alloc, &mut members, entry)?;
+    push_content(alloc, &mut members, entry)?;
     Ok(Value::Object(members))
 }
 
 // The number, the source and the version, put to no members.
-fn put_tail(
+fn push_tail(
     alloc: Global,
     members: &mut Map<String, Value>,
     entry: &Entry,
@@ -40,7 +40,7 @@ fn put_tail(
 }
 
 // The content, put to what follows it.
-fn put_content(
+fn push_content(
     alloc: Global,
     members: &mut Map<String, Value>,
     entry: &Entry,
@@ -56,7 +56,7 @@ fn put_content(
 }
 
 fn create_value(alloc: Global, value: &Json) -> Result<Value, AllocError>
-    ensures { IfOk result (λ v. data_view v ≡ create_data (view value.now)) }
+    ensures { IfOk result (λ v. data_view v ≡ create_data (value_of value.now)) }
 {
     let data = to_value(alloc, value)?;
     json!(in alloc; {"data": data, "type": TYPE})

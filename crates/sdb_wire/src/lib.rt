@@ -3,18 +3,24 @@
 
 mod codes;
 mod entries;
-mod members;
+mod escape_free;
+mod fast_path;
+mod fields;
+mod message;
 mod op_text;
-mod pieces;
-mod plain;
-mod reading;
-mod replies;
-mod requests;
+mod read;
+mod write;
 
-pub use codes::refusal;
+pub use codes::refusal_code;
 pub use entries::entry_value;
-pub use members::{count_at, may_count, may_moment, moment_of, need_name};
+pub use fields::{count_field, moment_of, optional_count, optional_moment, required_name};
+pub use message::{
+    Answer, BadMessage, Echo, EchoValue, MESSAGE_LIMIT, Message, NAME_LIMIT, Request,
+};
 pub use op_text::OpText;
-pub use reading::{echo_of, key_of, no_echo, parse_message, read_content, read_message, value_of};
-pub use replies::{reply_text, write_count, write_create, write_entry, write_reply, write_text};
-pub use requests::{Answer, BadMessage, Echo, MESSAGE_LIMIT, Message, NAME_LIMIT, Request, Word};
+pub use read::{
+    echo_of, empty_echo, parse_message, parse_tree, read_content, read_key, read_message,
+};
+pub use write::{
+    append_answer_text, reply_text, write_count, write_create, write_entry, write_text,
+};

@@ -3,9 +3,9 @@ ghost use Rattle.std.specs.Prelude.{◌≡◌, IfOk, IsFalse, IsTrue};
 ghost use Rattle.sdb_oplog.specs.Keys.{plain_key};
 ghost use Rattle.sdb_wire.specs.Answers.{answer_text, op_message};
 
-use crate::replies::reply_text;
-use crate::requests::Answer;
-use sdb_oplog::{Entry, Key, same_entries};
+use crate::message::Answer;
+use crate::write::reply_text;
+use sdb_oplog::{Entry, Key, entries_equal};
 use std::alloc::{AllocError, Global};
 use std::marker::Model;
 use std::slice;
@@ -23,11 +23,11 @@ impl Model for OpText {
     ghost use Rattle.sdb_oplog.specs.Keys.{PlainKey, plain_key};
     ghost use Rattle.sdb_oplog.specs.Plain.{PlainEntry};
     ghost use Rattle.sdb_wire.specs.Answers.{answer_text, op_message};
-    ghost use Rattle.sdb_wire.specs.Coding.{told_code};
+    ghost use Rattle.sdb_wire.specs.Coding.{op_text_code};
 
     ghost Value = { PlainKey × PlainEntry };
 
-    ghost coded = { told_code };
+    ghost coded = { op_text_code };
 
     ghost view = { λ t. (plain_key t.key, t.entry) };
 
@@ -53,13 +53,13 @@ impl OpText {
     }
 
     /// Whether it tells this entry of this document. It takes no memory.
-    pub fn tells(&self, key: &Key, entry: &Entry) -> bool
+    pub fn is_text_of(&self, key: &Key, entry: &Entry) -> bool
         ensures same { IsTrue result → self.now ≡ (plain_key key.now, entry.now) }
         ensures other { IsFalse result → self.now ≡ (plain_key key.now, entry.now) → ⊥ }
     {
         self.key.id == key.id
             && self.key.collection == key.collection
-            && same_entries(slice::from_ref(&self.entry), slice::from_ref(entry))
+            && entries_equal(slice::from_ref(&self.entry), slice::from_ref(entry))
     }
 
     /// The text.

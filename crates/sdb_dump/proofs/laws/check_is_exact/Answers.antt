@@ -1,4 +1,4 @@
-use Rattle.sdb_dump.proofs.Checks.{check_sound, check_complete}
+use Rattle.sdb_dump.proofs.CheckLemmas.{check_sound, check_complete}
 use Rattle.sdb_dump.proofs.laws.check_is_exact.Goals as goal
 
 pub returns : goal.returns

@@ -1,4 +1,4 @@
-use Rattle.sdb_dump.proofs.ReadBack.{line_reads_back}
+use Rattle.sdb_dump.proofs.ReadBackEntries.{line_reads_back}
 use Rattle.sdb_dump.proofs.laws.line_reads_back.Goals as goal
 
 pub returns : goal.returns

@@ -1,4 +1,4 @@
-use Rattle.sdb_dump.proofs.Listing.{logs_are_dumped}
+use Rattle.sdb_dump.proofs.ListingLemmas.{logs_are_dumped}
 use Rattle.sdb_dump.proofs.laws.logs_are_dumped.Goals as goal
 
 pub returns : goal.returns

@@ -1,4 +1,4 @@
-use Rattle.sdb_dump.proofs.Stages.{staged_is}
+use Rattle.sdb_dump.proofs.CheckStageLemmas.{staged_is}
 use Rattle.sdb_dump.proofs.laws.stages_are_check.Goals as goal
 
 pub returns : goal.returns

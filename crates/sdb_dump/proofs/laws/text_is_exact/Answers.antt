@@ -1,4 +1,4 @@
-use Rattle.sdb_dump.proofs.Cutting.{text_accepted, text_only}
+use Rattle.sdb_dump.proofs.LineSplitLemmas.{text_accepted, text_only}
 use Rattle.sdb_dump.proofs.laws.text_is_exact.Goals as goal
 
 pub returns : goal.returns

@@ -1,4 +1,4 @@
-use Rattle.sdb_dump.proofs.Listing.{text_is_of_logs}
+use Rattle.sdb_dump.proofs.ListingLemmas.{text_is_of_logs}
 use Rattle.sdb_dump.proofs.laws.text_is_of_logs.Goals as goal
 
 pub returns : goal.returns

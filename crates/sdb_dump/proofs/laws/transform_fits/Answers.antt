@@ -1,4 +1,4 @@
-use Rattle.sdb_dump.proofs.Acts.{transform_fits}
+use Rattle.sdb_dump.proofs.ActLimitLemmas.{transform_fits}
 use Rattle.sdb_dump.proofs.laws.transform_fits.Goals as goal
 
 pub returns : goal.returns

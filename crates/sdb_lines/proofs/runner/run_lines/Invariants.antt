@@ -1,5 +1,5 @@
 use Rattle.std.proofs.Common.{◌≡◌, ◌+◌, ◌-◌, ◌*◌, ◌^◌, ◌≤◌, length, min, []}
-use Rattle.sdb_lines.proofs.Progress.{Went}
+use Rattle.sdb_lines.proofs.ProgressLemmas.{RunProgress}
 use Rattle.sdb_lines.proofs.runner.run_lines.Given as goal
 
 abbrev pub invariant-loop-turn : goal.invariant-loop-turn
@@ -11,6 +11,6 @@ invariant-loop-turn g l = record {
   at_most : g.R.Source.calls l.reader ≤ g.R.Source.calls l.fn.reader + l._turn;
   reads : g.R.Source.failures l.reader ≡ g.R.Source.failures l.fn.reader;
   writes : g.W.Sink.failures l.writer ≡ g.W.Sink.failures l.fn.writer;
-  went : Went g.M.Replier.takes g.M.Replier.is_step (g.R.Source.left l.fn.reader) (g.R.Source.left l.reader) l.fn.machine l.machine
-      (g.M.Replier.opening l.fn.machine) (g.W.Sink.contents l.fn.writer) (g.W.Sink.contents l.writer) l.pending.counts l.pending.held.items;
+  went : RunProgress g.M.LineHandler.handles g.M.LineHandler.counts_as_step (g.R.Source.remaining_input l.fn.reader) (g.R.Source.remaining_input l.reader) l.fn.machine l.machine
+      (g.M.LineHandler.opening l.fn.machine) (g.W.Sink.bytes_written l.fn.writer) (g.W.Sink.bytes_written l.writer) l.pending.counts l.pending.partial_line.items;
 }

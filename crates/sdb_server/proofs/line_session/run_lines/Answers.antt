@@ -1,31 +1,31 @@
 use Rattle.std.proofs.Common.{map, ap, refl, ◌∙◌}
 use Rattle.std.proofs.lemmas.Option.{IfSome_then}
 use Rattle.sdb_desk.specs.ShardView.{machine_of}
-use Rattle.sdb_lines.specs.Lines.{reading_of, lines_of}
+use Rattle.sdb_lines.specs.Lines.{readable_text, lines_of}
 use Rattle.sdb_session.specs.Dialogue.{opening}
 use Rattle.sdb_session.specs.View.{plain_session}
 use Rattle.sdb_server.specs.State.{timed_by}
-use Rattle.sdb_server.specs.Source.{own_source}
+use Rattle.sdb_server.specs.LineSource.{own_source}
 use Rattle.sdb_server.specs.declared.line_session.LineSession.{LineSession}
-use Rattle.sdb_server.proofs.LineAnswers.{on_any_err, on_ok, on_err, timed_first, wrote_all, wrote_front, wrote_nothing, if_some_all}
+use Rattle.sdb_server.proofs.LineSessionLemmas.{on_any_err, on_ok, on_err, timed_first, wrote_all, wrote_front, wrote_nothing, if_some_all}
 use Rattle.sdb_server.proofs.line_session.run_lines.Goals as goal
 
 pub returns-clause-whole : goal.returns-clause-whole
 returns-clause-whole g c =
     let s = plain_session c.in_ok-new_session.field-0 in
     let source = c.in_ok-new_session.ensures.source in
-    on_ok c.run_lines.result (λ h. IfSome_then (g.R.Source.left c.args.reader.now) h
-    (λ input a. wrote_all {S = LineSession g.row.C.Denot} (λ s. s.table) (λ x. x.now) (timed_by g.C.Clock.ahead) _ c.run_lines.new.machine c.args.table.now (g.C.Clock.ahead c.args.clock) (map reading_of (lines_of input)) _ _ _ refl
-    (timed_first (machine_of c.new.result) s own_source c.new.ensures.logs c.new.ensures.queues source c.in_ok-new_session.ensures.subs (g.C.Clock.ahead c.args.clock)) (ap opening source) a)) c.run_lines.ensures.whole
+    on_ok c.run_lines.result (λ h. IfSome_then (g.R.Source.remaining_input c.args.reader.now) h
+    (λ input a. wrote_all {S = LineSession g.row.C.Denot} (λ s. s.table) (λ x. x.now) (timed_by g.C.Clock.remaining_moments) _ c.run_lines.new.machine c.args.table.now (g.C.Clock.remaining_moments c.args.clock) (map readable_text (lines_of input)) _ _ _ refl
+    (timed_first (machine_of c.new.result) s own_source c.new.ensures.logs c.new.ensures.queues source c.in_ok-new_session.ensures.subs (g.C.Clock.remaining_moments c.args.clock)) (ap opening source) a)) c.run_lines.ensures.whole
 
 pub returns-clause-front : goal.returns-clause-front
 returns-clause-front g c =
     let s = plain_session c.in_ok-new_session.field-0 in
     let source = c.in_ok-new_session.ensures.source in
-    on_err c.run_lines.result (λ h. IfSome_then (g.R.Source.left c.args.reader.now) h
-    (λ input a. wrote_front {S = LineSession g.row.C.Denot} (λ s. s.table) (λ x. x.now) (timed_by g.C.Clock.ahead) _ c.args.table.now (g.C.Clock.ahead c.args.clock) (map reading_of (lines_of input)) _ _ _ refl
-    (timed_first (machine_of c.new.result) s own_source c.new.ensures.logs c.new.ensures.queues source c.in_ok-new_session.ensures.subs (g.C.Clock.ahead c.args.clock)) (ap opening source) a)) c.run_lines.ensures.front
+    on_err c.run_lines.result (λ h. IfSome_then (g.R.Source.remaining_input c.args.reader.now) h
+    (λ input a. wrote_front {S = LineSession g.row.C.Denot} (λ s. s.table) (λ x. x.now) (timed_by g.C.Clock.remaining_moments) _ c.args.table.now (g.C.Clock.remaining_moments c.args.clock) (map readable_text (lines_of input)) _ _ _ refl
+    (timed_first (machine_of c.new.result) s own_source c.new.ensures.logs c.new.ensures.queues source c.in_ok-new_session.ensures.subs (g.C.Clock.remaining_moments c.args.clock)) (ap opening source) a)) c.run_lines.ensures.front
 
 pub returns-in_err-new_session-clause-front : goal.returns-in_err-new_session-clause-front
 returns-in_err-new_session-clause-front g c =
-    on_any_err _ (if_some_all (g.R.Source.left c.args.reader.now) (λ input. wrote_nothing c.args.table.now (g.C.Clock.ahead c.args.clock) (map reading_of (lines_of input)) (g.W.Sink.contents c.args.writer.now)))
+    on_any_err _ (if_some_all (g.R.Source.remaining_input c.args.reader.now) (λ input. wrote_nothing c.args.table.now (g.C.Clock.remaining_moments c.args.clock) (map readable_text (lines_of input)) (g.W.Sink.bytes_written c.args.writer.now)))

@@ -1,9 +1,9 @@
 use denote.Param.Send.{sendable}
 use Rattle.std.proofs.Common.{sym, ap, ◌∙◌, subst}
 use Rattle.std.proofs.Crossing.{crosses}
-use Rattle.sdb_backend.specs.Passes.{IsHost, IsPass}
-use Rattle.sdb_growlock.specs.Rule.{Each}
-use Rattle.sdb_server.proofs.Crossing.{ServerState-send, ServerState-sync}
+use Rattle.sdb_backend.specs.PassModel.{IsHostOfBackend, IsPassOfBackend}
+use Rattle.sdb_growlock.specs.LockRule.{ForEach}
+use Rattle.sdb_server.proofs.SendSync.{ServerState-send, ServerState-sync}
 use Rattle.sdb_server_tests.proofs.connections.a_server_that_is_stopped.Goals as goal
 
 pub listen_until_stopped-requires-after_bounds : goal.listen_until_stopped-requires-after_bounds
@@ -15,9 +15,9 @@ spawn-requires-send-F g c κs = search (ServerState-send, ServerState-sync, send
 pub close-requires-clause-host : goal.close-requires-clause-host
 close-requires-clause-host g c =
     let same = c.into_backend.ensures ∙ ap (λ s. s.backend) c.in-Ok.ensures.ok in
-    subst (λ b. IsHost c.listen_until_stopped.new.host b) (sym same) c.in_ok-passes.ensures.host
+    subst (λ b. IsHostOfBackend c.listen_until_stopped.new.host b) (sym same) c.in_ok-passes.ensures.host
 
 pub close-requires-clause-passes : goal.close-requires-clause-passes
 close-requires-clause-passes g c =
     let same = c.into_backend.ensures ∙ ap (λ s. s.backend) c.in-Ok.ensures.ok in
-    subst (λ b. Each (λ p. IsPass p b) c.in_ok-passes.passes.items) (sym same) c.in_ok-passes.ensures.passes
+    subst (λ b. ForEach (λ p. IsPassOfBackend p b) c.in_ok-passes.passes.items) (sym same) c.in_ok-passes.ensures.passes

@@ -2,73 +2,73 @@ use Rattle.std.proofs.Common.{◌≡◌, option_map, None, refl, sym, ap, subst,
 use Rattle.sdb_oplog.specs.Keys.{plain_key}
 use Rattle.sdb_desk.specs.ShardView.{logs_of, queues_of}
 use Rattle.sdb_steps.specs.Picks as plain
-use Rattle.sdb_steps.specs.Dispatch.{Dispatches, Follows}
-use Rattle.sdb_steps.specs.StateView.{core_of, plain_session, plain_attempt, slots_of}
-use Rattle.sdb_steps.specs.Slots.{AreOpen}
-use Rattle.sdb_steps.specs.View.{plain_step, plain_answer}
+use Rattle.sdb_steps.specs.Dispatch.{DispatchesAct, FollowsEffect}
+use Rattle.sdb_steps.specs.StateView.{one_step_of_shard, session_state_of, plain_open_attempt, queue_slots_of}
+use Rattle.sdb_steps.specs.Slots.{SlotsOpen}
+use Rattle.sdb_steps.specs.View.{plain_session_step, plain_step_answer}
 use Rattle.sdb_steps.specs.declared.step.Step.{Step}
-use Rattle.sdb_steps.proofs.Commits.{same_core, none_of}
-use Rattle.sdb_steps.proofs.QueueSteps.{leaves_all, begin_turn, begins_with, session_kept}
+use Rattle.sdb_steps.proofs.CommitLemmas.{same_core, none_of}
+use Rattle.sdb_steps.proofs.QueueStepLemmas.{leaves_all, begin_turn, begins_with, session_kept}
 use Rattle.sdb_steps.proofs.dispatch.dispatch.Goals as goal
 
 pub returns-else-is_some-clause-dispatches : goal.returns-else-is_some-clause-dispatches
 returns-else-is_some-clause-dispatches c =
-    let m = core_of c.args.shard.now in
+    let m = one_step_of_shard c.args.shard.now in
     let q = queues_of c.args.shard.now in
-    let x = plain_session q c.args.session.now in
-    let y = plain_session q c.begin.new.session in
+    let x = session_state_of q c.args.session.now in
+    let y = session_state_of q c.begin.new.session in
     let b = c.in-Begin in
     let k = plain_key b.key in
-    let s = plain.submission_of b.number.number k (string_bytes b.src) b.seq b.version b.content in
-    let a = plain_answer c.begin.result in
-    let o = option_map plain_attempt c.begin.new.session.attempt in
-    let none : x.attempt ≡ None = ap (option_map plain_attempt) (sym (none_of c.args.session.now.attempt (sym c.if-is_some.ensures))) in
+    let s = plain.submission_of_begin b.number.number k (string_bytes b.src) b.seq b.version b.content in
+    let a = plain_step_answer c.begin.result in
+    let o = option_map plain_open_attempt c.begin.new.session.attempt in
+    let none : x.attempt ≡ None = ap (option_map plain_open_attempt) (sym (none_of c.args.session.now.attempt (sym c.if-is_some.ensures))) in
     let h = begins_with m k s c.submission_of-submission.result a o c.submission_of-submission.ensures c.begin.ensures.begun c.begin.ensures.wanting in
-    let put : plain.with_attempt x o ≡ y = session_kept o q q (slots_of c.begin.new.session) (slots_of c.args.session.now) refl (sym c.begin.ensures.slots) in
-    subst (λ (z : Step). Dispatches (plain_step z).session m x (plain_step z).act a m y) (sym b.is)
-    (subst (λ w. Dispatches b.number.number m x (plain.begin k (string_bytes b.src) b.seq b.version b.content) a m w) put (begin_turn b.number.number m x k (string_bytes b.src) b.seq b.version b.content a o none h))
+    let put : plain.with_attempt x o ≡ y = session_kept o q q (queue_slots_of c.begin.new.session) (queue_slots_of c.args.session.now) refl (sym c.begin.ensures.slots) in
+    subst (λ (z : Step). DispatchesAct (plain_session_step z).session m x (plain_session_step z).act a m y) (sym b.is)
+    (subst (λ w. DispatchesAct b.number.number m x (plain.begin k (string_bytes b.src) b.seq b.version b.content) a m w) put (begin_turn b.number.number m x k (string_bytes b.src) b.seq b.version b.content a o none h))
 
 pub returns-else-is_some-clause-leaves : goal.returns-else-is_some-clause-leaves
-returns-else-is_some-clause-leaves c = let q = queues_of c.args.shard.now in leaves_all (plain_step c.args.step.now).session q q (slots_of c.args.session.now) _ c.requires.queues refl c.begin.ensures.slots
+returns-else-is_some-clause-leaves c = let q = queues_of c.args.shard.now in leaves_all (plain_session_step c.args.step.now).session q q (queue_slots_of c.args.session.now) _ c.requires.queues refl c.begin.ensures.slots
 
 pub returns-in-Work-clause-leaves : goal.returns-in-Work-clause-leaves
-returns-in-Work-clause-leaves c = let q = queues_of c.args.shard.now in leaves_all (plain_step c.args.step.now).session q q (slots_of c.args.session.now) _ c.requires.queues refl c.work.ensures.slots
+returns-in-Work-clause-leaves c = let q = queues_of c.args.shard.now in leaves_all (plain_session_step c.args.step.now).session q q (queue_slots_of c.args.session.now) _ c.requires.queues refl c.work.ensures.slots
 
 pub returns-in-Commit-clause-leaves : goal.returns-in-Commit-clause-leaves
-returns-in-Commit-clause-leaves c = leaves_all (plain_step c.args.step.now).session (queues_of c.args.shard.now) _ (slots_of c.args.session.now) _ c.requires.queues c.commit.ensures.queues c.commit.ensures.slots
+returns-in-Commit-clause-leaves c = leaves_all (plain_session_step c.args.step.now).session (queues_of c.args.shard.now) _ (queue_slots_of c.args.session.now) _ c.requires.queues c.commit.ensures.queues c.commit.ensures.slots
 
 pub returns-in-Fetch-clause-leaves : goal.returns-in-Fetch-clause-leaves
-returns-in-Fetch-clause-leaves c = let s = slots_of c.args.session.now in leaves_all (plain_step c.args.step.now).session (queues_of c.args.shard.now) _ s s c.requires.queues c.fetch.ensures.queues refl
+returns-in-Fetch-clause-leaves c = let s = queue_slots_of c.args.session.now in leaves_all (plain_session_step c.args.step.now).session (queues_of c.args.shard.now) _ s s c.requires.queues c.fetch.ensures.queues refl
 
 pub returns-in-Snapshot-clause-leaves : goal.returns-in-Snapshot-clause-leaves
-returns-in-Snapshot-clause-leaves c = let s = slots_of c.args.session.now in leaves_all (plain_step c.args.step.now).session (queues_of c.args.shard.now) _ s s c.requires.queues c.snapshot.ensures.queues refl
+returns-in-Snapshot-clause-leaves c = let s = queue_slots_of c.args.session.now in leaves_all (plain_session_step c.args.step.now).session (queues_of c.args.shard.now) _ s s c.requires.queues c.snapshot.ensures.queues refl
 
-pub returns-in-AtTime-clause-leaves : goal.returns-in-AtTime-clause-leaves
-returns-in-AtTime-clause-leaves c = let s = slots_of c.args.session.now in leaves_all (plain_step c.args.step.now).session (queues_of c.args.shard.now) _ s s c.requires.queues c.at_time.ensures.queues refl
+pub returns-in-SnapshotAtTime-clause-leaves : goal.returns-in-SnapshotAtTime-clause-leaves
+returns-in-SnapshotAtTime-clause-leaves c = let s = queue_slots_of c.args.session.now in leaves_all (plain_session_step c.args.step.now).session (queues_of c.args.shard.now) _ s s c.requires.queues c.snapshot_at_time.ensures.queues refl
 
 pub returns-in-Forget-clause-dispatches : goal.returns-in-Forget-clause-dispatches
 returns-in-Forget-clause-dispatches c =
-    let m = core_of c.args.shard.now in
-    let n = core_of c.forget.new.self in
+    let m = one_step_of_shard c.args.shard.now in
+    let n = one_step_of_shard c.forget.new.self in
     let q = queues_of c.args.shard.now in
     let r = queues_of c.forget.new.self in
-    let s = slots_of c.args.session.now in
-    let x = plain_session q c.args.session.now in
-    let y = plain_session r c.args.session.now in
-    subst (λ (z : Step). Follows m (plain.effect m (plain_step z).session x (plain_step z).act) (plain.said plain.forgotten) n y) (sym c.in-Forget.is)
-    (refl, same_core c.args.shard.now c.forget.new.self c.forget.ensures.logs c.forget.ensures.queues, session_kept (option_map plain_attempt c.args.session.now.attempt) q r s s c.forget.ensures.queues refl)
+    let s = queue_slots_of c.args.session.now in
+    let x = session_state_of q c.args.session.now in
+    let y = session_state_of r c.args.session.now in
+    subst (λ (z : Step). FollowsEffect m (plain.effect m (plain_session_step z).session x (plain_session_step z).act) (plain.notice_answer plain.forgotten) n y) (sym c.in-Forget.is)
+    (refl, same_core c.args.shard.now c.forget.new.self c.forget.ensures.logs c.forget.ensures.queues, session_kept (option_map plain_open_attempt c.args.session.now.attempt) q r s s c.forget.ensures.queues refl)
 
 pub returns-in-Forget-clause-leaves : goal.returns-in-Forget-clause-leaves
-returns-in-Forget-clause-leaves c = let s = slots_of c.args.session.now in leaves_all (plain_step c.args.step.now).session (queues_of c.args.shard.now) _ s s c.requires.queues c.forget.ensures.queues refl
+returns-in-Forget-clause-leaves c = let s = queue_slots_of c.args.session.now in leaves_all (plain_session_step c.args.step.now).session (queues_of c.args.shard.now) _ s s c.requires.queues c.forget.ensures.queues refl
 
 pub subscribe-requires : goal.subscribe-requires
-subscribe-requires c = subst (λ (z : Step). AreOpen (plain_step z).session (queues_of c.args.shard.now) (slots_of c.args.session.now)) c.in-Subscribe.is c.requires.queues
+subscribe-requires c = subst (λ (z : Step). SlotsOpen (plain_session_step z).session (queues_of c.args.shard.now) (queue_slots_of c.args.session.now)) c.in-Subscribe.is c.requires.queues
 
 pub take-requires : goal.take-requires
-take-requires c = subst (λ (z : Step). AreOpen (plain_step z).session (queues_of c.args.shard.now) (slots_of c.args.session.now)) c.in-Take.is c.requires.queues
+take-requires c = subst (λ (z : Step). SlotsOpen (plain_session_step z).session (queues_of c.args.shard.now) (queue_slots_of c.args.session.now)) c.in-Take.is c.requires.queues
 
 pub unsubscribe-requires : goal.unsubscribe-requires
-unsubscribe-requires c = subst (λ (z : Step). AreOpen (plain_step z).session (queues_of c.args.shard.now) (slots_of c.args.session.now)) c.in-Unsubscribe.is c.requires.queues
+unsubscribe-requires c = subst (λ (z : Step). SlotsOpen (plain_session_step z).session (queues_of c.args.shard.now) (queue_slots_of c.args.session.now)) c.in-Unsubscribe.is c.requires.queues
 
 pub returns-in-Work-clause-looked : goal.returns-in-Work-clause-looked
 returns-in-Work-clause-looked c = c.work.ensures.looked (logs_of c.args.shard.now) c.requires.looked

@@ -1,25 +1,25 @@
 use Rattle.std.proofs.Common.{refl, sym, subst}
 use Rattle.sdb_oplog.specs.Keys.{plain_key}
-use Rattle.sdb_steps.specs.Picks.{Answer, snapshot}
-use Rattle.sdb_steps.specs.Dispatch.{Dispatches}
-use Rattle.sdb_steps.specs.StateView.{core_of}
+use Rattle.sdb_steps.specs.Picks.{PlainStepAnswer, snapshot}
+use Rattle.sdb_steps.specs.Dispatch.{DispatchesAct}
+use Rattle.sdb_steps.specs.StateView.{one_step_of_shard}
 use Rattle.sdb_steps.specs.View.{plain_fetched}
-use Rattle.sdb_steps.proofs.Commits.{same_core}
-use Rattle.sdb_steps.proofs.QueueSteps.{snapshot_refused, snapshot_read}
+use Rattle.sdb_steps.proofs.CommitLemmas.{same_core}
+use Rattle.sdb_steps.proofs.QueueStepLemmas.{snapshot_refused, snapshot_read}
 use Rattle.sdb_steps.proofs.dispatch.snapshot.Goals as goal
 
 pub returns-in-Err-clause-dispatches : goal.returns-in-Err-clause-dispatches
 returns-in-Err-clause-dispatches c =
-    let m = core_of c.args.shard.now in
-    let n = core_of c.snapshot_at.new.self in
+    let m = one_step_of_shard c.args.shard.now in
+    let n = one_step_of_shard c.snapshot_at.new.self in
     let k = plain_key c.args.key.now in
     let told = c.in-Err.ensures in
-    λ i x. subst (λ (z : Answer). Dispatches i m x (snapshot k c.args.version) z n x) (sym c.refused_snapshot.ensures) (snapshot_refused i m n x x k c.args.version c.in-Err.code told.snapshot (same_core c.args.shard.now c.snapshot_at.new.self told.logs told.queues) refl)
+    λ i x. subst (λ (z : PlainStepAnswer). DispatchesAct i m x (snapshot k c.args.version) z n x) (sym c.refused_snapshot.ensures) (snapshot_refused i m n x x k c.args.version c.in-Err.code told.snapshot (same_core c.args.shard.now c.snapshot_at.new.self told.logs told.queues) refl)
 
 pub returns-in-Ok-clause-dispatches : goal.returns-in-Ok-clause-dispatches
 returns-in-Ok-clause-dispatches c =
-    let m = core_of c.args.shard.now in
-    let n = core_of c.snapshot_at.new.self in
+    let m = one_step_of_shard c.args.shard.now in
+    let n = one_step_of_shard c.snapshot_at.new.self in
     let k = plain_key c.args.key.now in
     let told = c.in-Ok.ensures in
     λ i x. snapshot_read i m n x x k c.args.version (plain_fetched c.in-Ok.fetched) told.snapshot (same_core c.args.shard.now c.snapshot_at.new.self told.logs told.queues) refl

@@ -1,4 +1,4 @@
-use Rattle.sdb_steps.proofs.Growing.{made_all}
+use Rattle.sdb_steps.proofs.GrowthLemmas.{made_all}
 use Rattle.sdb_steps.proofs.laws.logs_are_made.Goals as goal
 
 pub returns : goal.returns

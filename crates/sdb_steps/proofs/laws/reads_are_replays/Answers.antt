@@ -1,4 +1,4 @@
-use Rattle.sdb_steps.proofs.Replays.{replays_all}
+use Rattle.sdb_steps.proofs.ReplayLemmas.{replays_all}
 use Rattle.sdb_steps.proofs.laws.reads_are_replays.Goals as goal
 
 pub returns : goal.returns

@@ -1,4 +1,4 @@
-use Rattle.sdb_steps.proofs.Made.{repeats_all}
+use Rattle.sdb_steps.proofs.MadeLemmas.{repeats_all}
 use Rattle.sdb_steps.proofs.laws.repeats_are_answered.Goals as goal
 
 pub returns : goal.returns

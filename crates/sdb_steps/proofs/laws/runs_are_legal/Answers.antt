@@ -1,4 +1,4 @@
-use Rattle.sdb_steps.proofs.Runs.{legal_run}
+use Rattle.sdb_steps.proofs.RunLemmas.{legal_run}
 use Rattle.sdb_steps.proofs.laws.runs_are_legal.Goals as goal
 
 pub returns : goal.returns

@@ -1,4 +1,4 @@
-use Rattle.sdb_steps.proofs.Made.{lives_all}
+use Rattle.sdb_steps.proofs.MadeLemmas.{lives_all}
 use Rattle.sdb_steps.proofs.laws.snapshots_are_replays.Goals as goal
 
 pub returns : goal.returns

@@ -1,4 +1,4 @@
-use Rattle.sdb_steps.proofs.Made.{once_all}
+use Rattle.sdb_steps.proofs.MadeLemmas.{once_all}
 use Rattle.sdb_steps.proofs.laws.stored_once.Goals as goal
 
 pub returns : goal.returns

@@ -1,4 +1,4 @@
-use Rattle.sdb_steps.proofs.Continued.{continued_all}
+use Rattle.sdb_steps.proofs.ContinuationLemmas.{continued_all}
 use Rattle.sdb_steps.proofs.laws.takes_continue.Goals as goal
 
 pub returns : goal.returns

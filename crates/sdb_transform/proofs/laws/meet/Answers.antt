@@ -1,10 +1,10 @@
-use Rattle.sdb_value.specs.View.{view}
-use Rattle.sdb_transform.proofs.Meeting.{all_meet}
+use Rattle.sdb_value.specs.View.{value_of}
+use Rattle.sdb_transform.proofs.ConvergenceLemmas.{all_meet}
 use Rattle.sdb_transform.proofs.laws.meet.Goals as goal
 
 pub returns : goal.returns
 returns c =
-    all_meet (view c.args.document.now) c.args.a.now c.args.b.now
+    all_meet (value_of c.args.document.now) c.args.a.now c.args.b.now
     (record {
       formed = c.well_formed-2.ensures;
       a_texts = c.has_texts.ensures;

@@ -1,10 +1,10 @@
 use Rattle.std.proofs.Common.{◌≡◌, sym, subst}
 use Rattle.sdb_desk.specs.ShardView.{machine_of}
-use Rattle.sdb_locks.specs.Laws.{first_have_seen_once}
-use Rattle.sdb_locks.specs.declared.seats.FirstSeats.{FirstSeats}
-use Rattle.sdb_backend.specs.History.{own, nothing}
-use Rattle.sdb_backend.specs.Passes.{IsFirstSeated}
-use Rattle.sdb_backend.specs.declared.held.Held.{Held}
+use Rattle.sdb_striped_lock.specs.Laws.{root_has_seen_unique}
+use Rattle.sdb_striped_lock.specs.declared.striped_lock.RootSeats.{RootSeats}
+use Rattle.sdb_backend.specs.HistoryOrder.{share_of, empty_share}
+use Rattle.sdb_backend.specs.PassModel.{HasRootSeatsOf}
+use Rattle.sdb_backend.specs.declared.shard_value.Held.{Held}
 use Rattle.sdb_backend.proofs.backend.Backend.enter.Goals as goal
 
 pub returns-in-Ok-clause-host : goal.returns-in-Ok-clause-host
@@ -13,15 +13,15 @@ returns-in-Ok-clause-host g c = (
   λ i lt.
       let s = c.in-Ok.ensures.seen i lt in
       let y = c.requires.1 i lt in
-      let e : s.0 ≡ y.0 = first_have_seen_once c.args.host.now.seats i s.0 y.0 s.1 y.1 in
-      (s.0, s.2, subst (λ (h : Held). own 0 (machine_of h.shard) ≡ nothing) (sym e) y.2),
+      let e : s.0 ≡ y.0 = root_has_seen_unique c.args.host.now.seats i s.0 y.0 s.1 y.1 in
+      (s.0, s.2, subst (λ (h : Held). share_of 0 (machine_of h.shard) ≡ empty_share) (sym e) y.2),
 )
 
 pub returns-in-Ok-clause-new : goal.returns-in-Ok-clause-new
 returns-in-Ok-clause-new g c = λ i lt. let s = c.in-Ok.ensures.seen i lt in (s.0, s.3, s.4)
 
-pub returns-in-Err-Last-clause-host : goal.returns-in-Err-Last-clause-host
-returns-in-Err-Last-clause-host g c = subst (λ (f : FirstSeats Held). IsFirstSeated (record { seats = f }) c.args.self.now.locks) (sym c.in-Err-Last.ensures.same) c.requires
+pub returns-in-Err-OutOfNumbers-clause-host : goal.returns-in-Err-OutOfNumbers-clause-host
+returns-in-Err-OutOfNumbers-clause-host g c = subst (λ (f : RootSeats Held). HasRootSeatsOf (record { seats = f }) c.args.self.now.locks) (sym c.in-Err-OutOfNumbers.ensures.same) c.requires
 
-pub returns-in-Err-Memory-clause-host : goal.returns-in-Err-Memory-clause-host
-returns-in-Err-Memory-clause-host g c = subst (λ (f : FirstSeats Held). IsFirstSeated (record { seats = f }) c.args.self.now.locks) (sym c.in-Err-Memory.ensures.same) c.requires
+pub returns-in-Err-OutOfMemory-clause-host : goal.returns-in-Err-OutOfMemory-clause-host
+returns-in-Err-OutOfMemory-clause-host g c = subst (λ (f : RootSeats Held). HasRootSeatsOf (record { seats = f }) c.args.self.now.locks) (sym c.in-Err-OutOfMemory.ensures.same) c.requires

@@ -1,16 +1,16 @@
 use Rattle.std.proofs.Common.{◌≡◌, [], Some, Ok, option_map, sym, subst}
-use Rattle.sdb_value.specs.View.{view}
+use Rattle.sdb_value.specs.View.{value_of}
 use Rattle.sdb_oplog.specs.Keys.{Logs, plain_key, shard_of}
 use Rattle.sdb_desk.specs.ShardView.{machine_of, logs_of}
-use Rattle.sdb_desk.specs.View.{plain_lent}
+use Rattle.sdb_desk.specs.View.{plain_replay_base}
 use Rattle.sdb_submit.specs.Calls.{forget, snapshot}
-use Rattle.sdb_locks.specs.Laws.{have_seen_once}
-use Rattle.sdb_backend.specs.Calls.{Answered}
-use Rattle.sdb_backend.specs.Lending.{IsAt}
-use Rattle.sdb_backend.specs.Passes.{number_of}
-use Rattle.sdb_backend.specs.declared.held.Held.{Held}
-use Rattle.sdb_backend.proofs.Replays.{lent_at, lent_whole, at_later, read_at}
-use Rattle.sdb_backend.proofs.Steps.{after}
+use Rattle.sdb_striped_lock.specs.Laws.{have_seen_unique}
+use Rattle.sdb_backend.specs.CallAnswers.{AnsweredAtExtension}
+use Rattle.sdb_backend.specs.ReplayBases.{IsDocumentAt}
+use Rattle.sdb_backend.specs.PassModel.{pass_number}
+use Rattle.sdb_backend.specs.declared.shard_value.Held.{Held}
+use Rattle.sdb_backend.proofs.ReplayLemmas.{lent_at, base_whole, at_later, read_at}
+use Rattle.sdb_backend.proofs.StepLemmas.{answered_after_unchanged}
 use Rattle.sdb_backend.proofs.backend.Backend.snapshot_of.Goals as goal
 
 pub run-requires-2-clause-ready : goal.run-requires-2-clause-ready
@@ -19,11 +19,11 @@ run-requires-2-clause-ready g c =
     let d = c.in_ok-lent.ensures.done in
     let k = plain_key c.args.key.now in
     let v = c.args.version in
-    let s = option_map view c.in_ok-snapshot.snapshot in
-    let one : d.2 ≡ x = have_seen_once c.run.new.pass.seats (shard_of k) d.2 x d.7 saw in
-    let at : IsAt (logs_of d.1.shard k) v s = lent_at (logs_of d.1.shard k) v (plain_lent c.in_ok-lent.lent) s d.6.0 c.in_ok-snapshot.ensures.ok in
-    let left : IsAt (logs_of d.2.shard k) v s = subst (λ (f : Logs). IsAt (f k) v s) (sym d.6.1.0) at in
-    let seen : IsAt (logs_of x.shard k) v s = subst (λ (y : Held). IsAt (logs_of y.shard k) v s) one left in
+    let s = option_map value_of c.in_ok-snapshot.snapshot in
+    let one : d.2 ≡ x = have_seen_unique c.run.new.pass.seats (shard_of k) d.2 x d.7 saw in
+    let at : IsDocumentAt (logs_of d.1.shard k) v s = lent_at (logs_of d.1.shard k) v (plain_replay_base c.in_ok-lent.lent) s d.6.0 c.in_ok-snapshot.ensures.ok in
+    let left : IsDocumentAt (logs_of d.2.shard k) v s = subst (λ (f : Logs). IsDocumentAt (f k) v s) (sym d.6.1.0) at in
+    let seen : IsDocumentAt (logs_of x.shard k) v s = subst (λ (y : Held). IsDocumentAt (logs_of y.shard k) v s) one left in
     at_later (logs_of x.shard k) (logs_of w.shard k) v s (ext.logs k) seen
 
 pub returns-clause-answered : goal.returns-clause-answered
@@ -32,9 +32,9 @@ returns-clause-answered g c =
     let e = c.run-2.ensures.done in
     let k = plain_key c.args.key.now in
     let v = c.args.version in
-    let s = option_map view c.in_ok-snapshot.snapshot in
-    let first : Answered k forget c.args.pass.now tt c.run.new.pass =
+    let s = option_map value_of c.in_ok-snapshot.snapshot in
+    let first : AnsweredAtExtension k forget c.args.pass.now tt c.run.new.pass =
     (d.0, d.1, d.2, d.3, d.4, d.5, d.6.1, d.7, c.run.ensures.number, c.run.ensures.others) in
-    let second : Answered k (snapshot (Some v)) c.run.new.pass (Ok (record { version = v; snapshot = s })) c.run-2.new.pass =
-    (e.0, e.1, e.2, e.3, e.4, e.5, read_at (number_of c.run.new.pass) (machine_of e.1.shard) (machine_of e.2.shard) k v s e.6.0 e.6.2, e.7, c.run-2.ensures.number, c.run-2.ensures.others) in
-    after k forget (snapshot (Some v)) tt (Ok (record { version = v; snapshot = s })) c.args.pass.now c.run.new.pass c.run-2.new.pass first d.6.1 second
+    let second : AnsweredAtExtension k (snapshot (Some v)) c.run.new.pass (Ok (record { version = v; snapshot = s })) c.run-2.new.pass =
+    (e.0, e.1, e.2, e.3, e.4, e.5, read_at (pass_number c.run.new.pass) (machine_of e.1.shard) (machine_of e.2.shard) k v s e.6.0 e.6.2, e.7, c.run-2.ensures.number, c.run-2.ensures.others) in
+    answered_after_unchanged k forget (snapshot (Some v)) tt (Ok (record { version = v; snapshot = s })) c.args.pass.now c.run.new.pass c.run-2.new.pass first d.6.1 second

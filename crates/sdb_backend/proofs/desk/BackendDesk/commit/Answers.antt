@@ -1,16 +1,16 @@
 use Rattle.std.proofs.Common.{◌≡◌, sym, subst, ap, ◌∙◌}
 use Rattle.sdb_oplog.specs.Keys.{plain_key, shard_of}
 use Rattle.sdb_desk.specs.ShardView.{machine_of, logs_of}
-use Rattle.sdb_desk.specs.Looked.{IsLook}
+use Rattle.sdb_desk.specs.LookLaws.{IsLook}
 use Rattle.sdb_desk.specs.Machine.{PlainOutcome}
-use Rattle.sdb_desk.specs.View.{plain_outcome, outcome_of}
-use Rattle.sdb_submit.specs.Calls.{commit, Acts, IfMoved}
-use Rattle.sdb_submit.specs.Laws.{moved_looked}
-use Rattle.sdb_locks.specs.Laws.{have_seen_once}
-use Rattle.sdb_backend.specs.Calls.{IsLookOf}
-use Rattle.sdb_backend.specs.Passes.{number_of}
-use Rattle.sdb_backend.specs.declared.held.Held.{Held}
-use Rattle.sdb_backend.proofs.Seen.{later, map_moved}
+use Rattle.sdb_desk.specs.View.{plain_outcome, outcome_of_decision}
+use Rattle.sdb_submit.specs.Calls.{commit, MachineStep, OnMoved}
+use Rattle.sdb_submit.specs.Laws.{moved_is_look}
+use Rattle.sdb_striped_lock.specs.Laws.{have_seen_unique}
+use Rattle.sdb_backend.specs.CallAnswers.{IsLookSeenBy}
+use Rattle.sdb_backend.specs.PassModel.{pass_number}
+use Rattle.sdb_backend.specs.declared.shard_value.Held.{Held}
+use Rattle.sdb_backend.proofs.SeenLemmas.{is_look_of_extension, map_moved}
 use Rattle.sdb_backend.proofs.desk.BackendDesk.commit.Goals as goal
 
 pub run-decision-requires-clause-ready : goal.run-decision-requires-clause-ready
@@ -18,15 +18,15 @@ run-decision-requires-clause-ready g c =
     λ x v saw ext same.
     let k = plain_key c.args.key.now in
     let l = c.requires.looked in
-    let one : l.0 ≡ x = have_seen_once c.args.pass.now.seats (shard_of k) l.0 x l.1 saw in
+    let one : l.0 ≡ x = have_seen_unique c.args.pass.now.seats (shard_of k) l.0 x l.1 saw in
     let look : IsLook (logs_of x.shard k) c.args.work.now = subst (λ (y : Held). IsLook (logs_of y.shard k) c.args.work.now) one l.2 in
-    (c.requires.by, later (logs_of x.shard k) (logs_of v.shard k) c.args.work.now (ext.logs k) look)
+    (c.requires.by, is_look_of_extension (logs_of x.shard k) (logs_of v.shard k) c.args.work.now (ext.logs k) look)
 
 pub returns-clause-looked : goal.returns-clause-looked
 returns-clause-looked g c =
     let d = c.run-decision.ensures.done in
     let k = plain_key c.args.key.now in
     let a = c.args.work.now in
-    let o = outcome_of a c.run-decision.result in
-    subst (λ (r : PlainOutcome). IfMoved r (λ l. IsLookOf c.run-decision.new.pass k (record { submission = a.submission; look = l }))) (sym c.conclude.ensures.outcome)
-    (map_moved o (λ l h. (d.2, d.7, h)) (moved_looked (logs_of d.1.shard) (logs_of d.2.shard) k a c.args.now o d.6.0))
+    let o = outcome_of_decision a c.run-decision.result in
+    subst (λ (r : PlainOutcome). OnMoved r (λ l. IsLookSeenBy c.run-decision.new.pass k (record { submission = a.submission; look = l }))) (sym c.finish.ensures.outcome)
+    (map_moved o (λ l h. (d.2, d.7, h)) (moved_is_look (logs_of d.1.shard) (logs_of d.2.shard) k a c.args.now o d.6.0))

@@ -1,11 +1,11 @@
 use Rattle.std.proofs.Common.{ap}
 use Rattle.sdb_oplog.specs.Keys.{plain_key}
 use Rattle.sdb_desk.specs.ShardView.{logs_of}
-use Rattle.sdb_backend.proofs.Seen.{shown, map_ok}
+use Rattle.sdb_backend.proofs.SeenLemmas.{look_result_is_look, map_ok}
 use Rattle.sdb_backend.proofs.desk.BackendDesk.look.Goals as goal
 
 pub returns-clause-looked : goal.returns-clause-looked
 returns-clause-looked g c =
     let d = c.run.ensures.done in
     let k = plain_key c.args.key.now in
-    map_ok c.run.result (λ l h. (d.2, d.7, h)) (shown (logs_of d.1.shard k) (logs_of d.2.shard k) c.args.submission.now c.run.result d.6.0 (ap (λ f. f k) d.6.1.0))
+    map_ok c.run.result (λ l h. (d.2, d.7, h)) (look_result_is_look (logs_of d.1.shard k) (logs_of d.2.shard k) c.args.submission.now c.run.result d.6.0 (ap (λ f. f k) d.6.1.0))

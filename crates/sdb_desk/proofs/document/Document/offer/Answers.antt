@@ -1,19 +1,19 @@
 use Rattle.std.proofs.Common.{◌≤◌, length, take, Some, option_map, sym, ap, ◌∙◌, subst}
-use Rattle.sdb_value.specs.View.{view}
+use Rattle.sdb_value.specs.View.{value_of}
 use Rattle.std.specs.Option.{is_some}
-use Rattle.sdb_oplog.specs.Snap.{document}
-use Rattle.sdb_snapcache.specs.Snaps.{IsSnapOf}
-use Rattle.sdb_desk.proofs.Keeping.{with_kept, offered_or}
-use Rattle.sdb_desk.proofs.Leading.{document_at}
+use Rattle.sdb_oplog.specs.Snap.{document_of}
+use Rattle.sdb_snapcache.specs.SnapInvariant.{IsSnapOf}
+use Rattle.sdb_desk.proofs.CacheLemmas.{with_kept, offered_or}
+use Rattle.sdb_desk.proofs.ReplayLemmas.{document_at}
 use Rattle.sdb_desk.proofs.document.Document.offer.Goals as goal
 
 pub invariant_of-self : goal.invariant_of-self
 invariant_of-self c =
     let log = c.self.inside.log in
     let v = c.args.version in
-    let is : IsSnapOf log (record { version = v; value = view c.in-Ok-Some.copy }) = record {
+    let is : IsSnapOf log (record { version = v; value = value_of c.in-Ok-Some.copy }) = record {
       within = subst (λ d. v ≤ length d.log) (sym c.self.view_is) c.requires.reached;
-      is = document_at log v (ap is_some c.self.invariant.keeps.makes)
-          ∙ ap Some (ap (λ d. document (take v d.log)) c.self.view_is ∙ c.requires.snapshot ∙ sym c.in-Ok-Some.ensures.copy ∙ ap (option_map view) c.in-Ok-Some.field-0-is);
+      is = document_at log v (ap is_some c.self.invariant.is_made.makes)
+          ∙ ap Some (ap (λ d. document_of (take v d.log)) c.self.view_is ∙ c.requires.snapshot ∙ sym c.in-Ok-Some.ensures.copy ∙ ap (option_map value_of) c.in-Ok-Some.field-0-is);
     } in
-    with_kept log c.self.inside.present c.self.inside.cache _ (offered_or log v (view c.in-Ok-Some.copy) c.self.inside.cache _ c.offer.result is c.self.invariant.snaps c.offer.ensures.ok c.offer.ensures.err) c.self.invariant
+    with_kept log c.self.inside.current c.self.inside.cache _ (offered_or log v (value_of c.in-Ok-Some.copy) c.self.inside.cache _ c.offer.result is c.self.invariant.cache_is_snaps c.offer.ensures.ok c.offer.ensures.err) c.self.invariant

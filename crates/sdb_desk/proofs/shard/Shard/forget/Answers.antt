@@ -1,64 +1,64 @@
 use Rattle.std.proofs.Common.{[], ap, ◌∙◌}
 use Rattle.sdb_oplog.specs.Keys.{plain_key}
-use Rattle.sdb_desk.specs.Topics.{no_topic}
-use Rattle.sdb_desk.specs.MapView.{held}
-use Rattle.sdb_desk.specs.MapViewLaws.{write_through, held_found, held_none, kept_at}
-use Rattle.sdb_desk.specs.ShardView.{topics_of, kept_of, with_kept}
-use Rattle.sdb_desk.proofs.Writing.{written, left, queues_left, rings_left}
-use Rattle.sdb_subscribe.specs.Ring.{bare}
+use Rattle.sdb_desk.specs.SlotModel.{empty_slot}
+use Rattle.sdb_desk.specs.MapModel.{value_at_key}
+use Rattle.sdb_desk.specs.MapLaws.{updated_of_write, value_at_lookup_some, value_at_lookup_none, updated_at_same}
+use Rattle.sdb_desk.specs.ShardView.{slots_of, caches_of, with_cache}
+use Rattle.sdb_desk.proofs.MapWriteLemmas.{map_of_updated, map_of_updated_same, queues_unchanged, rings_unchanged}
+use Rattle.sdb_subscribe.specs.Ring.{without_rings}
 use Rattle.sdb_desk.proofs.shard.Shard.forget.Goals as goal
 
 pub returns-in-Some-clause-logs : goal.returns-in-Some-clause-logs
 returns-in-Some-clause-logs c =
-    let es = c.args.self.now.topics.entries in
+    let es = c.args.self.now.slots.entries in
     let old = c.in-Some.topic.now in
     let new = c.forget.new.self in
     let k = plain_key c.args.key.now in
-    let f = topics_of c.args.self.now in
-    let g = held no_topic (c.get_mut.follows.lender new).entries in
-    let found = held_found no_topic es c.args.key.now old c.in-Some.ensures.value in
-    let wrote = write_through no_topic es _ c.args.key.now old new c.in-Some.ensures.value (c.get_mut.follows.holds new).0 in
-    left (λ t. t.document.log) f g k new wrote (c.forget.ensures.log ∙ ap (λ t. t.document.log) found)
+    let f = slots_of c.args.self.now in
+    let g = value_at_key empty_slot (c.get_mut.follows.lender new).entries in
+    let found = value_at_lookup_some empty_slot es c.args.key.now old c.in-Some.ensures.value in
+    let wrote = updated_of_write empty_slot es _ c.args.key.now old new c.in-Some.ensures.value (c.get_mut.follows.holds new).0 in
+    map_of_updated_same (λ t. t.document.log) f g k new wrote (c.forget.ensures.log ∙ ap (λ t. t.document.log) found)
 
 pub returns-in-Some-clause-kept : goal.returns-in-Some-clause-kept
 returns-in-Some-clause-kept c =
-    let es = c.args.self.now.topics.entries in
+    let es = c.args.self.now.slots.entries in
     let old = c.in-Some.topic.now in
     let new = c.forget.new.self in
     let k = plain_key c.args.key.now in
-    let f = topics_of c.args.self.now in
-    let g = held no_topic (c.get_mut.follows.lender new).entries in
-    let found = held_found no_topic es c.args.key.now old c.in-Some.ensures.value in
-    let wrote = write_through no_topic es _ c.args.key.now old new c.in-Some.ensures.value (c.get_mut.follows.holds new).0 in
-    written (λ t. t.document.kept) f g k new wrote ∙ ap (with_kept (kept_of c.args.self.now) k) c.forget.ensures.kept
+    let f = slots_of c.args.self.now in
+    let g = value_at_key empty_slot (c.get_mut.follows.lender new).entries in
+    let found = value_at_lookup_some empty_slot es c.args.key.now old c.in-Some.ensures.value in
+    let wrote = updated_of_write empty_slot es _ c.args.key.now old new c.in-Some.ensures.value (c.get_mut.follows.holds new).0 in
+    map_of_updated (λ t. t.document.cache) f g k new wrote ∙ ap (with_cache (caches_of c.args.self.now) k) c.forget.ensures.kept
 
 pub returns-in_default-clause-kept : goal.returns-in_default-clause-kept
 returns-in_default-clause-kept c =
-    let es = c.args.self.now.topics.entries in
+    let es = c.args.self.now.slots.entries in
     let k = plain_key c.args.key.now in
-    let none = held_none no_topic es c.args.key.now c.in_default.ensures.value in
-    ap (λ m. (λ q. (held no_topic m.entries q).document.kept)) c.get_mut.follows.holds-at-none ∙ kept_at (kept_of c.args.self.now) k [] (ap (λ t. t.document.kept) none)
+    let none = value_at_lookup_none empty_slot es c.args.key.now c.in_default.ensures.value in
+    ap (λ m. (λ q. (value_at_key empty_slot m.entries q).document.cache)) c.get_mut.follows.holds-at-none ∙ updated_at_same (caches_of c.args.self.now) k [] (ap (λ t. t.document.cache) none)
 
 pub returns-in-Some-clause-queues : goal.returns-in-Some-clause-queues
 returns-in-Some-clause-queues c =
-    let es = c.args.self.now.topics.entries in
+    let es = c.args.self.now.slots.entries in
     let old = c.in-Some.topic.now in
     let new = c.forget.new.self in
     let k = plain_key c.args.key.now in
-    let f = topics_of c.args.self.now in
-    let g = held no_topic (c.get_mut.follows.lender new).entries in
-    let found = held_found no_topic es c.args.key.now old c.in-Some.ensures.value in
-    let wrote = write_through no_topic es _ c.args.key.now old new c.in-Some.ensures.value (c.get_mut.follows.holds new).0 in
-    queues_left f g k old new found wrote (ap bare c.forget.ensures.queues)
+    let f = slots_of c.args.self.now in
+    let g = value_at_key empty_slot (c.get_mut.follows.lender new).entries in
+    let found = value_at_lookup_some empty_slot es c.args.key.now old c.in-Some.ensures.value in
+    let wrote = updated_of_write empty_slot es _ c.args.key.now old new c.in-Some.ensures.value (c.get_mut.follows.holds new).0 in
+    queues_unchanged f g k old new found wrote (ap without_rings c.forget.ensures.queues)
 
 pub returns-in-Some-clause-rings : goal.returns-in-Some-clause-rings
 returns-in-Some-clause-rings c =
-    let es = c.args.self.now.topics.entries in
+    let es = c.args.self.now.slots.entries in
     let old = c.in-Some.topic.now in
     let new = c.forget.new.self in
     let k = plain_key c.args.key.now in
-    let f = topics_of c.args.self.now in
-    let g = held no_topic (c.get_mut.follows.lender new).entries in
-    let found = held_found no_topic es c.args.key.now old c.in-Some.ensures.value in
-    let wrote = write_through no_topic es _ c.args.key.now old new c.in-Some.ensures.value (c.get_mut.follows.holds new).0 in
-    rings_left f g k old new found wrote c.forget.ensures.queues
+    let f = slots_of c.args.self.now in
+    let g = value_at_key empty_slot (c.get_mut.follows.lender new).entries in
+    let found = value_at_lookup_some empty_slot es c.args.key.now old c.in-Some.ensures.value in
+    let wrote = updated_of_write empty_slot es _ c.args.key.now old new c.in-Some.ensures.value (c.get_mut.follows.holds new).0 in
+    rings_unchanged f g k old new found wrote c.forget.ensures.queues

@@ -1,25 +1,25 @@
 use Rattle.std.proofs.Common.{◌≡◌, Ok, Err, option_map, subst, refl, sym, ap, ◌∙◌}
 use Rattle.std.proofs.lemmas.Result.{err_from_is_err_and}
-use Rattle.sdb_value.specs.View.{view}
+use Rattle.sdb_value.specs.View.{value_of}
 use Rattle.sdb_oplog.specs.Keys.{plain_key}
-use Rattle.sdb_oplog.specs.Refused.{RefusedBy}
-use Rattle.sdb_subscribe.specs.Queue.{opened}
-use Rattle.sdb_desk.specs.Machine.{Subscribes, fetched, has_document}
-use Rattle.sdb_desk.specs.View.{told_subscribed}
-use Rattle.sdb_desk.specs.Rings.{opened_ringed}
-use Rattle.sdb_desk.specs.ShardView.{logs_of, queues_of, ringed_of, with_ringed}
-use Rattle.sdb_desk.specs.MapViewLaws.{same_at}
-use Rattle.sdb_desk.proofs.Queueing.{read_wanting, subscribe_done, subscribe_refused, subscribe_wanting}
+use Rattle.sdb_oplog.specs.Refusal.{IsRefusalOrOutOfMemory}
+use Rattle.sdb_subscribe.specs.Queue.{open_queue}
+use Rattle.sdb_desk.specs.Machine.{SubscribesOrOutOfMemory, fetch_result, read_has_document}
+use Rattle.sdb_desk.specs.View.{subscribe_result_view}
+use Rattle.sdb_desk.specs.Rings.{append_ringed_queue}
+use Rattle.sdb_desk.specs.ShardView.{logs_of, queues_of, ringed_queues_of, with_ringed_queues}
+use Rattle.sdb_desk.specs.MapLaws.{updated_at_unchanged}
+use Rattle.sdb_desk.proofs.SubscribeLemmas.{read_wanting, subscribe_done, subscribe_refused, subscribe_wanting}
 use Rattle.sdb_desk.proofs.shard.Shard.subscribe.Goals as goal
 
 pub returns-in_err-start-clause-others : goal.returns-in_err-start-clause-others
-returns-in_err-start-clause-others c = same_at (queues_of c.args.self.now) _ (plain_key c.args.key.now) refl
+returns-in_err-start-clause-others c = updated_at_unchanged (queues_of c.args.self.now) _ (plain_key c.args.key.now) refl
 
-pub returns-then-are_used_up-clause-others : goal.returns-then-are_used_up-clause-others
-returns-then-are_used_up-clause-others c = same_at (queues_of c.args.self.now) _ (plain_key c.args.key.now) refl
+pub returns-then-ids_exhausted-clause-others : goal.returns-then-ids_exhausted-clause-others
+returns-then-ids_exhausted-clause-others c = updated_at_unchanged (queues_of c.args.self.now) _ (plain_key c.args.key.now) refl
 
 pub returns-in_err-version-clause-others : goal.returns-in_err-version-clause-others
-returns-in_err-version-clause-others c = same_at (queues_of c.args.self.now) _ (plain_key c.args.key.now) c.fetch.ensures.queues
+returns-in_err-version-clause-others c = updated_at_unchanged (queues_of c.args.self.now) _ (plain_key c.args.key.now) c.fetch.ensures.queues
 
 pub returns-in_err-version-clause-subscribes : goal.returns-in_err-version-clause-subscribes
 returns-in_err-version-clause-subscribes c =
@@ -28,9 +28,9 @@ returns-in_err-version-clause-subscribes c =
     let q = queues_of c.args.self.now k in
     let new = queues_of c.fetch.new.self k in
     let p = err_from_is_err_and c.from_residual-in_err-version.result c.from_residual-in_err-version.ensures.1 in
-    let wanting = read_wanting has_document c.in_err-version.field-0.0 (fetched log) c.in_err-version.ensures.fetched in
-    subst (λ r. Subscribes log c.args.by c.args.version q (told_subscribed r) new) (sym (p.1 ∙ ap Err p.2))
-    (subscribe_wanting log c.args.by c.args.version c.in_ok-start.start q new c.in_err-version.field-0.0 (sym c.in_ok-start.ensures) (sym c.are_used_up.ensures ∙ c.if-are_used_up.false) wanting (ap (λ f. f k) c.fetch.ensures.queues))
+    let wanting = read_wanting read_has_document c.in_err-version.field-0.0 (fetch_result log) c.in_err-version.ensures.fetched in
+    subst (λ r. SubscribesOrOutOfMemory log c.args.by c.args.version q (subscribe_result_view r) new) (sym (p.1 ∙ ap Err p.2))
+    (subscribe_wanting log c.args.by c.args.version c.in_ok-start.start q new c.in_err-version.field-0.0 (sym c.in_ok-start.ensures) (sym c.ids_exhausted.ensures ∙ c.if-ids_exhausted.false) wanting (ap (λ f. f k) c.fetch.ensures.queues))
 
 pub returns-in_err-id-clause-subscribes : goal.returns-in_err-id-clause-subscribes
 returns-in_err-id-clause-subscribes c =
@@ -40,9 +40,9 @@ returns-in_err-id-clause-subscribes c =
     let new = queues_of c.open.new.self k in
     let is = ap (λ f. f k) c.fetch.ensures.queues in
     let p = err_from_is_err_and c.from_residual-in_err-id.result c.from_residual-in_err-id.ensures.1 in
-    subst (λ r. Subscribes log c.args.by c.args.version q (told_subscribed r) new) (sym (p.1 ∙ ap Err p.2))
-    (subscribe_refused log c.args.by c.args.version c.in_ok-start.start q new c.in_err-id.field-0.0 (sym c.in_ok-start.ensures) (sym c.are_used_up.ensures ∙ c.if-are_used_up.false)
-    (subst (λ w. RefusedBy (opened c.args.by c.in_ok-start.start w) c.in_err-id.field-0.0) is c.in_err-id.ensures.err) (ap (λ f. f k) c.in_err-id.ensures.same ∙ is))
+    subst (λ r. SubscribesOrOutOfMemory log c.args.by c.args.version q (subscribe_result_view r) new) (sym (p.1 ∙ ap Err p.2))
+    (subscribe_refused log c.args.by c.args.version c.in_ok-start.start q new c.in_err-id.field-0.0 (sym c.in_ok-start.ensures) (sym c.ids_exhausted.ensures ∙ c.if-ids_exhausted.false)
+    (subst (λ w. IsRefusalOrOutOfMemory (open_queue c.args.by c.in_ok-start.start w) c.in_err-id.field-0.0) is c.in_err-id.ensures.err) (ap (λ f. f k) c.in_err-id.ensures.same ∙ is))
 
 pub returns-clause-subscribes : goal.returns-clause-subscribes
 returns-clause-subscribes c =
@@ -51,10 +51,10 @@ returns-clause-subscribes c =
     let q = queues_of c.args.self.now k in
     let is = ap (λ f. f k) c.fetch.ensures.queues in
     let told = c.in_ok-version.field-0 in
-    subscribe_done log c.args.by c.args.version c.in_ok-start.start c.in_ok-id.id told.version q (queues_of c.open.new.self k) (option_map view told.snapshot) (sym c.in_ok-start.ensures)
-    (c.in_ok-id.ensures.ok ∙ ap (λ w. w.next) is) (subst (λ w. opened c.args.by c.in_ok-start.start w ≡ Ok (queues_of c.open.new.self k)) is c.in_ok-id.ensures.opened) c.in_ok-version.ensures.fetched
+    subscribe_done log c.args.by c.args.version c.in_ok-start.start c.in_ok-id.id told.version q (queues_of c.open.new.self k) (option_map value_of told.snapshot) (sym c.in_ok-start.ensures)
+    (c.in_ok-id.ensures.ok ∙ ap (λ w. w.next) is) (subst (λ w. open_queue c.args.by c.in_ok-start.start w ≡ Ok (queues_of c.open.new.self k)) is c.in_ok-id.ensures.opened) c.in_ok-version.ensures.fetched
 
 pub returns-clause-rings : goal.returns-clause-rings
 returns-clause-rings c =
     let k = plain_key c.args.key.now in
-    subst (λ f. ringed_of c.open.new.self ≡ with_ringed f k (opened_ringed c.in_ok-id.id c.args.by c.in_ok-start.start (f k))) c.fetch.ensures.rings c.in_ok-id.ensures.rings
+    subst (λ f. ringed_queues_of c.open.new.self ≡ with_ringed_queues f k (append_ringed_queue c.in_ok-id.id c.args.by c.in_ok-start.start (f k))) c.fetch.ensures.rings c.in_ok-id.ensures.rings

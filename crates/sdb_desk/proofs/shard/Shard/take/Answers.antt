@@ -1,80 +1,80 @@
-use Rattle.sdb_desk.proofs.Looks.{on_ok, on_err}
+use Rattle.sdb_desk.proofs.LookLemmas.{on_ok, on_err}
 use Rattle.std.proofs.Common.{ap, ◌∙◌, sym}
-use Rattle.sdb_oplog.specs.Keys.{plain_key, with_at}
-use Rattle.sdb_subscribe.specs.Ring.{bare, after_take_ringed_by}
-use Rattle.sdb_desk.specs.MapView.{held}
-use Rattle.sdb_desk.specs.MapViewLaws.{write_through, held_found, same_at, held_none, kept_at}
-use Rattle.sdb_desk.specs.ShardView.{topics_of, queues_of, ringed_of}
-use Rattle.sdb_desk.specs.Topics.{no_topic}
-use Rattle.sdb_desk.proofs.Writing.{logs_left, kept_left, queues_others, rings_left, rings_written}
+use Rattle.sdb_oplog.specs.Keys.{plain_key, with_value_at_key}
+use Rattle.sdb_subscribe.specs.Ring.{without_rings, ringed_queues_after_take_by}
+use Rattle.sdb_desk.specs.MapModel.{value_at_key}
+use Rattle.sdb_desk.specs.MapLaws.{updated_of_write, value_at_lookup_some, updated_at_unchanged, value_at_lookup_none, updated_at_same}
+use Rattle.sdb_desk.specs.ShardView.{slots_of, queues_of, ringed_queues_of}
+use Rattle.sdb_desk.specs.SlotModel.{empty_slot}
+use Rattle.sdb_desk.proofs.MapWriteLemmas.{logs_unchanged, caches_unchanged, queues_others, rings_unchanged, rings_written}
 use Rattle.sdb_desk.proofs.shard.Shard.take.Goals as goal
 
 pub returns-in-Some-clause-others : goal.returns-in-Some-clause-others
 returns-in-Some-clause-others c =
-    let es = c.args.self.now.topics.entries in
+    let es = c.args.self.now.slots.entries in
     let old = c.in-Some.topic.now in
     let new = c.take.new.self in
     let k = plain_key c.args.key.now in
-    let f = topics_of c.args.self.now in
-    let g = held no_topic (c.get_mut.follows.lender new).entries in
-    let found = held_found no_topic es c.args.key.now old c.in-Some.ensures.value in
-    let wrote = write_through no_topic es _ c.args.key.now old new c.in-Some.ensures.value (c.get_mut.follows.holds new).0 in
+    let f = slots_of c.args.self.now in
+    let g = value_at_key empty_slot (c.get_mut.follows.lender new).entries in
+    let found = value_at_lookup_some empty_slot es c.args.key.now old c.in-Some.ensures.value in
+    let wrote = updated_of_write empty_slot es _ c.args.key.now old new c.in-Some.ensures.value (c.get_mut.follows.holds new).0 in
     queues_others f g k old new found wrote
 
 pub returns-in-Some-clause-logs : goal.returns-in-Some-clause-logs
 returns-in-Some-clause-logs c =
-    let es = c.args.self.now.topics.entries in
+    let es = c.args.self.now.slots.entries in
     let old = c.in-Some.topic.now in
     let new = c.take.new.self in
     let k = plain_key c.args.key.now in
-    let f = topics_of c.args.self.now in
-    let g = held no_topic (c.get_mut.follows.lender new).entries in
-    let found = held_found no_topic es c.args.key.now old c.in-Some.ensures.value in
-    let wrote = write_through no_topic es _ c.args.key.now old new c.in-Some.ensures.value (c.get_mut.follows.holds new).0 in
-    logs_left f g k old new found wrote c.take.ensures.document
+    let f = slots_of c.args.self.now in
+    let g = value_at_key empty_slot (c.get_mut.follows.lender new).entries in
+    let found = value_at_lookup_some empty_slot es c.args.key.now old c.in-Some.ensures.value in
+    let wrote = updated_of_write empty_slot es _ c.args.key.now old new c.in-Some.ensures.value (c.get_mut.follows.holds new).0 in
+    logs_unchanged f g k old new found wrote c.take.ensures.document
 
 pub returns-in-Some-clause-kept : goal.returns-in-Some-clause-kept
 returns-in-Some-clause-kept c =
-    let es = c.args.self.now.topics.entries in
+    let es = c.args.self.now.slots.entries in
     let old = c.in-Some.topic.now in
     let new = c.take.new.self in
     let k = plain_key c.args.key.now in
-    let f = topics_of c.args.self.now in
-    let g = held no_topic (c.get_mut.follows.lender new).entries in
-    let found = held_found no_topic es c.args.key.now old c.in-Some.ensures.value in
-    let wrote = write_through no_topic es _ c.args.key.now old new c.in-Some.ensures.value (c.get_mut.follows.holds new).0 in
-    kept_left f g k old new found wrote c.take.ensures.document
+    let f = slots_of c.args.self.now in
+    let g = value_at_key empty_slot (c.get_mut.follows.lender new).entries in
+    let found = value_at_lookup_some empty_slot es c.args.key.now old c.in-Some.ensures.value in
+    let wrote = updated_of_write empty_slot es _ c.args.key.now old new c.in-Some.ensures.value (c.get_mut.follows.holds new).0 in
+    caches_unchanged f g k old new found wrote c.take.ensures.document
 
 pub returns-in-None-clause-others : goal.returns-in-None-clause-others
-returns-in-None-clause-others c = same_at (queues_of c.args.self.now) _ (plain_key c.args.key.now) (ap (λ m. (λ q. bare (held no_topic m.entries q).queues)) c.get_mut.follows.holds-at-none)
+returns-in-None-clause-others c = updated_at_unchanged (queues_of c.args.self.now) _ (plain_key c.args.key.now) (ap (λ m. (λ q. without_rings (value_at_key empty_slot m.entries q).queues)) c.get_mut.follows.holds-at-none)
 
 pub returns-in-Some-clause-rings : goal.returns-in-Some-clause-rings
 returns-in-Some-clause-rings c =
-    let es = c.args.self.now.topics.entries in
+    let es = c.args.self.now.slots.entries in
     let old = c.in-Some.topic.now in
     let new = c.take.new.self in
     let k = plain_key c.args.key.now in
-    let f = topics_of c.args.self.now in
-    let g = held no_topic (c.get_mut.follows.lender new).entries in
-    let found = held_found no_topic es c.args.key.now old c.in-Some.ensures.value in
-    let wrote = write_through no_topic es _ c.args.key.now old new c.in-Some.ensures.value (c.get_mut.follows.holds new).0 in
-    on_ok c.take.result (λ e. rings_written f g k old new found wrote ∙ ap (with_at (ringed_of c.args.self.now) k) (e ∙ ap (λ t. after_take_ringed_by t.document.log c.args.by c.args.id c.args.max t.queues.queues) found)) c.take.ensures.rings
+    let f = slots_of c.args.self.now in
+    let g = value_at_key empty_slot (c.get_mut.follows.lender new).entries in
+    let found = value_at_lookup_some empty_slot es c.args.key.now old c.in-Some.ensures.value in
+    let wrote = updated_of_write empty_slot es _ c.args.key.now old new c.in-Some.ensures.value (c.get_mut.follows.holds new).0 in
+    on_ok c.take.result (λ e. rings_written f g k old new found wrote ∙ ap (with_value_at_key (ringed_queues_of c.args.self.now) k) (e ∙ ap (λ t. ringed_queues_after_take_by t.document.log c.args.by c.args.id c.args.max t.queues.queues) found)) c.take.ensures.rings
 
 pub returns-in-Some-clause-rings_left : goal.returns-in-Some-clause-rings_left
 returns-in-Some-clause-rings_left c =
-    let es = c.args.self.now.topics.entries in
+    let es = c.args.self.now.slots.entries in
     let old = c.in-Some.topic.now in
     let new = c.take.new.self in
     let k = plain_key c.args.key.now in
-    let f = topics_of c.args.self.now in
-    let g = held no_topic (c.get_mut.follows.lender new).entries in
-    let found = held_found no_topic es c.args.key.now old c.in-Some.ensures.value in
-    let wrote = write_through no_topic es _ c.args.key.now old new c.in-Some.ensures.value (c.get_mut.follows.holds new).0 in
-    on_err c.take.result (λ e. rings_left f g k old new found wrote (ap (λ t. t.queues) e)) c.take.ensures.err
+    let f = slots_of c.args.self.now in
+    let g = value_at_key empty_slot (c.get_mut.follows.lender new).entries in
+    let found = value_at_lookup_some empty_slot es c.args.key.now old c.in-Some.ensures.value in
+    let wrote = updated_of_write empty_slot es _ c.args.key.now old new c.in-Some.ensures.value (c.get_mut.follows.holds new).0 in
+    on_err c.take.result (λ e. rings_unchanged f g k old new found wrote (ap (λ t. t.queues) e)) c.take.ensures.err
 
 pub returns-in-None-clause-rings : goal.returns-in-None-clause-rings
 returns-in-None-clause-rings c =
-    let es = c.args.self.now.topics.entries in
+    let es = c.args.self.now.slots.entries in
     let k = plain_key c.args.key.now in
-    let none = held_none no_topic es c.args.key.now c.in-None.ensures.value in
-    ap (λ m. (λ q. (held no_topic m.entries q).queues.queues)) c.get_mut.follows.holds-at-none ∙ kept_at (ringed_of c.args.self.now) k _ (ap (λ t. after_take_ringed_by t.document.log c.args.by c.args.id c.args.max t.queues.queues) (sym none) ∙ ap (λ t. t.queues.queues) none)
+    let none = value_at_lookup_none empty_slot es c.args.key.now c.in-None.ensures.value in
+    ap (λ m. (λ q. (value_at_key empty_slot m.entries q).queues.queues)) c.get_mut.follows.holds-at-none ∙ updated_at_same (ringed_queues_of c.args.self.now) k _ (ap (λ t. ringed_queues_after_take_by t.document.log c.args.by c.args.id c.args.max t.queues.queues) (sym none) ∙ ap (λ t. t.queues.queues) none)

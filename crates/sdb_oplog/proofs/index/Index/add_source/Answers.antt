@@ -1,8 +1,8 @@
 use Rattle.std.proofs.Common.{Some, sym, ap, ◌∙◌, arith, string_bytes}
 use Rattle.std.specs.HashMap.{get_by_text}
 use Rattle.std.proofs.lemmas.Map.Text.{hash_map_updates_text}
-use Rattle.sdb_oplog.proofs.Numbers.{changed_same, number_in, none_in}
-use Rattle.sdb_oplog.proofs.Used.{other_used}
+use Rattle.sdb_oplog.proofs.NumberMapLemmas.{changed_same, number_in, none_in}
+use Rattle.sdb_oplog.proofs.IndexUseLemmas.{other_used}
 use Rattle.sdb_oplog.proofs.index.Index.add_source.Goals as goal
 
 pub returns-clause-same : goal.returns-clause-same

@@ -1,5 +1,5 @@
 use Rattle.std.proofs.Common.{◌∙◌}
-use Rattle.sdb_projection.proofs.Fields.{any_field}
+use Rattle.sdb_projection.proofs.FieldLemmas.{any_field}
 use Rattle.sdb_projection.proofs.projection.Projection.is_field.Goals as goal
 
 pub returns : goal.returns

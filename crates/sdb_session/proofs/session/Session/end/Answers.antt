@@ -1,15 +1,15 @@
 use Rattle.std.proofs.Common.{◌++◌, [], ◌∷◌, map, refl, sym, ap, ◌∙◌, append_assoc}
 use Rattle.sdb_oplog.specs.declared.keys.Key.{Key}
-use Rattle.sdb_session.specs.View.{plain_sub}
+use Rattle.sdb_session.specs.View.{plain_subscription}
 use Rattle.sdb_session.specs.declared.subscriptions.Subscription.{Subscription}
-use Rattle.sdb_session.proofs.Taking.{closed_more, closed_none}
+use Rattle.sdb_session.proofs.PumpLemmas.{closed_more, closed_none}
 use Rattle.sdb_session.proofs.session.Session.end.Goals as goal
 
 pub loop-queue-init : goal.loop-queue-init
 loop-queue-init g c = record {
   takes = c.requires.takes;
   number = refl;
-  so_far = ([], (ap (map plain_sub) (c.into_iter-queue-iterator.ensures.into_iter_gives ∙ c.iter-queue-items.ensures.rest), closed_none (g.D.Desk.acts c.args.desk.now) c.args.pass.now));
+  so_far = ([], (ap (map plain_subscription) (c.into_iter-queue-iterator.ensures.into_iter_gives ∙ c.iter-queue-items.ensures.rest), closed_none (g.D.Desk.step c.args.desk.now) c.args.pass.now));
 }
 
 pub loop-queue-preserved : goal.loop-queue-preserved
@@ -21,10 +21,10 @@ loop-queue-preserved g c =
       takes = c.unsubscribe.ensures.takes;
       number = c.unsubscribe.ensures.number ∙ c.loop-queue.invariant.number;
       so_far = (
-        far.0 ++ plain_sub e ∷ [],
+        far.0 ++ plain_subscription e ∷ [],
         (
-          append_assoc far.0 (plain_sub e ∷ []) (map plain_sub rest) ∙ ap (λ es. far.0 ++ map plain_sub es) (sym c.in-Some.ensures.steps) ∙ far.1.0,
-          closed_more (g.D.Desk.acts c.args.desk.now) far.0 (plain_sub e) c.args.pass.now c.loop-queue.pass c.unsubscribe.new.pass far.1.1 c.unsubscribe.ensures.acts,
+          append_assoc far.0 (plain_subscription e ∷ []) (map plain_subscription rest) ∙ ap (λ es. far.0 ++ map plain_subscription es) (sym c.in-Some.ensures.steps) ∙ far.1.0,
+          closed_more (g.D.Desk.step c.args.desk.now) far.0 (plain_subscription e) c.args.pass.now c.loop-queue.pass c.unsubscribe.new.pass far.1.1 c.unsubscribe.ensures.acts,
         ),
       );
     }

@@ -1,6 +1,6 @@
 use Rattle.sdb_session.specs.View.{plain_session}
-use Rattle.sdb_session.proofs.Taking.{stops_at_once}
+use Rattle.sdb_session.proofs.PumpLemmas.{stops_at_once}
 use Rattle.sdb_session.proofs.session.Session.pump_to.Goals as goal
 
 pub returns-in-Some-clause-stops : goal.returns-in-Some-clause-stops
-returns-in-Some-clause-stops g c = stops_at_once (g.D.Desk.acts c.args.desk.now) c.args.max (plain_session c.args.self.now) c.args.pass.now
+returns-in-Some-clause-stops g c = stops_at_once (g.D.Desk.step c.args.desk.now) c.args.max (plain_session c.args.self.now) c.args.pass.now

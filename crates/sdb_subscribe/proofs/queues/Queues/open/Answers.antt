@@ -1,10 +1,10 @@
 use Rattle.std.proofs.Common.{◌+◌, ◌++◌, ◌∷◌, [], Ok, Err, Some, sym, ap, ◌∙◌, subst}
 use Rattle.sdb_oplog.specs.declared.codes.Code.TheVariants.{E11}
-use Rattle.sdb_subscribe.specs.Queue.{opened, queue_at}
-use Rattle.sdb_subscribe.specs.Ring.{bare, bare_queues, FitLog}
-use Rattle.sdb_subscribe.specs.Laws.{opened_at}
-use Rattle.sdb_subscribe.proofs.Entries.{added, added_bare, given_added, given_bare, other_than}
-use Rattle.sdb_subscribe.proofs.Rings.{fit_added, fits_empty}
+use Rattle.sdb_subscribe.specs.Queue.{open_queue, queue_at}
+use Rattle.sdb_subscribe.specs.Ring.{without_rings, queues_without_rings, AreRingsOfLog}
+use Rattle.sdb_subscribe.specs.Laws.{queue_at_opened}
+use Rattle.sdb_subscribe.proofs.QueueMapLemmas.{insert_new_last, added_bare, given_added, given_bare, other_than}
+use Rattle.sdb_subscribe.proofs.RingLemmas.{fit_added, fits_empty}
 use Rattle.sdb_subscribe.proofs.queues.Queues.open.Goals as goal
 
 pub invariant_of-self-2 : goal.invariant_of-self-2
@@ -12,32 +12,32 @@ invariant_of-self-2 c =
     let es = c.self.inside.queues.entries in
     let n = c.self.inside.next in
     let w = c.in_ok-queue.queue in
-    rw (c.in-Ok.ensures.entries ∙ added n w es c.self.invariant) (given_added n w es c.self.invariant)
+    rw (c.in-Ok.ensures.entries ∙ insert_new_last n w es c.self.invariant) (given_added n w es c.self.invariant)
 
 pub returns-clause-ok : goal.returns-clause-ok
 returns-clause-ok c =
     let es = c.self.inside.queues.entries in
     let n = c.self.inside.next in
     let w = c.in_ok-queue.queue in
-    ap (λ q. opened c.args.by c.args.from (bare q)) (sym c.self.view_is)
-    ∙ other_than n 18446744073709551615 (Err E11) (Ok (record { next = n + 1; queues = bare_queues es ++ (n, record { start = c.args.from; taken = 0; by = c.args.by }) ∷ [] })) c.if-number.false
-    ∙ ap (λ v. Ok (record { next = n + 1; queues = bare_queues es ++ (n, v.queue) ∷ [] })) (sym c.in_ok-queue.ensures)
-    ∙ ap (λ l. Ok (record { next = n + 1; queues = l })) (sym (ap bare_queues (c.in-Ok.ensures.entries ∙ added n w es c.self.invariant) ∙ added_bare n w es))
+    ap (λ q. open_queue c.args.by c.args.from (without_rings q)) (sym c.self.view_is)
+    ∙ other_than n 18446744073709551615 (Err E11) (Ok (record { next = n + 1; queues = queues_without_rings es ++ (n, record { start = c.args.from; taken = 0; by = c.args.by }) ∷ [] })) c.if-number.false
+    ∙ ap (λ v. Ok (record { next = n + 1; queues = queues_without_rings es ++ (n, v.queue) ∷ [] })) (sym c.in_ok-queue.ensures)
+    ∙ ap (λ l. Ok (record { next = n + 1; queues = l })) (sym (ap queues_without_rings (c.in-Ok.ensures.entries ∙ insert_new_last n w es c.self.invariant) ∙ added_bare n w es))
 
 pub returns-clause-open : goal.returns-clause-open
 returns-clause-open c =
     let es = c.self.inside.queues.entries in
     let n = c.self.inside.next in
     let w = c.in_ok-queue.queue in
-    ap (queue_at n) (ap bare_queues (c.in-Ok.ensures.entries ∙ added n w es c.self.invariant) ∙ added_bare n w es)
-    ∙ opened_at n w.queue (bare_queues es) (given_bare n es c.self.invariant) ∙ ap (λ v. Some v.queue) c.in_ok-queue.ensures
+    ap (queue_at n) (ap queues_without_rings (c.in-Ok.ensures.entries ∙ insert_new_last n w es c.self.invariant) ∙ added_bare n w es)
+    ∙ queue_at_opened n w.queue (queues_without_rings es) (given_bare n es c.self.invariant) ∙ ap (λ v. Some v.queue) c.in_ok-queue.ensures
 
 pub returns-clause-rings : goal.returns-clause-rings
 returns-clause-rings c =
     let es = c.self.inside.queues.entries in
     let n = c.self.inside.next in
     let w = c.in_ok-queue.queue in
-    c.in-Ok.ensures.entries ∙ added n w es c.self.invariant ∙ ap (λ v. es ++ (n, v) ∷ []) c.in_ok-queue.ensures
+    c.in-Ok.ensures.entries ∙ insert_new_last n w es c.self.invariant ∙ ap (λ v. es ++ (n, v) ∷ []) c.in_ok-queue.ensures
     ∙ ap (λ q. q.queues ++ (q.next, record { queue = record { start = c.args.from; taken = 0; by = c.args.by }; ring = [] }) ∷ []) c.self.view_is
 
 pub returns-clause-fit : goal.returns-clause-fit
@@ -45,5 +45,5 @@ returns-clause-fit c =
     let es = c.self.inside.queues.entries in
     let n = c.self.inside.next in
     let w = c.in_ok-queue.queue in
-    λ log f. subst (FitLog log) (sym (c.in-Ok.ensures.entries ∙ added n w es c.self.invariant))
-    (fit_added log es (n, w) (subst (λ q. FitLog log q.queues) (sym c.self.view_is) f) (fits_empty log w (ap (λ v. v.ring) c.in_ok-queue.ensures)))
+    λ log f. subst (AreRingsOfLog log) (sym (c.in-Ok.ensures.entries ∙ insert_new_last n w es c.self.invariant))
+    (fit_added log es (n, w) (subst (λ q. AreRingsOfLog log q.queues) (sym c.self.view_is) f) (fits_empty log w (ap (λ v. v.ring) c.in_ok-queue.ensures)))

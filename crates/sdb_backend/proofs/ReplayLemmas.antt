@@ -1,0 +1,155 @@
+-- A snapshot by version: lent at one history, replayed, and answered at a later one.
+use Rattle.std.proofs.Common.{◌≡◌, ℕ, ◌<◌, ◌≤◌, ◌⊎◌, inl, inr, Bool, true, false, cond, zero, suc, List, [], ◌∷◌, ◌++◌, take, drop, length, nat_eq, nat_lt, min, Option, Some, None, option_map, Result, Ok, Err, refl, sym, ap, ◌∙◌, subst, arith, length-append}
+use Rattle.std.proofs.lemmas.Bool.{eqb-true, le-ltb, lt-ltb}
+use Rattle.std.proofs.lemmas.Bool.Decides.{nat_tests}
+use Rattle.std.proofs.lemmas.List.{take-append-le}
+use Rattle.std.specs.Bool.{◌==◌}
+use Rattle.std.specs.Vec.{vec_len}
+use Rattle.std.specs.Option.{is_some, option_map_or}
+use Rattle.std.specs.Result.{result_ok}
+use Rattle.sdb_value.specs.Value.{Value}
+use Rattle.sdb_oplog.specs.Plain.{PlainEntry}
+use Rattle.sdb_oplog.specs.Keys.{Logs, PlainKey, shard_of}
+use Rattle.sdb_oplog.specs.Decide.{IsMade}
+use Rattle.sdb_oplog.specs.Laws.{made_moments_ordered, version_at_append, version_at_within}
+use Rattle.sdb_oplog.specs.Moments.{MomentsOrderedFrom, version_at}
+use Rattle.sdb_oplog.specs.Snap.{document_of, snap_from}
+use Rattle.sdb_oplog.specs.declared.codes.Code.{Code}
+use Rattle.sdb_oplog.specs.declared.codes.Code.TheVariants.{E4, E10}
+use Rattle.sdb_desk.specs.Machine.{Machine, PlainFetchResult, IsUnchanged, ReadOrOutOfMemory, read_has_version, snapshot_at, fetch_at_moment}
+use Rattle.sdb_desk.specs.Reads.{PlainReplayBase, IsReplayBase}
+use Rattle.sdb_desk.specs.ShardView.{machine_of, logs_of}
+use Rattle.sdb_desk.specs.View.{plain_replay_base}
+use Rattle.sdb_desk.specs.declared.replay_base.ReplayBase.{ReplayBase}
+use Rattle.sdb_submit.specs.Calls.{snapshot, snapshot_at_time, forget, MachineStep}
+use Rattle.sdb_backend.specs.CallAnswers.{AnsweredAtExtension}
+use Rattle.sdb_backend.specs.HistoryOrder.{IsExtension}
+use Rattle.sdb_backend.specs.ReplayBases.{IsDocumentAt}
+use Rattle.sdb_backend.specs.declared.shard_value.Held.{Held}
+use Rattle.sdb_backend.specs.declared.pass.Pass.{Pass}
+
+-- ---- what is lent
+
+-- leads to a document
+pub base_leads_to_version : (log : List PlainEntry) (v : ℕ) (l : PlainReplayBase) → IsReplayBase log v l → is_some (snap_from l.snapshot l.entries) ≡ true
+base_leads_to_version log v l h = ap is_some h.2
+
+some_is : {A : Type 0} (x y : A) → Some x ≡ Some y → x ≡ y
+some_is x y e = cc
+
+-- which is that of the version
+pub lent_at : (log : List PlainEntry) (v : ℕ) (l : PlainReplayBase) (d : Option Value) → IsReplayBase log v l → snap_from l.snapshot l.entries ≡ Some d → IsDocumentAt log v d
+lent_at log v l d h is = (h.0, some_is (document_of (take v log)) d (sym h.2 ∙ is))
+
+-- and is the same later
+pub at_later : (log new : List PlainEntry) (v : ℕ) (d : Option Value) → IsExtension new log → IsDocumentAt log v d → IsDocumentAt new v d
+at_later log new v d h at =
+    let w = at.0 in
+    let n = length-append log h.0 in
+    let longer : v ≤ length (log ++ h.0) = omega (arith, w, n) in
+    subst (λ l. IsDocumentAt l v d) (sym h.1) (longer, ap document_of (take-append-le v log h.0 at.0) ∙ at.1)
+
+-- at the present version nothing is left to replay: what is lent is the document
+pub base_whole : (log : List PlainEntry) (v : ℕ) (l : PlainReplayBase) → IsReplayBase log v l → l.entries ≡ [] → IsDocumentAt log v l.snapshot
+base_whole log v l h none = lent_at log v l l.snapshot h (ap (snap_from l.snapshot) none)
+
+-- ---- what is answered
+
+due_or : (b : Bool) (log : List PlainEntry) (v : ℕ) → nat_lt (length log) v ≡ b → v ≤ length log
+    → cond {A = Result PlainFetchResult Code} b (Err E4) (Ok (record { version = v; snapshot = document_of (take v log) })) ≡ Ok (record { version = v; snapshot = document_of (take v log) })
+due_or true log v is within = let no : nat_lt (length log) v ≡ false = le-ltb (length log) v within in cc
+due_or false log v is within = refl
+
+snapshot_at_in_range : (log : List PlainEntry) (v : ℕ) → v ≤ length log → snapshot_at log (Some v) ≡ Ok (record { version = v; snapshot = document_of (take v log) })
+snapshot_at_in_range log v within = due_or (nat_lt (length log) v) log v refl within
+
+pub read_at : (by : ℕ) (m new : Machine) (k : PlainKey) (v : ℕ) (d : Option Value) → IsDocumentAt (m.logs k) v d → IsUnchanged m new
+    → MachineStep by m k (snapshot (Some v)) (Ok (record { version = v; snapshot = d })) new
+read_at by m new k v d at same =
+    (inr (sym (snapshot_at_in_range (m.logs k) v at.0 ∙ ap (λ x. Ok (record { version = v; snapshot = x })) at.1)), same)
+
+take_none : (log : List PlainEntry) → take 0 log ≡ []
+take_none [] = refl
+take_none (e ∷ es) = refl
+
+drop_none : (w : ℕ) → drop {A = PlainEntry} w [] ≡ []
+drop_none zero = refl
+drop_none (suc w) = refl
+
+-- where there are entries, the version is above 0
+above_zero : (log : List PlainEntry) (v w : ℕ) (es : List PlainEntry) → es ≡ drop w (take v log) → 0 < length es → 0 < v
+above_zero log zero w es e some =
+    let none : length es ≡ 0 = ap length (e ∙ ap (drop w) (take_none log) ∙ drop_none w) in
+    absurd (omega (arith, none, some))
+above_zero log (suc v) w es e some = omega arith
+
+-- want of memory while they are replayed
+pub wanting_at : (by : ℕ) (m new : Machine) (k : PlainKey) (v : ℕ) (l : PlainReplayBase) → IsReplayBase (m.logs k) v l → 0 < length l.entries → IsUnchanged m new
+    → MachineStep by m k (snapshot (Some v)) (Err E10) new
+wanting_at by m new k v l h some same =
+    let above : nat_lt 0 v ≡ true = lt-ltb 0 v (above_zero (m.logs k) v l.version l.entries h.1 some) in
+    (inl (refl, ap (λ r. option_map_or read_has_version (result_ok r) false) (snapshot_at_in_range (m.logs k) v h.0) ∙ above), same)
+
+-- ---- a document at a moment
+
+-- want of memory for what is lent
+pub wanting_then : (log : List PlainEntry) (v t : ℕ) (code : Code) → v ≡ version_at log t → v ≤ length log
+    → ReadOrOutOfMemory read_has_version (Err code) (snapshot_at log (Some v)) → ReadOrOutOfMemory read_has_version (Err code) (Ok (fetch_at_moment log (Some t)))
+wanting_then log v t code is within (inl h) =
+    let some : nat_lt 0 v ≡ true = sym (ap (λ r. option_map_or read_has_version (result_ok r) false) (snapshot_at_in_range log v within)) ∙ h.1 in
+    inl (h.0, ap (nat_lt 0) (sym is) ∙ some)
+wanting_then log v t code is within (inr h) = let no : Err code ≡ Ok _ = h ∙ snapshot_at_in_range log v within in cc
+
+-- what was lent for a moment, or replayed, is the document then
+pub read_then : (by : ℕ) (m new : Machine) (k : PlainKey) (v t : ℕ) (d : Option Value) → v ≡ version_at (m.logs k) t → IsDocumentAt (m.logs k) v d
+    → IsUnchanged m new → MachineStep by m k (snapshot_at_time (Some t)) (Ok (record { version = v; snapshot = d })) new
+read_then by m new k v t d is at same =
+    let log = m.logs k in
+    let there : document_of (take (version_at log t) log) ≡ d = ap (λ n. document_of (take n log)) (sym is) ∙ at.1 in
+    (inr (ap Ok (λ i. record { version = is i; snapshot = sym there i })), same)
+
+-- the version at a moment is the same later, where it isn't the present one
+pub then_later : (log new : List PlainEntry) (v t : ℕ) → IsExtension new log → IsMade new → v ≡ version_at log t → v < length log → v ≡ version_at new t
+then_later log new v t h made is below =
+    let time : MomentsOrderedFrom 0 (log ++ h.0) = subst (MomentsOrderedFrom 0) h.1 (made_moments_ordered new made) in
+    is ∙ sym (version_at_append 0 log h.0 t time (omega (arith, is, below))) ∙ ap (λ l. version_at l t) (sym h.1)
+
+entries_remain : (es : List PlainEntry) → 0 < length es → es ≡ [] → ⊥
+entries_remain es some none = let n : length es ≡ 0 = ap length none in omega (arith, n, some)
+
+-- and it isn't, where entries are lent
+pub before_present : (log : List PlainEntry) (v : ℕ) (l : PlainReplayBase) → IsReplayBase log v l → (v ≡ length log → l.entries ≡ []) → 0 < length l.entries
+    → v < length log
+before_present log v l h whole some = by_case (nat_eq v (length log)) refl where
+  by_case : (b : Bool) → nat_eq v (length log) ≡ b → v < length log
+  by_case true e = absurd (entries_remain l.entries some (whole (eqb-true v (length log) e)))
+  by_case false e = let w = h.0 in grind (arith, nat_tests)
+
+-- what a pass saw of the version at a moment holds at the later history, where its document isn't lent whole
+pub version_unchanged : (k : PlainKey) (t v : ℕ) (l : PlainReplayBase) (at left x w : Held) → v ≡ version_at (logs_of at.shard k) t
+    → IsReplayBase (logs_of at.shard k) v l → (v ≡ length (logs_of at.shard k) → l.entries ≡ []) → 0 < length l.entries
+    → IsUnchanged (machine_of at.shard) (machine_of left.shard) → left ≡ x → IsExtension (logs_of w.shard k) (logs_of x.shard k)
+    → IsMade (logs_of w.shard k) → v ≡ version_at (logs_of w.shard k) t
+version_unchanged k t v l at left x w is lends whole some same one longer made =
+    let Q : Logs → Type 0 = λ f. (v ≡ version_at (f k) t) × (v < length (f k)) in
+    let there : Q (logs_of at.shard) = (is, before_present (logs_of at.shard k) v l lends whole some) in
+    let behind : Q (logs_of left.shard) = subst Q (sym same.0) there in
+    let seen : Q (logs_of x.shard) = subst (λ (y : Held). Q (logs_of y.shard)) one behind in
+    then_later (logs_of x.shard k) (logs_of w.shard k) v t longer made seen.0 seen.1
+
+-- want of memory for what is lent for a moment
+pub wanting_lent : (log : List PlainEntry) (v t : ℕ) (code : Code) → v ≡ version_at log t
+    → ReadOrOutOfMemory read_has_version (Err code) (snapshot_at log (Some v)) → ReadOrOutOfMemory read_has_version (Err code) (Ok (fetch_at_moment log (Some t)))
+wanting_lent log v t code is h =
+    let n = version_at_within log t in
+    wanting_then log v t code is (omega (arith, is, n)) h
+
+-- and while it is replayed
+pub wanting_replayed : (by : ℕ) (m new : Machine) (k : PlainKey) (v t : ℕ) (l : PlainReplayBase) → v ≡ version_at (m.logs k) t
+    → IsReplayBase (m.logs k) v l → 0 < length l.entries → IsUnchanged m new → MachineStep by m k (snapshot_at_time (Some t)) (Err E10) new
+wanting_replayed by m new k v t l is h some same =
+    (wanting_then (m.logs k) v t E10 is h.0 (wanting_at by m new k v l h some same).0, same)
+
+-- what is not empty has entries
+pub some_entries : (l : ReplayBase) (r : Bool) → r ≡ (vec_len l.entries == 0) → r ≡ false → 0 < length l.entries.items
+some_entries l r e f = let h : (vec_len l.entries == 0) ≡ false = sym e ∙ f in grind (arith, nat_tests)

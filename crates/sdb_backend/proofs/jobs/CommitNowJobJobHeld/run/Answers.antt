@@ -1,0 +1,14 @@
+use Rattle.sdb_oplog.specs.Keys.{plain_key}
+use Rattle.sdb_desk.specs.ShardView.{machine_of}
+use Rattle.sdb_desk.specs.ReplyView.{plain_reply}
+use Rattle.sdb_submit.specs.Calls as call
+use Rattle.sdb_backend.proofs.HistoryGrowth.{acts_grown}
+use Rattle.sdb_backend.proofs.jobs.CommitNowJobJobHeld.run.Goals as goal
+
+pub returns-clause-extends : goal.returns-clause-extends
+returns-clause-extends c =
+    (acts_grown c.args._number (machine_of c.args.held.now.shard) (plain_key c.args.self.key.now) (call.commit_now c.args.self.submission.now c.args.self.now) (plain_reply c.commit_now.result) (machine_of c.commit_now.new.self) c.requires (c.commit_now.ensures.decides, c.commit_now.ensures.queues)).extends
+
+pub returns-clause-others : goal.returns-clause-others
+returns-clause-others c =
+    (acts_grown c.args._number (machine_of c.args.held.now.shard) (plain_key c.args.self.key.now) (call.commit_now c.args.self.submission.now c.args.self.now) (plain_reply c.commit_now.result) (machine_of c.commit_now.new.self) c.requires (c.commit_now.ensures.decides, c.commit_now.ensures.queues)).others

@@ -1,0 +1,11 @@
+use Rattle.sdb_desk.specs.ShardView.{machine_of}
+use Rattle.sdb_backend.proofs.HistoryGrowth.{same_grown}
+use Rattle.sdb_backend.proofs.jobs.ReplayBaseJobJobHeld.run.Goals as goal
+
+pub returns-clause-extends : goal.returns-clause-extends
+returns-clause-extends c =
+    (same_grown c.args._number (machine_of c.args.held.now.shard) (machine_of c.replay_base.new.self) (c.replay_base.ensures.logs, c.replay_base.ensures.queues)).extends
+
+pub returns-clause-others : goal.returns-clause-others
+returns-clause-others c =
+    (same_grown c.args._number (machine_of c.args.held.now.shard) (machine_of c.replay_base.new.self) (c.replay_base.ensures.logs, c.replay_base.ensures.queues)).others

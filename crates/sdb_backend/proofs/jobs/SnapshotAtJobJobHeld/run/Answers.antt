@@ -1,0 +1,14 @@
+use Rattle.sdb_oplog.specs.Keys.{plain_key}
+use Rattle.sdb_desk.specs.ShardView.{machine_of}
+use Rattle.sdb_desk.specs.View.{fetch_result_view}
+use Rattle.sdb_submit.specs.Calls as call
+use Rattle.sdb_backend.proofs.HistoryGrowth.{acts_grown}
+use Rattle.sdb_backend.proofs.jobs.SnapshotAtJobJobHeld.run.Goals as goal
+
+pub returns-clause-extends : goal.returns-clause-extends
+returns-clause-extends c =
+    (acts_grown c.args._number (machine_of c.args.held.now.shard) (plain_key c.args.self.key.now) (call.snapshot c.args.self.version) (fetch_result_view c.snapshot_at.result) (machine_of c.snapshot_at.new.self) tt (c.snapshot_at.ensures.snapshot, (c.snapshot_at.ensures.logs, c.snapshot_at.ensures.queues))).extends
+
+pub returns-clause-others : goal.returns-clause-others
+returns-clause-others c =
+    (acts_grown c.args._number (machine_of c.args.held.now.shard) (plain_key c.args.self.key.now) (call.snapshot c.args.self.version) (fetch_result_view c.snapshot_at.result) (machine_of c.snapshot_at.new.self) tt (c.snapshot_at.ensures.snapshot, (c.snapshot_at.ensures.logs, c.snapshot_at.ensures.queues))).others

@@ -1,9 +1,0 @@
--- Whether a key was gathered.
-use Rattle.std.specs.Prelude.{Bool, map}
-use Rattle.std.specs.Set.{is_member}
-use Rattle.std.specs.BTreeSet.{BTreeSet}
-use Rattle.sdb_oplog.specs.Keys.{PlainKey, same_key, plain_key}
-use Rattle.sdb_oplog.specs.declared.keys.Key.{Key}
-
-abbrev pub is_gathered : BTreeSet Key → PlainKey → Bool
-is_gathered all k = is_member same_key (map plain_key all.keys) k

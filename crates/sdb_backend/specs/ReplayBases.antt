@@ -1,0 +1,43 @@
+-- What is lent under a lock, to be replayed without it.
+use Rattle.std.specs.Prelude.{◌≡◌, ℕ, ◌≤◌, List, [], length, take, Option, Some, Result, Ok, Err}
+use Rattle.sdb_value.specs.Value.{Value}
+use Rattle.sdb_oplog.specs.Keys.{PlainKey}
+use Rattle.sdb_oplog.specs.Moments.{version_at}
+use Rattle.sdb_oplog.specs.Plain.{PlainEntry}
+use Rattle.sdb_oplog.specs.Snap.{document_of}
+use Rattle.sdb_oplog.specs.declared.codes.Code.{Code}
+use Rattle.sdb_desk.specs.Machine.{Machine, IsUnchanged, ReadOrOutOfMemory, read_has_version, snapshot_at, fetch_at_moment}
+use Rattle.sdb_desk.specs.Reads.{PlainReplayBase, IsReplayBase}
+use Rattle.sdb_desk.specs.View.{plain_replay_base}
+use Rattle.sdb_desk.specs.declared.replay_base.ReplayBase.{ReplayBase}
+use Rattle.sdb_backend.specs.declared.jobs.ReplayBaseAt.{ReplayBaseAt}
+
+abbrev pub replay_base_view : Result ReplayBase Code → Result PlainReplayBase Code
+replay_base_view (Ok l) = Ok (plain_replay_base l)
+replay_base_view (Err code) = Err code
+
+-- what leads to the document at a version is lent, or the read of that version answers this code
+abbrev pub IsReplayBaseOrError : Machine → PlainKey → ℕ → Result PlainReplayBase Code → Type 0
+IsReplayBaseOrError m k v (Ok l) = IsReplayBase (m.logs k) v l
+IsReplayBaseOrError m k v (Err code) = ReadOrOutOfMemory read_has_version (Err code) (snapshot_at (m.logs k) (Some v))
+
+-- the version at a moment, and what is lent for it
+pub record PlainReplayBaseAt : Type 0 where
+  pub version : ℕ
+  pub base : PlainReplayBase
+
+abbrev pub replay_base_at_view : Result ReplayBaseAt Code → Result PlainReplayBaseAt Code
+replay_base_at_view (Ok l) = Ok (record { version = l.version; base = plain_replay_base l.base })
+replay_base_at_view (Err code) = Err code
+
+-- what leads to the document at a moment is lent, whole where that is the present version, or the read of that moment
+-- answers this code
+abbrev pub IsReplayBaseAtOrError : Machine → PlainKey → ℕ → Result PlainReplayBaseAt Code → Type 0
+IsReplayBaseAtOrError m k t (Ok l) =
+    (l.version ≡ version_at (m.logs k) t) × IsReplayBase (m.logs k) l.version l.base
+    × (l.version ≡ length (m.logs k) → l.base.entries ≡ [])
+IsReplayBaseAtOrError m k t (Err code) = ReadOrOutOfMemory read_has_version (Err code) (Ok (fetch_at_moment (m.logs k) (Some t)))
+
+-- the document at a version that the log has
+abbrev pub IsDocumentAt : List PlainEntry → ℕ → Option Value → Type 0
+IsDocumentAt log v d = (v ≤ length log) × (document_of (take v log) ≡ d)

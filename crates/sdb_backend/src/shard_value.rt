@@ -1,0 +1,46 @@
+//! The documents behind one lock.
+use sdb_desk::Shard;
+use sdb_growlock::Grows;
+use sdb_striped_lock::Empty;
+use std::alloc::Global;
+
+/// The documents of one shard, as a value that grows: logs become longer, and queues go on.
+#[derive(Drop)]
+pub struct Held {
+    pub shard: Shard,
+}
+
+impl Grows for Held {
+    ghost use Rattle.std.specs.Prelude.{◌≡◌};
+    ghost use Rattle.std.proofs.Common.{◌∙◌, refl, sym};
+    ghost use Rattle.sdb_desk.specs.ShardView.{machine_of};
+    ghost use Rattle.sdb_backend.specs.HistoryOrder.{Extends, share_of, empty_share};
+    ghost use Rattle.sdb_backend.specs.HistoryOrderLaws.{extends_refl, extends_trans};
+
+    ghost extends = { λ new old. Extends (machine_of new.shard) (machine_of old.shard) };
+
+    ghost same = { λ n a b. share_of n (machine_of a.shard) ≡ share_of n (machine_of b.shard) };
+
+    ghost blank = { λ n a. share_of n (machine_of a.shard) ≡ empty_share };
+
+    ghost extends_refl = { λ a. extends_refl (machine_of a.shard) };
+
+    ghost extends_trans = { λ a b c h k. extends_trans (machine_of a.shard) (machine_of b.shard)
+        (machine_of c.shard) h k };
+
+    ghost same_refl = { λ n a. refl };
+
+    ghost same_trans = { λ n a b c h k. h ∙ k };
+
+    ghost same_of_blank = { λ n a b h k. h ∙ sym k };
+
+    ghost blank_of_same = { λ n a b h k. sym h ∙ k };
+}
+
+impl Empty for Held {
+    fn empty(alloc: Global) -> Held {
+        Held {
+            shard: Shard::new(alloc),
+        }
+    }
+}

@@ -1,0 +1,3 @@
+mod ChunkBounds
+mod GroupLemmas
+pub mod FlattenLemmas

@@ -1,0 +1,10 @@
+use Rattle.std.proofs.Common.{◌≡◌, ◌≤◌, ◌*◌, length, take}
+use Rattle.std.specs.List.{flat_map}
+use Rattle.sdb_chunks.specs.Chunk.{items_of}
+use Rattle.sdb_chunks.proofs.chunk_group.count_items_of.Given as goal
+
+abbrev pub invariant-loop-block : goal.invariant-loop-block
+invariant-loop-block g l = record {
+  sum : l.count ≡ length (flat_map items_of (take l.block-index l.blocks));
+  few : l.count ≤ l.block-index * 18446744073709551615;
+}

@@ -1,0 +1,15 @@
+use Rattle.std.proofs.Common.{◌≡◌, ◌≤◌, ◌++◌, length, reverse, true}
+use Rattle.std.specs.List.{flat_map}
+use Rattle.sdb_chunks.specs.Chunk.{items_of}
+use Rattle.sdb_chunks.specs.ChunkedVec.{all_unique, max_chunk_length}
+use Rattle.sdb_chunks.proofs.chunk_split.split_into_chunks.Given as goal
+
+abbrev pub invariant-loop-left : goal.invariant-loop-left
+invariant-loop-left g l = record {
+  whole : l.left.items ++ flat_map items_of (reverse l.blocks.items) ≡ l.fn.items.items;
+  own : all_unique l.blocks.items ≡ true;
+  short : max_chunk_length l.blocks.items ≤ l.most;
+}
+
+abbrev pub decreases-loop-left : goal.decreases-loop-left
+decreases-loop-left g l = length l.left.items

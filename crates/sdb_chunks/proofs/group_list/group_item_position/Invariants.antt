@@ -1,0 +1,6 @@
+use Rattle.std.proofs.Common.{◌≡◌, ◌+◌, length, take}
+use Rattle.sdb_chunks.specs.ChunkGroup.{flatten_group_models}
+use Rattle.sdb_chunks.proofs.group_list.group_item_position.Given as goal
+
+abbrev pub invariant-loop-at : goal.invariant-loop-at
+invariant-loop-at g l = length (flatten_group_models g.T.TryClone.model (take l.at l.groups)) + l.left ≡ l.index

@@ -1,0 +1,90 @@
+use Rattle.std.proofs.Common.{◌≡◌, ◌<◌, set, slice_get, get_or, length, length-set, ap, sym, ◌∙◌, subst, arith}
+use Rattle.sdb_chunks.specs.ChunkGroup.{group_models, is_unique_group_at}
+use Rattle.sdb_chunks.specs.Position.{IsItemPosition}
+use Rattle.sdb_chunks.proofs.FlattenLemmas.{joined_replace, joined_same, joined_get, if_some_also, on_err}
+use Rattle.sdb_chunks.proofs.GroupLemmas.{grouped_here, grouped_set}
+use Rattle.sdb_chunks.proofs.ChunkBounds.{grouped_kept}
+use Rattle.sdb_chunks.proofs.group_list.replace_in_groups.Goals as goal
+
+pub returns-in_err-old-clause-err : goal.returns-in_err-old-clause-err
+returns-in_err-old-clause-err g c =
+    let f = g.T.TryClone.model in
+    let s = group_models f in
+    let gs = c.args.groups.now.items in
+    let k = c.in-Some.at in
+    let i = c.in-Some.inside in
+    let d = c.index_mut.result.now in
+    let was : d ≡ get_or gs k d = c.index_mut.ensures.value in
+    let at = subst (λ l. IsItemPosition s l c.args.index k i) c.deref.ensures.value c.in-Some.ensures.item in
+    on_err c.from_residual.result (joined_same s gs k c.replace.new.self d at.index_in_range (c.in_err-old.ensures.err ∙ ap s was))
+
+pub returns-in_err-old-clause-shared : goal.returns-in_err-old-clause-shared
+returns-in_err-old-clause-shared g c =
+    let f = g.T.TryClone.model in
+    let s = group_models f in
+    let gs = c.args.groups.now.items in
+    let k = c.in-Some.at in
+    let i = c.in-Some.inside in
+    let d = c.index_mut.result.now in
+    let was : d ≡ get_or gs k d = c.index_mut.ensures.value in
+    let at = subst (λ l. IsItemPosition s l c.args.index k i) c.deref.ensures.value c.in-Some.ensures.item in
+    on_err c.from_residual.result (grouped_here f gs c.args.index k i d at.index_in_range at.offset_is_sum (at.within d) ∙ sym (ap (λ x. is_unique_group_at x i) was) ∙ c.in_err-old.ensures.shared)
+
+pub returns-clause-item : goal.returns-clause-item
+returns-clause-item g c =
+    let f = g.T.TryClone.model in
+    let s = group_models f in
+    let gs = c.args.groups.now.items in
+    let k = c.in-Some.at in
+    let i = c.in-Some.inside in
+    let d = c.index_mut.result.now in
+    let was : d ≡ get_or gs k d = c.index_mut.ensures.value in
+    let at = subst (λ l. IsItemPosition s l c.args.index k i) c.deref.ensures.value c.in-Some.ensures.item in
+    c.in_ok-old.ensures.item ∙ ap (λ b. slice_get (s b) i) was ∙ joined_get s gs c.args.index k i d at
+
+pub returns-clause-ok : goal.returns-clause-ok
+returns-clause-ok g c =
+    let f = g.T.TryClone.model in
+    let s = group_models f in
+    let gs = c.args.groups.now.items in
+    let k = c.in-Some.at in
+    let i = c.in-Some.inside in
+    let d = c.index_mut.result.now in
+    let was : d ≡ get_or gs k d = c.index_mut.ensures.value in
+    let at = subst (λ l. IsItemPosition s l c.args.index k i) c.deref.ensures.value c.in-Some.ensures.item in
+    joined_replace s gs c.args.index k i (f c.args.item) c.replace.new.self d at (c.in_ok-old.ensures.ok ∙ ap (λ b. set (s b) i (f c.args.item)) was)
+
+pub returns-clause-now_own : goal.returns-clause-now_own
+returns-clause-now_own g c =
+    let f = g.T.TryClone.model in
+    let s = group_models f in
+    let gs = c.args.groups.now.items in
+    let k = c.in-Some.at in
+    let i = c.in-Some.inside in
+    let d = c.index_mut.result.now in
+    let was : d ≡ get_or gs k d = c.index_mut.ensures.value in
+    let at = subst (λ l. IsItemPosition s l c.args.index k i) c.deref.ensures.value c.in-Some.ensures.item in
+    let a = c.replace.new.self in
+    let n = ap length c.in_ok-old.ensures.ok ∙ length-set (s d) i (f c.args.item) ∙ ap (λ b. length (s b)) was in
+    let within : i < length (s a) = omega (arith, at.within d, n) in
+    if_some_also c.in_ok-old.old c.in_ok-old.ensures.now_own (λ own. grouped_set f gs c.args.index k i a at.index_in_range at.offset_is_sum within ∙ own)
+
+pub returns-in_err-old-clause-bound : goal.returns-in_err-old-clause-bound
+returns-in_err-old-clause-bound g c =
+    let s = group_models g.T.TryClone.model in
+    let gs = c.args.groups.now.items in
+    let k = c.in-Some.at in
+    let d = c.index_mut.result.now in
+    let at = subst (λ l. IsItemPosition s l c.args.index k c.in-Some.inside) c.deref.ensures.value c.in-Some.ensures.item in
+    let l = grouped_kept gs k c.replace.new.self d 0 at.index_in_range c.index_mut.ensures.value (omega (arith, c.in_err-old.ensures.bound)) in
+    omega (arith, l)
+
+pub returns-clause-bound : goal.returns-clause-bound
+returns-clause-bound g c =
+    let s = group_models g.T.TryClone.model in
+    let gs = c.args.groups.now.items in
+    let k = c.in-Some.at in
+    let d = c.index_mut.result.now in
+    let at = subst (λ l. IsItemPosition s l c.args.index k c.in-Some.inside) c.deref.ensures.value c.in-Some.ensures.item in
+    let l = grouped_kept gs k c.replace.new.self d 0 at.index_in_range c.index_mut.ensures.value (omega (arith, c.in_ok-old.ensures.bound)) in
+    omega (arith, l)

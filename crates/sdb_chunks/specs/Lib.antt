@@ -1,0 +1,9 @@
+pub mod Chunk
+pub mod Chunks
+pub mod formers
+pub mod ChunkGroup
+pub mod Iter
+pub mod Laws
+pub mod ChunkedVec
+pub mod Position
+pub mod Rows

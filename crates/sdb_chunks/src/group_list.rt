@@ -1,0 +1,313 @@
+//! Lists in groups of blocks, changed in place.
+ghost use Rattle.std.specs.List.{insert, remove};
+ghost use Rattle.std.specs.Prelude.{◌≡◌, ◌≤◌, ◌<◌, true, false, [], ℕ, length, max, slice_get, slice_set};
+ghost use Rattle.std.specs.Prelude.{option_map, nat_le, if◌then◌else◌, IfOk, IfSome, IfNone, OnOk, OnErr};
+ghost use Rattle.sdb_chunks.specs.Chunk.{items_of, is_chunk_unique};
+ghost use Rattle.sdb_chunks.specs.ChunkGroup.{group_models, flatten_group_models, is_unique_in_groups_at, max_grouped_length};
+ghost use Rattle.sdb_chunks.specs.ChunkedVec.{is_unique_repr_at};
+ghost use Rattle.sdb_chunks.specs.Position.{IsInsertPosition, IsItemPosition};
+ghost use Rattle.sdb_chunks.specs.declared.chunked_vec.Repr.TheVariants.{Groups};
+
+use crate::chunk::{Chunk, TryClone};
+use crate::chunk_edit::MIN_CHUNK_LEN;
+use crate::chunk_group::ChunkGroup;
+use std::alloc::{AllocError, Global};
+
+// The group where an item can be put at the index, and the place in it. `None` where there is none.
+fn group_insert_position<T: TryClone>(
+    groups: &[ChunkGroup<T>],
+    index: usize,
+) -> Option<(usize, usize)>
+    ensures place { IfSome result (λ r. IsInsertPosition (group_models T.model) groups.now index r.0 r.1) }
+    ensures none { IfNone result (index ≤ length (flatten_group_models T.model groups.now) → groups.now ≡ []) }
+{
+    let mut left = index as u128;
+    for (at, group) in groups.iter().enumerate() {
+        if left <= group.len() {
+            return Some((at, left as usize));
+        }
+        left -= group.len();
+    }
+    None
+}
+
+// The group of the item at the index, and the place in it. `None` past the end.
+fn group_item_position<T: TryClone>(
+    groups: &[ChunkGroup<T>],
+    index: usize,
+) -> Option<(usize, usize)>
+    ensures item { IfSome result (λ r. IsItemPosition (group_models T.model) groups.now index r.0 r.1) }
+    ensures none { IfNone result (length (flatten_group_models T.model groups.now) ≤ index) }
+{
+    let mut left = index as u128;
+    for (at, group) in groups.iter().enumerate() {
+        if left < group.len() {
+            return Some((at, left as usize));
+        }
+        left -= group.len();
+    }
+    None
+}
+
+// The item at the index.
+pub(crate) fn grouped_item<T: TryClone>(groups: &[ChunkGroup<T>], index: usize) -> Option<&T>
+    ensures { option_map (λ x. T.model x.now) result ≡ slice_get (flatten_group_models T.model groups.now) index }
+{
+    match group_item_position(groups, index) {
+        Some((at, inside)) => groups[at].get(inside),
+        None => None,
+    }
+}
+
+// Makes the list of the groups its owner's own.
+fn make_groups_unique<T: TryClone>(
+    alloc: Global,
+    groups: &mut Chunk<ChunkGroup<T>>,
+) -> Result<(), AllocError>
+    ensures same { flatten_group_models T.model (items_of groups.new)
+        ≡ flatten_group_models T.model (items_of groups.old) }
+    ensures among { (i : ℕ) → is_unique_in_groups_at (items_of groups.new) i
+        ≡ is_unique_in_groups_at (items_of groups.old) i }
+    ensures own { OnOk result (is_chunk_unique groups.new ≡ true) }
+    ensures shared { OnErr result (is_chunk_unique groups.old ≡ false) }
+    ensures bound { max_grouped_length (items_of groups.new) ≡ max_grouped_length (items_of groups.old) }
+{
+    groups.make_unique(alloc)?;
+    Ok(())
+}
+
+// Makes two groups of one: the second half of its blocks stands in a new one behind it.
+fn split_group<T: TryClone>(
+    alloc: Global,
+    groups: &mut Vec<ChunkGroup<T>>,
+    at: usize,
+) -> Result<(), AllocError>
+    requires { at < length groups.old.items }
+    ensures same { flatten_group_models T.model groups.new.items ≡ flatten_group_models T.model groups.old.items }
+    ensures bound { max_grouped_length groups.new.items ≤ max_grouped_length groups.old.items }
+{
+    groups.insert(at + 1, ChunkGroup::new(Chunk::Unique(Vec::new(alloc))))?;
+    let high = groups[at].split_off_half(alloc)?;
+    groups[at + 1] = high;
+    Ok(())
+}
+
+// Makes two groups of the one at the index, where it has as many blocks as there are groups, but not of a few.
+fn split_long_chunk<T: TryClone>(
+    alloc: Global,
+    groups: &mut Vec<ChunkGroup<T>>,
+    index: usize,
+) -> Result<(), AllocError>
+    ensures same { flatten_group_models T.model groups.new.items ≡ flatten_group_models T.model groups.old.items }
+    ensures bound { max_grouped_length groups.new.items ≤ max_grouped_length groups.old.items }
+{
+    if let Some((at, _)) = group_insert_position(groups, index) {
+        if groups[at].chunks().len() >= groups.len().max(MIN_CHUNK_LEN) {
+            split_group(alloc, groups, at)?;
+        }
+    }
+    Ok(())
+}
+
+// Sees to it that there is a group.
+fn ensure_group<T: TryClone>(
+    alloc: Global,
+    groups: &mut Vec<ChunkGroup<T>>,
+) -> Result<(), AllocError>
+    ensures same { flatten_group_models T.model groups.new.items ≡ flatten_group_models T.model groups.old.items }
+    ensures some { OnOk result (0 < length groups.new.items) }
+    ensures bound { max_grouped_length groups.new.items ≤ max_grouped_length groups.old.items }
+{
+    if groups.is_empty() {
+        groups.push(ChunkGroup::new(Chunk::Unique(Vec::new(alloc))))?;
+    }
+    Ok(())
+}
+
+// Puts an item at the index. `false`, with all as it was, past the end.
+fn insert_in_group_at<T: TryClone>(
+    alloc: Global,
+    groups: &mut Vec<ChunkGroup<T>>,
+    index: usize,
+    item: T,
+) -> Result<bool, AllocError>
+    requires { 0 < length groups.old.items }
+    ensures ok { IfOk result (λ done. flatten_group_models T.model groups.new.items ≡ (if done
+        then insert (flatten_group_models T.model groups.old.items) index (T.model item)
+        else flatten_group_models T.model groups.old.items)) }
+    ensures within { IfOk result (λ done. done
+        ≡ nat_le index (length (flatten_group_models T.model groups.old.items))) }
+    ensures err { OnErr result (flatten_group_models T.model groups.new.items
+        ≡ flatten_group_models T.model groups.old.items) }
+    ensures now_own { IfOk result (λ done. done ≡ true → is_unique_in_groups_at groups.new.items index ≡ true) }
+    ensures bound { max_grouped_length groups.new.items ≤ max 20 (max_grouped_length groups.old.items) }
+{
+    match group_insert_position(groups, index) {
+        Some((at, inside)) => {
+            groups[at].insert(alloc, inside, item)?;
+            Ok(true)
+        }
+        None => Ok(false),
+    }
+}
+
+// The same, and a group of as many blocks as it may have is split first.
+fn insert_in_groups<T: TryClone>(
+    alloc: Global,
+    groups: &mut Vec<ChunkGroup<T>>,
+    index: usize,
+    item: T,
+) -> Result<bool, AllocError>
+    ensures ok { IfOk result (λ done. flatten_group_models T.model groups.new.items ≡ (if done
+        then insert (flatten_group_models T.model groups.old.items) index (T.model item)
+        else flatten_group_models T.model groups.old.items)) }
+    ensures within { IfOk result (λ done. done
+        ≡ nat_le index (length (flatten_group_models T.model groups.old.items))) }
+    ensures err { OnErr result (flatten_group_models T.model groups.new.items
+        ≡ flatten_group_models T.model groups.old.items) }
+    ensures now_own { IfOk result (λ done. done ≡ true → is_unique_in_groups_at groups.new.items index ≡ true) }
+    ensures bound { max_grouped_length groups.new.items ≤ max 20 (max_grouped_length groups.old.items) }
+{
+    split_long_chunk(alloc, groups, index)?;
+    ensure_group(alloc, groups)?;
+    let done = insert_in_group_at(alloc, groups, index, item)?;
+    Ok(done)
+}
+
+// Puts an item at the index, into the list's own list of groups.
+pub(crate) fn insert_in_group_list<T: TryClone>(
+    alloc: Global,
+    groups: &mut Chunk<ChunkGroup<T>>,
+    index: usize,
+    item: T,
+) -> Result<bool, AllocError>
+    ensures ok { IfOk result (λ done. flatten_group_models T.model (items_of groups.new) ≡ (if done
+        then insert (flatten_group_models T.model (items_of groups.old)) index (T.model item)
+        else flatten_group_models T.model (items_of groups.old))) }
+    ensures within { IfOk result (λ done. done
+        ≡ nat_le index (length (flatten_group_models T.model (items_of groups.old)))) }
+    ensures err { OnErr result (flatten_group_models T.model (items_of groups.new)
+        ≡ flatten_group_models T.model (items_of groups.old)) }
+    ensures now_own { IfOk result (λ done. done ≡ true → is_unique_repr_at (Groups groups.new) index ≡ true) }
+    ensures bound { max_grouped_length (items_of groups.new) ≤ max 20 (max_grouped_length (items_of groups.old)) }
+{
+    make_groups_unique(alloc, groups)?;
+    match groups {
+        Chunk::Unique(own) => {
+            let done = insert_in_groups(alloc, own, index, item)?;
+            Ok(done)
+        }
+        Chunk::Shared(_) => Ok(false),
+    }
+}
+
+// Takes a group out that has no blocks left.
+fn remove_empty_group<T: TryClone>(groups: &mut Vec<ChunkGroup<T>>, at: usize)
+    requires { at < length groups.old.items }
+    ensures same { flatten_group_models T.model groups.new.items ≡ flatten_group_models T.model groups.old.items }
+    ensures bound { max_grouped_length groups.new.items ≤ max_grouped_length groups.old.items }
+{
+    if groups[at].chunks().len() == 0 {
+        drop(groups.remove(at));
+    }
+}
+
+// Takes the item at the index out. `None`, with all as it was, past the end.
+fn remove_from_groups<T: TryClone>(
+    alloc: Global,
+    groups: &mut Vec<ChunkGroup<T>>,
+    index: usize,
+) -> Result<Option<T>, AllocError>
+    ensures item { IfOk result (λ x. option_map T.model x
+        ≡ slice_get (flatten_group_models T.model groups.old.items) index) }
+    ensures ok { OnOk result (flatten_group_models T.model groups.new.items
+        ≡ remove (flatten_group_models T.model groups.old.items) index) }
+    ensures err { OnErr result (flatten_group_models T.model groups.new.items
+        ≡ flatten_group_models T.model groups.old.items) }
+    ensures shared { OnErr result (is_unique_in_groups_at groups.old.items index ≡ false) }
+    ensures bound { max_grouped_length groups.new.items ≤ max_grouped_length groups.old.items }
+{
+    let Some((at, inside)) = group_item_position(groups, index) else {
+        return Ok(None);
+    };
+    let item = groups[at].remove(alloc, inside)?;
+    remove_empty_group(groups, at);
+    Ok(item)
+}
+
+// Takes the item at the index out of the list's own list of groups.
+pub(crate) fn remove_from_group_list<T: TryClone>(
+    alloc: Global,
+    groups: &mut Chunk<ChunkGroup<T>>,
+    index: usize,
+) -> Result<Option<T>, AllocError>
+    ensures item { IfOk result (λ x. option_map T.model x
+        ≡ slice_get (flatten_group_models T.model (items_of groups.old)) index) }
+    ensures ok { OnOk result (flatten_group_models T.model (items_of groups.new)
+        ≡ remove (flatten_group_models T.model (items_of groups.old)) index) }
+    ensures err { OnErr result (flatten_group_models T.model (items_of groups.new)
+        ≡ flatten_group_models T.model (items_of groups.old)) }
+    ensures shared { OnErr result (is_unique_repr_at (Groups groups.old) index ≡ false) }
+    ensures bound { max_grouped_length (items_of groups.new) ≤ max_grouped_length (items_of groups.old) }
+{
+    make_groups_unique(alloc, groups)?;
+    match groups {
+        Chunk::Unique(own) => {
+            let item = remove_from_groups(alloc, own, index)?;
+            Ok(item)
+        }
+        Chunk::Shared(_) => Ok(None),
+    }
+}
+
+// Puts another item in the place of the one at the index, and answers that one. `None`, with all as it
+// was, past the end.
+fn replace_in_groups<T: TryClone>(
+    alloc: Global,
+    groups: &mut Vec<ChunkGroup<T>>,
+    index: usize,
+    item: T,
+) -> Result<Option<T>, AllocError>
+    ensures item { IfOk result (λ x. option_map T.model x
+        ≡ slice_get (flatten_group_models T.model groups.old.items) index) }
+    ensures ok { OnOk result (flatten_group_models T.model groups.new.items
+        ≡ slice_set (flatten_group_models T.model groups.old.items) index (T.model item)) }
+    ensures err { OnErr result (flatten_group_models T.model groups.new.items
+        ≡ flatten_group_models T.model groups.old.items) }
+    ensures shared { OnErr result (is_unique_in_groups_at groups.old.items index ≡ false) }
+    ensures now_own { IfOk result (λ x. IfSome x (λ _. is_unique_in_groups_at groups.new.items index ≡ true)) }
+    ensures bound { max_grouped_length groups.new.items ≤ max_grouped_length groups.old.items }
+{
+    let Some((at, inside)) = group_item_position(groups, index) else {
+        return Ok(None);
+    };
+    let old = groups[at].replace(alloc, inside, item)?;
+    Ok(old)
+}
+
+// Puts another item in the place of the one at the index, in the list's own list of groups.
+pub(crate) fn replace_in_group_list<T: TryClone>(
+    alloc: Global,
+    groups: &mut Chunk<ChunkGroup<T>>,
+    index: usize,
+    item: T,
+) -> Result<Option<T>, AllocError>
+    ensures item { IfOk result (λ x. option_map T.model x
+        ≡ slice_get (flatten_group_models T.model (items_of groups.old)) index) }
+    ensures ok { OnOk result (flatten_group_models T.model (items_of groups.new)
+        ≡ slice_set (flatten_group_models T.model (items_of groups.old)) index (T.model item)) }
+    ensures err { OnErr result (flatten_group_models T.model (items_of groups.new)
+        ≡ flatten_group_models T.model (items_of groups.old)) }
+    ensures shared { OnErr result (is_unique_repr_at (Groups groups.old) index ≡ false) }
+    ensures now_own { IfOk result (λ x. IfSome x (λ _. is_unique_repr_at (Groups groups.new) index ≡ true)) }
+    ensures bound { max_grouped_length (items_of groups.new) ≤ max_grouped_length (items_of groups.old) }
+{
+    make_groups_unique(alloc, groups)?;
+    match groups {
+        Chunk::Unique(own) => {
+            let old = replace_in_groups(alloc, own, index, item)?;
+            Ok(old)
+        }
+        Chunk::Shared(_) => Ok(None),
+    }
+}

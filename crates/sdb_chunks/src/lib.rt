@@ -1,0 +1,18 @@
+//! Lists in pieces of bounded size, each of them a list's own or shared with its copies.
+#![tactic(auto)]
+
+mod chunk;
+mod chunk_edit;
+mod chunk_group;
+mod chunk_list;
+mod chunk_split;
+mod chunked_vec;
+mod group_list;
+mod iter;
+mod regroup;
+
+pub use chunk::{Chunk, TryClone};
+pub use chunk_edit::split_chunk;
+pub use chunk_group::ChunkGroup;
+pub use chunked_vec::{ChunkedVec, Repr};
+pub use iter::{Chunks, Iter};

@@ -1,0 +1,80 @@
+//! A terminal that keeps what is printed, for tests of programs.
+use std::alloc::{AllocError, Global};
+use std::cell::RefCell;
+use std::fmt::{Display, Write};
+use std::io;
+
+/// What is printed on standard output and on standard error.
+#[derive(Drop)]
+pub struct TerminalBuffer {
+    alloc: Global,
+    /// Standard output.
+    pub out: RefCell<String>,
+    /// Standard error.
+    pub err: RefCell<String>,
+}
+
+impl TerminalBuffer {
+    /// A terminal on which nothing is printed yet.
+    pub fn new(alloc: Global) -> TerminalBuffer {
+        TerminalBuffer {
+            alloc,
+            out: RefCell::new(String::new(alloc)),
+            err: RefCell::new(String::new(alloc)),
+        }
+    }
+}
+
+/// The words of a command line, as a shell without quotes would cut it.
+pub fn argument_list(alloc: Global, line: &str) -> Result<Vec<String>, AllocError> {
+    let mut words = Vec::new(alloc);
+    for word in line.split_whitespace() {
+        words.push(String::from_str(alloc, word)?)?;
+    }
+    Ok(words)
+}
+
+fn add<D: Display + Drop>(text: &RefCell<String>, value: D, end: &str) -> io::Result<()> {
+    match text.try_borrow_mut() {
+        Ok(mut text) => match write!(text, "{value}{end}") {
+            Ok(()) => Ok(()),
+            Err(_) => Err(io::Error::from(io::ErrorKind::OutOfMemory)),
+        },
+        Err(_) => Err(io::Error::from(io::ErrorKind::ResourceBusy)),
+    }
+}
+
+impl Print for TerminalBuffer {
+    fn print<D: Display + Drop>(&self, value: D) -> io::Result<()> {
+        add(&self.out, value, "")
+    }
+
+    fn println<D: Display + Drop>(&self, value: D) -> io::Result<()> {
+        add(&self.out, value, "\n")
+    }
+
+    fn write_all(&self, bytes: &[u8]) -> io::Result<()> {
+        match str::from_utf8(bytes) {
+            Ok(text) => add(&self.out, text, ""),
+            Err(_) => Err(io::Error::from(io::ErrorKind::InvalidData)),
+        }
+    }
+}
+
+impl Eprint for TerminalBuffer {
+    fn eprint<D: Display + Drop>(&self, value: D) -> io::Result<()> {
+        add(&self.err, value, "")
+    }
+
+    fn eprintln<D: Display + Drop>(&self, value: D) -> io::Result<()> {
+        add(&self.err, value, "\n")
+    }
+}
+
+impl Alloc for TerminalBuffer {
+    type A = Global;
+
+    fn alloc(&self) -> Global {
+        self.alloc
+    }
+}

@@ -1,9 +1,0 @@
-use Rattle.std.proofs.Common.{◌≡◌, ◌+◌, ◌*◌, ◌≤◌, drop}
-use Rattle.sdb_component.specs.Weighs.{weight}
-use Rattle.sdb_component.proofs.weighing.weight.Given as goal
-
-abbrev pub invariant-loop-component : goal.invariant-loop-component
-invariant-loop-component l = record {
-  weighed : l.total + weight (drop l.component-index l.component-items) ≡ weight l.component-items;
-  few : l.total ≤ 18446744073709551615 * l.component-index;
-}

@@ -1,0 +1,100 @@
+//! Reads operations.
+ghost use Rattle.std.specs.Prelude.{◌≡◌, ◌∷◌, [], map, IfOk, IfErr, Some, option_to_list};
+ghost use Rattle.serde_json.specs.View.{items_of};
+ghost use Rattle.sdb_component.specs.FromJson.{component_of, components_of, op_of, FaultMeansNone};
+
+use crate::act_kind::act_kind_of;
+use crate::component::Component;
+use crate::from_act_kind::component_of_kind;
+use crate::operation::Op;
+use crate::path_json::path_of;
+use crate::push_option::push_option;
+use sdb_json::JsonData;
+use std::alloc::{AllocError, Global};
+use thiserror::Error;
+
+/// Why a value is no operation.
+#[derive(Debug, Drop, Error)]
+pub enum OpFault {
+    /// A part of it is of none of the nine shapes, or passes a limit.
+    #[error("operation is badly formed")]
+    BadlyFormed,
+    /// An allocation failed. Nothing is said of the value.
+    #[error("out of memory")]
+    OutOfMemory,
+}
+
+impl From<AllocError> for OpFault {
+    ghost use Rattle.sdb_component.specs.declared.from_json.OpFault.TheVariants.{OutOfMemory};
+
+    ghost from_gives = { λ _ f. f ≡ OutOfMemory };
+
+    fn from(_error: AllocError) -> OpFault {
+        OpFault::OutOfMemory
+    }
+}
+
+/// The operation that a JSON value is: an array of at most 256 components, each an object with a
+/// path `p` of at most 50 steps and the members of exactly one of the nine shapes. A component that
+/// has `lm`, `t` or `o` is refused, and any other member is left aside.
+///
+/// A step is a text or a whole number from 0 to 9007199254740991. The number of `na` is whole, and
+/// at most 9007199254740991 in size. A value nests at most 50 deep, and its numbers are such numbers.
+/// An insert or a delete of an empty text is checked like any other and counts as a component, and
+/// is then dropped.
+///
+/// `BadlyFormed` where the value is no such array, and `OutOfMemory` where an allocation failed.
+#[tactic(auto, using(crate::proofs::SizeLemmas::view_size))]
+pub fn read_op<D: JsonData>(alloc: Global, value: &D) -> Result<Op, OpFault>
+    ensures ok { IfOk result (λ o. op_of (D.json value.now) ≡ Some o) }
+    ensures err { IfErr result (λ f. FaultMeansNone (op_of (D.json value.now)) f) }
+{
+    let Some(items) = value.as_array() else {
+        return Err(OpFault::BadlyFormed);
+    };
+    if items.len() > 256 {
+        return Err(OpFault::BadlyFormed);
+    }
+    match items {
+        [item] => single_component(alloc, item),
+        items => Ok(Op::new(components_of(alloc, items)?)),
+    }
+}
+
+// The operation of one component, or of none where it is dropped.
+fn single_component<D: JsonData>(alloc: Global, item: &D) -> Result<Op, OpFault>
+    ensures ok { IfOk result (λ o. components_of (items_of (D.json item.now ∷ [])) ≡ Some o) }
+    ensures err { IfErr result (λ f. FaultMeansNone (components_of (items_of (D.json item.now ∷ []))) f) }
+{
+    match component_of(alloc, item)? {
+        Some(component) => Ok(Op::one(component)),
+        None => Ok(Op::new(Vec::new(alloc))),
+    }
+}
+
+fn components_of<D: JsonData>(alloc: Global, items: &[D]) -> Result<Vec<Component>, OpFault>
+    ensures ok { IfOk result (λ cs. components_of (items_of (map D.json items.now)) ≡ Some cs.items) }
+    ensures err { IfErr result (λ f. FaultMeansNone (components_of (items_of (map D.json items.now))) f) }
+{
+    let mut components = Vec::with_capacity(alloc, items.len())?;
+    for item in items {
+        let component = component_of(alloc, item)?;
+        push_option(&mut components, component)?;
+    }
+    Ok(components)
+}
+
+// The component that a value is, or none where it is dropped.
+fn component_of<D: JsonData>(alloc: Global, value: &D) -> Result<Option<Component>, OpFault>
+    ensures ok { IfOk result (λ c. component_of (D.json value.now) ≡ Some (option_to_list c)) }
+    ensures err { IfErr result (λ f. FaultMeansNone (component_of (D.json value.now)) f) }
+{
+    let Some(shape) = act_kind_of(value) else {
+        return Err(OpFault::BadlyFormed);
+    };
+    let Some(sent) = value.get("p") else {
+        return Err(OpFault::BadlyFormed);
+    };
+    let path = path_of(alloc, sent)?;
+    component_of_kind(alloc, shape, path, value)
+}

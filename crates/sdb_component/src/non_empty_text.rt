@@ -1,0 +1,58 @@
+//! Texts that aren't empty.
+ghost use Rattle.std.specs.Prelude.{◌≡◌, ◌<◌, length, IfOk, IfNone, IfSome, [], string_bytes};
+
+use std::alloc::AllocError;
+use std::marker::Model;
+
+/// A text that isn't empty, as `si` and `sd` have it.
+#[derive(Drop)]
+pub struct NonEmptyText {
+    text: String,
+}
+
+impl Model for NonEmptyText {
+    ghost use Rattle.std.specs.Prelude.{ℕ, List, ◌<◌, length, string_bytes};
+
+    ghost Value = { List ℕ };
+
+    ghost view = { λ p. string_bytes p.text };
+
+    ghost invariant = { λ p. 0 < length (string_bytes p.text) };
+}
+
+impl NonEmptyText {
+    /// The text as a piece, or `None` where it is empty.
+    pub fn new(text: String) -> Option<NonEmptyText>
+        ensures some { IfSome result (λ p. p ≡ string_bytes text) }
+        ensures none { IfNone result (string_bytes text ≡ []) }
+    {
+        if text.is_empty() {
+            return None;
+        }
+        Some(NonEmptyText { text })
+    }
+
+    /// The text.
+    pub fn as_str(&self) -> &str
+        ensures value { result.now ≡ self.now }
+        ensures filled { 0 < length result.now }
+    {
+        self.text.as_str()
+    }
+
+    /// A copy. Fails only where an allocation does.
+    pub fn try_clone(&self) -> Result<NonEmptyText, AllocError>
+        ensures { IfOk result (λ p. p ≡ self.now) }
+    {
+        let text = self.text.clone()?;
+        Ok(NonEmptyText { text })
+    }
+
+    /// The text, given up.
+    pub fn into_string(self) -> String
+        ensures value { string_bytes result ≡ self }
+        ensures filled { 0 < length (string_bytes result) }
+    {
+        self.text
+    }
+}

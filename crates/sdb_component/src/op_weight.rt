@@ -1,0 +1,16 @@
+//! Weights.
+ghost use Rattle.std.specs.Prelude.{◌≡◌};
+ghost use Rattle.sdb_component.specs.Weight.{weight};
+
+use crate::operation::Op;
+
+/// The sum of the components' weights. It allocates nothing.
+pub fn weight(op: &Op) -> u128
+    ensures { result ≡ weight op.now }
+{
+    let mut total = 0;
+    for component in op.components() {
+        total += u128::from(component.weight());
+    }
+    total
+}

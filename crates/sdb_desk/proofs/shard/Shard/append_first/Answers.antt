@@ -1,0 +1,45 @@
+use Rattle.std.proofs.Common.{ap, ◌∙◌}
+use Rattle.sdb_oplog.specs.Decide.{decide}
+use Rattle.sdb_oplog.specs.Keys.{plain_key, with_log}
+use Rattle.sdb_subscribe.specs.Ring.{without_rings}
+use Rattle.sdb_desk.specs.ShardView.{slots_of, logs_of}
+use Rattle.sdb_desk.proofs.LookLemmas.{on_err_all}
+use Rattle.sdb_desk.proofs.MapWriteLemmas.{map_of_updated, map_of_updated_same, map_of_unchanged, rings_noted, not_noted}
+use Rattle.sdb_desk.proofs.shard.Shard.append_first.Goals as goal
+
+pub returns-in_err-insert_slot-clause-same : goal.returns-in_err-insert_slot-clause-same
+returns-in_err-insert_slot-clause-same c =
+    on_err_all c.from_residual-in_err-insert_slot.result (map_of_unchanged (λ t. t.document.log) (slots_of c.args.self.now) (slots_of c.insert_slot.new.self) (plain_key c.args.key.now) c.append.new.self c.in_err-insert_slot.ensures.err)
+
+pub returns-in_err-insert_slot-clause-kept : goal.returns-in_err-insert_slot-clause-kept
+returns-in_err-insert_slot-clause-kept c =
+    map_of_unchanged (λ t. t.document.cache) (slots_of c.args.self.now) (slots_of c.insert_slot.new.self) (plain_key c.args.key.now) c.append.new.self c.in_err-insert_slot.ensures.err
+
+pub returns-in_err-insert_slot-clause-queues : goal.returns-in_err-insert_slot-clause-queues
+returns-in_err-insert_slot-clause-queues c =
+    map_of_unchanged (λ t. without_rings t.queues) (slots_of c.args.self.now) (slots_of c.insert_slot.new.self) (plain_key c.args.key.now) c.append.new.self c.in_err-insert_slot.ensures.err
+
+pub returns-clause-logs : goal.returns-clause-logs
+returns-clause-logs c =
+    map_of_updated (λ t. t.document.log) (slots_of c.args.self.now) (slots_of c.insert_slot.new.self) (plain_key c.args.key.now) c.append.new.self c.in_ok-insert_slot.ensures.ok
+    ∙ ap (with_log (logs_of c.args.self.now) (plain_key c.args.key.now)) (c.in_ok-append.ensures.log ∙ ap (λ t. (decide t.document.log c.args.submission c.args.now).log) c.new-topic.ensures)
+
+pub returns-clause-kept : goal.returns-clause-kept
+returns-clause-kept c =
+    map_of_updated_same (λ t. t.document.cache) (slots_of c.args.self.now) (slots_of c.insert_slot.new.self) (plain_key c.args.key.now) c.append.new.self c.in_ok-insert_slot.ensures.ok
+    (c.append.ensures.kept ∙ ap (λ t. t.document.cache) (c.new-topic.ensures ∙ c.requires.nothing))
+
+pub returns-clause-queues : goal.returns-clause-queues
+returns-clause-queues c =
+    map_of_updated_same (λ t. without_rings t.queues) (slots_of c.args.self.now) (slots_of c.insert_slot.new.self) (plain_key c.args.key.now) c.append.new.self c.in_ok-insert_slot.ensures.ok
+    (c.append.ensures.queues ∙ ap (λ t. without_rings t.queues) (c.new-topic.ensures ∙ c.requires.nothing))
+
+pub returns-in_err-insert_slot-clause-rings : goal.returns-in_err-insert_slot-clause-rings
+returns-in_err-insert_slot-clause-rings c =
+    let e = c.in_err-insert_slot.ensures.err in
+    λ q. not_noted _ _ _ _ (ap (λ h. (h q).document.log) e) (ap (λ h. (h q).queues.queues) e)
+
+pub returns-clause-rings : goal.returns-clause-rings
+returns-clause-rings c =
+    rings_noted (slots_of c.args.self.now) (slots_of c.insert_slot.new.self) (plain_key c.args.key.now) c.new-topic.result c.append.new.self (c.new-topic.ensures ∙ c.requires.nothing)
+    c.in_ok-insert_slot.ensures.ok c.append.ensures.rings

@@ -1,9 +1,0 @@
--- What a map holds at each key: something where nothing stands.
-use Rattle.std.specs.Prelude.{List, unwrap_or}
-use Rattle.std.specs.Map.{lookup}
-use Rattle.std.specs.BTreeMap.{is_at}
-use Rattle.sdb_oplog.specs.Keys.{PlainKey, key_cmp, plain_key}
-use Rattle.sdb_oplog.specs.declared.keys.Key.{Key}
-
-abbrev pub held : {A : Type 0} → A → List (Key × A) → PlainKey → A
-held none es q = unwrap_or (lookup (is_at (λ k. key_cmp q (plain_key k))) es) none

@@ -1,0 +1,309 @@
+//! What is kept of a key: a document, those who follow it, or both.
+ghost use Rattle.std.specs.Prelude.{◌≡◌, ◌≢◌, ◌≤◌, ◌<◌, ◌++◌, ◌∷◌, List, [], length, take, is_some, true, IfOk, IfErr, IfSome, OnOk, OnErr, Ok, Err, Some, None, option_map, unwrap_or};
+ghost use Rattle.sdb_value.specs.Uniqueness.{is_frozen};
+ghost use Rattle.sdb_value.specs.View.{value_of};
+ghost use Rattle.sdb_oplog.specs.Decide.{decide, stored, missed_entries, IsMade};
+ghost use Rattle.sdb_oplog.specs.Plain.{PlainEntry};
+ghost use Rattle.sdb_oplog.specs.Refusal.{IsRefusalOrOutOfMemory};
+ghost use Rattle.sdb_oplog.specs.Snap.{document_of, snap};
+ghost use Rattle.sdb_oplog.specs.declared.codes.Code.TheVariants.{E10};
+ghost use Rattle.sdb_subscribe.specs.Queue.{open_queue, queue_at, take_result_by, queues_after_take_by, remove_queue_by, is_open_by};
+ghost use Rattle.sdb_subscribe.specs.Ring.{without_rings, AreRingsOfLog, ArePushed, ringed_queues_after_take_by, remove_ringed_queue_by};
+ghost use Rattle.sdb_desk.specs.DocumentModel.{empty_document, WillStore};
+ghost use Rattle.sdb_desk.specs.Machine.{is_nonempty};
+ghost use Rattle.sdb_desk.specs.Reads.{CacheAfterRead, CacheAfterOffer, IsReplayBase, IsCachedReplayBase, CacheAfterUse};
+ghost use Rattle.sdb_desk.specs.Rings.{RingsAfterAppend, append_ringed_queue};
+ghost use Rattle.sdb_desk.specs.SlotModel.{empty_slot, document_or_empty};
+ghost use Rattle.sdb_desk.specs.View.{plain_replay_base};
+
+use crate::document::Document;
+use crate::replay_base::{ReplayBase, empty_replay_base};
+use sdb_oplog::{Code, Content, Entry, Log, Moment, Submission};
+use sdb_subscribe::{Queues, SubId};
+use sdb_value::Json;
+use std::alloc::{AllocError, Global};
+use std::marker::Model;
+
+// A document and the queues of those who follow it. The rings of the queues fit its log.
+#[derive(Drop)]
+pub(crate) struct DocumentSlot {
+    document: Option<Box<Document>>,
+    queues: Queues,
+}
+
+impl Model for DocumentSlot {
+    ghost use Rattle.sdb_subscribe.specs.Ring.{AreRingsOfLog};
+    ghost use Rattle.sdb_desk.specs.Coding.{slot_code};
+    ghost use Rattle.sdb_desk.specs.SlotModel.{PlainSlot, document_or_empty};
+
+    ghost Value = { PlainSlot };
+
+    ghost coded = { slot_code };
+
+    ghost view = { λ t. record { document = document_or_empty t.document; queues = t.queues } };
+
+    ghost invariant = { λ t. AreRingsOfLog (document_or_empty t.document).log t.queues.queues };
+}
+
+impl DocumentSlot {
+    // Nothing stored, and no queue.
+    pub(crate) fn new(alloc: Global) -> DocumentSlot
+        ensures { result ≡ empty_slot }
+    {
+        DocumentSlot {
+            document: None,
+            queues: Queues::new(alloc),
+        }
+    }
+
+    // The document, if something is stored of it.
+    pub(crate) fn document(&self) -> Option<&Document>
+        ensures { unwrap_or (option_map (λ d. d.now) result) empty_document ≡ self.now.document }
+    {
+        match &self.document {
+            Some(document) => Some(document),
+            None => None,
+        }
+    }
+
+    // Whether something is stored.
+    pub(crate) fn has_document(&self) -> bool
+        ensures { result ≡ is_nonempty self.now.document.log }
+    {
+        version_of(&self.document) != 0
+    }
+
+    // The queues.
+    pub(crate) fn queues(&self) -> &Queues
+        ensures { result.now ≡ self.now.queues }
+    {
+        &self.queues
+    }
+
+    // Stores now what a submission has become, with the document that it makes, and tells the rings.
+    pub(crate) fn append(
+        &mut self,
+        alloc: Global,
+        submission: Submission,
+        now: Moment,
+        content: Option<Content>,
+        made: Option<Json>,
+    ) -> Result<(), AllocError>
+        requires { WillStore self.old.document.log submission content (option_map value_of made) }
+        ensures log { OnOk result (self.new.document.log ≡ (decide self.old.document.log submission now).log) }
+        ensures reply { OnOk result ((decide self.old.document.log submission now).reply ≡
+            stored (length self.old.document.log) (missed_entries self.old.document.log submission)) }
+        ensures same { OnErr result (self.new.document.log ≡ self.old.document.log) }
+        ensures kept { self.new.document.cache ≡ self.old.document.cache }
+        ensures queues { without_rings self.new.queues ≡ without_rings self.old.queues }
+        ensures rings { RingsAfterAppend self.old.document.log self.new.document.log
+            self.old.queues.queues self.new.queues.queues }
+    {
+        let version = version_of(&self.document);
+        append_to_document(&mut self.document, alloc, submission, now, content, made)?;
+        push_to_rings(&mut self.queues, &self.document, version);
+        Ok(())
+    }
+
+    // A copy of the present document, which shares all of it.
+    pub(crate) fn freeze(&mut self, alloc: Global) -> Result<Option<Json>, AllocError>
+        ensures copy { IfOk result (λ d. option_map value_of d ≡ document_of self.old.document.log) }
+        ensures pointer { IfOk result (λ d. IfSome d (λ v. is_frozen v ≡ true)) }
+        ensures some { OnErr result (is_some (document_of self.old.document.log) ≡ true) }
+        ensures same { self.new ≡ self.old }
+    {
+        match &mut self.document {
+            Some(document) => document.freeze(alloc),
+            None => Ok(None),
+        }
+    }
+
+    // The document at a version, made of the nearest snapshot that is kept.
+    pub(crate) fn snapshot_at(&mut self, alloc: Global, version: u64) -> Result<Option<Json>, Code>
+        requires { version ≤ length self.old.document.log }
+        ensures snap { IfOk result (λ d. snap (take version self.old.document.log) ≡ Some (option_map value_of d)) }
+        ensures err { IfErr result (λ code. code ≡ E10) }
+        ensures memory { OnErr result (0 < version) }
+        ensures log { self.new.document.log ≡ self.old.document.log }
+        ensures kept { CacheAfterRead self.old.document.log version self.old.document.cache self.new.document.cache }
+        ensures queues { self.new.queues ≡ self.old.queues }
+    {
+        match &mut self.document {
+            Some(document) => document.snapshot_at(alloc, version),
+            None => Ok(None),
+        }
+    }
+
+    // What the document at a version is made of.
+    pub(crate) fn replay_base(
+        &mut self,
+        alloc: Global,
+        version: u64,
+    ) -> Result<ReplayBase, AllocError>
+        requires { version ≤ length self.old.document.log }
+        ensures lends { IfOk result (λ l. IsReplayBase self.old.document.log version (plain_replay_base l)) }
+        ensures from { IfOk result
+            (λ l. IsCachedReplayBase self.old.document.log self.old.document.cache version (plain_replay_base l)) }
+        ensures present { IfOk result (λ l. version ≡ length self.old.document.log → l.entries.items ≡ []) }
+        ensures memory { OnErr result (0 < version) }
+        ensures log { self.new.document.log ≡ self.old.document.log }
+        ensures kept { CacheAfterUse self.old.document.log version self.old.document.cache self.new.document.cache }
+        ensures queues { self.new.queues ≡ self.old.queues }
+    {
+        match &mut self.document {
+            Some(document) => document.replay_base(alloc, version),
+            None => Ok(empty_replay_base(alloc)),
+        }
+    }
+
+    // Keeps the document at a version, where there is one, and memory for it.
+    pub(crate) fn offer(&mut self, alloc: Global, version: u64, snapshot: Option<&Json>)
+        requires reached { version ≤ length self.old.document.log }
+        requires snapshot { document_of (take version self.old.document.log)
+            ≡ option_map (λ v. value_of v.now) snapshot }
+        ensures log { self.new.document.log ≡ self.old.document.log }
+        ensures kept { CacheAfterOffer version (option_map (λ v. value_of v.now) snapshot.entry)
+            self.old.document.cache self.new.document.cache }
+        ensures made { IsMade self.old.document.log }
+        ensures queues { self.new.queues ≡ self.old.queues }
+    {
+        if let Some(document) = &mut self.document {
+            document.offer(alloc, version, snapshot);
+        }
+    }
+
+    // Lets the kept snapshots go.
+    pub(crate) fn forget(&mut self)
+        ensures log { self.new.document.log ≡ self.old.document.log }
+        ensures kept { self.new.document.cache ≡ [] }
+        ensures queues { self.new.queues ≡ self.old.queues }
+    {
+        if let Some(document) = &mut self.document {
+            document.forget();
+        }
+    }
+
+    // Opens a queue of a number.
+    pub(crate) fn open(&mut self, by: u64, start: u64) -> Result<SubId, Code>
+        ensures id { IfOk result (λ id. id ≡ (without_rings self.old.queues).next) }
+        ensures ok { OnOk result (open_queue by start (without_rings self.old.queues)
+            ≡ Ok (without_rings self.new.queues)) }
+        ensures open { IfOk result
+            (λ id. queue_at id (without_rings self.new.queues).queues ≡
+            Some (record { start = start; taken = 0; by = by })) }
+        ensures err { IfErr result (λ code. IsRefusalOrOutOfMemory (open_queue by start
+            (without_rings self.old.queues)) code) }
+        ensures same { OnErr result (self.new ≡ self.old) }
+        ensures document { self.new.document ≡ self.old.document }
+        ensures rings { IfOk result
+            (λ id. self.new.queues.queues ≡ append_ringed_queue id by start self.old.queues.queues) }
+    {
+        self.queues.open(by, start)
+    }
+
+    // Takes the next entries of a queue of a number.
+    pub(crate) fn take(
+        &mut self,
+        alloc: Global,
+        by: u64,
+        id: SubId,
+        max: u64,
+    ) -> Result<Option<Vec<Entry>>, AllocError>
+        ensures entries { IfOk result (λ v. option_map (λ es. es.items) v ≡
+            take_result_by self.old.document.log by id max (without_rings self.old.queues).queues) }
+        ensures moved { OnOk result ((without_rings self.new.queues).queues ≡
+            queues_after_take_by self.old.document.log by id max (without_rings self.old.queues).queues) }
+        ensures err { OnErr result (self.new ≡ self.old) }
+        ensures some { OnErr result
+            (0 < length (unwrap_or
+            (take_result_by self.old.document.log by id max (without_rings self.old.queues).queues) [])) }
+        ensures next { self.new.queues.next ≡ self.old.queues.next }
+        ensures document { self.new.document ≡ self.old.document }
+        ensures rings { OnOk result (self.new.queues.queues ≡
+            ringed_queues_after_take_by self.old.document.log by id max self.old.queues.queues) }
+    {
+        match &self.document {
+            Some(document) => self.queues.take(by, document.log(), id, max),
+            None => self.queues.take(by, &Log::new(alloc), id, max),
+        }
+    }
+
+    // Closes a queue of a number.
+    pub(crate) fn close(&mut self, by: u64, id: SubId)
+        ensures queues { (without_rings self.new.queues).queues
+            ≡ remove_queue_by by id (without_rings self.old.queues).queues }
+        ensures gone { is_open_by by id (without_rings self.old.queues).queues ≡ true →
+            queue_at id (without_rings self.new.queues).queues ≡ None }
+        ensures next { self.new.queues.next ≡ self.old.queues.next }
+        ensures rings { self.new.queues.queues ≡ remove_ringed_queue_by by id self.old.queues.queues }
+        ensures document { self.new.document ≡ self.old.document }
+    {
+        self.queues.close(by, id)
+    }
+}
+
+// How many operations are stored of the document.
+fn version_of(document: &Option<Box<Document>>) -> u64
+    ensures { result ≡ length (document_or_empty document.now).log }
+{
+    match document {
+        Some(document) => document.log().len(),
+        None => 0,
+    }
+}
+
+// Stores what a submission has become, with the document that it makes, the first of its key where there is none.
+fn append_to_document(
+    document: &mut Option<Box<Document>>,
+    alloc: Global,
+    submission: Submission,
+    now: Moment,
+    content: Option<Content>,
+    made: Option<Json>,
+) -> Result<(), AllocError>
+    requires { WillStore (document_or_empty document.old).log submission content (option_map value_of made) }
+    ensures log { OnOk result
+        ((document_or_empty document.new).log ≡ (decide (document_or_empty document.old).log submission now).log) }
+    ensures reply { OnOk result ((decide (document_or_empty document.old).log submission now).reply ≡
+        stored (length (document_or_empty document.old).log) (missed_entries
+        (document_or_empty document.old).log submission)) }
+    ensures same { OnErr result ((document_or_empty document.new).log ≡ (document_or_empty document.old).log) }
+    ensures kept { (document_or_empty document.new).cache ≡ (document_or_empty document.old).cache }
+{
+    match document {
+        Some(document) => document.append(alloc, submission, now, content, made),
+        None => {
+            let first = Document::with_first_entry(alloc, submission, now, content, made)?;
+            *document = Some(try_box(alloc, first)?);
+            Ok(())
+        }
+    }
+}
+
+// The document in a block of its own.
+fn try_box(alloc: Global, document: Document) -> Result<Box<Document>, AllocError>
+    ensures { IfOk result (λ b. b.value ≡ document) }
+{
+    match Box::new(alloc, document) {
+        Ok(document) => Ok(document),
+        Err(error) => Err(AllocError::from(error)),
+    }
+}
+
+// Shows the rings the entry of the version, which was stored last.
+fn push_to_rings(queues: &mut Queues, document: &Option<Box<Document>>, version: u64)
+    ensures bare { without_rings queues.new ≡ without_rings queues.old }
+    ensures fit { (log : List PlainEntry) (entry : PlainEntry)
+        → (document_or_empty document.now).log ≡ log ++ entry ∷ [] → version ≡ length log
+        → entry.version ≡ length log → AreRingsOfLog log queues.old.queues
+        → AreRingsOfLog (log ++ entry ∷ []) queues.new.queues }
+    ensures noted { (log : List PlainEntry) (entry : PlainEntry)
+        → (document_or_empty document.now).log ≡ log ++ entry ∷ [] → version ≡ length log
+        → ArePushed entry queues.old.queues queues.new.queues }
+{
+    if let Some(document) = document {
+        if let Some(entry) = document.log().get(version) {
+            queues.push_entry(entry);
+        }
+    }
+}

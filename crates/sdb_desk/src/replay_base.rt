@@ -1,0 +1,78 @@
+//! What older versions of a document are made of, lent to be replayed without the documents.
+ghost use Rattle.std.specs.Prelude.{◌≡◌, ◌<◌, [], true, length, is_some, Some, None, IfOk, IfErr, OnErr, option_map};
+ghost use Rattle.sdb_value.specs.View.{value_of};
+ghost use Rattle.sdb_oplog.specs.Snap.{snap_from};
+ghost use Rattle.sdb_desk.specs.View.{plain_replay_base};
+ghost use Rattle.sdb_oplog.specs.declared.codes.Code.TheVariants.{E10};
+
+use sdb_oplog::{Code, Entry};
+use sdb_value::Json;
+use std::alloc::Global;
+
+/// What the document at a version is made of: the document at a version before it, or there, and the stored
+/// operations from there on. All of it is shared with the shard.
+#[derive(Drop)]
+pub struct ReplayBase {
+    /// The version of the snapshot.
+    pub version: u64,
+    /// The document there.
+    pub snapshot: Option<Json>,
+    /// The operations that were stored from there on.
+    pub entries: Vec<Entry>,
+}
+
+impl ReplayBase {
+    /// The document that it makes: the operations are applied to a copy of the snapshot, one by one, which
+    /// shares what they don't touch. All of it is shared, so that a copy of it is a pointer. E10 is want of
+    /// memory, where there are operations.
+    pub fn replay(self, alloc: Global) -> Result<Option<Json>, Code>
+        requires { is_some (snap_from (option_map value_of self.snapshot) self.entries.items) ≡ true }
+        ensures ok { IfOk result
+            (λ d. snap_from (option_map value_of self.snapshot) self.entries.items ≡ Some (option_map value_of d)) }
+        ensures err { IfErr result (λ code. code ≡ E10) }
+        ensures memory { OnErr result (0 < length self.entries.items) }
+    {
+        let ReplayBase {
+            snapshot,
+            entries,
+            ..
+        } = self;
+        if entries.is_empty() {
+            return Ok(snapshot);
+        }
+        let mut replayed = replay_entries(alloc, snapshot, entries.as_slice())?;
+        if let Some(value) = &mut replayed {
+            value.freeze(alloc)?;
+        }
+        Ok(replayed)
+    }
+}
+
+// What is lent where nothing is stored.
+pub(crate) fn empty_replay_base(alloc: Global) -> ReplayBase
+    ensures { plain_replay_base result ≡ record { version = 0; snapshot = None; entries = [] } }
+{
+    ReplayBase {
+        version: 0,
+        snapshot: None,
+        entries: Vec::new(alloc),
+    }
+}
+
+// The document after these operations, from this one on.
+fn replay_entries(
+    alloc: Global,
+    snapshot: Option<Json>,
+    entries: &[Entry],
+) -> Result<Option<Json>, Code>
+    requires { is_some (snap_from (option_map value_of snapshot) entries.now) ≡ true }
+    ensures ok { IfOk result (λ d. snap_from (option_map value_of snapshot) entries.now
+        ≡ Some (option_map value_of d)) }
+    ensures err { IfErr result (λ code. code ≡ E10) }
+{
+    let mut replayed = snapshot;
+    for entry in entries {
+        entry.content().apply_to(alloc, &mut replayed)?;
+    }
+    Ok(replayed)
+}

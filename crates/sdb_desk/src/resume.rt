@@ -1,0 +1,78 @@
+//! Work that is taken up again by a fresh look.
+ghost use Rattle.std.specs.Prelude.{◌≡◌, ◌≤◌, IfOk, IfErr, IfSome, IsTrue, IsFalse, length, take, drop};
+ghost use Rattle.sdb_oplog.specs.Rebase.{rebase};
+ghost use Rattle.sdb_oplog.specs.Refusal.{result_and_then};
+ghost use Rattle.sdb_desk.specs.View.{rebased_content_of, plain_attempt, plain_look};
+
+use crate::work::{Attempt, Look, RebasedContent, Work};
+use sdb_oplog::{Code, Content, Entry, entries_equal, rebase};
+use std::alloc::Global;
+
+impl Work {
+    /// Works the submission on by a fresh look. Only the entries behind those that were missed already are
+    /// transformed, and what comes of it is applied to the document of the fresh look; where these aren't the
+    /// first of the fresh look, or the submission has no version, it starts afresh. For want of memory alone
+    /// the attempt comes back, by the fresh look; what was worked before is gone then.
+    pub fn resume(self, alloc: Global, look: Look) -> Result<Work, Attempt>
+        ensures ok { IfOk result (λ w. w ≡ record { submission = self.submission; look = plain_look look }) }
+        ensures err { IfErr result
+            (λ a. plain_attempt a ≡ record { submission = self.submission; look = plain_look look }) }
+    {
+        let (attempt, worked) = self.into_parts();
+        let is_front = is_prefix(attempt.look.missed.as_slice(), look.missed.as_slice());
+        let known = attempt.look.missed.len();
+        let attempt = Attempt {
+            submission: attempt.submission,
+            look,
+        };
+        if attempt.submission.version().is_none() || !is_front {
+            return Work::compute(alloc, attempt);
+        }
+        let fresh = entries_after(attempt.look.missed.as_slice(), known);
+        match rebase_rest(alloc, attempt.submission.content(), worked, fresh) {
+            Some(worked) => Work::from_content(alloc, attempt, worked),
+            None => Err(attempt),
+        }
+    }
+}
+
+// Whether the entries are the first of the others.
+fn is_prefix(first: &[Entry], all: &[Entry]) -> bool
+    ensures long { IsTrue result → length first.now ≤ length all.now }
+    ensures same { IsTrue result → first.now ≡ take (length first.now) all.now }
+    ensures other { IsFalse result → first.now ≡ take (length first.now) all.now → ⊥ }
+{
+    first.len() <= all.len() && entries_equal(first, &all[..first.len()])
+}
+
+// The entries behind the first ones.
+fn entries_after(entries: &[Entry], first: usize) -> &[Entry]
+    requires { first ≤ length entries.now }
+    ensures { result.now ≡ drop first entries.now }
+{
+    &entries[first..]
+}
+
+// What was worked, along further entries. None where memory is wanting.
+fn rebase_rest(
+    alloc: Global,
+    arrived: &Content,
+    worked: RebasedContent,
+    entries: &[Entry],
+) -> Option<RebasedContent>
+    ensures { IfSome result
+        (λ r. rebased_content_of arrived.now r
+        ≡ result_and_then (λ k. rebase k entries.now) (rebased_content_of arrived.now worked)) }
+{
+    let current = match &worked {
+        RebasedContent::Unchanged => arrived,
+        RebasedContent::Changed(content) => content,
+        RebasedContent::Refused(_) => return Some(worked),
+    };
+    match rebase(alloc, current, entries) {
+        Ok(None) => Some(worked),
+        Ok(Some(content)) => Some(RebasedContent::Changed(content)),
+        Err(Code::E10) => None,
+        Err(code) => Some(RebasedContent::Refused(code)),
+    }
+}

@@ -1,0 +1,169 @@
+-- A checker accepts the dumps of made logs within the limits, and no other lines.
+use Rattle.std.proofs.Common.{◌≡◌, ℕ, ◌<◌, ◌≤◌, List, [], ◌∷◌, ◌++◌, length, Bool, true, false, cond, Ok, Err, Ordering, Less, Equal, Greater, nat_cmp, is_eq, refl, sym, ap, ap₂, ◌∙◌, subst, arith, append-nil, length-append}
+use Rattle.std.specs.Prelude.{⊤, if◌then◌else◌, nat_eq, nat_lt, Result}
+use Rattle.std.specs.Ordering.{ordering_then}
+use Rattle.std.specs.Cmp.Lexicographic.{slice_cmp}
+use Rattle.std.proofs.lemmas.Cmp.{nat_list_cmp_total, tied_itself}
+use Rattle.std.proofs.lemmas.Bool.Decides.{nat_tests}
+use Rattle.std.proofs.lemmas.Map.Text.{is_eq-slice_cmp}
+use Rattle.std.proofs.lemmas.Slice.Eq.{bytes_eq-Decides}
+use Rattle.sdb_oplog.specs.Keys.{PlainKey, keys_equal}
+use Rattle.sdb_oplog.specs.Plain.{PlainContent, PlainSubmission, PlainEntry}
+use Rattle.sdb_oplog.specs.Rebase.{rebase}
+use Rattle.sdb_oplog.specs.Refusal.{result_and_then}
+use Rattle.sdb_oplog.specs.Snap.{apply_content, document_of}
+use Rattle.sdb_oplog.specs.Decide.{decide, rebased_content, base_version, missed_entries, IsMadeFrom}
+use Rattle.sdb_oplog.specs.declared.codes.Code.{Code}
+use Rattle.sdb_oplog.specs.declared.codes.Code.TheVariants.{E4, E11}
+use Rattle.sdb_dump.specs.declared.version.DumpVersion.{DumpVersion}
+use Rattle.sdb_dump.specs.EntryLimits.{KeyInLimits, ContentInLimits, MomentInLimits, SubmissionInLimits, EntryInLimits}
+use Rattle.sdb_dump.specs.DumpText.{PlainLine, log_of_lines, IsNextLine, AreNextLines, dump_lines, check}
+use Rattle.sdb_dump.proofs.CheckLemmas.{check_sound, check_complete}
+use Rattle.sdb_dump.proofs.DecideLemmas.{stored_from, stored_is}
+use Rattle.sdb_dump.proofs.ReadBackEntries.{line_reads_back}
+use Rattle.sdb_dump.specs.DumpLaws.{KeysAscendFrom, AllInLimits, IsDumpOfLogs}
+use Rattle.sdb_dump.proofs.CrossLimits.{OkInLimits, AllContentsInLimits, settled_fits}
+
+-- ---- keys
+
+equal_texts : (xs ys : List ℕ) → is_eq (slice_cmp nat_cmp xs ys) ≡ true → xs ≡ ys
+equal_texts xs ys e = (bytes_eq-Decides xs ys).0 (sym (is_eq-slice_cmp xs ys) ∙ e)
+
+both_equal : (o p : Ordering) → is_eq (ordering_then o p) ≡ true → (is_eq o ≡ true) × (is_eq p ≡ true)
+both_equal Less p e = cc
+both_equal Equal p e = (refl, e)
+both_equal Greater p e = cc
+
+pub equal_keys : (a b : PlainKey) → keys_equal a b ≡ true → a ≡ b
+equal_keys a b e =
+    let h = both_equal (slice_cmp nat_cmp a.collection b.collection) (slice_cmp nat_cmp a.id b.id) e in
+    ap₂ (λ c i. record { collection = c; id = i }) (equal_texts a.collection b.collection h.0) (equal_texts a.id b.id h.1)
+
+pub same_as_itself : (k : PlainKey) → keys_equal k k ≡ true
+same_as_itself k = rw (tied_itself nat_list_cmp_total k.collection, tied_itself nat_list_cmp_total k.id) refl
+
+-- ---- the log of a key, a line longer
+
+either_more : (b : Bool) (y : PlainLine) (es fs more : List PlainEntry) → fs ≡ es ++ more → cond b (y.entry ∷ fs) fs ≡ cond b (y.entry ∷ es) es ++ more
+either_more true y es fs more e = ap (λ l. y.entry ∷ l) e
+either_more false y es fs more e = e
+
+pub log_more : (before : List PlainLine) (x : PlainLine) (k : PlainKey) → log_of_lines (before ++ x ∷ []) k ≡ log_of_lines before k ++ cond (keys_equal k x.key) (x.entry ∷ []) []
+log_more [] x k = refl
+log_more (y ∷ before) x k = either_more (keys_equal k y.key) y (log_of_lines before k) (log_of_lines (before ++ x ∷ []) k) (cond (keys_equal k x.key) (x.entry ∷ []) []) (log_more before x k)
+
+-- ---- what `decide` stores fits
+
+not_full : (b c : Bool) (r : Result PlainContent Code) (m : PlainContent) → (if b then Err E11 else (if c then Err E4 else r)) ≡ Ok m → b ≡ false
+not_full true c r m e = cc
+not_full false c r m e = refl
+
+room_of_rebased : (log : List PlainEntry) (s : PlainSubmission) (m : PlainContent) → rebased_content log s ≡ Ok m → length log ≤ 9007199254740991 → length log < 9007199254740991
+room_of_rebased log s m e h =
+    let r = result_and_then (λ k. result_and_then (λ d. Ok k) (apply_content k (document_of log))) (rebase s.content (missed_entries log s)) in
+    let f : nat_eq (length log) 9007199254740991 ≡ false = not_full (nat_eq (length log) 9007199254740991) (nat_lt (length log) (base_version log s)) r m e in
+    grind (arith, nat_tests, f, h)
+
+abbrev LogInLimits : List PlainEntry → Type 0
+LogInLimits log = AllContentsInLimits log × (length log ≤ 9007199254740991)
+
+in_limits_at : (P : PlainContent → Type 0) (r : Result PlainContent Code) (m : PlainContent) → r ≡ Ok m → OkInLimits P r → P m
+in_limits_at P r m e h = subst (OkInLimits P) e h
+
+record AppendInLimits (v : DumpVersion) (log : List PlainEntry) (e : PlainEntry) : Type 0 where
+  pub fits : EntryInLimits v e
+  pub some_room : length log < 9007199254740991
+
+append_in_limits : (v : DumpVersion) (log : List PlainEntry) (e : PlainEntry) → LogInLimits log → MomentInLimits v e.moment → SubmissionInLimits e.arrived
+    → (decide log e.arrived e.moment).log ≡ log ++ e ∷ [] → AppendInLimits v log e
+append_in_limits v log e h t f d =
+    let w = stored_is log e.arrived e.moment e (stored_from log e.arrived e.moment e d) in
+    let c = in_limits_at (ContentInLimits 100) (rebased_content log e.arrived) w.content w.settles (settled_fits log e.arrived h.0 f.content) in
+    let r = room_of_rebased log e.arrived w.content w.settles h.1 in
+    let version : e.version ≡ length log = ap (λ x. x.version) w.entry in
+    let content : w.content ≡ e.content = sym (ap (λ x. x.content) w.entry) in
+    record { fits = record { version = omega (arith, version, r); moment = t; content = subst (ContentInLimits 100) content c; arrived = f }; some_room = r }
+
+-- ---- all lines
+
+contents_more : (es : List PlainEntry) (e : PlainEntry) → AllContentsInLimits es → ContentInLimits 100 e.content → AllContentsInLimits (es ++ e ∷ [])
+contents_more [] e h k = (k, tt)
+contents_more (x ∷ es) e h k = (h.0, contents_more es e h.1 k)
+
+log_in_limits_append : (v : DumpVersion) (b : Bool) (log : List PlainEntry) (x : PlainLine) → LogInLimits log → (b ≡ true → AppendInLimits v log x.entry) → LogInLimits (log ++ cond b (x.entry ∷ []) [])
+log_in_limits_append v false log x h g = subst LogInLimits (sym (append-nil log)) h
+log_in_limits_append v true log x h g = let w = g refl in (contents_more log x.entry h.0 w.fits.content, omega (arith, length-append log (x.entry ∷ []), w.some_room))
+
+made_more : (b : Bool) (log more : List PlainEntry) (x : PlainLine) → IsMadeFrom log (cond b (x.entry ∷ more) more) → IsMadeFrom (log ++ cond b (x.entry ∷ []) []) more
+made_more true log more x h = h.1
+made_more false log more x h = subst (λ l. IsMadeFrom l more) (sym (append-nil log)) h
+
+first_made : (b : Bool) (log more : List PlainEntry) (x : PlainLine) → b ≡ true → IsMadeFrom log (cond b (x.entry ∷ more) more) → (decide log x.entry.arrived x.entry.moment).log ≡ log ++ x.entry ∷ []
+first_made true log more x e h = h.0
+first_made false log more x e h = cc
+
+next_all : (v : DumpVersion) (before xs : List PlainLine) → KeysAscendFrom before xs → ((k : PlainKey) → IsMadeFrom (log_of_lines before k) (log_of_lines xs k)) → AllInLimits v xs
+    → ((k : PlainKey) → LogInLimits (log_of_lines before k)) → AreNextLines v before xs
+next_all v before [] a m f h = tt
+next_all v before (x ∷ xs) a m f h =
+    let log = log_of_lines before x.key in
+    let d = first_made (keys_equal x.key x.key) log (log_of_lines xs x.key) x (same_as_itself x.key) (m x.key) in
+    let g = append_in_limits v log x.entry (h x.key) f.1 f.2 d in
+    let n : IsNextLine v before x = record { ascends = a.0; decided = d; read = line_reads_back v x f.0 g.fits } in
+    let m' : (k : PlainKey) → IsMadeFrom (log_of_lines (before ++ x ∷ []) k) (log_of_lines xs k) =
+    λ k. subst (λ l. IsMadeFrom l (log_of_lines xs k)) (sym (log_more before x k)) (made_more (keys_equal k x.key) (log_of_lines before k) (log_of_lines xs k) x (m k)) in
+    let h' : (k : PlainKey) → LogInLimits (log_of_lines (before ++ x ∷ []) k) =
+    λ k. subst LogInLimits (sym (log_more before x k)) (log_in_limits_append v (keys_equal k x.key) (log_of_lines before k) x (h k) (λ e. subst (λ q. AppendInLimits v (log_of_lines before q) x.entry) (sym (equal_keys k x.key e)) g)) in
+    (n, next_all v (before ++ x ∷ []) xs a.1 m' f.3 h')
+
+abbrev pub AllLinesInLimits : DumpVersion → List PlainLine → Type 0
+AllLinesInLimits v [] = ⊤
+AllLinesInLimits v (x ∷ xs) = KeyInLimits x.key × EntryInLimits v x.entry × AllLinesInLimits v xs
+
+-- so all entries fit
+fit_from : (v : DumpVersion) (before xs : List PlainLine) → ((k : PlainKey) → IsMadeFrom (log_of_lines before k) (log_of_lines xs k)) → AllInLimits v xs
+    → ((k : PlainKey) → LogInLimits (log_of_lines before k)) → AllLinesInLimits v xs
+fit_from v before [] m f h = tt
+fit_from v before (x ∷ xs) m f h =
+    let d = first_made (keys_equal x.key x.key) (log_of_lines before x.key) (log_of_lines xs x.key) x (same_as_itself x.key) (m x.key) in
+    let g = append_in_limits v (log_of_lines before x.key) x.entry (h x.key) f.1 f.2 d in
+    let m' : (k : PlainKey) → IsMadeFrom (log_of_lines (before ++ x ∷ []) k) (log_of_lines xs k) =
+    λ k. subst (λ l. IsMadeFrom l (log_of_lines xs k)) (sym (log_more before x k)) (made_more (keys_equal k x.key) (log_of_lines before k) (log_of_lines xs k) x (m k)) in
+    let h' : (k : PlainKey) → LogInLimits (log_of_lines (before ++ x ∷ []) k) =
+    λ k. subst LogInLimits (sym (log_more before x k)) (log_in_limits_append v (keys_equal k x.key) (log_of_lines before k) x (h k) (λ e. subst (λ q. AppendInLimits v (log_of_lines before q) x.entry) (sym (equal_keys k x.key e)) g)) in
+    (f.0, g.fits, fit_from v (before ++ x ∷ []) xs m' f.3 h')
+
+pub all_fit : (v : DumpVersion) (xs : List PlainLine) → IsDumpOfLogs xs → AllInLimits v xs → AllLinesInLimits v xs
+all_fit v xs d f = fit_from v [] xs d.made f (λ k. (tt, omega arith))
+
+pub dumps_accepted : (v : DumpVersion) (xs : List PlainLine) → IsDumpOfLogs xs → AllInLimits v xs → check (dump_lines v xs) [] ≡ Ok xs
+dumps_accepted v xs d f = check_complete v xs (next_all v [] xs d.ascends d.made f (λ k. (tt, omega arith)))
+
+-- ---- and no others
+
+made_first : (b : Bool) (log more : List PlainEntry) (x : PlainLine) → (b ≡ true → (decide log x.entry.arrived x.entry.moment).log ≡ log ++ x.entry ∷ []) → IsMadeFrom (log ++ cond b (x.entry ∷ []) []) more
+    → IsMadeFrom log (cond b (x.entry ∷ more) more)
+made_first true log more x d h = (d refl, h)
+made_first false log more x d h = subst (λ l. IsMadeFrom l more) (append-nil log) h
+
+all_made : (v : DumpVersion) (before xs : List PlainLine) → AreNextLines v before xs → (k : PlainKey) → IsMadeFrom (log_of_lines before k) (log_of_lines xs k)
+all_made v before [] h k = tt
+all_made v before (x ∷ xs) h k =
+    let rest = subst (λ l. IsMadeFrom l (log_of_lines xs k)) (log_more before x k) (all_made v (before ++ x ∷ []) xs h.1 k) in
+    made_first (keys_equal k x.key) (log_of_lines before k) (log_of_lines xs k) x
+    (λ e. subst (λ q. (decide (log_of_lines before q) x.entry.arrived x.entry.moment).log ≡ log_of_lines before q ++ x.entry ∷ []) (sym (equal_keys k x.key e)) h.0.decided) rest
+
+all_ascend : (v : DumpVersion) (before xs : List PlainLine) → AreNextLines v before xs → KeysAscendFrom before xs
+all_ascend v before [] h = tt
+all_ascend v before (x ∷ xs) h = (h.0.ascends, all_ascend v (before ++ x ∷ []) xs h.1)
+
+pub accepted_next : (ls : List (List ℕ)) (rest : List ℕ) (xs : List PlainLine) → check ls rest ≡ Ok xs
+    → (v : DumpVersion) × (ls ≡ dump_lines v xs) × (rest ≡ []) × AreNextLines v [] xs × IsDumpOfLogs xs
+accepted_next ls rest xs e =
+    let s = check_sound ls rest xs e in
+    let lines = s.1 in
+    (s.0, lines.0, lines.1, lines.2, record { ascends = all_ascend s.0 [] xs lines.2; made = all_made s.0 [] xs lines.2 })
+
+pub accepted_dumps : (ls : List (List ℕ)) (rest : List ℕ) (xs : List PlainLine) → check ls rest ≡ Ok xs
+    → (v : DumpVersion) × (ls ≡ dump_lines v xs) × (rest ≡ []) × IsDumpOfLogs xs
+accepted_dumps ls rest xs e = let d = accepted_next ls rest xs e in (d.0, d.1, d.2, d.4)

@@ -1,0 +1,100 @@
+-- A printed value has no line feed in it.
+use Rattle.std.proofs.Common.{◌≡◌, ◌≢◌, ℕ, pos, negsuc, zero, suc, ◌<◌, ◌≤◌, ◌^◌, Bool, true, false, not, ◌&&◌, ◌==◌, List, [], ◌∷◌, ◌++◌, length, get_or, decimal, inl, inr, refl, sym, subst, arith}
+use Rattle.std.proofs.lemmas.Bool.{and_parts, cases_lt, cases_eq}
+use Rattle.std.proofs.lemmas.Bool.Decides.{nat_tests}
+use Rattle.std.proofs.lemmas.Fmt.{decimal_is_IsNumeral}
+use Rattle.std.proofs.lemmas.Str.Parse.{digit_at}
+use Rattle.json.specs.Print.{escape_byte, escape, quoted, token_text}
+use Rattle.json.specs.Token as token
+use Rattle.json.proofs.Printed.Strings.{escape_byte_plain}
+use Rattle.serde_json.specs.Data.{Num, unsigned, negative, float, Data, null, boolean, number, string, array, object, Items, no_items, item, Members, no_members, member}
+use Rattle.serde_json.specs.Written.{number_text, comma_if, compact_text, items_text, members_text}
+use Rattle.sdb_dump.specs.SoundData.{IsSafeNumber, IsSoundData, AreSound, MembersSound}
+use Rattle.sdb_dump.specs.LineSplit.{HasNoLineFeed}
+
+pub line_append : (xs ys : List ℕ) → HasNoLineFeed xs → HasNoLineFeed ys → HasNoLineFeed (xs ++ ys)
+line_append [] ys h k = k
+line_append (x ∷ xs) ys h k = (h.0, line_append xs ys h.1 k)
+
+abbrev pub has_none : List ℕ → Bool
+has_none [] = true
+has_none (x ∷ xs) = not (x == 10) && has_none xs
+
+not_feed : (x : ℕ) → not (x == 10) ≡ true → x ≢ 10
+not_feed x e h = grind (arith, nat_tests, e, h)
+
+line_of : (xs : List ℕ) → has_none xs ≡ true → HasNoLineFeed xs
+line_of [] e = tt
+line_of (x ∷ xs) e = let p = and_parts (not (x == 10)) (has_none xs) e in (not_feed x p.0, line_of xs p.1)
+
+-- the escapes of the bytes below n
+abbrev clean_below : ℕ → Bool
+clean_below zero = true
+clean_below (suc n) = has_none (escape_byte n) && clean_below n
+
+byte_below : (n : ℕ) → clean_below n ≡ true → (x : ℕ) → x < n → has_none (escape_byte x) ≡ true
+byte_below zero e x h = absurd (omega arith)
+byte_below (suc n) e x h =
+    let p = and_parts (has_none (escape_byte n)) (clean_below n) e in
+    elim (cases_eq x n) [ inl same ↦ subst (λ y. has_none (escape_byte y) ≡ true) (sym same) p.0 | inr other ↦ byte_below n p.1 x (omega arith) ]
+
+all_clean : clean_below 128 ≡ true
+unfolding escape_byte
+all_clean = refl
+
+byte_line : (x : ℕ) → HasNoLineFeed (escape_byte x)
+byte_line x = elim (cases_lt x 128) [
+  | inl small ↦ line_of (escape_byte x) (byte_below 128 all_clean x small)
+  | inr big ↦ subst HasNoLineFeed (sym (escape_byte_plain x (λ e. omega arith) (λ e. omega arith) (omega arith))) ((λ e. omega arith), tt)
+]
+
+escape_line : (s : List ℕ) → HasNoLineFeed (escape s)
+escape_line [] = tt
+escape_line (x ∷ s) = line_append (escape_byte x) (escape s) (byte_line x) (escape_line s)
+
+quoted_line : (s : List ℕ) → HasNoLineFeed (quoted s)
+quoted_line s = ((λ e. omega arith), line_append (escape s) (34 ∷ []) (escape_line s) (line_of (34 ∷ []) refl))
+
+digits_line : (ds : List ℕ) → ((i : ℕ) → i < length ds → 48 ≤ get_or ds i 0) → HasNoLineFeed ds
+digits_line [] h = tt
+digits_line (d ∷ ds) h =
+    let first : 48 ≤ d = h 0 (omega arith) in
+    ((λ e. omega (arith, first, e)), digits_line ds (λ i l. h (suc i) (omega arith)))
+
+decimal_line : (n : ℕ) → n < 2 ^ 64 → HasNoLineFeed (decimal n)
+decimal_line n h = digits_line (decimal n) (λ i l. (digit_at (decimal n) i (decimal_is_IsNumeral n h).0.1 l).0)
+
+number_line : (n : Num) → IsSafeNumber n → HasNoLineFeed (number_text n)
+number_line (unsigned n) h = decimal_line n h
+number_line (negative (pos n)) h = absurd h
+number_line (negative (negsuc n)) h = ((λ e. omega arith), decimal_line (suc n) (omega (arith, h)))
+number_line (float x) h = absurd h
+
+truth_line : (b : Bool) → HasNoLineFeed (token_text (token.boolean b))
+truth_line true = line_of (token_text (token.boolean true)) refl
+truth_line false = line_of (token_text (token.boolean false)) refl
+
+comma_line : (b : Bool) → HasNoLineFeed (comma_if b)
+comma_line true = line_of (44 ∷ []) refl
+comma_line false = tt
+
+mutual
+  pub compact_line : (d : Data) → IsSoundData d → HasNoLineFeed (compact_text d)
+  compact_line null h = line_of (token_text token.null) refl
+  compact_line (boolean b) h = truth_line b
+  compact_line (number n) h = number_line n h
+  compact_line (string s) h = quoted_line s
+  compact_line (array ds) h = ((λ e. omega arith), items_line false ds h)
+  compact_line (object ms) h = ((λ e. omega arith), members_line false ms h)
+
+  items_line : (later : Bool) (ds : Items) → AreSound ds → HasNoLineFeed (items_text later ds)
+  items_line later no_items h = line_of (93 ∷ []) refl
+  items_line later (item d ds) h =
+      line_append (comma_if later) _ (comma_line later) (line_append (compact_text d) _ (compact_line d h.0) (items_line true ds h.1))
+
+  members_line : (later : Bool) (ms : Members) → MembersSound ms → HasNoLineFeed (members_text later ms)
+  members_line later no_members h = line_of (125 ∷ []) refl
+  members_line later (member k d ms) h =
+      line_append (comma_if later) _ (comma_line later)
+      (line_append (quoted k) _ (quoted_line k)
+      ((λ e. omega arith), line_append (compact_text d) _ (compact_line d h.1) (members_line true ms h.3)))

@@ -1,0 +1,84 @@
+-- A text is accepted exactly where it is a dump.
+use Rattle.std.proofs.Common.{◌≡◌, ℕ, ◌<◌, List, [], ◌∷◌, ◌++◌, length, map, Bool, true, false, ◌==◌, Ok, refl, sym, ap, ap₂, ◌∙◌, arith, append_assoc, append-nil, ne_eqb}
+use Rattle.std.specs.Prelude.{⊤, ◌^◌, codes, if◌then◌else◌}
+use Rattle.std.proofs.lemmas.Bool.Decides.{nat_tests}
+use Rattle.sdb_dump.specs.DumpText.{PlainLine, count_line, entry_line, dump_lines, ended_lines, dump_text, check}
+use Rattle.sdb_dump.specs.DumpLaws.{AllInLimits, IsDumpOfLogs}
+use Rattle.sdb_dump.proofs.AcceptLemmas.{AllLinesInLimits, all_fit, dumps_accepted, accepted_next}
+use Rattle.sdb_dump.specs.declared.version.DumpVersion.{DumpVersion}
+use Rattle.sdb_dump.specs.declared.version.DumpVersion.TheVariants.{One, Two}
+use Rattle.sdb_dump.specs.DumpLine.{dump_version_number, written_moment, line_data}
+use Rattle.sdb_dump.proofs.ReadBackEntries.{line_sound, shown_counts}
+use Rattle.sdb_dump.specs.SoundData.{IsSoundData}
+use Rattle.json.proofs.Printed.Utf8.{are_ascii, IsUtf8-are_ascii}
+use Rattle.serde_json.specs.Data.{number, unsigned, object, no_members, member}
+use Rattle.sdb_dump.specs.LineSplit.{cons_line, split_lines, check_text, HasNoLineFeed}
+use Rattle.sdb_dump.specs.EntryLimits.{AllKeysInLimits}
+use Rattle.sdb_dump.proofs.LineFeedLemmas.{compact_line}
+use Rattle.sdb_dump.proofs.LimitLemmas.{all_within}
+
+-- ---- the lines, put together again, are the text
+
+joined_if : (b : Bool) (x : ℕ) (xs pending : List ℕ) → (x == 10) ≡ b
+    → ((p : List ℕ) → ended_lines (split_lines p xs).ended ++ (split_lines p xs).rest ≡ p ++ xs)
+    → (let c = if b then cons_line pending (split_lines [] xs) else split_lines (pending ++ x ∷ []) xs in ended_lines c.ended ++ c.rest) ≡ pending ++ x ∷ xs
+joined_if true x xs pending e below =
+    let f : 10 ≡ x = grind (arith, nat_tests, e) in
+    append_assoc pending (10 ∷ ended_lines (split_lines [] xs).ended) (split_lines [] xs).rest ∙ ap (λ l. pending ++ 10 ∷ l) (below []) ∙ ap (λ y. pending ++ y ∷ xs) f
+joined_if false x xs pending e below = below (pending ++ x ∷ []) ∙ append_assoc pending (x ∷ []) xs
+
+split_joins_back : (xs pending : List ℕ) → ended_lines (split_lines pending xs).ended ++ (split_lines pending xs).rest ≡ pending ++ xs
+split_joins_back [] pending = sym (append-nil pending)
+split_joins_back (x ∷ xs) pending = joined_if (x == 10) x xs pending refl (split_joins_back xs)
+
+-- ---- and a text of lines is cut into them
+
+split_of_line : (l rest pending : List ℕ) → HasNoLineFeed l → split_lines pending (l ++ 10 ∷ rest) ≡ cons_line (pending ++ l) (split_lines [] rest)
+split_of_line [] rest pending h = ap (λ p. cons_line p (split_lines [] rest)) (sym (append-nil pending))
+split_of_line (x ∷ l) rest pending h =
+    ap (λ b. if b then cons_line pending (split_lines [] (l ++ 10 ∷ rest)) else split_lines (pending ++ x ∷ []) (l ++ 10 ∷ rest)) (ne_eqb x 10 h.0)
+    ∙ split_of_line l rest (pending ++ x ∷ []) h.1 ∙ ap (λ p. cons_line p (split_lines [] rest)) (append_assoc pending (x ∷ []) l)
+
+abbrev HaveNoLineFeeds : List (List ℕ) → Type 0
+HaveNoLineFeeds [] = ⊤
+HaveNoLineFeeds (l ∷ ls) = HasNoLineFeed l × HaveNoLineFeeds ls
+
+cut_lines : (ls : List (List ℕ)) → HaveNoLineFeeds ls → split_lines [] (ended_lines ls) ≡ record { ended = ls; rest = [] }
+cut_lines [] h = refl
+cut_lines (l ∷ ls) h = split_of_line l (ended_lines ls) [] h.0 ∙ ap (cons_line l) (cut_lines ls h.1)
+
+text_lines : (v : DumpVersion) (xs : List PlainLine) (last : List ℕ) → AllLinesInLimits v xs → HasNoLineFeed last → HaveNoLineFeeds (map (entry_line v) xs ++ last ∷ [])
+text_lines v [] last h k = (k, tt)
+text_lines v (x ∷ xs) last h k =
+    let o = written_moment v x.entry.moment in
+    (compact_line (line_data x.key x.entry o) (line_sound v x.key x.entry o h.0 h.1 (shown_counts v x.entry.moment h.1.moment)), text_lines v xs last h.2 k)
+
+one_member : (k : List ℕ) (n : ℕ) → are_ascii k ≡ true → n < 2 ^ 64 → IsSoundData (object (member k (number (unsigned n)) no_members))
+one_member k n e h = (IsUtf8-are_ascii k e, h, tt, tt)
+
+version_number_fits : (v : DumpVersion) → dump_version_number v < 2 ^ 64
+version_number_fits One = omega arith
+version_number_fits Two = omega arith
+
+dump_are_lines : (v : DumpVersion) (xs : List PlainLine) → IsDumpOfLogs xs → AllInLimits v xs → length xs < 2 ^ 64 → HaveNoLineFeeds (dump_lines v xs)
+dump_are_lines v xs d f few = (
+  compact_line (object (member (codes "dump") (number (unsigned (dump_version_number v))) no_members)) (one_member (codes "dump") (dump_version_number v) refl (version_number_fits v)),
+  text_lines v xs (count_line (length xs)) (all_fit v xs d f) (compact_line (object (member (codes "entries") (number (unsigned (length xs))) no_members)) (one_member (codes "entries") (length xs) refl few)),
+)
+
+pub text_accepted : (v : DumpVersion) (xs : List PlainLine) → IsDumpOfLogs xs → AllInLimits v xs → length xs < 2 ^ 64 → check_text (dump_text v xs) ≡ Ok xs
+text_accepted v xs d f few = ap (λ c. check c.ended c.rest) (cut_lines (dump_lines v xs) (dump_are_lines v xs d f few)) ∙ dumps_accepted v xs d f
+
+-- the text is a dump, whose lines are next, and keep the limits if its keys and submissions do
+pub text_next : (t : List ℕ) (xs : List PlainLine) → check_text t ≡ Ok xs
+    → (v : DumpVersion) × (t ≡ dump_text v xs) × IsDumpOfLogs xs × (AllKeysInLimits xs → AllInLimits v xs)
+text_next t xs e =
+    let d = accepted_next (split_lines [] t).ended (split_lines [] t).rest xs e in (
+      d.0,
+      sym (split_joins_back t []) ∙ ap₂ (λ a b. ended_lines a ++ b) d.1 d.2 ∙ append-nil (ended_lines (dump_lines d.0 xs)),
+      d.4,
+      λ h. all_within d.0 [] xs d.3 h,
+    )
+
+pub text_only : (t : List ℕ) (xs : List PlainLine) → check_text t ≡ Ok xs → (v : DumpVersion) × (t ≡ dump_text v xs) × IsDumpOfLogs xs
+text_only t xs e = let d = text_next t xs e in (d.0, d.1, d.2)

@@ -1,0 +1,216 @@
+-- The line of an entry is read as the submission that came.
+use Rattle.std.proofs.Common.{◌≡◌, ℕ, ◌+◌, ◌<◌, ◌≤◌, List, length, Option, Some, None, true, IsUtf8, Ok, refl, sym, ap, ◌∙◌, arith}
+use Rattle.std.specs.Prelude.{◌^◌, if◌then◌else◌, nat_lt, codes}
+use Rattle.std.proofs.lemmas.Bool.Decides.{nat_tests}
+use Rattle.json.proofs.Printed.Utf8.{are_ascii, IsUtf8-are_ascii}
+use Rattle.serde_json.specs.Data as raw
+use Rattle.serde_json.specs.Data.{Data, number, unsigned, string, object, member}
+use Rattle.serde_json.specs.Find.{get}
+use Rattle.serde_json.specs.Read.{read, max_depth}
+use Rattle.serde_json.specs.Written.{compact_text}
+use Rattle.sdb_value.specs.Value as value
+use Rattle.sdb_value.specs.FromJson.{count_of}
+use Rattle.sdb_component.specs.ToJson.{op_data}
+use Rattle.sdb_oplog.specs.Keys.{PlainKey}
+use Rattle.sdb_oplog.specs.Plain.{PlainContent, create, delete, edit, PlainSubmission, PlainEntry}
+use Rattle.sdb_wire.specs.Answers.{create_data}
+use Rattle.sdb_wire.specs.Wire.{name_value, read_optional, present_member, content_of}
+use Rattle.sdb_dump.specs.SoundData.{IsSoundData, MembersSound, IsKeyBelowAll}
+use Rattle.sdb_dump.specs.ValueLimits.{IsSafeInteger, ValueInLimits, ComponentsInLimits}
+use Rattle.std.proofs.lemmas.Str.{is_utf8-from_IsUtf8}
+use Rattle.sdb_dump.proofs.ReadBackData.{read_compact}
+use Rattle.sdb_dump.proofs.PrintLemmas.{utf8_compact}
+use Rattle.sdb_dump.proofs.ReadBackValues.{value_sound, value_deep, profile_back}
+use Rattle.sdb_dump.proofs.ReadBackComponents.{count_back, op_back, op_sound, op_deep}
+use Rattle.sdb_dump.specs.DumpText.{PlainLine, entry_line, line_content}
+use Rattle.sdb_dump.specs.declared.version.DumpVersion.{DumpVersion}
+use Rattle.sdb_dump.specs.declared.version.DumpVersion.TheVariants.{One, Two}
+use Rattle.sdb_dump.specs.DumpLine.{written_moment, optional_version_data, arrived_members, arrived_data, content_members_with_moment, line_tail, line_data, and_then_some, arrived_of_data, moment_of_data, line_of_data, read_line}
+use Rattle.sdb_dump.specs.EntryLimits.{NameInLimits, KeyInLimits, MomentInLimits, OptionalCountInLimits, ContentInLimits, OpLengthInLimits, SubmissionInLimits, EntryInLimits}
+
+-- ---- sound
+
+count_sound : (n : ℕ) → IsSafeInteger n → n < 2 ^ 64
+count_sound n h = omega (arith, h)
+
+utf8_of_ascii : (s : List ℕ) → are_ascii s ≡ true → IsUtf8 s
+utf8_of_ascii s e = IsUtf8-are_ascii s e
+
+version_sound : (o : Option ℕ) → OptionalCountInLimits o → IsSoundData (optional_version_data o)
+version_sound None h = tt
+version_sound (Some n) h = count_sound n h
+
+create_sound : (v : value.Value) → ValueInLimits 50 v → IsSoundData (create_data v)
+create_sound v h = (utf8_of_ascii _ refl, value_sound v h.0, (refl, tt), (utf8_of_ascii _ refl, utf8_of_ascii _ refl, tt, tt))
+
+arrived_sound : (m : PlainContent) (w : Data) → ContentInLimits 50 m → IsSoundData w → MembersSound (arrived_members m w)
+arrived_sound (create v) w h k = (utf8_of_ascii _ refl, create_sound v h, (refl, tt), (utf8_of_ascii _ refl, k, tt, tt))
+arrived_sound delete w h k = (utf8_of_ascii _ refl, tt, (refl, tt), (utf8_of_ascii _ refl, k, tt, tt))
+arrived_sound (edit op) w h k = (utf8_of_ascii _ refl, op_sound 50 op h, (refl, tt), (utf8_of_ascii _ refl, k, tt, tt))
+
+tail_sound : (v : DumpVersion) (e : PlainEntry) → EntryInLimits v e → MembersSound (line_tail e)
+tail_sound v e h =
+    (utf8_of_ascii _ refl, count_sound e.arrived.seq h.arrived.seq, (refl, (refl, (refl, tt))), (utf8_of_ascii _ refl, h.arrived.src.text, (refl, (refl, tt)), (utf8_of_ascii _ refl, count_sound e.version h.version, (refl, tt), (utf8_of_ascii _ refl, h.arrived.via.text, tt, tt))))
+
+mid_sound : (v : DumpVersion) (k : PlainKey) (m : PlainContent) (o : Option ℕ) (e : PlainEntry) → KeyInLimits k → ContentInLimits 100 m → OptionalCountInLimits o → EntryInLimits v e
+    → MembersSound (content_members_with_moment k m o (line_tail e))
+mid_sound u k (create v) None e f c g h =
+    (utf8_of_ascii _ refl, f.collection.text, (refl, (refl, (refl, (refl, (refl, (refl, tt)))))), (utf8_of_ascii _ refl, create_sound v c, (refl, (refl, (refl, (refl, (refl, tt))))), (utf8_of_ascii _ refl, f.id.text, (refl, (refl, (refl, (refl, tt)))), tail_sound u e h)))
+mid_sound u k (create v) (Some n) e f c g h =
+    (utf8_of_ascii _ refl, f.collection.text, (refl, (refl, (refl, (refl, (refl, (refl, (refl, tt))))))), (utf8_of_ascii _ refl, create_sound v c, (refl, (refl, (refl, (refl, (refl, (refl, tt)))))), (utf8_of_ascii _ refl, f.id.text, (refl, (refl, (refl, (refl, (refl, tt))))), (utf8_of_ascii _ refl, count_sound n g, (refl, (refl, (refl, (refl, tt)))), tail_sound u e h))))
+mid_sound u k delete None e f c g h =
+    (utf8_of_ascii _ refl, f.collection.text, (refl, (refl, (refl, (refl, (refl, (refl, tt)))))), (utf8_of_ascii _ refl, f.id.text, (refl, (refl, (refl, (refl, (refl, tt))))), (utf8_of_ascii _ refl, tt, (refl, (refl, (refl, (refl, tt)))), tail_sound u e h)))
+mid_sound u k delete (Some n) e f c g h =
+    (utf8_of_ascii _ refl, f.collection.text, (refl, (refl, (refl, (refl, (refl, (refl, (refl, tt))))))), (utf8_of_ascii _ refl, f.id.text, (refl, (refl, (refl, (refl, (refl, (refl, tt)))))), (utf8_of_ascii _ refl, tt, (refl, (refl, (refl, (refl, (refl, tt))))), (utf8_of_ascii _ refl, count_sound n g, (refl, (refl, (refl, (refl, tt)))), tail_sound u e h))))
+mid_sound u k (edit op) None e f c g h =
+    (utf8_of_ascii _ refl, f.collection.text, (refl, (refl, (refl, (refl, (refl, (refl, tt)))))), (utf8_of_ascii _ refl, f.id.text, (refl, (refl, (refl, (refl, (refl, tt))))), (utf8_of_ascii _ refl, op_sound 100 op c, (refl, (refl, (refl, (refl, tt)))), tail_sound u e h)))
+mid_sound u k (edit op) (Some n) e f c g h =
+    (utf8_of_ascii _ refl, f.collection.text, (refl, (refl, (refl, (refl, (refl, (refl, (refl, tt))))))), (utf8_of_ascii _ refl, f.id.text, (refl, (refl, (refl, (refl, (refl, (refl, tt)))))), (utf8_of_ascii _ refl, count_sound n g, (refl, (refl, (refl, (refl, (refl, tt))))), (utf8_of_ascii _ refl, op_sound 100 op c, (refl, (refl, (refl, (refl, tt)))), tail_sound u e h))))
+
+arrived_first : (k : PlainKey) (m : PlainContent) (o : Option ℕ) (e : PlainEntry) → IsKeyBelowAll (codes "arrived") (content_members_with_moment k m o (line_tail e))
+arrived_first k (create v) None e = (refl, (refl, (refl, (refl, (refl, (refl, (refl, tt)))))))
+arrived_first k (create v) (Some n) e = (refl, (refl, (refl, (refl, (refl, (refl, (refl, (refl, tt))))))))
+arrived_first k delete None e = (refl, (refl, (refl, (refl, (refl, (refl, (refl, tt)))))))
+arrived_first k delete (Some n) e = (refl, (refl, (refl, (refl, (refl, (refl, (refl, (refl, tt))))))))
+arrived_first k (edit op) None e = (refl, (refl, (refl, (refl, (refl, (refl, (refl, tt)))))))
+arrived_first k (edit op) (Some n) e = (refl, (refl, (refl, (refl, (refl, (refl, (refl, (refl, tt))))))))
+
+by_first : (k : PlainKey) (m : PlainContent) (o : Option ℕ) (e : PlainEntry) → IsKeyBelowAll (codes "by") (content_members_with_moment k m o (line_tail e))
+by_first k (create v) None e = (refl, (refl, (refl, (refl, (refl, (refl, (refl, tt)))))))
+by_first k (create v) (Some n) e = (refl, (refl, (refl, (refl, (refl, (refl, (refl, (refl, tt))))))))
+by_first k delete None e = (refl, (refl, (refl, (refl, (refl, (refl, (refl, tt)))))))
+by_first k delete (Some n) e = (refl, (refl, (refl, (refl, (refl, (refl, (refl, (refl, tt))))))))
+by_first k (edit op) None e = (refl, (refl, (refl, (refl, (refl, (refl, (refl, tt)))))))
+by_first k (edit op) (Some n) e = (refl, (refl, (refl, (refl, (refl, (refl, (refl, (refl, tt))))))))
+
+pub line_sound : (v : DumpVersion) (k : PlainKey) (e : PlainEntry) (o : Option ℕ) → KeyInLimits k → EntryInLimits v e → OptionalCountInLimits o
+    → IsSoundData (line_data k e o)
+line_sound v k e o f h g =
+    let s = h.arrived in
+    let came = arrived_sound e.arrived.content (optional_version_data e.arrived.version) s.content (version_sound e.arrived.version s.version) in (
+      utf8_of_ascii _ refl,
+      came,
+      (refl, arrived_first k e.content o e),
+      (utf8_of_ascii _ refl, count_sound e.arrived.by s.by, by_first k e.content o e, mid_sound v k e.content o e f h.content g h),
+    )
+
+-- ---- deep
+
+create_deep : (v : value.Value) → ValueInLimits 50 v → raw.depth (create_data v) ≤ 51
+create_deep v h = omega (arith, value_deep v, h.1)
+
+edit_deep : (r : ℕ) (cs : _) → 50 ≤ r → ComponentsInLimits r cs → raw.depth (op_data cs) ≤ r + 2
+edit_deep r cs big h = omega (arith, op_deep r cs big h)
+
+version_flat : (o : Option ℕ) → raw.depth (optional_version_data o) ≤ 0
+version_flat None = omega arith
+version_flat (Some n) = omega arith
+
+arrived_deep : (m : PlainContent) (w : Data) → ContentInLimits 50 m → raw.depth w ≤ 0 → raw.members_depth (arrived_members m w) ≤ 52
+arrived_deep (create v) w h k = omega (arith, create_deep v h, k)
+arrived_deep delete w h k = omega (arith, k)
+arrived_deep (edit op) w h k = omega (arith, edit_deep 50 op (omega arith) h, k)
+
+mid_deep : (k : PlainKey) (m : PlainContent) (o : Option ℕ) (e : PlainEntry) → ContentInLimits 100 m → raw.members_depth (content_members_with_moment k m o (line_tail e)) ≤ 102
+mid_deep k (create v) None e c = omega (arith, create_deep v c)
+mid_deep k (create v) (Some n) e c = omega (arith, create_deep v c)
+mid_deep k delete None e c = omega arith
+mid_deep k delete (Some n) e c = omega arith
+mid_deep k (edit op) None e c = omega (arith, edit_deep 100 op (omega arith) c)
+mid_deep k (edit op) (Some n) e c = omega (arith, edit_deep 100 op (omega arith) c)
+
+line_deep : (v : DumpVersion) (k : PlainKey) (e : PlainEntry) (o : Option ℕ) → EntryInLimits v e → raw.depth (line_data k e o) ≤ max_depth
+line_deep v k e o h =
+    let a = arrived_deep e.arrived.content (optional_version_data e.arrived.version) h.arrived.content (version_flat e.arrived.version) in
+    let b = mid_deep k e.content o e h.content in
+    omega (arith, a, b)
+
+-- ---- read
+
+name_back : (s : List ℕ) → NameInLimits s → name_value (string s) ≡ Some s
+name_back s h =
+    let a : nat_lt 0 (length s) ≡ true = grind (arith, nat_tests, h.some) in
+    let b : nat_lt (length s) 201 ≡ true = grind (arith, nat_tests, h.short) in
+    rw (a, b) refl
+
+content_back : (m : PlainContent) (w : Data) → ContentInLimits 50 m → OpLengthInLimits m → content_of (object (arrived_members m w)) ≡ Ok m
+content_back (create v) w h few = rw (profile_back v h) refl
+content_back delete w h few = refl
+content_back (edit op) w h few = rw (op_back op h few) refl
+
+version_back : (m : PlainContent) (o : Option ℕ) → OptionalCountInLimits o → read_optional count_of (present_member (codes "v") (object (arrived_members m (optional_version_data o)))) ≡ Ok o
+version_back (create v) None h = refl
+version_back delete None h = refl
+version_back (edit op) None h = refl
+version_back (create v) (Some n) h = rw (count_back n h) refl
+version_back delete (Some n) h = rw (count_back n h) refl
+version_back (edit op) (Some n) h = rw (count_back n h) refl
+
+arrived_back : (s : PlainSubmission) → SubmissionInLimits s → arrived_of_data (arrived_data s) ≡ Some (s.content, s.version)
+arrived_back s h =
+    let w = optional_version_data s.version in
+    rw (content_back s.content w h.content h.few, version_back s.content s.version h.version) refl
+
+-- the members, by their names
+abbrev HasMembersOf : Data → PlainKey → PlainEntry → Type 0
+HasMembersOf d k e =
+    (get (codes "arrived") d ≡ Some (arrived_data e.arrived)) × (get (codes "by") d ≡ Some (number (unsigned e.arrived.by)))
+    × (get (codes "c") d ≡ Some (string k.collection)) × (get (codes "d") d ≡ Some (string k.id))
+    × (get (codes "seq") d ≡ Some (number (unsigned e.arrived.seq))) × (get (codes "src") d ≡ Some (string e.arrived.src))
+    × (get (codes "via") d ≡ Some (string e.arrived.via))
+
+line_has : (k : PlainKey) (m : PlainContent) (o : Option ℕ) (e : PlainEntry)
+    → HasMembersOf (object (member (codes "arrived") (arrived_data e.arrived) (member (codes "by") (number (unsigned e.arrived.by)) (content_members_with_moment k m o (line_tail e))))) k e
+line_has k (create v) None e = (refl, refl, refl, refl, refl, refl, refl)
+line_has k (create v) (Some n) e = (refl, refl, refl, refl, refl, refl, refl)
+line_has k delete None e = (refl, refl, refl, refl, refl, refl, refl)
+line_has k delete (Some n) e = (refl, refl, refl, refl, refl, refl, refl)
+line_has k (edit op) None e = (refl, refl, refl, refl, refl, refl, refl)
+line_has k (edit op) (Some n) e = (refl, refl, refl, refl, refl, refl, refl)
+
+shown_moment_at : (k : PlainKey) (m : PlainContent) (n : ℕ) (e : PlainEntry)
+    → get (codes "m") (object (member (codes "arrived") (arrived_data e.arrived) (member (codes "by") (number (unsigned e.arrived.by)) (content_members_with_moment k m (Some n) (line_tail e))))) ≡ Some (number (unsigned n))
+shown_moment_at k (create v) n e = refl
+shown_moment_at k delete n e = refl
+shown_moment_at k (edit op) n e = refl
+
+moment_back : (v : DumpVersion) (k : PlainKey) (e : PlainEntry) → MomentInLimits v e.moment
+    → moment_of_data v (line_data k e (written_moment v e.moment)) ≡ Some e.moment
+moment_back One k e h = ap Some (sym h)
+moment_back Two k e h = rw (shown_moment_at k e.content e.moment e, count_back e.moment h) refl
+
+line_by : (v : DumpVersion) (d : Data) (k : PlainKey) (e : PlainEntry) → HasMembersOf d k e → moment_of_data v d ≡ Some e.moment → KeyInLimits k → SubmissionInLimits e.arrived
+    → line_of_data v d ≡ Some (record { key = k; submission = e.arrived; moment = e.moment })
+line_by v d k e has when f s =
+    rw (
+      has.2,
+      has.3,
+      name_back k.collection f.collection,
+      name_back k.id f.id,
+      has.0,
+      arrived_back e.arrived s,
+      has.4,
+      count_back e.arrived.seq s.seq,
+      has.5,
+      name_back e.arrived.src s.src,
+      has.6,
+      name_back e.arrived.via s.via,
+      has.1,
+      count_back e.arrived.by s.by,
+      when,
+    ) refl
+
+pub shown_counts : (v : DumpVersion) (m : ℕ) → MomentInLimits v m → OptionalCountInLimits (written_moment v m)
+shown_counts One m h = tt
+shown_counts Two m h = h
+
+pub line_reads_back : (v : DumpVersion) (x : PlainLine) → KeyInLimits x.key → EntryInLimits v x.entry → read_line v (entry_line v x) ≡ Some (line_content x)
+line_reads_back v x f h =
+    let k = x.key in
+    let e = x.entry in
+    let o = written_moment v e.moment in
+    let d = line_data k e o in
+    let sound = line_sound v k e o f h (shown_counts v e.moment h.moment) in
+    ap (λ b. if b then and_then_some (line_of_data v) (read (compact_text d)) else None) (is_utf8-from_IsUtf8 (compact_text d) (utf8_compact d sound))
+    ∙ ap (and_then_some (line_of_data v)) (read_compact d sound (line_deep v k e o h))
+    ∙ line_by v d k e (line_has k e.content o e) (moment_back v k e h.moment) f h.arrived

@@ -1,7 +1,0 @@
-use Rattle.std.proofs.Common.{sym, ◌∙◌}
-use Rattle.sdb_dump.proofs.Following.{head_taken}
-use Rattle.sdb_dump.proofs.checking.Checker.take_head.Goals as goal
-
-pub returns-clause-taken : goal.returns-clause-taken
-returns-clause-taken c =
-    λ s h. head_taken c.args.self.now c.in-Some.version s c.args.line.now c.requires.head (sym c.version_of.ensures ∙ c.in-Some.is) h

@@ -1,0 +1,40 @@
+-- A checker of lines that come one after the other.
+use Rattle.std.specs.Prelude.{◌≡◌, ℕ, ◌+◌, List, [], ◌∷◌, ◌++◌, length, if◌then◌else◌, bytes_eq, Option, Some, None, Result, Ok, Err}
+use Rattle.sdb_dump.specs.declared.version.DumpVersion.{DumpVersion}
+use Rattle.sdb_dump.specs.declared.version.DumpVersion.TheVariants.{One, Two}
+use Rattle.sdb_dump.specs.DumpText.{PlainLine, header_line, count_line, accepted_line, check}
+
+-- before the head, before the count, behind it; or the number of the first line that isn't right
+pub data PlainStage : Type 0 where
+  head : PlainStage
+  body : DumpVersion → List PlainLine → PlainStage
+  done : List PlainLine → PlainStage
+  wrong : ℕ → PlainStage
+
+abbrev pub stage_after_entry : DumpVersion → List PlainLine → Option PlainLine → PlainStage
+stage_after_entry v xs None = wrong (length xs + 2)
+stage_after_entry v xs (Some x) = body v (xs ++ x ∷ [])
+
+-- after one more line
+abbrev pub stage_after_line : PlainStage → List ℕ → PlainStage
+stage_after_line head l =
+    if bytes_eq l (header_line One) then body One [] else (if bytes_eq l (header_line Two) then body Two [] else wrong 1)
+stage_after_line (body v xs) l =
+    if bytes_eq l (count_line (length xs)) then done xs else stage_after_entry v xs (accepted_line v xs l)
+stage_after_line (done xs) l = wrong (length xs + 3)
+stage_after_line (wrong n) l = wrong n
+
+-- once nothing comes but these bytes without a line feed
+abbrev pub stage_result : PlainStage → List ℕ → Result (List PlainLine) ℕ
+stage_result head rest = Err 1
+stage_result (body v xs) rest = Err (length xs + 2)
+stage_result (done xs) [] = Ok xs
+stage_result (done xs) (x ∷ rest) = Err (length xs + 3)
+stage_result (wrong n) rest = Err n
+
+abbrev pub stages_result : PlainStage → List (List ℕ) → List ℕ → Result (List PlainLine) ℕ
+stages_result s [] rest = stage_result s rest
+stages_result s (l ∷ ls) rest = stages_result (stage_after_line s l) ls rest
+
+abbrev pub StagesAreCheck : Type 0
+StagesAreCheck = (ls : List (List ℕ)) (rest : List ℕ) → stages_result head ls rest ≡ check ls rest

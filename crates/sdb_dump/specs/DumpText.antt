@@ -1,0 +1,125 @@
+-- The text of a dump, and what a checker makes of a text.
+use Rattle.std.specs.Prelude.{◌≡◌, ℕ, ◌+◌, List, [], ◌∷◌, ◌++◌, Bool, true, false, cond, if◌then◌else◌, length, map, nat_eq, ◌&&◌, bytes_eq, codes, Option, Some, None, Result, Ok, Err, ⊤}
+use Rattle.std.specs.Option.{option_map_or}
+use Rattle.std.specs.Ordering.{is_lt}
+use Rattle.serde_json.specs.Data.{number, unsigned, object, no_members, member}
+use Rattle.serde_json.specs.Written.{compact_text}
+use Rattle.sdb_oplog.specs.Decide.{decide, rebased_content, new_entry}
+use Rattle.sdb_oplog.specs.Keys.{PlainKey, compare_keys, keys_equal}
+use Rattle.sdb_oplog.specs.Plain.{PlainContent, PlainSubmission, PlainEntry}
+use Rattle.sdb_oplog.specs.declared.codes.Code.{Code}
+use Rattle.sdb_oplog.specs.Snap.{stored_at}
+use Rattle.sdb_dump.specs.declared.version.DumpVersion.{DumpVersion}
+use Rattle.sdb_dump.specs.declared.version.DumpVersion.TheVariants.{One, Two}
+use Rattle.sdb_dump.specs.DumpLine.{dump_version_number, written_moment, line_text, PlainLineContent, read_line, and_then_some}
+
+-- an entry of the log of a key
+pub record PlainLine : Type 0 where
+  pub key : PlainKey
+  pub entry : PlainEntry
+
+-- ---- the text
+
+abbrev pub header_line : DumpVersion → List ℕ
+header_line v = compact_text (object (member (codes "dump") (number (unsigned (dump_version_number v))) no_members))
+
+abbrev pub count_line : ℕ → List ℕ
+count_line n = compact_text (object (member (codes "entries") (number (unsigned n)) no_members))
+
+abbrev pub entry_line : DumpVersion → PlainLine → List ℕ
+entry_line v x = line_text x.key x.entry (written_moment v x.entry.moment)
+
+-- the lines of a dump, without their line feeds
+abbrev pub dump_lines : DumpVersion → List PlainLine → List (List ℕ)
+dump_lines v xs = header_line v ∷ (map (entry_line v) xs ++ count_line (length xs) ∷ [])
+
+-- each with its line feed
+abbrev pub ended_lines : List (List ℕ) → List ℕ
+ended_lines [] = []
+ended_lines (l ∷ ls) = l ++ 10 ∷ ended_lines ls
+
+abbrev pub dump_text : DumpVersion → List PlainLine → List ℕ
+dump_text v xs = ended_lines (dump_lines v xs)
+
+-- ---- which lines are a dump
+
+abbrev pub log_of_lines : List PlainLine → PlainKey → List PlainEntry
+log_of_lines [] k = []
+log_of_lines (x ∷ xs) k = cond (keys_equal k x.key) (x.entry ∷ log_of_lines xs k) (log_of_lines xs k)
+
+-- the key is not below that of the last line
+abbrev pub key_not_below : List PlainLine → PlainKey → Bool
+key_not_below [] k = true
+key_not_below (x ∷ []) k = if is_lt (compare_keys k x.key) then false else true
+key_not_below (x ∷ y ∷ xs) k = key_not_below (y ∷ xs) k
+
+abbrev pub line_content : PlainLine → PlainLineContent
+line_content x = record { key = x.key; submission = x.entry.arrived; moment = x.entry.moment }
+
+-- the line's key is not below the last one, its entry is what `decide` stores for its submission at its moment, and the
+-- line is read as these
+pub record IsNextLine (v : DumpVersion) (before : List PlainLine) (x : PlainLine) : Type 0 where
+  pub ascends : key_not_below before x.key ≡ true
+  pub decided : (decide (log_of_lines before x.key) x.entry.arrived x.entry.moment).log
+      ≡ log_of_lines before x.key ++ x.entry ∷ []
+  pub read : read_line v (entry_line v x) ≡ Some (line_content x)
+
+abbrev pub AreNextLines : DumpVersion → List PlainLine → List PlainLine → Type 0
+AreNextLines v before [] = ⊤
+AreNextLines v before (x ∷ xs) = IsNextLine v before x × AreNextLines v (before ++ x ∷ []) xs
+
+-- ---- the checker
+
+-- the entry that `decide` stores, if it stores one
+abbrev pub decided_entry_cond : Option ℕ → List PlainEntry → PlainSubmission → ℕ → Result PlainContent Code → Option PlainEntry
+decided_entry_cond (Some i) log s now r = None
+decided_entry_cond None log s now (Err e) = None
+decided_entry_cond None log s now (Ok m) = Some (new_entry log s now m)
+
+abbrev pub decided_entry : List PlainEntry → PlainSubmission → ℕ → Option PlainEntry
+decided_entry log s now = decided_entry_cond (stored_at s.src s.seq log) log s now (rebased_content log s)
+
+-- the entry of the key has this moment, and its line is this text
+abbrev pub is_text_of_entry : DumpVersion → List ℕ → PlainKey → ℕ → PlainEntry → Bool
+is_text_of_entry v line k m e = nat_eq e.moment m && bytes_eq (entry_line v (record { key = k; entry = e })) line
+
+-- this entry, if it has the moment that was read, and its line is this text
+abbrev pub line_of_entry_cond : DumpVersion → List ℕ → PlainLineContent → PlainEntry → Option PlainLine
+line_of_entry_cond v line r e =
+    if is_text_of_entry v line r.key r.moment e
+    then Some (record { key = r.key; entry = e })
+    else None
+
+-- the entry that is stored of what was read, if the line is its
+abbrev pub line_of_read : DumpVersion → List PlainLine → List ℕ → PlainLineContent → Option PlainLine
+line_of_read v before line r =
+    if key_not_below before r.key
+    then and_then_some (line_of_entry_cond v line r) (decided_entry (log_of_lines before r.key) r.submission r.moment)
+    else None
+
+abbrev pub accepted_line : DumpVersion → List PlainLine → List ℕ → Option PlainLine
+accepted_line v before line = and_then_some (line_of_read v before line) (read_line v line)
+
+-- behind the count nothing comes
+abbrev pub check_end : List PlainLine → ℕ → List (List ℕ) → List ℕ → Result (List PlainLine) ℕ
+check_end xs n [] [] = Ok xs
+check_end xs n _ _ = Err n
+
+-- from line n on: the lines that end in a line feed, and what is left behind the last one
+abbrev pub check_from : DumpVersion → List PlainLine → ℕ → List (List ℕ) → List ℕ → Result (List PlainLine) ℕ
+check_from v xs n [] rest = Err n
+check_from v xs n (l ∷ ls) rest =
+    if bytes_eq l (count_line (length xs)) then check_end xs (n + 1) ls rest
+    else option_map_or (λ x. check_from v (xs ++ x ∷ []) (n + 1) ls rest) (accepted_line v xs l) (Err n)
+
+-- the entries, or the number of the first line that isn't right
+abbrev pub check : List (List ℕ) → List ℕ → Result (List PlainLine) ℕ
+check [] rest = Err 1
+check (l ∷ ls) rest =
+    if bytes_eq l (header_line One) then check_from One [] 2 ls rest
+    else (if bytes_eq l (header_line Two) then check_from Two [] 2 ls rest else Err 1)
+
+-- the version of the dump that begins with this line
+abbrev pub version_of : List ℕ → Option DumpVersion
+version_of l =
+    if bytes_eq l (header_line One) then Some One else (if bytes_eq l (header_line Two) then Some Two else None)

@@ -1,0 +1,31 @@
+-- A text, cut at its line feeds.
+use Rattle.std.specs.Prelude.{◌≡◌, ◌≢◌, ◌<◌, ◌^◌, length, ℕ, List, [], ◌∷◌, ◌++◌, ◌==◌, if◌then◌else◌, Result, Ok, ⊤}
+use Rattle.sdb_dump.specs.declared.version.DumpVersion.{DumpVersion}
+use Rattle.sdb_dump.specs.DumpText.{PlainLine, dump_text, check}
+use Rattle.sdb_dump.specs.DumpLaws.{AllInLimits, IsDumpOfLogs}
+
+pub record SplitText : Type 0 where
+  pub ended : List (List ℕ)
+  pub rest : List ℕ
+
+abbrev pub cons_line : List ℕ → SplitText → SplitText
+cons_line l c = record { ended = l ∷ c.ended; rest = c.rest }
+
+-- the lines that end in a line feed, and what is behind the last one
+abbrev pub split_lines : List ℕ → List ℕ → SplitText
+split_lines pending [] = record { ended = []; rest = pending }
+split_lines pending (x ∷ xs) = if x == 10 then cons_line pending (split_lines [] xs) else split_lines (pending ++ x ∷ []) xs
+
+abbrev pub check_text : List ℕ → Result (List PlainLine) ℕ
+check_text t = check (split_lines [] t).ended (split_lines [] t).rest
+
+-- no line feed is among the bytes
+abbrev pub HasNoLineFeed : List ℕ → Type 0
+HasNoLineFeed [] = ⊤
+HasNoLineFeed (x ∷ xs) = (x ≢ 10) × HasNoLineFeed xs
+
+pub record TextIsExact : Type 0 where
+  pub accepted : (v : DumpVersion) (xs : List PlainLine) → IsDumpOfLogs xs → AllInLimits v xs → length xs < 2 ^ 64
+      → check_text (dump_text v xs) ≡ Ok xs
+  pub only : (t : List ℕ) (xs : List PlainLine) → check_text t ≡ Ok xs
+      → (v : DumpVersion) × (t ≡ dump_text v xs) × IsDumpOfLogs xs

@@ -1,0 +1,36 @@
+-- What is written of a dump.
+use Rattle.std.specs.Prelude.{◌≡◌, ℕ, ◌⊎◌, List, [], ◌++◌, length, map, Option}
+use Rattle.std.specs.Io.KnownBytes.{Appends}
+use Rattle.sdb_desk.specs.StoredKeys.{IsKeyList}
+use Rattle.sdb_lines.specs.Prefixes.{AppendsPrefix}
+use Rattle.sdb_oplog.specs.Keys.{PlainKey, Logs}
+use Rattle.sdb_oplog.specs.Plain.{PlainEntry}
+use Rattle.sdb_dump.specs.declared.version.DumpVersion.TheVariants.{Two}
+use Rattle.sdb_dump.specs.DumpText.{entry_line, ended_lines}
+use Rattle.sdb_dump.specs.LogListing.{lines_of_log, lines_of_logs, DumpText}
+
+-- the lines of the log of a key
+abbrev pub log_text : PlainKey → List PlainEntry → List ℕ
+log_text k es = ended_lines (map (entry_line Two) (lines_of_log k es))
+
+-- the lines of the logs of these keys
+abbrev pub logs_text : Logs → List PlainKey → List ℕ
+logs_text f ks = ended_lines (map (entry_line Two) (lines_of_logs f ks))
+
+-- known bytes grew by all but for the end of it, which is left
+pub record WroteUpTo (old new : Option (List ℕ)) (all left : List ℕ) : Type 0 where
+  pub written : List ℕ
+  pub wrote : Appends old new written
+  pub parts : all ≡ written ++ left
+
+-- known bytes grew by the dump of these logs
+abbrev pub WroteDump : Logs → Option (List ℕ) → Option (List ℕ) → Type 0
+WroteDump f old new = (text : List ℕ) × DumpText Two f text × Appends old new text
+
+-- known bytes are as they were, or grew by a front of the dump
+abbrev pub WroteDumpPrefix : Logs → Option (List ℕ) → Option (List ℕ) → Type 0
+WroteDumpPrefix f old new = Appends old new [] ⊎ ((text : List ℕ) × DumpText Two f text × AppendsPrefix old new text)
+
+-- the logs have so many entries together
+abbrev pub HasEntryCount : Logs → ℕ → Type 0
+HasEntryCount f n = (ks : List PlainKey) × IsKeyList f ks × (n ≡ length (lines_of_logs f ks))

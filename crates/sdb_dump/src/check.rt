@@ -1,0 +1,82 @@
+//! Checks a dump as it is read.
+ghost use Rattle.std.specs.Prelude.{◌≡◌, ℕ, ◌+◌, ◌^◌, ◌<◌, ◌≤◌, List, [], ◌++◌, length, OnOk, IfOk, IfErr, IfSome, IsErrOf, vec_len};
+ghost use Rattle.sdb_dump.specs.CheckerModel.{CheckerAtStage};
+ghost use Rattle.sdb_dump.specs.LineSplit.{check_text};
+ghost use Rattle.sdb_dump.specs.Faults.{IsDumpFault, IsStageFault, DumpReadFaultIsCounted};
+ghost use Rattle.sdb_dump.specs.CheckStages.{PlainStage, stage_after_line};
+ghost use Rattle.sdb_dump.specs.CheckText.{AcceptsText, CheckContinues, check_result_from};
+
+use crate::checker::{CheckedDump, Checker, DumpFault};
+use sdb_lines::{READ_LIMIT, Source, first_line_feed};
+use std::alloc::{AllocError, Global};
+
+// The most bytes that one read takes: 64 KiB.
+const BUFFER_LEN: usize = 65_536;
+
+/// Reads a dump to its end, and checks that it is exactly what a server of this profile would have stored from
+/// the submissions that it names. A read takes at most 64 KiB, and at most [`READ_LIMIT`] reads are made. A
+/// line may have any length.
+pub fn check_dump<R: Source>(alloc: Global, reader: &mut R) -> Result<CheckedDump, DumpFault>
+    ensures accepted { IfOk result (λ c. IfSome (R.remaining_input reader.old) (λ text. AcceptsText c text)) }
+    ensures wrong { IfErr result (λ f. IfSome (R.remaining_input reader.old) (λ text. IsDumpFault f
+        (check_text text))) }
+    // No read failed, but for the one that is the fault.
+    ensures reads { DumpReadFaultIsCounted result (R.calls reader.old) (R.failures reader.old)
+        (R.calls reader.new) (R.failures reader.new) }
+{
+    let mut space = reserve_buffer(alloc)?;
+    let buffer = space.as_mut_slice();
+    let mut checker = Checker::new(alloc);
+    let mut held = Vec::new(alloc);
+    for _turn in 0..READ_LIMIT {
+        match reader.read_into(buffer) {
+            Ok(0) => return checker.finish(held.as_slice()),
+            Ok(n) => check_chunk(&mut checker, &mut held, &buffer[..n])?,
+            Err(_) => return Err(DumpFault::ReadFailed),
+        }
+    }
+    Err(DumpFault::ReadFailed)
+}
+
+// Takes the lines that end in this piece of the text, and holds the rest of it.
+fn check_chunk(checker: &mut Checker, held: &mut Vec<u8>, piece: &[u8]) -> Result<(), DumpFault>
+    requires room { checker.old.entries + length piece.now + 3 < 2 ^ 64 }
+    ensures few { OnOk result (checker.new.entries ≤ checker.old.entries + length piece.now) }
+    ensures taken { OnOk result ((s : PlainStage) → CheckerAtStage checker.old s →
+        CheckContinues s held.old.items piece.now checker.new held.new.items) }
+    ensures wrong { IfErr result (λ f. (s : PlainStage) → CheckerAtStage checker.old s → (rest : List ℕ) →
+        IsDumpFault f (check_result_from s held.old.items (piece.now ++ rest))) }
+    ensures unread { IsErrOf result DumpFault.ReadFailed → ⊥ }
+{
+    let mut rest = piece;
+    while let Some(at) = first_line_feed(rest) {
+        check_line(checker, held, &rest[..at])?;
+        rest = &rest[at + 1..];
+    }
+    held.extend_from_slice(rest)?;
+    Ok(())
+}
+
+// Takes the line that ends with this piece.
+fn check_line(checker: &mut Checker, held: &mut Vec<u8>, piece: &[u8]) -> Result<(), DumpFault>
+    requires room { checker.old.entries + 3 < 2 ^ 64 }
+    ensures few { OnOk result (checker.new.entries ≤ checker.old.entries + 1) }
+    ensures held { OnOk result (held.new.items ≡ []) }
+    ensures taken { OnOk result ((s : PlainStage) → CheckerAtStage checker.old s →
+        CheckerAtStage checker.new (stage_after_line s (held.old.items ++ piece.now))) }
+    ensures wrong { IfErr result (λ f. (s : PlainStage) → CheckerAtStage checker.old s →
+        IsStageFault f (stage_after_line s (held.old.items ++ piece.now))) }
+    ensures unread { IsErrOf result DumpFault.ReadFailed → ⊥ }
+{
+    held.extend_from_slice(piece)?;
+    checker.check_line(held.as_slice())?;
+    held.clear();
+    Ok(())
+}
+
+// The room for one read.
+fn reserve_buffer(alloc: Global) -> Result<Vec<u8>, AllocError>
+    ensures { IfOk result (λ buffer. vec_len buffer ≡ BUFFER_LEN) }
+{
+    vec![in alloc; 0u8; BUFFER_LEN]
+}

@@ -1,0 +1,328 @@
+//! A checker of the lines of a dump.
+ghost use Rattle.std.specs.Prelude.{◌≡◌, ◌+◌, ◌^◌, ◌<◌, ◌≤◌, List, [], Option, None, OnOk, IfOk, IfErr, IfSome, IsErrOf, option_map, unwrap_or, string_bytes, Ok};
+ghost use Rattle.std.specs.BTreeMap.{insert_entry};
+ghost use Rattle.sdb_oplog.specs.Decide.{IsMade};
+ghost use Rattle.sdb_oplog.specs.Keys.{compare_keys, plain_key};
+ghost use Rattle.sdb_dump.specs.CheckerModel.{CheckerAtStage, AcceptsOrRejects, AcceptedHasAll, CheckerHolds, TakesDecidedLog, accepted_logs};
+ghost use Rattle.sdb_dump.specs.DumpText.{PlainLine, count_line, accepted_line, line_of_read, is_text_of_entry, version_of};
+ghost use Rattle.sdb_dump.specs.Faults.{IsDumpFault, IsStageFault};
+ghost use Rattle.sdb_dump.specs.View.{plain_line_content};
+ghost use Rattle.sdb_dump.specs.EntryLimits.{KeyInLimits, SubmissionInLimits};
+ghost use Rattle.sdb_dump.specs.CheckStages.{PlainStage, stage_after_line, stage_result};
+ghost use Rattle.sdb_dump.specs.declared.checker.Stage.TheVariants.{Header, Body};
+ghost use Rattle.sdb_dump.specs.declared.checker.DumpFault.TheVariants.{OutOfMemory, WrongLine};
+
+use crate::document::{DecidedLog, MadeLog};
+use crate::dump_line::{LineContent, line_text, read_line};
+use crate::version::DumpVersion;
+use sdb_oplog::{Entry, Key, Log, Moment};
+use std::alloc::{AllocError, Global};
+use std::cmp::Ordering;
+use std::collections::BTreeMap;
+use thiserror::Error;
+
+/// Why a dump isn't accepted.
+#[derive(Clone, Copy, Debug, PartialEq, Eq, Error)]
+pub enum DumpFault {
+    /// A read failed, or so many reads as are made did not reach the end of the input.
+    #[error("the dump could not be read to its end")]
+    ReadFailed,
+    /// There was not enough memory.
+    #[error("out of memory")]
+    OutOfMemory,
+    /// The line of this number, from 1 on, is the first one that isn't right; a missing line counts.
+    #[error("wrong at line {line}")]
+    WrongLine { line: u128 },
+}
+
+impl From<AllocError> for DumpFault {
+    ghost use Rattle.sdb_dump.specs.declared.checker.DumpFault.TheVariants.{OutOfMemory};
+
+    ghost from_gives = { λ _ fault. fault ≡ OutOfMemory };
+
+    fn from(_error: AllocError) -> DumpFault {
+        DumpFault::OutOfMemory
+    }
+}
+
+/// What was accepted: how much it is, and the logs.
+#[derive(Drop)]
+pub struct CheckedDump {
+    /// The documents that something is stored of.
+    pub documents: u64,
+    /// The entries of all of them together.
+    pub entries: u128,
+    logs: BTreeMap<Key, MadeLog>,
+}
+
+impl CheckedDump {
+    /// The log of the document, if something is stored of it.
+    pub fn log(&self, key: &Key) -> Option<&Log>
+        ensures log { unwrap_or (option_map (λ l. l.now) result) [] ≡ accepted_logs self.now (plain_key key.now) }
+        ensures made { IsMade (accepted_logs self.now (plain_key key.now)) }
+    {
+        match self.logs.get(key) {
+            Some(made) => Some(made.log()),
+            None => None,
+        }
+    }
+}
+
+// Which line comes next.
+#[derive(Clone, Copy, Drop)]
+enum Stage {
+    Header,
+    Body(DumpVersion),
+    End,
+}
+
+// The document that the last line is of.
+#[derive(Drop)]
+struct LastDocument {
+    key: Key,
+    document: DecidedLog,
+}
+
+// What was checked so far: the logs of the documents before the last one, and it.
+#[derive(Drop)]
+pub(crate) struct Checker {
+    alloc: Global,
+    stage: Stage,
+    logs: BTreeMap<Key, MadeLog>,
+    last: Option<LastDocument>,
+    entries: u128,
+}
+
+impl Checker {
+    pub fn new(alloc: Global) -> Checker
+        ensures checks { CheckerAtStage result PlainStage.head }
+        ensures none { result.entries ≡ 0 }
+    {
+        Checker {
+            alloc,
+            stage: Stage::Header,
+            logs: BTreeMap::new(alloc),
+            last: None,
+            entries: 0,
+        }
+    }
+
+    // Takes the next line. After a fault nothing is said of what was checked.
+    pub fn check_line(&mut self, line: &[u8]) -> Result<(), DumpFault>
+        requires room { self.old.entries + 3 < 2 ^ 64 }
+        ensures few { OnOk result (self.new.entries ≤ self.old.entries + 1) }
+        ensures taken { OnOk result ((s : PlainStage) → CheckerAtStage self.old s
+            → CheckerAtStage self.new (stage_after_line s line.now)) }
+        ensures wrong { IfErr result (λ f. (s : PlainStage) → CheckerAtStage self.old s
+            → IsStageFault f (stage_after_line s line.now)) }
+        ensures unread { IsErrOf result DumpFault.ReadFailed → ⊥ }
+    {
+        match self.stage {
+            Stage::Header => self.check_header(line),
+            Stage::Body(version) => self.check_body(version, line),
+            Stage::End => Err(self.wrong_line(3)),
+        }
+    }
+
+    fn check_header(&mut self, line: &[u8]) -> Result<(), DumpFault>
+        requires head { self.old.stage ≡ Header }
+        ensures same { OnOk result (self.new.entries ≡ self.old.entries) }
+        ensures taken { OnOk result ((s : PlainStage) → CheckerAtStage self.old s
+            → CheckerAtStage self.new (stage_after_line s line.now)) }
+        ensures wrong { IfErr result (λ f. (s : PlainStage) → CheckerAtStage self.old s
+            → IsStageFault f (stage_after_line s line.now)) }
+        ensures unread { IsErrOf result DumpFault.ReadFailed → ⊥ }
+    {
+        let Some(version) = version_of(line) else {
+            return Err(DumpFault::WrongLine { line: 1 });
+        };
+        self.stage = Stage::Body(version);
+        Ok(())
+    }
+
+    fn check_body(&mut self, version: DumpVersion, line: &[u8]) -> Result<(), DumpFault>
+        requires body { self.old.stage ≡ Body version }
+        requires room { self.old.entries + 3 < 2 ^ 64 }
+        ensures few { OnOk result (self.new.entries ≤ self.old.entries + 1) }
+        ensures taken { OnOk result ((s : PlainStage) → CheckerAtStage self.old s
+            → CheckerAtStage self.new (stage_after_line s line.now)) }
+        ensures wrong { IfErr result (λ f. (s : PlainStage) → CheckerAtStage self.old s
+            → IsStageFault f (stage_after_line s line.now)) }
+        ensures unread { IsErrOf result DumpFault.ReadFailed → ⊥ }
+    {
+        let last = count_line(self.alloc, self.entries)?;
+        if line == last.as_bytes() {
+            self.stage = Stage::End;
+            return Ok(());
+        }
+        let wrong = self.wrong_line(2);
+        if self.accept_entry(version, line)? {
+            Ok(())
+        } else {
+            Err(wrong)
+        }
+    }
+
+    // Enters the entry that the line is of. False where it is of none that is stored next.
+    fn accept_entry(&mut self, version: DumpVersion, line: &[u8]) -> Result<bool, AllocError>
+        requires room { self.old.entries + 3 < 2 ^ 64 }
+        ensures few { self.new.entries ≤ self.old.entries + 1 }
+        ensures stage { self.new.stage ≡ self.old.stage }
+        ensures enters { IfOk result (λ b. (xs : List PlainLine) → CheckerHolds self.old xs →
+            AcceptsOrRejects b (accepted_line version xs line.now) self.new xs) }
+    {
+        match read_line(self.alloc, version, line)? {
+            Some(read) => self.check_entry(version, line, read),
+            None => Ok(false),
+        }
+    }
+
+    // Enters the entry that is stored of what the line says, if the line is its.
+    fn check_entry(
+        &mut self,
+        version: DumpVersion,
+        line: &[u8],
+        read: LineContent,
+    ) -> Result<bool, AllocError>
+        requires room { self.old.entries + 3 < 2 ^ 64 }
+        requires fits { KeyInLimits (plain_key read.key) × SubmissionInLimits read.submission }
+        ensures few { self.new.entries ≤ self.old.entries + 1 }
+        ensures stage { self.new.stage ≡ self.old.stage }
+        ensures enters { IfOk result (λ b. (xs : List PlainLine) → CheckerHolds self.old xs →
+            AcceptsOrRejects b (line_of_read version xs line.now (plain_line_content read)) self.new xs) }
+    {
+        let LineContent {
+            key,
+            submission,
+            moment,
+        } = read;
+        let Some(before) = self.take_decided_log(&key)? else {
+            return Ok(false);
+        };
+        let at = before.log().len();
+        let Some(document) = before.append_decided(self.alloc, submission, moment)? else {
+            return Ok(false);
+        };
+        let Some(entry) = document.log().get(at) else {
+            return Ok(false);
+        };
+        let is_right = is_line_of(self.alloc, version, line, &key, entry, moment)?;
+        self.last = Some(LastDocument { key, document });
+        self.entries += 1;
+        Ok(is_right)
+    }
+
+    // Takes out the document that a line of this key goes on with: the last one, or, where the key is above its, one of
+    // which nothing is stored yet. `None` where the key is below it.
+    fn take_decided_log(&mut self, key: &Key) -> Result<Option<DecidedLog>, AllocError>
+        ensures stage { self.new.stage ≡ self.old.stage }
+        ensures entries { self.new.entries ≡ self.old.entries }
+        ensures takes { IfOk result (λ d. (xs : List PlainLine) → CheckerHolds self.old xs →
+            TakesDecidedLog xs (plain_key key.now) self.new d) }
+    {
+        let Some(last) = self.last.take() else {
+            return Ok(Some(DecidedLog::new(self.alloc)));
+        };
+        match key.cmp(&last.key) {
+            Ordering::Less => Ok(None),
+            Ordering::Equal => Ok(Some(last.document)),
+            Ordering::Greater => {
+                self.keep_log(last)?;
+                Ok(Some(DecidedLog::new(self.alloc)))
+            }
+        }
+    }
+
+    // Keeps the log of a document that no more lines are of.
+    fn keep_log(&mut self, last: LastDocument) -> Result<(), AllocError>
+        ensures kept { OnOk result (self.new.logs.entries ≡
+            insert_entry (λ a b. compare_keys (plain_key a) (plain_key b)) self.old.logs.entries last.key last.document) }
+        ensures stage { self.new.stage ≡ self.old.stage }
+        ensures last { self.new.last ≡ self.old.last }
+        ensures entries { self.new.entries ≡ self.old.entries }
+    {
+        let LastDocument { key, document } = last;
+        drop(self.logs.insert(key, document.into_log())?);
+        Ok(())
+    }
+
+    // Accepts what was checked, where nothing comes but these bytes without a line feed.
+    pub fn finish(self, rest: &[u8]) -> Result<CheckedDump, DumpFault>
+        requires room { self.entries + 3 < 2 ^ 64 }
+        ensures accepted { IfOk result (λ c. (s : PlainStage) → CheckerAtStage self s →
+            (xs : List PlainLine) × (stage_result s rest.now ≡ Ok xs) × AcceptedHasAll c xs) }
+        ensures wrong { IfErr result (λ f. (s : PlainStage) → CheckerAtStage self s
+            → IsDumpFault f (stage_result s rest.now)) }
+        ensures unread { IsErrOf result DumpFault.ReadFailed → ⊥ }
+    {
+        match self.stage {
+            Stage::Header => Err(DumpFault::WrongLine { line: 1 }),
+            Stage::Body(_) => Err(self.wrong_line(2)),
+            Stage::End if !rest.is_empty() => Err(self.wrong_line(3)),
+            Stage::End => self.accept(),
+        }
+    }
+
+    // Accepts what was checked.
+    fn accept(mut self) -> Result<CheckedDump, DumpFault>
+        ensures accepted { IfOk result (λ c. (xs : List PlainLine) → CheckerHolds self xs → AcceptedHasAll c xs) }
+        ensures memory { IfErr result (λ f. f ≡ OutOfMemory) }
+    {
+        if let Some(last) = self.last.take() {
+            self.keep_log(last)?;
+        }
+        let Checker { logs, entries, .. } = self;
+        Ok(CheckedDump {
+            documents: logs.len() as u64,
+            entries,
+            logs,
+        })
+    }
+
+    // What is wrong so many lines behind the entries that were checked.
+    fn wrong_line(&self, behind: u128) -> DumpFault
+        requires room { self.now.entries + behind < 2 ^ 64 }
+        ensures { result ≡ WrongLine (self.now.entries + behind) }
+    {
+        DumpFault::WrongLine {
+            line: self.entries + behind,
+        }
+    }
+}
+
+// Whether the entry of the key has this moment, and the line is its.
+fn is_line_of(
+    alloc: Global,
+    version: DumpVersion,
+    line: &[u8],
+    key: &Key,
+    entry: &Entry,
+    moment: Moment,
+) -> Result<bool, AllocError>
+    ensures { IfOk result (λ b. b ≡ is_text_of_entry version line.now (plain_key key.now) moment entry.now) }
+{
+    if entry.moment().milliseconds() != moment.milliseconds() {
+        return Ok(false);
+    }
+    Ok(line_text(alloc, version, key, entry)?.as_slice() == line)
+}
+
+// The version of the dump that begins with this line.
+fn version_of(line: &[u8]) -> Option<DumpVersion>
+    ensures { result ≡ version_of line.now }
+{
+    if line == br#"{"dump":1}"#.as_slice() {
+        Some(DumpVersion::One)
+    } else if line == br#"{"dump":2}"#.as_slice() {
+        Some(DumpVersion::Two)
+    } else {
+        None
+    }
+}
+
+/// The line that ends a dump of so many entries.
+pub(crate) fn count_line(alloc: Global, count: u128) -> Result<String, AllocError>
+    ensures { IfOk result (λ s. string_bytes s ≡ count_line count) }
+{
+    format!(in alloc; "{{\"entries\":{count}}}")
+}

@@ -1,0 +1,160 @@
+//! Writes the dump of what is stored.
+ghost use Rattle.std.specs.Prelude.{◌≡◌, ℕ, ◌++◌, ◌∷◌, ◌⊎◌, List, [], Option, IfOk, IfSome, OnOk, OnErr, IsErrOf, length, map, option_map, true, unwrap_or};
+ghost use Rattle.std.specs.Io.KnownBytes.{Appends};
+ghost use Rattle.sdb_lines.specs.Prefixes.{AppendsPrefix};
+ghost use Rattle.sdb_lines.specs.Streams.{WriteFaultIsCounted, failures_after};
+ghost use Rattle.sdb_oplog.specs.Keys.{Logs, plain_key};
+ghost use Rattle.sdb_desk.specs.StoredKeys.{IsKeyList};
+ghost use Rattle.sdb_dump.specs.DumpText.{count_line};
+ghost use Rattle.sdb_dump.specs.LogListing.{lines_of_logs};
+ghost use Rattle.sdb_dump.specs.WriteModel.{HasEntryCount, WroteUpTo, WroteDump, WroteDumpPrefix, log_text, logs_text};
+
+use crate::checker::count_line;
+use crate::dump_line::append_line;
+use crate::version::DumpVersion;
+use sdb_lines::{RunFault, Sink, flush_buffer};
+use sdb_oplog::{Entry, Key, Log};
+use std::alloc::{AllocError, Global};
+
+// The output, in bytes, that is written at a time: 64 KiB.
+const OUTPUT_LIMIT: usize = 65_536;
+
+/// The documents that something is stored of.
+pub trait DumpSource {
+    // The log of each key.
+    ghost logs: { Self → Logs };
+
+    /// Their keys, each once, by the bytes of the collection, then of the id. It fails only for want of memory.
+    fn keys(&self) -> Result<Vec<Key>, AllocError>
+        ensures { IfOk result (λ keys. IsKeyList (logs self.now) (map plain_key keys.items)) };
+
+    /// The log of the document, if something is stored of it.
+    fn log(&self, key: &Key) -> Option<&Log>
+        ensures { unwrap_or (option_map (λ l. l.now) result) [] ≡ logs self.now (plain_key key.now) };
+}
+
+/// Writes the dump of the second version of all that is stored, flushes it, and answers how many entries it has.
+/// It is written in pieces of 64 KiB or a line more.
+pub fn write_dump<D: DumpSource, W: Sink>(
+    alloc: Global,
+    documents: &D,
+    writer: &mut W,
+) -> Result<u128, RunFault>
+    ensures whole { OnOk result
+        (WroteDump (D.logs documents.now) (W.bytes_written writer.old) (W.bytes_written writer.new)) }
+    ensures entries { IfOk result (λ n. HasEntryCount (D.logs documents.now) n) }
+    // After a fault nothing was written, or a front of the dump.
+    ensures front { OnErr result
+        (WroteDumpPrefix (D.logs documents.now) (W.bytes_written writer.old) (W.bytes_written writer.new)) }
+    // No write or flush failed, but for the one that is the fault.
+    ensures writes { WriteFaultIsCounted result (W.failures writer.old) (W.failures writer.new) }
+    ensures read { IsErrOf result RunFault.ReadFailed → ⊥ }
+{
+    let keys = documents.keys()?;
+    let mut out = Vec::with_capacity(alloc, OUTPUT_LIMIT)?;
+    out.extend_from_slice(b"{\"dump\":2}\n")?;
+    let entries = write_logs(alloc, documents, keys.as_slice(), &mut out, writer)?;
+    push_count(alloc, entries, &mut out)?;
+    write_and_flush(out, writer)?;
+    Ok(entries)
+}
+
+// Adds the lines of the logs of these documents to the output, and writes it once there is much of it. It answers
+// how many lines they are.
+fn write_logs<D: DumpSource, W: Sink>(
+    alloc: Global,
+    documents: &D,
+    keys: &[Key],
+    out: &mut Vec<u8>,
+    writer: &mut W,
+) -> Result<u128, RunFault>
+    ensures wrote { OnOk result (WroteUpTo (W.bytes_written writer.old) (W.bytes_written writer.new)
+        (out.old.items ++ logs_text (D.logs documents.now) (map plain_key keys.now)) out.new.items) }
+    ensures counted { IfOk result (λ n. n ≡ length (lines_of_logs (D.logs documents.now) (map plain_key keys.now))) }
+    ensures front { OnErr result (AppendsPrefix (W.bytes_written writer.old) (W.bytes_written writer.new)
+        (out.old.items ++ logs_text (D.logs documents.now) (map plain_key keys.now))) }
+    ensures writes { (W.failures writer.new ≡ W.failures writer.old) ⊎ IsErrOf result RunFault.WriteFailed }
+    ensures write { IsErrOf result RunFault.WriteFailed →
+        W.failures writer.new ≡ failures_after true (W.failures writer.old) }
+    ensures read { IsErrOf result RunFault.ReadFailed → ⊥ }
+{
+    let mut count: u128 = 0;
+    for key in keys {
+        let entries = entries_of(documents, key);
+        write_log(alloc, key, entries, out, writer)?;
+        count += entries.len() as u128;
+    }
+    Ok(count)
+}
+
+// The entries of the document's log.
+fn entries_of<'a, D: DumpSource>(documents: &'a D, key: &Key) -> &'a [Entry]
+    ensures { result.now ≡ D.logs documents.now (plain_key key.now) }
+{
+    match documents.log(key) {
+        Some(log) => log.entries_from(0),
+        None => &[],
+    }
+}
+
+// Adds the lines of these entries of the document to the output, and writes it once there is much of it.
+fn write_log<W: Sink>(
+    alloc: Global,
+    key: &Key,
+    entries: &[Entry],
+    out: &mut Vec<u8>,
+    writer: &mut W,
+) -> Result<(), RunFault>
+    ensures wrote { OnOk result (WroteUpTo (W.bytes_written writer.old) (W.bytes_written writer.new)
+        (out.old.items ++ log_text (plain_key key.now) entries.now) out.new.items) }
+    ensures front { OnErr result (AppendsPrefix (W.bytes_written writer.old) (W.bytes_written writer.new)
+        (out.old.items ++ log_text (plain_key key.now) entries.now)) }
+    ensures writes { (W.failures writer.new ≡ W.failures writer.old) ⊎ IsErrOf result RunFault.WriteFailed }
+    ensures write { IsErrOf result RunFault.WriteFailed →
+        W.failures writer.new ≡ failures_after true (W.failures writer.old) }
+    ensures read { IsErrOf result RunFault.ReadFailed → ⊥ }
+{
+    for entry in entries {
+        append_line(alloc, DumpVersion::Two, key, entry, out)?;
+        out.extend_from_slice(b"\n")?;
+        flush_if_full(out, writer)?;
+    }
+    Ok(())
+}
+
+// Writes the output once there is much of it.
+fn flush_if_full<W: Sink>(out: &mut Vec<u8>, writer: &mut W) -> Result<(), RunFault>
+    ensures wrote { OnOk result (WroteUpTo (W.bytes_written writer.old) (W.bytes_written writer.new)
+        out.old.items out.new.items) }
+    ensures front { OnErr result (AppendsPrefix (W.bytes_written writer.old)
+        (W.bytes_written writer.new) out.old.items) }
+    ensures unfailed { OnOk result (W.failures writer.new ≡ W.failures writer.old) }
+    ensures fault { OnErr result (IsErrOf result RunFault.WriteFailed
+        × (W.failures writer.new ≡ failures_after true (W.failures writer.old))) }
+{
+    if out.len() < OUTPUT_LIMIT {
+        return Ok(());
+    }
+    flush_buffer(out, writer)
+}
+
+// Adds the line of the count to the output.
+fn push_count(alloc: Global, count: u128, out: &mut Vec<u8>) -> Result<(), AllocError>
+    ensures { OnOk result (out.new.items ≡ out.old.items ++ (count_line count ++ 10 ∷ [])) }
+{
+    let line = count_line(alloc, count)?;
+    out.extend_from_slice(line.as_bytes())?;
+    out.extend_from_slice(b"\n")
+}
+
+// Writes all of the output, and flushes it.
+fn write_and_flush<W: Sink>(mut out: Vec<u8>, writer: &mut W) -> Result<(), RunFault>
+    ensures wrote { OnOk result (Appends (W.bytes_written writer.old) (W.bytes_written writer.new) out.items) }
+    ensures front { OnErr result (AppendsPrefix (W.bytes_written writer.old) (W.bytes_written writer.new) out.items) }
+    ensures unfailed { OnOk result (W.failures writer.new ≡ W.failures writer.old) }
+    ensures fault { OnErr result (IsErrOf result RunFault.WriteFailed
+        × (W.failures writer.new ≡ failures_after true (W.failures writer.old))) }
+{
+    flush_buffer(&mut out, writer)?;
+    writer.flush_all().map_err(|_| RunFault::WriteFailed)
+}

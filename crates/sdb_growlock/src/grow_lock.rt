@@ -1,0 +1,50 @@
+//! The lock and its seats.
+ghost use Rattle.std.specs.Prelude.{◌≡◌, false, map, length, [], ◌∷◌};
+ghost use Rattle.sdb_growlock.specs.LockRule.{number_of, is_out};
+
+use crate::grows::Grows;
+use crate::rule::{LockTable, TableSeat};
+use std::sync::atomic::AtomicU64;
+
+/// A lock round a value that only grows. It is made with its first seat, and each thread needs a seat of its own.
+#[derive(Drop)]
+pub struct GrowLock<T: Grows> {
+    pub(crate) table: LockTable<T>,
+    // how many threads wait for the value, or are about to
+    pub(crate) waiting: AtomicU64,
+    ghost one_word_one_slot: { (table.shared.table_id.words ≡ 1) × (table.shared.table_id.slots ≡ 1) },
+}
+
+/// The right to use one lock, under a number of its own: 0 of the first seat, then one higher for each that is split
+/// off. It has seen a value (`HasSeen`), which each later value under the lock extends.
+pub struct Seat<T> {
+    pub(crate) number: u64,
+    pub(crate) next: u64,
+    pub(crate) inner: TableSeat<T>,
+    ghost is_idle: { (length inner.me.1 ≡ 0) × (map number_of inner.me.0.seen ≡ number ∷ [])
+        × (is_out inner.me.0.out ≡ false) × (inner.me.0.next ≡ next) },
+}
+
+impl<T> Seat<T> {
+    // What the seat is to the table.
+    pub(crate) fn into_table_seat(self) -> TableSeat<T>
+        ensures { result ≡ self.inner }
+    {
+        let Self {
+            number: _,
+            next: _,
+            inner,
+        } = self;
+        inner
+    }
+}
+
+impl<T> Drop for Seat<T> {
+    fn drop(self) {
+        let Self {
+            number: _,
+            next: _,
+            inner: _,
+        } = self;
+    }
+}

@@ -1,0 +1,20 @@
+use Rattle.std.proofs.Common.{arith, ◌∙◌}
+use Rattle.std.proofs.lemmas.Bool.{ne_eqb}
+use Rattle.sdb_lines.proofs.WriteLemmas.{put-more, front-taken}
+use Rattle.sdb_lines.proofs.Runs.{Appends-kept}
+use Rattle.sdb_lines.proofs.line_reader.flush_buffer.Goals as goal
+
+pub returns-in-Ok-eq0-clause-front : goal.returns-in-Ok-eq0-clause-front
+returns-in-Ok-eq0-clause-front g c =
+    front-taken _ _ c.args.out.now.items _ (put-more _ _ _ c.args.out.now.items c.deref.result.now c.loop-at.at c.in-Ok-eq0.field-0 c.deref.ensures.value c.loop-at.invariant.wrote c.in-Ok-eq0.ensures.bytes)
+
+pub loop-at-preserved : goal.loop-at-preserved
+loop-at-preserved g c = record {
+  in_range = omega (arith, c.in-Ok.ensures.bound);
+  unfailed = (let e = rw (ne_eqb c.in-Ok.n 0 c.in-Ok.n-test.1) at c.in-Ok.ensures.failures in e ∙ c.loop-at.invariant.unfailed);
+  wrote = put-more _ _ _ c.args.out.now.items c.deref.result.now c.loop-at.at c.in-Ok.n c.deref.ensures.value c.loop-at.invariant.wrote c.in-Ok.ensures.bytes;
+}
+
+pub returns-in-Err-clause-front : goal.returns-in-Err-clause-front
+returns-in-Err-clause-front g c =
+    front-taken _ _ c.args.out.now.items c.loop-at.at (Appends-kept _ _ _ _ c.loop-at.invariant.wrote c.in-Err.ensures.bytes)

@@ -1,5 +1,0 @@
-use Rattle.sdb_lower_tests.proofs.Tallies.{others}
-use Rattle.sdb_lower_tests.proofs.growlock.AddNumberJobTally.run.Goals as goal
-
-pub returns-clause-others : goal.returns-clause-others
-returns-clause-others c = λ k ne. others k c.args.number _ c.args.tally.now.numbers.items c.push.new.self.items c.push.ensures.items ne

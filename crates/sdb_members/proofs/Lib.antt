@@ -1,5 +1,0 @@
-pub mod Parts
-pub mod Edits
-pub mod Entries
-pub mod Ordered
-pub mod Places

@@ -1,9 +1,0 @@
-pub mod formers
-pub mod Iter
-pub mod Key
-pub mod Laws
-pub mod Member
-pub mod Members
-pub mod Order
-pub mod Rows
-pub mod Search

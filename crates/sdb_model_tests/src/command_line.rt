@@ -1,0 +1,31 @@
+//! `sdb_cli`: faults and refusals, as they are told.
+use sdb_cli::terminal::TerminalBuffer;
+use sdb_cli::{STATUS_FAULT, STATUS_USAGE, exit_status, print_refusal};
+use sdb_lines::RunFault;
+
+// Whether this is printed on standard output, and this on standard error.
+fn is_printed(terminal: TerminalBuffer, out: &str, err: &str) -> bool {
+    terminal.out.into_inner().as_str() == out && terminal.err.into_inner().as_str() == err
+}
+
+#[test]
+fn faults_are_told(rt: HostRuntime) {
+    for (fault, told) in [
+        (RunFault::ReadFailed, "fault: read\n"),
+        (RunFault::WriteFailed, ""),
+        (RunFault::OutOfMemory, "fault: memory\n"),
+    ] {
+        let terminal = TerminalBuffer::new(rt.alloc());
+        assert!(rt;
+            exit_status(&terminal, fault) == STATUS_FAULT && is_printed(terminal, told, ""),
+            "{told}"
+        );
+    }
+}
+
+#[test]
+fn a_refusal_is_one_line_on_standard_error(rt: HostRuntime) {
+    let terminal = TerminalBuffer::new(rt.alloc());
+    let status = print_refusal(&terminal, "error: no\nmore of it").ok();
+    assert!(rt; status == Some(STATUS_USAGE) && is_printed(terminal, "", "error: no\n"));
+}

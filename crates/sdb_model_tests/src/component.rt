@@ -1,0 +1,197 @@
+//! `sdb_component`: operations read, copied, weighed and printed. What is refused is in the lines of the server.
+use crate::texts::{component, each_row, is_op, is_printed, op, op_of, parsed, says, text_of};
+use json::Writer;
+use sdb_component::{Component, Op, OpFault, Path, weight, write_op};
+use sdb_value::paths_equal;
+use serde_json::Value;
+use std::alloc::Global;
+use std::process::Abort;
+
+// Rows of an operation, and what it reads as, printed again.
+const SHAPES: &str = r#"[
+  [[], []],
+  [[{"p":[],"na":-1}], [{"na":-1,"p":[]}]],
+  [[{"si":"a","p":["k",3]}], [{"p":["k",3],"si":"a"}]],
+  [[{"p":[0],"sd":"b"}], [{"p":[0],"sd":"b"}]],
+  [[{"p":[1],"li":{"b":1,"a":null}}], [{"li":{"a":null,"b":1},"p":[1]}]],
+  [[{"p":["a",2],"ld":[true]}], [{"ld":[true],"p":["a",2]}]],
+  [[{"p":[1],"ld":9,"li":"q"}], [{"ld":9,"li":"q","p":[1]}]],
+  [[{"p":["k"],"oi":"x"}], [{"oi":"x","p":["k"]}]],
+  [[{"p":[0,"k"],"od":1}], [{"od":1,"p":[0,"k"]}]],
+  [[{"p":["k"],"oi":2,"od":1}], [{"od":1,"oi":2,"p":["k"]}]],
+  [[{"p":[9],"sd":""},{"p":[],"na":1,"z":1.5}], [{"na":1,"p":[]}]],
+  [[{"p":[9007199254740991],"ld":-9007199254740991}], [{"ld":-9007199254740991,"p":[9007199254740991]}]],
+  [[{"oi":null,"p":["k"]}], [{"oi":null,"p":["k"]}]],
+  [[{"od":null,"oi":1,"p":["k"]}], [{"od":null,"oi":1,"p":["k"]}]],
+  [[{"ld":null,"li":null,"p":[0]}], [{"ld":null,"li":null,"p":[0]}]]
+]"#;
+
+// The operation, written without a JSON value between.
+fn written(rt: &impl Abort, alloc: Global, op: &Op) -> Vec<u8> {
+    let mut out = Writer::new(Vec::new(alloc));
+    write_op(op, &mut out).expect(rt, "out of memory");
+    out.into_inner()
+}
+
+// Whether the operation is printed and written as this value is.
+fn is_spelled(rt: &impl Abort, alloc: Global, op: &Op, wanted: &Value) -> bool {
+    let wanted = text_of(rt, alloc, wanted);
+    is_printed(rt, alloc, op, wanted.as_str())
+        && written(rt, alloc, op).as_slice() == wanted.as_bytes()
+}
+
+fn holds(rt: &impl Abort, alloc: Global, row: &[Value]) -> bool {
+    let [sent, wanted] = row else {
+        return false;
+    };
+    is_spelled(rt, alloc, &op_of(rt, alloc, sent), wanted)
+}
+
+#[test]
+fn each_shape_is_read_and_printed(rt: HostRuntime) {
+    each_row(&rt, rt.alloc(), SHAPES, holds);
+}
+
+// An operation of all nine shapes, each in containers of containers.
+const NINE: &str = r#"[
+    {"na":-3,"p":["a",0,"n"]},
+    {"p":["a",1,7],"si":"aé😀"},
+    {"p":["a",1,8],"sd":"x😀"},
+    {"li":[1,{"k":[null,"t"]}],"p":["a",2]},
+    {"ld":{"k":{"l":[true]}},"p":["a",3]},
+    {"ld":[[0],-5],"li":{"m":{"n":"é"}},"p":["b","c",4]},
+    {"oi":[{"o":[]},{}],"p":[5,"d"]},
+    {"od":{"p":[false,[1]]},"p":["e","f"]},
+    {"od":["q",{"r":1}],"oi":{"s":[2,[3]]},"p":[6,"g"]}
+]"#;
+
+#[test]
+fn a_copy_is_the_same(rt: HostRuntime) {
+    let copy = op(&rt, rt.alloc(), NINE)
+        .try_clone(rt.alloc())
+        .expect(&rt, "out of memory");
+    assert!(rt;
+        is_spelled(&rt, rt.alloc(), &copy, &parsed(&rt, rt.alloc(), NINE))
+            && copy.components().len() == 9
+            && weight(&copy) == 11
+    );
+}
+
+// An operation of one component is read as such, and gives it up; one that was made of a list doesn't.
+#[test]
+fn one_component_is_given_up(rt: HostRuntime) {
+    let one = op(&rt, rt.alloc(), r#"[{"na":1,"p":["n"]}]"#);
+    let component = one.into_one().ok().expect(&rt, "one component");
+    let again = Op::one(component).into_components(rt.alloc());
+    let listed = Op::new(again.expect(&rt, "out of memory"));
+    assert!(rt;
+        is_printed(&rt, rt.alloc(), &listed, r#"[{"na":1,"p":["n"]}]"#)
+            && listed.into_one().is_err()
+    );
+}
+
+// Rows of an operation of one component, whose path another one is to share, and of that other one.
+const SHARED: &str = r#"[
+  [[{"na":1,"p":["a",0]}], [{"na":2,"p":["a",0]}]],
+  [[{"na":1,"p":["a",0]}], [{"na":2,"p":["a",1]}]],
+  [[{"na":1,"p":["a",0]}], [{"na":2,"p":[]}]],
+  [[{"na":1,"p":["a",0]}], [{"na":2,"p":["a",0]},{"na":3,"p":["a",0]}]]
+]"#;
+
+// Whether the other one is the same with the path.
+fn is_same_with(rt: &impl Abort, alloc: Global, row: &[Value]) -> bool {
+    let [first, other] = row else {
+        return false;
+    };
+    let path = component(rt, alloc, first)
+        .try_clone_path()
+        .expect(rt, "shared");
+    let shares = op_of(rt, alloc, other)
+        .with_interned_path(&path)
+        .expect(rt, "shared");
+    is_op(rt, alloc, &shares, other)
+}
+
+#[test]
+fn an_operation_that_shares_a_path_is_the_same(rt: HostRuntime) {
+    each_row(&rt, rt.alloc(), SHARED, is_same_with);
+}
+
+// Rows of an operation of one component, and how large its path is up to 3 and up to 9.
+const PATHS: &str = r#"[
+  [[{"na":1,"p":["ab",0]}], 3, 4],
+  [[{"na":1,"p":[]}], 0, 0]
+]"#;
+
+// Whether the steps are given up of a path that another shares, and then of the last one.
+fn gives_its_steps(rt: &impl Abort, alloc: Global, row: &[Value]) -> bool {
+    let [first, few, all] = row else {
+        return false;
+    };
+    let (path, _) = component(rt, alloc, first).into_parts();
+    let other = path.try_clone().expect(rt, "shared");
+    let copied = path.into_steps(alloc).expect(rt, "out of memory");
+    let given = other.into_steps(alloc).expect(rt, "out of memory");
+    let again = Path::new(alloc, given).expect(rt, "out of memory");
+    paths_equal(copied.as_slice(), again.steps())
+        && few.as_u64() == Some(again.size(3))
+        && all.as_u64() == Some(again.size(9))
+}
+
+#[test]
+fn the_steps_of_a_path_are_given_up(rt: HostRuntime) {
+    each_row(&rt, rt.alloc(), PATHS, gives_its_steps);
+}
+
+#[test]
+fn faults_are_named(rt: HostRuntime) {
+    assert!(rt;
+        says(
+            &rt,
+            rt.alloc(),
+            &OpFault::BadlyFormed,
+            "operation is badly formed"
+        ) && says(&rt, rt.alloc(), &OpFault::OutOfMemory, "out of memory")
+    );
+}
+
+// Rows of an operation of one component, and how much there is to copy of it.
+const SIZES: &str = r#"[
+  [[{"na":-3,"p":["ab",0]}], 4],
+  [[{"p":["a",7],"si":"aé😀"}], 9],
+  [[{"p":[8],"sd":"x😀"}], 5],
+  [[{"li":[1,[]],"p":[2]}], 3],
+  [[{"ld":"abc","p":[3]}], 4],
+  [[{"ld":"abc","li":{"k":0},"p":[4]}], 7],
+  [[{"oi":null,"p":["abc"]}], 4],
+  [[{"od":"","p":[0,"abc"]}], 5],
+  [[{"od":"a","oi":[0],"p":["abc"]}], 7]
+]"#;
+
+// Whether the size of the component is told so up to the limit.
+fn is_sized_to(component: &Component, limit: u64, wanted: u64) -> bool {
+    component.size(limit) == limit.min(wanted)
+}
+
+// Whether it is told so up to each limit.
+fn is_sized(component: &Component, wanted: u64) -> bool {
+    for limit in 0..=10 {
+        if !is_sized_to(component, limit, wanted) {
+            return false;
+        }
+    }
+    is_sized_to(component, 18446744073709551615, wanted)
+}
+
+fn has_size(rt: &impl Abort, alloc: Global, row: &[Value]) -> bool {
+    let [sent, size] = row else {
+        return false;
+    };
+    let size = size.as_u64().expect(rt, "a size");
+    is_sized(&component(rt, alloc, sent), size)
+}
+
+#[test]
+fn sizes_are_counted_up_to_a_limit(rt: HostRuntime) {
+    each_row(&rt, rt.alloc(), SIZES, has_size);
+}

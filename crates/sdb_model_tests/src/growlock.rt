@@ -1,0 +1,100 @@
+//! `sdb_growlock`: two threads that let one list grow.
+ghost use Rattle.std.specs.Prelude.{◌≡◌, ℕ, ◌++◌, ◌∷◌, [], true};
+ghost use Rattle.sdb_growlock.specs.SeatModel.{BelongsTo, number, next};
+
+use sdb_growlock::{GrowLock, Grows, Job, Seat};
+use std::sync::Wait;
+use std::thread;
+
+// How often each thread adds its number.
+const TIMES: u64 = 1_000;
+
+// The numbers that were added, in order.
+#[derive(Drop)]
+struct Tally {
+    numbers: Vec<u64>,
+}
+
+impl Grows for Tally {
+    ghost use Rattle.std.specs.Prelude.{◌≡◌, []};
+    ghost use Rattle.std.proofs.Common.{◌∙◌, refl, sym};
+    ghost use Rattle.sdb_model_tests.specs.Tally.{those, GoesOn, goes_on_itself, goes_on_further};
+
+    ghost extends = { λ new old. GoesOn new.numbers.items old.numbers.items };
+
+    ghost same = { λ n a b. those n a.numbers.items ≡ those n b.numbers.items };
+
+    ghost blank = { λ n a. those n a.numbers.items ≡ [] };
+
+    ghost extends_refl = { λ a. goes_on_itself a.numbers.items };
+
+    ghost extends_trans = { λ a b c h k. goes_on_further a.numbers.items b.numbers.items c.numbers.items h k };
+
+    ghost same_refl = { λ n a. refl };
+
+    ghost same_trans = { λ n a b c h k. h ∙ k };
+
+    ghost same_of_blank = { λ n a b h k. h ∙ sym k };
+
+    ghost blank_of_same = { λ n a b h k. sym h ∙ k };
+}
+
+// Adds the number under which it is run, and says whether there was memory for it.
+#[derive(Drop)]
+struct AddNumber;
+
+impl Job<Tally> for AddNumber {
+    type Answer = bool;
+
+    ghost precondition = { λ _ _ _. Unit {0} };
+
+    ghost postcondition = { λ _ n old new added. added ≡ true → new.numbers.items ≡ old.numbers.items ++ n ∷ [] };
+
+    fn run(self, number: u64, tally: &mut Tally) -> bool {
+        tally.numbers.push(number).is_ok()
+    }
+}
+
+// Adds the seat's number so many times. The seat, and how often there was memory.
+fn add_all<R: Wait>(rt: &R, lock: &GrowLock<Tally>, mut seat: Seat<Tally>) -> (Seat<Tally>, u64)
+    requires own { BelongsTo seat lock.now }
+    ensures own { BelongsTo result.0 lock.now × (number result.0 ≡ number seat) × (next result.0 ≡ next seat) }
+{
+    let mut added = 0;
+    for _ in 0..TIMES {
+        if lock.with(rt, &mut seat, AddNumber) && added < TIMES {
+            added += 1;
+        }
+    }
+    (seat, added)
+}
+
+fn count(tally: &Tally, number: u64) -> usize {
+    tally.numbers.iter().filter(|it| **it == number).count()
+}
+
+#[test]
+fn what_two_threads_add_is_all_there(rt: HostRuntime) {
+    let alloc = rt.alloc();
+    let numbers = Vec::new(alloc);
+    let Ok((lock, mut first)) = GrowLock::new(alloc, Tally { numbers }) else {
+        panic!(rt; "no memory");
+    };
+    let (Ok(one), Ok(two)) = (lock.split(&mut first), lock.split(&mut first)) else {
+        panic!(rt; "no seat");
+    };
+    let mut seats = Vec::with_capacity(alloc, 3).expect(&rt, "out of memory");
+    let (one, two) = thread::join(
+        &rt,
+        || add_all(&rt, &lock, one),
+        || add_all(&rt, &lock, two),
+    );
+    seats.push_reserved(first);
+    seats.push_reserved(one.0);
+    seats.push_reserved(two.0);
+    let tally = lock.close(seats);
+    let counts = (count(&tally, 1), count(&tally, 2));
+    assert!(rt;
+        (one.1, two.1, counts) == (TIMES, TIMES, (1_000, 1_000)) && tally.numbers.len() == 2_000
+    );
+}

@@ -1,0 +1,286 @@
+//! Calls that find no memory: what they leave, and the same call with memory. Run as they stand, these
+//! tests find memory at once; `tests/growths.py` refuses each allocation of each in turn.
+use crate::members::{copied as copied_members, shared};
+use crate::pieces::{Number, numbered, share};
+use crate::texts::{extended, is_printed, is_shown, json, op};
+use sdb_apply::{ApplyFault, apply, apply_atomic};
+use sdb_chunks::{ChunkedVec, Repr};
+use sdb_component::Op;
+use sdb_rope::Rope;
+use sdb_sorted_map::SortedMap;
+use sdb_transform::{Crossed, Fault, cross};
+use std::alloc::Global;
+use std::process::Abort;
+
+// The call that is tried stands between two of these, which that program knows by their size.
+fn mark(rt: &impl Abort, alloc: Global) -> usize {
+    let block: Vec<u8> = Vec::with_capacity(alloc, 7_919).expect(rt, "out of memory");
+    block.capacity()
+}
+
+const OPERATION: &str = r#"[{"p":["n"],"na":1},{"p":["l",1],"li":[2]},{"p":["m"],"oi":"x"}]"#;
+
+// The value before the operation, and after each of its components.
+const VALUES: [&str; 4] = [
+    r#"{"l":[1],"n":0}"#,
+    r#"{"l":[1],"n":1}"#,
+    r#"{"l":[1,[2]],"n":1}"#,
+    r#"{"l":[1,[2]],"m":"x","n":1}"#,
+];
+
+// How many components are applied to the value, whose text is as it is due then.
+fn applied(rt: &impl Abort, alloc: Global, op: &Op) -> usize {
+    let mut value = json(rt, alloc, VALUES[0]);
+    mark(rt, alloc);
+    let outcome = apply(alloc, &mut value, op);
+    mark(rt, alloc);
+    let count = match outcome {
+        Ok(()) => 3,
+        Err(refused) => {
+            assert!(rt; refused.why == ApplyFault::OutOfMemory);
+            refused.at
+        }
+    };
+    assert!(rt; is_shown(rt, alloc, &value, VALUES.get(count).expect(rt, "a value")));
+    count
+}
+
+#[test]
+fn an_apply(rt: HostRuntime) {
+    let op = op(&rt, rt.alloc(), OPERATION);
+    assert!(rt; applied(&rt, rt.alloc(), &op) == 3 || applied(&rt, rt.alloc(), &op) == 3);
+}
+
+// The whole operation is applied, where there was no memory after that left the value as it was.
+#[test]
+fn an_apply_whole(rt: HostRuntime) {
+    let op = op(&rt, rt.alloc(), OPERATION);
+    let mut value = json(&rt, rt.alloc(), VALUES[0]);
+    mark(&rt, rt.alloc());
+    let outcome = apply_atomic(rt.alloc(), &mut value, &op);
+    mark(&rt, rt.alloc());
+    if let Err(fault) = outcome {
+        assert!(rt;
+            fault == ApplyFault::OutOfMemory
+                && is_shown(&rt, rt.alloc(), &value, VALUES[0])
+                && apply_atomic(rt.alloc(), &mut value, &op).is_ok()
+        );
+    }
+    assert!(rt; is_shown(&rt, rt.alloc(), &value, VALUES[3]));
+}
+
+// Carries them past one another, once more where there was no memory.
+fn crossed(rt: &impl Abort, alloc: Global, left: &Op, right: &Op) -> Crossed {
+    mark(rt, alloc);
+    let outcome = cross(alloc, left, right);
+    mark(rt, alloc);
+    match outcome {
+        Ok(crossed) => crossed,
+        Err(fault) => {
+            assert!(rt; fault == Fault::OutOfMemory);
+            cross(alloc, left, right).expect(rt, "out of memory")
+        }
+    }
+}
+
+#[test]
+fn a_cross(rt: HostRuntime) {
+    let left = op(
+        &rt,
+        rt.alloc(),
+        r#"[{"p":["l",0],"li":1},{"p":["t",0],"si":"ab"}]"#,
+    );
+    let right = op(
+        &rt,
+        rt.alloc(),
+        r#"[{"p":["l",0],"li":2},{"p":["t",0],"si":"c"}]"#,
+    );
+    let crossed = crossed(&rt, rt.alloc(), &left, &right);
+    let after = r#"[{"li":1,"p":["l",0]},{"p":["t",0],"si":"ab"}]"#;
+    assert!(rt; is_printed(&rt, rt.alloc(), &crossed.left, after));
+    let after = r#"[{"li":2,"p":["l",1]},{"p":["t",2],"si":"c"}]"#;
+    assert!(rt; is_printed(&rt, rt.alloc(), &crossed.right, after) && crossed.pairs == 4);
+}
+
+// A text of so many pieces that they are put into two groups where it is shared.
+fn long(rt: &impl Abort, alloc: Global) -> (Rope, String) {
+    let plain = extended(rt, alloc, "", "0123456789abcdef", 8_000);
+    let text = Rope::from_str(alloc, plain.as_str()).expect(rt, "out of memory");
+    (text, plain)
+}
+
+fn is(rt: &impl Abort, alloc: Global, text: &Rope, plain: &str) -> bool {
+    let shown = text.to_string(alloc).expect(rt, "out of memory");
+    shown.as_str() == plain
+}
+
+#[test]
+fn a_long_text_shared(rt: HostRuntime) {
+    let (mut text, plain) = long(&rt, rt.alloc());
+    mark(&rt, rt.alloc());
+    let outcome = text.freeze(rt.alloc());
+    mark(&rt, rt.alloc());
+    if outcome.is_err() {
+        assert!(rt; is(&rt, rt.alloc(), &text, plain.as_str()) && text.freeze(rt.alloc()).is_ok());
+    }
+    assert!(rt; text.is_shared() && is(&rt, rt.alloc(), &text, plain.as_str()));
+}
+
+#[test]
+fn an_insert_into_a_shared_text(rt: HostRuntime) {
+    let (mut text, plain) = long(&rt, rt.alloc());
+    text.freeze(rt.alloc()).expect(&rt, "out of memory");
+    mark(&rt, rt.alloc());
+    let outcome = text.insert(rt.alloc(), 100_000, "x");
+    mark(&rt, rt.alloc());
+    if outcome.is_err() {
+        assert!(rt;
+            is(&rt, rt.alloc(), &text, plain.as_str())
+                && text.insert(rt.alloc(), 100_000, "x").unwrap_or(false)
+        );
+    }
+    let front = plain.get(..100_000).expect(&rt, "within");
+    let rest = plain.get(100_000..).expect(&rt, "within");
+    let put = extended(&rt, rt.alloc(), front, "x", 1);
+    let longer = extended(&rt, rt.alloc(), put.as_str(), rest, 1);
+    assert!(rt; is(&rt, rt.alloc(), &text, longer.as_str()));
+}
+
+// What is taken out stands in two groups.
+#[test]
+fn a_removal_from_a_shared_text(rt: HostRuntime) {
+    let (mut text, plain) = long(&rt, rt.alloc());
+    text.freeze(rt.alloc()).expect(&rt, "out of memory");
+    let old = plain.get(60_000..90_000).expect(&rt, "within");
+    mark(&rt, rt.alloc());
+    let outcome = text.remove(rt.alloc(), 60_000, old);
+    mark(&rt, rt.alloc());
+    if outcome.is_err() {
+        assert!(rt;
+            is(&rt, rt.alloc(), &text, plain.as_str())
+                && text.remove(rt.alloc(), 60_000, old).unwrap_or(false)
+        );
+    }
+    let rest = plain.get(90_000..).expect(&rt, "within");
+    let front = plain.get(..60_000).expect(&rt, "within");
+    let left = extended(&rt, rt.alloc(), front, rest, 1);
+    assert!(rt; is(&rt, rt.alloc(), &text, left.as_str()));
+}
+
+// Whether it has the numbers from 0 on, and so many of them.
+fn counts_to(list: &ChunkedVec<Number>, count: u64) -> bool {
+    list.iter().map(|item| item.0).eq(0..count)
+}
+
+#[test]
+fn a_long_list_shared(rt: HostRuntime) {
+    let mut form = numbered(&rt, rt.alloc(), 4_000).into_repr();
+    mark(&rt, rt.alloc());
+    let outcome = form.freeze(rt.alloc());
+    mark(&rt, rt.alloc());
+    if outcome.is_err() {
+        let list = ChunkedVec::from_repr(form);
+        assert!(rt; counts_to(&list, 4_000));
+        form = list.into_repr();
+        assert!(rt; form.freeze(rt.alloc()).is_ok());
+    }
+    assert!(rt; matches!(&form, Repr::Groups(_)) && counts_to(&ChunkedVec::from_repr(form), 4_000));
+}
+
+// The same list by a pointer, so that a change of one of them copies what is on its way.
+fn copied(rt: &impl Abort, list: &ChunkedVec<Number>) -> ChunkedVec<Number> {
+    let copy = list.clone_shared().expect(rt, "out of memory");
+    copy.expect(rt, "a shared list")
+}
+
+#[test]
+fn an_insert_into_a_shared_list(rt: HostRuntime) {
+    let list = numbered(&rt, rt.alloc(), 4_000);
+    let mut list = share(&rt, rt.alloc(), list);
+    let copy = copied(&rt, &list);
+    mark(&rt, rt.alloc());
+    let outcome = list.insert(rt.alloc(), 4_000, Number(4_000));
+    mark(&rt, rt.alloc());
+    if outcome.is_err() {
+        assert!(rt;
+            counts_to(&list, 4_000)
+                && list
+                    .insert(rt.alloc(), 4_000, Number(4_000))
+                    .unwrap_or(false)
+        );
+    }
+    assert!(rt; list.is_grouped() && counts_to(&list, 4_001) && counts_to(&copy, 4_000));
+}
+
+#[test]
+fn a_removal_from_a_shared_list(rt: HostRuntime) {
+    let list = numbered(&rt, rt.alloc(), 4_000);
+    let mut list = share(&rt, rt.alloc(), list);
+    let copy = copied(&rt, &list);
+    mark(&rt, rt.alloc());
+    let outcome = list.remove(rt.alloc(), 3_999);
+    mark(&rt, rt.alloc());
+    if outcome.is_err() {
+        assert!(rt; counts_to(&list, 4_000) && list.remove(rt.alloc(), 3_999).is_ok());
+    }
+    assert!(rt; list.is_grouped() && counts_to(&list, 3_999) && counts_to(&copy, 4_000));
+}
+
+fn key(rt: &impl Abort, alloc: Global, number: u64) -> String {
+    let mut key = String::new(alloc);
+    for digit in [1_000, 100, 10, 1] {
+        let at = char::from_digit((number / digit % 10) as u32, 10).expect(rt, "a digit");
+        key.push(at).expect(rt, "out of memory");
+    }
+    key
+}
+
+// Members of so many keys that they are in groups.
+fn long_members(rt: &impl Abort, alloc: Global) -> SortedMap<Number> {
+    let mut members = SortedMap::new(alloc);
+    for number in 0..2_000 {
+        let put = members.insert(alloc, key(rt, alloc, number), Number(number));
+        drop(put.expect(rt, "out of memory"));
+    }
+    shared(rt, alloc, members)
+}
+
+// Whether their values are the numbers from 0 on, and so many of them.
+fn values_count_to(members: &SortedMap<Number>, count: u64) -> bool {
+    members.iter().map(|member| member.1.0).eq(0..count)
+}
+
+#[test]
+fn a_key_put_into_shared_members(rt: HostRuntime) {
+    let mut members = long_members(&rt, rt.alloc());
+    let copy = copied_members(&rt, &members);
+    let next = key(&rt, rt.alloc(), 2_000);
+    mark(&rt, rt.alloc());
+    let outcome = members.insert(rt.alloc(), next, Number(2_000));
+    mark(&rt, rt.alloc());
+    if outcome.is_err() {
+        assert!(rt; values_count_to(&members, 2_000));
+        let next = key(&rt, rt.alloc(), 2_000);
+        assert!(rt; members.insert(rt.alloc(), next, Number(2_000)).is_ok());
+    }
+    assert!(rt; values_count_to(&members, 2_001) && values_count_to(&copy, 2_000));
+    assert!(rt;
+        members.chunks().is_grouped()
+            && members.get("1234").map(|number| number.0) == Some(1_234)
+            && members.get("2000").map(|number| number.0) == Some(2_000)
+    );
+}
+
+#[test]
+fn a_key_taken_out_of_shared_members(rt: HostRuntime) {
+    let mut members = long_members(&rt, rt.alloc());
+    let copy = copied_members(&rt, &members);
+    mark(&rt, rt.alloc());
+    let outcome = members.remove(rt.alloc(), "1999");
+    mark(&rt, rt.alloc());
+    if outcome.is_err() {
+        assert!(rt; values_count_to(&members, 2_000));
+        assert!(rt; members.remove(rt.alloc(), "1999").is_ok());
+    }
+    assert!(rt; values_count_to(&members, 1_999) && values_count_to(&copy, 2_000));
+}

@@ -1,0 +1,139 @@
+//! `sdb_oplog`: what no line shows: whole replays, entries compared, one content over another.
+ghost use Rattle.std.specs.Prelude.{◌≡◌};
+
+use crate::texts::{is_op, op_of, parsed};
+use sdb_component::Op;
+use sdb_oplog::{
+    Code, Content, Entry, Kind, Log, Moment, PathInterner, Submission, clone_entries,
+    entries_equal, over,
+};
+use sdb_value::Json;
+use serde_json::Value;
+use std::alloc::Global;
+use std::process::Abort;
+
+fn submission(rt: &impl Abort, alloc: Global, seq: u64, content: Content) -> Submission
+    ensures seq { result.seq ≡ seq }
+    ensures content { result.content ≡ content }
+{
+    let src = String::from_str(alloc, "x").expect(rt, "out of memory");
+    let via = String::from_str(alloc, "b").expect(rt, "out of memory");
+    Submission::new(alloc, src, seq, None, content, via, 7).expect(rt, "out of memory")
+}
+
+// A log whose one entry creates the document true.
+fn a_log(rt: &impl Abort, alloc: Global) -> Log {
+    let mut log = Log::new(alloc);
+    let content = Content::create(alloc, Json::Bool(true)).expect(rt, "out of memory");
+    let create = submission(rt, alloc, 1, content);
+    log.push(Entry::new(0, Moment::zero(), None, create))
+        .expect(rt, "out of memory");
+    log
+}
+
+// The one entry stands at 0, and nothing before it.
+#[test]
+fn versions_at_moments(rt: HostRuntime) {
+    let last = Moment::new(9_007_199_254_740_991).expect(&rt, "a moment");
+    assert!(rt;
+        Moment::new(9_007_199_254_740_992).is_none()
+            && Moment::saturating_new(u64::MAX).milliseconds() == last.milliseconds()
+            && Log::new(rt.alloc()).version_at(last) == 0
+    );
+    let log = a_log(&rt, rt.alloc());
+    assert!(rt; log.version_at(Moment::zero()) == 1 && log.version_at(last) == 1);
+}
+
+fn is_true(document: Option<&Json>) -> bool {
+    matches!(document, Some(Json::Bool(true)))
+}
+
+// The document is replayed, and the log stays.
+#[test]
+fn a_log_is_replayed(rt: HostRuntime) {
+    assert!(rt; Log::new(rt.alloc()).is_empty());
+    let log = a_log(&rt, rt.alloc());
+    assert!(rt;
+        log.replay(0).expect(&rt, "out of memory").is_none()
+            && log.len() == 1
+            && is_true(log.replay(1).expect(&rt, "out of memory").as_ref())
+    );
+}
+
+// An entry whose submission creates and whose content deletes.
+fn an_entry(rt: &impl Abort, alloc: Global) -> Entry {
+    let content = Content::create(alloc, Json::Null).expect(rt, "out of memory");
+    let create = submission(rt, alloc, 1, content)
+        .try_clone()
+        .expect(rt, "out of memory");
+    Entry::new(5, Moment::zero(), Some(Content::delete()), create)
+}
+
+#[test]
+fn entries_are_compared(rt: HostRuntime) {
+    let mut entries = Vec::new(rt.alloc());
+    entries
+        .push(an_entry(&rt, rt.alloc()))
+        .expect(&rt, "out of memory");
+    let copies = clone_entries(rt.alloc(), entries.as_slice()).expect(&rt, "out of memory");
+    assert!(rt;
+        entries_equal(entries.as_slice(), copies.as_slice())
+            && !entries_equal(entries.as_slice(), &[])
+    );
+}
+
+fn is_delete(passed: &Result<Content, Code>) -> bool {
+    match passed {
+        Ok(content) => matches!(content.kind(), Kind::Delete),
+        Err(_) => false,
+    }
+}
+
+#[test]
+fn a_content_over_another(rt: HostRuntime) {
+    let edit = Content::edit(rt.alloc(), Op::new(Vec::new(rt.alloc()))).expect(
+        &rt,
+        "out of memory",
+    );
+    let delete = Content::delete();
+    assert!(rt;
+        matches!(over(rt.alloc(), &edit, &delete), Err(Code::E5))
+            && is_delete(&over(rt.alloc(), &delete, &edit))
+    );
+}
+
+// Edits, one after the other.
+const EDITS: &str = r#"[
+  [{"na":1,"p":["n"]}],
+  [{"na":2,"p":["n"]}],
+  [{"oi":3,"p":["m"]}],
+  [{"na":4,"p":[]},{"na":5,"p":[]}],
+  [{"na":6,"p":["n"]}]
+]"#;
+
+// The edit by the operation, which shares the last path.
+fn edit_after(rt: &impl Abort, alloc: Global, last: &mut PathInterner, op: &Value) -> Content {
+    let edit = Content::edit(alloc, op_of(rt, alloc, op)).expect(rt, "out of memory");
+    last.intern(alloc, edit).expect(rt, "out of memory")
+}
+
+fn is_edit_by(rt: &impl Abort, alloc: Global, content: &Content, op: &Value) -> bool {
+    match content.kind() {
+        Kind::Edit(edit) => is_op(rt, alloc, edit, op),
+        _ => false,
+    }
+}
+
+#[test]
+fn edits_share_the_last_path(rt: HostRuntime) {
+    let mut last = PathInterner::new();
+    let edits = parsed(&rt, rt.alloc(), EDITS);
+    for op in edits.as_array().expect(&rt, "edits") {
+        let edit = edit_after(&rt, rt.alloc(), &mut last, op);
+        assert!(rt; is_edit_by(&rt, rt.alloc(), &edit, op));
+    }
+    let delete = last
+        .intern(rt.alloc(), Content::delete())
+        .expect(&rt, "out of memory");
+    assert!(rt; matches!(delete.kind(), Kind::Delete));
+}

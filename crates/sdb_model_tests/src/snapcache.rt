@@ -1,0 +1,65 @@
+//! Kept snapshots.
+use sdb_snapcache::{CACHE_CAPACITY, Cache};
+use sdb_value::{Json, Whole, values_equal};
+use std::alloc::Global;
+use std::process::Abort;
+
+fn number(rt: &impl Abort, n: i64) -> Json {
+    Json::Int(Whole::new(n).expect(rt, "a number"))
+}
+
+// Whether this version is found, and its snapshot is this number.
+fn is_found(rt: &impl Abort, cache: &mut Cache, v: u64, version: u64, n: i64) -> bool {
+    match cache.nearest(v) {
+        Some((found, value)) => found == version && values_equal(value, &number(rt, n)),
+        None => false,
+    }
+}
+
+// A cache that was offered the numbers 1 to 9, each at its version.
+fn nine(rt: &impl Abort, alloc: Global) -> Cache {
+    let mut cache = Cache::new(alloc);
+    for version in 1..10u8 {
+        let snapshot = number(rt, i64::from(version));
+        cache
+            .offer(u64::from(version), snapshot)
+            .expect(rt, "out of memory");
+    }
+    cache
+}
+
+#[test]
+fn a_new_cache_has_nothing(rt: HostRuntime) {
+    let mut cache = Cache::new(rt.alloc());
+    assert!(rt; cache.len() == 0 && cache.nearest(9).is_none());
+}
+
+// Of nine the last eight are there.
+#[test]
+fn eight_are_kept(rt: HostRuntime) {
+    let mut cache = nine(&rt, rt.alloc());
+    assert!(rt;
+        cache.len() == CACHE_CAPACITY
+            && cache.nearest(1).is_none()
+            && is_found(&rt, &mut cache, 2, 2, 2)
+            && is_found(&rt, &mut cache, 100, 9, 9)
+    );
+}
+
+// The one that was found stays, and the next goes.
+#[test]
+fn the_least_recently_used_goes(rt: HostRuntime) {
+    let mut cache = nine(&rt, rt.alloc());
+    assert!(rt; is_found(&rt, &mut cache, 2, 2, 2));
+    cache
+        .offer(10, number(&rt, 10))
+        .expect(&rt, "out of memory");
+    assert!(rt; cache.len() == CACHE_CAPACITY && is_found(&rt, &mut cache, 3, 2, 2));
+}
+
+#[test]
+fn a_cache_forgets(rt: HostRuntime) {
+    let mut cache = nine(&rt, rt.alloc());
+    cache.forget();
+    assert!(rt; cache.len() == 0 && cache.nearest(9).is_none());
+}

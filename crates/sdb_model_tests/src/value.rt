@@ -1,0 +1,551 @@
+//! `sdb_value`: values read, measured, found, changed and printed.
+ghost use Rattle.std.specs.Prelude.{◌≡◌, OnOk, ⊤};
+ghost use Rattle.sdb_value.specs.View.{value_of};
+
+use crate::texts::{
+    add, each_row, extended, is_shown, joined, json, json_of, parsed, says, shown, text_of,
+};
+use json::Writer;
+use sdb_value::{
+    Change, Json, List, MAX, Members, Path, Step, ValueFault, Whole, change_at, count_of, cut_at,
+    find, find_mut, insert_item, laws, list_mut, object_mut, put_at_key, remove_at_key,
+    remove_item, replace_item, text_mut, units, values_equal, whole_of, write_value,
+};
+use serde_json::Value;
+use std::alloc::{AllocError, Global};
+use std::process::Abort;
+
+fn written(rt: &impl Abort, alloc: Global, json: &Json) -> Vec<u8> {
+    let mut out = Writer::new(Vec::new(alloc));
+    write_value(json, &mut out).expect(rt, "out of memory");
+    out.into_inner()
+}
+
+fn step(rt: &impl Abort, alloc: Global, item: &Value) -> Step {
+    match item.as_u64() {
+        Some(index) => Step::Index(index),
+        None => Step::Key(text_of(rt, alloc, &item.as_str().expect(rt, "a step"))),
+    }
+}
+
+// The steps that a list of keys and indexes names.
+fn path_of(rt: &impl Abort, alloc: Global, steps: &Value) -> Path {
+    let mut path = Vec::new(alloc);
+    for item in steps.as_array().expect(rt, "a list") {
+        path.push(step(rt, alloc, item)).expect(rt, "out of memory");
+    }
+    path
+}
+
+// Lists, so many inside one another.
+fn deep(rt: &impl Abort, alloc: Global, depth: u64) -> String {
+    let opened = extended(rt, alloc, "", "[", depth);
+    extended(rt, alloc, opened.as_str(), "]", depth)
+}
+
+const READ: &str =
+    r#"{"b":[null,true,false,-9007199254740991,9007199254740991,"aé😀\"\n",[],{}],"a":{"k":0}}"#;
+
+const PRINTED: &str =
+    r#"{"a":{"k":0},"b":[null,true,false,-9007199254740991,9007199254740991,"aé😀\"\n",[],{}]}"#;
+
+#[test]
+fn a_value_is_read_and_printed(rt: HostRuntime) {
+    let value = json(&rt, rt.alloc(), READ);
+    assert!(rt;
+        is_shown(&rt, rt.alloc(), &value, PRINTED)
+            && written(&rt, rt.alloc(), &value).as_slice() == PRINTED.as_bytes()
+    );
+}
+
+#[test]
+fn a_copy_is_the_same(rt: HostRuntime) {
+    let value = json(&rt, rt.alloc(), READ);
+    let copy = value.try_clone(rt.alloc()).expect(&rt, "out of memory");
+    assert!(rt; values_equal(&copy, &value));
+    drop(value);
+    assert!(rt; is_shown(&rt, rt.alloc(), &copy, PRINTED));
+}
+
+#[test]
+fn depth_is_counted(rt: HostRuntime) {
+    assert!(rt;
+        json(&rt, rt.alloc(), r#""a""#).depth() == 0
+            && json(&rt, rt.alloc(), r#"{"a":[1],"b":{"c":[]}}"#).depth() == 3
+    );
+    let text = deep(&rt, rt.alloc(), 50);
+    let value = json(&rt, rt.alloc(), text.as_str());
+    assert!(rt; value.depth() == 50 && is_shown(&rt, rt.alloc(), &value, text.as_str()));
+}
+
+// Rows of a JSON number, and what it is as a whole number and as a count.
+const NUMBERS: &str = r#"[
+  [0, 0, 0],
+  [9007199254740991, 9007199254740991, 9007199254740991],
+  [9007199254740992, null, null],
+  [18446744073709551615, null, null],
+  [-1, -1, null],
+  [-9007199254740991, -9007199254740991, null],
+  [-9007199254740992, null, null],
+  [1.0, null, null],
+  [1e2, null, null]
+]"#;
+
+fn whole(value: &Value) -> Option<i64> {
+    whole_of(value.as_number()?).map(Whole::get)
+}
+
+fn is_number(_rt: &impl Abort, _alloc: Global, row: &[Value]) -> bool {
+    let [value, wanted, count] = row else {
+        return false;
+    };
+    whole(value) == wanted.as_i64() && count_of(value) == count.as_u64()
+}
+
+#[test]
+fn numbers_are_read(rt: HostRuntime) {
+    each_row(&rt, rt.alloc(), NUMBERS, is_number);
+    assert!(rt;
+        count_of(&parsed(&rt, rt.alloc(), NUMBERS)).is_none()
+            && MAX == 9007199254740991
+            && Whole::MAX == 9007199254740991
+    );
+}
+
+fn sum(a: i64, b: i64) -> Option<i64> {
+    Whole::new(a)?.checked_add(Whole::new(b)?).map(Whole::get)
+}
+
+#[test]
+fn whole_numbers_stay_in_range(rt: HostRuntime) {
+    assert!(rt;
+        Whole::new(9007199254740992).is_none()
+            && Whole::new(-9007199254740992).is_none()
+            && sum(Whole::MAX, 0) == Some(Whole::MAX)
+            && sum(Whole::MAX, 1).is_none()
+            && sum(-Whole::MAX, -1).is_none()
+            && sum(Whole::MAX, -1) == Some(9007199254740990)
+    );
+    assert!(rt; sum(3, -5) == Some(-2));
+}
+
+// Rows of a value, and how much there is to copy of it.
+const SIZES: &str = r#"[
+  [null, 1],
+  ["", 1],
+  ["aé", 4],
+  [[], 1],
+  [[1,[true,null]], 5],
+  [{"key":1}, 5],
+  [{"":"😀","b":{"c":[]}}, 10]
+]"#;
+
+// Whether the size of the value is told so up to the limit.
+fn is_sized_to(value: &Json, limit: u64, wanted: u64) -> bool {
+    value.size(limit) == limit.min(wanted)
+}
+
+// Whether it is told so up to each limit.
+fn is_sized(value: &Json, wanted: u64) -> bool {
+    laws::well_formed(value);
+    for limit in 0..=11 {
+        if !is_sized_to(value, limit, wanted) {
+            return false;
+        }
+    }
+    is_sized_to(value, 18446744073709551615, wanted)
+}
+
+fn has_size(rt: &impl Abort, alloc: Global, row: &[Value]) -> bool {
+    let [value, size] = row else {
+        return false;
+    };
+    let size = size.as_u64().expect(rt, "a size");
+    is_sized(&json_of(rt, alloc, value), size)
+}
+
+#[test]
+fn sizes_are_counted_up_to_a_limit(rt: HostRuntime) {
+    each_row(&rt, rt.alloc(), SIZES, has_size);
+}
+
+#[test]
+fn faults_are_named(rt: HostRuntime) {
+    let number = "a number is not whole or too large";
+    assert!(rt;
+        says(&rt, rt.alloc(), &ValueFault::NumberOutOfRange, number)
+            && says(
+                &rt,
+                rt.alloc(),
+                &ValueFault::TooDeep,
+                "a value nests too deep"
+            )
+            && says(&rt, rt.alloc(), &ValueFault::OutOfMemory, "out of memory")
+    );
+}
+
+const PLACED: &str = r#"{"a":[1,{"b":"x"}],"c":null,"d":true}"#;
+
+// Rows of a path into that value, and what it leads to.
+const PLACES: &str = r#"[
+  [[], {"a":[1,{"b":"x"}],"c":null,"d":true}],
+  [["a"], [1,{"b":"x"}]],
+  [["a",0], 1],
+  [["a",1,"b"], "x"],
+  [["c"], null],
+  [["b"], "nothing"],
+  [["a",2], "nothing"],
+  [["a",9007199254740991], "nothing"],
+  [["a","b"], "nothing"],
+  [["a",0,0], "nothing"],
+  [["a",0,"b"], "nothing"],
+  [["a",1,"b",0], "nothing"],
+  [["a",1,"b","b"], "nothing"],
+  [[0], "nothing"],
+  [["c",0], "nothing"],
+  [["c","b"], "nothing"],
+  [["d",0,"b"], "nothing"]
+]"#;
+
+fn shown_or_nothing(rt: &impl Abort, alloc: Global, place: Option<&Json>) -> String {
+    match place {
+        Some(place) => shown(rt, alloc, place),
+        None => text_of(rt, alloc, &r#""nothing""#),
+    }
+}
+
+fn lent(rt: &impl Abort, alloc: Global, value: &mut Json, path: &Path) -> String {
+    match find_mut(value, path) {
+        Some(place) => shown(rt, alloc, place),
+        None => shown_or_nothing(rt, alloc, None),
+    }
+}
+
+// Whether the path leads to this, read and lent. No clause says that a search that finds nothing changes
+// nothing.
+fn is_place(rt: &impl Abort, alloc: Global, row: &[Value]) -> bool {
+    let [steps, wanted] = row else {
+        return false;
+    };
+    let path = path_of(rt, alloc, steps);
+    let wanted = text_of(rt, alloc, wanted);
+    let mut value = json(rt, alloc, PLACED);
+    shown_or_nothing(rt, alloc, find(&value, &path)).as_str() == wanted.as_str()
+        && lent(rt, alloc, &mut value, &path).as_str() == wanted.as_str()
+        && is_shown(rt, alloc, &value, PLACED)
+}
+
+#[test]
+fn places_are_found(rt: HostRuntime) {
+    each_row(&rt, rt.alloc(), PLACES, is_place);
+}
+
+// Puts a truth at the path.
+fn put_truth(value: &mut Json, path: &Path) {
+    if let Some(place) = find_mut(value, path) {
+        *place = Json::Bool(true);
+    }
+}
+
+#[test]
+fn a_place_is_written(rt: HostRuntime) {
+    let mut value = json(&rt, rt.alloc(), PLACED);
+    let path = path_of(&rt, rt.alloc(), &parsed(&rt, rt.alloc(), r#"["a",1,"b"]"#));
+    put_truth(&mut value, &path);
+    let after = r#"{"a":[1,{"b":true}],"c":null,"d":true}"#;
+    assert!(rt; is_shown(&rt, rt.alloc(), &value, after));
+}
+
+// Puts a value in the place of another, and answers how deep that was.
+#[derive(Drop)]
+struct Replace<'a> {
+    alloc: Global,
+    new: &'a Json,
+}
+
+impl Change for Replace<'_> {
+    type Output = Result<u64, AllocError>;
+
+    ghost relation = { λ r _ e o. OnOk o (e ≡ value_of r.new.now) };
+
+    ghost keeps_unique = { λ _. ⊤ };
+
+    ghost result_unique = { λ _ _. ⊤ };
+
+    fn change(self, place: &mut Json) -> Result<u64, AllocError> {
+        let depth = place.depth();
+        *place = self.new.deep_clone(self.alloc)?;
+        Ok(depth)
+    }
+}
+
+fn depth_of(rt: &impl Abort, changed: Option<Result<u64, AllocError>>) -> Option<u64> {
+    Some(changed?.expect(rt, "out of memory"))
+}
+
+// Puts null at the path, and answers how deep the value there was.
+fn put_null(rt: &impl Abort, alloc: Global, value: &mut Json, steps: &str) -> Option<u64> {
+    let path = path_of(rt, alloc, &parsed(rt, alloc, steps));
+    let null = Json::Null;
+    let replace = Replace { alloc, new: &null };
+    let changed = change_at(alloc, value, &path, replace);
+    depth_of(rt, changed.expect(rt, "out of memory"))
+}
+
+// One place takes null, and places that aren't there change nothing.
+#[test]
+fn one_place_is_changed(rt: HostRuntime) {
+    let mut value = json(&rt, rt.alloc(), r#"{"a":[1,{"b":[[]]}],"c":2}"#);
+    let after = r#"{"a":[1,{"b":null}],"c":2}"#;
+    assert!(rt;
+        put_null(&rt, rt.alloc(), &mut value, r#"["a",1,"b"]"#) == Some(2)
+            && is_shown(&rt, rt.alloc(), &value, after)
+            && put_null(&rt, rt.alloc(), &mut value, r#"["a",2]"#).is_none()
+            && put_null(&rt, rt.alloc(), &mut value, r#"["b"]"#).is_none()
+            && is_shown(&rt, rt.alloc(), &value, after)
+    );
+}
+
+#[test]
+fn the_whole_value_is_changed(rt: HostRuntime) {
+    let mut value = json(&rt, rt.alloc(), r#"{"a":[1,{"b":null}],"c":2}"#);
+    assert!(rt;
+        put_null(&rt, rt.alloc(), &mut value, "[]") == Some(3)
+            && is_shown(&rt, rt.alloc(), &value, "null")
+    );
+}
+
+// Asserts where the text is cut at each offset.
+fn assert_cuts(rt: &impl Abort, text: &str, cuts: &[(u64, Option<usize>)]) {
+    for (offset, wanted) in cuts {
+        assert!(rt; cut_at(text, *offset) == *wanted, "{offset}");
+    }
+}
+
+#[test]
+fn texts_are_measured(rt: HostRuntime) {
+    assert!(rt; units("") == 0 && units("a😀b") == 4 && units("aé€") == 3);
+    let cuts = [
+        (0, Some(0)),
+        (1, Some(1)),
+        (2, None),
+        (3, Some(5)),
+        (4, Some(6)),
+        (5, None),
+    ];
+    assert_cuts(&rt, "a😀b", &cuts);
+}
+
+// A pair over the end of the first 4096 bytes, and one more behind the second.
+fn long(rt: &impl Abort, alloc: Global) -> String {
+    let text = extended(rt, alloc, "", "a", 4095);
+    let text = extended(rt, alloc, text.as_str(), "😀", 1);
+    let text = extended(rt, alloc, text.as_str(), "b", 5000);
+    extended(rt, alloc, text.as_str(), "😀", 1)
+}
+
+#[test]
+fn long_texts_are_measured(rt: HostRuntime) {
+    let text = long(&rt, rt.alloc());
+    assert!(rt; units(text.as_str()) == 9099);
+    let cuts = [
+        (4094, Some(4094)),
+        (4095, Some(4095)),
+        (4096, None),
+        (4097, Some(4099)),
+        (4098, Some(4100)),
+        (8189, Some(8191)),
+        (8190, Some(8192)),
+        (8191, Some(8193)),
+        (9097, Some(9099)),
+        (9098, None),
+        (9099, Some(9103)),
+        (9100, None),
+    ];
+    assert_cuts(&rt, text.as_str(), &cuts);
+}
+
+// Pairs alone, from the end of the first 4096 bytes to that of the third.
+fn pairs(rt: &impl Abort, alloc: Global) -> String {
+    let text = extended(rt, alloc, "", "a", 4096);
+    extended(rt, alloc, text.as_str(), "😀", 2048)
+}
+
+#[test]
+fn pairs_are_measured(rt: HostRuntime) {
+    let text = pairs(&rt, rt.alloc());
+    assert!(rt; units(text.as_str()) == 8192);
+    let cuts = [
+        (4096, Some(4096)),
+        (4097, None),
+        (4098, Some(4100)),
+        (6144, Some(8192)),
+        (6145, None),
+        (8192, Some(12288)),
+        (8193, None),
+    ];
+    assert_cuts(&rt, text.as_str(), &cuts);
+}
+
+fn change_items(rt: &impl Abort, alloc: Global, items: &mut List) {
+    let inserted = insert_item(alloc, items, 3, json(rt, alloc, "4"));
+    assert!(rt;
+        inserted.expect(rt, "out of memory")
+            && remove_item(alloc, items, 0).expect(rt, "out of memory")
+    );
+    let replaced = replace_item(alloc, items, 1, json(rt, alloc, r#""q""#));
+    assert!(rt; replaced.expect(rt, "out of memory"));
+}
+
+#[test]
+fn a_list_is_changed_in_place(rt: HostRuntime) {
+    let mut list = json(&rt, rt.alloc(), "[1,2,3]");
+    change_items(&rt, rt.alloc(), list_mut(&mut list).expect(&rt, "a list"));
+    assert!(rt; is_shown(&rt, rt.alloc(), &list, r#"[2,"q",4]"#));
+}
+
+fn put(rt: &impl Abort, alloc: Global, members: &mut Members, key: &str, value: Json) {
+    put_at_key(alloc, members, text_of(rt, alloc, &key), value).expect(rt, "out of memory");
+}
+
+fn change_members(rt: &impl Abort, alloc: Global, members: &mut Members) {
+    put(rt, alloc, members, "b", json(rt, alloc, "2"));
+    put(rt, alloc, members, "c", Json::Null);
+    remove_at_key(alloc, members, "a").expect(rt, "out of memory");
+}
+
+#[test]
+fn an_object_is_changed_in_place(rt: HostRuntime) {
+    let mut object = json(&rt, rt.alloc(), r#"{"a":1,"c":3}"#);
+    change_members(
+        &rt,
+        rt.alloc(),
+        object_mut(&mut object).expect(&rt, "an object"),
+    );
+    assert!(rt; is_shown(&rt, rt.alloc(), &object, r#"{"b":2,"c":null}"#));
+}
+
+#[test]
+fn a_text_is_changed_in_place(rt: HostRuntime) {
+    let mut text = json(&rt, rt.alloc(), r#""a😀b""#);
+    let inside = text_mut(&mut text).expect(&rt, "a text");
+    assert!(rt;
+        inside
+            .insert(rt.alloc(), 3, "xy")
+            .expect(&rt, "out of memory")
+            && inside
+                .remove(rt.alloc(), 1, "😀x")
+                .expect(&rt, "out of memory")
+            && is_shown(&rt, rt.alloc(), &text, r#""ayb""#)
+    );
+}
+
+// The text of an object with a member for each number from 100 to 999, or for each even one.
+fn numbered(rt: &impl Abort, alloc: Global, with_odd: bool) -> String {
+    let mut text = extended(rt, alloc, r#"{"k100":100"#, "", 0);
+    for number in 101_u64..1_000 {
+        if with_odd || number % 2 == 0 {
+            let number = text_of(rt, alloc, &number);
+            add(
+                rt,
+                &mut text,
+                &[r#","k"#, number.as_str(), r#"":"#, number.as_str()],
+            );
+        }
+    }
+    extended(rt, alloc, text.as_str(), "}", 1)
+}
+
+// Takes the members of odd numbers out, or puts them in again.
+fn change_odd(rt: &impl Abort, alloc: Global, object: &mut Json, back: bool) {
+    let object = object_mut(object).expect(rt, "an object");
+    for half in 50_i64..500 {
+        let number = half.wrapping_mul(2).wrapping_add(1);
+        let key = joined(rt, alloc, "k", &[text_of(rt, alloc, &number).as_str()]);
+        if back {
+            let value = Json::Int(Whole::new(number).expect(rt, "a number"));
+            put_at_key(alloc, object, key, value).expect(rt, "out of memory");
+        } else {
+            remove_at_key(alloc, object, key.as_str()).expect(rt, "out of memory");
+        }
+    }
+}
+
+#[test]
+fn a_wide_object_is_changed_beside_its_copy(rt: HostRuntime) {
+    let whole = numbered(&rt, rt.alloc(), true);
+    let half = numbered(&rt, rt.alloc(), false);
+    let mut object = json(&rt, rt.alloc(), whole.as_str());
+    assert!(rt; !object.is_shared());
+    object.freeze(rt.alloc()).expect(&rt, "out of memory");
+    assert!(rt; object.is_shared() && !Json::Null.is_shared());
+    let copy = object.try_clone(rt.alloc()).expect(&rt, "out of memory");
+    change_odd(&rt, rt.alloc(), &mut object, false);
+    assert!(rt; is_shown(&rt, rt.alloc(), &object, half.as_str()));
+    change_odd(&rt, rt.alloc(), &mut object, true);
+    assert!(rt;
+        is_shown(&rt, rt.alloc(), &object, whole.as_str())
+            && is_shown(&rt, rt.alloc(), &copy, whole.as_str())
+    );
+}
+
+#[test]
+fn members_are_a_value_again(rt: HostRuntime) {
+    let mut object = json(&rt, rt.alloc(), r#"{"a":null}"#);
+    object.freeze(rt.alloc()).expect(&rt, "out of memory");
+    let members = object.members().expect(&rt, "an object");
+    assert!(rt; members.get("a").expect(&rt, "a member").is_null() && !object.is_null());
+    let copy = members.clone_shared().expect(&rt, "out of memory");
+    let mut copy = copy.expect(&rt, "shared members");
+    put(&rt, rt.alloc(), &mut copy, "a", Json::Null);
+    assert!(rt; values_equal(&object, &Json::from_members(copy)));
+}
+
+// A value with a list and an object of several blocks and a text of several pieces.
+fn wide(rt: &impl Abort, alloc: Global) -> Json {
+    let items = extended(rt, alloc, "", r#"{"n":[1]},"#, 1_500);
+    let object = numbered(rt, alloc, true);
+    let letters = extended(rt, alloc, "", "aé😀", 3_000);
+    let parts = [
+        items.as_str(),
+        r#"0],"o":"#,
+        object.as_str(),
+        r#","t":""#,
+        letters.as_str(),
+        r#""}"#,
+    ];
+    json(rt, alloc, joined(rt, alloc, r#"{"l":["#, &parts).as_str())
+}
+
+// Puts null at some places.
+fn change_some(rt: &impl Abort, alloc: Global, value: &mut Json) {
+    assert!(rt;
+        put_null(rt, alloc, value, r#"["l",700,"n",0]"#) == Some(0)
+            && put_null(rt, alloc, value, r#"["l",1400]"#).is_some()
+            && put_null(rt, alloc, value, r#"["o","k500"]"#) == Some(0)
+            && put_null(rt, alloc, value, r#"["t"]"#) == Some(0)
+    );
+}
+
+// Whether a copy takes the same changes once more.
+fn is_changed_again(rt: &impl Abort, alloc: Global, first: &Json) -> bool {
+    let mut third = first.frozen_clone(alloc).expect(rt, "out of memory");
+    change_some(rt, alloc, &mut third);
+    values_equal(first, &third)
+}
+
+// A copy stays as it was where the other is changed, whichever is changed first.
+#[test]
+fn copies_of_a_value_are_changed_apart(rt: HostRuntime) {
+    let value = wide(&rt, rt.alloc());
+    let shared = value.frozen_clone(rt.alloc()).expect(&rt, "out of memory");
+    let mut first = shared.try_clone(rt.alloc()).expect(&rt, "out of memory");
+    let second = first.try_clone(rt.alloc()).expect(&rt, "out of memory");
+    change_some(&rt, rt.alloc(), &mut first);
+    assert!(rt;
+        is_changed_again(&rt, rt.alloc(), &first)
+            && values_equal(&value, &second)
+            && values_equal(&shared, &second)
+            && !values_equal(&first, &second)
+    );
+}

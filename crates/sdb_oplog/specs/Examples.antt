@@ -1,0 +1,117 @@
+-- Rows worked by hand: what submissions do to a log.
+use Rattle.std.specs.Prelude.{◌≡◌, ℕ, true, false, List, [], ◌∷◌, Option, Some, None, codes, refl, pos}
+use Rattle.sdb_value.specs.Value.{whole, text, list, object, item, no_items, member, no_members, key}
+use Rattle.sdb_component.specs.Plain.{PlainAct, na, li}
+use Rattle.sdb_transform.specs.Cross.{cross, cross_in}
+use Rattle.sdb_oplog.specs.Plain.{PlainContent, create, delete, edit, PlainSubmission, PlainEntry}
+use Rattle.sdb_oplog.specs.Snap.{snap, document_of}
+use Rattle.sdb_oplog.specs.Decide.{decide, stored, repeated, refused, decide_allocates, IsMade}
+use Rattle.sdb_oplog.specs.Keys.{shard_of}
+use Rattle.sdb_oplog.specs.declared.codes.Code.TheVariants.{E4, E5, E6, E7, E8}
+
+abbrev from : List ℕ → ℕ → Option ℕ → PlainContent → PlainSubmission
+from s n v m = record { src = s; seq = n; version = v; content = m; via = codes "b"; by = 0 }
+
+abbrev at_n : PlainAct → PlainContent
+at_n a = edit (record { path = key (codes "n") ∷ []; act = a } ∷ [])
+
+abbrev first : PlainSubmission
+first = from (codes "x") 1 None (create (object (member (codes "n") (whole (pos 1)) no_members)))
+
+abbrev one : List PlainEntry
+one = (decide [] first 0).log
+
+abbrev two : List PlainEntry
+two = (decide one (from (codes "x") 2 (Some 1) (at_n (na (pos 1)))) 0).log
+
+-- a create is stored at 0, an edit at 1; the document is {"n":2}
+pub row_first : (decide [] first 0).reply ≡ stored 0 []
+row_first = refl
+
+pub row_second : (decide one (from (codes "x") 2 (Some 1) (at_n (na (pos 1)))) 0).reply ≡ stored 1 []
+row_second = refl
+
+pub row_snap : snap two ≡ Some (Some (object (member (codes "n") (whole (pos 2)) no_members)))
+row_snap = refl
+
+pub row_made : IsMade two
+row_made = (refl, (refl, tt))
+
+-- a repeat has its first version, whatever it asks and at whichever version
+pub row_repeat : (decide two first 0).reply ≡ repeated 0
+row_repeat = refl
+
+pub row_repeat_other : (decide two (from (codes "x") 1 (Some 9) delete) 0).reply ≡ repeated 0
+row_repeat_other = refl
+
+-- the greatest number; a version too new; a create on a document; an edit of none
+pub row_greatest : (decide two (from (codes "y") 2 (Some 2) (at_n (na (pos 9007199254740991)))) 0).reply ≡ refused E8
+row_greatest = refl
+
+pub row_newer : (decide two (from (codes "y") 2 (Some 3) delete) 0).reply ≡ refused E4
+row_newer = refl
+
+pub row_created : (decide two (from (codes "y") 2 None (create (whole (pos 1)))) 0).reply ≡ refused E6
+row_created = refl
+
+pub row_absent : (decide [] (from (codes "y") 2 None (edit [])) 0).reply ≡ refused E7
+row_absent = refl
+
+-- over a delete an edit is refused, and a delete passes
+abbrev three : List PlainEntry
+three = (decide two (from (codes "y") 1 (Some 2) delete) 0).log
+
+pub row_deleted : (decide three (from (codes "z") 1 (Some 2) (edit [])) 0).reply ≡ refused E5
+row_deleted = refl
+
+pub row_delete_again : document_of (decide three (from (codes "z") 2 (Some 2) delete) 0).log ≡ None
+row_delete_again = refl
+
+-- the arriving side is left
+abbrev insert_in : List ℕ → ℕ → List ℕ → PlainSubmission
+insert_in s n v = from s n (Some 1) (edit (record { path = []; act = li 0 (text v) } ∷ []))
+
+abbrev made : List PlainEntry
+made = (decide [] (from (codes "x") 1 None (create (list (item (text (codes "x")) no_items)))) 0).log
+
+abbrev met : List PlainEntry
+met = (decide made (insert_in (codes "y") 1 (codes "A")) 0).log
+
+pub row_left : document_of (decide met (insert_in (codes "z") 1 (codes "B")) 0).log
+    ≡ Some (list (item (text (codes "B")) (item (text (codes "A")) (item (text (codes "x")) no_items))))
+unfolding cross cross_in
+row_left = refl
+
+-- without memory: a repeat, a version too new, a create on a document, an edit of none, an edit over a delete. To be
+-- stored takes memory, and so does an edit that is carried over an edit
+pub row_repeat_free : decide_allocates two first ≡ false
+row_repeat_free = refl
+
+pub row_newer_free : decide_allocates two (from (codes "y") 2 (Some 3) delete) ≡ false
+row_newer_free = refl
+
+pub row_created_free : decide_allocates two (from (codes "y") 2 None (create (whole (pos 1)))) ≡ false
+row_created_free = refl
+
+pub row_absent_free : decide_allocates [] (from (codes "y") 2 None (edit [])) ≡ false
+row_absent_free = refl
+
+pub row_deleted_free : decide_allocates three (from (codes "z") 1 (Some 2) (edit [])) ≡ false
+row_deleted_free = refl
+
+pub row_stored_takes : decide_allocates [] first ≡ true
+row_stored_takes = refl
+
+pub row_carried_takes : decide_allocates three (from (codes "z") 1 (Some 1) (edit [])) ≡ true
+row_carried_takes = refl
+
+-- ---- shards
+
+pub row_shard : shard_of (record { collection = codes "b"; id = codes "1" }) ≡ 3
+row_shard = refl
+
+pub row_next_shard : shard_of (record { collection = codes "b"; id = codes "2" }) ≡ 4
+row_next_shard = refl
+
+pub row_same_shard : shard_of (record { collection = codes "b"; id = codes "9" }) ≡ 3
+row_same_shard = refl

@@ -1,0 +1,22 @@
+-- What a log keeps.
+use Rattle.std.specs.Prelude.{◌≡◌, ℕ, ◌≤◌, List, [], length, true, Option, unwrap_or}
+use Rattle.std.specs.Option.{is_some}
+use Rattle.sdb_oplog.specs.Plain.{PlainContent, PlainEntry, PlainReservedAppend}
+use Rattle.sdb_oplog.specs.Decide.{new_entry}
+use Rattle.sdb_oplog.specs.Snap.{are_identifiers_new, snap, stored_at}
+use Rattle.sdb_oplog.specs.Moments.{MomentsOrderedFrom}
+use Rattle.sdb_oplog.specs.IndexModel.{indexed_version}
+use Rattle.sdb_oplog.specs.declared.index.Index.{Index}
+
+-- no source and number stands twice, each entry has an effect, their moments never fall, there are not too many, and
+-- the index knows the place of each
+pub record LogInvariant (es : List PlainEntry) (x : Index) : Type 0 where
+  pub identifiers_unique : are_identifiers_new [] es ≡ true
+  pub every_entry_applies : is_some (snap es) ≡ true
+  pub moments_ordered : MomentsOrderedFrom 0 es
+  pub length_in_range : length es ≤ 9007199254740991
+  pub index_is_exact : (s : List ℕ) (n : ℕ) → indexed_version x s n ≡ stored_at s n es
+
+-- the entry of the submission with this content, stored now; without one, with the content that arrived
+abbrev pub appended_entry : PlainReservedAppend → ℕ → Option PlainContent → PlainEntry
+appended_entry p now content = new_entry p.log p.submission now (unwrap_or content p.submission.content)

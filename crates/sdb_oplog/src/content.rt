@@ -1,0 +1,310 @@
+//! What is asked of a document.
+ghost use Rattle.std.specs.Arc.{arc_value};
+ghost use Rattle.std.specs.Prelude.{◌≡◌, true, IfOk, IfErr, OnOk, OnErr, IsErrOf, Ok, option_map, unwrap_or};
+ghost use Rattle.sdb_value.specs.Uniqueness.{is_unique};
+ghost use Rattle.sdb_value.specs.View.{value_of};
+ghost use Rattle.sdb_apply.specs.Outcome.{may_allocate, atomic_apply_allocates};
+ghost use Rattle.sdb_oplog.specs.Plain.{create, delete, edit};
+ghost use Rattle.sdb_oplog.specs.Refusal.{IsRefusalOrOutOfMemory};
+ghost use Rattle.sdb_oplog.specs.Rebase.{over, rebase, edit_over, over_allocates, rebase_allocates};
+ghost use Rattle.sdb_oplog.specs.Snap.{apply_content, apply_in_place_allocates, is_unique_document, apply_op};
+ghost use Rattle.sdb_oplog.specs.View.{plain_kind};
+ghost use Rattle.sdb_oplog.specs.declared.codes.Code.TheVariants.{E10};
+
+use crate::codes::Code;
+use crate::entry::Entry;
+use sdb_apply::apply_atomic;
+use sdb_component::{Op, Path};
+use sdb_transform::{Side, transform, transform_if_changed, transform_owned};
+use sdb_value::Json;
+use std::alloc::{AllocError, Global};
+use std::marker::Model;
+use std::sync::Arc;
+
+/// The three kinds of content. Copies of one content share its data and its operation.
+#[derive(Drop)]
+pub enum Kind {
+    /// The document is created with these data.
+    Create(Arc<Json>),
+    /// The document is deleted.
+    Delete,
+    /// The document is edited.
+    Edit(Arc<Op>),
+}
+
+/// What a submission asks, and what an entry stores: a create, a delete or an edit. It never changes,
+/// and a copy of it copies nothing deep.
+#[derive(Drop)]
+pub struct Content {
+    kind: Kind,
+}
+
+impl Model for Content {
+    ghost use Rattle.sdb_oplog.specs.Plain.{PlainContent};
+    ghost use Rattle.sdb_oplog.specs.Coding.{content_code};
+
+    ghost Value = { PlainContent };
+
+    ghost coded = { content_code };
+
+    ghost use Rattle.sdb_oplog.specs.View.{plain_kind};
+
+    ghost view = { λ c. plain_kind c.kind };
+}
+
+impl Content {
+    /// A create with these data, which all documents made of it share: a copy of them costs a pointer.
+    pub fn create(alloc: Global, value: Json) -> Result<Content, AllocError>
+        ensures { IfOk result (λ c. c ≡ create (value_of value)) }
+    {
+        Ok(Content {
+            kind: Kind::Create(Arc::new(alloc, value.frozen_clone(alloc)?)?),
+        })
+    }
+
+    /// A delete.
+    pub fn delete() -> Content
+        ensures { result ≡ delete }
+    {
+        Content { kind: Kind::Delete }
+    }
+
+    /// An edit by this operation.
+    pub fn edit(alloc: Global, op: Op) -> Result<Content, AllocError>
+        ensures { IfOk result (λ c. c ≡ edit op) }
+    {
+        Ok(Content {
+            kind: Kind::Edit(Arc::new(alloc, op)?),
+        })
+    }
+
+    /// Which of the three it is.
+    pub fn kind(&self) -> &Kind
+        ensures { plain_kind result.now ≡ self.now }
+    {
+        &self.kind
+    }
+
+    /// A copy, which shares the data or the operation. It takes no memory; it fails only where there are
+    /// 2^63 copies already.
+    pub fn try_clone(&self) -> Result<Content, AllocError>
+        ensures { IfOk result (λ c. c ≡ self.now) }
+    {
+        let kind = match &self.kind {
+            Kind::Create(value) => Kind::Create(Arc::try_clone(value)?),
+            Kind::Delete => Kind::Delete,
+            Kind::Edit(op) => Kind::Edit(Arc::try_clone(op)?),
+        };
+        Ok(Content { kind })
+    }
+
+    // The content. One that edits by one component shares this path where it is the component's own.
+    pub(crate) fn with_interned_path(
+        self,
+        alloc: Global,
+        path: &Path,
+    ) -> Result<Content, AllocError>
+        ensures { IfOk result (λ c. c ≡ self) }
+    {
+        match self.kind {
+            Kind::Edit(op) => match Arc::try_unwrap(op) {
+                Ok(op) => Content::edit(alloc, op.with_interned_path(path)?),
+                Err(op) => Ok(Content {
+                    kind: Kind::Edit(op),
+                }),
+            },
+            kind => Ok(Content { kind }),
+        }
+    }
+
+    // The path of an edit by one component, shared.
+    pub(crate) fn path(&self) -> Result<Option<Path>, AllocError> {
+        let Kind::Edit(op) = &self.kind else {
+            return Ok(None);
+        };
+        match op.components() {
+            [component] => Ok(Some(component.try_clone_path()?)),
+            _ => Ok(None),
+        }
+    }
+
+    /// Makes of a document, which may be none, what the content makes of it, in place. A create on a
+    /// document is E6, an edit of none E7, one that has no effect E8, want of memory E10. The document
+    /// is then as it was.
+    ///
+    /// An edit of one component copies nothing but what is shared with copies of the document on its way. One
+    /// of several also makes the value at the longest path that they share shared, as far as it isn't yet, and
+    /// copies its parts on their ways.
+    pub fn apply_to(&self, alloc: Global, document: &mut Option<Json>) -> Result<(), Code>
+        ensures ok { OnOk result (apply_content self.now (option_map value_of document.old)
+            ≡ Ok (option_map value_of document.new)) }
+        ensures err { IfErr result (λ code. IsRefusalOrOutOfMemory (apply_content self.now
+            (option_map value_of document.old)) code) }
+        ensures memory { IsErrOf result E10 →
+            apply_in_place_allocates self.now (option_map value_of document.old) (is_unique_document document.old)
+            ≡ true }
+        ensures same { OnErr result (option_map value_of document.new ≡ option_map value_of document.old) }
+    {
+        match &self.kind {
+            Kind::Create(value) => apply_create(alloc, value, document),
+            Kind::Delete => {
+                *document = None;
+                Ok(())
+            }
+            Kind::Edit(op) => apply_edit(alloc, op, document),
+        }
+    }
+}
+
+fn apply_create(alloc: Global, value: &Json, document: &mut Option<Json>) -> Result<(), Code>
+    ensures ok { OnOk result
+        (apply_content (create (value_of value.now)) (option_map value_of document.old)
+        ≡ Ok (option_map value_of document.new)) }
+    ensures err { IfErr result
+        (λ code. IsRefusalOrOutOfMemory (apply_content (create (value_of value.now))
+        (option_map value_of document.old)) code) }
+    ensures memory { IsErrOf result E10 → apply_in_place_allocates (create (value_of value.now))
+        (option_map value_of document.old) (is_unique_document document.old) ≡ true }
+    ensures same { OnErr result (option_map value_of document.new ≡ option_map value_of document.old) }
+{
+    if document.is_some() {
+        return Err(Code::E6);
+    }
+    *document = Some(value.try_clone(alloc)?);
+    Ok(())
+}
+
+fn apply_edit(alloc: Global, op: &Op, document: &mut Option<Json>) -> Result<(), Code>
+    ensures ok { OnOk result
+        (apply_content (edit op.now) (option_map value_of document.old) ≡ Ok (option_map value_of document.new)) }
+    ensures err { IfErr result (λ code. IsRefusalOrOutOfMemory (apply_content (edit op.now)
+        (option_map value_of document.old)) code) }
+    ensures memory { IsErrOf result E10 →
+        apply_in_place_allocates (edit op.now) (option_map value_of document.old) (is_unique_document document.old)
+        ≡ true }
+    ensures same { OnErr result (option_map value_of document.new ≡ option_map value_of document.old) }
+{
+    match document {
+        None => Err(Code::E7),
+        Some(value) => edit_value(alloc, op, value),
+    }
+}
+
+fn edit_value(alloc: Global, op: &Op, value: &mut Json) -> Result<(), Code>
+    ensures ok { OnOk result (apply_op op.now (value_of value.old) ≡ Ok (value_of value.new)) }
+    ensures err { IfErr result (λ code. IsRefusalOrOutOfMemory (apply_op op.now (value_of value.old)) code) }
+    ensures memory { IsErrOf result E10 → may_allocate (atomic_apply_allocates op.now) (is_unique value.old) ≡ true }
+    ensures same { OnErr result (value_of value.new ≡ value_of value.old) }
+{
+    apply_atomic(alloc, value, op)?;
+    Ok(())
+}
+
+/// What a content made at one version becomes after a stored content of that version. Over a create
+/// everything is E6; over a delete a create and an edit are E5; over an edit a create is E6, and an
+/// edit is transformed, as the left one. Then E8 where that can't be, and E10 for want of memory.
+pub fn over(alloc: Global, content: &Content, stored: &Content) -> Result<Content, Code>
+    ensures ok { IfOk result (λ c. over content.now stored.now ≡ Ok c) }
+    ensures err { IfErr result (λ code. IsRefusalOrOutOfMemory (over content.now stored.now) code) }
+    ensures memory { IsErrOf result E10 → over_allocates content.now stored.now ≡ true }
+{
+    match stored.kind() {
+        Kind::Create(_) => Err(Code::E6),
+        Kind::Delete => match content.kind() {
+            Kind::Create(_) => Err(Code::E5),
+            Kind::Delete => Ok(Content::delete()),
+            Kind::Edit(_) => Err(Code::E5),
+        },
+        Kind::Edit(other) => match content.kind() {
+            Kind::Create(_) => Err(Code::E6),
+            Kind::Delete => Ok(Content::delete()),
+            Kind::Edit(op) => edit_over(alloc, op, other),
+        },
+    }
+}
+
+fn edit_over(alloc: Global, op: &Op, other: &Op) -> Result<Content, Code>
+    ensures ok { IfOk result (λ c. edit_over op.now other.now ≡ Ok c) }
+    ensures err { IfErr result (λ code. IsRefusalOrOutOfMemory (edit_over op.now other.now) code) }
+{
+    let carried = transform(alloc, op, other, Side::Left)?;
+    Ok(Content::edit(alloc, carried)?)
+}
+
+/// What a content becomes along stored entries, each after the one before, up to the first refusal.
+/// `None` where it is known to stay as it is, as where there are no entries.
+pub fn rebase(alloc: Global, content: &Content, entries: &[Entry]) -> Result<Option<Content>, Code>
+    ensures ok { IfOk result (λ m. rebase content.now entries.now ≡ Ok (unwrap_or m content.now)) }
+    ensures err { IfErr result (λ code. IsRefusalOrOutOfMemory (rebase content.now entries.now) code) }
+    ensures memory { IsErrOf result E10 → rebase_allocates content.now entries.now ≡ true }
+{
+    let mut carried = None;
+    for entry in entries {
+        carried = rebase_step(alloc, carried, content, entry.content())?;
+    }
+    Ok(carried)
+}
+
+// What a content becomes after one stored content more. What it became before is given up. `None` where it is known
+// to have stayed as it is.
+fn rebase_step(
+    alloc: Global,
+    carried: Option<Content>,
+    content: &Content,
+    stored: &Content,
+) -> Result<Option<Content>, Code>
+    ensures ok { IfOk result (λ m. over (unwrap_or carried content.now) stored.now ≡ Ok (unwrap_or m content.now)) }
+    ensures err { IfErr result (λ code. IsRefusalOrOutOfMemory (over (unwrap_or carried content.now) stored.now) code) }
+    ensures memory { IsErrOf result E10 → over_allocates (unwrap_or carried content.now) stored.now ≡ true }
+{
+    match carried {
+        None => rebase_first(alloc, content, stored),
+        Some(carried) => Ok(Some(rebase_next(alloc, carried, stored)?)),
+    }
+}
+
+// The same of a content that stayed as it is so far.
+fn rebase_first(alloc: Global, content: &Content, stored: &Content) -> Result<Option<Content>, Code>
+    ensures ok { IfOk result (λ m. over content.now stored.now ≡ Ok (unwrap_or m content.now)) }
+    ensures err { IfErr result (λ code. IsRefusalOrOutOfMemory (over content.now stored.now) code) }
+    ensures memory { IsErrOf result E10 → over_allocates content.now stored.now ≡ true }
+{
+    match (content.kind(), stored.kind()) {
+        (Kind::Edit(op), Kind::Edit(other)) => rebase_edit(alloc, op, other),
+        _ => Ok(Some(over(alloc, content, stored)?)),
+    }
+}
+
+// The same of a content that it became, which is given up.
+fn rebase_next(alloc: Global, carried: Content, stored: &Content) -> Result<Content, Code>
+    ensures ok { IfOk result (λ c. over carried stored.now ≡ Ok c) }
+    ensures err { IfErr result (λ code. IsRefusalOrOutOfMemory (over carried stored.now) code) }
+    ensures memory { IsErrOf result E10 → over_allocates carried stored.now ≡ true }
+{
+    match (carried.kind, stored.kind()) {
+        (Kind::Edit(op), Kind::Edit(other)) => rebase_owned_edit(alloc, op, other),
+        (kind, _) => over(alloc, &Content { kind }, stored),
+    }
+}
+
+// As `edit_over`, but `None` where the edit is known to stay as it is.
+fn rebase_edit(alloc: Global, op: &Op, other: &Op) -> Result<Option<Content>, Code>
+    ensures ok { IfOk result (λ m. edit_over op.now other.now ≡ Ok (unwrap_or m (edit op.now))) }
+    ensures err { IfErr result (λ code. IsRefusalOrOutOfMemory (edit_over op.now other.now) code) }
+{
+    match transform_if_changed(alloc, op, other, Side::Left)? {
+        Some(carried) => Ok(Some(Content::edit(alloc, carried)?)),
+        None => Ok(None),
+    }
+}
+
+// As `edit_over`, but the operation is given up.
+fn rebase_owned_edit(alloc: Global, op: Arc<Op>, other: &Op) -> Result<Content, Code>
+    ensures ok { IfOk result (λ c. edit_over (arc_value op) other.now ≡ Ok c) }
+    ensures err { IfErr result (λ code. IsRefusalOrOutOfMemory (edit_over (arc_value op) other.now) code) }
+{
+    let carried = transform_owned(alloc, op, other, Side::Left)?;
+    Ok(Content {
+        kind: Kind::Edit(carried),
+    })
+}

@@ -1,0 +1,327 @@
+//! The log of a document.
+ghost use Rattle.std.specs.Prelude.{◌≡◌, ◌<◌, ◌≤◌, ℕ, List, [], ◌∷◌, ◌++◌, length, vec_len, vec_capacity, bytes_eq, nat_eq, ◌&&◌, if◌then◌else◌, take, drop, slice_get, true, Some, None, OnOk, OnErr, IfOk, IfErr, option_map, is_some, unwrap_or, IsTrue, ◌↔◌, ◌≢◌};
+ghost use Rattle.sdb_value.specs.View.{value_of};
+ghost use Rattle.sdb_oplog.specs.Snap.{snap, stored_at, are_identifiers_new};
+ghost use Rattle.sdb_oplog.specs.Moments.{last_moment, version_at, MomentsOrderedFrom};
+ghost use Rattle.sdb_oplog.specs.LogInvariant.{appended_entry};
+ghost use Rattle.sdb_oplog.specs.IndexModel.{indexed_version, HasReserved, SourceHasEntries};
+ghost use Rattle.sdb_oplog.specs.declared.codes.Code.TheVariants.{E10};
+
+use crate::codes::Code;
+use crate::content::Content;
+use crate::entry::{Entry, Submission};
+use crate::index::Index;
+use crate::moment::Moment;
+use sdb_value::{Json, MAX};
+use std::alloc::{AllocError, Global};
+use std::marker::Model;
+
+/// A list of entries. The sources and numbers of their submissions differ pairwise, each content has
+/// an effect where it stands, their moments never fall, and there are at most [`MAX`] of them.
+#[derive(Drop)]
+pub struct Log {
+    alloc: Global,
+    entries: Vec<Entry>,
+    index: Index,
+}
+
+impl Model for Log {
+    ghost use Rattle.std.specs.Prelude.{List};
+    ghost use Rattle.sdb_oplog.specs.Plain.{PlainEntry};
+    ghost use Rattle.sdb_oplog.specs.Coding.{log_code};
+
+    ghost Value = { List PlainEntry };
+
+    ghost coded = { log_code };
+
+    ghost use Rattle.sdb_oplog.specs.LogInvariant.{LogInvariant};
+    ghost use Rattle.sdb_oplog.specs.IndexModel.{AllSourcesHaveEntries};
+
+    ghost view = { λ l. l.entries.items };
+
+    ghost invariant = { λ l. LogInvariant l.entries.items l.index × AllSourcesHaveEntries l.index };
+}
+
+/// A log with a submission that room is made for: to store it takes no memory.
+#[derive(Drop)]
+pub struct ReservedAppend {
+    alloc: Global,
+    entries: Vec<Entry>,
+    index: Index,
+    submission: Submission,
+}
+
+impl Model for ReservedAppend {
+    ghost use Rattle.std.specs.Prelude.{◌<◌, vec_len, vec_capacity};
+    ghost use Rattle.sdb_oplog.specs.Plain.{PlainReservedAppend};
+    ghost use Rattle.sdb_oplog.specs.Coding.{reserved_append_code};
+
+    ghost Value = { PlainReservedAppend };
+
+    ghost coded = { reserved_append_code };
+
+    ghost use Rattle.sdb_oplog.specs.LogInvariant.{LogInvariant};
+    ghost use Rattle.sdb_oplog.specs.IndexModel.{HasReserved, OtherSourcesHaveEntries};
+
+    ghost view = { λ p. record { log = p.entries.items; submission = p.submission } };
+
+    ghost invariant = { λ p. LogInvariant p.entries.items p.index × (vec_len p.entries < vec_capacity p.entries) ×
+        HasReserved p.index p.submission.src × OtherSourcesHaveEntries p.index p.submission.src };
+}
+
+/// A log in which no room could be made, as it was, and why.
+#[derive(Drop)]
+pub struct ReserveError {
+    pub log: Log,
+    pub error: AllocError,
+}
+
+impl Log {
+    /// A log without entries. It keeps the allocator.
+    pub fn new(alloc: Global) -> Log
+        ensures { result ≡ [] }
+    {
+        Log {
+            alloc,
+            entries: Vec::new(alloc),
+            index: Index::new(alloc),
+        }
+    }
+
+    /// How many entries there are: the present version.
+    pub fn len(&self) -> u64
+        ensures len { result ≡ length self.now }
+        ensures room { length self.now ≤ MAX }
+        ensures lives { is_some (snap self.now) ≡ true }
+        ensures first { are_identifiers_new [] self.now ≡ true }
+        ensures time { MomentsOrderedFrom 0 self.now }
+    {
+        self.entries.len() as u64
+    }
+
+    /// Whether nothing is stored.
+    pub fn is_empty(&self) -> bool
+        ensures { IsTrue result ↔ (length self.now ≡ 0) }
+    {
+        self.entries.is_empty()
+    }
+
+    /// The entry of the version.
+    pub fn get(&self, version: u64) -> Option<&Entry>
+        ensures { option_map (λ e. e.now) result ≡ slice_get self.now version }
+    {
+        self.entries.get(version as usize)
+    }
+
+    /// The entries from the version on, which is at most the length.
+    pub fn entries_from(&self, version: u64) -> &[Entry]
+        requires { version ≤ length self.now }
+        ensures { result.now ≡ drop version self.now }
+    {
+        &self.entries.as_slice()[version as usize..]
+    }
+
+    /// The version of the entry that came from this source and number, wherever it stands. It is looked
+    /// up in an index, however long the log is.
+    pub fn stored_at(&self, src: &str, seq: u64) -> Option<u64>
+        ensures { result ≡ stored_at src.now seq self.now }
+    {
+        self.index.find(src, seq)
+    }
+
+    /// The version at a moment: how many entries have a moment that is not above it. It is found by halving,
+    /// since moments never fall.
+    pub fn version_at(&self, moment: Moment) -> u64
+        ensures { result ≡ version_at self.now moment }
+    {
+        let entries = self.entries.as_slice();
+        let mut low = 0;
+        let mut high = entries.len();
+        while low < high {
+            let middle = low + (high - low) / 2;
+            if entries[middle].moment().milliseconds() <= moment.milliseconds() {
+                low = middle + 1;
+            } else {
+                high = middle;
+            }
+        }
+        low as u64
+    }
+
+    /// Stores an entry. After want of memory the log is unchanged.
+    pub fn push(&mut self, entry: Entry) -> Result<(), AllocError>
+        requires first { stored_at entry.arrived.src entry.arrived.seq self.old ≡ None }
+        requires lives { is_some (snap (self.old ++ entry ∷ [])) ≡ true }
+        requires time { last_moment self.old ≤ entry.moment }
+        requires room { length self.old < MAX }
+        ensures ok { OnOk result (self.new ≡ self.old ++ entry ∷ []) }
+        ensures err { OnErr result (self.new ≡ self.old) }
+    {
+        reserve(
+            self.alloc,
+            &mut self.entries,
+            &mut self.index,
+            entry.arrived().src(),
+        )?;
+        append(&mut self.entries, &mut self.index, entry);
+        Ok(())
+    }
+
+    /// Makes room for the entry of a submission, so that to store it takes no memory. After want of
+    /// memory the log comes back as it was.
+    pub fn reserve_append(self, submission: Submission) -> Result<ReservedAppend, ReserveError>
+        ensures ok { IfOk result (λ p. p ≡ record { log = self; submission = submission }) }
+        ensures err { IfErr result (λ u. u.log ≡ self) }
+    {
+        let Log {
+            alloc,
+            mut entries,
+            mut index,
+        } = self;
+        match reserve(alloc, &mut entries, &mut index, submission.src()) {
+            Ok(()) => Ok(ReservedAppend {
+                alloc,
+                entries,
+                index,
+                submission,
+            }),
+            Err(error) => Err(ReserveError {
+                log: Log {
+                    alloc,
+                    entries,
+                    index,
+                },
+                error,
+            }),
+        }
+    }
+
+    /// The document after the first entries, at most all. It applies them one by one. E10 is want of
+    /// memory.
+    pub fn replay(&self, version: u64) -> Result<Option<Json>, Code>
+        requires { version ≤ length self.now }
+        ensures ok { IfOk result (λ d. snap (take version self.now) ≡ Some (option_map value_of d)) }
+        ensures err { IfErr result (λ code. code ≡ E10) }
+    {
+        self.replay_from(None, 0, version)
+    }
+
+    /// The document after the first `to` entries, made of the one after the first `from`. It applies the
+    /// entries between them one by one. E10 is want of memory.
+    pub fn replay_from(
+        &self,
+        document: Option<Json>,
+        from: u64,
+        to: u64,
+    ) -> Result<Option<Json>, Code>
+        requires order { from ≤ to }
+        requires reached { to ≤ length self.now }
+        requires document { snap (take from self.now) ≡ Some (option_map value_of document) }
+        ensures ok { IfOk result (λ d. snap (take to self.now) ≡ Some (option_map value_of d)) }
+        ensures err { IfErr result (λ code. code ≡ E10) }
+    {
+        let mut replayed = document;
+        let entries = self.entries.as_slice();
+        for at in from as usize..to as usize {
+            entries[at].content().apply_to(self.alloc, &mut replayed)?;
+        }
+        Ok(replayed)
+    }
+}
+
+impl ReservedAppend {
+    /// The submission.
+    pub fn submission(&self) -> &Submission
+        ensures { result.now ≡ self.now.submission }
+    {
+        &self.submission
+    }
+
+    /// Stores the submission with this content; without one, with the content that arrived. Its moment is
+    /// this one, or that of the entry before it where that is later.
+    pub fn commit(self, now: Moment, content: Option<Content>) -> Log
+        requires first { stored_at self.submission.src self.submission.seq self.log ≡ None }
+        requires lives { is_some (snap (self.log ++ appended_entry self now content ∷ [])) ≡ true }
+        requires room { length self.log < MAX }
+        ensures { result ≡ self.log ++ appended_entry self now content ∷ [] }
+    {
+        let ReservedAppend {
+            alloc,
+            mut entries,
+            mut index,
+            submission,
+        } = self;
+        let version = entries.as_slice().len() as u64;
+        let moment = now.max(last_moment(entries.as_slice()));
+        let entry = Entry::new(version, moment, content, submission);
+        append(&mut entries, &mut index, entry);
+        Log {
+            alloc,
+            entries,
+            index,
+        }
+    }
+
+    /// The log, where nothing is stored. The index keeps no source that nothing is stored of.
+    pub fn cancel(self) -> Log
+        ensures { result ≡ self.log }
+    {
+        let ReservedAppend {
+            alloc,
+            entries,
+            mut index,
+            submission,
+        } = self;
+        index.remove_unused(submission.src());
+        Log {
+            alloc,
+            entries,
+            index,
+        }
+    }
+}
+
+// The moment of the last entry, or the first one where there is none.
+fn last_moment(entries: &[Entry]) -> Moment
+    ensures { result ≡ last_moment entries.now }
+{
+    match entries.last() {
+        Some(entry) => entry.moment(),
+        None => Moment::zero(),
+    }
+}
+
+// Makes room for one more entry of the source.
+fn reserve(
+    alloc: Global,
+    entries: &mut Vec<Entry>,
+    index: &mut Index,
+    src: &str,
+) -> Result<(), AllocError>
+    ensures entries { entries.new.items ≡ entries.old.items }
+    ensures places { (s : List ℕ) (n : ℕ) → indexed_version index.new s n ≡ indexed_version index.old s n }
+    ensures room { OnOk result (vec_len entries.new < vec_capacity entries.new) }
+    ensures source { OnOk result (HasReserved index.new src.now) }
+    ensures used { (s : List ℕ) → s ≢ src.now → SourceHasEntries index.old s → SourceHasEntries index.new s }
+    ensures err { OnErr result ((s : List ℕ) → SourceHasEntries index.old s → SourceHasEntries index.new s) }
+{
+    entries.reserve(1)?;
+    index.reserve(alloc, src)
+}
+
+// Puts an entry behind the others. Room is made for it.
+fn append(entries: &mut Vec<Entry>, index: &mut Index, entry: Entry)
+    requires room { vec_len entries.old < vec_capacity entries.old }
+    requires source { HasReserved index.old entry.arrived.src }
+    ensures entries { entries.new.items ≡ entries.old.items ++ entry ∷ [] }
+    ensures places { (s : List ℕ) (n : ℕ) → indexed_version index.new s n
+        ≡ (if nat_eq entry.arrived.seq n && bytes_eq entry.arrived.src s
+        then Some (length entries.old.items) else indexed_version index.old s n) }
+    ensures used { (s : List ℕ) → s ≢ entry.arrived.src → SourceHasEntries index.old s → SourceHasEntries index.new s }
+{
+    let at = entries.len() as u64;
+    index.insert(entry.arrived().src(), entry.arrived().seq(), at);
+    let Ok(()) = entries.push(entry) else {
+        unreachable!();
+    };
+}

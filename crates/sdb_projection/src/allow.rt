@@ -1,0 +1,55 @@
+//! What may be asked through a projection.
+ghost use Rattle.std.specs.Prelude.{◌≡◌};
+ghost use Rattle.std.specs.List.{list_all};
+ghost use Rattle.sdb_value.specs.View.{value_of, object_value};
+ghost use Rattle.sdb_projection.specs.ProjectionModel.{has_only_fields, allowed, allowed_data, is_visible_component};
+ghost use Rattle.sdb_projection.specs.View.{fields_of};
+
+use crate::projection::Projection;
+use sdb_component::Op;
+use sdb_oplog::{Content, Kind};
+use sdb_value::{Json, Members};
+
+/// Whether the content may be asked through the projection: a create of null or of an object of its
+/// fields alone; a delete; an edit each of whose components has a path, as it is sent, that begins
+/// with a field. It takes no memory.
+pub fn allowed(projection: &Projection, content: &Content) -> bool
+    ensures { result ≡ allowed (fields_of projection.now) content.now }
+{
+    match content.kind() {
+        Kind::Create(value) => allowed_data(projection, value),
+        Kind::Delete => true,
+        Kind::Edit(op) => allowed_op(projection, op),
+    }
+}
+
+fn allowed_data(projection: &Projection, value: &Json) -> bool
+    ensures { result ≡ allowed_data (fields_of projection.now) (value_of value.now) }
+{
+    match value.members() {
+        Some(members) => has_only_fields(projection, members),
+        None => value.is_null(),
+    }
+}
+
+fn has_only_fields(projection: &Projection, members: &Members) -> bool
+    ensures { result ≡ has_only_fields (fields_of projection.now) (object_value members.now) }
+{
+    for (key, _) in members.iter() {
+        if !projection.is_field(key) {
+            return false;
+        }
+    }
+    true
+}
+
+fn allowed_op(projection: &Projection, op: &Op) -> bool
+    ensures { result ≡ list_all (is_visible_component (fields_of projection.now)) op.now }
+{
+    for component in op.components() {
+        if !projection.is_visible_component(component) {
+            return false;
+        }
+    }
+    true
+}

@@ -1,0 +1,9 @@
+use Rattle.std.proofs.Common.{◌≡◌}
+use Rattle.std.specs.List.{concat}
+use Rattle.sdb_chunks.specs.Iter.{remaining_items}
+use Rattle.sdb_rope.specs.Cursor.{remaining_bytes}
+use Rattle.sdb_rope.specs.RopeChunk.{chunk_list_texts}
+use Rattle.sdb_rope.proofs.compare.ChunkCursor.is_end.Given as goal
+
+abbrev pub invariant-loop-part : goal.invariant-loop-part
+invariant-loop-part l = concat (chunk_list_texts (remaining_items l.part-iterator)) ≡ remaining_bytes l.self

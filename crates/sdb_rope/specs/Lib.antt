@@ -1,0 +1,9 @@
+pub mod ChunkModel
+pub mod SharedStr
+pub mod EditOutcome
+pub mod GroupModel
+pub mod Rope
+pub mod Cursor
+pub mod RopeChunk
+pub mod Position
+pub mod Utf16

@@ -1,0 +1,196 @@
+//! Edits of a text whose pieces are in groups.
+ghost use Rattle.std.specs.Prelude.{◌≡◌, ◌<◌, true, false, [], Some, None, length, IfOk, IfSome, IfNone, OnOk, OnErr};
+ghost use Rattle.std.specs.List.{concat};
+ghost use Rattle.sdb_chunks.specs.Chunk.{items_of};
+ghost use Rattle.sdb_rope.specs.ChunkModel.{chunk_texts};
+ghost use Rattle.sdb_rope.specs.EditOutcome.{EditOutcome};
+ghost use Rattle.sdb_rope.specs.GroupModel.{texts_of_groups, group_texts, IsGroupAtOffset};
+ghost use Rattle.sdb_rope.specs.RopeChunk.{chunk_list_texts};
+ghost use Rattle.sdb_rope.specs.Position.{AreBounded};
+ghost use Rattle.sdb_rope.specs.Utf16 as texts;
+
+use crate::chunk_list::{insert_into_chunks, remove_from_chunks};
+use crate::position::chunk_at_offset;
+use crate::regroup::{MIN_GROUP, ungroup_chunks};
+use crate::rope_chunk::RopeChunk;
+use sdb_chunks::{Chunk, split_chunk};
+use std::alloc::{AllocError, Global};
+
+// The group with the unit at the offset, or the last one, and what is left of the offset there. `None` where there is
+// no group.
+fn group_at_offset(groups: &[Chunk<RopeChunk>], offset: u64) -> Option<(usize, u64)>
+    ensures some { IfSome result (λ r. IsGroupAtOffset (group_texts groups.now) offset r.0 r.1) }
+    ensures none { IfNone result (groups.now ≡ []) }
+{
+    let mut left = offset;
+    for (at, group) in groups.iter().enumerate() {
+        let past = match chunk_at_offset(group.items(), left) {
+            Ok(_) => return Some((at, left)),
+            Err(past) => past,
+        };
+        if at + 1 == groups.len() {
+            return Some((at, left));
+        }
+        left = past;
+    }
+    None
+}
+
+/// Puts a text at an offset of UTF-16 units. `false`, with the text unchanged, where the offset is inside
+/// a pair or past the end.
+pub(crate) fn insert_into_groups(
+    alloc: Global,
+    groups: &mut Chunk<Chunk<RopeChunk>>,
+    offset: u64,
+    new: &str,
+) -> Result<bool, AllocError>
+    ensures ok { IfOk result (λ done. EditOutcome done
+        (texts.insert_text offset new.now (concat (texts_of_groups (items_of groups.old))))
+        (concat (texts_of_groups (items_of groups.old))) (concat (texts_of_groups (items_of groups.new)))) }
+    ensures err { OnErr result (concat (texts_of_groups (items_of groups.new))
+        ≡ concat (texts_of_groups (items_of groups.old))) }
+    ensures short { AreBounded (texts_of_groups (items_of groups.old))
+        → AreBounded (texts_of_groups (items_of groups.new)) }
+{
+    groups.make_unique(alloc)?;
+    match groups {
+        Chunk::Unique(groups) => {
+            let done = insert_in_group_list(alloc, groups, offset, new)?;
+            Ok(done)
+        }
+        Chunk::Shared(_) => unreachable!(),
+    }
+}
+
+fn insert_in_group_list(
+    alloc: Global,
+    groups: &mut Vec<Chunk<RopeChunk>>,
+    offset: u64,
+    new: &str,
+) -> Result<bool, AllocError>
+    ensures ok { IfOk result (λ done. EditOutcome done
+        (texts.insert_text offset new.now (concat (texts_of_groups groups.old.items)))
+        (concat (texts_of_groups groups.old.items)) (concat (texts_of_groups groups.new.items))) }
+    ensures err { OnErr result (concat (texts_of_groups groups.new.items) ≡ concat (texts_of_groups groups.old.items)) }
+    ensures short { AreBounded (texts_of_groups groups.old.items) → AreBounded (texts_of_groups groups.new.items) }
+{
+    split_long_chunk(alloc, groups, offset)?;
+    ensure_group(alloc, groups)?;
+    match group_at_offset(groups, offset) {
+        Some((at, left)) => {
+            let done = insert_into_chunks(alloc, &mut groups[at], left, new)?;
+            Ok(done)
+        }
+        None => unreachable!(),
+    }
+}
+
+// Makes two groups of the one at the offset, where it has as many pieces as there are groups, but not of a few.
+#[tactic(auto, using(crate::proofs::GroupLemmas::same_joined))]
+fn split_long_chunk(
+    alloc: Global,
+    groups: &mut Vec<Chunk<RopeChunk>>,
+    offset: u64,
+) -> Result<(), AllocError>
+    ensures { texts_of_groups groups.new.items ≡ texts_of_groups groups.old.items }
+{
+    if let Some((at, _)) = group_at_offset(groups, offset) {
+        if groups[at].len() >= groups.len().max(MIN_GROUP) {
+            split_chunk(alloc, groups, at)?;
+        }
+    }
+    Ok(())
+}
+
+// Sees to it that there is a group.
+fn ensure_group(alloc: Global, groups: &mut Vec<Chunk<RopeChunk>>) -> Result<(), AllocError>
+    ensures same { texts_of_groups groups.new.items ≡ texts_of_groups groups.old.items }
+    ensures some { OnOk result (0 < length groups.new.items) }
+{
+    if groups.is_empty() {
+        groups.push(Chunk::Unique(Vec::new(alloc)))?;
+    }
+    Ok(())
+}
+
+/// Takes a text out that stands in one group at an offset of UTF-16 units. `false`, with the text unchanged, where
+/// it doesn't.
+pub(crate) fn remove_from_groups(
+    alloc: Global,
+    groups: &mut Chunk<Chunk<RopeChunk>>,
+    offset: u64,
+    old: &str,
+) -> Result<bool, AllocError>
+    ensures done { IfOk result (λ done. done ≡ true
+        → texts.remove_text offset old.now (concat (texts_of_groups (items_of groups.old)))
+        ≡ Some (concat (texts_of_groups (items_of groups.new)))) }
+    ensures same { IfOk result (λ done. done ≡ false
+        → concat (texts_of_groups (items_of groups.new)) ≡ concat (texts_of_groups (items_of groups.old))) }
+    ensures err { OnErr result (concat (texts_of_groups (items_of groups.new))
+        ≡ concat (texts_of_groups (items_of groups.old))) }
+    ensures short { AreBounded (texts_of_groups (items_of groups.old))
+        → AreBounded (texts_of_groups (items_of groups.new)) }
+{
+    groups.make_unique(alloc)?;
+    match groups {
+        Chunk::Unique(groups) => {
+            let done = remove_in_group_list(alloc, groups, offset, old)?;
+            Ok(done)
+        }
+        Chunk::Shared(_) => unreachable!(),
+    }
+}
+
+fn remove_in_group_list(
+    alloc: Global,
+    groups: &mut Vec<Chunk<RopeChunk>>,
+    offset: u64,
+    old: &str,
+) -> Result<bool, AllocError>
+    ensures done { IfOk result (λ done. done ≡ true
+        → texts.remove_text offset old.now (concat (texts_of_groups groups.old.items))
+        ≡ Some (concat (texts_of_groups groups.new.items))) }
+    ensures same { IfOk result (λ done. done ≡ false
+        → concat (texts_of_groups groups.new.items) ≡ concat (texts_of_groups groups.old.items)) }
+    ensures err { OnErr result (concat (texts_of_groups groups.new.items) ≡ concat (texts_of_groups groups.old.items)) }
+    ensures short { AreBounded (texts_of_groups groups.old.items) → AreBounded (texts_of_groups groups.new.items) }
+{
+    let Some((at, left)) = group_at_offset(groups, offset) else {
+        return Ok(false);
+    };
+    let done = remove_from_chunks(alloc, &mut groups[at], left, old)?;
+    remove_empty_group(groups, at);
+    Ok(done)
+}
+
+// Takes a group out that has nothing left.
+fn remove_empty_group(groups: &mut Vec<Chunk<RopeChunk>>, at: usize)
+    requires { at < length groups.old.items }
+    ensures { texts_of_groups groups.new.items ≡ texts_of_groups groups.old.items }
+{
+    if groups[at].len() == 0 {
+        drop(groups.remove(at));
+    }
+}
+
+/// The pieces that are left where a text is taken out that may stand in several groups. `None` where the offset is
+/// inside a pair or past the end, or another text stands there.
+pub(crate) fn remove_across_groups(
+    alloc: Global,
+    groups: &[Chunk<RopeChunk>],
+    offset: u64,
+    old: &str,
+) -> Result<Option<Chunk<RopeChunk>>, AllocError>
+    ensures some { IfOk result (λ o. IfSome o
+        (λ b. texts.remove_text offset old.now (concat (texts_of_groups groups.now)) ≡ Some (concat (chunk_texts b)))) }
+    ensures none { IfOk result (λ o. IfNone o
+        (texts.remove_text offset old.now (concat (texts_of_groups groups.now)) ≡ None)) }
+    ensures short { IfOk result (λ o. IfSome o
+        (λ b. AreBounded (texts_of_groups groups.now) → AreBounded (chunk_texts b))) }
+{
+    let mut parts = Chunk::Unique(ungroup_chunks(alloc, groups)?);
+    if remove_from_chunks(alloc, &mut parts, offset, old)? {
+        return Ok(Some(parts));
+    }
+    Ok(None)
+}

@@ -1,0 +1,117 @@
+//! One piece of a text.
+ghost use Rattle.std.specs.Prelude.{◌≡◌};
+ghost use Rattle.sdb_rope.specs.SharedStr.{str_bytes};
+ghost use Rattle.sdb_rope.specs.Utf16 as texts;
+
+use crate::shared_str::SharedStr;
+use crate::utf16::units;
+use sdb_chunks::TryClone;
+use std::alloc::{AllocError, Global};
+
+/// Some of a text, and how many UTF-16 units it has.
+#[derive(Drop)]
+pub struct RopeChunk {
+    units: u64,
+    text: SharedStr,
+    ghost utf16_len_is_units: { units ≡ texts.units (str_bytes text) },
+}
+
+impl RopeChunk {
+    ghost use Rattle.std.specs.Prelude.{true, false, ◌≤◌, string_bytes, length, IfOk, OnOk, OnErr};
+    ghost use Rattle.std.specs.List.{insert_slice, remove_range};
+    ghost use Rattle.std.specs.String.Boundary.{IsSplitPoint};
+    ghost use Rattle.sdb_rope.specs.RopeChunk.{chunk_bytes, is_unique_rope_chunk};
+
+    pub(crate) fn new(text: String) -> RopeChunk
+        ensures bytes { chunk_bytes result ≡ string_bytes text }
+        ensures own { is_unique_rope_chunk result ≡ true }
+    {
+        RopeChunk {
+            units: units(text.as_str()),
+            text: SharedStr::Unique(text),
+        }
+    }
+
+    pub(crate) fn as_str(&self) -> &str
+        ensures { result.now ≡ chunk_bytes self.now }
+    {
+        self.text.as_str()
+    }
+
+    pub(crate) fn units(&self) -> u64
+        ensures { result ≡ texts.units (chunk_bytes self.now) }
+    {
+        self.units
+    }
+
+    /// Makes the bytes this owner's own. Fails only where they were shared and memory is wanting.
+    pub(crate) fn make_unique(&mut self, alloc: Global) -> Result<(), AllocError>
+        ensures same { chunk_bytes self.new ≡ chunk_bytes self.old }
+        ensures own { OnOk result (is_unique_rope_chunk self.new ≡ true) }
+        ensures shared { OnErr result (is_unique_rope_chunk self.old ≡ false) }
+        ensures kept { is_unique_rope_chunk self.old ≡ true → is_unique_rope_chunk self.new ≡ true }
+    {
+        let done = self.text.make_unique(alloc);
+        done
+    }
+
+    /// Puts a text before a byte.
+    pub(crate) fn insert(&mut self, alloc: Global, at: usize, new: &str) -> Result<(), AllocError>
+        requires { IsSplitPoint (chunk_bytes self.old) at }
+        ensures ok { OnOk result (chunk_bytes self.new ≡ insert_slice (chunk_bytes self.old) at new.now) }
+        ensures err { OnErr result (chunk_bytes self.new ≡ chunk_bytes self.old) }
+        ensures own { is_unique_rope_chunk self.old ≡ true → is_unique_rope_chunk self.new ≡ true }
+    {
+        self.text.insert(alloc, at, new)?;
+        self.units += units(new);
+        Ok(())
+    }
+
+    /// Takes the bytes from one place to another out.
+    pub(crate) fn remove(&mut self, from: usize, to: usize)
+        requires own { is_unique_rope_chunk self.old ≡ true }
+        requires order { from ≤ to }
+        requires start { IsSplitPoint (chunk_bytes self.old) from }
+        requires end { IsSplitPoint (chunk_bytes self.old) to }
+        ensures bytes { chunk_bytes self.new ≡ remove_range (chunk_bytes self.old) from to }
+        ensures own { is_unique_rope_chunk self.new ≡ true }
+    {
+        let gone = units(&self.text.as_str()[from..to]);
+        self.text.remove(from, to);
+        self.units -= gone;
+    }
+
+    /// The same bytes, shared.
+    pub(crate) fn frozen_clone(&self, alloc: Global) -> Result<RopeChunk, AllocError>
+        ensures { IfOk result (λ p. chunk_bytes p ≡ chunk_bytes self.now) }
+    {
+        Ok(RopeChunk {
+            units: self.units,
+            text: self.text.frozen_clone(alloc)?,
+        })
+    }
+
+    /// Makes the bytes shared in place.
+    pub(crate) fn freeze(&mut self, alloc: Global) -> Result<(), AllocError>
+        ensures { chunk_bytes self.new ≡ chunk_bytes self.old }
+    {
+        let done = self.text.freeze(alloc);
+        done
+    }
+}
+
+impl TryClone for RopeChunk {
+    ghost use Rattle.std.specs.Prelude.{List, ℕ, Bool};
+    ghost use Rattle.sdb_rope.specs.RopeChunk.{chunk_bytes, is_unique_rope_chunk};
+
+    ghost Model = { List ℕ × Bool };
+
+    ghost model = { λ p. (chunk_bytes p, is_unique_rope_chunk p) };
+
+    fn try_clone(&self, alloc: Global) -> Result<RopeChunk, AllocError> {
+        Ok(RopeChunk {
+            units: self.units,
+            text: self.text.try_clone(alloc)?,
+        })
+    }
+}

@@ -1,0 +1,212 @@
+//! The bytes of a piece.
+ghost use Rattle.std.specs.Prelude.{length, ◌≡◌, ◌≤◌, true, false, string_bytes, IfOk, OnOk, OnErr};
+ghost use Rattle.std.specs.List.{insert_slice, remove_range};
+ghost use Rattle.std.specs.String.Boundary.{IsSplitPoint};
+ghost use Rattle.sdb_rope.specs.EditOutcome.{EditOutcome};
+ghost use Rattle.sdb_rope.specs.Utf16 as texts;
+ghost use Rattle.sdb_rope.specs.SharedStr.{str_bytes, is_unique_str, is_shared_str};
+
+use crate::utf16::cut_at;
+use sdb_chunks::TryClone;
+use std::alloc::{AllocError, Global};
+use std::mem::replace;
+use std::sync::Arc;
+
+/// Some of a text.
+#[derive(Drop)]
+pub enum SharedStr {
+    /// Of one owner.
+    Unique(String),
+    /// Of as many as have the pointer.
+    Shared(Arc<String>),
+}
+
+// The same bytes, with room for so many more.
+fn with_capacity_of(alloc: Global, text: &str, room: usize) -> Result<String, AllocError>
+    ensures { IfOk result (λ s. string_bytes s ≡ text.now) }
+{
+    let mut copy = String::with_capacity(alloc, text.len().saturating_add(room))?;
+    copy.push_str(text)?;
+    Ok(copy)
+}
+
+impl SharedStr {
+    pub(crate) fn as_str(&self) -> &str
+        ensures { result.now ≡ str_bytes self.now }
+    {
+        match self {
+            SharedStr::Unique(text) => text.as_str(),
+            SharedStr::Shared(text) => text.as_str(),
+        }
+    }
+
+    /// Makes the bytes this owner's own. Fails only where they were shared and memory is wanting.
+    pub(crate) fn make_unique(&mut self, alloc: Global) -> Result<(), AllocError>
+        ensures same { str_bytes self.new ≡ str_bytes self.old }
+        ensures own { OnOk result (is_unique_str self.new ≡ true) }
+        ensures shared { OnErr result (is_unique_str self.old ≡ false) }
+        ensures kept { is_unique_str self.old ≡ true → is_unique_str self.new ≡ true }
+    {
+        self.make_unique_with_capacity(alloc, 0)
+    }
+
+    // The same, where so many bytes are going to be put in: a copy has room for them.
+    fn make_unique_with_capacity(&mut self, alloc: Global, room: usize) -> Result<(), AllocError>
+        ensures same { str_bytes self.new ≡ str_bytes self.old }
+        ensures own { OnOk result (is_unique_str self.new ≡ true) }
+        ensures shared { OnErr result (is_unique_str self.old ≡ false) }
+        ensures kept { is_unique_str self.old ≡ true → is_unique_str self.new ≡ true }
+    {
+        match replace(self, SharedStr::Unique(String::new(alloc))) {
+            SharedStr::Unique(text) => {
+                *self = SharedStr::Unique(text);
+                Ok(())
+            }
+            SharedStr::Shared(shared) => match Arc::try_unwrap(shared) {
+                Ok(text) => {
+                    *self = SharedStr::Unique(text);
+                    Ok(())
+                }
+                Err(shared) => {
+                    let copied = with_capacity_of(alloc, shared.as_str(), room);
+                    *self = SharedStr::Shared(shared);
+                    *self = SharedStr::Unique(copied?);
+                    Ok(())
+                }
+            },
+        }
+    }
+
+    /// Puts a text before a byte.
+    pub(crate) fn insert(&mut self, alloc: Global, at: usize, new: &str) -> Result<(), AllocError>
+        requires { IsSplitPoint (str_bytes self.old) at }
+        ensures ok { OnOk result (str_bytes self.new ≡ insert_slice (str_bytes self.old) at new.now) }
+        ensures err { OnErr result (str_bytes self.new ≡ str_bytes self.old) }
+        ensures own { is_unique_str self.old ≡ true → is_unique_str self.new ≡ true }
+    {
+        self.make_unique_with_capacity(alloc, new.len())?;
+        match self {
+            SharedStr::Unique(text) => text.insert_str(at, new)?,
+            SharedStr::Shared(_) => unreachable!(),
+        }
+        Ok(())
+    }
+
+    /// Takes the bytes from one place to another out.
+    pub(crate) fn remove(&mut self, from: usize, to: usize)
+        requires own { is_unique_str self.old ≡ true }
+        requires order { from ≤ to }
+        requires start { IsSplitPoint (str_bytes self.old) from }
+        requires end { IsSplitPoint (str_bytes self.old) to }
+        ensures bytes { str_bytes self.new ≡ remove_range (str_bytes self.old) from to }
+        ensures own { is_unique_str self.new ≡ true }
+    {
+        match self {
+            SharedStr::Unique(text) => {
+                let _done = text.replace_range(from..to, "");
+            }
+            SharedStr::Shared(_) => unreachable!(),
+        }
+    }
+
+    /// Takes a text out at an offset of UTF-16 units. `false`, with the bytes unchanged, where the offset is
+    /// inside a pair or past the end, or another text stands there.
+    pub(crate) fn remove_text(
+        &mut self,
+        alloc: Global,
+        offset: u64,
+        old: &str,
+    ) -> Result<bool, AllocError>
+        ensures ok { IfOk result (λ done. EditOutcome done (texts.remove_text offset old.now (str_bytes self.old))
+            (str_bytes self.old) (str_bytes self.new)) }
+        ensures err { OnErr result (str_bytes self.new ≡ str_bytes self.old) }
+        ensures own { is_unique_str self.old ≡ true → is_unique_str self.new ≡ true }
+        ensures shared { OnErr result (is_unique_str self.old ≡ false) }
+        ensures short { length (str_bytes self.new) ≤ length (str_bytes self.old) }
+    {
+        let Some(at) = cut_at(self.as_str(), offset) else {
+            return Ok(false);
+        };
+        if !self.as_str().as_bytes()[at..].starts_with(old.as_bytes()) {
+            return Ok(false);
+        }
+        self.make_unique(alloc)?;
+        self.remove(at, at + old.len());
+        Ok(true)
+    }
+
+    /// The same bytes, shared: at the cost of a pointer where they are already.
+    pub(crate) fn frozen_clone(&self, alloc: Global) -> Result<SharedStr, AllocError>
+        ensures same { IfOk result (λ c. str_bytes c ≡ str_bytes self.now) }
+        ensures shared { IfOk result (λ c. is_shared_str c ≡ true) }
+    {
+        match self {
+            SharedStr::Unique(text) => {
+                let copy = String::from_str(alloc, text.as_str())?;
+                Ok(SharedStr::Shared(Arc::new(alloc, copy)?))
+            }
+            SharedStr::Shared(text) => Ok(SharedStr::Shared(Arc::try_clone(text)?)),
+        }
+    }
+
+    /// Makes the bytes shared in place: they are moved, and memory is taken for the pointer alone, where they had
+    /// one owner.
+    pub(crate) fn freeze(&mut self, alloc: Global) -> Result<(), AllocError>
+        ensures same { str_bytes self.new ≡ str_bytes self.old }
+        ensures shared { OnOk result (is_shared_str self.new ≡ true) }
+    {
+        match replace(self, SharedStr::Unique(String::new(alloc))) {
+            SharedStr::Unique(text) => match Arc::new(alloc, text) {
+                Ok(shared) => {
+                    *self = SharedStr::Shared(shared);
+                    Ok(())
+                }
+                Err(refused) => {
+                    *self = SharedStr::Unique(refused.value);
+                    Err(AllocError)
+                }
+            },
+            SharedStr::Shared(shared) => {
+                *self = SharedStr::Shared(shared);
+                Ok(())
+            }
+        }
+    }
+
+    /// Whether a copy of the bytes is a pointer.
+    pub(crate) fn is_shared(&self) -> bool
+        ensures { result ≡ is_shared_str self.now }
+    {
+        match self {
+            SharedStr::Unique(_) => false,
+            SharedStr::Shared(_) => true,
+        }
+    }
+
+    /// The allocator of the bytes.
+    pub(crate) fn allocator(&self) -> Global {
+        match self {
+            SharedStr::Unique(text) => *text.allocator(),
+            SharedStr::Shared(text) => *text.allocator(),
+        }
+    }
+}
+
+impl TryClone for SharedStr {
+    ghost use Rattle.std.specs.Prelude.{List, ℕ, Bool};
+    ghost use Rattle.sdb_rope.specs.SharedStr.{str_bytes, is_unique_str};
+
+    ghost Model = { List ℕ × Bool };
+
+    ghost model = { λ c. (str_bytes c, is_unique_str c) };
+
+    fn try_clone(&self, alloc: Global) -> Result<SharedStr, AllocError> {
+        match self {
+            SharedStr::Unique(text) => Ok(SharedStr::Unique(String::from_str(
+                alloc,
+                text.as_str(),
+            )?)),
+            SharedStr::Shared(text) => Ok(SharedStr::Shared(Arc::try_clone(text)?)),
+        }
+    }
+}

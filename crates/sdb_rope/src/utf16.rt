@@ -1,0 +1,96 @@
+//! Texts measured in UTF-16 units.
+ghost use Rattle.std.specs.Prelude.{◌≡◌, ◌+◌, ◌*◌, ◌≤◌, ℕ, List, length, drop, IfSome, option_map};
+ghost use Rattle.std.specs.Char.Escape.{encode_utf16};
+ghost use Rattle.std.specs.List.{flat_map};
+ghost use Rattle.std.specs.Str.{encode_utf8_all};
+ghost use Rattle.std.specs.String.Boundary.{IsSplitPoint};
+ghost use Rattle.sdb_rope.specs.Utf16.{utf16_width, units, cut_at};
+
+// How many bytes are measured at once: few enough that their units fit a `u16`, so that the loop
+// over them runs on many bytes at a time.
+const SCAN_LEN: usize = 4096;
+
+/// How many UTF-16 units the text has: 1 for a character, 2 for one past U+FFFF. They are as many as
+/// its characters are encoded in.
+pub fn units(text: &str) -> u64
+    ensures value { result ≡ units text.now }
+    ensures encoded { (cs : List ℕ) → encode_utf8_all cs ≡ text.now → result ≡ length (flat_map encode_utf16 cs) }
+{
+    let bytes = text.as_bytes();
+    let mut start = 0;
+    let mut count = 0;
+    while bytes.len() - start >= SCAN_LEN {
+        let chunk = units_in(&bytes[start..start + SCAN_LEN]);
+        count += chunk;
+        start += SCAN_LEN;
+    }
+    count + units_in(&bytes[start..])
+}
+
+/// The byte, from 0 to the text's length in bytes, where the character at an offset of UTF-16 units
+/// begins; the text may be split there. `None` where the offset is inside a pair or past the end.
+pub fn cut_at(text: &str, offset: u64) -> Option<usize>
+    ensures place { result ≡ cut_at text.now offset }
+    ensures boundary { IfSome result (λ at. IsSplitPoint text.now at) }
+{
+    let bytes = text.as_bytes();
+    let (start, left) = skip(bytes, offset);
+    Some(start + walk_chars(&bytes[start..], left)?)
+}
+
+// The units of the characters that the bytes of a chunk begin.
+fn units_in(chunk: &[u8]) -> u64
+    requires { length chunk.now ≤ 4096 }
+    ensures value { result ≡ units chunk.now }
+    ensures few { result ≤ 2 * length chunk.now }
+{
+    let mut count = 0;
+    for byte in chunk {
+        count += utf16_width(*byte);
+    }
+    u64::from(count)
+}
+
+// Goes past whole chunks while their units are at most what is left of the offset: how many bytes,
+// and what is left then.
+fn skip(bytes: &[u8], offset: u64) -> (usize, u64)
+    ensures within { result.0 ≤ length bytes.now }
+    ensures same { cut_at bytes.now offset
+        ≡ option_map (λ i. result.0 + i) (cut_at (drop result.0 bytes.now) result.1) }
+{
+    let mut start = 0;
+    let mut left = offset;
+    while bytes.len() - start >= SCAN_LEN {
+        let chunk = units_in(&bytes[start..start + SCAN_LEN]);
+        if chunk > left {
+            break;
+        }
+        left -= chunk;
+        start += SCAN_LEN;
+    }
+    (start, left)
+}
+
+// The place of the cut, byte by byte.
+fn walk_chars(bytes: &[u8], offset: u64) -> Option<usize>
+    ensures place { result ≡ cut_at bytes.now offset }
+    ensures within { IfSome result (λ at. at ≤ length bytes.now) }
+{
+    let mut left = offset;
+    for (at, byte) in bytes.iter().enumerate() {
+        let width = u64::from(utf16_width(*byte));
+        if width > left {
+            return if left == 0 { Some(at) } else { None };
+        }
+        left -= width;
+    }
+    if left == 0 { Some(bytes.len()) } else { None }
+}
+
+// The units of the character that the byte begins, 0 where it begins none.
+fn utf16_width(byte: u8) -> u16
+    ensures value { result ≡ utf16_width byte }
+    ensures few { result ≤ 2 }
+{
+    u16::from((byte < 128) | (byte >= 192)) + u16::from(byte >= 240)
+}

@@ -1,0 +1,11 @@
+use Rattle.std.proofs.Common.{arith}
+use Rattle.sdb_server.proofs.accept_loop.listen_until_stopped.Goals as goal
+
+pub loop-init : goal.loop-init
+loop-init g c =
+    let none = c.in_ok-reception.ensures.entered in
+    let sessions = c.in_ok-reception.ensures.sessions c.args.state.now.value.backend in
+    (tt, tt, omega (arith, none), c.requires, sessions)
+
+pub returns-then-is_empty-clause-passes : goal.returns-then-is_empty-clause-passes
+returns-then-is_empty-clause-passes g c = c.into_passes.ensures c.args.state.now.value.backend c.loop.invariant.4

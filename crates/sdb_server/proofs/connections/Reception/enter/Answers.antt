@@ -1,8 +1,0 @@
-use Rattle.std.proofs.Common.{arith}
-use Rattle.sdb_server.proofs.connections.Reception.enter.Goals as goal
-
-pub overflow_add-self : goal.overflow_add-self
-overflow_add-self g c =
-    let few = c.requires.few in
-    let below = c.in-Ok.ensures.few in
-    omega (arith, few, below)

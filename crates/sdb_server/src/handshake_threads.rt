@@ -1,0 +1,92 @@
+//! The threads of connections that aren't served: of those in their handshake, and those sent away.
+use crate::server_state::{HANDSHAKE_LIMIT, HandshakeTask, ServerState, Slot};
+use std::alloc::{AllocError, Global};
+use std::net::TcpStream;
+use std::sync::{Arc, Wait};
+use std::thread;
+use std::thread::{JoinHandle, Threads};
+
+/// These threads, each in a slot of its own.
+#[derive(Drop)]
+pub(crate) struct HandshakeThreads {
+    handles: Vec<Option<JoinHandle<Option<TcpStream>>>>,
+    free: Vec<usize>,
+}
+
+impl HandshakeThreads {
+    /// No threads. It fails only for want of memory.
+    pub(crate) fn new(alloc: Global) -> Result<HandshakeThreads, AllocError> {
+        let mut handles = Vec::with_capacity(alloc, HANDSHAKE_LIMIT)?;
+        let mut free = Vec::with_capacity(alloc, HANDSHAKE_LIMIT)?;
+        for slot in 0..HANDSHAKE_LIMIT {
+            handles.push(None)?;
+            free.push(slot)?;
+        }
+        Ok(HandshakeThreads { handles, free })
+    }
+
+    /// Whether there is no thread.
+    pub(crate) fn is_empty(&self) -> bool {
+        self.free.len() == HANDSHAKE_LIMIT
+    }
+
+    /// Whether one thread more may be started.
+    pub(crate) fn has_room(&self) -> bool {
+        !self.free.is_empty()
+    }
+
+    /// Starts a thread for the connection. False where none can be started, and the connection is closed.
+    pub(crate) fn start<R: Threads + Wait + Drop + Copy + Send + Sync + 'static>(
+        &mut self,
+        rt: R,
+        alloc: Global,
+        state: &Arc<ServerState<R>, Global>,
+        stream: TcpStream,
+        visit: HandshakeTask,
+    ) -> bool {
+        let Some(slot) = self.free.pop() else {
+            return false;
+        };
+        match spawn(rt, alloc, state, slot, stream, visit) {
+            Some(handle) => {
+                if let Some(place) = self.handles.get_mut(slot) {
+                    *place = Some(handle);
+                }
+                true
+            }
+            None => {
+                self.return_slot(slot);
+                false
+            }
+        }
+    }
+
+    /// Joins the thread of the slot, which is about to end. The stream, if its handshake is done.
+    pub(crate) fn join(&mut self, rt: &impl Threads, slot: usize) -> Option<TcpStream> {
+        self.return_slot(slot);
+        let handle = self.handles.get_mut(slot)?.take()?;
+        handle.join(rt)
+    }
+
+    fn return_slot(&mut self, slot: usize) {
+        // There is room, since each slot is in the list at most once.
+        let _ = self.free.push(slot);
+    }
+}
+
+fn spawn<R: Threads + Wait + Drop + Copy + Send + Sync + 'static>(
+    rt: R,
+    alloc: Global,
+    state: &Arc<ServerState<R>, Global>,
+    slot: usize,
+    stream: TcpStream,
+    visit: HandshakeTask,
+) -> Option<JoinHandle<Option<TcpStream>>> {
+    let theirs = Arc::try_clone(state).ok()?;
+    let run = move || -> Option<TcpStream> {
+        let greeted = theirs.receive(alloc, stream, visit);
+        theirs.record_end(&rt, Slot::Handshake(slot));
+        greeted
+    };
+    thread::spawn(&rt, run).ok()
+}

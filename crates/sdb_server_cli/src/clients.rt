@@ -1,0 +1,243 @@
+//! Clients at an address, for as long as it is asked for.
+ghost use Rattle.std.specs.Prelude.{IfOk};
+ghost use Rattle.sdb_backend.specs.AuditModel.{audit_logs};
+ghost use Rattle.sdb_backend.specs.PassModel.{IsHostOfBackend};
+ghost use Rattle.sdb_backend.specs.declared.pass.Host.{Host as Hosting};
+ghost use Rattle.sdb_server.specs.PassModel.{IsHostOfServer};
+
+use sdb_backend::{Audit, Backend, CloseError, CloseRefused};
+use sdb_cli::{STATUS_FAULT, STATUS_OK, exit_status};
+use sdb_dump::{DumpSource, write_dump};
+use sdb_lines::CountingWriter;
+use sdb_oplog::{Key, Log};
+use sdb_projection::Table;
+use sdb_server::{ServerState, listen, listen_until_stopped};
+use std::alloc::{AllocError, Global};
+use std::io::{ErrorKind, Read, StdinLock};
+use std::net::{Net, SocketAddr, TcpListener, TcpStream};
+use std::sync::{Arc, Wait};
+use std::thread::Threads;
+use std::time::Clock;
+use std::{io, thread};
+
+// How many bytes of an input are thrown away at a time.
+const INPUT_CHUNK: usize = 4_096;
+
+/// How long clients are served.
+#[derive(Clone, Copy, PartialEq, Eq, Drop)]
+pub enum StopCondition {
+    /// Without end.
+    Never,
+    /// Until so many were served, from 1 to 1,000,000, and have gone.
+    Served(u64),
+    /// Until the end of standard input.
+    Eof {
+        /// Whether the dump of what is stored is written then.
+        is_dumping: bool,
+    },
+}
+
+// Serves clients at the address.
+pub(crate) fn serve_clients<R>(
+    rt: R,
+    address: SocketAddr,
+    until: StopCondition,
+    is_logging: bool,
+    table: Table,
+) -> anyhow::Result<u8>
+where
+    R: AllocGlobal + Input<Reader = StdinLock<'static>> + Print + Eprint,
+    R: Net<Listener = TcpListener, Stream = TcpStream> + Threads + Wait + Clock,
+    R: Copy + Drop + Send + Sync + 'static,
+{
+    let listener = match TcpListener::bind(&rt, address) {
+        Ok(listener) => listener,
+        Err(error) => {
+            eprintln!(rt; "error: can't listen on {address}: {error}")?;
+            return Ok(STATUS_FAULT);
+        }
+    };
+    serve_at(rt, &listener, until, is_logging, table)
+}
+
+/// Serves the clients that come to the listener, for so long.
+pub fn serve_at<R>(
+    rt: R,
+    listener: &TcpListener,
+    until: StopCondition,
+    is_logging: bool,
+    table: Table,
+) -> anyhow::Result<u8>
+where
+    R: AllocGlobal + Input<Reader = StdinLock<'static>> + Print + Eprint,
+    R: Net<Listener = TcpListener, Stream = TcpStream> + Threads + Wait + Clock,
+    R: Copy + Drop + Send + Sync + 'static,
+{
+    match until {
+        StopCondition::Never => serve_count(rt, listener, None, is_logging, table),
+        StopCondition::Served(count) => serve_count(rt, listener, Some(count), is_logging, table),
+        StopCondition::Eof { is_dumping } => {
+            serve_until_end(rt, listener, rt.reader(), is_logging, is_dumping, table)
+        }
+    }
+}
+
+// Serves so many clients, or without end.
+fn serve_count<R>(
+    rt: R,
+    listener: &TcpListener,
+    connections: Option<u64>,
+    is_logging: bool,
+    table: Table,
+) -> anyhow::Result<u8>
+where
+    R: AllocGlobal + Print + Eprint,
+    R: Net<Listener = TcpListener, Stream = TcpStream> + Threads + Wait + Clock,
+    R: Copy + Drop + Send + Sync + 'static,
+{
+    let alloc = rt.alloc();
+    let (backend, mut host) = Backend::new(alloc, rt)?;
+    let state = server(alloc, backend, table, is_logging)?;
+    println!(rt; "listening {}", listener.local_addr()?)?;
+    listen(rt, alloc, listener, &state, &mut host, connections)?;
+    Ok(STATUS_OK)
+}
+
+/// Serves the clients that come to the listener until the input ends, and tells on standard error how much was
+/// stored. Where a dump of it is asked for, that is all that is written to standard output.
+pub fn serve_until_end<R, I>(
+    rt: R,
+    listener: &TcpListener,
+    input: I,
+    is_logging: bool,
+    is_dumping: bool,
+    table: Table,
+) -> anyhow::Result<u8>
+where
+    R: AllocGlobal + Print + Eprint,
+    R: Net<Listener = TcpListener, Stream = TcpStream> + Threads + Wait + Clock,
+    R: Copy + Drop + Send + Sync + 'static,
+    I: Read + Drop + Send + 'static,
+{
+    let alloc = rt.alloc();
+    let (backend, mut host) = Backend::new(alloc, rt)?;
+    let state = server(alloc, backend, table, is_logging)?;
+    let theirs = Arc::try_clone(&state)?;
+    let waiting = thread::spawn(&rt, move || {
+        read_to_end(input);
+        theirs.stop();
+    })?;
+    print_address(&rt, listener, is_dumping)?;
+    let passes = listen_until_stopped(rt, alloc, listener, &state, &mut host)?;
+    waiting.join(&rt);
+    match Arc::try_unwrap(state) {
+        Ok(state) => print_close(&rt, state.into_backend().close(host, passes), is_dumping),
+        Err(_) => print_close_fault(&rt, "somebody is still served"),
+    }
+}
+
+// Tells where clients are waited for: on standard error where a dump is all of standard output.
+fn print_address<R: Print + Eprint>(
+    rt: &R,
+    listener: &TcpListener,
+    is_dumping: bool,
+) -> anyhow::Result<()> {
+    let address = listener.local_addr()?;
+    if is_dumping {
+        eprintln!(rt; "listening {address}")?;
+    } else {
+        println!(rt; "listening {address}")?;
+    }
+    Ok(())
+}
+
+// The server, with a log where one is asked for.
+fn server<R: Wait + Drop>(
+    alloc: Global,
+    backend: Backend<R>,
+    table: Table,
+    is_logging: bool,
+) -> Result<Arc<ServerState<R>, Global>, AllocError>
+    ensures { IfOk result (λ s. (h : Hosting) → IsHostOfBackend h backend → IsHostOfServer h s.value) }
+{
+    let state = ServerState::new(alloc, backend, table)?.with_log(is_logging);
+    Ok(Arc::new(alloc, state)?)
+}
+
+// Reads to the end of the input, or to a failure.
+fn read_to_end<I: Read + Drop>(mut input: I) {
+    let mut bytes = [0; INPUT_CHUNK];
+    for _ in 0..u64::MAX {
+        match input.read(&mut bytes) {
+            Ok(0) => return,
+            Ok(_) => {}
+            Err(error) if error.kind() == ErrorKind::Interrupted => {}
+            Err(_) => return,
+        }
+    }
+}
+
+// Tells how a backend was closed, and gives the status.
+fn print_close<R: AllocGlobal + Print + Eprint, W: Wait + Drop>(
+    rt: &R,
+    closed: Result<Audit, CloseRefused<W>>,
+    is_dumping: bool,
+) -> anyhow::Result<u8> {
+    match closed {
+        Ok(audit) => print_stored(rt, &audit, is_dumping),
+        Err(refused) => match refused.error {
+            CloseError::MissingPass => print_close_fault(rt, "a pass is missing"),
+            CloseError::OutOfMemory => print_close_fault(rt, "out of memory"),
+        },
+    }
+}
+
+// Tells how much is stored, writes its dump where that is asked for, and gives the status.
+fn print_stored<R>(rt: &R, audit: &Audit, is_dumping: bool) -> anyhow::Result<u8>
+where
+    R: AllocGlobal + Print + Eprint,
+{
+    let (documents, operations) = count_stored(audit)?;
+    eprintln!(rt; "ended: {documents} documents, {operations} operations")?;
+    if !is_dumping {
+        return Ok(STATUS_OK);
+    }
+    let mut writer = CountingWriter::new(io::writer(rt));
+    match write_dump(rt.alloc(), &AuditDocuments { audit }, &mut writer) {
+        Ok(_) => Ok(STATUS_OK),
+        Err(fault) => Ok(exit_status(rt, fault)),
+    }
+}
+
+// The documents of an audit.
+#[derive(Drop)]
+struct AuditDocuments<'a> {
+    audit: &'a Audit,
+}
+
+impl<'a> DumpSource for AuditDocuments<'a> {
+    ghost logs = { λ d. audit_logs d.audit.now };
+
+    fn keys(&self) -> Result<Vec<Key>, AllocError> {
+        self.audit.documents()
+    }
+
+    fn log(&self, key: &Key) -> Option<&Log> {
+        self.audit.log(key)
+    }
+}
+
+fn print_close_fault(rt: &impl Eprint, why: &str) -> anyhow::Result<u8> {
+    eprintln!(rt; "error: what is stored can't be told: {why}")?;
+    Ok(STATUS_FAULT)
+}
+
+// How many documents there are, and how many operations are stored of them.
+fn count_stored(audit: &Audit) -> Result<(usize, u64), AllocError> {
+    let keys = audit.documents()?;
+    let mut operations: u64 = 0;
+    for key in keys.iter() {
+        operations = operations.saturating_add(audit.log(key).map_or(0, Log::len));
+    }
+    Ok((keys.len(), operations))
+}

@@ -1,0 +1,251 @@
+//! The command line, and what it asks for.
+use crate::clients::{StopCondition, serve_clients};
+use crate::projection_option::{ProjectionOptionError, table_of};
+use clap::builder::ValueParser;
+use clap::{Arg, ArgAction, ArgGroup, ArgMatches, Command, Error};
+use sdb_cli::{STATUS_OK, exit_status, print_help_or_error, print_refusal};
+use sdb_lines::{CountingReader, CountingWriter};
+use sdb_projection::{Table, TableFault};
+use sdb_server::{SystemClock, run_lines_at_exit};
+use std::alloc::{AllocError, Global};
+use std::io;
+use std::io::{Read, StdinLock};
+use std::net::{Net, SocketAddr, TcpListener, TcpStream};
+use std::sync::Wait;
+use std::thread::Threads;
+use std::time::Clock;
+
+// The version that `--version` tells.
+const VERSION: &str = "1.0.0";
+
+// The most connections that can be asked for.
+const CONNECTION_LIMIT: u64 = 1_000_000;
+
+fn command<'a>(alloc: Global) -> Result<Command<'a>, AllocError> {
+    let connections = connections_option(alloc)?;
+    let until_eof = until_eof_option(alloc)?;
+    let dump = dump_option(alloc)?;
+    let log = log_option(alloc)?;
+    let job = job_group(alloc)?;
+    Command::new(alloc, "sdb_server")
+        .about("A ShareDB server for JSON documents")
+        .version(VERSION)
+        .arg(lines_option(alloc))?
+        .arg(listen_option(alloc))?
+        .arg(connections)?
+        .arg(until_eof)?
+        .arg(dump)?
+        .arg(log)?
+        .arg(projection_option(alloc))?
+        .group(job)
+}
+
+fn lines_option<'a>(alloc: Global) -> Arg<'a> {
+    Arg::new(alloc, "lines")
+        .long("lines")
+        .help("Answers the lines of one session on standard input and output")
+        .action(ArgAction::SetTrue)
+}
+
+fn listen_option<'a>(alloc: Global) -> Arg<'a> {
+    Arg::new(alloc, "listen")
+        .long("listen")
+        .value_name("ADDR")
+        .help("Serves WebSocket clients at this address, as 127.0.0.1:8080")
+        .action(ArgAction::Set)
+}
+
+fn connections_option<'a>(alloc: Global) -> Result<Arg<'a>, AllocError> {
+    let connections = Arg::new(alloc, "connections")
+        .long("connections")
+        .value_name("N")
+        .help("With --listen, ends when N clients were served")
+        .value_parser(ValueParser::unsigned(1, CONNECTION_LIMIT))
+        .action(ArgAction::Set);
+    connections.requires_arg("listen")?.conflicts_with("lines")
+}
+
+fn until_eof_option<'a>(alloc: Global) -> Result<Arg<'a>, AllocError> {
+    let until_eof = Arg::new(alloc, "until-eof")
+        .long("until-eof")
+        .help("With --listen, ends at the end of standard input, and tells what was stored")
+        .action(ArgAction::SetTrue);
+    until_eof
+        .requires_arg("listen")?
+        .conflicts_with("lines")?
+        .conflicts_with("connections")
+}
+
+fn dump_option<'a>(alloc: Global) -> Result<Arg<'a>, AllocError> {
+    let dump = Arg::new(alloc, "dump")
+        .long("dump")
+        .help("With --until-eof, writes at the end the dump of what is stored")
+        .action(ArgAction::SetTrue);
+    dump.requires_arg("until-eof")
+}
+
+fn log_option<'a>(alloc: Global) -> Result<Arg<'a>, AllocError> {
+    let log = Arg::new(alloc, "log")
+        .long("log")
+        .help("With --listen, tells on standard error when a client comes and goes")
+        .action(ArgAction::SetTrue);
+    log.requires_arg("listen")?.conflicts_with("lines")
+}
+
+fn projection_option<'a>(alloc: Global) -> Arg<'a> {
+    Arg::new(alloc, "projection")
+        .long("projection")
+        .value_name("NAME=COLLECTION:FIELD,..")
+        .help("Shows these fields of a collection under another name")
+        .action(ArgAction::Append)
+}
+
+// One of the two jobs has to be asked for.
+fn job_group<'a>(alloc: Global) -> Result<ArgGroup<'a>, AllocError> {
+    let job = ArgGroup::new(alloc, "job").required(true);
+    job.arg("lines")?.arg("listen")
+}
+
+/// What a command line asks for.
+#[derive(Clone, Copy, PartialEq, Eq, Drop)]
+pub enum RunMode {
+    /// The lines of one session.
+    Lines,
+    /// Clients at an address.
+    Listen {
+        /// Where to listen.
+        address: SocketAddr,
+        /// How long.
+        until: StopCondition,
+        /// Whether the begin and the end of each session are told.
+        is_logging: bool,
+    },
+}
+
+/// What the options of a command line are.
+#[derive(Drop)]
+pub struct Options {
+    /// The job, or `None` where `--listen` has no address.
+    pub job: Option<RunMode>,
+    /// The projections, or why one of them is refused.
+    pub table: Result<Table, ProjectionOptionError>,
+}
+
+/// A run that is asked for, or the status where none is.
+#[derive(Drop)]
+pub enum ParsedArgs {
+    /// This job, with these projections.
+    Run(RunMode, Table),
+    /// Nothing more, and the program is to end with this status.
+    Help(u8),
+}
+
+/// The options of a command line, whose first word is the program's name. An error is what `clap` refuses,
+/// a call for help or for the version, or want of memory.
+pub fn parse_options(alloc: Global, words: &[String]) -> Result<Options, Error> {
+    let matches = command(alloc)?.try_get_matches_from(words)?;
+    Ok(Options {
+        job: parse_job(&matches),
+        table: table_of(alloc, matches.get_strs("projection").unwrap_or(&[])),
+    })
+}
+
+fn parse_job(matches: &ArgMatches<'_>) -> Option<RunMode> {
+    let Some(address) = matches.get_str("listen") else {
+        return Some(RunMode::Lines);
+    };
+    Some(RunMode::Listen {
+        address: address.parse().ok()?,
+        until: parse_stop_condition(matches),
+        is_logging: matches.get_flag("log"),
+    })
+}
+
+fn parse_stop_condition(matches: &ArgMatches<'_>) -> StopCondition {
+    if matches.get_flag("until-eof") {
+        return StopCondition::Eof {
+            is_dumping: matches.get_flag("dump"),
+        };
+    }
+    match matches.get_one::<u64>("connections") {
+        Some(count) => StopCondition::Served(count),
+        None => StopCondition::Never,
+    }
+}
+
+/// Does what the words of a command line ask for, and gives the status: 0 for a good end, for help and for the
+/// version, 1 for a fault, 2 for words that are refused. It fails where memory is wanting before the run, or a
+/// line can't be printed.
+pub fn run<R>(rt: R, words: &[String]) -> anyhow::Result<u8>
+where
+    R: AllocGlobal + Input<Reader = StdinLock<'static>> + Print + Eprint,
+    R: Net<Listener = TcpListener, Stream = TcpStream> + Threads + Wait + Clock,
+    R: Copy + Drop + Send + Sync + 'static,
+{
+    match parse_run(&rt, words)? {
+        ParsedArgs::Run(job, table) => run_job(rt, job, table),
+        ParsedArgs::Help(status) => Ok(status),
+    }
+}
+
+/// What the words ask for. Words that are refused, or ask for no run, are answered.
+pub fn parse_run<R>(rt: &R, words: &[String]) -> anyhow::Result<ParsedArgs>
+where
+    R: AllocGlobal + Print + Eprint,
+{
+    let asked = match parse_options(rt.alloc(), words) {
+        Ok(asked) => asked,
+        Err(error) => return Ok(ParsedArgs::Help(print_help_or_error(rt, &error)?)),
+    };
+    let Some(job) = asked.job else {
+        let why = "error: --listen takes an address, as 127.0.0.1:8080";
+        return Ok(ParsedArgs::Help(print_refusal(rt, why)?));
+    };
+    match asked.table {
+        Ok(table) => Ok(ParsedArgs::Run(job, table)),
+        Err(refusal) => Ok(ParsedArgs::Help(refuse_projections(rt, refusal)?)),
+    }
+}
+
+fn run_job<R>(rt: R, job: RunMode, table: Table) -> anyhow::Result<u8>
+where
+    R: AllocGlobal + Input<Reader = StdinLock<'static>> + Print + Eprint,
+    R: Net<Listener = TcpListener, Stream = TcpStream> + Threads + Wait + Clock,
+    R: Copy + Drop + Send + Sync + 'static,
+{
+    match job {
+        RunMode::Lines => Ok(answer_input(&rt, SystemClock::new(&rt), rt.reader(), &table)),
+        RunMode::Listen {
+            address,
+            until,
+            is_logging,
+        } => serve_clients(rt, address, until, is_logging, table),
+    }
+}
+
+// Says why the projections are refused. Want of memory is no refusal.
+fn refuse_projections<R>(rt: &R, refusal: ProjectionOptionError) -> anyhow::Result<u8>
+where
+    R: AllocGlobal + Eprint,
+{
+    if refusal == ProjectionOptionError::Table(TableFault::OutOfMemory) {
+        return Err(AllocError.into());
+    }
+    let text = format!(in rt.alloc(); "{refusal}")?;
+    Ok(print_refusal(rt, text.as_str())?)
+}
+
+/// Answers the input, lines of one session, on standard output, by this clock, and gives the status.
+pub fn answer_input<R, C, I>(rt: &R, clock: C, input: I, table: &Table) -> u8
+where
+    R: AllocGlobal + Print,
+    C: sdb_server::Clock + Drop,
+    I: Read + Drop,
+{
+    let mut reader = CountingReader::new(input);
+    let mut writer = CountingWriter::new(io::writer(rt));
+    match run_lines_at_exit(rt.alloc(), table, clock, &mut reader, &mut writer) {
+        Ok(_) => STATUS_OK,
+        Err(fault) => exit_status(rt, fault),
+    }
+}

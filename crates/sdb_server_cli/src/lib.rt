@@ -1,0 +1,11 @@
+//! The server's command line: what it asks for, how it is refused, and the run of it. The program is a few
+//! lines over this.
+#![tactic(auto)]
+
+mod clients;
+mod command_line;
+mod projection_option;
+
+pub use clients::{StopCondition, serve_at, serve_until_end};
+pub use command_line::{Options, ParsedArgs, RunMode, answer_input, parse_options, parse_run, run};
+pub use projection_option::{ProjectionOptionError, table_of};

@@ -1,4 +1,0 @@
-use Rattle.sdb_server_command.proofs.clients.serve_so_many.Goals as goal
-
-pub listen-requires-after_bounds : goal.listen-requires-after_bounds
-listen-requires-after_bounds g c κs within = c.in_ok-state.ensures c.in_ok-backend.host c.in_ok-backend.ensures.host

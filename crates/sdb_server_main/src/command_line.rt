@@ -1,0 +1,325 @@
+//! Command lines, what they are answered, and the statuses of runs.
+use sdb_cli::terminal::{TerminalBuffer, argument_list};
+use sdb_cli::{STATUS_FAULT, STATUS_OK, STATUS_USAGE};
+use sdb_projection::{Projection, Table, TableFault};
+use sdb_server::ListClock;
+use sdb_server_cli::{
+    Options, ParsedArgs, ProjectionOptionError, RunMode, StopCondition, answer_input,
+    parse_options, parse_run, run, serve_at, serve_until_end, table_of,
+};
+use std::alloc::Global;
+use std::fmt::Display;
+use std::io;
+use std::net::TcpListener;
+use std::process::Abort;
+
+fn words_of(rt: &impl Abort, alloc: Global, line: &str) -> Vec<String> {
+    argument_list(alloc, line).expect(rt, "out of memory")
+}
+
+fn asked(rt: &impl Abort, alloc: Global, line: &str) -> Option<Options> {
+    parse_options(alloc, words_of(rt, alloc, line).as_slice()).ok()
+}
+
+// How many fields the projection shows.
+fn shown_by(table: &Table, name: &str) -> Option<usize> {
+    let projection: Option<&Projection> = table.find(name);
+    Some(projection?.fields.len())
+}
+
+#[test]
+fn command_lines(rt: HostRuntime) {
+    let line = "sdb_server --lines --projection t=b:title,,n --projection u=c:x";
+    let asked = asked(&rt, rt.alloc(), line).expect(&rt, "a run");
+    assert!(rt; asked.job == Some(RunMode::Lines));
+    let table = asked.table.ok().expect(&rt, "a table");
+    assert!(rt; shown_by(&table, "t") == Some(2) && shown_by(&table, "u") == Some(1));
+}
+
+// The port, how long, and whether with a log, where a command line asks to listen.
+fn asked_to_listen(
+    rt: &impl Abort,
+    alloc: Global,
+    line: &str,
+) -> Option<(u16, StopCondition, bool)> {
+    match asked(rt, alloc, line)?.job? {
+        RunMode::Listen {
+            address,
+            until,
+            is_logging,
+        } => Some((address.port(), until, is_logging)),
+        RunMode::Lines => None,
+    }
+}
+
+#[test]
+fn addresses_and_how_long(rt: HostRuntime) {
+    for (line, wanted) in [
+        (
+            "sdb_server --listen 127.0.0.1:8080 --connections 2",
+            Some((8080, StopCondition::Served(2), false)),
+        ),
+        ("sdb_server --listen nowhere --connections 2", None),
+        (
+            "sdb_server --listen 127.0.0.1:0",
+            Some((0, StopCondition::Never, false)),
+        ),
+        (
+            "sdb_server --listen 127.0.0.1:0 --log",
+            Some((0, StopCondition::Never, true)),
+        ),
+        (
+            "sdb_server --until-eof --log --listen 127.0.0.1:0",
+            Some((0, StopCondition::Eof { is_dumping: false }, true)),
+        ),
+        (
+            "sdb_server --dump --until-eof --listen 127.0.0.1:0",
+            Some((0, StopCondition::Eof { is_dumping: true }, false)),
+        ),
+        ("sdb_server --listen 127.0.0.1:0 --dump", None),
+        ("sdb_server --listen 127.0.0.1:0 --connections 0", None),
+        (
+            "sdb_server --listen 127.0.0.1:0 --connections 1",
+            Some((0, StopCondition::Served(1), false)),
+        ),
+        (
+            "sdb_server --listen 127.0.0.1:0 --connections 1001",
+            Some((0, StopCondition::Served(1_001), false)),
+        ),
+        (
+            "sdb_server --listen 127.0.0.1:0 --connections 1000000",
+            Some((0, StopCondition::Served(1_000_000), false)),
+        ),
+        (
+            "sdb_server --listen 127.0.0.1:0 --connections 1000001",
+            None,
+        ),
+    ] {
+        assert!(rt; asked_to_listen(&rt, rt.alloc(), line) == wanted, "{line}");
+    }
+}
+
+// The text, with so many times this letter behind it.
+fn add(rt: &impl Abort, text: &mut String, letter: char, count: usize) {
+    for _ in 0..count {
+        text.push(letter).expect(rt, "out of memory");
+    }
+}
+
+// A projection whose name and whose collection's name are so long, and that shows the field x.
+fn named(rt: &impl Abort, alloc: Global, name: usize, collection: usize) -> String {
+    let mut text = String::new(alloc);
+    add(rt, &mut text, 'p', name);
+    add(rt, &mut text, '=', 1);
+    add(rt, &mut text, 'c', collection);
+    add(rt, &mut text, ':', 1);
+    add(rt, &mut text, 'x', 1);
+    text
+}
+
+// Why a projection is refused.
+fn refusal_of(alloc: Global, text: &str) -> Option<ProjectionOptionError> {
+    table_of(alloc, &[text]).err()
+}
+
+#[test]
+fn projections_that_are_refused(rt: HostRuntime) {
+    for (text, refusal) in [
+        ("t", ProjectionOptionError::Form),
+        ("t=b", ProjectionOptionError::Form),
+        ("t:b=x", ProjectionOptionError::Form),
+        ("=b:x", ProjectionOptionError::Name),
+        ("t=:x", ProjectionOptionError::Name),
+        ("t=b:,", ProjectionOptionError::Table(TableFault::NoField)),
+    ] {
+        assert!(rt; refusal_of(rt.alloc(), text) == Some(refusal), "{text}");
+    }
+}
+
+#[test]
+fn names_of_projections_have_at_most_200_bytes(rt: HostRuntime) {
+    for (name, collection, refusal) in [
+        (200, 200, None),
+        (201, 200, Some(ProjectionOptionError::Name)),
+        (200, 201, Some(ProjectionOptionError::Name)),
+    ] {
+        let text = named(&rt, rt.alloc(), name, collection);
+        assert!(rt;
+            refusal_of(rt.alloc(), text.as_str()) == refusal,
+            "{name} and {collection}"
+        );
+    }
+}
+
+const TWO_JOBS: &str = "error: the argument '--lines' cannot be used with '--listen <ADDR>'\n";
+
+const NO_ADDRESS: &str = "error: --listen takes an address, as 127.0.0.1:8080\n";
+
+const NO_FORM: &str = "error: a projection is NAME=COLLECTION:FIELD,..\n";
+
+const NO_NAME: &str =
+    "error: the name of a projection and that of its collection have 1 to 200 bytes\n";
+
+// The status of a command line that asks for no run.
+fn status_of(rt: &impl Abort, terminal: &TerminalBuffer, words: &[String]) -> Option<u8> {
+    match parse_run(terminal, words).expect(rt, "out of memory") {
+        ParsedArgs::Run(..) => None,
+        ParsedArgs::Help(status) => Some(status),
+    }
+}
+
+// How a command line that asks for no run is answered: the status, and what is printed on standard output and on
+// standard error.
+fn answered(rt: &impl Abort, alloc: Global, line: &str) -> (Option<u8>, String, String) {
+    let given = words_of(rt, alloc, line);
+    let terminal = TerminalBuffer::new(alloc);
+    let status = status_of(rt, &terminal, given.as_slice());
+    (status, terminal.out.into_inner(), terminal.err.into_inner())
+}
+
+// A refused command line is one line on standard error, which begins like this. The command line is looked at first,
+// then the address, then the projections in their order.
+#[test]
+fn command_lines_that_are_refused(rt: HostRuntime) {
+    for (line, told) in [
+        ("sdb_server --listen nowhere --projection t", NO_ADDRESS),
+        ("sdb_server --listen 127.0.0.1:0 --projection t", NO_FORM),
+        (
+            "sdb_server --lines --projection t --projection =b:x",
+            NO_FORM,
+        ),
+        (
+            "sdb_server --lines --projection =b:x --projection t",
+            NO_NAME,
+        ),
+        (
+            "sdb_server --lines --listen nowhere --projection t",
+            TWO_JOBS,
+        ),
+        ("sdb_server --lines --port", ""),
+        ("sdb_server", ""),
+        ("sdb_server --lines --listen 127.0.0.1:0", TWO_JOBS),
+        ("sdb_server --lines --connections 1", ""),
+        ("sdb_server --lines --until-eof", ""),
+        ("sdb_server --lines --log", ""),
+        ("sdb_server --until-eof", ""),
+        (
+            "sdb_server --listen 127.0.0.1:0 --until-eof --connections 1",
+            "",
+        ),
+        ("sdb_server --listen 127.0.0.1:0 --connections 0", ""),
+        ("sdb_server more", ""),
+    ] {
+        let (status, out, err) = answered(&rt, rt.alloc(), line);
+        let is_one_line = err.as_str().lines().count() == 1 && err.as_str().starts_with(told);
+        assert!(rt;
+            status == Some(STATUS_USAGE) && out.is_empty() && is_one_line,
+            "{line}"
+        );
+    }
+}
+
+// The version is one line.
+#[test]
+fn help_and_the_version_are_printed(rt: HostRuntime) {
+    let (status, out, err) = answered(&rt, rt.alloc(), "sdb_server --help");
+    assert!(rt; status == Some(STATUS_OK) && err.is_empty() && !out.is_empty());
+    let (status, out, err) = answered(&rt, rt.alloc(), "sdb_server --version");
+    assert!(rt;
+        status == Some(STATUS_OK) && err.is_empty() && out.as_str() == "sdb_server 1.0.0\n"
+    );
+}
+
+const TWO_LINES: &[u8] = b"one\ntwo\n";
+
+// A server that nobody is to come to, and one whose input has ended.
+#[test]
+fn servers_that_end(rt: HostRuntime) {
+    let listener = TcpListener::bind(&rt, "127.0.0.1:0").expect(&rt, "a port");
+    let status = serve_at(
+        rt,
+        &listener,
+        StopCondition::Served(0),
+        false,
+        Table::new(rt.alloc()),
+    );
+    assert!(rt; status.ok() == Some(STATUS_OK));
+    let status = serve_until_end(
+        rt,
+        &listener,
+        TWO_LINES,
+        false,
+        true,
+        Table::new(rt.alloc()),
+    );
+    assert!(rt; status.ok() == Some(STATUS_OK));
+}
+
+#[test]
+fn a_port_that_is_taken(rt: HostRuntime) {
+    let alloc = rt.alloc();
+    let listener = TcpListener::bind(&rt, "127.0.0.1:0").expect(&rt, "a port");
+    let address = listener.local_addr().expect(&rt, "an address");
+    let line = format!(in alloc; "sdb_server --listen {address} --connections 1");
+    let given = words_of(&rt, alloc, line.expect(&rt, "out of memory").as_str());
+    assert!(rt; run(rt, given.as_slice()).ok() == Some(STATUS_FAULT));
+}
+
+// An input and an output that fail at once.
+#[derive(Drop)]
+struct Broken {
+    alloc: Global,
+}
+
+impl io::Read for Broken {
+    fn read(&mut self, _buf: &mut [u8]) -> io::Result<usize> {
+        Err(io::Error::from(io::ErrorKind::BrokenPipe))
+    }
+}
+
+impl Print for Broken {
+    fn print<D: Display + Drop>(&self, _value: D) -> io::Result<()> {
+        Err(io::Error::from(io::ErrorKind::BrokenPipe))
+    }
+
+    fn println<D: Display + Drop>(&self, _value: D) -> io::Result<()> {
+        Err(io::Error::from(io::ErrorKind::BrokenPipe))
+    }
+
+    fn write_all(&self, _bytes: &[u8]) -> io::Result<()> {
+        Err(io::Error::from(io::ErrorKind::BrokenPipe))
+    }
+}
+
+impl Alloc for Broken {
+    type A = Global;
+
+    fn alloc(&self) -> Global {
+        self.alloc
+    }
+}
+
+// A clock that tells 0.
+fn no_clock(alloc: Global) -> ListClock {
+    ListClock::new(Vec::new(alloc))
+}
+
+const LINE: &[u8] = br#"{"a":"f","c":"b","d":"1"}"#;
+
+const FETCHED: &str = r#"{"a":"f","c":"b","d":"1","data":{"type":null,"v":0}}
+"#;
+
+// Whether the run over the input ends with this status, and what is printed ends like this.
+fn ends_with(alloc: Global, input: impl io::Read + Drop, status: u8, told: &str) -> bool {
+    let terminal = TerminalBuffer::new(alloc);
+    answer_input(&terminal, no_clock(alloc), input, &Table::new(alloc)) == status
+        && terminal.out.into_inner().as_str().ends_with(told)
+}
+
+#[test]
+fn statuses_of_lines(rt: HostRuntime) {
+    let (alloc, table) = (rt.alloc(), Table::new(rt.alloc()));
+    assert!(rt; ends_with(alloc, LINE, STATUS_OK, FETCHED));
+    assert!(rt; ends_with(alloc, Broken { alloc }, STATUS_FAULT, "fault: read\n"));
+    assert!(rt; answer_input(&Broken { alloc }, no_clock(alloc), LINE, &table) == STATUS_FAULT);
+}

@@ -1,0 +1,16 @@
+//! The server as a program: `--listen ADDR` serves WebSocket clients, `--lines` answers the lines of one
+//! session on standard input and output.
+#![tactic(auto)]
+
+#[cfg(test)]
+mod command_line;
+
+use sdb_server_cli::run;
+use std::env;
+use std::process::ExitCode;
+
+fn main(rt: HostRuntime) -> anyhow::Result<ExitCode> {
+    let words: Vec<String> = env::args(&rt)?.collect(rt.alloc())?;
+    let status = run(rt, words.as_slice())?;
+    Ok(ExitCode::from(status))
+}

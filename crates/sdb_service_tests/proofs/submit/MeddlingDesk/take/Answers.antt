@@ -1,0 +1,7 @@
+use Rattle.sdb_desk.specs.ShardView.{logs_of, queues_of}
+use Rattle.sdb_service_tests.proofs.submit.MeddlingDesk.take.Goals as goal
+
+pub returns-clause-acts : goal.returns-clause-acts
+returns-clause-acts c =
+    let s = c.args.pass.now.shard in
+    (logs_of s, (queues_of s, (c.take.ensures.takes, c.take.ensures.others, c.take.ensures.logs)))

@@ -1,0 +1,670 @@
+//! `sdb_backend`: what threads do at a backend.
+ghost use Rattle.std.specs.Prelude.{◌≡◌};
+ghost use Rattle.sdb_backend.specs.PassModel.{pass_number, IsHostOfBackend, IsPassOfBackend};
+
+use crate::parts::{adding, counted, creating, key, stored, submission};
+use sdb_backend::{
+    Audit, Backend, CloseError, CloseRefused, Host, Pass, submit_is_atomic, take_is_fifo,
+};
+use sdb_desk::Reply;
+use sdb_oplog::{Content, Entry, Key, Log, Moment, Submission};
+use sdb_submit::{Desk, Gate, NoGate, submit};
+use sdb_subscribe::SubId;
+use std::alloc::Global;
+use std::process::Abort;
+use std::sync::Wait;
+use std::sync::atomic::{AtomicU64, Ordering};
+use std::thread;
+
+// How many edits each thread stores.
+const EDITS: u64 = 10;
+
+// How many it stores where a queue follows them.
+const MANY: u64 = 100;
+
+// How many entries are taken at once there, at most, and how often.
+const AT_ONCE: u64 = 7;
+
+const TAKES: u64 = 29;
+
+// A submission through the pass, whose source has the pass's number.
+fn through(
+    rt: &impl Abort,
+    alloc: Global,
+    pass: &Pass,
+    seq: u64,
+    version: Option<u64>,
+    content: Content,
+) -> Submission
+    ensures { result.by ≡ pass_number pass.now }
+{
+    let by = pass.number();
+    let source = format!(in alloc; "x{by}").expect(rt, "out of memory");
+    submission(rt, alloc, source.as_str(), seq, version, content, by)
+}
+
+// A backend, and two who have come.
+#[derive(Drop)]
+struct Room<R: Wait> {
+    backend: Backend<R>,
+    host: Host,
+    first: Pass,
+    second: Pass,
+}
+
+fn opened<R: Wait + Drop>(abort: &impl Abort, alloc: Global, rt: R) -> Room<R>
+    ensures host { IsHostOfBackend result.host result.backend }
+    ensures first { IsPassOfBackend result.first result.backend }
+    ensures second { IsPassOfBackend result.second result.backend }
+{
+    let (backend, mut host) = Backend::new(alloc, rt).expect(abort, "out of memory");
+    let first = backend.enter(&mut host).expect(abort, "a pass");
+    let second = backend.enter(&mut host).expect(abort, "a pass");
+    Room {
+        backend,
+        host,
+        first,
+        second,
+    }
+}
+
+// Stores the document, as the first submission of the pass.
+fn create<R: Wait + Drop>(
+    rt: &impl Abort,
+    alloc: Global,
+    backend: &Backend<R>,
+    pass: &mut Pass,
+    key: &Key,
+)
+    requires { IsPassOfBackend pass.old backend.now }
+    ensures { IsPassOfBackend pass.new backend.now }
+{
+    let submission = through(rt, alloc, pass, 1, None, creating(rt, alloc));
+    let reply = submit(
+        alloc,
+        backend,
+        pass,
+        key,
+        &submission,
+        Moment::zero(),
+        &NoGate,
+    );
+    assert!(rt; stored(&reply) == Some((0, 0)));
+}
+
+// The number of the document that is fetched.
+fn fetched<R: Wait + Drop>(
+    rt: &impl Abort,
+    backend: &Backend<R>,
+    pass: &mut Pass,
+    key: &Key,
+) -> Option<i64>
+    requires { IsPassOfBackend pass.old backend.now }
+    ensures { IsPassOfBackend pass.new backend.now }
+{
+    let fetched = backend.fetch(pass, key).expect(rt, "out of memory");
+    counted(fetched.snapshot.as_ref())
+}
+
+// Adds one at this moment.
+fn add_at<R: Wait + Drop>(
+    rt: &impl Abort,
+    alloc: Global,
+    backend: &Backend<R>,
+    pass: &mut Pass,
+    key: &Key,
+    seq: u64,
+    milliseconds: u64,
+)
+    requires { IsPassOfBackend pass.old backend.now }
+    ensures { IsPassOfBackend pass.new backend.now }
+{
+    let submission = through(rt, alloc, pass, seq, None, adding(rt, alloc, 1));
+    let now = Moment::new(milliseconds).expect(rt, "a moment");
+    let reply = submit(alloc, backend, pass, key, &submission, now, &NoGate);
+    assert!(rt; stored(&reply).is_some());
+}
+
+// The version at a moment, and the number there.
+fn at<R: Wait + Drop>(
+    rt: &impl Abort,
+    backend: &Backend<R>,
+    pass: &mut Pass,
+    key: &Key,
+    moment: Option<Moment>,
+) -> (u64, Option<i64>)
+    requires { IsPassOfBackend pass.old backend.now }
+    ensures { IsPassOfBackend pass.new backend.now }
+{
+    let fetched = backend
+        .snapshot_at_time(pass, key, moment)
+        .expect(rt, "out of memory");
+    (fetched.version, counted(fetched.snapshot.as_ref()))
+}
+
+// An old moment is replayed without the lock, the present one is lent whole.
+#[test]
+fn documents_at_moments(rt: HostRuntime) {
+    let alloc = rt.alloc();
+    let Room {
+        backend,
+        first: mut pass,
+        ..
+    } = opened(&rt, alloc, rt);
+    let key = key(&rt, alloc, "1");
+    create(&rt, alloc, &backend, &mut pass, &key);
+    add_at(&rt, alloc, &backend, &mut pass, &key, 2, 100);
+    add_at(&rt, alloc, &backend, &mut pass, &key, 3, 200);
+    let first = at(&rt, &backend, &mut pass, &key, Moment::new(99));
+    let second = at(&rt, &backend, &mut pass, &key, Moment::new(199));
+    let third = at(&rt, &backend, &mut pass, &key, Moment::new(200));
+    let present = at(&rt, &backend, &mut pass, &key, None);
+    assert!(rt;
+        first == (1, Some(0)) && second == (2, Some(1)) && third == (3, Some(2)) && present == third
+    );
+}
+
+// Holds the first try until another submission was answered, for so many turns at most, and notes the
+// number of the last try.
+#[derive(Drop)]
+struct Held<'a> {
+    answered: &'a AtomicU64,
+    last: &'a AtomicU64,
+}
+
+impl Gate for Held<'_> {
+    fn before_commit(&self, try_no: u64) {
+        self.last.store(try_no, Ordering::SeqCst);
+        if try_no == 1 {
+            wait_for(self.answered, 1);
+        }
+    }
+}
+
+// Waits until the number is as wanted, for so many turns at most.
+fn wait_for(number: &AtomicU64, wanted: u64) {
+    for _ in 0..1_000_000 {
+        if number.load(Ordering::SeqCst) == wanted {
+            return;
+        }
+        thread::yield_now();
+    }
+}
+
+// Submits while the other is held, and tells that it was answered. The pass, and where it is stored.
+fn submit_quick<R: Wait + Drop>(
+    alloc: Global,
+    backend: &Backend<R>,
+    mut pass: Pass,
+    key: &Key,
+    submission: &Submission,
+    answered: &AtomicU64,
+    last: &AtomicU64,
+) -> (Pass, Option<(u64, usize)>)
+    requires pass { IsPassOfBackend pass backend.now }
+    requires by { submission.now.by ≡ pass_number pass }
+    ensures { IsPassOfBackend result.0 backend.now }
+{
+    wait_for(last, 1);
+    let reply = submit(
+        alloc,
+        backend,
+        &mut pass,
+        key,
+        submission,
+        Moment::zero(),
+        &NoGate,
+    );
+    answered.store(1, Ordering::SeqCst);
+    (pass, stored(&reply))
+}
+
+// Submits, held before the first try until the other was answered.
+fn submit_held<R: Wait + Drop>(
+    alloc: Global,
+    backend: &Backend<R>,
+    mut pass: Pass,
+    key: &Key,
+    submission: &Submission,
+    answered: &AtomicU64,
+    last: &AtomicU64,
+) -> (Pass, Option<(u64, usize)>)
+    requires pass { IsPassOfBackend pass backend.now }
+    requires by { submission.now.by ≡ pass_number pass }
+    ensures { IsPassOfBackend result.0 backend.now }
+{
+    let gate = Held { answered, last };
+    let reply = submit(
+        alloc,
+        backend,
+        &mut pass,
+        key,
+        submission,
+        Moment::zero(),
+        &gate,
+    );
+    (pass, stored(&reply))
+}
+
+#[test]
+fn nobody_waits_for_a_submission_that_is_held(rt: HostRuntime) {
+    let alloc = rt.alloc();
+    let Room {
+        backend,
+        first: mut slow,
+        second: quick,
+        ..
+    } = opened(&rt, alloc, rt);
+    let key = key(&rt, alloc, "1");
+    create(&rt, alloc, &backend, &mut slow, &key);
+    let (ten, five) = (adding(&rt, alloc, 10), adding(&rt, alloc, 5));
+    let first = through(&rt, alloc, &slow, 2, Some(1), ten);
+    let second = through(&rt, alloc, &quick, 1, Some(1), five);
+    let (answered, last) = (AtomicU64::new(0), AtomicU64::new(0));
+    let ((mut slow, late), (_quick, early)) = thread::join(
+        &rt,
+        || -> (Pass, Option<(u64, usize)>)
+            requires pass { IsPassOfBackend slow backend }
+            requires by { first.by ≡ pass_number slow }
+            ensures { IsPassOfBackend result.0 backend }
+        { submit_held(alloc, &backend, slow, &key, &first, &answered, &last) },
+        || -> (Pass, Option<(u64, usize)>)
+            requires pass { IsPassOfBackend quick backend }
+            requires by { second.by ≡ pass_number quick }
+            ensures { IsPassOfBackend result.0 backend }
+        { submit_quick(alloc, &backend, quick, &key, &second, &answered, &last) },
+    );
+    assert!(rt;
+        early == Some((1, 0))
+            && last.load(Ordering::SeqCst) == 2
+            && late == Some((2, 1))
+            && fetched(&rt, &backend, &mut slow, &key) == Some(15)
+    );
+}
+
+fn is_of(entry: &Entry, source: &str, seq: u64) -> bool {
+    entry.arrived().src() == source && entry.arrived().seq() == seq
+}
+
+// Asserts that a fetch shows a later version, and the stored operations the submission's entry.
+fn read_back<R: Wait + Drop>(
+    rt: &impl Abort,
+    backend: &Backend<R>,
+    pass: &mut Pass,
+    key: &Key,
+    submission: &Submission,
+    version: u64,
+)
+    requires { IsPassOfBackend pass.old backend.now }
+    ensures { IsPassOfBackend pass.new backend.now }
+{
+    let fetched = backend.fetch(pass, key).expect(rt, "out of memory");
+    assert!(rt; version < fetched.version);
+    let entries = backend
+        .ops_from(pass, key, version)
+        .expect(rt, "out of memory");
+    let entry = entries.first().expect(rt, "an entry");
+    assert!(rt; is_of(entry, submission.src(), submission.seq()));
+}
+
+// Stores the submission and reads it back.
+fn edit<R: Wait + Drop>(
+    rt: &impl Abort,
+    alloc: Global,
+    backend: &Backend<R>,
+    pass: &mut Pass,
+    key: &Key,
+    submission: &Submission,
+) -> Reply
+    requires pass { IsPassOfBackend pass.old backend.now }
+    requires by { submission.now.by ≡ pass_number pass.old }
+    ensures { IsPassOfBackend pass.new backend.now }
+{
+    let now = Moment::zero();
+    let reply = submit(alloc, backend, pass, key, submission, now, &NoGate);
+    let (version, _) = stored(&reply).expect(rt, "stored");
+    read_back(rt, backend, pass, key, submission, version);
+    reply
+}
+
+// Stores the edits of one thread, made at version 1. The pass, and the replies.
+fn edit_all<R: Wait + Drop>(
+    rt: &impl Abort,
+    alloc: Global,
+    backend: &Backend<R>,
+    mut pass: Pass,
+    key: &Key,
+) -> (Pass, Vec<Reply>)
+    requires { IsPassOfBackend pass backend.now }
+    ensures { IsPassOfBackend result.0 backend.now }
+{
+    let mut replies = Vec::new(alloc);
+    for seq in 2..2 + EDITS {
+        let submission = through(rt, alloc, &pass, seq, Some(1), adding(rt, alloc, 1));
+        let reply = edit(rt, alloc, backend, &mut pass, key, &submission);
+        replies.push(reply).expect(rt, "out of memory");
+    }
+    (pass, replies)
+}
+
+// Asserts that these are the log's entries from version 1 on.
+fn assert_missed(rt: &impl Abort, log: &Log, entries: &[Entry]) {
+    let mut version: u64 = 0;
+    for entry in entries {
+        version = version.saturating_add(1);
+        let stored = log.get(version).expect(rt, "an entry").arrived();
+        assert!(rt; is_of(entry, stored.src(), stored.seq()), "{version}");
+    }
+}
+
+// Asserts that the log has the submission where the reply says, behind the entries that it had missed.
+fn assert_told(rt: &impl Abort, log: &Log, source: &str, seq: u64, reply: &Reply) {
+    let Reply::Stored { v, missed } = reply else {
+        panic!(rt; "not stored");
+    };
+    let entry = log.get(*v).expect(rt, "an entry");
+    assert!(rt; is_of(entry, source, seq) && missed.len() as u64 + 1 == *v);
+    assert_missed(rt, log, missed);
+}
+
+// Asserts that each reply is told by the log.
+fn assert_all_told(rt: &impl Abort, log: &Log, source: &str, replies: &[Reply]) {
+    let mut seq: u64 = 1;
+    for reply in replies {
+        seq = seq.saturating_add(1);
+        assert_told(rt, log, source, seq, reply);
+    }
+    assert!(rt; replies.len() as u64 == EDITS);
+}
+
+// The number that the log makes.
+fn replayed(rt: &impl Abort, log: &Log) -> Option<i64> {
+    let document = log.replay(log.len()).expect(rt, "out of memory");
+    counted(document.as_ref())
+}
+
+// Asserts that the document has the edits of both, each as its replies tell.
+fn assert_edited(rt: &impl Abort, audit: &Audit, key: &Key, ones: &[Reply], twos: &[Reply]) {
+    let keys = audit.documents().expect(rt, "out of memory");
+    assert!(rt; keys.len() == 1);
+    let log = audit.log(key).expect(rt, "a log");
+    assert!(rt; log.len() == 1 + 2 * EDITS && replayed(rt, log) == Some(20));
+    assert_all_told(rt, log, "x1", ones);
+    assert_all_told(rt, log, "x2", twos);
+}
+
+#[test]
+fn what_threads_store_is_read_back(rt: HostRuntime) {
+    let alloc = rt.alloc();
+    let Room {
+        backend,
+        host,
+        mut first,
+        second,
+    } = opened(&rt, alloc, rt);
+    let key = key(&rt, alloc, "1");
+    create(&rt, alloc, &backend, &mut first, &key);
+    let ((first, ones), (second, twos)) = thread::join(
+        &rt,
+        || -> (Pass, Vec<Reply>)
+            requires { IsPassOfBackend first backend }
+            ensures { IsPassOfBackend result.0 backend }
+        { edit_all(&rt, alloc, &backend, first, &key) },
+        || -> (Pass, Vec<Reply>)
+            requires { IsPassOfBackend second backend }
+            ensures { IsPassOfBackend result.0 backend }
+        { edit_all(&rt, alloc, &backend, second, &key) },
+    );
+    let audit = closed(&rt, alloc, backend, host, first, second);
+    assert_edited(&rt, &audit, &key, ones.as_slice(), twos.as_slice());
+}
+
+// The audit, after a close without one of the passes that is refused.
+fn closed<R: Wait + Drop>(
+    rt: &impl Abort,
+    alloc: Global,
+    backend: Backend<R>,
+    host: Host,
+    first: Pass,
+    second: Pass,
+) -> Audit
+    requires host { IsHostOfBackend host backend }
+    requires first { IsPassOfBackend first backend }
+    requires second { IsPassOfBackend second backend }
+{
+    let mut passes = Vec::new(alloc);
+    passes.push(second).expect(rt, "out of memory");
+    let Err(refused) = backend.close(host, passes) else {
+        panic!(rt; "closed");
+    };
+    let CloseRefused {
+        error: why,
+        backend,
+        host,
+        mut passes,
+    } = refused;
+    assert!(rt; why == CloseError::MissingPass);
+    let Ok(()) = passes.push(first) else {
+        panic!(rt; "out of memory");
+    };
+    let Ok(audit) = backend.close(host, passes) else {
+        panic!(rt; "not closed");
+    };
+    audit
+}
+
+// Stores a document under each id.
+fn create_all<R: Wait + Drop>(
+    rt: &impl Abort,
+    alloc: Global,
+    backend: &Backend<R>,
+    pass: &mut Pass,
+    ids: &[&str],
+)
+    requires { IsPassOfBackend pass.old backend.now }
+    ensures { IsPassOfBackend pass.new backend.now }
+{
+    for id in ids {
+        create(rt, alloc, backend, pass, &key(rt, alloc, id));
+    }
+}
+
+// Asserts that the audit lists these ids, in this order, each with the log of one operation.
+fn assert_listed(rt: &impl Abort, audit: &Audit, ids: &[&str]) {
+    let keys = audit.documents().expect(rt, "out of memory");
+    assert!(rt; keys.len() == ids.len());
+    for (id, key) in ids.iter().zip(keys.as_slice()) {
+        assert!(rt; key.id.as_str() == *id, "{id}");
+        assert!(rt; audit.log(key).map(Log::len) == Some(1), "{id}");
+    }
+}
+
+#[test]
+fn the_documents_of_all_shards_are_listed_in_order(rt: HostRuntime) {
+    let alloc = rt.alloc();
+    let Room {
+        backend,
+        host,
+        mut first,
+        second,
+    } = opened(&rt, alloc, rt);
+    create_all(&rt, alloc, &backend, &mut first, &["9", "2", "0", "1"]);
+    let audit = closed(&rt, alloc, backend, host, first, second);
+    assert_listed(&rt, &audit, &["0", "1", "2", "9"]);
+    assert!(rt; audit.log(&key(&rt, alloc, "3")).is_none());
+}
+
+// A queue of the pass that takes all from the first entry on.
+fn subscribed<R: Wait + Drop>(
+    rt: &impl Abort,
+    backend: &Backend<R>,
+    pass: &mut Pass,
+    key: &Key,
+) -> SubId
+    requires { IsPassOfBackend pass.old backend.now }
+    ensures { IsPassOfBackend pass.new backend.now }
+{
+    let opened = backend.subscribe(pass, key, Some(0));
+    opened.expect(rt, "a queue").id
+}
+
+// Stores many edits of one thread, each at what is there now. The pass.
+fn store_many<R: Wait + Drop>(
+    rt: &impl Abort,
+    alloc: Global,
+    backend: &Backend<R>,
+    mut pass: Pass,
+    key: &Key,
+) -> Pass
+    requires { IsPassOfBackend pass backend.now }
+    ensures { IsPassOfBackend result backend.now }
+{
+    for seq in 1..=MANY {
+        let submission = through(rt, alloc, &pass, seq, None, adding(rt, alloc, 1));
+        let reply = submit_is_atomic(
+            alloc,
+            backend,
+            &mut pass,
+            key,
+            &submission,
+            Moment::zero(),
+            &NoGate,
+        );
+        assert!(rt; stored(&reply).is_some(), "{seq}");
+    }
+    pass
+}
+
+// Asserts that the entries are those from the version on: the version behind them.
+fn passed(rt: &impl Abort, entries: &[Entry], from: u64) -> u64 {
+    let mut next = from;
+    for entry in entries {
+        assert!(rt; entry.version() == next);
+        next = next.saturating_add(1);
+    }
+    next
+}
+
+// Takes some entries, which are those from the version on: the version behind them.
+fn take_some<R: Wait + Drop>(
+    rt: &impl Abort,
+    backend: &Backend<R>,
+    pass: &mut Pass,
+    key: &Key,
+    id: SubId,
+    from: u64,
+) -> u64
+    requires { IsPassOfBackend pass.old backend.now }
+    ensures { IsPassOfBackend pass.new backend.now }
+{
+    let taken = take_is_fifo(backend, pass, key, id, AT_ONCE).expect(rt, "out of memory");
+    passed(rt, taken.expect(rt, "a queue").as_slice(), from)
+}
+
+// Asserts that the queue gives all versions in order.
+fn take_all<R: Wait + Drop>(
+    rt: &impl Abort,
+    backend: &Backend<R>,
+    pass: &mut Pass,
+    key: &Key,
+    id: SubId,
+)
+    requires { IsPassOfBackend pass.old backend.now }
+    ensures { IsPassOfBackend pass.new backend.now }
+{
+    let mut next: u64 = 0;
+    for _ in 0..TAKES {
+        next = take_some(rt, backend, pass, key, id, next);
+    }
+    assert!(rt; next == 2 * MANY + 1);
+}
+
+// Whether the pass has no such queue.
+fn is_unknown<R: Wait + Drop>(backend: &Backend<R>, pass: &mut Pass, key: &Key, id: SubId) -> bool
+    requires { IsPassOfBackend pass.old backend.now }
+    ensures { IsPassOfBackend pass.new backend.now }
+{
+    matches!(take_is_fifo(backend, pass, key, id, 1), Ok(None))
+}
+
+// How many entries are of the source.
+fn count_of(log: &Log, source: &str) -> u64 {
+    let mut count: u64 = 0;
+    for version in 0..log.len() {
+        if let Some(entry) = log.get(version) {
+            if entry.arrived().src() == source {
+                count = count.saturating_add(1);
+            }
+        }
+    }
+    count
+}
+
+// Asserts that the document has all edits of both.
+fn assert_both(rt: &impl Abort, audit: &Audit, key: &Key) {
+    let log = audit.log(key).expect(rt, "a log");
+    assert!(rt;
+        count_of(log, "x1") == MANY
+            && count_of(log, "x2") == MANY
+            && log.len() == 2 * MANY + 1
+            && replayed(rt, log) == Some(200)
+    );
+}
+
+#[test]
+fn what_threads_store_is_taken_in_order(rt: HostRuntime) {
+    let alloc = rt.alloc();
+    let Room {
+        backend,
+        mut host,
+        first,
+        second,
+    } = opened(&rt, alloc, rt);
+    let Ok(mut third) = backend.enter(&mut host) else {
+        panic!(rt; "no pass");
+    };
+    let key = key(&rt, alloc, "1");
+    create(&rt, alloc, &backend, &mut third, &key);
+    let id = subscribed(&rt, &backend, &mut third, &key);
+    let (mut first, second) = thread::join(
+        &rt,
+        || -> Pass
+            requires { IsPassOfBackend first backend }
+            ensures { IsPassOfBackend result backend }
+        { store_many(&rt, alloc, &backend, first, &key) },
+        || -> Pass
+            requires { IsPassOfBackend second backend }
+            ensures { IsPassOfBackend result backend }
+        { store_many(&rt, alloc, &backend, second, &key) },
+    );
+    assert!(rt; is_unknown(&backend, &mut first, &key, id));
+    take_all(&rt, &backend, &mut third, &key, id);
+    let audit = ended(&rt, alloc, backend, host, first, second, third);
+    assert_both(&rt, &audit, &key);
+    assert!(rt; audit.queues() == 1);
+}
+
+// The audit, once all three are handed back.
+fn ended<R: Wait + Drop>(
+    rt: &impl Abort,
+    alloc: Global,
+    backend: Backend<R>,
+    host: Host,
+    first: Pass,
+    second: Pass,
+    third: Pass,
+) -> Audit
+    requires host { IsHostOfBackend host backend }
+    requires first { IsPassOfBackend first backend }
+    requires second { IsPassOfBackend second backend }
+    requires third { IsPassOfBackend third backend }
+{
+    let mut passes = Vec::new(alloc);
+    passes.push(third).expect(rt, "out of memory");
+    passes.push(first).expect(rt, "out of memory");
+    passes.push(second).expect(rt, "out of memory");
+    let Ok(audit) = backend.close(host, passes) else {
+        panic!(rt; "not closed");
+    };
+    audit
+}

@@ -1,0 +1,223 @@
+//! `sdb_dump`: what is stored, written and checked.
+use crate::parts::{key, text};
+use sdb_dump::{DumpFault, check_dump};
+use sdb_lines::{CountingReader, CountingWriter};
+use sdb_steps::run_dump;
+use std::alloc::Global;
+use std::process::Abort;
+
+const NOTHING: &str = r#"{"dump":2}
+{"entries":0}
+"#;
+
+const CREATE: &str =
+    r#"{"s":0,"do":"begin","c":"b","d":"1","src":"w","seq":1,"create":{"type":"http://sharejs.org/types/JSONv0","data":{"n":0}}}
+{"s":0,"do":"commit","ms":100}
+{"s":0,"do":"no step"}"#;
+
+const CREATED: &str = r#"{"dump":2}
+{"arrived":{"create":{"data":{"n":0},"type":"http://sharejs.org/types/JSONv0"},"v":null},"by":0,"c":"b","create":{"data":{"n":0},"type":"http://sharejs.org/types/JSONv0"},"d":"1","m":100,"seq":1,"src":"w","v":0,"via":"b"}
+{"entries":1}
+"#;
+
+const WITHOUT_MOMENT: &str = r#"{"dump":1}
+{"arrived":{"create":{"data":{"n":0},"type":"http://sharejs.org/types/JSONv0"},"v":null},"by":0,"c":"b","create":{"data":{"n":0},"type":"http://sharejs.org/types/JSONv0"},"d":"1","seq":1,"src":"w","v":0,"via":"b"}
+{"entries":1}
+"#;
+
+const OTHER_VERSION: &str = r#"{"dump":2}
+{"arrived":{"create":{"data":{"n":0},"type":"http://sharejs.org/types/JSONv0"},"v":null},"by":0,"c":"b","create":{"data":{"n":0},"type":"http://sharejs.org/types/JSONv0"},"d":"1","m":100,"seq":1,"src":"w","v":1,"via":"b"}
+{"entries":1}
+"#;
+
+const WITHOUT_COUNT: &str = r#"{"dump":2}
+{"arrived":{"create":{"data":{"n":0},"type":"http://sharejs.org/types/JSONv0"},"v":null},"by":0,"c":"b","create":{"data":{"n":0},"type":"http://sharejs.org/types/JSONv0"},"d":"1","m":100,"seq":1,"src":"w","v":0,"via":"b"}
+"#;
+
+const TWO_DOCUMENTS: &str = r#"{"dump":2}
+{"arrived":{"create":{"data":{"n":0},"type":"http://sharejs.org/types/JSONv0"},"v":null},"by":0,"c":"b","create":{"data":{"n":0},"type":"http://sharejs.org/types/JSONv0"},"d":"1","m":100,"seq":1,"src":"w","v":0,"via":"b"}
+{"arrived":{"op":[{"na":1,"p":["n"]}],"v":1},"by":0,"c":"b","d":"1","m":100,"op":[{"na":1,"p":["n"]}],"seq":2,"src":"w","v":1,"via":"b"}
+{"arrived":{"create":{"data":{"n":0},"type":"http://sharejs.org/types/JSONv0"},"v":null},"by":0,"c":"b","create":{"data":{"n":0},"type":"http://sharejs.org/types/JSONv0"},"d":"2","m":7,"seq":1,"src":"w","v":0,"via":"b"}
+{"entries":3}
+"#;
+
+const KEYS_TURNED: &str = r#"{"dump":2}
+{"arrived":{"create":{"data":{"n":0},"type":"http://sharejs.org/types/JSONv0"},"v":null},"by":0,"c":"b","create":{"data":{"n":0},"type":"http://sharejs.org/types/JSONv0"},"d":"2","m":7,"seq":1,"src":"w","v":0,"via":"b"}
+{"arrived":{"create":{"data":{"n":0},"type":"http://sharejs.org/types/JSONv0"},"v":null},"by":0,"c":"b","create":{"data":{"n":0},"type":"http://sharejs.org/types/JSONv0"},"d":"1","m":100,"seq":1,"src":"w","v":0,"via":"b"}
+{"entries":2}
+"#;
+
+const CREATED_TWICE: &str = r#"{"dump":2}
+{"arrived":{"create":{"data":{"n":0},"type":"http://sharejs.org/types/JSONv0"},"v":null},"by":0,"c":"b","create":{"data":{"n":0},"type":"http://sharejs.org/types/JSONv0"},"d":"1","m":100,"seq":1,"src":"w","v":0,"via":"b"}
+{"arrived":{"create":{"data":{"n":0},"type":"http://sharejs.org/types/JSONv0"},"v":null},"by":0,"c":"b","create":{"data":{"n":0},"type":"http://sharejs.org/types/JSONv0"},"d":"1","m":100,"seq":2,"src":"w","v":0,"via":"b"}
+{"entries":2}
+"#;
+
+// The steps of worked rows: an edit that is worked again, one that was stored meanwhile, edits without a version, one
+// that the ninth commit decides.
+const RETRY: &str =
+    r#"{"s":0,"do":"begin","c":"b","d":"1","src":"w","seq":1,"create":{"type":"http://sharejs.org/types/JSONv0","data":{"n":0}}}
+{"s":0,"do":"commit"}
+{"s":1,"do":"begin","c":"b","d":"1","src":"x","seq":1,"v":1,"op":[{"p":["n"],"na":10}]}
+{"s":2,"do":"begin","c":"b","d":"1","src":"y","seq":1,"v":1,"op":[{"p":["n"],"na":5}]}
+{"s":1,"do":"work"}
+{"s":2,"do":"work"}
+{"s":2,"do":"commit"}
+{"s":1,"do":"commit"}
+{"s":1,"do":"work"}
+{"s":1,"do":"commit"}"#;
+
+const REPEAT: &str =
+    r#"{"s":0,"do":"begin","c":"b","d":"1","src":"w","seq":1,"create":{"type":"http://sharejs.org/types/JSONv0","data":{"n":0}}}
+{"s":0,"do":"commit"}
+{"s":1,"do":"begin","c":"b","d":"1","src":"x","seq":1,"v":1,"op":[{"p":["n"],"na":10}]}
+{"s":2,"do":"begin","c":"b","d":"1","src":"x","seq":1,"v":1,"op":[{"p":["n"],"na":5}]}
+{"s":1,"do":"work"}
+{"s":2,"do":"work"}
+{"s":2,"do":"commit"}
+{"s":1,"do":"commit"}
+{"s":1,"do":"work"}
+{"s":1,"do":"commit"}"#;
+
+const NO_VERSION: &str =
+    r#"{"s":0,"do":"begin","c":"b","d":"1","src":"w","seq":1,"create":{"type":"http://sharejs.org/types/JSONv0","data":{"n":0}}}
+{"s":0,"do":"commit"}
+{"s":1,"do":"begin","c":"b","d":"1","src":"x","seq":1,"v":1,"op":[{"p":["n"],"na":10}]}
+{"s":2,"do":"begin","c":"b","d":"1","src":"y","seq":1,"v":1,"op":[{"p":["n"],"na":5}]}
+{"s":1,"do":"work"}
+{"s":2,"do":"work"}
+{"s":2,"do":"commit"}
+{"s":1,"do":"commit"}
+{"s":1,"do":"work"}
+{"s":1,"do":"commit"}
+{"s":1,"do":"begin","c":"b","d":"2","src":"x","seq":1,"create":{"type":"http://sharejs.org/types/JSONv0","data":{}}}
+{"s":2,"do":"begin","c":"b","d":"2","src":"y","seq":1,"create":{"type":"http://sharejs.org/types/JSONv0","data":{}}}
+{"s":2,"do":"commit"}
+{"s":1,"do":"commit"}
+{"s":1,"do":"commit"}
+{"s":1,"do":"begin","c":"b","d":"1","src":"x","seq":2,"op":[{"p":["n"],"na":1}]}
+{"s":2,"do":"begin","c":"b","d":"1","src":"y","seq":2,"op":[{"p":["n"],"na":1}]}
+{"s":2,"do":"commit"}
+{"s":1,"do":"commit"}
+{"s":1,"do":"commit"}"#;
+
+const NINTH: &str =
+    r#"{"s":0,"do":"begin","c":"b","d":"1","src":"w","seq":1,"create":{"type":"http://sharejs.org/types/JSONv0","data":{"n":0}}}
+{"s":0,"do":"commit"}
+{"s":1,"do":"begin","c":"b","d":"1","src":"x","seq":1,"v":1,"op":[{"p":["n"],"na":100}]}
+{"s":2,"do":"begin","c":"b","d":"1","src":"y","seq":1,"op":[{"p":["n"],"na":1}]}
+{"s":2,"do":"commit"}
+{"s":1,"do":"commit"}
+{"s":2,"do":"begin","c":"b","d":"1","src":"y","seq":2,"op":[{"p":["n"],"na":1}]}
+{"s":2,"do":"commit"}
+{"s":1,"do":"commit"}
+{"s":2,"do":"begin","c":"b","d":"1","src":"y","seq":3,"op":[{"p":["n"],"na":1}]}
+{"s":2,"do":"commit"}
+{"s":1,"do":"commit"}
+{"s":2,"do":"begin","c":"b","d":"1","src":"y","seq":4,"op":[{"p":["n"],"na":1}]}
+{"s":2,"do":"commit"}
+{"s":1,"do":"commit"}
+{"s":2,"do":"begin","c":"b","d":"1","src":"y","seq":5,"op":[{"p":["n"],"na":1}]}
+{"s":2,"do":"commit"}
+{"s":1,"do":"commit"}
+{"s":2,"do":"begin","c":"b","d":"1","src":"y","seq":6,"op":[{"p":["n"],"na":1}]}
+{"s":2,"do":"commit"}
+{"s":1,"do":"commit"}
+{"s":2,"do":"begin","c":"b","d":"1","src":"y","seq":7,"op":[{"p":["n"],"na":1}]}
+{"s":2,"do":"commit"}
+{"s":1,"do":"commit"}
+{"s":2,"do":"begin","c":"b","d":"1","src":"y","seq":8,"op":[{"p":["n"],"na":1}]}
+{"s":2,"do":"commit"}
+{"s":1,"do":"commit"}
+{"s":2,"do":"begin","c":"b","d":"1","src":"y","seq":9,"op":[{"p":["n"],"na":1}]}
+{"s":2,"do":"commit"}
+{"s":1,"do":"commit"}"#;
+
+// A document is made.
+const MADE: &str =
+    r#"{"s":0,"do":"begin","c":"b","d":"1","src":"w","seq":1,"create":{"type":"http://sharejs.org/types/JSONv0","data":{"n":0}}}
+{"s":0,"do":"commit"}
+"#;
+
+// The dump of what these steps leave.
+fn dump_of(rt: &impl Abort, alloc: Global, steps: &str) -> Vec<u8> {
+    let mut reader = CountingReader::new(steps.as_bytes());
+    let mut writer = CountingWriter::new(Vec::new(alloc));
+    run_dump(alloc, &mut reader, &mut writer).expect(rt, "out of memory");
+    writer.stream
+}
+
+// How many documents and entries a dump has, or why it isn't accepted.
+fn checked(alloc: Global, dump: &[u8]) -> Result<(u64, u128), DumpFault> {
+    let mut reader = CountingReader::new(dump);
+    let checked = check_dump(alloc, &mut reader)?;
+    Ok((checked.documents, checked.entries))
+}
+
+// The steps of a document that 74 edits are made of.
+fn edited_often(rt: &impl Abort, alloc: Global) -> String {
+    let mut steps = text(rt, alloc, MADE);
+    for seq in 2..76 {
+        let edit = format!(in alloc;
+            r#"{{"s":0,"do":"begin","c":"b","d":"1","src":"w","seq":{seq},"op":[{{"p":["n"],"na":1}}]}}"#
+        );
+        steps
+            .push_str(edit.expect(rt, "out of memory").as_str())
+            .expect(rt, "out of memory");
+        steps
+            .push_str("\n{\"s\":0,\"do\":\"commit\"}\n")
+            .expect(rt, "out of memory");
+    }
+    steps
+}
+
+#[test]
+fn dumps_are_written(rt: HostRuntime) {
+    for (steps, dump) in [("", NOTHING), (CREATE, CREATED)] {
+        assert!(rt;
+            dump_of(&rt, rt.alloc(), steps).as_slice() == dump.as_bytes(),
+            "{dump}"
+        );
+    }
+}
+
+#[test]
+fn dumps_of_worked_rows_are_accepted(rt: HostRuntime) {
+    let edited = edited_often(&rt, rt.alloc());
+    for (steps, told) in [
+        (RETRY, (1, 3)),
+        (REPEAT, (1, 2)),
+        (NO_VERSION, (2, 6)),
+        (NINTH, (1, 11)),
+        (edited.as_str(), (1, 75)),
+    ] {
+        let dump = dump_of(&rt, rt.alloc(), steps);
+        assert!(rt; checked(rt.alloc(), dump.as_slice()) == Ok(told), "{steps}");
+    }
+}
+
+#[test]
+fn dumps_are_checked(rt: HostRuntime) {
+    for (dump, told) in [
+        (NOTHING, Ok((0, 0))),
+        (CREATED, Ok((1, 1))),
+        (WITHOUT_MOMENT, Ok((1, 1))),
+        (OTHER_VERSION, Err(DumpFault::WrongLine { line: 2 })),
+        (WITHOUT_COUNT, Err(DumpFault::WrongLine { line: 3 })),
+        (TWO_DOCUMENTS, Ok((2, 3))),
+        (KEYS_TURNED, Err(DumpFault::WrongLine { line: 3 })),
+        (CREATED_TWICE, Err(DumpFault::WrongLine { line: 3 })),
+    ] {
+        assert!(rt; checked(rt.alloc(), dump.as_bytes()) == told, "{dump}");
+    }
+}
+
+#[test]
+fn logs_are_given(rt: HostRuntime) {
+    let mut reader = CountingReader::new(TWO_DOCUMENTS.as_bytes());
+    let checked = check_dump(rt.alloc(), &mut reader).expect(&rt, "it is accepted");
+    for (id, entries) in [("1", Some(2)), ("2", Some(1)), ("3", None)] {
+        let key = key(&rt, rt.alloc(), id);
+        assert!(rt; checked.log(&key).map(|log| log.len()) == entries, "{id}");
+    }
+}

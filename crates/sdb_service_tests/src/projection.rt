@@ -1,0 +1,65 @@
+//! `sdb_projection`: tables that refuse, and an operation alone. All else is in the lines of the server.
+use crate::parts::text;
+use sdb_component::read_op;
+use sdb_projection::{Projection, Table, TableFault, project_op};
+use serde_json::Value;
+use std::alloc::Global;
+use std::collections::BTreeSet;
+use std::process::Abort;
+
+// A projection that shows `title`.
+pub(crate) fn titles(rt: &impl Abort, alloc: Global, name: &str, base: &str) -> Projection {
+    let mut projection = no_fields(rt, alloc, name, base);
+    let title = text(rt, alloc, "title");
+    projection.fields.insert(title).expect(rt, "out of memory");
+    projection
+}
+
+fn no_fields(rt: &impl Abort, alloc: Global, name: &str, base: &str) -> Projection {
+    Projection {
+        name: text(rt, alloc, name),
+        base: text(rt, alloc, base),
+        fields: BTreeSet::new(alloc),
+    }
+}
+
+#[test]
+fn an_operation_shows_what_leads_to_fields(rt: HostRuntime) {
+    let titles = titles(&rt, rt.alloc(), "t", "b");
+    let op = r#"[{"p":["n"],"na":1},{"p":["title"],"oi":null}]"#;
+    let value = Value::from_str(rt.alloc(), op).expect(&rt, "out of memory or no JSON");
+    let op = read_op(rt.alloc(), &value).expect(&rt, "out of memory or no operation");
+    let shown = project_op(rt.alloc(), &titles, &op).expect(&rt, "out of memory");
+    assert!(rt; shown.components().len() == 1);
+}
+
+// Asserts that a table that has t of b refuses each of these.
+fn assert_refusals(rt: &impl Abort, alloc: Global, table: &mut Table) {
+    for (name, base, fault) in [
+        ("t", "c", TableFault::DuplicateName),
+        ("x", "x", TableFault::NameOfBase),
+        ("u", "t", TableFault::BaseIsProjection),
+        ("b", "c", TableFault::BaseIsProjection),
+    ] {
+        assert!(rt;
+            table.add(titles(rt, alloc, name, base)) == Err(fault),
+            "{name} {base}"
+        );
+    }
+    assert!(rt; table.add(no_fields(rt, alloc, "y", "b")) == Err(TableFault::NoField));
+}
+
+fn is_base(table: &Table, name: &str, base: &str) -> bool {
+    match table.find(name) {
+        Some(projection) => projection.base.as_str() == base,
+        None => false,
+    }
+}
+
+#[test]
+fn a_table_refuses(rt: HostRuntime) {
+    let mut table = Table::new(rt.alloc());
+    assert!(rt; table.add(titles(&rt, rt.alloc(), "t", "b")).is_ok());
+    assert_refusals(&rt, rt.alloc(), &mut table);
+    assert!(rt; is_base(&table, "t", "b"));
+}

@@ -1,0 +1,124 @@
+//! `sdb_steps`: steps in lists, and streams that fail. All else is in the lines of the program.
+use sdb_desk::Reply;
+use sdb_lines::{CountingReader, CountingWriter, RunFault};
+use sdb_steps::{Step, StepAnswer, read_step, run, run_steps};
+use std::alloc::Global;
+use std::io;
+use std::io::{Read, Write};
+use std::process::Abort;
+
+// The steps of lines that are steps.
+fn steps_of(rt: &impl Abort, alloc: Global, lines: &[&str]) -> Vec<Step> {
+    let mut steps = Vec::new(alloc);
+    for line in lines {
+        let step = read_step(alloc, line).expect(rt, "a step");
+        steps.push(step).expect(rt, "out of memory");
+    }
+    steps
+}
+
+const THREE: [&str; 3] = [
+    r#"{"s":7,"do":"begin","c":"b","d":"1","src":"x","seq":1,"create":{"type":"json0","data":5}}"#,
+    r#"{"s":7,"do":"commit"}"#,
+    r#"{"s":9,"do":"fetch","c":"b","d":"1"}"#,
+];
+
+// Whether the answers are those to these three steps.
+fn are_three(answers: &[StepAnswer]) -> bool {
+    match answers {
+        [
+            StepAnswer::Began,
+            StepAnswer::Decided(Reply::Stored { v, missed }),
+            StepAnswer::Fetched(found),
+        ] => *v == 0 && missed.is_empty() && found.version == 1 && found.snapshot.is_some(),
+        _ => false,
+    }
+}
+
+// A reader that gives seven bytes at a time, and fails after so many calls.
+#[derive(Drop)]
+struct Torn {
+    bytes: &'static [u8],
+    calls: u64,
+}
+
+impl Read for Torn {
+    fn read(&mut self, buf: &mut [u8]) -> io::Result<usize> {
+        if self.calls == 0 {
+            return Err(io::Error::from(io::ErrorKind::ConnectionReset));
+        }
+        self.calls -= 1;
+        let room = buf.len().min(7);
+        self.bytes.read(&mut buf[..room])
+    }
+}
+
+// A writer that takes seven bytes at a time, and none after so many calls.
+#[derive(Drop)]
+struct Full {
+    taken: Vec<u8>,
+    calls: u64,
+}
+
+impl Write for Full {
+    fn write(&mut self, buf: &[u8]) -> io::Result<usize> {
+        if self.calls == 0 {
+            return Ok(0);
+        }
+        self.calls -= 1;
+        self.taken.write(&buf[..buf.len().min(7)])
+    }
+
+    fn flush(&mut self) -> io::Result<()> {
+        Ok(())
+    }
+}
+
+// The first has twenty bytes with its line feed, the second nineteen without one.
+const LINES: &[u8] = b"{\"s\":3,\"do\":\"work\"}\n{\"s\":5,\"do\":\"work\"}";
+
+const FIRST: &[u8] = b"{\"do\":\"idle\",\"s\":3}\n";
+
+const BOTH: &[u8] = b"{\"do\":\"idle\",\"s\":3}\n{\"do\":\"idle\",\"s\":5}\n";
+
+// What ended a run over streams that fail after so many calls, and what was written.
+fn run_over(alloc: Global, reads: u64, writes: u64) -> (Option<RunFault>, Vec<u8>) {
+    let mut reader = CountingReader::new(Torn {
+        bytes: LINES,
+        calls: reads,
+    });
+    let mut writer = CountingWriter::new(Full {
+        taken: Vec::new(alloc),
+        calls: writes,
+    });
+    let ended = run(alloc, &mut reader, &mut writer);
+    (ended.err(), writer.stream.taken)
+}
+
+#[test]
+fn the_lines_before_a_failed_read_are_answered(rt: HostRuntime) {
+    for reads in 0..7 {
+        let (fault, written) = run_over(rt.alloc(), reads, 100);
+        let answered = if reads < 3 { &[] as &[u8] } else { FIRST };
+        assert!(rt; fault == Some(RunFault::ReadFailed), "after {reads}");
+        assert!(rt; written.as_slice() == answered, "after {reads}");
+    }
+    let (fault, written) = run_over(rt.alloc(), 100, 100);
+    assert!(rt; fault.is_none() && written.as_slice() == BOTH);
+}
+
+#[test]
+fn a_front_is_written_before_a_failed_write(rt: HostRuntime) {
+    for writes in 0..6 {
+        let (fault, written) = run_over(rt.alloc(), 100, writes);
+        assert!(rt; fault == Some(RunFault::WriteFailed), "after {writes}");
+        assert!(rt; BOTH.starts_with(written.as_slice()), "after {writes}");
+    }
+}
+
+#[test]
+fn steps_of_a_list_are_taken_in_turn(rt: HostRuntime) {
+    let steps = steps_of(&rt, rt.alloc(), &THREE);
+    let ran = run_steps(rt.alloc(), steps.as_slice()).expect(&rt, "out of memory");
+    assert!(rt; are_three(ran.answers.as_slice()));
+}

@@ -1,0 +1,246 @@
+//! `sdb_submit`: tries that are counted, and a desk at which others store too.
+ghost use Rattle.std.specs.Prelude.{◌≡◌, ℕ, ⊤};
+ghost use Rattle.sdb_oplog.specs.Keys.{Logs};
+ghost use Rattle.sdb_desk.specs.LookLaws.{IsLook};
+ghost use Rattle.sdb_desk.specs.ShardView.{machine_of, logs_of};
+ghost use Rattle.sdb_desk.specs.Machine.{QueuesByKey};
+ghost use Rattle.sdb_submit.specs.Calls.{MachineStep};
+ghost use Rattle.sdb_oplog.specs.Keys.{plain_key};
+ghost use Rattle.sdb_service_tests.specs.Seen.{StaySeen};
+
+use crate::parts::{adding, counted, creating, key, stored, submission};
+use sdb_desk::{FetchResult, Look, Outcome, Reply, Shard, SubscribeResult, Work};
+use sdb_oplog::{Code, Entry, Key, Moment, Submission};
+use sdb_submit::{Desk, Gate, Solo, submit};
+use sdb_subscribe::SubId;
+use std::alloc::{AllocError, Global};
+use std::cell::Cell;
+use std::process::Abort;
+
+// Notes the numbers of the tries, as the digits of one number.
+#[derive(Drop)]
+struct Tries {
+    digits: Cell<u64>,
+}
+
+impl Tries {
+    fn new() -> Tries {
+        Tries {
+            digits: Cell::new(0),
+        }
+    }
+}
+
+impl Gate for Tries {
+    fn before_commit(&self, try_no: u64) {
+        let digits = self.digits.get().saturating_mul(10);
+        self.digits.set(digits.saturating_add(try_no));
+    }
+}
+
+// A shard, and what others store in it, the last first.
+#[derive(Drop)]
+struct Shared {
+    shard: Shard,
+    others: Vec<Submission>,
+}
+
+// A desk at which others store before each commit, and not before a commit that has to decide.
+#[derive(Drop)]
+struct Meddling;
+
+impl Shared {
+    // What another one stores.
+    fn meddle(&mut self, key: &Key)
+        ensures { StaySeen (plain_key key.now) self.old.shard (plain_key key.now) self.new.shard }
+    {
+        if let Some(other) = self.others.pop() {
+            let _ = self.shard.commit_now(key, &other, Moment::zero());
+        }
+    }
+}
+
+impl Desk for Meddling {
+    type Pass = Shared;
+
+    ghost accepts = { λ d p. ⊤ };
+
+    ghost pass_number = { λ d p. 0 };
+
+    // as the machine, at some logs and queues
+    ghost step = { λ d k c p a q.
+        (l : Logs) × ((n : QueuesByKey) × MachineStep 0 (record { logs = l; queues = n }) k c a (machine_of q.shard)) };
+
+    ghost has_seen = { λ d k a p. IsLook (logs_of p.shard k) a };
+
+    fn look(
+        &self,
+        pass: &mut Shared,
+        key: &Key,
+        submission: &Submission,
+    ) -> Result<Look, AllocError> {
+        pass.shard.look(key, submission)
+    }
+
+    fn commit(&self, pass: &mut Shared, key: &Key, work: &mut Work, now: Moment) -> Outcome {
+        pass.meddle(key);
+        pass.shard.commit(key, work, now)
+    }
+
+    fn commit_now(
+        &self,
+        pass: &mut Shared,
+        key: &Key,
+        submission: &Submission,
+        now: Moment,
+    ) -> Reply {
+        pass.shard.commit_now(key, submission, now)
+    }
+
+    fn commit_last(&self, pass: &mut Shared, key: &Key, work: Work, now: Moment) -> Reply {
+        pass.shard.commit_last(key, work, now)
+    }
+
+    fn version(&self, pass: &mut Shared, key: &Key) -> u64 {
+        pass.shard.version(key)
+    }
+
+    fn fetch(&self, pass: &mut Shared, key: &Key) -> Result<FetchResult, Code> {
+        pass.shard.fetch(key)
+    }
+
+    fn ops_from(&self, pass: &mut Shared, key: &Key, version: u64) -> Result<Vec<Entry>, Code> {
+        pass.shard.ops_from(key, version)
+    }
+
+    fn ops_between(
+        &self,
+        pass: &mut Shared,
+        key: &Key,
+        from: u64,
+        to: u64,
+    ) -> Result<Vec<Entry>, AllocError> {
+        pass.shard.ops_between(key, from, to)
+    }
+
+    fn snapshot_at(
+        &self,
+        pass: &mut Shared,
+        key: &Key,
+        version: Option<u64>,
+    ) -> Result<FetchResult, Code> {
+        pass.shard.snapshot_at(key, version)
+    }
+
+    fn snapshot_at_time(
+        &self,
+        pass: &mut Shared,
+        key: &Key,
+        moment: Option<Moment>,
+    ) -> Result<FetchResult, Code> {
+        pass.shard.snapshot_at_time(key, moment)
+    }
+
+    fn forget(&self, pass: &mut Shared, key: &Key) {
+        pass.shard.forget(key)
+    }
+
+    fn subscribe(
+        &self,
+        pass: &mut Shared,
+        key: &Key,
+        version: Option<u64>,
+    ) -> Result<SubscribeResult, Code> {
+        pass.shard.subscribe(key, 0, version)
+    }
+
+    fn take(
+        &self,
+        pass: &mut Shared,
+        key: &Key,
+        id: SubId,
+        max: u64,
+    ) -> Result<Option<Vec<Entry>>, AllocError> {
+        pass.shard.take(key, 0, id, max)
+    }
+
+    fn unsubscribe(&self, pass: &mut Shared, key: &Key, id: SubId) {
+        pass.shard.unsubscribe(key, 0, id)
+    }
+
+    fn by(&self, _pass: &Shared) -> u64 {
+        0
+    }
+}
+
+// The submission that is tried: it adds 100, at version 1.
+fn hundred(rt: &impl Abort, alloc: Global) -> Submission
+    ensures { result.by ≡ 0 }
+{
+    submission(rt, alloc, "x", 1, Some(1), adding(rt, alloc, 100), 0)
+}
+
+// A shard with the document whose `n` is 0.
+fn started(rt: &impl Abort, alloc: Global, key: &Key) -> Shard {
+    let mut shard = Shard::new(alloc);
+    let create = submission(rt, alloc, "w", 0, None, creating(rt, alloc), 0);
+    drop(shard.commit_now(key, &create, Moment::zero()));
+    shard
+}
+
+// Nine submissions, each of which adds 1.
+fn nine(rt: &impl Abort, alloc: Global) -> Vec<Submission> {
+    let mut others = Vec::new(alloc);
+    for seq in 1..=9 {
+        let other = submission(rt, alloc, "w", seq, None, adding(rt, alloc, 1), 0);
+        others.push(other).expect(rt, "out of memory");
+    }
+    others
+}
+
+#[test]
+fn one_caller_commits_once(rt: HostRuntime) {
+    let key = key(&rt, rt.alloc(), "1");
+    let mut shard = started(&rt, rt.alloc(), &key);
+    let (submission, gate) = (hundred(&rt, rt.alloc()), Tries::new());
+    let reply = submit(
+        rt.alloc(),
+        &Solo,
+        &mut shard,
+        &key,
+        &submission,
+        Moment::zero(),
+        &gate,
+    );
+    assert!(rt; stored(&reply) == Some((1, 0)));
+    assert!(rt; gate.digits.get() == 1);
+}
+
+fn with_others(rt: &impl Abort, alloc: Global, key: &Key) -> Shared {
+    Shared {
+        shard: started(rt, alloc, key),
+        others: nine(rt, alloc),
+    }
+}
+
+// What is answered to the submission, where others store before each try.
+fn submitted(rt: &impl Abort, alloc: Global, pass: &mut Shared, key: &Key, gate: &Tries) -> Reply {
+    let now = Moment::zero();
+    submit(alloc, &Meddling, pass, key, &hundred(rt, alloc), now, gate)
+}
+
+// The version, and the number at `n`.
+fn present(rt: &impl Abort, shard: &mut Shard, key: &Key) -> (u64, Option<i64>) {
+    let fetched = shard.fetch(key).expect(rt, "out of memory");
+    (fetched.version, counted(fetched.snapshot.as_ref()))
+}
+
+#[test]
+fn a_commit_without_a_try_decides_after_eight(rt: HostRuntime) {
+    let (key, gate) = (key(&rt, rt.alloc(), "1"), Tries::new());
+    let mut pass = with_others(&rt, rt.alloc(), &key);
+    let reply = submitted(&rt, rt.alloc(), &mut pass, &key, &gate);
+    assert!(rt; stored(&reply) == Some((9, 8)));
+    assert!(rt; gate.digits.get() == 12_345_678);
+    assert!(rt; present(&rt, &mut pass.shard, &key) == (10, Some(108)));
+}

@@ -1,0 +1,130 @@
+//! `sdb_wire`: what no program calls, and what none of their lines can show. All else is in the lines of the
+//! two programs.
+use crate::parts::{content, key, submission, text};
+use sdb_oplog::{Code, Content, Entry, Moment};
+use sdb_wire::{
+    Answer, Echo, MESSAGE_LIMIT, OpText, Request, empty_echo, entry_value, read_message, reply_text,
+};
+use std::alloc::Global;
+use std::process::Abort;
+
+// The version of the fetch that the text is, or the code that refuses it.
+fn fetched(alloc: Global, text: &str) -> Result<Option<u64>, Code> {
+    match read_message(alloc, text) {
+        Ok(Request::Fetch { version, .. }) => Ok(version),
+        Ok(_) => Ok(None),
+        Err(bad) => Err(bad.code),
+    }
+}
+
+// A fetch from version 3, with spaces behind it up to so many bytes.
+fn padded(rt: &impl Abort, alloc: Global, length: usize) -> String {
+    let mut text = text(rt, alloc, r#"{"a":"f","c":"b","d":"1","v":3}"#);
+    for _ in text.len()..length {
+        text.push(' ').expect(rt, "out of memory");
+    }
+    text
+}
+
+#[test]
+fn texts_are_read_up_to_the_limit(rt: HostRuntime) {
+    for (length, wanted) in [
+        (0, Ok(Some(3))),
+        (MESSAGE_LIMIT, Ok(Some(3))),
+        (1_048_577, Err(Code::E1)),
+    ] {
+        let text = padded(&rt, rt.alloc(), length);
+        assert!(rt; fetched(rt.alloc(), text.as_str()) == wanted, "{length}");
+    }
+}
+
+// Whether the error is told by this text.
+fn is_told(rt: &impl Abort, alloc: Global, echo: &Echo, code: Code, wanted: &str) -> bool {
+    let told = reply_text(alloc, &Answer::Failed { echo, code }).expect(rt, "out of memory");
+    told.as_str() == wanted
+}
+
+// Whether the text is no message, and this is told of it.
+fn is_refused(rt: &impl Abort, alloc: Global, text: &str, wanted: &str) -> bool {
+    match read_message(alloc, text) {
+        Ok(_) => false,
+        Err(bad) => is_told(rt, alloc, &bad.echo, bad.code, wanted),
+    }
+}
+
+const BADLY_FORMED: &str =
+    r#"{"a":"f","c":"b","error":{"code":"ERR_MESSAGE_BADLY_FORMED","message":"message is badly formed"},"id":7}"#;
+
+// No line of a program finds no memory.
+const WANTING: &str = r#"{"error":{"code":"ERR_OUT_OF_MEMORY","message":"out of memory"}}"#;
+
+#[test]
+fn errors_are_told(rt: HostRuntime) {
+    let text = r#"{"a":"f","c":"b","id":7}"#;
+    assert!(rt;
+        is_refused(&rt, rt.alloc(), text, BADLY_FORMED)
+            && is_told(&rt, rt.alloc(), &empty_echo(), Code::E10, WANTING)
+    );
+}
+
+// Whether what is stored at version 4 of submission 7 from x is this value.
+fn is_shown(rt: &impl Abort, alloc: Global, content: Content, wanted: &str) -> bool {
+    let arrived = submission(rt, alloc, "x", 7, None, content, 7);
+    let value = entry_value(alloc, &Entry::new(4, Moment::zero(), None, arrived)).expect(
+        rt,
+        "out of memory",
+    );
+    value.to_string(alloc).expect(rt, "out of memory").as_str() == wanted
+}
+
+const CREATED: &str =
+    r#"{"create":{"data":null,"type":"http://sharejs.org/types/JSONv0"},"seq":7,"src":"x","v":4}"#;
+
+const DELETED: &str = r#"{"del":true,"seq":7,"src":"x","v":4}"#;
+
+const EDITED: &str = r#"{"op":[{"na":2,"p":[]}],"seq":7,"src":"x","v":4}"#;
+
+#[test]
+fn entries_are_values(rt: HostRuntime) {
+    let create = content(
+        &rt,
+        rt.alloc(),
+        r#"{"create":{"type":"json0","data":null}}"#,
+    );
+    assert!(rt;
+        is_shown(&rt, rt.alloc(), create, CREATED)
+            && is_shown(&rt, rt.alloc(), Content::delete(), DELETED)
+    );
+    let edit = content(&rt, rt.alloc(), r#"{"op":[{"na":2,"p":[]}]}"#);
+    assert!(rt; is_shown(&rt, rt.alloc(), edit, EDITED));
+}
+
+// An entry that creates the document.
+fn an_entry(rt: &impl Abort, alloc: Global, version: u64) -> Entry {
+    let create = content(rt, alloc, r#"{"create":{"type":"json0","data":0}}"#);
+    let submission = submission(rt, alloc, "x", 1, None, create, 0);
+    Entry::new(version, Moment::zero(), None, submission)
+}
+
+// The text of an op message is what the message is, and is that of no other entry or document.
+#[test]
+fn the_text_of_an_op_message_is_kept(rt: HostRuntime) {
+    let alloc = rt.alloc();
+    let (entry, next) = (an_entry(&rt, alloc, 0), an_entry(&rt, alloc, 1));
+    let (here, there) = (key(&rt, alloc, "1"), key(&rt, alloc, "2"));
+    let kept = OpText::new(alloc, &here, &entry).expect(&rt, "out of memory");
+    let answer = Answer::OpMessage {
+        key: &here,
+        entry: &entry,
+        content: entry.content(),
+    };
+    let told = reply_text(alloc, &answer).expect(&rt, "out of memory");
+    let again = reply_text(alloc, &Answer::OpText { text: &kept }).expect(&rt, "out of memory");
+    assert!(rt;
+        kept.as_str() == told.as_str()
+            && again.as_str() == told.as_str()
+            && kept.is_text_of(&here, &entry)
+            && !kept.is_text_of(&here, &next)
+            && !kept.is_text_of(&there, &entry)
+    );
+}

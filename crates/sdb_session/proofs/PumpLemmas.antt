@@ -1,0 +1,63 @@
+-- Takes, one after the other.
+use Rattle.std.proofs.Common.{◌≡◌, ℕ, ◌+◌, List, [], ◌∷◌, ◌++◌, length, map, Some, Result, Ok, Err, OnErr, refl, sym, ap, ◌∙◌, subst, append_assoc, inl, arith}
+use Rattle.std.proofs.lemmas.List.{append-nil, map-append}
+use Rattle.sdb_oplog.specs.Keys.{PlainKey}
+use Rattle.sdb_projection.specs.Table.{PlainProjection}
+use Rattle.sdb_submit.specs.Calls.{unsubscribe}
+use Rattle.sdb_submit.specs.SubmitLoop.{CallRelation}
+use Rattle.sdb_wire.specs.Answers.{PlainAnswer}
+use Rattle.sdb_session.specs.Laws.{pieces_append}
+use Rattle.sdb_session.specs.Sessions.{PlainSubscription, PlainSession}
+use Rattle.sdb_session.specs.Output.{answer_items}
+use Rattle.sdb_session.specs.PumpModel.{PumpInterrupted, PlainTake, TakeCall, TakeCalls, CloseAllCalls, take_answers, pump_answers, pump_count}
+
+module _ {P : Type 0} (acts : PlainKey → CallRelation P) (max : ℕ) where
+  pub takes_more : (xs : List PlainTake) (x : PlainTake) (p m q : P) → TakeCalls acts max xs p m → TakeCall acts max x.sub.queue m (Some x.entries) q → TakeCalls acts max (xs ++ x ∷ []) p q
+  unfolding TakeCalls
+  takes_more [] x p m q h one = let T : P → Type 0 = λ y. TakeCall acts max x.sub.queue y (Some x.entries) q in (q, (subst T h one, refl))
+  takes_more (y ∷ xs) x p m q h one = (h.0, (h.1.0, takes_more xs x h.0 m q h.1.1 one))
+
+  pub takes_none : (p : P) → TakeCalls acts max [] p p
+  unfolding TakeCalls
+  takes_none p = refl
+
+module _ {P : Type 0} (acts : PlainKey → CallRelation P) where
+  pub closed_more : (xs : List PlainSubscription) (x : PlainSubscription) (p m q : P) → CloseAllCalls acts xs p m → acts x.queue.base (unsubscribe x.queue.id) m tt q → CloseAllCalls acts (xs ++ x ∷ []) p q
+  unfolding CloseAllCalls
+  closed_more [] x p m q h one = let T : P → Type 0 = λ y. acts x.queue.base (unsubscribe x.queue.id) y tt q in (q, (subst T h one, refl))
+  closed_more (y ∷ xs) x p m q h one = (h.0, (h.1.0, closed_more xs x h.0 m q h.1.1 one))
+
+  pub closed_none : (p : P) → CloseAllCalls acts [] p p
+  unfolding CloseAllCalls
+  closed_none p = refl
+
+pub says_more : (t : List PlainProjection) (source : List ℕ) (xs : List PlainTake) (x : PlainTake) → pump_answers t source (xs ++ x ∷ []) ≡ pump_answers t source xs ++ take_answers t source x
+says_more t source [] x = append-nil (take_answers t source x)
+says_more t source (y ∷ xs) x = ap (λ l. take_answers t source y ++ l) (says_more t source xs x) ∙ sym (append_assoc (take_answers t source y) (pump_answers t source xs) (take_answers t source x))
+
+pub counts_more : (xs : List PlainTake) (x : PlainTake) → pump_count (xs ++ x ∷ []) ≡ pump_count xs + length x.entries
+counts_more [] x = omega arith
+counts_more (y ∷ xs) x = omega (arith, counts_more xs x)
+
+-- what is written behind what was written
+pub pieces_more : {A : Type 0} (f : PlainAnswer → List A) (old mid new : List A) (a b : List PlainAnswer) → mid ≡ old ++ answer_items f a → new ≡ mid ++ answer_items f b → new ≡ old ++ answer_items f (a ++ b)
+pieces_more f old mid new a b e g =
+    g ∙ ap (λ l. l ++ answer_items f b) e ∙ append_assoc old (answer_items f a) (answer_items f b) ∙ ap (λ l. old ++ l) (sym (pieces_append f a b))
+
+-- one more of the queues is taken from
+pub taken_sub : {A : Type 0} (f : A → PlainSubscription) (ts : List PlainTake) (t : PlainTake) (x : A) (left rest : List A) (all : List PlainSubscription) → left ≡ x ∷ rest → t.sub ≡ f x → map (λ t. t.sub) ts ++ map f left ≡ all
+    → map (λ t. t.sub) (ts ++ t ∷ []) ++ map f rest ≡ all
+taken_sub f ts t x left rest all is of before =
+    ap (λ l. l ++ map f rest) (map-append (λ (t : PlainTake). t.sub) ts (t ∷ []))
+    ∙ append_assoc (map (λ t. t.sub) ts) (t.sub ∷ []) (map f rest)
+    ∙ ap (λ s. map (λ t. t.sub) ts ++ s ∷ map f rest) of
+    ∙ ap (λ l. map (λ t. t.sub) ts ++ map f l) (sym is)
+    ∙ before
+
+-- no queue was taken from
+pub stops_at_once : {P : Type 0} (acts : PlainKey → CallRelation P) (max : ℕ) (s : PlainSession) (p : P) → PumpInterrupted acts max s p p
+stops_at_once acts max s p = ([], (s.subs, (p, (refl, takes_none acts max p, inl refl))))
+
+pub on_err_any : {A E Q : Type 0} (r : Result A E) → Q → OnErr r Q
+on_err_any (Ok x) q = tt
+on_err_any (Err e) q = q

@@ -1,8 +1,0 @@
-use Rattle.std.proofs.Common.{◌∙◌, ap, map}
-use Rattle.sdb_session.specs.View.{plain_sub}
-use Rattle.sdb_session.proofs.Pairs.{put_entry, from_ok}
-use Rattle.sdb_session.proofs.session.Session.put.Goals as goal
-
-pub returns-clause-subs : goal.returns-clause-subs
-returns-clause-subs c =
-    ap (map plain_sub) (from_ok c.insert.result (c.insert.ensures.succeeds c.requires) c.insert.ensures.entries) ∙ put_entry c.args.self.now.subscriptions.entries c.args.key c.args.queue

@@ -1,0 +1,27 @@
+use Rattle.std.proofs.Common.{◌≡◌, Ok, ap, ◌∙◌}
+use Rattle.sdb_desk.specs.View.{fetch_result_view}
+use Rattle.sdb_oplog.specs.Keys.{plain_key}
+use Rattle.sdb_projection.specs.Table.{projection_of}
+use Rattle.sdb_session.specs.Responses.{moment_answers}
+use Rattle.sdb_session.specs.ProjectionModel.{projection_of_key}
+use Rattle.sdb_session.specs.View.{plain_session, plain_projection_option, echo_of_message, OutputUnlessFailed, WroteAnswers}
+use Rattle.sdb_session.proofs.ResponseLemmas.{handled_by, on_says, moment_handles}
+use Rattle.sdb_wire.specs.Wire.{snapshot_at_time}
+use Rattle.sdb_session.proofs.session.Session.snapshot_at_time.Goals as goal
+
+pub returns-in-Ok-clause-handled : goal.returns-in-Ok-clause-handled
+returns-in-Ok-clause-handled g c = λ now.
+    let k = plain_key c.args.asked.key in
+    let t = c.args.table.now in
+    let e = echo_of_message c.args.message in
+    let o = plain_projection_option c.find-projection.result in
+    let s = plain_session c.args.self.now in
+    let m = c.args.asked.moment in
+    let id = c.args.asked.id in
+    let by = g.D.Desk.pass_number c.args.desk.now c.args.pass.now in
+    let wrote = WroteAnswers g.O.AnswerSink.items (g.O.AnswerSink.contents c.args.out.now) (g.O.AnswerSink.contents c.write_at_moment.new.out) in
+    let seen : o ≡ projection_of_key t k = c.find-projection.ensures ∙ ap (λ n. projection_of n t) c.as_str.ensures.value in
+    let r = fetch_result_view (Ok c.in-Ok.found) in
+    handled_by _ (g.D.Desk.step c.args.desk.now) e t by now s (snapshot_at_time k m id) c.args.pass.now c.write_at_moment.result wrote s c.snapshot_at_time.new.pass
+    (moment_handles (g.D.Desk.step c.args.desk.now) e t by now s c.args.pass.now c.snapshot_at_time.new.pass (OutputUnlessFailed c.write_at_moment.result wrote) k o seen
+    m id (plain_key c.base_key_or-base.result.now) r (c.base_key_or-base.ensures ∙ c.in_ok-moved.ensures) c.in-Ok.ensures.acts (on_says c.write_at_moment.result wrote (moment_answers e o id r) (c.write_at_moment.ensures e)))

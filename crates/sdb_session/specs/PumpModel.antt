@@ -1,0 +1,62 @@
+-- What a pump does: one take of each queue, and what is said of the entries that were taken.
+use Rattle.std.specs.Prelude.{◌≡◌, ℕ, ◌+◌, ◌⊎◌, List, [], ◌∷◌, ◌++◌, length, map, filter, Bool, not, ◌&&◌, Option, Some, bytes_eq}
+use Rattle.sdb_oplog.specs.Plain.{PlainEntry}
+use Rattle.sdb_oplog.specs.Keys.{PlainKey}
+use Rattle.sdb_projection.specs.Table.{PlainProjection}
+use Rattle.sdb_submit.specs.Calls.{take_next, unsubscribe}
+use Rattle.sdb_submit.specs.SubmitLoop.{CallRelation, taken_or_empty}
+use Rattle.sdb_wire.specs.Answers.{PlainAnswer}
+use Rattle.sdb_session.specs.ProjectionModel.{projection_of_key}
+use Rattle.sdb_session.specs.Sessions.{QueueId, PlainSubscription, PlainSession}
+use Rattle.sdb_session.specs.Responses.{entry_answers}
+
+-- a queue, and the entries that were taken of it
+pub record PlainTake : Type 0 where
+  pub sub : PlainSubscription
+  pub entries : List PlainEntry
+
+-- an entry of this source that came through this collection name
+abbrev pub is_own_entry : List ℕ → PlainKey → PlainEntry → Bool
+is_own_entry source k e = bytes_eq e.arrived.src source && bytes_eq e.arrived.via k.collection
+
+abbrev pub entries_of_others : List ℕ → PlainKey → List PlainEntry → List PlainEntry
+entries_of_others source k = filter (λ e. not (is_own_entry source k e))
+
+abbrev pub take_answers : List PlainProjection → List ℕ → PlainTake → List PlainAnswer
+take_answers t source x = entry_answers (projection_of_key t x.sub.key) x.sub.key (entries_of_others source x.sub.key x.entries)
+
+abbrev pub pump_answers : List PlainProjection → List ℕ → List PlainTake → List PlainAnswer
+pump_answers t source [] = []
+pump_answers t source (x ∷ xs) = take_answers t source x ++ pump_answers t source xs
+
+abbrev pub pump_count : List PlainTake → ℕ
+pump_count [] = 0
+pump_count (x ∷ xs) = length x.entries + pump_count xs
+
+module _ {P : Type 0} (acts : PlainKey → CallRelation P) (max : ℕ) where
+  abbrev pub TakeCall : QueueId → P → Option (List PlainEntry) → P → Type 0
+  TakeCall s p o q = (a : Option (Option (List PlainEntry))) × (acts s.base (take_next s.id max) p a q × (taken_or_empty a ≡ o))
+
+  -- one take of each queue, one after the other
+  unfoldable pub TakeCalls : List PlainTake → P → P → Type 0
+  TakeCalls [] p q = q ≡ p
+  TakeCalls (x ∷ xs) p q = (m : P) × (TakeCall x.sub.queue p (Some x.entries) m × TakeCalls xs m q)
+
+  -- each queue is taken from, in the order of subscribing, and what is said is that of the entries taken
+  abbrev pub PumpRelation : List PlainProjection → PlainSession → P → ℕ → (List PlainAnswer → Type 0) → P → Type 0
+  PumpRelation t s p count says q =
+      (xs : List PlainTake)
+      × ((map (λ x. x.sub) xs ≡ s.subs) × TakeCalls xs p q × (count ≡ pump_count xs) × says (pump_answers t s.source xs))
+
+  -- some of the queues were taken from, in order, and perhaps one more take was made
+  abbrev pub PumpInterrupted : PlainSession → P → P → Type 0
+  PumpInterrupted s p q =
+      (xs : List PlainTake)
+      × ((more : List PlainSubscription) × ((m : P) × ((map (λ x. x.sub) xs ++ more ≡ s.subs) × TakeCalls xs p m
+      × ((q ≡ m) ⊎ ((x : QueueId) × ((o : Option (List PlainEntry)) × TakeCall x m o q))))))
+
+module _ {P : Type 0} (acts : PlainKey → CallRelation P) where
+  -- each queue is closed, one after the other
+  unfoldable pub CloseAllCalls : List PlainSubscription → P → P → Type 0
+  CloseAllCalls [] p q = q ≡ p
+  CloseAllCalls (s ∷ subs) p q = (m : P) × (acts s.queue.base (unsubscribe s.queue.id) p tt m × CloseAllCalls subs m q)

@@ -1,0 +1,59 @@
+//! Where answers are written.
+ghost use Rattle.std.specs.Prelude.{◌≡◌, List, ◌++◌, OnOk, map, string_bytes};
+ghost use Rattle.sdb_session.specs.Output.{answer_line, answer_texts};
+ghost use Rattle.sdb_wire.specs.Answers.{PlainAnswer};
+ghost use Rattle.sdb_wire.specs.View.{plain_answer};
+
+use sdb_wire::{Answer, append_answer_text, reply_text};
+use std::alloc::{AllocError, Global};
+
+/// Where the answers of a session are written, one behind the other: bytes, in which each is a line, or
+/// texts.
+pub trait AnswerSink {
+    // What a page is a list of.
+    ghost Item: { Type 0 };
+
+    // What is written of one answer.
+    ghost items: { PlainAnswer → List Item };
+
+    // What was written.
+    ghost contents: { Self → List Item };
+
+    /// Writes an answer behind what was written. It fails only for want of memory; nothing is said of the
+    /// page then.
+    fn write(&mut self, alloc: Global, answer: &Answer<'_>) -> Result<(), AllocError>
+        ensures { OnOk result (contents self.new ≡ contents self.old ++ items (plain_answer answer.now)) };
+}
+
+/// Each answer is its text and a line feed.
+impl AnswerSink for Vec<u8> {
+    ghost use Rattle.std.specs.Prelude.{ℕ};
+
+    ghost Item = { ℕ };
+
+    ghost items = { answer_line };
+
+    ghost contents = { λ v. v.items };
+
+    fn write(&mut self, alloc: Global, answer: &Answer<'_>) -> Result<(), AllocError> {
+        append_answer_text(alloc, answer, self)?;
+        self.push(b'\n')?;
+        Ok(())
+    }
+}
+
+/// Each answer is a text.
+impl AnswerSink for Vec<String> {
+    ghost use Rattle.std.specs.Prelude.{ℕ};
+
+    ghost Item = { List ℕ };
+
+    ghost items = { answer_texts };
+
+    ghost contents = { λ v. map string_bytes v.items };
+
+    fn write(&mut self, alloc: Global, answer: &Answer<'_>) -> Result<(), AllocError> {
+        self.push(reply_text(alloc, answer)?)?;
+        Ok(())
+    }
+}

@@ -1,0 +1,222 @@
+//! The answers to one message, by what a desk replied.
+ghost use Rattle.std.specs.Prelude.{◌≡◌, ◌∷◌, [], ◌++◌, map, OnOk, option_map, Ok, Err};
+ghost use Rattle.sdb_desk.specs.ReplyView.{plain_reply};
+ghost use Rattle.sdb_oplog.specs.Keys.{plain_key};
+ghost use Rattle.sdb_session.specs.ProjectionModel.{projected_entry};
+ghost use Rattle.sdb_session.specs.Output.{answer_items};
+ghost use Rattle.sdb_session.specs.View.{plain_opened, plain_projection_option, echo_of_message, WroteAnswers};
+ghost use Rattle.sdb_session.specs.Responses.{entry_answers, submit_answers, subscribe_end_answers};
+ghost use Rattle.sdb_value.specs.View.{value_of};
+ghost use Rattle.sdb_wire.specs.Answers.{op_message, failed, subscribed};
+ghost use Rattle.sdb_wire.specs.View.{plain_answer};
+
+use crate::answer_sink::AnswerSink;
+use crate::op_text_cache::OpTextCache;
+use crate::projection::{DocumentRef, projected_content, projected_document};
+use sdb_desk::{Reply, SubscribeResult};
+use sdb_json::JsonTree;
+use sdb_oplog::{Code, Entry, Key, Submission};
+use sdb_projection::Projection;
+use sdb_value::Json;
+use sdb_wire::{Answer, echo_of};
+use std::alloc::{AllocError, Global};
+
+// Writes one answer.
+pub(crate) fn write_answer<O: AnswerSink>(
+    alloc: Global,
+    answer: &Answer<'_>,
+    out: &mut O,
+) -> Result<(), AllocError>
+    ensures { OnOk result (WroteAnswers O.items (O.contents out.old) (O.contents out.new) (plain_answer answer.now
+        ∷ [])) }
+{
+    out.write(alloc, answer)
+}
+
+// Writes the error reply to a message.
+pub(crate) fn write_refusal<O: AnswerSink>(
+    alloc: Global,
+    message: Option<&JsonTree<'_>>,
+    code: Code,
+    out: &mut O,
+) -> Result<(), AllocError>
+    ensures { OnOk result (WroteAnswers O.items (O.contents out.old) (O.contents out.new)
+        (failed (echo_of_message message.entry) code ∷ [])) }
+{
+    let echo = echo_of(alloc, message)?;
+    write_answer(alloc, &Answer::Failed { echo: &echo, code }, out)
+}
+
+// Writes a stored operation.
+pub(crate) fn write_entry<O: AnswerSink>(
+    alloc: Global,
+    projection: Option<&Projection>,
+    key: &Key,
+    entry: &Entry,
+    out: &mut O,
+) -> Result<(), AllocError>
+    ensures { OnOk result (WroteAnswers O.items (O.contents out.old) (O.contents out.new)
+        (op_message (plain_key key.now) (projected_entry (plain_projection_option projection.entry) entry.now) ∷ [])) }
+{
+    let shown = projected_content(alloc, projection, entry.content())?;
+    let content = match &shown {
+        Some(content) => content,
+        None => entry.content(),
+    };
+    let answer = Answer::OpMessage {
+        key,
+        entry,
+        content,
+    };
+    write_answer(alloc, &answer, out)
+}
+
+// Writes stored operations.
+pub(crate) fn write_entries<O: AnswerSink>(
+    alloc: Global,
+    target: &DocumentRef<'_>,
+    entries: &[Entry],
+    out: &mut O,
+) -> Result<(), AllocError>
+    ensures { OnOk result (WroteAnswers O.items (O.contents out.old) (O.contents out.new)
+        (entry_answers (plain_projection_option target.now.projection) (plain_key target.now.key.now) entries.now)) }
+{
+    for entry in entries {
+        write_entry(alloc, target.projection, target.key, entry, out)?;
+    }
+    Ok(())
+}
+
+// Writes a stored operation that other sessions are told of too.
+pub(crate) fn write_cached_entry<O: AnswerSink>(
+    alloc: Global,
+    texts: Option<&OpTextCache>,
+    projection: Option<&Projection>,
+    key: &Key,
+    entry: &Entry,
+    out: &mut O,
+) -> Result<(), AllocError>
+    ensures { OnOk result (WroteAnswers O.items (O.contents out.old) (O.contents out.new)
+        (op_message (plain_key key.now) (projected_entry (plain_projection_option projection.entry) entry.now) ∷ [])) }
+{
+    match (texts, projection) {
+        (Some(texts), None) => {
+            let text = texts.get_or_render(alloc, key, entry)?;
+            write_answer(alloc, &Answer::OpText { text: &text }, out)
+        }
+        _ => write_entry(alloc, projection, key, entry, out),
+    }
+}
+
+// Writes stored operations that other sessions are told of too.
+fn write_cached_entries<O: AnswerSink>(
+    alloc: Global,
+    texts: Option<&OpTextCache>,
+    target: &DocumentRef<'_>,
+    entries: &[Entry],
+    out: &mut O,
+) -> Result<(), AllocError>
+    ensures { OnOk result (WroteAnswers O.items (O.contents out.old) (O.contents out.new)
+        (entry_answers (plain_projection_option target.now.projection) (plain_key target.now.key.now) entries.now)) }
+{
+    for entry in entries {
+        write_cached_entry(alloc, texts, target.projection, target.key, entry, out)?;
+    }
+    Ok(())
+}
+
+// Writes stored operations that other sessions are told of too, and the answer that ends them.
+fn write_missed_entries<O: AnswerSink>(
+    alloc: Global,
+    texts: Option<&OpTextCache>,
+    target: &DocumentRef<'_>,
+    entries: &[Entry],
+    last: &Answer<'_>,
+    out: &mut O,
+) -> Result<(), AllocError>
+    ensures { OnOk result (WroteAnswers O.items (O.contents out.old) (O.contents out.new)
+        (entry_answers (plain_projection_option target.now.projection) (plain_key target.now.key.now) entries.now
+        ++ plain_answer last.now ∷ [])) }
+{
+    write_cached_entries(alloc, texts, target, entries, out)?;
+    write_answer(alloc, last, out)
+}
+
+// What was missed comes before the acknowledgement.
+pub(crate) fn write_reply<O: AnswerSink>(
+    alloc: Global,
+    texts: Option<&OpTextCache>,
+    target: &DocumentRef<'_>,
+    message: Option<&JsonTree<'_>>,
+    submission: &Submission,
+    reply: &Reply,
+    out: &mut O,
+) -> Result<(), AllocError>
+    ensures { OnOk result (WroteAnswers O.items (O.contents out.old) (O.contents out.new)
+        (submit_answers (echo_of_message message.entry) (plain_projection_option target.now.projection)
+        (plain_key target.now.key.now)
+        (submission.now).src (submission.now).seq (plain_reply reply.now))) }
+{
+    let (src, seq) = (submission.src(), submission.seq());
+    match reply {
+        Reply::Stored { v, missed } => {
+            let last = Answer::Acknowledged {
+                key: target.key,
+                src,
+                seq,
+                version: *v,
+            };
+            write_missed_entries(alloc, texts, target, missed.as_slice(), &last, out)
+        }
+        Reply::Repeat { v } => {
+            let answer = Answer::Acknowledged {
+                key: target.key,
+                src,
+                seq,
+                version: *v,
+            };
+            write_answer(alloc, &answer, out)
+        }
+        Reply::Refused(code) => write_refusal(alloc, message, *code, out),
+    }
+}
+
+// Writes what ends the answer to a subscriber: the document, or that the stored operations came before.
+pub(crate) fn write_subscribe_end<O: AnswerSink>(
+    alloc: Global,
+    projection: Option<&Projection>,
+    key: &Key,
+    version: Option<u64>,
+    opened: SubscribeResult,
+    out: &mut O,
+) -> Result<(), AllocError>
+    ensures { OnOk result (WroteAnswers O.items (O.contents out.old) (O.contents out.new)
+        (subscribe_end_answers (plain_projection_option projection.entry) (plain_key key.now) version
+        (plain_opened opened))) }
+{
+    match version {
+        None => {
+            let document = projected_document(alloc, projection, opened.snapshot)?;
+            write_subscribed(alloc, key, opened.version, document.as_ref(), out)
+        }
+        Some(_) => write_answer(alloc, &Answer::CaughtUp { key }, out),
+    }
+}
+
+fn write_subscribed<'a, O: AnswerSink>(
+    alloc: Global,
+    key: &'a Key,
+    version: u64,
+    document: Option<&'a Json>,
+    out: &mut O,
+) -> Result<(), AllocError>
+    ensures { OnOk result (WroteAnswers O.items (O.contents out.old) (O.contents out.new)
+        (subscribed (plain_key key.now) version (option_map (λ d. value_of d.now) document.entry) ∷ [])) }
+{
+    let answer = Answer::Subscribed {
+        key,
+        version,
+        document,
+    };
+    write_answer(alloc, &answer, out)
+}

@@ -1,0 +1,161 @@
+//! Pumps: what waits in the queues of a session.
+ghost use Rattle.std.specs.Prelude.{◌≡◌, ⊤, ℕ, IfOk, OnOk, OnErr, length, map, string_bytes, true};
+ghost use Rattle.std.specs.Result.{is_err};
+ghost use Rattle.sdb_oplog.specs.Keys.{plain_key};
+ghost use Rattle.sdb_session.specs.PumpModel.{is_own_entry, entries_of_others, CloseAllCalls, PumpRelation, PumpInterrupted};
+ghost use Rattle.sdb_session.specs.ProjectionModel.{projection_of_key};
+ghost use Rattle.sdb_session.specs.View.{WroteAnswers, has_ended, plain_session};
+ghost use Rattle.sdb_session.specs.Responses.{entry_answers};
+ghost use Rattle.sdb_wire.specs.Answers.{answer_text};
+
+use crate::answer_sink::AnswerSink;
+use crate::answers::write_cached_entry;
+use crate::session::{Ended, Session};
+use crate::subscriptions::take_entries;
+use sdb_oplog::{Entry, Key};
+use sdb_projection::Table;
+use sdb_submit::Desk;
+use std::alloc::AllocError;
+
+/// How many entries were taken, and the texts that are sent of them.
+#[derive(Drop)]
+pub struct Pumped {
+    pub taken: u128,
+    pub texts: Vec<String>,
+}
+
+impl Session {
+    /// The texts of what was stored meanwhile; see [`Session::pump_to`].
+    pub fn pump<D: Desk>(
+        &mut self,
+        desk: &D,
+        pass: &mut D::Pass,
+        table: &Table,
+        max: u64,
+    ) -> Result<Pumped, Ended>
+        requires takes { D.accepts desk.now pass.old }
+        ensures takes { D.accepts desk.now pass.new }
+        ensures number { D.pass_number desk.now pass.new ≡ D.pass_number desk.now pass.old }
+        ensures session { plain_session self.new ≡ plain_session self.old }
+        ensures ended { has_ended self.new ≡ is_err result }
+        ensures again { has_ended self.old ≡ true → is_err result ≡ true }
+        // An ended session asks nobody.
+        ensures asks { has_ended self.old ≡ true → pass.new ≡ pass.old }
+        ensures pumps { IfOk result (λ r. PumpRelation (D.step desk.now) max table.now
+            (plain_session self.old) pass.old r.taken
+            (λ answers. map string_bytes r.texts.items ≡ map answer_text answers) pass.new) }
+        ensures stops { OnErr result (PumpInterrupted (D.step desk.now) max
+            (plain_session self.old) pass.old pass.new) }
+    {
+        let mut texts = Vec::new(self.alloc);
+        match self.pump_to(desk, pass, table, max, &mut texts) {
+            Ok(taken) => Ok(Pumped { taken, texts }),
+            Err(ended) => Err(ended),
+        }
+    }
+
+    /// Takes at most `max` entries of each queue, in the order of subscribing, and writes those that
+    /// aren't the session's own: whose source is not its source, or that came through another collection
+    /// name. It says how many entries were taken.
+    ///
+    /// Where nothing waits it takes no memory. After want of memory the session is [`Ended`], and nothing
+    /// is said of `out`.
+    pub fn pump_to<D: Desk, O: AnswerSink>(
+        &mut self,
+        desk: &D,
+        pass: &mut D::Pass,
+        table: &Table,
+        max: u64,
+        out: &mut O,
+    ) -> Result<u128, Ended>
+        requires takes { D.accepts desk.now pass.old }
+        ensures takes { D.accepts desk.now pass.new }
+        ensures number { D.pass_number desk.now pass.new ≡ D.pass_number desk.now pass.old }
+        ensures session { plain_session self.new ≡ plain_session self.old }
+        ensures ended { has_ended self.new ≡ is_err result }
+        ensures again { has_ended self.old ≡ true → is_err result ≡ true }
+        // An ended session asks nobody.
+        ensures asks { has_ended self.old ≡ true → pass.new ≡ pass.old }
+        ensures pumps { IfOk result (λ taken. PumpRelation (D.step desk.now) max table.now
+            (plain_session self.old) pass.old taken
+            (WroteAnswers O.items (O.contents out.old) (O.contents out.new)) pass.new) }
+        // After an error the first queues were taken from.
+        ensures stops { OnErr result (PumpInterrupted (D.step desk.now) max
+            (plain_session self.old) pass.old pass.new) }
+    {
+        if let Some(ended) = self.ended {
+            return Err(ended);
+        }
+        match self.take_from_each(desk, pass, table, max, out) {
+            Ok(taken) => Ok(taken),
+            Err(error) => Err(self.end_with_error(error)),
+        }
+    }
+
+    fn take_from_each<D: Desk, O: AnswerSink>(
+        &self,
+        desk: &D,
+        pass: &mut D::Pass,
+        table: &Table,
+        max: u64,
+        out: &mut O,
+    ) -> Result<u128, AllocError>
+        requires takes { D.accepts desk.now pass.old }
+        ensures takes { D.accepts desk.now pass.new }
+        ensures number { D.pass_number desk.now pass.new ≡ D.pass_number desk.now pass.old }
+        ensures pumps { IfOk result (λ taken. PumpRelation (D.step desk.now) max table.now
+            (plain_session self.now) pass.old taken
+            (WroteAnswers O.items (O.contents out.old) (O.contents out.new)) pass.new) }
+        ensures stops { OnErr result (PumpInterrupted (D.step desk.now) max
+            (plain_session self.now) pass.old pass.new) }
+    {
+        let mut taken: u128 = 0;
+        for (key, queue) in self.subscriptions.iter() {
+            let entries = take_entries(self.alloc, desk, pass, &queue.base, queue.id, max)?;
+            taken += entries.len() as u128;
+            self.write_entries_of_others(table, key, entries.as_slice(), out)?;
+        }
+        Ok(taken)
+    }
+
+    // Writes the entries that aren't the session's own.
+    fn write_entries_of_others<O: AnswerSink>(
+        &self,
+        table: &Table,
+        key: &Key,
+        entries: &[Entry],
+        out: &mut O,
+    ) -> Result<(), AllocError>
+        ensures { OnOk result (WroteAnswers O.items (O.contents out.old) (O.contents out.new)
+            (entry_answers (projection_of_key table.now (plain_key key.now)) (plain_key key.now)
+            (entries_of_others (plain_session self.now).source (plain_key key.now) entries.now))) }
+    {
+        let projection = table.find(key.collection.as_str());
+        for entry in entries {
+            if !self.is_own(key, entry) {
+                write_cached_entry(self.alloc, self.texts(), projection, key, entry, out)?;
+            }
+        }
+        Ok(())
+    }
+
+    // Whether the entry is of the session's source and came through this collection name.
+    fn is_own(&self, key: &Key, entry: &Entry) -> bool
+        ensures { result ≡ is_own_entry (plain_session self.now).source (plain_key key.now) entry.now }
+    {
+        let arrived = entry.arrived();
+        arrived.src() == self.source.as_str() && arrived.via() == key.collection.as_str()
+    }
+
+    /// Ends the session: closes its queues. It takes no memory.
+    pub fn end<D: Desk>(self, desk: &D, pass: &mut D::Pass)
+        requires takes { D.accepts desk.now pass.old }
+        ensures takes { D.accepts desk.now pass.new }
+        ensures number { D.pass_number desk.now pass.new ≡ D.pass_number desk.now pass.old }
+        ensures closed { CloseAllCalls (D.step desk.now) (plain_session self).subs pass.old pass.new }
+    {
+        for (_, queue) in self.subscriptions.iter() {
+            desk.unsubscribe(pass, &queue.base, queue.id);
+        }
+    }
+}

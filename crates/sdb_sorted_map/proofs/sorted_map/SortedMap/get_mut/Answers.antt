@@ -1,0 +1,30 @@
+use Rattle.std.proofs.Common.{option_map, ap, sym, ◌∙◌}
+use Rattle.sdb_chunks.specs.Laws.{unique_vec_at_of_all}
+use Rattle.sdb_sorted_map.specs.Laws.{lookup_of_key_index, lookup_none_of_insert_index}
+use Rattle.sdb_sorted_map.specs.SortedMap.{map_entry_models}
+use Rattle.sdb_sorted_map.proofs.EditLemmas.{ascending_kept, length_kept, found_seen, gap_seen, own_flat}
+use Rattle.sdb_sorted_map.proofs.sorted_map.SortedMap.get_mut.Goals as goal
+
+pub invariant_of-self-lent : goal.invariant_of-self-lent
+invariant_of-self-lent g c r =
+    let m = c.args.self.now in
+    let f = g.V.TryClone.model in
+    let k = c.args.key.now in
+    let i = c.in-Ok.index in
+    let held = c.entry_value_mut.follows in (
+      λ w. let e = held.holds w in (length_kept f m.entries (held.lender w) k i e m.small, (ascending_kept f m.entries (held.lender w) k i e m.keys_ascending, tt)),
+      let e = held.holds-at-none in (length_kept f m.entries held.lender-at-none k i e m.small, (ascending_kept f m.entries held.lender-at-none k i e m.keys_ascending, tt)),
+    )
+
+pub returns-in-Ok : goal.returns-in-Ok
+returns-in-Ok g c own =
+    let f = g.V.TryClone.model in
+    let l = c.args.self.now.entries in
+    let i = c.in-Ok.index in
+    c.entry_value_mut.ensures.value (unique_vec_at_of_all l i own) (own_flat l own)
+    ∙ sym (lookup_of_key_index c.args.key.now (map_entry_models f c.args.self.now) i (found_seen f l l c.args.key.now i c.in-Ok.ensures.found))
+
+pub returns-in-Err : goal.returns-in-Err
+returns-in-Err g c own =
+    let m = c.args.self.now in
+    sym (lookup_none_of_insert_index c.args.key.now (map_entry_models g.V.TryClone.model m) c.in-Err.field-0 (gap_seen g.V.TryClone.model m.entries m.entries c.args.key.now c.in-Err.field-0 c.in-Err.ensures.gap))

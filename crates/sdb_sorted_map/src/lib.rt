@@ -1,0 +1,14 @@
+//! Members of an object, in the order of their keys' bytes, in pieces.
+#![tactic(auto)]
+
+mod iter;
+mod map_entry;
+mod map_key;
+mod search;
+mod sorted_map;
+mod value_mut;
+
+pub use iter::Iter;
+pub use map_entry::MapEntry;
+pub use map_key::MapKey;
+pub use sorted_map::SortedMap;

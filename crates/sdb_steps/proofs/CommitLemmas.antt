@@ -1,0 +1,113 @@
+-- What a commit of the shard is to the attempt.
+use Rattle.std.proofs.Common.{◌≡◌, ℕ, ◌+◌, ◌<◌, List, length, Bool, true, false, ◌||◌, nat_eq, Option, Some, None, inl, inr, refl, sym, ap, ◌∙◌, arith}
+use Rattle.std.specs.Option.{is_some}
+use Rattle.std.proofs.lemmas.Bool.{eq-eqb, eqb-true}
+use Rattle.std.proofs.lemmas.Bool.Decides.{nat_tests}
+use Rattle.sdb_oplog.specs.declared.codes.Code.TheVariants.{E10}
+use Rattle.sdb_oplog.specs.Plain.{PlainEntry, PlainSubmission}
+use Rattle.sdb_oplog.specs.Keys.{PlainKey, Logs, with_log}
+use Rattle.sdb_oplog.specs.Decide.{PlainReply, refused, decide, decide_allocates}
+use Rattle.sdb_oplog.specs.Laws.{decide_not_out_of_memory}
+use Rattle.sdb_desk.specs.ShardView.{logs_of, queues_of}
+use Rattle.sdb_desk.specs.Machine.{PlainLook, PlainAttempt, decided, moved, CommitAllocates, CommitsOrOutOfMemory, DecidesOrOutOfMemory}
+use Rattle.sdb_desk.specs.declared.shard.Shard.{Shard}
+use Rattle.sdb_steps.specs.OneStep as machine
+use Rattle.sdb_steps.specs.OneStep.{OneStep, machine_after_event}
+use Rattle.sdb_steps.specs.Picks as plain
+use Rattle.sdb_steps.specs.Dispatch.{AttemptCommits}
+use Rattle.sdb_steps.specs.StateView.{one_step_of_shard}
+
+-- ---- the machine of a shard
+
+pub same_core : (m n : Shard) → logs_of n ≡ logs_of m → queues_of n ≡ queues_of m → one_step_of_shard n ≡ one_step_of_shard m
+same_core m n l q = λ i. record { logs = l i; issued_ids = λ k. (q i k).next }
+
+stored_core : (m n : Shard) (k : PlainKey) (s : PlainSubmission) (now : ℕ) → logs_of n ≡ with_log (logs_of m) k (decide (logs_of m k) s now).log → queues_of n ≡ queues_of m → one_step_of_shard n ≡ machine_after_event (one_step_of_shard m) (machine.submission k s now)
+stored_core m n k s now l q = λ i. record { logs = l i; issued_ids = λ j. (q i j).next }
+
+-- ---- tries
+
+-- an attempt that a work is of
+abbrev pub attempt_of : PlainKey → PlainAttempt → ℕ → Bool → plain.PlainOpenAttempt
+attempt_of k w tries worked = record { key = k; submission = w.submission; looked_version = w.look.version; tries = tries; is_worked = worked }
+
+or_true : (b : Bool) → (b || true) ≡ true
+or_true true = refl
+or_true false = refl
+
+commit_out_of_memory : (logs new : Logs) (k : PlainKey) (w : PlainAttempt) (now : ℕ) (r : PlainReply) → r ≡ refused E10 → CommitsOrOutOfMemory logs k w now (decided r) new → new ≡ logs
+commit_out_of_memory logs new k w now r is (inl h) = h.1
+commit_out_of_memory logs new k w now r is (inr h) = absurd (decide_not_out_of_memory (logs k) w.submission now (sym h.1 ∙ is))
+
+or_first : (b c : Bool) → c ≡ false → (b || c) ≡ true → b ≡ true
+or_first true c none h = refl
+or_first false c none h = let never : false ≡ true = sym none ∙ h in cc
+
+takes_if : (log : List PlainEntry) (w : PlainAttempt) → CommitAllocates log w → length log ≡ w.look.version → decide_allocates log w.submission ≡ true
+takes_if log w (inl h) e = absurd (h.0 e)
+takes_if log w (inr h) e = h.1
+
+commit_allocates : (logs new : Logs) (k : PlainKey) (w : PlainAttempt) (now : ℕ) (r : PlainReply) → r ≡ refused E10 → CommitsOrOutOfMemory logs k w now (decided r) new → length (logs k) ≡ w.look.version → decide_allocates (logs k) w.submission ≡ true
+commit_allocates logs new k w now r is (inl h) e = takes_if (logs k) w h.2 e
+commit_allocates logs new k w now r is (inr h) e = absurd (decide_not_out_of_memory (logs k) w.submission now (sym h.1 ∙ is))
+
+pub tries_wanting : (m n : Shard) (k : PlainKey) (w : PlainAttempt) (now : ℕ) (r : PlainReply) (tries : ℕ) (worked : Bool) (o : plain.PlainOpenAttempt) → tries < 8 → r ≡ refused E10 → CommitsOrOutOfMemory (logs_of m) k w now (decided r) (logs_of n) → queues_of n ≡ queues_of m
+    → o ≡ attempt_of k w tries worked → AttemptCommits (one_step_of_shard m) (attempt_of k w tries worked) now plain.out_of_memory (one_step_of_shard n) (Some o)
+tries_wanting m n k w now r tries worked o few is h q same =
+    let more : nat_eq tries 8 ≡ false = grind (arith, nat_tests) in (
+      same_core m n (commit_out_of_memory (logs_of m) (logs_of n) k w now r is h) q,
+      ap Some same,
+      (λ d. commit_allocates (logs_of m) (logs_of n) k w now r is h (eqb-true (length (logs_of m k)) w.look.version (or_first (nat_eq (length (logs_of m k)) w.look.version) (nat_eq tries 8) more d))),
+    )
+
+-- an attempt that wasn't worked, of a log that has moved
+pub unworked_wanting : (m : Shard) (a o : plain.PlainOpenAttempt) (now : ℕ) → a.tries < 8 → (length (logs_of m a.key) ≡ a.looked_version → ⊥) → o ≡ a → AttemptCommits (one_step_of_shard m) a now plain.out_of_memory (one_step_of_shard m) (Some o)
+unworked_wanting m a o now few apart same =
+    let more : nat_eq a.tries 8 ≡ false = grind (arith, nat_tests) in (
+      refl,
+      ap Some same,
+      (λ d. absurd (apart (eqb-true (length (logs_of m a.key)) a.looked_version (or_first (nat_eq (length (logs_of m a.key)) a.looked_version) (nat_eq a.tries 8) more d)))),
+    )
+
+-- an attempt must decide on the ninth try, and where the log is as long as looked at
+pub last_decides : (m : Shard) (a : plain.PlainOpenAttempt) → a.tries ≡ 8 → plain.is_deciding (one_step_of_shard m) a ≡ true
+last_decides m a last = let b = nat_eq (length (logs_of m a.key)) a.looked_version in ap (λ t. b || nat_eq t 8) last ∙ or_true b
+
+pub same_decides : (m : Shard) (a : plain.PlainOpenAttempt) → length (logs_of m a.key) ≡ a.looked_version → plain.is_deciding (one_step_of_shard m) a ≡ true
+same_decides m a e = ap (λ b. b || nat_eq a.tries 8) (eq-eqb (length (logs_of m a.key)) a.looked_version e)
+
+pub tries_decided : (m n : Shard) (k : PlainKey) (w : PlainAttempt) (now : ℕ) (r : PlainReply) (tries : ℕ) (worked : Bool) → (r ≡ refused E10 → ⊥) → CommitsOrOutOfMemory (logs_of m) k w now (decided r) (logs_of n) → queues_of n ≡ queues_of m
+    → AttemptCommits (one_step_of_shard m) (attempt_of k w tries worked) now (plain.reply_answer (machine.decided r)) (one_step_of_shard n) None
+tries_decided m n k w now r tries worked enough (inl h) q = absurd (enough h.0)
+tries_decided m n k w now r tries worked enough (inr h) q =
+    let looked : nat_eq (length (logs_of m k)) w.look.version ≡ true = eq-eqb (length (logs_of m k)) w.look.version h.0 in
+    (ap (λ b. b || nat_eq tries 8) looked, ap machine.decided h.1, stored_core m n k w.submission now h.2 q, refl)
+
+pub tries_moved : (m n : Shard) (k : PlainKey) (w : PlainAttempt) (now : ℕ) (l : PlainLook) (tries : ℕ) (worked : Bool) (o : plain.PlainOpenAttempt) → tries < 8 → CommitsOrOutOfMemory (logs_of m) k w now (moved l) (logs_of n) → queues_of n ≡ queues_of m
+    → o ≡ record { key = k; submission = w.submission; looked_version = l.version; tries = tries + 1; is_worked = false } → AttemptCommits (one_step_of_shard m) (attempt_of k w tries worked) now (plain.notice_answer plain.moved) (one_step_of_shard n) (Some o)
+tries_moved m n k w now l tries worked o few h q is =
+    let apart = h.0 in
+    let looked : nat_eq (length (logs_of m k)) w.look.version ≡ false = grind (arith, nat_tests) in
+    let more : nat_eq tries 8 ≡ false = grind (arith, nat_tests) in
+    let again : l.version ≡ length (logs_of m k) = ap (λ x. x.version) h.1 in (
+      ap (λ b. b || nat_eq tries 8) looked ∙ more,
+      refl,
+      same_core m n h.2 q,
+      ap Some (is ∙ ap (λ v. record { key = k; submission = w.submission; looked_version = v; tries = tries + 1; is_worked = false }) again),
+    )
+
+-- ---- the ninth
+
+pub now_wanting : (m n : Shard) (a : plain.PlainOpenAttempt) (now : ℕ) (r : PlainReply) → r ≡ refused E10 → DecidesOrOutOfMemory (logs_of m) a.key a.submission now r (logs_of n) → queues_of n ≡ queues_of m → AttemptCommits (one_step_of_shard m) a now plain.out_of_memory (one_step_of_shard n) (Some a)
+now_wanting m n a now r is (inl h) q = (same_core m n h.1 q, refl, (λ d. h.2))
+now_wanting m n a now r is (inr h) q = absurd (decide_not_out_of_memory (logs_of m a.key) a.submission now (sym h.0 ∙ is))
+
+pub now_decided : (m n : Shard) (a : plain.PlainOpenAttempt) (now : ℕ) (r : PlainReply) → plain.is_deciding (one_step_of_shard m) a ≡ true → (r ≡ refused E10 → ⊥) → DecidesOrOutOfMemory (logs_of m) a.key a.submission now r (logs_of n) → queues_of n ≡ queues_of m → AttemptCommits (one_step_of_shard m) a now (plain.reply_answer (machine.decided r)) (one_step_of_shard n) None
+now_decided m n a now r due enough (inl h) q = absurd (enough h.0)
+now_decided m n a now r due enough (inr h) q = (due, ap machine.decided h.0, stored_core m n a.key a.submission now h.1 q, refl)
+
+-- ---- options
+
+pub none_of : {A : Type 0} (o : Option A) → is_some o ≡ false → None ≡ o
+none_of None h = refl
+none_of (Some x) h = cc

@@ -1,0 +1,51 @@
+use Rattle.std.proofs.Common.{◌+◌, false, refl, ap, ◌∙◌, subst}
+use Rattle.sdb_oplog.specs.Keys.{plain_key}
+use Rattle.sdb_desk.specs.ShardView.{logs_of}
+use Rattle.sdb_steps.specs.LookInvariant.{attempt_in}
+use Rattle.sdb_desk.specs.Machine.{PlainAttempt, decided, WorkAfterCommit}
+use Rattle.sdb_desk.specs.ReplyView.{plain_reply}
+use Rattle.sdb_desk.specs.View.{plain_look}
+use Rattle.sdb_steps.specs.Picks as plain
+use Rattle.sdb_steps.proofs.CommitLemmas.{attempt_of, tries_wanting, tries_decided, tries_moved}
+use Rattle.sdb_steps.proofs.LookLemmas.{looked_wanting, looked_moved}
+use Rattle.sdb_steps.proofs.attempt.commit_work.Goals as goal
+
+pub returns-then-is_out_of_memory-clause-tries : goal.returns-then-is_out_of_memory-clause-tries
+returns-then-is_out_of_memory-clause-tries c =
+    let k = plain_key c.args.key in
+    let said = c.in-Decided.ensures in
+    let wanting = c.if-is_out_of_memory.ensures.wanting refl in
+    tries_wanting c.args.shard.now c.commit.new.self k c.args.work c.args.now (plain_reply c.in-Decided.reply) c.args.tries c.args.is_worked _ c.requires.few wanting said.commits said.queues
+    (c.restore_attempt-phase.ensures.plain k c.args.tries ∙ ap (λ (w : PlainAttempt). attempt_of k w c.args.tries c.args.is_worked) (subst (λ r. WorkAfterCommit (decided r) c.args.work c.commit.new.work) wanting said.is_made))
+
+pub returns-else-is_out_of_memory-clause-tries : goal.returns-else-is_out_of_memory-clause-tries
+returns-else-is_out_of_memory-clause-tries c =
+    let k = plain_key c.args.key in
+    let said = c.in-Decided.ensures in
+    tries_decided c.args.shard.now c.commit.new.self k c.args.work c.args.now (plain_reply c.in-Decided.reply) c.args.tries c.args.is_worked (c.if-is_out_of_memory.ensures.enough refl) said.commits said.queues
+
+pub returns-in-Moved-clause-tries : goal.returns-in-Moved-clause-tries
+returns-in-Moved-clause-tries c =
+    let k = plain_key c.args.key in
+    let said = c.in-Moved.ensures in
+    let n = c.args.tries + 1 in
+    let v = c.in-Moved.look.version in
+    let again : PlainAttempt → plain.PlainOpenAttempt = λ w. record { key = k; submission = w.submission; looked_version = v; tries = n; is_worked = false } in
+    tries_moved c.args.shard.now c.commit.new.self k c.args.work c.args.now (plain_look c.in-Moved.look) c.args.tries c.args.is_worked _ c.requires.few said.commits said.queues (c.look_again-phase.ensures.plain k n ∙ ap again said.is_made)
+
+pub returns-then-is_out_of_memory-clause-looked : goal.returns-then-is_out_of_memory-clause-looked
+returns-then-is_out_of_memory-clause-looked c =
+    let k = plain_key c.args.key in
+    let said = c.in-Decided.ensures in
+    let r = plain_reply c.in-Decided.reply in
+    let wanting = c.if-is_out_of_memory.ensures.wanting refl in
+    looked_wanting (logs_of c.args.shard.now) (logs_of c.commit.new.self) k (attempt_in c.restore_attempt-phase.result) c.args.work c.args.now r wanting said.commits
+    (c.restore_attempt-phase.ensures.attempt ∙ subst (λ r. WorkAfterCommit (decided r) c.args.work c.commit.new.work) wanting said.is_made) c.requires.looked
+
+pub returns-in-Moved-clause-looked : goal.returns-in-Moved-clause-looked
+returns-in-Moved-clause-looked c =
+    let k = plain_key c.args.key in
+    let said = c.in-Moved.ensures in
+    let l = plain_look c.in-Moved.look in
+    let again : PlainAttempt → PlainAttempt = λ w. record { submission = w.submission; look = l } in
+    looked_moved (logs_of c.args.shard.now) (logs_of c.commit.new.self) k (attempt_in c.look_again-phase.result) c.args.work c.args.now l said.commits (c.look_again-phase.ensures.attempt ∙ ap again said.is_made)

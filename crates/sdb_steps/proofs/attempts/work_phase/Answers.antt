@@ -1,5 +1,0 @@
-use Rattle.std.proofs.Common.{sym, ◌∙◌}
-use Rattle.sdb_steps.proofs.attempts.work_phase.Goals as goal
-
-pub returns-in-Err-clause-works : goal.returns-in-Err-clause-works
-returns-in-Err-clause-works c = λ k n. (sym c.is_worked.ensures ∙ c.if-is_worked.false, c.in-Err.ensures.err k n)

@@ -1,6 +1,0 @@
-use Rattle.std.proofs.Common.{None, Some}
-use Rattle.sdb_desk.specs.MapViewLaws.{write_through}
-use Rattle.sdb_steps.proofs.queue_slots.fill_slot.Goals as goal
-
-pub returns : goal.returns
-returns c = write_through None c.args.slots.now.entries _ c.args.key.now c.in-Some.slot.now (Some c.args.id) c.in-Some.ensures.value (c.get_mut.follows.holds (Some c.args.id)).0

@@ -1,0 +1,29 @@
+use Rattle.std.proofs.Common.{map}
+use Rattle.std.proofs.KnownBytes.{Appends-nil}
+use Rattle.std.proofs.Common.{inl}
+use Rattle.std.proofs.lemmas.Option.{IfSome_then}
+use Rattle.sdb_lines.specs.Lines.{readable_text, lines_of}
+use Rattle.sdb_steps.proofs.DumpLemmas.{unwritten_front, dump_written, dumped_front, writes_on, reads_on, if_ok_both}
+use Rattle.sdb_steps.proofs.OutputLemmas.{if_any_some, on_any_err, on_err}
+use Rattle.sdb_steps.proofs.world_dump.run_dump.Goals as goal
+
+pub returns-in_err-run_lines-clause-front : goal.returns-in_err-run_lines-clause-front
+returns-in_err-run_lines-clause-front g c =
+    on_any_err _ (IfSome_then (g.R.Source.remaining_input c.args.reader.now) c.in_err-run_lines.ensures.front
+    (λ input a. unwritten_front _ (map readable_text (lines_of input)) _ _ a))
+
+pub returns-clause-whole : goal.returns-clause-whole
+returns-clause-whole g c =
+    if_ok_both c.dump.result _ _ (λ wrote n counted. IfSome_then (g.R.Source.remaining_input c.args.reader.now) c.in_ok-run_lines.ensures.whole
+    (λ input a. dump_written _ c.run_lines.new.machine (map readable_text (lines_of input)) _ _ _ n c.in_ok-new.ensures.machine c.in_ok-new.ensures.sessions a wrote counted)) c.dump.ensures.whole c.dump.ensures.entries
+
+pub returns-clause-front : goal.returns-clause-front
+returns-clause-front g c =
+    on_err c.dump.result (λ wrote. IfSome_then (g.R.Source.remaining_input c.args.reader.now) c.in_ok-run_lines.ensures.whole
+    (λ input a. dumped_front _ c.run_lines.new.machine (map readable_text (lines_of input)) _ _ _ c.in_ok-new.ensures.machine c.in_ok-new.ensures.sessions a wrote)) c.dump.ensures.front
+
+pub returns-clause-reads : goal.returns-clause-reads
+returns-clause-reads g c = reads_on c.dump.result _ _ _ _ c.in_ok-run_lines.ensures.reads c.dump.ensures.read
+
+pub returns-clause-writes : goal.returns-clause-writes
+returns-clause-writes g c = writes_on c.dump.result _ _ _ c.in_ok-run_lines.ensures.writes c.dump.ensures.writes

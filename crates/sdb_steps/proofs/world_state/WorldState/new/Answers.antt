@@ -1,0 +1,29 @@
+use Rattle.std.proofs.Common.{◌≡◌, ◌+◌, ◌∷◌, [], ◌++◌, List, length, length-append, arith, ap, sym, subst, ◌∙◌}
+use Rattle.sdb_desk.specs.ShardView.{logs_of}
+use Rattle.sdb_steps.specs.LookInvariant.{AllHaveLookAt}
+use Rattle.sdb_steps.specs.StateView.{session_states_of, queue_slots_at}
+use Rattle.sdb_steps.specs.declared.session_data.Session.{Session}
+use Rattle.sdb_steps.proofs.LookLemmas.{looked_more, looked_none}
+use Rattle.sdb_steps.proofs.WorldLemmas.{none_more, fresh_more, fresh_session}
+use Rattle.sdb_steps.proofs.world_state.WorldState.new.Goals as goal
+
+pub invariant_of-result : goal.invariant_of-result
+invariant_of-result c = record {
+  all = omega (arith, c.loop.invariant.count, c.loop-test.false, c.loop.auto.counter-end);
+  slots_open = λ i k n at. let e = c.loop.invariant.empty i k in cc;
+  apart = λ i j k n at by. let e = c.loop.invariant.empty i k in cc;
+  looked = c.loop.invariant.looked (logs_of c.new-2.result);
+}
+
+pub loop-preserved : goal.loop-preserved
+loop-preserved c =
+    let xs = c.loop.sessions.items in
+    let x = c.new.result in
+    let pushed = c.in_ok-push.ensures.items in
+    let more : length (xs ++ x ∷ []) ≡ length xs + 1 = length-append xs (x ∷ []) in
+    record {
+      count = ap length pushed ∙ more ∙ ap (λ n. n + 1) c.loop.invariant.count;
+      unused = λ q n. ap (λ (ys : List Session). session_states_of q ys n) pushed ∙ fresh_more q xs x (fresh_session q x c.new.ensures.attempt c.new.ensures.slots) (c.loop.invariant.unused q) n;
+      looked = λ logs. subst (λ (ys : List Session). AllHaveLookAt logs ys) (sym pushed) (looked_more logs xs x (looked_none logs x.attempt c.new.ensures.attempt) (c.loop.invariant.looked logs));
+      empty = λ n k. ap (λ (ys : List Session). queue_slots_at ys n k) pushed ∙ none_more xs x c.new.ensures.slots c.loop.invariant.empty n k;
+    }

@@ -1,0 +1,10 @@
+use Rattle.std.proofs.Common.{◌≡◌, ◌∷◌, [], ◌++◌, codes, ◌∙◌, rules, append_assoc}
+use Rattle.std.proofs.lemmas.Result.{on_ok_weaker}
+use Rattle.json.specs.Token.{begin_object, key}
+use Rattle.sdb_steps.proofs.write_answer.write_taken.Goals as goal
+
+pub returns-clause-tokens : goal.returns-clause-tokens
+returns-clause-tokens c =
+    let opened : c.begin_object.new.self.tokens ≡ c.args.out.now.tokens ++ begin_object ∷ [] = search rules in
+    let named : c.key.new.self.tokens ≡ c.write_text.new.out.tokens ++ key (codes "ops") ∷ [] = search rules in
+    on_ok_weaker c.end_object.result (λ e. e ∙ rw (c.in_ok-write_count.ensures.tokens, c.in_ok-write_entries.ensures.tokens, named, c.in_ok-write_text.ensures.tokens, opened) (simp append_assoc (search rules))) c.end_object.ensures.ok

@@ -1,0 +1,65 @@
+//! The parts of a world.
+ghost use Rattle.std.specs.Prelude.{◌≡◌, ℕ, length, IfOk};
+ghost use Rattle.sdb_oplog.specs.Keys.{no_logs};
+ghost use Rattle.sdb_desk.specs.ShardView.{logs_of, queues_of};
+ghost use Rattle.sdb_desk.specs.Machine.{no_queues};
+ghost use Rattle.sdb_steps.specs.Picks.{empty_sessions};
+ghost use Rattle.sdb_steps.specs.Runs.{IsStep};
+ghost use Rattle.sdb_steps.specs.StateView.{one_step_of_shard, session_states_of, queue_slots_at};
+ghost use Rattle.sdb_steps.specs.Slots.{SlotsOpen, SlotsDisjoint};
+ghost use Rattle.sdb_steps.specs.LookInvariant.{AllHaveLookAt};
+ghost use Rattle.sdb_steps.specs.LookInvariantProps.{AllLooked-prop};
+ghost use Rattle.sdb_steps.specs.View.{plain_session_step, plain_step_answer};
+
+use crate::dispatch::dispatch;
+use crate::session_data::Session;
+use crate::session_number::SESSION_LIMIT;
+use crate::step::{Step, StepAnswer};
+use sdb_desk::Shard;
+use std::alloc::{AllocError, Global};
+
+// All documents, and what each session keeps. Each queue in a slot is open under the number of its session,
+// no two sessions have one queue, and each attempt rests on a look at the log of its key.
+#[derive(Drop)]
+pub(crate) struct WorldState {
+    alloc: Global,
+    pub shard: Shard,
+    pub sessions: Vec<Session>,
+    ghost all: { length sessions.items ≡ 64 },
+    ghost slots_open: { (i : ℕ) → SlotsOpen i (queues_of shard) (queue_slots_at sessions.items i) },
+    ghost apart: { SlotsDisjoint (queue_slots_at sessions.items) },
+    ghost looked: { AllHaveLookAt (logs_of shard) sessions.items } by { AllLooked-prop (logs_of shard) sessions.items },
+}
+
+impl WorldState {
+    pub(crate) fn new(alloc: Global) -> Result<WorldState, AllocError>
+        ensures logs { IfOk result (λ p. logs_of p.shard ≡ no_logs) }
+        ensures queues { IfOk result (λ p. queues_of p.shard ≡ (λ k. no_queues)) }
+        ensures sessions { IfOk result (λ p. session_states_of (queues_of p.shard) p.sessions.items ≡ empty_sessions) }
+    {
+        let mut sessions = Vec::new(alloc);
+        for _ in 0..SESSION_LIMIT {
+            sessions.push(Session::new(alloc))?;
+        }
+        Ok(WorldState {
+            alloc,
+            shard: Shard::new(alloc),
+            sessions,
+        })
+    }
+
+    pub(crate) fn step(&mut self, step: &Step) -> StepAnswer
+        ensures { IsStep (one_step_of_shard self.old.shard) (session_states_of
+            (queues_of self.old.shard) self.old.sessions.items)
+            (plain_session_step step.now) (plain_step_answer result)
+            (one_step_of_shard self.new.shard) (session_states_of (queues_of self.new.shard) self.new.sessions.items) }
+    {
+        let number = step.session().number as usize;
+        dispatch(
+            self.alloc,
+            &mut self.shard,
+            &mut self.sessions[number],
+            step,
+        )
+    }
+}

@@ -1,0 +1,103 @@
+//! The command line, and what it asks for.
+use clap::{Arg, ArgAction, Command, Error};
+use sdb_cli::{STATUS_FAULT, STATUS_OK, exit_status, print_help_or_error};
+use sdb_dump::{CheckedDump, DumpFault, check_dump};
+use sdb_lines::{CountingReader, CountingWriter, RunFault};
+use std::alloc::{AllocError, Global};
+use std::io;
+
+// What a command line asks for.
+#[derive(Clone, Copy, PartialEq, Eq, Drop)]
+pub(crate) enum Job {
+    // The answers to steps.
+    Run,
+    // What is stored after them, as a dump.
+    Dump,
+    // Whether the input is such a dump.
+    Check,
+}
+
+fn command<'a>(alloc: Global) -> Result<Command<'a>, AllocError> {
+    let dump = Arg::new(alloc, "dump")
+        .long("dump")
+        .help("Writes no answers, but at the end the dump of what is stored")
+        .action(ArgAction::SetTrue);
+    let check = Arg::new(alloc, "check")
+        .long("check")
+        .help("Checks that standard input is such a dump")
+        .action(ArgAction::SetTrue)
+        .conflicts_with("dump")?;
+    Command::new(alloc, "sdb_steps_program")
+        .about(
+            "Answers lines on standard input, each a step of one of 64 sessions on JSON documents",
+        )
+        .arg(dump)?
+        .arg(check)
+}
+
+// What a command line asks for. Help and what is refused are errors.
+pub(crate) fn parse_job(alloc: Global, words: &[String]) -> Result<Job, Error> {
+    let matches = command(alloc)?.try_get_matches_from(words)?;
+    if matches.get_flag("dump") {
+        return Ok(Job::Dump);
+    }
+    if matches.get_flag("check") {
+        return Ok(Job::Check);
+    }
+    Ok(Job::Run)
+}
+
+// Does what the words ask for, and gives the status.
+pub(crate) fn run<R>(rt: &R, words: &[String]) -> anyhow::Result<u8>
+where
+    R: AllocGlobal + Input + Print + Eprint,
+{
+    match parse_job(rt.alloc(), words) {
+        Ok(Job::Check) => Ok(check_input(rt)),
+        Ok(job) => Ok(run_input(rt, job == Job::Dump)),
+        Err(error) => print_help_or_error(rt, &error),
+    }
+}
+
+// Takes the steps on standard input, and writes the dump of what they store, or their answers.
+fn run_input<R: AllocGlobal + Input + Print>(rt: &R, is_dumping: bool) -> u8 {
+    let mut reader = CountingReader::new(rt.reader());
+    let mut writer = CountingWriter::new(io::writer(rt));
+    let fault = if is_dumping {
+        sdb_steps::run_dump(rt.alloc(), &mut reader, &mut writer).err()
+    } else {
+        sdb_steps::run(rt.alloc(), &mut reader, &mut writer).err()
+    };
+    match fault {
+        Some(fault) => exit_status(rt, fault),
+        None => STATUS_OK,
+    }
+}
+
+// Tells whether standard input is a dump.
+fn check_input<R: AllocGlobal + Input + Print>(rt: &R) -> u8 {
+    let mut reader = CountingReader::new(rt.reader());
+    print_check(rt, check_dump(rt.alloc(), &mut reader))
+}
+
+// Tells what came of a check, and gives the status.
+pub(crate) fn print_check(rt: &impl Print, checked: Result<CheckedDump, DumpFault>) -> u8 {
+    match checked {
+        Ok(
+            CheckedDump {
+                documents,
+                entries,
+                ..
+            },
+        ) => match println!(rt; "accepted {documents} documents, {entries} entries") {
+            Ok(()) => STATUS_OK,
+            Err(_) => STATUS_FAULT,
+        },
+        Err(DumpFault::ReadFailed) => exit_status(rt, RunFault::ReadFailed),
+        Err(DumpFault::OutOfMemory) => exit_status(rt, RunFault::OutOfMemory),
+        Err(wrong) => {
+            let _ = println!(rt; "{wrong}");
+            STATUS_FAULT
+        }
+    }
+}

@@ -1,0 +1,18 @@
+use Rattle.std.proofs.Common.{◌≡◌, ℕ, ◌+◌, ◌<◌, ◌≤◌, length, slice_index_or, vec_capacity}
+use Rattle.sdb_growlock.specs.declared.grow_lock.Seat.{Seat}
+use Rattle.sdb_striped_lock.specs.AtIndex.{AtEachIndex, SeeSameBlankValue}
+use Rattle.sdb_striped_lock.specs.SeatSetModel.{IsSeatNumbered, IsRootSeat}
+use Rattle.sdb_striped_lock.proofs.striped_lock.StripedLock.split_stripes.Given as goal
+
+abbrev pub invariant-loop-place : goal.invariant-loop-place
+invariant-loop-place g l =
+    record {
+      eight : length l.firsts.items ≡ 8;
+      long : length l.seats.items ≡ l.place;
+      room : 8 ≤ vec_capacity l.seats;
+      before : AtEachIndex (IsRootSeat (l.number + 1)) l.firsts.items l.self.locks.items 0 l.place;
+      left : (i : ℕ) (s : Seat g.row.T.Denot) → l.place ≤ i → i < 8 → slice_index_or l.firsts.items i s ≡ slice_index_or l.initial.firsts.items i s;
+      given : AtEachIndex (IsSeatNumbered l.number) l.seats.items l.self.locks.items 0 l.place;
+      seen : (i : ℕ) (s : Seat g.row.T.Denot) → i < l.place
+          → SeeSameBlankValue g.T.Grows.blank (slice_index_or l.initial.firsts.items i s) (slice_index_or l.firsts.items i s) (slice_index_or l.seats.items i s);
+    }

@@ -1,0 +1,204 @@
+//! Eight locks.
+ghost use Rattle.std.specs.Prelude.{◌≡◌, ◌≢◌, ℕ, ◌+◌, ◌<◌, ◌≤◌, [], List, Vec, IfOk, IfErr, OnErr, length, slice_index_or, vec_len, vec_capacity};
+ghost use Rattle.std.specs.Global.{Global};
+ghost use Rattle.sdb_growlock.specs.LockRule.{ForEach};
+ghost use Rattle.sdb_growlock.specs.SeatModel.{BelongsTo};
+ghost use Rattle.sdb_growlock.specs.declared.grow_lock.Seat.{Seat as One};
+ghost use Rattle.sdb_striped_lock.specs.CloseModel.{IsCloseResult, HasEverySeat, IsValueAfterClose};
+ghost use Rattle.sdb_striped_lock.specs.AtIndex.{AtEachIndex, SeeSameBlankValue};
+ghost use Rattle.sdb_striped_lock.specs.Capacity.{HasCapacity};
+ghost use Rattle.sdb_striped_lock.specs.SeatSetModel.{seat_set_number, next_seat_set_number, SeatSetBelongsTo, AreRootSeatsOf, IsSeatNumbered, IsRootSeat, SeatSetHasSeen, RootSeatsHaveSeen, ChangedOnlyAt, HasNumber};
+ghost use Rattle.sdb_striped_lock.specs.declared.operations.SplitFault.TheVariants.{OutOfNumbers, OutOfMemory};
+
+use crate::close_buffers::{CloseBuffers, STRIPES, gather_stripes};
+use crate::striped_lock::{RootSeats, SeatSet, StripedLock};
+use sdb_growlock::{GrowLock, Grows, Job, Seat};
+use std::alloc::{AllocError, Global};
+use std::sync::Wait;
+
+/// A value that grows and can be made anew.
+pub trait Empty: Grows {
+    /// A value that holds nothing under any number.
+    fn empty(alloc: Global) -> Self
+        ensures { (k : ℕ) → Self.blank k result };
+}
+
+/// Why no seats were split off.
+#[derive(Clone, Copy, PartialEq, Eq, Debug, Drop)]
+pub enum SplitFault {
+    /// All numbers below the greatest u64 are given.
+    OutOfNumbers,
+    /// Memory was wanting for the list of seats.
+    OutOfMemory,
+}
+
+impl<T: Empty + Drop> StripedLock<T> {
+    /// Eight locks, each round a fresh value, and their first seats.
+    pub fn new(alloc: Global) -> Result<(StripedLock<T>, RootSeats<T>), AllocError>
+        ensures own { IfOk result (λ made. AreRootSeatsOf made.1 made.0 × (next_seat_set_number made.1 ≡ 1)) }
+        ensures seen { IfOk result (λ made. (i : ℕ) → i < 8 → (x : T) × RootSeatsHaveSeen made.1 i x
+            × ((k : ℕ) → T.blank k x)) }
+    {
+        let mut locks = Vec::with_capacity(alloc, STRIPES)?;
+        let mut seats = Vec::with_capacity(alloc, STRIPES)?;
+        for _place in 0..STRIPES {
+            match GrowLock::new(alloc, T::empty(alloc)) {
+                Ok((lock, seat)) => {
+                    locks.push_reserved(lock);
+                    seats.push_reserved(seat);
+                }
+                Err(_value) => return Err(AllocError),
+            }
+        }
+        Ok((StripedLock { locks }, RootSeats { next: 1, seats }))
+    }
+}
+
+impl<T: Grows> StripedLock<T> {
+    /// Runs the job once, on the value of the lock at a place. That value extends what the seat of this lock
+    /// has seen, and holds under the number of the seats just what it has seen there. The seat has then seen
+    /// what the job left, and the other seats are as they were. Waits until no other caller has that value.
+    pub fn with<J: Job<T>, R: Wait>(
+        &self,
+        rt: &R,
+        seats: &mut SeatSet<T>,
+        place: usize,
+        job: J,
+    ) -> J::Answer
+        requires place { place < 8 }
+        requires own { SeatSetBelongsTo seats.old self.now }
+        requires ready { (x v : T) → SeatSetHasSeen seats.old place x → T.extends v x
+            → T.same (seat_set_number seats.old) x v
+            → J.precondition job (seat_set_number seats.old) v }
+        ensures own { SeatSetBelongsTo seats.new self.now }
+        ensures number { seat_set_number seats.new ≡ seat_set_number seats.old }
+        ensures others { ChangedOnlyAt place seats.old seats.new }
+        ensures done { (x v w : T) × SeatSetHasSeen seats.old place x × T.extends v x
+            × T.same (seat_set_number seats.old) x v
+            × J.postcondition job (seat_set_number seats.old) v w result × T.extends w v
+            × ((k : ℕ) → k ≢ seat_set_number seats.old → T.same k v w) × SeatSetHasSeen seats.new place w }
+    {
+        self.locks[place].with(rt, &mut seats.seats[place], job)
+    }
+
+    /// By the first seats: those of a new caller, with the next number. Each has seen what the first one has
+    /// seen, which holds nothing under the new number. Where there are none, nothing has changed.
+    pub fn split(&self, alloc: Global, first: &mut RootSeats<T>) -> Result<SeatSet<T>, SplitFault>
+        requires { AreRootSeatsOf first.old self.now }
+        ensures own { AreRootSeatsOf first.new self.now }
+        ensures given { IfOk result (λ s. SeatSetBelongsTo s self.now
+            × (seat_set_number s ≡ next_seat_set_number first.old)) }
+        ensures next { IfOk result (λ s. next_seat_set_number first.new ≡ next_seat_set_number first.old + 1) }
+        ensures few { IfOk result (λ s. next_seat_set_number first.old < u64.MAX) }
+        ensures seen { IfOk result (λ s. (i : ℕ) → i < 8 → (x : T) × RootSeatsHaveSeen first.old i x
+            × RootSeatsHaveSeen first.new i x × SeatSetHasSeen s i x × T.blank (seat_set_number s) x) }
+        ensures same { OnErr result (first.new ≡ first.old) }
+        ensures last { IfErr result (λ e. e ≡ OutOfNumbers → next_seat_set_number first.old ≡ u64.MAX) }
+        ensures memory { IfErr result (λ e. e ≡ OutOfMemory → next_seat_set_number first.old ≢ u64.MAX) }
+    {
+        let number = first.next;
+        if number == u64::MAX {
+            return Err(SplitFault::OutOfNumbers);
+        }
+        let Ok(seats) = Vec::with_capacity(alloc, STRIPES) else {
+            return Err(SplitFault::OutOfMemory);
+        };
+        let seats = self.split_stripes(number, &mut first.seats, seats);
+        first.next = number + 1;
+        Ok(SeatSet { number, seats })
+    }
+
+    // The seats that each of the first ones gives, with this number, put into the empty list.
+    fn split_stripes(
+        &self,
+        number: u64,
+        firsts: &mut Vec<Seat<T>>,
+        mut seats: Vec<Seat<T>>,
+    ) -> Vec<Seat<T>>
+        requires eight { length firsts.old.items ≡ 8 }
+        requires room { (vec_len seats ≡ 0) × (8 ≤ vec_capacity seats) }
+        requires number { (0 < number) × (number < u64.MAX) }
+        requires first { AtEachIndex (IsRootSeat number) firsts.old.items self.now.locks.items 0 8 }
+        ensures eight { (length firsts.new.items ≡ 8) × (length result.items ≡ 8) }
+        ensures first { AtEachIndex (IsRootSeat (number + 1)) firsts.new.items self.now.locks.items 0 8 }
+        ensures given { AtEachIndex (IsSeatNumbered number) result.items self.now.locks.items 0 8 }
+        ensures seen { (i : ℕ) (s : One T) → i < 8 → SeeSameBlankValue T.blank (slice_index_or firsts.old.items i s)
+            (slice_index_or firsts.new.items i s) (slice_index_or result.items i s) }
+    {
+        for place in 0..STRIPES {
+            let Ok(seat) = self.locks[place].split(&mut firsts[place]) else {
+                unreachable!()
+            };
+            seats.push_reserved(seat);
+        }
+        seats
+    }
+
+    /// Gives the values back, to whoever has all seats: of each lock, in order. Each extends what every caller
+    /// has seen there, holds under the number of each just what that one has seen, and nothing under a number
+    /// of no caller. It takes no memory: there is room already for what it gathers.
+    pub fn close(
+        self,
+        first: RootSeats<T>,
+        callers: Vec<SeatSet<T>>,
+        places: CloseBuffers<T>,
+    ) -> Vec<T>
+        requires first { AreRootSeatsOf first self }
+        requires callers { ForEach (λ c. SeatSetBelongsTo c self) callers.items }
+        requires all { (k : ℕ) → 0 < k → k < next_seat_set_number first → HasNumber k callers.items }
+        requires room { HasCapacity (length callers.items) places }
+        ensures eight { length result.items ≡ 8 }
+        ensures closed { (i : ℕ) (d : T) → i < 8
+            → IsCloseResult T.extends T.same T.blank first callers.items i (slice_index_or result.items i d) }
+    {
+        let CloseBuffers {
+            seats_by_stripe: mut columns,
+            values,
+        } = places;
+        gather_stripes(&mut columns, first, callers);
+        let StripedLock { locks } = self;
+        close_stripes(locks, columns, values)
+    }
+}
+
+// Closes each lock with its seats. The values are put into the empty list.
+fn close_stripes<T: Grows>(
+    mut locks: Vec<GrowLock<T>>,
+    mut columns: Vec<Vec<Seat<T>>>,
+    mut values: Vec<T>,
+) -> Vec<T>
+    requires eight { (length locks.items ≡ 8) × (length columns.items ≡ 8) }
+    requires room { (vec_len values ≡ 0) × (8 ≤ vec_capacity values) }
+    requires own { AtEachIndex (λ l c. ForEach (λ s. BelongsTo s l) c.items) locks.items columns.items 0 8 }
+    requires all { (i : ℕ) (c : Vec (One T) Global) → i < 8 → HasEverySeat (slice_index_or columns.items i c).items }
+    ensures eight { length result.items ≡ 8 }
+    ensures gives { AtEachIndex (λ c v. IsValueAfterClose T.extends T.same T.blank c.items v) columns.items result.items 0 8 }
+{
+    while let Some(lock) = locks.pop() {
+        let Some(column) = columns.pop() else {
+            unreachable!()
+        };
+        values.push_reserved(lock.close(column));
+    }
+    locks.destroy_empty();
+    values.reverse();
+    values
+}
+
+impl<T> SeatSet<T> {
+    /// The number under which the jobs of these seats are run.
+    pub fn number(&self) -> u64
+        ensures { result ≡ seat_set_number self.now }
+    {
+        self.number
+    }
+}
+
+impl<T> RootSeats<T> {
+    /// The number that the next caller is given.
+    pub fn next(&self) -> u64
+        ensures { result ≡ next_seat_set_number self.now }
+    {
+        self.next
+    }
+}

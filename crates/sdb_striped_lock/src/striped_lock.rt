@@ -1,0 +1,47 @@
+//! The locks, and the seats of a caller.
+ghost use Rattle.std.specs.Prelude.{◌≡◌, length};
+
+use sdb_growlock::{GrowLock, Grows, Seat};
+
+/// Eight locks, each round a value that only grows.
+#[derive(Drop)]
+pub struct StripedLock<T: Grows> {
+    pub(crate) locks: Vec<GrowLock<T>>,
+    ghost has_every_stripe: { length locks.items ≡ 8 },
+}
+
+/// The seats of one caller: one of each lock, all with one number.
+#[derive(Drop)]
+pub struct SeatSet<T> {
+    pub(crate) number: u64,
+    pub(crate) seats: Vec<Seat<T>>,
+    ghost has_every_stripe: { length seats.items ≡ 8 },
+}
+
+impl<T> SeatSet<T> {
+    // The seats, one after the other.
+    pub(crate) fn into_seats(self) -> Vec<Seat<T>>
+        ensures { result ≡ self.seats }
+    {
+        let Self { number: _, seats } = self;
+        seats
+    }
+}
+
+/// The first seats: one of each lock, all with the number 0. They give the seats of all other callers.
+#[derive(Drop)]
+pub struct RootSeats<T> {
+    pub(crate) next: u64,
+    pub(crate) seats: Vec<Seat<T>>,
+    ghost has_every_stripe: { length seats.items ≡ 8 },
+}
+
+impl<T> RootSeats<T> {
+    // The seats, one after the other.
+    pub(crate) fn into_seats(self) -> Vec<Seat<T>>
+        ensures { result ≡ self.seats }
+    {
+        let Self { next: _, seats } = self;
+        seats
+    }
+}

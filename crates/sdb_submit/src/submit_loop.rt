@@ -1,0 +1,72 @@
+//! Submissions.
+ghost use Rattle.std.specs.Prelude.{◌≡◌, IsTrue, IsFalse};
+ghost use Rattle.sdb_oplog.specs.Decide.{refused};
+ghost use Rattle.sdb_oplog.specs.declared.codes.Code.TheVariants.{E10};
+ghost use Rattle.sdb_oplog.specs.Keys.{plain_key};
+ghost use Rattle.sdb_desk.specs.ReplyView.{plain_reply};
+ghost use Rattle.sdb_submit.specs.SubmitLoop.{SubmitRelation};
+
+use crate::desk::{Desk, Gate};
+use crate::work_step::next_work;
+use sdb_desk::{Outcome, Reply};
+use sdb_oplog::{Code, Key, Moment, Submission};
+use std::alloc::Global;
+
+/// Submits at a moment, one for all its tries: a look, then up to eight tries of work and commit, and at
+/// last a commit that decides. A try that found the log moved goes on from there, and the last commit from
+/// what was worked till then. Refusals and repeats are decided at a commit too.
+///
+/// The reply is that of the call that decided. Where memory is wanting for a look, for work or for a
+/// commit, a commit decides at once, which answers E10 only where a decision takes memory itself: nothing
+/// has changed then.
+pub fn submit<D: Desk, G: Gate>(
+    alloc: Global,
+    desk: &D,
+    pass: &mut D::Pass,
+    key: &Key,
+    submission: &Submission,
+    now: Moment,
+    gate: &G,
+) -> Reply
+    requires takes { D.accepts desk.now pass.old }
+    requires by { submission.now.by ≡ D.pass_number desk.now pass.old }
+    ensures takes { D.accepts desk.now pass.new }
+    ensures number { D.pass_number desk.now pass.new ≡ D.pass_number desk.now pass.old }
+    ensures chain { let k = plain_key key.now in
+        SubmitRelation (D.step desk.now k) submission.now now pass.old (plain_reply result) pass.new }
+{
+    let Ok(mut look) = desk.look(pass, key, submission) else {
+        return desk.commit_now(pass, key, submission, now);
+    };
+    let mut last = None;
+    for try_no in 1..=8 {
+        let Some(mut worked) = next_work(alloc, submission, last, look) else {
+            return desk.commit_now(pass, key, submission, now);
+        };
+        gate.before_commit(try_no);
+        match desk.commit(pass, key, &mut worked, now) {
+            Outcome::Decided(reply) => {
+                if is_out_of_memory(&reply) {
+                    return desk.commit_now(pass, key, submission, now);
+                }
+                return reply;
+            }
+            Outcome::Moved(fresh) => {
+                look = fresh;
+                last = Some(worked);
+            }
+        }
+    }
+    match next_work(alloc, submission, last, look) {
+        Some(worked) => desk.commit_last(pass, key, worked, now),
+        None => desk.commit_now(pass, key, submission, now),
+    }
+}
+
+// Whether memory was wanting.
+fn is_out_of_memory(reply: &Reply) -> bool
+    ensures wanting { IsTrue result → plain_reply reply.now ≡ refused E10 }
+    ensures other { IsFalse result → plain_reply reply.now ≡ refused E10 → ⊥ }
+{
+    matches!(reply, Reply::Refused(Code::E10))
+}

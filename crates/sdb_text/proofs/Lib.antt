@@ -1,8 +1,0 @@
-pub mod Blocks
-pub mod Cuts
-pub mod Encoded
-pub mod Grouped
-pub mod Inside
-pub mod Parts
-pub mod Pieces
-pub mod Texts

@@ -1,6 +1,0 @@
-use Rattle.std.proofs.Common.{◌≡◌, take}
-use Rattle.sdb_text.specs.Groups.{texts_in}
-use Rattle.sdb_text.proofs.grouping.shared_each.Given as goal
-
-abbrev pub invariant-loop-group : goal.invariant-loop-group
-invariant-loop-group l = texts_in l.copies.items ≡ texts_in (take l.group-index l.groups)

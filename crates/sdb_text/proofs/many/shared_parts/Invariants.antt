@@ -1,6 +1,0 @@
-use Rattle.std.proofs.Common.{◌≡◌, take}
-use Rattle.sdb_text.specs.Parts.{texts_of}
-use Rattle.sdb_text.proofs.many.shared_parts.Given as goal
-
-abbrev pub invariant-loop-part : goal.invariant-loop-part
-invariant-loop-part l = texts_of l.copies.items ≡ texts_of (take l.part-index l.parts)

@@ -1,6 +1,0 @@
-use Rattle.sdb_text.proofs.Parts.{units_next}
-use Rattle.sdb_text.proofs.places.place.Goals as goal
-
-pub loop-at-preserved : goal.loop-at-preserved
-loop-at-preserved c =
-    units_next c.args.parts.now c.loop-at.at c.loop-at.left c.units-units.result c.args.offset c.index-parts-at.result c.loop-at-test.true c.index-parts-at.is c.units-units.ensures c.if-left-units.false c.loop-at.invariant

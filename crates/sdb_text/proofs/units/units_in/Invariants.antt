@@ -1,9 +1,0 @@
-use Rattle.std.proofs.Common.{◌≡◌, ◌+◌, ◌*◌, ◌≤◌, drop}
-use Rattle.sdb_text.specs.Text.{units}
-use Rattle.sdb_text.proofs.units.units_in.Given as goal
-
-abbrev pub invariant-loop-byte : goal.invariant-loop-byte
-invariant-loop-byte l = record {
-  counted : l.count + units (drop l.byte-index l.chunk) ≡ units l.chunk;
-  few : l.count ≤ 2 * l.byte-index;
-}

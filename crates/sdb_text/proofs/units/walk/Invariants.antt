@@ -1,6 +1,0 @@
-use Rattle.std.proofs.Common.{◌≡◌, ◌+◌, drop, option_map}
-use Rattle.sdb_text.specs.Text.{cut_at}
-use Rattle.sdb_text.proofs.units.walk.Given as goal
-
-abbrev pub invariant-loop-at : goal.invariant-loop-at
-invariant-loop-at l = cut_at l.bytes l.offset ≡ option_map (λ i. l.at + i) (cut_at (drop l.at l.bytes) l.left)

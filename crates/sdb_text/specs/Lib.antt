@@ -1,9 +1,0 @@
-pub mod Blocks
-pub mod Chars
-pub mod Edits
-pub mod Groups
-pub mod Held
-pub mod Left
-pub mod Parts
-pub mod Pieces
-pub mod Text

@@ -1,8 +1,0 @@
-use Rattle.sdb_transform.proofs.Weights.{few_pairs, no_side_gains}
-use Rattle.sdb_transform.proofs.laws.few_pairs.Goals as goal
-
-pub returns-clause-few : goal.returns-clause-few
-returns-clause-few c = few_pairs
-
-pub returns-clause-weights : goal.returns-clause-weights
-returns-clause-weights c = no_side_gains

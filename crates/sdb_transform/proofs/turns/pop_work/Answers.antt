@@ -1,6 +1,0 @@
-use Rattle.sdb_transform.proofs.Stack.{pop_stack}
-use Rattle.sdb_transform.proofs.turns.pop_work.Goals as goal
-
-pub returns : goal.returns
-returns c =
-    pop_stack c.args.work.now.items c.pop.new.self.items c.pop.result _ _ c.args.work.now.ok.0 c.pop.ensures.items c.pop.ensures.cases

@@ -1,0 +1,43 @@
+-- Laws of the table and of the grid.
+use Rattle.std.specs.Prelude.{◌≡◌, ◌*◌, ◌≤◌, List, [], ◌∷◌, Some}
+use Rattle.sdb_component.specs.Plain.{PlainComponent}
+use Rattle.sdb_component.specs.Weight.{component_weight, weight}
+use Rattle.sdb_transform.specs.declared.side.Side.{Side}
+use Rattle.sdb_transform.specs.declared.side.Side.TheVariants.{Left, Right}
+use Rattle.sdb_transform.specs.Cross.{Crossing, and_then, join_crossings, cross_ops}
+use Rattle.sdb_transform.specs.Transform.{transform}
+
+abbrev Components : Type 0
+Components = List PlainComponent
+
+-- what stands for a component weighs no more than it
+abbrev pub WeightNotIncreased : Type 0
+WeightNotIncreased = (side : Side) (c o : PlainComponent) (cs : Components) → transform side c o ≡ Some cs → weight cs ≤ component_weight c
+
+-- X([], R) = ([], R)
+abbrev pub LeftEmpty : Type 0
+LeftEmpty = (R : Components) → cross_ops [] R ≡ Some (record { left = []; right = R; pairs = 0 })
+
+-- X(L, []) = (L, [])
+abbrev pub RightEmpty : Type 0
+RightEmpty = (L : Components) → cross_ops L [] ≡ Some (record { left = L; right = []; pairs = 0 })
+
+-- X(l::L, r::R), with no bound on the depth
+abbrev pub PairRule : Type 0
+PairRule =
+    (l r : PlainComponent) (L R : Components) → cross_ops (l ∷ L) (r ∷ R) ≡
+    and_then (transform Left l r) (λ l1.
+    and_then (transform Right r l) (λ r1.
+    and_then (cross_ops l1 R) (λ u.
+    and_then (cross_ops L r1) (λ v.
+    and_then (cross_ops v.left u.right) (λ w.
+    Some (join_crossings u v w))))))
+
+-- the pairs are at most the product of both weights, and no side gains weight
+abbrev pub PairsWithinProduct : Type 0
+PairsWithinProduct = (L R : Components) (x : Crossing PlainComponent) → cross_ops L R ≡ Some x → x.pairs ≤ weight L * weight R
+
+abbrev pub NoSideHeavier : Type 0
+NoSideHeavier =
+    (L R : Components) (x : Crossing PlainComponent) → cross_ops L R ≡ Some x
+    → (weight x.left ≤ weight L) × (weight x.right ≤ weight R)

@@ -1,0 +1,230 @@
+//! The work of a crossing, turn by turn.
+ghost use Rattle.std.specs.Prelude.{◌≡◌, ◌<◌, nat_le, ◌∷◌, [], ◌++◌, MatchOption, IfOk, OnOk, IfErr, Some};
+ghost use Rattle.sdb_component.specs.Size.{component_size};
+ghost use Rattle.sdb_transform.specs.ActModel.{IsTransformFault, saturated_size};
+ghost use Rattle.sdb_transform.specs.Cross.{CrossResult};
+ghost use Rattle.sdb_transform.specs.Classification.{transformed_components};
+ghost use Rattle.sdb_transform.specs.CrossStack.{from_top, work_from_top, work_item_of, IsCrossFault, StateInvariantWith, step_bound_with};
+ghost use Rattle.sdb_transform.specs.Transform.{transform};
+ghost use Rattle.sdb_transform.specs.CrossMachine.{RightChange, LeftChanges, right_frames};
+ghost use Rattle.sdb_transform.specs.declared.side.Fault.TheVariants.{OutOfMemory};
+ghost use Rattle.sdb_transform.specs.declared.side.Side.TheVariants.{Left, Right};
+
+use crate::classify::{TransformKind, classify, reposition_component, transform_against};
+use crate::component_list::Transformed;
+use crate::component_transform::transform_one;
+use crate::side::{Fault, Side};
+use sdb_component::Component;
+use std::alloc::Global;
+
+// Left components that wait from here on, or a right one on its way past those that wait.
+#[derive(Drop)]
+pub(crate) enum Frame {
+    LeftFrame(Transformed),
+    RightFrame(Component),
+}
+
+// A crossing that goes on. Of the waiting components and of the work the last comes first. Done are
+// the right components that have passed all that waited.
+#[derive(Drop)]
+pub(crate) struct CrossState {
+    pub(crate) left: Vec<Component>,
+    pub(crate) right: Vec<Frame>,
+    pub(crate) right_done: Vec<Component>,
+    pub(crate) pairs: u128,
+}
+
+impl CrossState {
+    // Carries the next piece of work on.
+    pub(crate) fn step(&mut self, alloc: Global, next: Frame) -> Result<(), Fault>
+        ensures keeps { OnOk result ((goal : CrossResult)
+            → StateInvariantWith (work_item_of next ∷ []) goal self.old → StateInvariantWith [] goal self.new) }
+        ensures falls { OnOk result (step_bound_with [] self.new < step_bound_with (work_item_of next ∷ []) self.old) }
+        ensures refused { IfErr result (λ f. (goal : CrossResult)
+            → StateInvariantWith (work_item_of next ∷ []) goal self.old → IsTransformFault f goal) }
+    {
+        match next {
+            Frame::LeftFrame(pieces) => push_transformed(&mut self.left, pieces),
+            Frame::RightFrame(right) => self.transform_next(alloc, right),
+        }
+    }
+
+    // Carries a right component past those that wait, as long as a single one stands for it.
+    fn transform_next(&mut self, alloc: Global, mut right: Component) -> Result<(), Fault>
+        ensures keeps { OnOk result ((goal : CrossResult)
+            → StateInvariantWith (RightChange right ∷ []) goal self.old → StateInvariantWith [] goal self.new) }
+        ensures falls { OnOk result (step_bound_with [] self.new < step_bound_with (RightChange right ∷ []) self.old) }
+        ensures refused { IfErr result (λ f. (goal : CrossResult)
+            → StateInvariantWith (RightChange right ∷ []) goal self.old → IsTransformFault f goal) }
+    {
+        while let Some(left) = pop_left(&mut self.left) {
+            self.pairs = self.pairs.saturating_add(1);
+            let (pieces, run) = transform_pair(alloc, left, right)?;
+            push_left(&mut self.right, pieces)?;
+            match run {
+                Transformed::One(next) => right = next,
+                Transformed::Many(run) => return push_right(&mut self.right, run),
+            }
+        }
+        self.right_done.push(right)?;
+        Ok(())
+    }
+}
+
+fn push_transformed(waiting: &mut Vec<Component>, pieces: Transformed) -> Result<(), Fault>
+    ensures ok { OnOk result (from_top waiting.new.items
+        ≡ transformed_components pieces ++ from_top waiting.old.items) }
+    ensures err { IfErr result (λ f. f ≡ OutOfMemory) }
+{
+    match pieces {
+        Transformed::One(piece) => {
+            waiting.push(piece)?;
+            Ok(())
+        }
+        Transformed::Many(pieces) => push_split(waiting, pieces),
+    }
+}
+
+// Puts the components on top, the first one first.
+pub(crate) fn push_split(
+    waiting: &mut Vec<Component>,
+    mut pieces: Vec<Component>,
+) -> Result<(), Fault>
+    ensures ok { OnOk result (from_top waiting.new.items ≡ pieces.items ++ from_top waiting.old.items) }
+    ensures err { IfErr result (λ f. f ≡ OutOfMemory) }
+{
+    pieces.reverse();
+    waiting.append(&mut pieces)?;
+    Ok(())
+}
+
+fn pop_left(waiting: &mut Vec<Component>) -> Option<Component>
+    ensures { MatchOption result
+        ((from_top waiting.old.items ≡ []) × (from_top waiting.new.items ≡ []))
+        (λ c. from_top waiting.old.items ≡ c ∷ from_top waiting.new.items) }
+{
+    waiting.pop()
+}
+
+// The components from the top, without room for more.
+pub(crate) fn stack_order(mut waiting: Vec<Component>) -> Vec<Component>
+    ensures { result.items ≡ from_top waiting.items }
+{
+    waiting.reverse();
+    waiting.shrink_to_fit();
+    waiting
+}
+
+pub(crate) fn pop_right(work: &mut Vec<Frame>) -> Option<Frame>
+    ensures { MatchOption result
+        (work_from_top work.old.items ≡ []) (λ p. work_from_top work.old.items ≡ work_item_of p
+        ∷ work_from_top work.new.items) }
+{
+    work.pop()
+}
+
+fn push_left(work: &mut Vec<Frame>, pieces: Transformed) -> Result<(), Fault>
+    ensures ok { OnOk result (work_from_top work.new.items ≡ LeftChanges (transformed_components pieces)
+        ∷ work_from_top work.old.items) }
+    ensures err { IfErr result (λ f. f ≡ OutOfMemory) }
+{
+    work.push(Frame::LeftFrame(pieces))?;
+    Ok(())
+}
+
+pub(crate) fn push_right(work: &mut Vec<Frame>, mut run: Vec<Component>) -> Result<(), Fault>
+    ensures ok { OnOk result (work_from_top work.new.items ≡ right_frames run.items ++ work_from_top work.old.items) }
+    ensures err { IfErr result (λ f. f ≡ OutOfMemory) }
+{
+    while let Some(component) = run.pop() {
+        work.push(Frame::RightFrame(component))?;
+    }
+    Ok(())
+}
+
+// What stands for each of two components after the other. Nothing is copied but where both are reworked.
+fn transform_pair(
+    alloc: Global,
+    left: Component,
+    right: Component,
+) -> Result<(Transformed, Transformed), Fault>
+    ensures left { IfOk result (λ p. transform Left left right ≡ Some (transformed_components p.0)) }
+    ensures right { IfOk result (λ p. transform Right right left ≡ Some (transformed_components p.1)) }
+    ensures err { IfErr result (λ f. IsCrossFault left right f) }
+{
+    match classify(&right, &left, Side::Right) {
+        TransformKind::Refused => Err(Fault::NotTransformed),
+        TransformKind::PositionOnly(to) => {
+            let pieces = transform_against(alloc, left, &right, Side::Left)?;
+            Ok((pieces, reposition_component(alloc, right, to)))
+        }
+        TransformKind::Rewritten => transform_rewritten(alloc, left, right),
+    }
+}
+
+// The same where the right one is reworked.
+fn transform_rewritten(
+    alloc: Global,
+    left: Component,
+    right: Component,
+) -> Result<(Transformed, Transformed), Fault>
+    ensures left { IfOk result (λ p. transform Left left right ≡ Some (transformed_components p.0)) }
+    ensures right { IfOk result (λ p. transform Right right left ≡ Some (transformed_components p.1)) }
+    ensures err { IfErr result (λ f. IsCrossFault left right f) }
+{
+    match classify(&left, &right, Side::Left) {
+        TransformKind::Refused => Err(Fault::NotTransformed),
+        TransformKind::PositionOnly(to) => {
+            let run = transform_one(alloc, right, &left, Side::Right)?;
+            Ok((
+                reposition_component(alloc, left, to),
+                Transformed::Many(run),
+            ))
+        }
+        TransformKind::Rewritten => {
+            let (pieces, run) = rewrite_pair(alloc, left, right)?;
+            Ok((Transformed::Many(pieces), Transformed::Many(run)))
+        }
+    }
+}
+
+// The same where both are reworked: the one of which there is less to copy is copied.
+fn rewrite_pair(
+    alloc: Global,
+    left: Component,
+    right: Component,
+) -> Result<(Vec<Component>, Vec<Component>), Fault>
+    ensures left { IfOk result (λ p. transform Left left right ≡ Some p.0.items) }
+    ensures right { IfOk result (λ p. transform Right right left ≡ Some p.1.items) }
+    ensures err { IfErr result (λ f. IsCrossFault left right f) }
+{
+    if weight_not_larger(&left, &right) {
+        let copy = left.try_clone()?;
+        let pieces = transform_one(alloc, copy, &right, Side::Left)?;
+        let run = transform_one(alloc, right, &left, Side::Right)?;
+        Ok((pieces, run))
+    } else {
+        let copy = right.try_clone()?;
+        let run = transform_one(alloc, copy, &left, Side::Right)?;
+        let pieces = transform_one(alloc, left, &right, Side::Left)?;
+        Ok((pieces, run))
+    }
+}
+
+// Whether there is no more to copy of the left one than of the right one. Both are measured up to a
+// limit that is doubled until one of them stays below it, so the larger one is never walked far past
+// the size of the smaller.
+fn weight_not_larger(left: &Component, right: &Component) -> bool
+    ensures { result ≡ nat_le (saturated_size (component_size left.now)) (saturated_size (component_size right.now)) }
+{
+    let mut limit = 64;
+    while limit < u64::MAX {
+        let of_left = left.size(limit);
+        let of_right = right.size(limit);
+        if of_left < limit || of_right < limit {
+            return of_left <= of_right;
+        }
+        limit = limit.saturating_mul(2);
+    }
+    left.size(u64::MAX) <= right.size(u64::MAX)
+}

@@ -1,7 +1,0 @@
--- Passes that are put behind others.
-use Rattle.std.proofs.Common.{List, [], ◌∷◌, ◌++◌}
-use Rattle.sdb_growlock.specs.Rule.{Each}
-
-pub each_pushed : {A : Type 0} (P : A → Type 0) (xs : List A) (x : A) → Each P xs → P x → Each P (xs ++ x ∷ [])
-each_pushed P [] x h k = (k, tt)
-each_pushed P (y ∷ ys) x h k = (h.0, each_pushed P ys x h.1 k)

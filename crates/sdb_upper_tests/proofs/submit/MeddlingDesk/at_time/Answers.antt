@@ -1,7 +1,0 @@
-use Rattle.sdb_desk.specs.ShardView.{logs_of, queues_of}
-use Rattle.sdb_upper_tests.proofs.submit.MeddlingDesk.at_time.Goals as goal
-
-pub returns-clause-acts : goal.returns-clause-acts
-returns-clause-acts c =
-    let s = c.args.pass.now.shard in
-    (logs_of s, (queues_of s, (c.at_time.ensures.snapshot, (c.at_time.ensures.logs, c.at_time.ensures.queues))))

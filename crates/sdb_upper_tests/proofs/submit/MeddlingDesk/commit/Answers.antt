@@ -1,9 +1,0 @@
-use Rattle.sdb_oplog.specs.Keys.{plain_key}
-use Rattle.sdb_desk.specs.ShardView.{logs_of}
-use Rattle.sdb_desk.specs.View.{plain_outcome}
-use Rattle.sdb_submit.specs.Laws.{moved_looked}
-use Rattle.sdb_upper_tests.proofs.submit.MeddlingDesk.commit.Goals as goal
-
-pub returns-clause-looked : goal.returns-clause-looked
-returns-clause-looked c =
-    moved_looked (logs_of c.meddle.new.self.shard) (logs_of c.commit.new.self) (plain_key c.args.key.now) c.args.work.now c.args.now (plain_outcome c.commit.result) c.commit.ensures.commits

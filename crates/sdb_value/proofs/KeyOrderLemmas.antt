@@ -1,0 +1,23 @@
+-- The members of an object in the order of their keys.
+use Rattle.std.proofs.Common.{◌≡◌, List, ℕ, ◌∷◌, Less}
+use Rattle.std.specs.List.{AllByRecursion}
+use Rattle.std.specs.List.Sorted.{IsStrictlySortedBy}
+use Rattle.sdb_sorted_map.specs.SortedMap.{entry_keys}
+use Rattle.sdb_sorted_map.specs.KeyOrder.{compare_bytes, IsAscending}
+use Rattle.sdb_value.specs.declared.value.Json.{Json}
+
+abbrev pub NamedEntry : Type 0
+NamedEntry = List ℕ × Json
+
+-- the key is below each of the names
+abbrev pub IsBelowAllNames : List ℕ → List NamedEntry → Type 0
+IsBelowAllNames k es = AllByRecursion (λ y. compare_bytes k y ≡ Less) (entry_keys es)
+
+pub record FirstIsLeast (e : NamedEntry) (es : List NamedEntry) : Type 0 where
+  pub below : IsBelowAllNames e.0 es
+  pub rest : IsAscending (entry_keys es)
+
+-- the first one's name is below the others'
+pub first_is_least : (e : NamedEntry) (es : List NamedEntry) → IsAscending (entry_keys (e ∷ es)) → FirstIsLeast e es
+unfolding IsStrictlySortedBy
+first_is_least e es h = record { below = h.0; rest = h.1 }

@@ -1,0 +1,16 @@
+use Rattle.std.proofs.Common.{◌≡◌, true, ap}
+use Rattle.sdb_chunks.specs.Chunk.{is_chunk_shared as block_shared}
+use Rattle.sdb_value.proofs.CloneLemmas.{some_of, found_of, none_of, not_shared_own}
+use Rattle.sdb_value.proofs.clone_modes.clone_chunk_pointer.Goals as goal
+
+pub returns-in_default : goal.returns-in_default
+returns-in_default g c =
+    let b = c.args.block.now in
+    let e = c.clone_shared.ensures in
+    record {
+      same = e.same;
+      shared = e.shared;
+      was = found_of {P = λ x. block_shared x ≡ true} c.clone_shared.result (block_shared b) (λ x was now. was) e.found e.shared;
+      other = some_of {P = λ x. block_shared x ≡ true} c.clone_shared.result (λ x now. c.in_default.not-Unique) e.shared;
+      none = none_of c.clone_shared.result (block_shared b) e.found (λ h _. not_shared_own b h);
+    }

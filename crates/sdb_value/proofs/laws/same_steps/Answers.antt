@@ -1,8 +1,0 @@
-use Rattle.sdb_value.proofs.Apart.{texts_same, steps_same}
-use Rattle.sdb_value.proofs.laws.same_steps.Goals as goal
-
-pub returns-clause-texts : goal.returns-clause-texts
-returns-clause-texts c = texts_same
-
-pub returns-clause-steps : goal.returns-clause-steps
-returns-clause-steps c = steps_same

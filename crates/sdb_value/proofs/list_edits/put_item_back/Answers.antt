@@ -1,0 +1,10 @@
+use Rattle.sdb_value.proofs.ListLemmas.{surely_set, own_result}
+use Rattle.sdb_value.proofs.list_edits.put_item_back.Goals as goal
+
+pub returns-clause-items : goal.returns-clause-items
+returns-clause-items c =
+    surely_set c.replace.result c.args.items.now c.replace.new.self c.args.index c.args.item c.replace.ensures.ok c.replace.ensures.shared c.requires
+
+pub returns-clause-own : goal.returns-clause-own
+returns-clause-own c =
+    own_result c.replace.result c.args.items.now c.replace.new.self c.args.index c.args.item c.replace.ensures.ok c.replace.ensures.err c.replace.ensures.own

@@ -1,5 +1,0 @@
-use Rattle.std.proofs.Common.{length}
-use Rattle.sdb_value.proofs.places.+find_mut.Given as goal
-
-abbrev pub decreases-find_mut : goal.decreases-find_mut
-decreases-find_mut l = length l.path.now

@@ -1,0 +1,69 @@
+-- Whether a `Json` is its owner's own: nothing in it is shared with copies.
+use Rattle.std.specs.Prelude.{List, [], ◌∷◌, map, Bool, true, false, cond, String}
+use Rattle.std.specs.declared.alloc.Global.{Global}
+use Rattle.sdb_chunks.specs.ChunkedVec.{vec_models, vec_items, is_unique_vec, is_shared_vec}
+use Rattle.sdb_sorted_map.specs.SortedMap.{map_entry_models, is_unique_map as members_own, is_shared_map as members_shared, map_chunks}
+use Rattle.sdb_sorted_map.specs.declared.map_entry.MapEntry.{MapEntry}
+use Rattle.sdb_sorted_map.specs.declared.sorted_map.SortedMap.{SortedMap}
+use Rattle.sdb_chunks.specs.declared.chunked_vec.ChunkedVec.{ChunkedVec}
+use Rattle.sdb_rope.specs.Rope.{is_unique_rope as text_own, is_shared_rope as text_shared}
+use Rattle.sdb_value.specs.Value.{Value}
+use Rattle.sdb_value.specs.View.{value_of}
+use Rattle.sdb_value.specs.declared.value.Json.{Json, fold-Json}
+use Rattle.sdb_value.specs.declared.value.Json.TheOpen.{Json-F}
+
+abbrev pub all_true : List Bool → Bool
+all_true [] = true
+all_true (b ∷ bs) = cond b (all_true bs) false
+
+-- of members, with the answer for each value already known
+abbrev pub members_unique_step : SortedMap Bool → Bool
+members_unique_step m = cond (members_own m) (all_true (map (λ e. e.1) (map_entry_models (λ b. b) m))) false
+
+-- one level, with the answer for each value inside already known
+abbrev pub unique_step : Json-F Bool → Bool
+unique_step (Json-F.Text t) = text_own t
+unique_step (Json-F.List l) = cond (is_unique_vec l) (all_true (vec_models (λ b. b) l)) false
+unique_step (Json-F.Object m) = members_unique_step m
+unique_step _ = true
+
+abbrev pub is_unique : Json → Bool
+is_unique = fold-Json Bool unique_step
+
+-- of a list and all its items, of a map's values
+abbrev pub items_unique : List Json → Bool
+items_unique vs = all_true (map is_unique vs)
+
+abbrev pub list_unique : ChunkedVec Json → Bool
+list_unique l = cond (is_unique_vec l) (items_unique (vec_items l)) false
+
+abbrev pub map_unique : List (String Global × Json) → Bool
+map_unique es = all_true (map (λ e. is_unique e.1) es)
+
+-- of the values of members, of a list of members and all their values, of an object's
+abbrev pub members_unique : List (MapEntry Json) → Bool
+members_unique ms = all_true (map (λ m. is_unique m.value) ms)
+
+abbrev pub entries_unique : ChunkedVec (MapEntry Json) → Bool
+entries_unique l = cond (is_unique_vec l) (members_unique (vec_items l)) false
+
+abbrev pub object_unique : SortedMap Json → Bool
+object_unique m = entries_unique (map_chunks m)
+
+-- a copy of it is a pointer, or as little
+abbrev pub frozen_step : Json-F Bool → Bool
+frozen_step (Json-F.Text t) = text_shared t
+frozen_step (Json-F.List l) = is_shared_vec l
+frozen_step (Json-F.Object m) = members_shared m
+frozen_step _ = true
+
+abbrev pub is_frozen : Json → Bool
+is_frozen = fold-Json Bool frozen_step
+
+-- shared as a whole: a text, a list or an object of which a copy is a pointer
+abbrev pub is_shared_json : Json → Bool
+is_shared_json v = cond (is_unique v) false (is_frozen v)
+
+-- what copies of a `Json` have in common
+abbrev pub value_model : Json → Value × Bool
+value_model v = (value_of v, is_unique v)

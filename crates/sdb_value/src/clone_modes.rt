@@ -1,0 +1,311 @@
+//! Copies.
+ghost use Rattle.std.specs.Prelude.{◌≡◌, Bool, map, true, false, IfOk, IfSome, IfNone};
+ghost use Rattle.std.specs.List.{flat_map};
+ghost use Rattle.sdb_chunks.specs.Chunk.{items_of, is_chunk_unique as block_own, is_chunk_shared as block_shared};
+ghost use Rattle.sdb_chunks.specs.ChunkedVec.{all_shared, vec_chunks, is_grouped, is_shared_vec};
+ghost use Rattle.sdb_chunks.specs.declared.chunked_vec.ChunkedVec.{ChunkedVec};
+ghost use Rattle.sdb_sorted_map.specs.MapKey.{key_bytes};
+ghost use Rattle.sdb_sorted_map.specs.MapEntry.{key_value};
+ghost use Rattle.sdb_sorted_map.specs.SortedMap.{is_shared_map as members_shared};
+ghost use Rattle.sdb_rope.specs.Rope.{rope_bytes, is_unique_rope as text_own, is_shared_rope as text_shared};
+ghost use Rattle.sdb_value.specs.CloneModes.{HasUniquenessOfMode, is_deep_unique_chunk, are_deep_unique_chunks, is_deep_unique_member_chunk, are_deep_unique_member_chunks};
+ghost use Rattle.sdb_value.specs.Uniqueness.{is_unique, is_frozen, items_unique, list_unique, object_unique, members_unique};
+ghost use Rattle.sdb_value.specs.View.{value_of, entries_value, items_value, list_value, object_value};
+ghost use Rattle.sdb_value.specs.declared.clone_modes.CloneMode.TheVariants.{Preserve, Unique};
+ghost use Rattle.sdb_value.specs.declared.value.Json.{Json};
+
+use crate::value::{Json, List, Members};
+use sdb_chunks::{Chunk, ChunkedVec, TryClone};
+use sdb_rope::Rope;
+use sdb_sorted_map::{MapEntry, MapKey};
+use std::alloc::{AllocError, Global};
+
+/// Of whom a copy is.
+#[derive(Clone, Copy, Drop)]
+pub(crate) enum CloneMode {
+    /// What is shared is a pointer, all else in memory of its own.
+    Preserve,
+    /// All of it is in memory of its own.
+    Unique,
+    /// All of it is shared: what is shared already is a pointer.
+    Frozen,
+}
+
+// A pointer to the value, where it is an object that is shared, as most are that are copied.
+#[inline(always)]
+fn clone_shared_object(value: &Json) -> Result<Option<Json>, AllocError>
+    ensures value { IfOk result (λ o. IfSome o (λ v. value_of v ≡ value_of value.now)) }
+    ensures own { IfOk result (λ o. IfSome o (λ v. is_unique v ≡ is_unique value.now)) }
+    ensures pointer { IfOk result (λ o. IfSome o (λ v. is_frozen v ≡ true)) }
+{
+    match value {
+        Json::Object(members) => match members.clone_shared()? {
+            Some(members) => Ok(Some(Json::Object(members))),
+            None => Ok(None),
+        },
+        _ => Ok(None),
+    }
+}
+
+// What is shared at the cost of a pointer, all else in memory of its own.
+#[inline(always)]
+pub(crate) fn clone_preserving(alloc: Global, value: &Json) -> Result<Json, AllocError>
+    ensures value { IfOk result (λ v. value_of v ≡ value_of value.now) }
+    ensures own { IfOk result (λ v. is_unique v ≡ is_unique value.now) }
+{
+    match clone_shared_object(value)? {
+        Some(copy) => Ok(copy),
+        None => copy(alloc, value, CloneMode::Preserve),
+    }
+}
+
+// All of it shared, at the cost of what isn't yet.
+#[inline(always)]
+pub(crate) fn clone_frozen(alloc: Global, value: &Json) -> Result<Json, AllocError>
+    ensures value { IfOk result (λ v. value_of v ≡ value_of value.now) }
+    ensures pointer { IfOk result (λ v. is_frozen v ≡ true) }
+{
+    match clone_shared_object(value)? {
+        Some(copy) => Ok(copy),
+        None => copy(alloc, value, CloneMode::Frozen),
+    }
+}
+
+#[cycle(copy)]
+pub(crate) fn copy(alloc: Global, value: &Json, manner: CloneMode) -> Result<Json, AllocError>
+    ensures value { IfOk result (λ v. value_of v ≡ value_of value.now) }
+    ensures own { IfOk result (λ v. HasUniquenessOfMode manner (is_unique value.now) (is_unique v) (is_frozen v)) }
+{
+    match value {
+        Json::Null => Ok(Json::Null),
+        Json::Bool(b) => Ok(Json::Bool(*b)),
+        Json::Int(n) => Ok(Json::Int(*n)),
+        Json::Text(text) => Ok(Json::Text(clone_text(alloc, text, manner)?)),
+        Json::List(items) => Ok(Json::List(clone_list(alloc, items, manner)?)),
+        Json::Object(members) => Ok(Json::Object(clone_members(alloc, members, manner)?)),
+    }
+}
+
+fn clone_text(alloc: Global, text: &Rope, manner: CloneMode) -> Result<Rope, AllocError>
+    ensures bytes { IfOk result (λ t. rope_bytes t ≡ rope_bytes text.now) }
+    ensures own { IfOk result (λ t. HasUniquenessOfMode manner (text_own text.now) (text_own t) (text_shared t)) }
+{
+    match manner {
+        CloneMode::Preserve => text.try_clone(alloc),
+        CloneMode::Unique => Rope::new(alloc, text.to_string(alloc)?),
+        CloneMode::Frozen => text.frozen_clone(alloc),
+    }
+}
+
+#[cycle(copy)]
+fn clone_list(alloc: Global, items: &List, manner: CloneMode) -> Result<List, AllocError>
+    ensures items { IfOk result (λ l. list_value l ≡ list_value items.now) }
+    ensures own { IfOk result (λ l. HasUniquenessOfMode manner (list_unique items.now) (list_unique l)
+        (is_shared_vec l)) }
+{
+    if let Some(list) = clone_list_pointer(items, manner)? {
+        return Ok(list);
+    }
+    let inner = chunk_clone_mode(items, manner);
+    let copies = clone_chunks(alloc, items, inner)?;
+    match inner {
+        CloneMode::Frozen => ChunkedVec::from_shared_chunks(alloc, copies),
+        _ => Ok(ChunkedVec::from_chunks(copies)),
+    }
+}
+
+// A pointer to the list, where it is shared and a copy may be one.
+fn clone_list_pointer(items: &List, manner: CloneMode) -> Result<Option<List>, AllocError>
+    ensures items { IfOk result (λ o. IfSome o (λ l. list_value l ≡ list_value items.now)) }
+    ensures own { IfOk result (λ o. IfSome o
+        (λ l. HasUniquenessOfMode manner (list_unique items.now) (list_unique l) (is_shared_vec l))) }
+    ensures none { IfOk result (λ o. IfNone o (manner ≡ Preserve → is_shared_vec items.now ≡ false)) }
+{
+    match manner {
+        CloneMode::Unique => Ok(None),
+        _ => items.clone_shared(),
+    }
+}
+
+// How the blocks of a list are copied. A list in groups isn't its own, and so its copy in blocks is shared.
+fn chunk_clone_mode<T>(items: &ChunkedVec<T>, manner: CloneMode) -> CloneMode
+    ensures copied { (was now pointer : Bool) → (is_grouped items.now.repr ≡ true → was ≡ false)
+        → (pointer ≡ true → now ≡ false) → HasUniquenessOfMode result was now pointer
+        → HasUniquenessOfMode manner was now pointer }
+    ensures same { result ≡ Preserve → manner ≡ Preserve }
+    ensures in_blocks { result ≡ Preserve → is_grouped items.now.repr ≡ false }
+{
+    if items.is_grouped() && matches!(manner, CloneMode::Preserve) {
+        return CloneMode::Frozen;
+    }
+    manner
+}
+
+#[cycle(copy)]
+fn clone_chunks(
+    alloc: Global,
+    items: &List,
+    manner: CloneMode,
+) -> Result<Vec<Chunk<Json>>, AllocError>
+    ensures items { IfOk result (λ v. items_value (flat_map items_of v.items) ≡ list_value items.now) }
+    ensures own { IfOk result (λ v. HasUniquenessOfMode manner
+        (are_deep_unique_chunks (vec_chunks items.now)) (are_deep_unique_chunks v.items) (all_shared v.items)) }
+{
+    let mut copies = Vec::new(alloc);
+    for block in items.chunks() {
+        copies.push(clone_chunk(alloc, block, manner)?)?;
+    }
+    Ok(copies)
+}
+
+#[cycle(copy)]
+fn clone_chunk(
+    alloc: Global,
+    block: &Chunk<Json>,
+    manner: CloneMode,
+) -> Result<Chunk<Json>, AllocError>
+    ensures items { IfOk result (λ b. items_value (items_of b) ≡ items_value (items_of block.now)) }
+    ensures own { IfOk result (λ b. HasUniquenessOfMode manner
+        (is_deep_unique_chunk block.now) (is_deep_unique_chunk b) (block_shared b)) }
+{
+    if let Some(block) = clone_chunk_pointer(block, manner)? {
+        return Ok(block);
+    }
+    let items = clone_items(alloc, block.items(), manner)?;
+    match manner {
+        CloneMode::Frozen => Chunk::Unique(items).into_frozen(alloc),
+        _ => Ok(Chunk::Unique(items)),
+    }
+}
+
+// A pointer to the block, where it is shared and a copy may be one.
+fn clone_chunk_pointer<T>(
+    block: &Chunk<T>,
+    manner: CloneMode,
+) -> Result<Option<Chunk<T>>, AllocError>
+    ensures same { IfOk result (λ o. IfSome o (λ b. items_of b ≡ items_of block.now)) }
+    ensures shared { IfOk result (λ o. IfSome o (λ b. block_shared b ≡ true)) }
+    ensures was { IfOk result (λ o. IfSome o (λ _. block_shared block.now ≡ true)) }
+    ensures other { IfOk result (λ o. IfSome o (λ _. manner ≡ Unique → ⊥)) }
+    ensures none { IfOk result (λ o. IfNone o (manner ≡ Preserve → block_own block.now ≡ true)) }
+{
+    match manner {
+        CloneMode::Unique => Ok(None),
+        _ => block.clone_shared(),
+    }
+}
+
+#[cycle(copy)]
+fn clone_items(alloc: Global, items: &[Json], manner: CloneMode) -> Result<Vec<Json>, AllocError>
+    ensures items { IfOk result (λ v. items_value v.items ≡ items_value items.now) }
+    ensures own { IfOk result (λ v. HasUniquenessOfMode manner (items_unique items.now) (items_unique v.items) true) }
+{
+    let mut copies = Vec::with_capacity(alloc, items.len())?;
+    for item in items {
+        copies.push(copy(alloc, item, manner)?)?;
+    }
+    Ok(copies)
+}
+
+#[cycle(copy)]
+fn clone_members(alloc: Global, members: &Members, manner: CloneMode) -> Result<Members, AllocError>
+    ensures members { IfOk result (λ m. object_value m ≡ object_value members.now) }
+    ensures own { IfOk result (λ m. HasUniquenessOfMode manner (object_unique members.now) (object_unique m)
+        (members_shared m)) }
+{
+    if let Some(copy) = clone_members_pointer(members, manner)? {
+        return Ok(copy);
+    }
+    let inner = chunk_clone_mode(members.chunks(), manner);
+    let copies = clone_member_chunks(alloc, members.chunks(), inner)?;
+    match inner {
+        CloneMode::Frozen => {
+            let entries = ChunkedVec::from_shared_chunks(alloc, copies)?;
+            Ok(Members::from_entries(entries))
+        }
+        _ => Ok(Members::from_entries(ChunkedVec::from_chunks(copies))),
+    }
+}
+
+// A pointer to the members, where they are shared and a copy may be one.
+fn clone_members_pointer(
+    members: &Members,
+    manner: CloneMode,
+) -> Result<Option<Members>, AllocError>
+    ensures members { IfOk result (λ o. IfSome o (λ m. object_value m ≡ object_value members.now)) }
+    ensures own { IfOk result (λ o. IfSome o
+        (λ m. HasUniquenessOfMode manner (object_unique members.now) (object_unique m) (members_shared m))) }
+    ensures none { IfOk result (λ o. IfNone o (manner ≡ Preserve → members_shared members.now ≡ false)) }
+{
+    match manner {
+        CloneMode::Unique => Ok(None),
+        _ => members.clone_shared(),
+    }
+}
+
+#[cycle(copy)]
+fn clone_member_chunks(
+    alloc: Global,
+    entries: &ChunkedVec<MapEntry<Json>>,
+    manner: CloneMode,
+) -> Result<Vec<Chunk<MapEntry<Json>>>, AllocError>
+    ensures members { IfOk result (λ v. entries_value (flat_map items_of v.items)
+        ≡ entries_value (flat_map items_of (vec_chunks entries.now))) }
+    ensures own { IfOk result (λ v. HasUniquenessOfMode manner
+        (are_deep_unique_member_chunks (vec_chunks entries.now)) (are_deep_unique_member_chunks v.items)
+        (all_shared v.items)) }
+{
+    let mut copies = Vec::new(alloc);
+    for block in entries.chunks() {
+        copies.push(clone_member_chunk(alloc, block, manner)?)?;
+    }
+    Ok(copies)
+}
+
+#[cycle(copy)]
+fn clone_member_chunk(
+    alloc: Global,
+    block: &Chunk<MapEntry<Json>>,
+    manner: CloneMode,
+) -> Result<Chunk<MapEntry<Json>>, AllocError>
+    ensures members { IfOk result (λ b. entries_value (items_of b) ≡ entries_value (items_of block.now)) }
+    ensures own { IfOk result (λ b. HasUniquenessOfMode manner (is_deep_unique_member_chunk block.now)
+        (is_deep_unique_member_chunk b) (block_shared b)) }
+{
+    if let Some(block) = clone_chunk_pointer(block, manner)? {
+        return Ok(block);
+    }
+    let members = clone_each_member(alloc, block.items(), manner)?;
+    match manner {
+        CloneMode::Frozen => Chunk::Unique(members).into_frozen(alloc),
+        _ => Ok(Chunk::Unique(members)),
+    }
+}
+
+#[cycle(copy)]
+fn clone_each_member(
+    alloc: Global,
+    members: &[MapEntry<Json>],
+    manner: CloneMode,
+) -> Result<Vec<MapEntry<Json>>, AllocError>
+    ensures members { IfOk result (λ v. entries_value v.items ≡ entries_value members.now) }
+    ensures own { IfOk result (λ v. HasUniquenessOfMode manner (members_unique members.now)
+        (members_unique v.items) true) }
+{
+    let mut copies = Vec::with_capacity(alloc, members.len())?;
+    for member in members {
+        let value = copy(alloc, &member.value, manner)?;
+        copies.push(clone_entry(alloc, &member.key, value)?)?;
+    }
+    Ok(copies)
+}
+
+// A member of this key and value.
+fn clone_entry(alloc: Global, key: &MapKey, value: Json) -> Result<MapEntry<Json>, AllocError>
+    ensures { IfOk result (λ m. key_value m ≡ (key_bytes key.now, value)) }
+{
+    Ok(MapEntry {
+        key: key.try_clone(alloc)?,
+        value,
+    })
+}

@@ -1,0 +1,105 @@
+//! Lists changed in place.
+ghost use Rattle.std.specs.Prelude.{◌≡◌, ◌++◌, ◌∷◌, [], true, false, option_map, IfOk, IfSome, IfNone, OnOk, OnErr};
+ghost use Rattle.std.specs.Option.{is_some};
+ghost use Rattle.sdb_chunks.specs.ChunkedVec.{is_unique_vec_at, is_unique_vec};
+ghost use Rattle.sdb_rope.specs.EditOutcome.{EditOutcome};
+ghost use Rattle.sdb_value.specs.Uniqueness.{is_unique, list_unique, value_model};
+ghost use Rattle.sdb_value.specs.Value.{insert_item, remove_item, replace_item, item_at, set_item, null};
+ghost use Rattle.sdb_value.specs.View.{value_of, list_value};
+
+use crate::value::{Json, List};
+use std::alloc::{AllocError, Global};
+
+pub(crate) fn push_item(items: &mut Vec<Json>, new: Json) -> Result<(), AllocError>
+    ensures ok { OnOk result (items.new.items ≡ items.old.items ++ new ∷ []) }
+    ensures err { OnErr result (items.new.items ≡ items.old.items) }
+{
+    items.push(new)?;
+    Ok(())
+}
+
+/// Puts an item at the index, from 0 to the length, before those from there on. `false`, with the
+/// list unchanged, where the index is past the length, and `Err`, with the list unchanged, where memory is
+/// wanting.
+pub fn insert_item(
+    alloc: Global,
+    items: &mut List,
+    index: u64,
+    new: Json,
+) -> Result<bool, AllocError>
+    ensures ok { IfOk result (λ done. EditOutcome done
+        (insert_item index (value_of new) (list_value items.old)) (list_value items.old) (list_value items.new)) }
+    ensures err { OnErr result (list_value items.new ≡ list_value items.old) }
+    ensures own { list_unique items.old ≡ true → is_unique new ≡ true → list_unique items.new ≡ true }
+{
+    items.insert(alloc, index as usize, new)
+}
+
+/// Takes the item at the index, below the length, out, and moves those behind it up. `false`, with
+/// the list unchanged, where there is none. It takes memory only where something of the list is shared; after
+/// want of memory the list is unchanged.
+pub fn remove_item(alloc: Global, items: &mut List, index: u64) -> Result<bool, AllocError>
+    ensures ok { IfOk result (λ done. EditOutcome done
+        (remove_item index (list_value items.old)) (list_value items.old) (list_value items.new)) }
+    ensures err { OnErr result (list_value items.new ≡ list_value items.old) }
+    ensures own { list_unique items.old ≡ true → list_unique items.new ≡ true }
+    ensures shared { OnErr result (is_unique_vec items.old ≡ false) }
+{
+    Ok(is_some(items.remove(alloc, index as usize)?))
+}
+
+// Whether there was an item, which is let go.
+fn is_some(item: Option<Json>) -> bool
+    ensures { result ≡ is_some item }
+{
+    item.is_some()
+}
+
+/// Puts another value in the place of the item at the index, below the length. `false`, with the
+/// list unchanged, where there is none. It takes memory only where the item's part of the list is shared; after
+/// want of memory the list is unchanged.
+pub fn replace_item(
+    alloc: Global,
+    items: &mut List,
+    index: u64,
+    new: Json,
+) -> Result<bool, AllocError>
+    ensures ok { IfOk result (λ done. EditOutcome done
+        (replace_item index (value_of new) (list_value items.old)) (list_value items.old) (list_value items.new)) }
+    ensures err { OnErr result (list_value items.new ≡ list_value items.old) }
+    ensures own { list_unique items.old ≡ true → is_unique new ≡ true → list_unique items.new ≡ true }
+    ensures shared { OnErr result (is_unique_vec_at items.old index ≡ false) }
+{
+    Ok(is_some(items.replace(alloc, index as usize, new)?))
+}
+
+// Takes the item at the index out, to be changed and put back: null stands in its place then, and its part of
+// the list is the list's own. `None` where there is none.
+pub(crate) fn take_list_item(
+    alloc: Global,
+    items: &mut List,
+    index: u64,
+) -> Result<Option<Json>, AllocError>
+    ensures item { IfOk result (λ o. option_map value_of o ≡ item_at index (list_value items.old)) }
+    ensures none { IfOk result (λ o. IfNone o (list_value items.new ≡ list_value items.old)) }
+    ensures left { OnOk result (list_value items.new ≡ set_item index (list_value items.old) null) }
+    ensures err { OnErr result (list_value items.new ≡ list_value items.old) }
+    ensures own { list_unique items.old ≡ true → list_unique items.new ≡ true }
+    ensures item_own { list_unique items.old ≡ true → IfOk result (λ o. IfSome o (λ v. is_unique v ≡ true)) }
+    ensures shared { OnErr result (is_unique_vec_at items.old index ≡ false) }
+    ensures now_own { IfOk result (λ o. IfSome o (λ _. is_unique_vec_at items.new index ≡ true)) }
+{
+    items.replace(alloc, index as usize, Json::Null)
+}
+
+// Puts a value in the place of the item at the index, where its part of the list is the list's own: that takes
+// no memory.
+pub(crate) fn put_item_back(alloc: Global, items: &mut List, index: u64, item: Json)
+    requires { is_unique_vec_at items.old index ≡ true }
+    ensures items { list_value items.new ≡ set_item index (list_value items.old) (value_of item) }
+    ensures own { list_unique items.old ≡ true → is_unique item ≡ true → list_unique items.new ≡ true }
+{
+    discard_item(items.replace(alloc, index as usize, item));
+}
+
+fn discard_item(_item: Result<Option<Json>, AllocError>) {}

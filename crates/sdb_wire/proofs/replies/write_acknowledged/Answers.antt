@@ -1,7 +1,0 @@
-use Rattle.std.proofs.Common.{refl, ◌∙◌, append_assoc}
-use Rattle.std.proofs.lemmas.Result.{on_ok_weaker}
-use Rattle.sdb_wire.proofs.replies.write_acknowledged.Goals as goal
-
-pub returns-clause-tokens : goal.returns-clause-tokens
-returns-clause-tokens c =
-    on_ok_weaker c.end_object.result (λ e. e ∙ rw (c.in_ok-write_count-2.ensures.tokens, c.in_ok-write_text.ensures.tokens, c.in_ok-write_count.ensures.tokens, c.in_ok-write_head.ensures.tokens) (simp append_assoc refl)) c.end_object.ensures.ok

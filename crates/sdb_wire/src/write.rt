@@ -1,0 +1,483 @@
+//! The texts of answers, written token by token.
+ghost use Rattle.std.specs.Prelude.{◌≡◌, ◌∷◌, [], ◌++◌, Some, None, IfOk, IfSome, OnOk, OnErr, string_bytes, option_map, decimal, codes};
+ghost use Rattle.json.specs.Print.{print};
+ghost use Rattle.json.specs.Token.{begin_object, key as key_token, string, number};
+ghost use Rattle.json.specs.Written.{WritesFront};
+ghost use Rattle.serde_json.specs.Data.{Members};
+ghost use Rattle.sdb_value.specs.ToJson.{data_tokens, object_tail_tokens};
+ghost use Rattle.sdb_value.specs.View.{value_of};
+ghost use Rattle.sdb_oplog.specs.Keys.{plain_key};
+ghost use Rattle.sdb_oplog.specs.Plain.{edit};
+ghost use Rattle.sdb_wire.specs.Answers.{answer_text, answer_tokens, hello_data, document_data, version_data, key_data, op_message, with_content, acknowledged, failed, snapshot_data, create_data, content_members, entry_data, entry_members, op_tail, error_data, push_member};
+ghost use Rattle.sdb_wire.specs.FastPath.{AreEscapeFree};
+ghost use Rattle.sdb_wire.specs.View.{plain_answer, plain_echo, plain_echo_value};
+
+use crate::codes::{code_name, code_text};
+use crate::fast_path::{TEXT_LEN, are_escape_free, edit_message, edit_message_bytes, push_ack};
+use crate::message::{Answer, Echo, EchoValue, TYPE};
+use json::Writer;
+use sdb_component::{Op, write_op};
+use sdb_oplog::{Code, Content, Entry, Key, Kind};
+use sdb_value::{Json, write_value};
+use std::alloc::{AllocError, Global};
+
+/// The text of an answer, compact, with the members of each object in the order of their bytes.
+pub fn reply_text(alloc: Global, answer: &Answer<'_>) -> Result<String, AllocError>
+    ensures { IfOk result (λ s. string_bytes s ≡ answer_text (plain_answer answer.now)) }
+{
+    if let Answer::OpText { text } = answer {
+        return String::from_str(alloc, text.as_str());
+    }
+    if let Some((key, entry, op)) = fast_edit(answer) {
+        return edit_message(alloc, key, entry, op);
+    }
+    let mut out = Writer::new(Vec::with_capacity(alloc, TEXT_LEN)?);
+    write_answer(answer, &mut out)?;
+    Ok(text_of(out))
+}
+
+/// Writes the text of an answer, as [`reply_text`] gives it, behind what `out` holds. After want of
+/// memory `out` holds what it held.
+pub fn append_answer_text(
+    alloc: Global,
+    answer: &Answer<'_>,
+    out: &mut Vec<u8>,
+) -> Result<(), AllocError>
+    ensures ok { OnOk result (out.new.items ≡ out.old.items ++ answer_text (plain_answer answer.now)) }
+    ensures err { OnErr result (out.new.items ≡ out.old.items) }
+{
+    if let Answer::OpText { text } = answer {
+        return out.extend_from_slice(text.as_str().as_bytes());
+    }
+    if let Answer::Acknowledged {
+        key,
+        src,
+        seq,
+        version,
+    } = answer
+        && are_escape_free(key, src)
+    {
+        return push_ack(key, src, *seq, *version, out);
+    }
+    let text = answer_bytes(alloc, answer)?;
+    out.extend_from_slice(text.as_slice())
+}
+
+// The bytes of the text of an answer. A writer over other bytes would first fill the room behind them.
+fn answer_bytes(alloc: Global, answer: &Answer<'_>) -> Result<Vec<u8>, AllocError>
+    ensures { IfOk result (λ v. v.items ≡ answer_text (plain_answer answer.now)) }
+{
+    if let Some((key, entry, op)) = fast_edit(answer) {
+        return edit_message_bytes(alloc, key, entry, op);
+    }
+    let mut writer = Writer::new(Vec::with_capacity(alloc, TEXT_LEN)?);
+    write_answer(answer, &mut writer)?;
+    Ok(bytes_of(writer))
+}
+
+// The operation that an answer tells, of an entry of a document, where their names need no escape.
+fn fast_edit<'a>(answer: &'a Answer<'_>) -> Option<(&'a Key, &'a Entry, &'a Op)>
+    ensures told { IfSome result (λ t. plain_answer answer.now
+        ≡ op_message (plain_key t.0.now) (with_content t.1.now (edit t.2.now))) }
+    ensures plain { IfSome result (λ t. AreEscapeFree (plain_key t.0.now) (t.1.now).arrived.src) }
+{
+    let Answer::OpMessage {
+        key,
+        entry,
+        content,
+    } = answer
+    else {
+        return None;
+    };
+    match content.kind() {
+        Kind::Edit(op) if are_escape_free(key, entry.arrived().src()) => Some((key, entry, op)),
+        _ => None,
+    }
+}
+
+// What was written.
+fn bytes_of(out: Writer) -> Vec<u8>
+    requires { out.before ≡ [] }
+    ensures { result.items ≡ print out.tokens }
+{
+    out.into_inner()
+}
+
+// What was written, which is UTF-8.
+fn text_of(out: Writer) -> String
+    requires { out.before ≡ [] }
+    ensures { string_bytes result ≡ print out.tokens }
+{
+    match String::from_utf8(out.into_inner()) {
+        Ok(text) => text,
+        Err(_) => unreachable!(),
+    }
+}
+
+fn write_answer(answer: &Answer<'_>, out: &mut Writer) -> Result<(), AllocError>
+    ensures tokens { OnOk result (out.new.tokens ≡ out.old.tokens ++ answer_tokens (plain_answer answer.now)) }
+    ensures before { out.new.before ≡ out.old.before }
+{
+    match answer {
+        Answer::Init { src } => write_hello_answer("init", src, out),
+        Answer::HelloAck { src } => write_hello_answer("hs", src, out),
+        Answer::Fetched {
+            key,
+            version,
+            document,
+        } => write_document("f", key, *version, *document, out),
+        Answer::ListEnd { key } => write_key("f", key, out),
+        Answer::Subscribed {
+            key,
+            version,
+            document,
+        } => write_document("s", key, *version, *document, out),
+        Answer::CaughtUp { key } => write_key("s", key, out),
+        Answer::Unsubscribed { key } => write_key("u", key, out),
+        Answer::Snapshot {
+            id,
+            version,
+            document,
+        } => write_snapshot_at("nf", *id, *version, *document, out),
+        Answer::SnapshotAtTime {
+            id,
+            version,
+            document,
+        } => write_snapshot_at("nt", *id, *version, *document, out),
+        Answer::OpMessage {
+            key,
+            entry,
+            content,
+        } => write_op_message(key, entry, content, out),
+        Answer::OpText { text } => {
+            write_op_message(&text.key, &text.entry, text.entry.content(), out)
+        }
+        Answer::Acknowledged {
+            key,
+            src,
+            seq,
+            version,
+        } => write_ack(key, src, *seq, *version, out),
+        Answer::Failed { echo, code } => write_error_answer(echo, *code, out),
+    }
+}
+
+/// Writes a member of an object: its name and this text.
+pub fn write_text(name: &str, text: &str, out: &mut Writer) -> Result<(), AllocError>
+    ensures tokens { OnOk result (out.new.tokens ≡ out.old.tokens ++ key_token name.now ∷ string text.now ∷ []) }
+    ensures before { out.new.before ≡ out.old.before }
+    ensures err { OnErr result (WritesFront out.old.tokens out.new.tokens (key_token name.now ∷ string text.now ∷ [])) }
+{
+    out.key(name)?;
+    out.string(text)
+}
+
+/// Writes a member of an object: its name and this number.
+pub fn write_count(name: &str, count: u64, out: &mut Writer) -> Result<(), AllocError>
+    ensures tokens { OnOk result (out.new.tokens ≡ out.old.tokens ++ key_token name.now ∷ number (decimal count) ∷ []) }
+    ensures before { out.new.before ≡ out.old.before }
+    ensures err { OnErr result (WritesFront out.old.tokens out.new.tokens
+        (key_token name.now ∷ number (decimal count) ∷ [])) }
+{
+    out.key(name)?;
+    out.u64(count)
+}
+
+// The first members of an answer about a document.
+fn write_head(kind: &str, key: &Key, out: &mut Writer) -> Result<(), AllocError>
+    ensures tokens { OnOk result (out.new.tokens
+        ≡ out.old.tokens ++ begin_object ∷ key_token (codes "a") ∷ string kind.now
+        ∷ key_token (codes "c") ∷ string (plain_key key.now).collection
+        ∷ key_token (codes "d") ∷ string (plain_key key.now).id ∷ []) }
+    ensures before { out.new.before ≡ out.old.before }
+{
+    out.begin_object()?;
+    write_text("a", kind, out)?;
+    write_text("c", key.collection.as_str(), out)?;
+    write_text("d", key.id.as_str(), out)
+}
+
+// The session's source.
+fn write_hello_answer(kind: &str, src: &str, out: &mut Writer) -> Result<(), AllocError>
+    ensures tokens { OnOk result (out.new.tokens ≡ out.old.tokens ++ data_tokens (hello_data kind.now src.now)) }
+    ensures before { out.new.before ≡ out.old.before }
+{
+    out.begin_object()?;
+    write_text("a", kind, out)?;
+    write_text("id", src, out)?;
+    write_count("protocol", 1, out)?;
+    write_count("protocolMinor", 1, out)?;
+    write_text("type", TYPE, out)?;
+    out.end_object()
+}
+
+fn write_snapshot(version: u64, document: Option<&Json>, out: &mut Writer) -> Result<(), AllocError>
+    ensures tokens { OnOk result (out.new.tokens
+        ≡ out.old.tokens ++ data_tokens
+        (snapshot_data version (option_map (λ d. value_of d.now) document.entry))) }
+    ensures before { out.new.before ≡ out.old.before }
+{
+    out.begin_object()?;
+    match document {
+        Some(json) => {
+            out.key("data")?;
+            write_value(json, out)?;
+        }
+        None => {
+            out.key("type")?;
+            out.null()?;
+        }
+    }
+    write_count("v", version, out)?;
+    out.end_object()
+}
+
+// The present version, and the document there.
+fn write_document(
+    kind: &str,
+    key: &Key,
+    version: u64,
+    document: Option<&Json>,
+    out: &mut Writer,
+) -> Result<(), AllocError>
+    ensures tokens { OnOk result (out.new.tokens
+        ≡ out.old.tokens ++ data_tokens
+        (document_data kind.now (plain_key key.now) version (option_map (λ d. value_of d.now) document.entry))) }
+    ensures before { out.new.before ≡ out.old.before }
+{
+    write_head(kind, key, out)?;
+    out.key("data")?;
+    write_snapshot(version, document, out)?;
+    out.end_object()
+}
+
+// An answer that says no more than which document it is about.
+fn write_key(kind: &str, key: &Key, out: &mut Writer) -> Result<(), AllocError>
+    ensures tokens { OnOk result (out.new.tokens
+        ≡ out.old.tokens ++ data_tokens (key_data kind.now (plain_key key.now))) }
+    ensures before { out.new.before ≡ out.old.before }
+{
+    write_head(kind, key, out)?;
+    out.end_object()
+}
+
+// The document at a version, or that there is none.
+fn write_snapshot_at(
+    word: &str,
+    id: u64,
+    version: u64,
+    document: Option<&Json>,
+    out: &mut Writer,
+) -> Result<(), AllocError>
+    ensures tokens { OnOk result (out.new.tokens
+        ≡ out.old.tokens ++ data_tokens
+        (version_data word.now id version (option_map (λ d. value_of d.now) document.entry))) }
+    ensures before { out.new.before ≡ out.old.before }
+{
+    match document {
+        Some(json) => write_document_at(word, id, version, json, out),
+        None => write_absent_at(word, id, version, out),
+    }
+}
+
+fn write_document_at(
+    word: &str,
+    id: u64,
+    version: u64,
+    document: &Json,
+    out: &mut Writer,
+) -> Result<(), AllocError>
+    ensures tokens { OnOk result (out.new.tokens
+        ≡ out.old.tokens ++ data_tokens (version_data word.now id version (Some (value_of document.now)))) }
+    ensures before { out.new.before ≡ out.old.before }
+{
+    out.begin_object()?;
+    write_text("a", word, out)?;
+    out.key("data")?;
+    write_value(document, out)?;
+    write_count("id", id, out)?;
+    write_text("type", TYPE, out)?;
+    write_count("v", version, out)?;
+    out.end_object()
+}
+
+fn write_absent_at(word: &str, id: u64, version: u64, out: &mut Writer) -> Result<(), AllocError>
+    ensures tokens { OnOk result (out.new.tokens ≡
+        out.old.tokens ++ data_tokens (version_data word.now id version None)) }
+    ensures before { out.new.before ≡ out.old.before }
+{
+    out.begin_object()?;
+    write_text("a", word, out)?;
+    write_count("id", id, out)?;
+    out.key("type")?;
+    out.null()?;
+    write_count("v", version, out)?;
+    out.end_object()
+}
+
+// An entry that shows this content.
+fn write_op_message(
+    key: &Key,
+    entry: &Entry,
+    content: &Content,
+    out: &mut Writer,
+) -> Result<(), AllocError>
+    ensures tokens { OnOk result (out.new.tokens
+        ≡ out.old.tokens ++ answer_tokens
+        (op_message (plain_key key.now) (with_content entry.now content.now))) }
+    ensures before { out.new.before ≡ out.old.before }
+{
+    out.begin_object()?;
+    write_text("a", "op", out)?;
+    write_content(key, content, out)?;
+    write_tail(entry, out)
+}
+
+/// Writes a stored operation, as [`entry_value`](crate::entry_value) spells it, behind what is written.
+pub fn write_entry(entry: &Entry, out: &mut Writer) -> Result<(), AllocError>
+    ensures tokens { OnOk result (out.new.tokens ≡ out.old.tokens ++ data_tokens (entry_data entry.now)) }
+    ensures before { out.new.before ≡ out.old.before }
+    ensures err { OnErr result (WritesFront out.old.tokens out.new.tokens (data_tokens (entry_data entry.now))) }
+{
+    out.begin_object()?;
+    write_entry_content(entry, out)?;
+    write_tail(entry, out)
+}
+
+// The content by itself.
+fn write_entry_content(entry: &Entry, out: &mut Writer) -> Result<(), AllocError>
+    ensures tokens { OnOk result (out.new.tokens ++ object_tail_tokens (op_tail entry.now)
+        ≡ out.old.tokens ++ object_tail_tokens (entry_members entry.now (entry.now).content)) }
+    ensures before { out.new.before ≡ out.old.before }
+    ensures err { OnErr result (WritesFront out.old.tokens out.new.tokens
+        (object_tail_tokens (entry_members entry.now (entry.now).content))) }
+{
+    match entry.content().kind() {
+        Kind::Create(value) => {
+            out.key("create")?;
+            write_create(value, out)
+        }
+        Kind::Delete => {
+            out.key("del")?;
+            out.boolean(true)
+        }
+        Kind::Edit(op) => {
+            out.key("op")?;
+            write_op(op, out)
+        }
+    }
+}
+
+// What follows the content, and the end.
+fn write_tail(entry: &Entry, out: &mut Writer) -> Result<(), AllocError>
+    ensures tokens { OnOk result (out.new.tokens ≡ out.old.tokens ++ object_tail_tokens (op_tail entry.now)) }
+    ensures before { out.new.before ≡ out.old.before }
+    ensures err { OnErr result (WritesFront out.old.tokens out.new.tokens (object_tail_tokens (op_tail entry.now))) }
+{
+    write_count("seq", entry.arrived().seq(), out)?;
+    write_text("src", entry.arrived().src(), out)?;
+    write_count("v", entry.version(), out)?;
+    out.end_object()
+}
+
+// The key with the content, whose name stands among the key's.
+fn write_content(key: &Key, content: &Content, out: &mut Writer) -> Result<(), AllocError>
+    ensures tokens { OnOk result ((rest : Members) → out.new.tokens ++ object_tail_tokens rest
+        ≡ out.old.tokens ++ object_tail_tokens (content_members (plain_key key.now) content.now rest)) }
+    ensures before { out.new.before ≡ out.old.before }
+{
+    write_text("c", key.collection.as_str(), out)?;
+    match content.kind() {
+        Kind::Create(value) => {
+            out.key("create")?;
+            write_create(value, out)?;
+            write_text("d", key.id.as_str(), out)
+        }
+        Kind::Delete => {
+            write_text("d", key.id.as_str(), out)?;
+            out.key("del")?;
+            out.boolean(true)
+        }
+        Kind::Edit(op) => {
+            write_text("d", key.id.as_str(), out)?;
+            out.key("op")?;
+            write_op(op, out)
+        }
+    }
+}
+
+/// Writes the data of a create, and the type, behind what is written.
+pub fn write_create(value: &Json, out: &mut Writer) -> Result<(), AllocError>
+    ensures tokens { OnOk result (out.new.tokens ≡ out.old.tokens ++ data_tokens (create_data (value_of value.now))) }
+    ensures before { out.new.before ≡ out.old.before }
+    ensures err { OnErr result (WritesFront out.old.tokens out.new.tokens
+        (data_tokens (create_data (value_of value.now)))) }
+{
+    out.begin_object()?;
+    out.key("data")?;
+    write_value(value, out)?;
+    write_text("type", TYPE, out)?;
+    out.end_object()
+}
+
+fn write_ack(
+    key: &Key,
+    src: &str,
+    seq: u64,
+    version: u64,
+    out: &mut Writer,
+) -> Result<(), AllocError>
+    ensures tokens { OnOk result (out.new.tokens
+        ≡ out.old.tokens ++ answer_tokens (acknowledged (plain_key key.now) src.now seq version)) }
+    ensures before { out.new.before ≡ out.old.before }
+{
+    write_head("op", key, out)?;
+    write_count("seq", seq, out)?;
+    write_text("src", src, out)?;
+    write_count("v", version, out)?;
+    out.end_object()
+}
+
+fn write_error_answer(echo: &Echo, code: Code, out: &mut Writer) -> Result<(), AllocError>
+    ensures tokens { OnOk result (out.new.tokens
+        ≡ out.old.tokens ++ answer_tokens (failed (plain_echo echo.now) code)) }
+    ensures before { out.new.before ≡ out.old.before }
+{
+    out.begin_object()?;
+    write_echo_value("a", &echo.a, out)?;
+    write_echo_value("c", &echo.c, out)?;
+    write_echo_value("d", &echo.d, out)?;
+    out.key("error")?;
+    write_error(code, out)?;
+    write_echo_value("id", &echo.id, out)?;
+    write_echo_value("seq", &echo.seq, out)?;
+    write_echo_value("src", &echo.src, out)?;
+    out.end_object()
+}
+
+// A member, unless it is none.
+fn write_echo_value(
+    name: &str,
+    word: &Option<EchoValue>,
+    out: &mut Writer,
+) -> Result<(), AllocError>
+    ensures tokens { OnOk result ((rest : Members) → out.new.tokens ++ object_tail_tokens rest
+        ≡ out.old.tokens ++ object_tail_tokens (push_member name.now (option_map plain_echo_value word.now) rest)) }
+    ensures before { out.new.before ≡ out.old.before }
+{
+    match word {
+        None => Ok(()),
+        Some(EchoValue::Text { text }) => write_text(name, text.as_str(), out),
+        Some(EchoValue::Count { count }) => write_count(name, *count, out),
+    }
+}
+
+fn write_error(code: Code, out: &mut Writer) -> Result<(), AllocError>
+    ensures tokens { OnOk result (out.new.tokens ≡ out.old.tokens ++ data_tokens (error_data code)) }
+    ensures before { out.new.before ≡ out.old.before }
+{
+    out.begin_object()?;
+    write_text("code", code_name(code), out)?;
+    write_text("message", code_text(code), out)?;
+    out.end_object()
+}
