@@ -9,8 +9,8 @@ use Rattle.sdb_component.specs.Plain.{PlainAct}
 use Rattle.sdb_apply.proofs.FoldLemmas.{applies_append, none_more}
 use Rattle.sdb_value.specs.Value.{Value, PlainStep, value_at, with_value_at}
 use Rattle.sdb_value.specs.Change.{ReplacedAt}
-use Rattle.sdb_value.specs.PathLaws.{at_append, with_append, at_with, with_with}
-use Rattle.sdb_value.specs.ValueLaws.{with_same}
+use Rattle.sdb_value.specs.laws.PathLaws.{at_append, with_append, at_with, with_with}
+use Rattle.sdb_value.specs.laws.ValueLaws.{with_same}
 use Rattle.sdb_component.specs.Plain.{PlainComponent}
 use Rattle.sdb_apply.specs.Apply.{apply_act, apply_one, apply}
 use Rattle.sdb_apply.specs.Outcome.{IsApplyOutcome}

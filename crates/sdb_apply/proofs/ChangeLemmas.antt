@@ -1,8 +1,8 @@
 -- Changes in turn: at two places, and below one.
 use Rattle.std.proofs.Common.{◌≡◌, List, [], ◌∷◌, ◌++◌, map, Option, Some, None, option_map, option_and_then, refl, sym, ap, ◌∙◌}
 use Rattle.sdb_value.specs.Value.{Value, PlainStep, value_at, with_value_at}
-use Rattle.sdb_value.specs.PathLaws.{at_with}
-use Rattle.sdb_value.specs.ValueLaws.{with_same}
+use Rattle.sdb_value.specs.laws.PathLaws.{at_with}
+use Rattle.sdb_value.specs.laws.ValueLaws.{with_same}
 use Rattle.sdb_value.specs.Disjoint.{AreDisjointPaths}
 use Rattle.sdb_value.proofs.DisjointLemmas.{writes_commute}
 use Rattle.sdb_component.specs.Plain.{PlainAct, PlainComponent}

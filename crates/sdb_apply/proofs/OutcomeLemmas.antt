@@ -11,7 +11,7 @@ use Rattle.sdb_value.specs.declared.value.Json.{Json}
 use Rattle.sdb_value.specs.Value.{Value, Items, Members, PlainStep, null, truth, whole, text, list, object, value_at, with_value_at, as_text, as_list, as_object}
 use Rattle.sdb_value.specs.Change.{ReplacedAt}
 use Rattle.sdb_rope.specs.EditOutcome.{EditOutcome}
-use Rattle.sdb_value.specs.ValueLaws.{with_same, eq_text_of_as_text, eq_list_of_as_list, eq_object_of_as_object}
+use Rattle.sdb_value.specs.laws.ValueLaws.{with_same, eq_text_of_as_text, eq_list_of_as_list, eq_object_of_as_object}
 use Rattle.sdb_apply.specs.Apply.{map_text, map_list, map_object}
 use Rattle.sdb_apply.specs.Outcome.{IsApplyOutcome, may_allocate}
 use Rattle.sdb_apply.specs.declared.op_apply.ApplyFault.{ApplyFault}

@@ -21,7 +21,7 @@ use std::alloc::{AllocError, Global};
 pub(crate) fn apply_act(alloc: Global, place: &mut Json, act: &Act) -> Result<(), ApplyFault>
     ensures outcome { IsApplyOutcome (may_allocate (act_allocates (plain_act act.now)) (is_unique place.old)) result
         (apply_act (plain_act act.now) (value_of place.old)) (value_of place.old) (value_of place.new) }
-    ensures own { is_unique place.old ≡ true → is_unique place.new ≡ true }
+    ensures unique { is_unique place.old ≡ true → is_unique place.new ≡ true }
 {
     match act {
         Act::Na(amount) => add_number(place, *amount),
@@ -39,7 +39,7 @@ pub(crate) fn apply_act(alloc: Global, place: &mut Json, act: &Act) -> Result<()
 fn add_number(place: &mut Json, amount: Whole) -> Result<(), ApplyFault>
     ensures outcome { IsApplyOutcome (may_allocate false (is_unique place.old)) result
         (map_number (λ n. checked_whole (n +ℤ amount)) (value_of place.old)) (value_of place.old) (value_of place.new) }
-    ensures own { is_unique place.old ≡ true → is_unique place.new ≡ true }
+    ensures unique { is_unique place.old ≡ true → is_unique place.new ≡ true }
 {
     if let Json::Int(n) = place {
         match n.checked_add(amount) {
@@ -61,7 +61,7 @@ fn insert_text(
 ) -> Result<(), ApplyFault>
     ensures outcome { IsApplyOutcome (may_allocate true (is_unique place.old)) result
         (map_text (insert_text offset piece.now) (value_of place.old)) (value_of place.old) (value_of place.new) }
-    ensures own { is_unique place.old ≡ true → is_unique place.new ≡ true }
+    ensures unique { is_unique place.old ≡ true → is_unique place.new ≡ true }
 {
     match text_mut(place) {
         Some(text) => applied_if(text.insert(alloc, offset, piece.as_str())?),
@@ -77,7 +77,7 @@ fn delete_text(
 ) -> Result<(), ApplyFault>
     ensures outcome { IsApplyOutcome (may_allocate false (is_unique place.old)) result
         (map_text (remove_text offset piece.now) (value_of place.old)) (value_of place.old) (value_of place.new) }
-    ensures own { is_unique place.old ≡ true → is_unique place.new ≡ true }
+    ensures unique { is_unique place.old ≡ true → is_unique place.new ≡ true }
 {
     match text_mut(place) {
         Some(text) => applied_if(text.remove(alloc, offset, piece.as_str())?),
@@ -94,7 +94,7 @@ fn insert_list_item(
     ensures outcome { IsApplyOutcome (may_allocate true (is_unique place.old)) result
         (map_list (insert_item index (value_of value.now)) (value_of place.old)) (value_of place.old)
         (value_of place.new) }
-    ensures own { is_unique place.old ≡ true → is_unique place.new ≡ true }
+    ensures unique { is_unique place.old ≡ true → is_unique place.new ≡ true }
 {
     let copy = clone_for_insert(alloc, place, value)?;
     match list_mut(place) {
@@ -106,7 +106,7 @@ fn insert_list_item(
 fn delete_list_item(alloc: Global, place: &mut Json, index: u64) -> Result<(), ApplyFault>
     ensures outcome { IsApplyOutcome (may_allocate false (is_unique place.old)) result
         (map_list (remove_item index) (value_of place.old)) (value_of place.old) (value_of place.new) }
-    ensures own { is_unique place.old ≡ true → is_unique place.new ≡ true }
+    ensures unique { is_unique place.old ≡ true → is_unique place.new ≡ true }
 {
     match list_mut(place) {
         Some(items) => applied_if(remove_item(alloc, items, index)?),
@@ -123,7 +123,7 @@ fn replace_list_item(
     ensures outcome { IsApplyOutcome (may_allocate true (is_unique place.old)) result
         (map_list (replace_item index (value_of value.now)) (value_of place.old)) (value_of place.old)
         (value_of place.new) }
-    ensures own { is_unique place.old ≡ true → is_unique place.new ≡ true }
+    ensures unique { is_unique place.old ≡ true → is_unique place.new ≡ true }
 {
     let copy = clone_for_insert(alloc, place, value)?;
     match list_mut(place) {
@@ -136,7 +136,7 @@ fn set_member(alloc: Global, place: &mut Json, key: &str, value: &Json) -> Resul
     ensures outcome { IsApplyOutcome (may_allocate true (is_unique place.old)) result
         (map_object (put_member key.now (value_of value.now)) (value_of place.old)) (value_of place.old)
         (value_of place.new) }
-    ensures own { is_unique place.old ≡ true → is_unique place.new ≡ true }
+    ensures unique { is_unique place.old ≡ true → is_unique place.new ≡ true }
 {
     let name = String::from_str(alloc, key)?;
     let copy = clone_for_insert(alloc, place, value)?;
@@ -149,7 +149,7 @@ fn set_member(alloc: Global, place: &mut Json, key: &str, value: &Json) -> Resul
 fn remove_member(alloc: Global, place: &mut Json, key: &str) -> Result<(), ApplyFault>
     ensures outcome { IsApplyOutcome (may_allocate false (is_unique place.old)) result
         (map_object (without_member key.now) (value_of place.old)) (value_of place.old) (value_of place.new) }
-    ensures own { is_unique place.old ≡ true → is_unique place.new ≡ true }
+    ensures unique { is_unique place.old ≡ true → is_unique place.new ≡ true }
 {
     match object_mut(place) {
         Some(object) => {
@@ -164,7 +164,7 @@ fn remove_member(alloc: Global, place: &mut Json, key: &str) -> Result<(), Apply
 // it may be its owner's own, all of the copy is.
 fn clone_for_insert(alloc: Global, place: &Json, value: &Json) -> Result<Json, AllocError>
     ensures value { IfOk result (λ v. value_of v ≡ value_of value.now) }
-    ensures own { is_unique place.now ≡ true → IfOk result (λ v. is_unique v ≡ true) }
+    ensures unique { is_unique place.now ≡ true → IfOk result (λ v. is_unique v ≡ true) }
 {
     if place.is_shared() {
         return value.try_clone(alloc);

@@ -20,12 +20,12 @@ use std::alloc::Global;
 /// so the parts of it on the ways of the components are copied, and nothing else. A value that is its own stays
 /// so under one component, and need not under several.
 pub fn apply_atomic(alloc: Global, value: &mut Json, op: &Op) -> Result<(), ApplyFault>
-    ensures done { OnOk result (apply op.now (value_of value.old) ≡ Some (value_of value.new)) }
-    ensures refused { IsErrOf result NotApplied → apply op.now (value_of value.old) ≡ None }
+    ensures applied { OnOk result (apply op.now (value_of value.old) ≡ Some (value_of value.new)) }
+    ensures not_applied { IsErrOf result NotApplied → apply op.now (value_of value.old) ≡ None }
     ensures memory { IsErrOf result OutOfMemory
         → may_allocate (atomic_apply_allocates op.now) (is_unique value.old) ≡ true }
     ensures unchanged { OnErr result (value_of value.new ≡ value_of value.old) }
-    ensures own { length op.now ≤ 1 → is_unique value.old ≡ true → is_unique value.new ≡ true }
+    ensures unique { length op.now ≤ 1 → is_unique value.old ≡ true → is_unique value.new ≡ true }
 {
     match op.components() {
         [] => Ok(()),
@@ -59,7 +59,7 @@ fn apply_many(
 // The longest front of the path that the paths of all components begin with.
 fn common_path<'p>(path: &'p [Step], components: &[Component]) -> &'p [Step]
     ensures front { plain_path result.now ≡ take (length result.now) (plain_path path.now) }
-    ensures shared { AllBelowPath (plain_path result.now) components.now }
+    ensures all_below { AllBelowPath (plain_path result.now) components.now }
 {
     let mut shared = path;
     for component in components {
@@ -70,9 +70,9 @@ fn common_path<'p>(path: &'p [Step], components: &[Component]) -> &'p [Step]
 
 // How many steps both paths have in common at their front.
 fn common_prefix_len(path: &[Step], other: &[Step]) -> usize
-    ensures within { result ≤ length path.now }
-    ensures same { take result (plain_path path.now) ≡ take result (plain_path other.now) }
-    ensures reached { result ≤ length other.now }
+    ensures in_range { result ≤ length path.now }
+    ensures equal { take result (plain_path path.now) ≡ take result (plain_path other.now) }
+    ensures bound { result ≤ length other.now }
 {
     for (at, step) in path.iter().enumerate() {
         let Some(beside) = other.get(at) else {
@@ -132,9 +132,10 @@ fn apply_at_depth(
     components: &[Component],
     depth: usize,
 ) -> Result<(), ApplyFault>
-    ensures done { OnOk result (apply (strip_steps depth components.now) (value_of value.old)
+    ensures applied { OnOk result (apply (strip_steps depth components.now) (value_of value.old)
         ≡ Some (value_of value.new)) }
-    ensures refused { IsErrOf result NotApplied → apply (strip_steps depth components.now) (value_of value.old) ≡ None }
+    ensures not_applied { IsErrOf result NotApplied
+        → apply (strip_steps depth components.now) (value_of value.old) ≡ None }
 {
     for component in components {
         match apply_at(

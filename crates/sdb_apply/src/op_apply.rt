@@ -53,12 +53,12 @@ pub struct Refused {
 /// only where something is put in, or something of the value is shared. After a refusal the value is
 /// unchanged. A value that is its own stays so.
 pub fn apply_one(alloc: Global, value: &mut Json, component: &Component) -> Result<(), ApplyFault>
-    ensures done { OnOk result (apply_one component.now (value_of value.old) ≡ Some (value_of value.new)) }
-    ensures refused { IsErrOf result NotApplied → apply_one component.now (value_of value.old) ≡ None }
+    ensures applied { OnOk result (apply_one component.now (value_of value.old) ≡ Some (value_of value.new)) }
+    ensures not_applied { IsErrOf result NotApplied → apply_one component.now (value_of value.old) ≡ None }
     ensures memory { IsErrOf result OutOfMemory
         → may_allocate (act_allocates component.now.act) (is_unique value.old) ≡ true }
     ensures unchanged { OnErr result (value_of value.new ≡ value_of value.old) }
-    ensures own { is_unique value.old ≡ true → is_unique value.new ≡ true }
+    ensures unique { is_unique value.old ≡ true → is_unique value.new ≡ true }
 {
     apply_component(alloc, value, component)
 }
@@ -69,7 +69,7 @@ pub fn apply_at(alloc: Global, value: &mut Json, path: &[Step], act: &Act) -> Re
     ensures outcome { IsApplyOutcome (may_allocate (act_allocates (plain_act act.now)) (is_unique value.old)) result
         (apply_one (record { path = plain_path path.now; act = plain_act act.now }) (value_of value.old))
         (value_of value.old) (value_of value.new) }
-    ensures own { is_unique value.old ≡ true → is_unique value.new ≡ true }
+    ensures unique { is_unique value.old ≡ true → is_unique value.new ≡ true }
 {
     match change_at(alloc, value, path, ApplyOne { alloc, act })? {
         Some(done) => done,
@@ -80,7 +80,7 @@ pub fn apply_at(alloc: Global, value: &mut Json, path: &[Step], act: &Act) -> Re
 fn apply_component(alloc: Global, value: &mut Json, component: &Component) -> Result<(), ApplyFault>
     ensures outcome { IsApplyOutcome (may_allocate (act_allocates component.now.act) (is_unique value.old)) result
         (apply_one component.now (value_of value.old)) (value_of value.old) (value_of value.new) }
-    ensures own { is_unique value.old ≡ true → is_unique value.new ≡ true }
+    ensures unique { is_unique value.old ≡ true → is_unique value.new ≡ true }
 {
     apply_at(alloc, value, component.path(), component.act())
 }
@@ -90,15 +90,15 @@ fn apply_component(alloc: Global, value: &mut Json, component: &Component) -> Re
 /// before that one made of it. `OutOfMemory` only at a component that puts something in, or where something of
 /// the value is shared. A value that is its own stays so.
 pub fn apply(alloc: Global, value: &mut Json, op: &Op) -> Result<(), Refused>
-    ensures done { OnOk result (apply op.now (value_of value.old) ≡ Some (value_of value.new)) }
+    ensures applied { OnOk result (apply op.now (value_of value.old) ≡ Some (value_of value.new)) }
     ensures before { IfErr result (λ r. apply (take r.at op.now) (value_of value.old) ≡ Some (value_of value.new)) }
-    ensures within { IfErr result (λ r. r.at < length op.now) }
+    ensures in_range { IfErr result (λ r. r.at < length op.now) }
     ensures refused { IfErr result (λ r. r.why ≡ NotApplied
         → apply (take (r.at + 1) op.now) (value_of value.old) ≡ None) }
     ensures none { IfErr result (λ r. r.why ≡ NotApplied → apply op.now (value_of value.old) ≡ None) }
     ensures memory { IfErr result (λ r. r.why ≡ OutOfMemory
         → may_allocate (act_allocates_at r.at op.now) (is_unique value.old) ≡ true) }
-    ensures own { is_unique value.old ≡ true → is_unique value.new ≡ true }
+    ensures unique { is_unique value.old ≡ true → is_unique value.new ≡ true }
 {
     for (at, component) in op.components().iter().enumerate() {
         match apply_component(alloc, value, component) {

@@ -1,4 +1,4 @@
--- What an audit has, once all passes are handed back.
+-- The contents of an audit, given all passes.
 use Rattle.std.proofs.Common.{◌≡◌, ℕ, zero, suc, ◌+◌, ◌<◌, ◌≤◌, ◌⊎◌, inl, inr, Bool, true, false, nat_lt, List, [], ◌∷◌, length, map, slice_index_or, slice_get, Some, None, Contains, refl, sym, ap, ◌∙◌, subst, arith}
 use Rattle.std.specs.List.{All}
 use Rattle.std.specs.List.Sorted.{IsPermutation}
@@ -53,7 +53,7 @@ among_seats k [] h = h
 among_seats k (p ∷ ps) (inl e) = inl e
 among_seats k (p ∷ ps) (inr h) = inr (among_seats k ps h)
 
--- all numbers are there, whatever the order of the passes
+-- all numbers are present, in any order of the passes
 pub numbers_there : (next : ℕ) (ps qs : List Pass) → IsPermutation ps qs → HasEveryPass next ps → (k : ℕ) → 0 < k → k < next → HasNumber k (seats_of qs)
 numbers_there next ps qs p all k some lt =
     let c = Contains-permutation (map pass_number ps) (map pass_number qs) k (IsPermutation-map pass_number ps qs p) (all k some lt) in
@@ -74,7 +74,7 @@ SameHeld n a b = share_of n (machine_of a.shard) ≡ share_of n (machine_of b.sh
 abbrev pub BlankHeld : ℕ → Held → Type 0
 BlankHeld n a = share_of n (machine_of a.shard) ≡ empty_share
 
--- what stands at a place
+-- the shard at an index
 shard_at : (shards : List Held) (i : ℕ) (v : Held) → slice_get shards i ≡ Some v → (i < length shards) × (slice_index_or shards i v ≡ v)
 shard_at shards i v is = shard_at_or_none ((slice_get_cases shards i).1) where
   shard_at_or_none : ((x : Held) × (i < length shards) × (slice_get shards i ≡ Some x) × (slice_index_or shards i x ≡ x)) ⊎ ((length shards ≤ i) × (slice_get shards i ≡ None))
@@ -92,7 +92,7 @@ kept_by : (i : ℕ) (v : Held) (ps : List Pass) → ForEach (λ c. ExtendsAndKee
 kept_by i v [] h = tt
 kept_by i v (p ∷ ps) h = (h.0, kept_by i v ps h.1)
 
--- at each place, of each pass
+-- at each index, for each pass
 abbrev pub KeepsAtEach : List Held → Pass → Type 0
 KeepsAtEach shards p = (i : ℕ) (v x : Held) → slice_get shards i ≡ Some v → PassHasSeenShard p i x → ExtendsHeld v x × SameHeld (pass_number p) x v
 

@@ -1,4 +1,4 @@
--- The keys of the shards' documents, gathered in a set.
+-- The keys of the shards' documents, collected in a set.
 use Rattle.std.proofs.Common.{◌≡◌, ℕ, List, [], ◌∷◌, Bool, true, false, ◌&&◌, ◌||◌, Ordering, Less, Equal, Greater, is_eq, map, refl, sym, subst, ap, ◌∙◌, nat_eq, eq-eqb}
 use Rattle.std.specs.Ordering.{match_ordering}
 use Rattle.std.specs.BTreeSet.{insert_key}
@@ -7,7 +7,7 @@ use Rattle.std.specs.List.Sorted.{IsStrictlySortedBy}
 use Rattle.std.specs.Set.{is_member}
 use Rattle.sdb_oplog.specs.Keys.{PlainKey, compare_keys, keys_equal, plain_key, shard_of}
 use Rattle.sdb_oplog.specs.declared.keys.Key.{Key}
-use Rattle.sdb_desk.specs.Laws.{eq_of_keys_equal}
+use Rattle.sdb_desk.specs.laws.KeyLaws.{eq_of_keys_equal}
 
 abbrev pub by_key : Key → Key → Ordering
 by_key a b = compare_keys (plain_key a) (plain_key b)
@@ -15,7 +15,7 @@ by_key a b = compare_keys (plain_key a) (plain_key b)
 abbrev pub is_among : List Key → PlainKey → Bool
 is_among ks k = is_member keys_equal (map plain_key ks) k
 
--- whether k is among the keys that are of this number
+-- whether k is among the keys of this number
 abbrev pub has_own : ℕ → List Key → PlainKey → Bool
 has_own n ks k = list_any (λ x. keys_equal k (plain_key x) && nat_eq (shard_of (plain_key x)) n) ks
 
@@ -47,7 +47,7 @@ put_bits true false o = refl
 put_bits false true o = refl
 put_bits false false o = refl
 
--- a key of the number is put among the others
+-- a key of the number is inserted
 pub gathered_of_put : (n : ℕ) (before after rest : List Key) (x : Key) (k : PlainKey) → shard_of (plain_key x) ≡ n → after ≡ insert_key by_key before x
     → (is_among after k || has_own n rest k) ≡ (is_among before k || has_own n (x ∷ rest) k)
 gathered_of_put n before after rest x k own is =
@@ -60,7 +60,7 @@ left_bits : (a m o : Bool) → (m || o) ≡ (m || ((a && false) || o))
 left_bits true m o = refl
 left_bits false m o = refl
 
--- a key of another number is left
+-- a key of another number is skipped
 pub gathered_of_skip : (n : ℕ) (all rest : List Key) (x : Key) (k : PlainKey) → nat_eq (shard_of (plain_key x)) n ≡ false
     → (is_among all k || has_own n rest k) ≡ (is_among all k || has_own n (x ∷ rest) k)
 gathered_of_skip n all rest x k other =
@@ -82,7 +82,7 @@ own_or true n x xs k is rest =
     (ap (λ b. nat_eq (shard_of k) n || b) rest ∙ or_and_absorb (nat_eq (shard_of k) n) (is_among xs k))
 own_or false n x xs k is rest = rest
 
--- a key is among those of the number, if it is of it and among all
+-- membership among the number's keys is membership among all, for a key of the number
 pub own_is : (n : ℕ) (ks : List Key) (k : PlainKey) → has_own n ks k ≡ (nat_eq (shard_of k) n && is_among ks k)
 own_is n [] k = and_false (nat_eq (shard_of k) n)
 own_is n (x ∷ xs) k = own_or (keys_equal k (plain_key x)) n x xs k refl (own_is n xs k)
@@ -91,7 +91,7 @@ all_less_above : (a : PlainKey) (ks : List Key) → AllByRecursion (λ y. compar
 all_less_above a [] all = tt
 all_less_above a (k ∷ ks) all = (all.0, all_less_above a ks all.1)
 
--- keys in order, as plain keys
+-- sorted keys as plain keys
 pub in_order : (ks : List Key) → IsStrictlySortedBy by_key ks → IsStrictlySortedBy compare_keys (map plain_key ks)
 unfolding IsStrictlySortedBy
 in_order [] ordered = tt

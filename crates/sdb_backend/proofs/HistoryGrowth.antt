@@ -1,4 +1,4 @@
--- Each call of the machine extends it, and changes what stands under the caller's number alone.
+-- Each call extends the machine and changes only the share of the caller's number.
 use Rattle.std.proofs.Common.{◌≡◌, ◌≢◌, ℕ, ◌+◌, ◌<◌, ◌≤◌, ◌⊎◌, inl, inr, Bool, true, false, cond, List, [], ◌∷◌, ◌++◌, length, max, nat_eq, nat_lt, Option, Some, None, unwrap_or, Result, Ok, Err, refl, sym, ap, ◌∙◌, subst, arith, append_assoc, append-nil}
 use Rattle.std.proofs.lemmas.Bool.Decides.{eqb_tells}
 use Rattle.std.proofs.lemmas.Bool.{eqb-true, eq-eqb}
@@ -6,25 +6,25 @@ use Rattle.std.proofs.Math.Nat.{le-max_left}
 use Rattle.sdb_oplog.specs.Plain.{PlainEntry, PlainSubmission, PlainContent}
 use Rattle.sdb_oplog.specs.Keys.{PlainKey, Logs, with_log, keys_equal}
 use Rattle.sdb_oplog.specs.Decide.{PlainReply, stored, repeated, refused, Decision, decide, append_decided, rebased_content, missed_entries, new_entry}
-use Rattle.sdb_oplog.specs.Laws.{decides_repeat, decides_settled}
+use Rattle.sdb_oplog.specs.laws.LogLaws.{decides_repeat, decides_settled}
 use Rattle.sdb_oplog.specs.Moments.{last_moment}
 use Rattle.sdb_oplog.specs.Snap.{stored_at}
 use Rattle.sdb_oplog.specs.declared.codes.Code.{Code}
 use Rattle.sdb_oplog.specs.declared.codes.Code.TheVariants.{E4, E11}
 use Rattle.sdb_subscribe.specs.Queue.{PlainQueue, PlainQueues, queue_at, open_queue, replace_queue, pending_entries, advance, queues_after_take, queues_after_take_by, remove_queue, remove_queue_by, is_queue_of, is_open_by}
-use Rattle.sdb_subscribe.specs.Laws.{queue_at_opened_other, queue_at_taken, queue_at_taken_other, queue_at_removed_other}
+use Rattle.sdb_subscribe.specs.laws.QueueLaws.{queue_at_opened_other, queue_at_taken, queue_at_taken_other, queue_at_removed_other}
 use Rattle.std.specs.Option.{option_map_or}
-use Rattle.sdb_desk.specs.Laws.{eq_of_keys_equal}
-use Rattle.sdb_desk.specs.MapLaws.{value_of_updated}
+use Rattle.sdb_desk.specs.laws.KeyLaws.{eq_of_keys_equal}
+use Rattle.sdb_desk.specs.laws.MapLaws.{value_of_updated}
 use Rattle.std.specs.Result.{result_ok}
 use Rattle.sdb_desk.specs.Machine.{Machine, PlainAttempt, PlainOutcome, decided, moved as moved_on, QueuesByKey, with_queues, close_queue, queue_start, subscribe_opened, subscribe_step, subscribe_from_start, DecidesOrOutOfMemory, CommitsOrOutOfMemory, SubscribesOrOutOfMemory, TakesOrOutOfMemory, IsUnchanged, PlainSubscribeResult}
 use Rattle.sdb_submit.specs.Calls.{PlainCall, look, commit, commit_now, current_version, fetch, ops_from, ops_between, snapshot, snapshot_at_time, forget, subscribe, take_next, unsubscribe, CallAnswer, MachineStep}
 use Rattle.sdb_backend.specs.HistoryOrder.{IsExtension, QueueContinues, QueuesContinue, Extends, stored_by, queue_owned_by, share_of, AddsToShare, Share}
 use Rattle.sdb_backend.specs.HistoryOrderLaws.{is_extension_refl, queue_continues_refl, queues_continue_refl}
 
--- ---- what stands under a number in logs
+-- ---- the share of a number in logs
 
--- the log stays and no version is answered as stored, or one entry is added, and its version is answered
+-- the log is unchanged and the reply isn't `stored`, or one entry is appended and its version is the reply's
 abbrev pub IsStoredReply : PlainReply → Type 0
 IsStoredReply (stored v es) = Unit {0}
 IsStoredReply (repeated v) = ⊥
@@ -55,7 +55,7 @@ longer_added : (log : List PlainEntry) (s : PlainSubmission) (now : ℕ) (r : Pl
 longer_added log s now r new (inl h) = ([], h.1 ∙ sym (append-nil log))
 longer_added log s now r new (inr h) = (new_entry log s now h.0 ∷ [], h.2)
 
--- an entry under another number
+-- an entry of another number
 past_entry : (b : Bool) (n : ℕ) (e : PlainEntry) (l : List PlainEntry) → nat_eq e.arrived.by n ≡ b → (e.arrived.by ≡ n → ⊥) → cond b (e ∷ l) l ≡ l
 past_entry true n e l is ne = absurd (ne (eqb-true e.arrived.by n is))
 past_entry false n e l is ne = refl
@@ -68,7 +68,7 @@ stored_by_append_other : (j : ℕ) (log : List PlainEntry) (s : PlainSubmission)
 stored_by_append_other j log s now r new ne (inl h) = ap (stored_by j) (sym h.1)
 stored_by_append_other j log s now r new ne (inr h) = sym (stored_other j log (new_entry log s now h.0) ne) ∙ ap (stored_by j) (sym h.2)
 
--- ---- what holds of the key that is written and of what stays, holds of each key
+-- ---- from the written key and the unchanged ones to all keys
 
 wrote_or : {A : Type 0} (b : Bool) (R : A → A → Type 0) (f : PlainKey → A) (k q : PlainKey) (w : A) → keys_equal k q ≡ b → R (f q) (f q) → R w (f k) → R (cond b w (f q)) (f q)
 wrote_or true R f k q w is stays writes = subst (λ x. R w (f x)) (eq_of_keys_equal k q is) writes
@@ -96,12 +96,12 @@ IsCallUnder n (subscribe v) = Unit {0}
 IsCallUnder n (take_next i max) = Unit {0}
 IsCallUnder n (unsubscribe i) = Unit {0}
 
--- of the machine before and after: it is longer, and what stands under other numbers is the same
+-- the machine after a call extends the one before, and the shares of other numbers are equal
 pub record MachineGrows (n : ℕ) (m new : Machine) : Type 0 where
   pub extends : Extends new m
   pub others : (j : ℕ) → j ≢ n → share_of j m ≡ share_of j new
 
--- what stands under j in the queues of one key
+-- the share of j in the queues of one key
 abbrev OtherQueuesSame : ℕ → PlainQueues → PlainQueues → Type 0
 OtherQueuesSame j new old = (i : ℕ) → queue_owned_by j (queue_at i old.queues) ≡ queue_owned_by j (queue_at i new.queues)
 
@@ -151,7 +151,7 @@ commits_grown n m new k a now (decided r) by queues (inl h) = same_grown n m new
 commits_grown n m new k a now (decided r) by queues (inr h) = decided_grown n m new k a.submission now by queues h.2
 commits_grown n m new k a now (moved_on l) by queues h = same_grown n m new (h.2, queues)
 
--- ---- calls of queues: each goes on, and what stands under other numbers is the same
+-- ---- queue calls: each queue continues, and the shares of other numbers are equal
 
 pub record QueuesMove (n : ℕ) (new old : PlainQueues) : Type 0 where
   pub continues : QueuesContinue new old
@@ -160,7 +160,7 @@ pub record QueuesMove (n : ℕ) (new old : PlainQueues) : Type 0 where
 moves_itself : (n : ℕ) (q : PlainQueues) → QueuesMove n q q
 moves_itself n q = record { continues = queues_continue_refl q; others = λ j ne i. refl }
 
--- a queue under another number
+-- a queue of another number
 mine_of_other : (b : Bool) (j : ℕ) (w : PlainQueue) → nat_eq w.by j ≡ b → (w.by ≡ j → ⊥) → cond b (Some w) None ≡ None
 mine_of_other true j w is ne = absurd (ne (eqb-true w.by j is))
 mine_of_other false j w is ne = refl
@@ -168,7 +168,7 @@ mine_of_other false j w is ne = refl
 mine_none : (j : ℕ) (w : PlainQueue) → (w.by ≡ j → ⊥) → queue_owned_by j (Some w) ≡ None
 mine_none j w ne = mine_of_other (nat_eq w.by j) j w refl ne
 
--- the queue that a test of its owner found
+-- the queue for which the test of its owner succeeded
 owned_by : (n : ℕ) (o : Option PlainQueue) → is_queue_of n o ≡ true → (w : PlainQueue) × ((o ≡ Some w) × (w.by ≡ n))
 owned_by n None e = cc
 owned_by n (Some w) e = (w, (refl, eqb-true w.by n e))
@@ -211,7 +211,7 @@ moves_subscribes : (log : List PlainEntry) (by : ℕ) (v : Option ℕ) (q : Plai
 moves_subscribes log by v q r new (inl h) = subst (λ x. QueuesMove by x q) (sym h.1) (moves_itself by q)
 moves_subscribes log by v q r new (inr h) = subst (λ x. QueuesMove by x q) (sym h.1) (moves_subscribing log by q (queue_start log v))
 
--- one queue is another, or closed; it was and is under n
+-- one queue changes or is closed; it belongs to n before and after
 abbrev QueueChangesAt : ℕ → List (ℕ × PlainQueue) → List (ℕ × PlainQueue) → ℕ → Type 0
 QueueChangesAt by new old k = QueueContinues (queue_at k new) (queue_at k old) × ((j : ℕ) → j ≢ by → queue_owned_by j (queue_at k old) ≡ queue_owned_by j (queue_at k new))
 
@@ -290,7 +290,7 @@ acts_grown n m k (unsubscribe i) a new by h =
     queues_grown n m new k (close_queue n i (m.queues k))
     (subst (λ x. QueuesMove n x (m.queues k)) here (moves_closed n i (m.queues k) (new.queues k) h.1 here)) h.0 h.2
 
--- ---- what a decision adds to what stands under its number
+-- ---- the effect of a decision on its number's share
 
 mine_or : (b : Bool) (n : ℕ) (e : PlainEntry) (l : List PlainEntry) → nat_eq e.arrived.by n ≡ b → e.arrived.by ≡ n → cond b (e ∷ l) l ≡ e ∷ l
 mine_or true n e l is by = refl
@@ -313,7 +313,7 @@ isnt_stored k s now (stored v es) old new isnt e = absurd (isnt tt)
 isnt_stored k s now (repeated v) old new isnt e = e
 isnt_stored k s now (refused code) old new isnt e = e
 
--- the entries that a decision leaves under its number, and no queue is another
+-- the entries of its number after a decision; no queue changes
 own_adds : (n : ℕ) (m new : Machine) (k : PlainKey) (s : PlainSubmission) (now : ℕ) (d : Decision) → s.by ≡ n → new.queues ≡ m.queues → new.logs ≡ with_log m.logs k d.log
     → LogGainsEntry (m.logs k) s now d.reply d.log → AddsToShare k s now d.reply (share_of n m) (share_of n new)
 own_adds n m new k s now d by queues logs (inl h) =

@@ -1,4 +1,4 @@
--- The open queues of shards that are counted one after the other, up to a bound.
+-- The open queues of shards, counted one by one up to a bound.
 use Rattle.std.proofs.Common.{◌≡◌, ℕ, ◌+◌, min, nat_lt, Bool, true, false, List, [], ◌∷◌, refl, sym, ap, subst, ◌∙◌, arith}
 use Rattle.std.proofs.Math.Nat.{min-eq_left, min-eq_right, min-le_right}
 use Rattle.std.proofs.lemmas.Bool.{ltb-true, ltb-false}
@@ -26,7 +26,7 @@ min_add_assoc m c a b =
 min_idem : (m x : ℕ) → min (min x m) m ≡ min x m
 min_idem m x = min-eq_left (min-le_right x m)
 
--- how far a count of these shards has come, of which the others are still to be counted
+-- a count of the shards before the rest
 pub record IsCountSoFar (all rest : List Held) (count : ℕ) : Type 0 where
   pub small : min count 18446744073709551615 ≡ count
   pub whole : (b : ℕ) → IsOpenCountIn rest b → IsOpenCountIn all (min (count + b) 18446744073709551615)

@@ -1,4 +1,4 @@
--- A snapshot by version: lent at one history, replayed, and answered at a later one.
+-- A snapshot by version: its base copied at one history, replayed, and answered at a later one.
 use Rattle.std.proofs.Common.{◌≡◌, ℕ, ◌<◌, ◌≤◌, ◌⊎◌, inl, inr, Bool, true, false, cond, zero, suc, List, [], ◌∷◌, ◌++◌, take, drop, length, nat_eq, nat_lt, min, Option, Some, None, option_map, Result, Ok, Err, refl, sym, ap, ◌∙◌, subst, arith, length-append}
 use Rattle.std.proofs.lemmas.Bool.{eqb-true, le-ltb, lt-ltb}
 use Rattle.std.proofs.lemmas.Bool.Decides.{nat_tests}
@@ -11,7 +11,7 @@ use Rattle.sdb_value.specs.Value.{Value}
 use Rattle.sdb_oplog.specs.Plain.{PlainEntry}
 use Rattle.sdb_oplog.specs.Keys.{Logs, PlainKey, shard_of}
 use Rattle.sdb_oplog.specs.Decide.{IsMade}
-use Rattle.sdb_oplog.specs.Laws.{made_moments_ordered, version_at_append, version_at_within}
+use Rattle.sdb_oplog.specs.laws.LogLaws.{made_moments_ordered, version_at_append, version_at_within}
 use Rattle.sdb_oplog.specs.Moments.{MomentsOrderedFrom, version_at}
 use Rattle.sdb_oplog.specs.Snap.{document_of, snap_from}
 use Rattle.sdb_oplog.specs.declared.codes.Code.{Code}
@@ -28,20 +28,20 @@ use Rattle.sdb_backend.specs.ReplayBases.{IsDocumentAt}
 use Rattle.sdb_backend.specs.declared.shard_value.Held.{Held}
 use Rattle.sdb_backend.specs.declared.pass.Pass.{Pass}
 
--- ---- what is lent
+-- ---- the replay base
 
--- leads to a document
+-- it gives a document
 pub base_leads_to_version : (log : List PlainEntry) (v : ℕ) (l : PlainReplayBase) → IsReplayBase log v l → is_some (snap_from l.snapshot l.entries) ≡ true
 base_leads_to_version log v l h = ap is_some h.2
 
 some_is : {A : Type 0} (x y : A) → Some x ≡ Some y → x ≡ y
 some_is x y e = cc
 
--- which is that of the version
+-- the document is that of the version
 pub lent_at : (log : List PlainEntry) (v : ℕ) (l : PlainReplayBase) (d : Option Value) → IsReplayBase log v l → snap_from l.snapshot l.entries ≡ Some d → IsDocumentAt log v d
 lent_at log v l d h is = (h.0, some_is (document_of (take v log)) d (sym h.2 ∙ is))
 
--- and is the same later
+-- the document at a version is unchanged in an extension
 pub at_later : (log new : List PlainEntry) (v : ℕ) (d : Option Value) → IsExtension new log → IsDocumentAt log v d → IsDocumentAt new v d
 at_later log new v d h at =
     let w = at.0 in
@@ -49,11 +49,11 @@ at_later log new v d h at =
     let longer : v ≤ length (log ++ h.0) = omega (arith, w, n) in
     subst (λ l. IsDocumentAt l v d) (sym h.1) (longer, ap document_of (take-append-le v log h.0 at.0) ∙ at.1)
 
--- at the present version nothing is left to replay: what is lent is the document
+-- at the current version no entry is left to replay, and the base is the document
 pub base_whole : (log : List PlainEntry) (v : ℕ) (l : PlainReplayBase) → IsReplayBase log v l → l.entries ≡ [] → IsDocumentAt log v l.snapshot
 base_whole log v l h none = lent_at log v l l.snapshot h (ap (snap_from l.snapshot) none)
 
--- ---- what is answered
+-- ---- the answer
 
 due_or : (b : Bool) (log : List PlainEntry) (v : ℕ) → nat_lt (length log) v ≡ b → v ≤ length log
     → cond {A = Result PlainFetchResult Code} b (Err E4) (Ok (record { version = v; snapshot = document_of (take v log) })) ≡ Ok (record { version = v; snapshot = document_of (take v log) })
@@ -76,14 +76,14 @@ drop_none : (w : ℕ) → drop {A = PlainEntry} w [] ≡ []
 drop_none zero = refl
 drop_none (suc w) = refl
 
--- where there are entries, the version is above 0
+-- if there are entries, the version is above 0
 above_zero : (log : List PlainEntry) (v w : ℕ) (es : List PlainEntry) → es ≡ drop w (take v log) → 0 < length es → 0 < v
 above_zero log zero w es e some =
     let none : length es ≡ 0 = ap length (e ∙ ap (drop w) (take_none log) ∙ drop_none w) in
     absurd (omega (arith, none, some))
 above_zero log (suc v) w es e some = omega arith
 
--- want of memory while they are replayed
+-- an allocation failure during the replay
 pub wanting_at : (by : ℕ) (m new : Machine) (k : PlainKey) (v : ℕ) (l : PlainReplayBase) → IsReplayBase (m.logs k) v l → 0 < length l.entries → IsUnchanged m new
     → MachineStep by m k (snapshot (Some v)) (Err E10) new
 wanting_at by m new k v l h some same =
@@ -92,7 +92,7 @@ wanting_at by m new k v l h some same =
 
 -- ---- a document at a moment
 
--- want of memory for what is lent
+-- an allocation failure for the replay base
 pub wanting_then : (log : List PlainEntry) (v t : ℕ) (code : Code) → v ≡ version_at log t → v ≤ length log
     → ReadOrOutOfMemory read_has_version (Err code) (snapshot_at log (Some v)) → ReadOrOutOfMemory read_has_version (Err code) (Ok (fetch_at_moment log (Some t)))
 wanting_then log v t code is within (inl h) =
@@ -100,7 +100,7 @@ wanting_then log v t code is within (inl h) =
     inl (h.0, ap (nat_lt 0) (sym is) ∙ some)
 wanting_then log v t code is within (inr h) = let no : Err code ≡ Ok _ = h ∙ snapshot_at_in_range log v within in cc
 
--- what was lent for a moment, or replayed, is the document then
+-- the base for a moment, or its replay, is the document at it
 pub read_then : (by : ℕ) (m new : Machine) (k : PlainKey) (v t : ℕ) (d : Option Value) → v ≡ version_at (m.logs k) t → IsDocumentAt (m.logs k) v d
     → IsUnchanged m new → MachineStep by m k (snapshot_at_time (Some t)) (Ok (record { version = v; snapshot = d })) new
 read_then by m new k v t d is at same =
@@ -108,7 +108,7 @@ read_then by m new k v t d is at same =
     let there : document_of (take (version_at log t) log) ≡ d = ap (λ n. document_of (take n log)) (sym is) ∙ at.1 in
     (inr (ap Ok (λ i. record { version = is i; snapshot = sym there i })), same)
 
--- the version at a moment is the same later, where it isn't the present one
+-- the version at a moment is unchanged in an extension if it isn't the current one
 pub then_later : (log new : List PlainEntry) (v t : ℕ) → IsExtension new log → IsMade new → v ≡ version_at log t → v < length log → v ≡ version_at new t
 then_later log new v t h made is below =
     let time : MomentsOrderedFrom 0 (log ++ h.0) = subst (MomentsOrderedFrom 0) h.1 (made_moments_ordered new made) in
@@ -117,7 +117,7 @@ then_later log new v t h made is below =
 entries_remain : (es : List PlainEntry) → 0 < length es → es ≡ [] → ⊥
 entries_remain es some none = let n : length es ≡ 0 = ap length none in omega (arith, n, some)
 
--- and it isn't, where entries are lent
+-- it isn't the current one if the base has entries
 pub before_present : (log : List PlainEntry) (v : ℕ) (l : PlainReplayBase) → IsReplayBase log v l → (v ≡ length log → l.entries ≡ []) → 0 < length l.entries
     → v < length log
 before_present log v l h whole some = by_case (nat_eq v (length log)) refl where
@@ -125,7 +125,7 @@ before_present log v l h whole some = by_case (nat_eq v (length log)) refl where
   by_case true e = absurd (entries_remain l.entries some (whole (eqb-true v (length log) e)))
   by_case false e = let w = h.0 in grind (arith, nat_tests)
 
--- what a pass saw of the version at a moment holds at the later history, where its document isn't lent whole
+-- the version at a moment, as the pass observed it, holds at the later history if the base has entries
 pub version_unchanged : (k : PlainKey) (t v : ℕ) (l : PlainReplayBase) (at left x w : Held) → v ≡ version_at (logs_of at.shard k) t
     → IsReplayBase (logs_of at.shard k) v l → (v ≡ length (logs_of at.shard k) → l.entries ≡ []) → 0 < length l.entries
     → IsUnchanged (machine_of at.shard) (machine_of left.shard) → left ≡ x → IsExtension (logs_of w.shard k) (logs_of x.shard k)
@@ -137,19 +137,19 @@ version_unchanged k t v l at left x w is lends whole some same one longer made =
     let seen : Q (logs_of x.shard) = subst (λ (y : Held). Q (logs_of y.shard)) one behind in
     then_later (logs_of x.shard k) (logs_of w.shard k) v t longer made seen.0 seen.1
 
--- want of memory for what is lent for a moment
+-- an allocation failure for the base of a moment
 pub wanting_lent : (log : List PlainEntry) (v t : ℕ) (code : Code) → v ≡ version_at log t
     → ReadOrOutOfMemory read_has_version (Err code) (snapshot_at log (Some v)) → ReadOrOutOfMemory read_has_version (Err code) (Ok (fetch_at_moment log (Some t)))
 wanting_lent log v t code is h =
     let n = version_at_within log t in
     wanting_then log v t code is (omega (arith, is, n)) h
 
--- and while it is replayed
+-- an allocation failure during its replay
 pub wanting_replayed : (by : ℕ) (m new : Machine) (k : PlainKey) (v t : ℕ) (l : PlainReplayBase) → v ≡ version_at (m.logs k) t
     → IsReplayBase (m.logs k) v l → 0 < length l.entries → IsUnchanged m new → MachineStep by m k (snapshot_at_time (Some t)) (Err E10) new
 wanting_replayed by m new k v t l is h some same =
     (wanting_then (m.logs k) v t E10 is h.0 (wanting_at by m new k v l h some same).0, same)
 
--- what is not empty has entries
+-- a list that isn't empty has entries
 pub some_entries : (l : ReplayBase) (r : Bool) → r ≡ (vec_len l.entries == 0) → r ≡ false → 0 < length l.entries.items
 some_entries l r e f = let h : (vec_len l.entries == 0) ≡ false = sym e ∙ f in grind (arith, nat_tests)

@@ -1,4 +1,4 @@
--- What threads are lent and hand back.
+-- Send and Sync of what threads borrow and return.
 use denote.Param.Send.{IsSend, IsSync, sendable}
 use Rattle.std.proofs.Crossing.{crosses}
 use Rattle.std.proofs.MapsCrossing as maps

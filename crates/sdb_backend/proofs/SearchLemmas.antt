@@ -1,4 +1,4 @@
--- What a search for a number in numbers that rise has found.
+-- The result of a binary search for a number.
 use Rattle.std.proofs.Common.{◌≡◌, ℕ, ◌<◌, ◌≤◌, List, [], ◌∷◌, length, map, slice_index_or, Contains, Result, Ok, Err, Bool, true, false, Less, Equal, Greater, nat_lt, ◌+◌, refl, sym, subst, ◌∙◌, arith}
 use Rattle.std.specs.Ordering.{nat_cmp, ordering_index}
 use Rattle.std.specs.List.Sorted.{IsBinarySearchResult, IsSearchInRange, IsNonDecreasing, IsNonDecreasingBy}
@@ -24,11 +24,11 @@ more_or : (b : Bool) (n k : ℕ) (xs : List ℕ) → nat_lt k n ≡ b → (k < n
 more_or true n k xs is below at near = below (grind (arith, common_steps, is))
 more_or false n k xs is below at near = let e : n ≡ k = grind (arith, common_steps, is, near) in subst (Contains xs) e at
 
--- all up to n, where all below it and n itself are among these
+-- all numbers up to n, if all below n and n itself are present
 pub count_succ : (n : ℕ) (xs : List ℕ) → ((k : ℕ) → 0 < k → k < n → Contains xs k) → Contains xs n → (k : ℕ) → 0 < k → k < n + 1 → Contains xs k
 count_succ n xs below at k some near = more_or (nat_lt k n) n k xs refl (below k some) at near
 
--- ---- what was found by a key
+-- ---- the result of a search by key
 
 item_in_range : {A : Type 0} (xs : List A) (i : ℕ) → i < length xs → A
 item_in_range [] i lt = absurd (omega (arith, lt))
@@ -52,7 +52,7 @@ module _ {A : Type 0} (f : A → ℕ) (x : ℕ) (ps : List A) where
         (λ k e from lt. let below : k < length ps = omega (arith, lt, long) in let d = item_in_range ps k below in at_map (λ n. nat_cmp n x ≡ Greater) k e d below (p.1 k d from below)),
       )
 
-  -- numbers that don't fall along the items
+  -- the numbers of sorted items are sorted
   pub nondecreasing_map : IsNonDecreasingBy f ps → IsNonDecreasing (map f ps)
   nondecreasing_map h i j e le lt =
       let long = length-map ps f in

@@ -1,4 +1,4 @@
--- The documents, what holds them behind locks, and a pass may go to another thread.
+-- Documents, locks and passes are Send.
 use denote.RattleType.{RattleType}
 use denote.Param.Send.{IsSend, IsSync, sendable, view_send, view_sync}
 use denote.Struct.Field.{row_field}

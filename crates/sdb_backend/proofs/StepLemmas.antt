@@ -1,4 +1,4 @@
--- A submission by a pass is decided in one step, and its takes go on.
+-- A submission of a pass is decided atomically, and its takes continue.
 use Rattle.std.proofs.Common.{◌≡◌, ℕ, Bool, true, false, cond, nat_eq, List, ◌∷◌, Option, None, Some, option_map, Result, Ok, Err, IfOk, Vec, refl, sym, ap, ◌∙◌, subst}
 use Rattle.std.specs.Global.{Global}
 use Rattle.std.specs.declared.alloc.AllocError.{AllocError}
@@ -12,8 +12,8 @@ use Rattle.sdb_desk.specs.View.{taken_view}
 use Rattle.sdb_desk.specs.Machine.{Machine, PlainLook, PlainAttempt, IsUnchanged, decided, moved}
 use Rattle.sdb_submit.specs.Calls.{PlainCall, look, commit, commit_now, take_next, CallAnswer, MachineStep}
 use Rattle.sdb_submit.specs.SubmitLoop.{CallRelation, SubmitRelation}
-use Rattle.sdb_submit.specs.Laws.{IsSubmitInvariant, submit_preserves, decided_at_commit, out_of_memory_unchanged}
-use Rattle.sdb_striped_lock.specs.Laws.{have_seen_unique}
+use Rattle.sdb_submit.specs.laws.SubmitLaws.{IsSubmitInvariant, submit_preserves, decided_at_commit, out_of_memory_unchanged}
+use Rattle.sdb_striped_lock.specs.laws.SeatLaws.{have_seen_unique}
 use Rattle.sdb_backend.specs.CallAnswers.{AnsweredAtExtension, AddsEntry, TakeContinues}
 use Rattle.sdb_backend.specs.HistoryOrder.{Extends, share_of, queue_owned_by, AddsToShare, Share}
 use Rattle.sdb_backend.specs.HistoryOrderLaws.{extends_trans}
@@ -24,7 +24,7 @@ use Rattle.sdb_backend.specs.declared.pass.Pass.{Pass}
 
 -- ---- one call after another
 
--- a call that changed nothing came before
+-- a call after one that changed nothing
 pub answered_after_unchanged : (k : PlainKey) (c e : PlainCall) (a : CallAnswer c) (b : CallAnswer e) (p o q : Pass) (h : AnsweredAtExtension k c p a o)
     → IsUnchanged (machine_of h.1.shard) (machine_of h.2.shard) → AnsweredAtExtension k e o b q → AnsweredAtExtension k e p b q
 answered_after_unchanged k c e a b p o q h same d =
@@ -54,7 +54,7 @@ module _ (k : PlainKey) (s : PlainSubmission) (now : ℕ) where
   abbrev pub PassCallsHere : CallRelation Pass
   PassCallsHere c p a q = AnsweredAtExtension k c p a q
 
-  -- the submission is answered as the machine answers it at one history
+  -- the submission gets the machine's answer at one history
   abbrev pub AtomicSubmitHere : Pass → PlainReply → Pass → Type 0
   AtomicSubmitHere p r q = AnsweredAtExtension k (commit_now s now) p r q
 
@@ -77,7 +77,7 @@ module _ (k : PlainKey) (s : PlainSubmission) (now : ℕ) where
   pub in_one_step : (p q : Pass) (r : PlainReply) → SubmitRelation PassCallsHere s now p r q → AtomicSubmitHere p r q
   in_one_step p q r h = submit_preserves PassCallsHere s now AtomicSubmitHere one_step_kept p r q h
 
-  -- a reply that it is stored adds the one entry
+  -- a reply `stored` adds one entry
   pub step_adds : (p q : Pass) (r : PlainReply) → AtomicSubmitHere p r q → s.by ≡ pass_number p → AddsEntry k s now p r q
   step_adds p q r h by =
       let n = pass_number p in (
@@ -104,7 +104,7 @@ taken_at log by n max qs (Some w) e = owned_or (nat_eq w.by by) log max w (queue
 taken_is : (log : List PlainEntry) (by n max : ℕ) (qs : List (ℕ × PlainQueue)) → take_result_by log by n max qs ≡ option_map (pending_entries log max) (queue_owned_by by (queue_at n qs))
 taken_is log by n max qs = taken_at log by n max qs (queue_at n qs) refl
 
--- what a take gives goes on where the queue stood in what the pass had seen
+-- a take continues at the observed position of the queue
 pub take_answer : (k : PlainKey) (id max : ℕ) (p q : Pass) (r : Result (Option (Vec PlainEntry Global)) AllocError) → AnsweredAtExtension k (take_next id max) p (taken_view r) q
     → IfOk r (λ v. TakeContinues k id max p (option_map (λ es. es.items) v) q)
 take_answer k id max p q (Ok v) h =

@@ -1,4 +1,4 @@
--- Values may go to another thread, and be shared with one: what they share, they share by `Arc`.
+-- Values are Send and Sync: they share by `Arc`.
 use denote.RattleType.{RattleType}
 use denote.Struct.Field.{Field, row_field}
 use denote.Param.Send.{IsSend, IsSync, sendable}
@@ -42,7 +42,7 @@ module _ (T : RattleType) (s : IsSend T) (y : IsSync T) where
   Pieces-sync : IsSync (Pieces.the_row T)
   Pieces-sync = declared_sync (Pieces.the_type T) (Form-sync, tt)
 
--- of a key, by what is in it
+-- a key, by its fields
 Key-send : IsSend Key.the_row
 Key-send = search (sendable, crosses, maps.crosses) depth 40
 

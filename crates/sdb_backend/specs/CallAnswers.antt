@@ -1,11 +1,11 @@
--- What a call by a pass is answered.
+-- Answers to the calls of a pass.
 use Rattle.std.specs.Prelude.{◌≡◌, ℕ, List, Option, option_map, Result}
 use Rattle.sdb_oplog.specs.Plain.{PlainEntry, PlainSubmission}
 use Rattle.sdb_oplog.specs.Keys.{PlainKey, shard_of}
 use Rattle.sdb_oplog.specs.Decide.{PlainReply}
 use Rattle.sdb_oplog.specs.declared.codes.Code.{Code}
 use Rattle.sdb_subscribe.specs.Queue.{pending_entries}
-use Rattle.sdb_desk.specs.LookLaws.{IsLook}
+use Rattle.sdb_desk.specs.Looks.{IsLook}
 use Rattle.sdb_desk.specs.Machine.{PlainAttempt, ReadOrOutOfMemory, is_nonempty, operations_from}
 use Rattle.sdb_desk.specs.ShardView.{machine_of, logs_of}
 use Rattle.sdb_submit.specs.Calls.{PlainCall, CallAnswer, MachineStep}
@@ -15,9 +15,8 @@ use Rattle.sdb_backend.specs.PassModel.{pass_number, PassHasSeen}
 use Rattle.sdb_backend.specs.declared.shard_value.Held.{Held}
 use Rattle.sdb_backend.specs.declared.pass.Pass.{Pass}
 
--- what the pass had seen of the key's shard was x; the call is answered as the machine answers it at h, a history that
--- extends x and holds under the number of the pass just what x holds there. The pass has then seen what the call made
--- of h. Of the other shards it has seen what it had
+-- the machine answers at a history h of the key's shard that extends the observed x and has the same share of the pass;
+-- the pass then observes the result, and other shards are unchanged
 abbrev pub AnsweredAtExtension : PlainKey → (c : PlainCall) → Pass → CallAnswer c → Pass → Type 0
 AnsweredAtExtension k c p a q =
     (x h new : Held) × PassHasSeen p k x × Extends (machine_of h.shard) (machine_of x.shard)
@@ -25,25 +24,25 @@ AnsweredAtExtension k c p a q =
     × MachineStep (pass_number p) (machine_of h.shard) k c a (machine_of new.shard) × PassHasSeen q k new
     × (pass_number q ≡ pass_number p) × ChangedOnlyAt (shard_of k) p.seats q.seats
 
--- the look of the attempt is one at the log that the pass has seen
+-- the attempt's look is at the log that the pass has observed
 abbrev pub IsLookSeenBy : Pass → PlainKey → PlainAttempt → Type 0
 IsLookSeenBy p k a = (x : Held) × PassHasSeen p k x × IsLook (logs_of x.shard k) a
 
--- a reply that it is stored adds the one entry to what stands under the number of the pass, and any other adds none
+-- a reply `stored` adds one entry to the pass's share, and any other adds none
 abbrev pub AddsEntry : PlainKey → PlainSubmission → ℕ → Pass → PlainReply → Pass → Type 0
 AddsEntry k s now p r q =
     (x new : Held) × PassHasSeen p k x × PassHasSeen q k new
     × AddsToShare k s now r (share_of (pass_number p) (machine_of x.shard)) (share_of (pass_number p) (machine_of new.shard))
 
--- a take gives what comes next of the queue, from where it stood in what the pass had seen, at a history that extends
--- it; none where the pass opened no queue of this number
+-- a take returns the next entries of the queue, from its observed position, at an extension of the observed history;
+-- none if the pass has no such queue
 abbrev pub TakeContinues : PlainKey → ℕ → ℕ → Pass → Option (List PlainEntry) → Pass → Type 0
 TakeContinues k id max p r q =
     (x h new : Held) × PassHasSeen p k x × PassHasSeen q k new × Extends (machine_of h.shard) (machine_of x.shard)
     × (r ≡ option_map (pending_entries (logs_of h.shard k) max) ((share_of (pass_number p) (machine_of x.shard)).queues k id))
 
--- operations that are listed are those that the machine answers at one history, which extends what the pass had seen. What
--- the pass has seen then extends that history, and holds under its number just what stood there
+-- a listing is the machine's at one history that extends the observed one; the pass then observes an extension of it
+-- with the same share
 abbrev pub ListedAtExtension : PlainKey → ℕ → Pass → Result (List PlainEntry) Code → Pass → Type 0
 ListedAtExtension k v p r q =
     (x h new : Held) × PassHasSeen p k x × Extends (machine_of h.shard) (machine_of x.shard)

@@ -1,4 +1,4 @@
--- Whether a key was gathered.
+-- Membership of a key in a set of keys.
 use Rattle.std.specs.Prelude.{Bool, map}
 use Rattle.std.specs.Set.{is_member}
 use Rattle.std.specs.BTreeSet.{BTreeSet}

@@ -1,4 +1,4 @@
--- Histories of a shard: when one extends another, and what stands in one under a number.
+-- Histories of a shard: their order, and the share of a number in one.
 use Rattle.std.specs.Prelude.{◌≡◌, ℕ, ◌<◌, ◌≤◌, List, [], ◌∷◌, ◌++◌, cond, nat_eq, Option, Some, None}
 use Rattle.sdb_oplog.specs.Plain.{PlainEntry, PlainSubmission, PlainContent}
 use Rattle.sdb_oplog.specs.Decide.{PlainReply, stored, repeated, refused}
@@ -10,8 +10,8 @@ use Rattle.sdb_desk.specs.Machine.{Machine}
 abbrev pub IsExtension : List PlainEntry → List PlainEntry → Type 0
 IsExtension new old = (more : List PlainEntry) × (new ≡ old ++ more)
 
--- a queue whose number was given, later and before: its start and who opened it stay, and takes don't go back while it is
--- open, and closed it stays closed
+-- a queue later and before: start and owner are unchanged, takes don't go back while it is open, and a closed queue
+-- stays closed
 abbrev pub QueueContinues : Option PlainQueue → Option PlainQueue → Type 0
 QueueContinues None o = Unit {0}
 QueueContinues (Some w) None = ⊥
@@ -27,7 +27,7 @@ pub record Extends (new old : Machine) : Type 0 where
   pub logs : (k : PlainKey) → IsExtension (new.logs k) (old.logs k)
   pub queues : (k : PlainKey) → QueuesContinue (new.queues k) (old.queues k)
 
--- the entries that were submitted under a number
+-- the entries submitted under a number
 abbrev pub stored_by : ℕ → List PlainEntry → List PlainEntry
 stored_by n [] = []
 stored_by n (e ∷ es) = cond (nat_eq e.arrived.by n) (e ∷ stored_by n es) (stored_by n es)
@@ -37,7 +37,7 @@ abbrev pub queue_owned_by : ℕ → Option PlainQueue → Option PlainQueue
 queue_owned_by n None = None
 queue_owned_by n (Some w) = cond (nat_eq w.by n) (Some w) None
 
--- what stands under a number: by key, the entries and, by their numbers, the open queues
+-- the share of a number: its entries by key, and its open queues by key and queue number
 pub record Share : Type 0 where
   pub entries : PlainKey → List PlainEntry
   pub queues : PlainKey → ℕ → Option PlainQueue
@@ -48,12 +48,12 @@ share_of n m = record { entries = λ k. stored_by n (m.logs k); queues = λ k i.
 abbrev pub empty_share : Share
 empty_share = record { entries = λ k. []; queues = λ k i. None }
 
--- the part with one more entry of the key
+-- the share with one more entry of the key
 abbrev pub share_with_entry : Share → PlainKey → PlainEntry → Share
 share_with_entry p k e = record { entries = with_log p.entries k (p.entries k ++ e ∷ []); queues = p.queues }
 
--- what a submission adds to what stands under its number: a reply that it is stored adds the one entry, at its
--- version and not before this moment, and any other adds none; the queues stay
+-- the effect of a submission on its number's share: `stored` adds one entry at its version, not before this moment, and
+-- any other reply adds none; queues are unchanged
 abbrev pub AddsToShare : PlainKey → PlainSubmission → ℕ → PlainReply → Share → Share → Type 0
 AddsToShare k s now (stored v missed) old new =
     (t : ℕ) × (now ≤ t) × (m : PlainContent)

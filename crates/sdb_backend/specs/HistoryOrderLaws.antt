@@ -1,4 +1,4 @@
--- Laws of histories: each extends itself, and what extends one extends what that one extends.
+-- Laws of histories: `Extends` is reflexive and transitive.
 use Rattle.std.proofs.Common.{◌≡◌, ℕ, ◌<◌, ◌≤◌, List, [], ◌++◌, Option, Some, None, refl, sym, ap, ◌∙◌, arith, append_assoc, append-nil}
 use Rattle.sdb_oplog.specs.Plain.{PlainEntry}
 use Rattle.sdb_subscribe.specs.Queue.{PlainQueue, PlainQueues, queue_at}

@@ -5,5 +5,5 @@ pub mod HistoryOrder
 pub mod HistoryOrderLaws
 pub mod OpenQueueCount
 pub mod ReplayBases
-pub mod ListingLaws
 pub mod PassModel
+pub mod laws

@@ -1,4 +1,4 @@
--- The passes of those who call a backend, and who gives them.
+-- The passes of a backend's callers, and their host.
 use Rattle.std.specs.Prelude.{◌≡◌, ℕ, ◌<◌, List, map, Contains}
 use Rattle.sdb_oplog.specs.Keys.{PlainKey, shard_of}
 use Rattle.sdb_desk.specs.ShardView.{machine_of}
@@ -11,7 +11,7 @@ use Rattle.sdb_backend.specs.declared.shard_value.Held.{Held}
 use Rattle.sdb_backend.specs.declared.pass.Pass.{Pass}
 use Rattle.sdb_backend.specs.declared.pass.Host.{Host}
 
--- the number of a pass, and the one that the next pass is given
+-- the number of a pass, and the number of the host's next pass
 abbrev pub pass_number : Pass → ℕ
 pass_number p = locks.seat_set_number p.seats
 
@@ -22,13 +22,13 @@ next_pass_number h = locks.next_seat_set_number h.seats
 abbrev pub HasSeatsOf : Pass → StripedLock Held → Type 0
 HasSeatsOf p l = SeatSetBelongsTo p.seats l
 
--- so has the host, and nothing was ever stored under its own number
+-- the host has its seats at these locks, and nothing is stored under number 0
 abbrev pub HasRootSeatsOf : Host → StripedLock Held → Type 0
 HasRootSeatsOf h l =
     AreRootSeatsOf h.seats l
     × ((i : ℕ) → i < 8 → (x : Held) × RootSeatsHaveSeen h.seats i x × (share_of 0 (machine_of x.shard) ≡ empty_share))
 
--- the pass, or the host, is of this backend
+-- the pass, or the host, belongs to this backend
 module _ {R : Type 0} where
   abbrev pub IsPassOfBackend : Pass → Backend R → Type 0
   IsPassOfBackend p b = HasSeatsOf p b.locks
@@ -36,17 +36,17 @@ module _ {R : Type 0} where
   abbrev pub IsHostOfBackend : Host → Backend R → Type 0
   IsHostOfBackend h b = HasRootSeatsOf h b.locks
 
--- what the pass has seen of the shard of this number, and of that of a key
+-- the state that the pass has observed of a shard, by number or by key
 abbrev pub PassHasSeenShard : Pass → ℕ → Held → Type 0
 PassHasSeenShard p i x = SeatSetHasSeen p.seats i x
 
 abbrev pub PassHasSeen : Pass → PlainKey → Held → Type 0
 PassHasSeen p k x = PassHasSeenShard p (shard_of k) x
 
--- of each shard the pass has seen a history in which nothing stands under its number
+-- in the observed history of each shard the pass's share is empty
 abbrev pub HasEmptyShare : Pass → Type 0
 HasEmptyShare p = (i : ℕ) → i < 8 → (x : Held) × PassHasSeenShard p i x × (share_of (pass_number p) (machine_of x.shard) ≡ empty_share)
 
--- each number that was given is among those of the passes
+-- each number that was issued is the number of one of the passes
 abbrev pub HasEveryPass : ℕ → List Pass → Type 0
 HasEveryPass next passes = (k : ℕ) → 0 < k → k < next → Contains (map pass_number passes) k

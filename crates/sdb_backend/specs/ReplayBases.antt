@@ -1,4 +1,4 @@
--- What is lent under a lock, to be replayed without it.
+-- Replay bases, copied under a lock and replayed without it.
 use Rattle.std.specs.Prelude.{◌≡◌, ℕ, ◌≤◌, List, [], length, take, Option, Some, Result, Ok, Err}
 use Rattle.sdb_value.specs.Value.{Value}
 use Rattle.sdb_oplog.specs.Keys.{PlainKey}
@@ -16,12 +16,12 @@ abbrev pub replay_base_view : Result ReplayBase Code → Result PlainReplayBase 
 replay_base_view (Ok l) = Ok (plain_replay_base l)
 replay_base_view (Err code) = Err code
 
--- what leads to the document at a version is lent, or the read of that version answers this code
+-- a replay base of the document at a version, or the code with which a read of that version fails
 abbrev pub IsReplayBaseOrError : Machine → PlainKey → ℕ → Result PlainReplayBase Code → Type 0
 IsReplayBaseOrError m k v (Ok l) = IsReplayBase (m.logs k) v l
 IsReplayBaseOrError m k v (Err code) = ReadOrOutOfMemory read_has_version (Err code) (snapshot_at (m.logs k) (Some v))
 
--- the version at a moment, and what is lent for it
+-- the version at a moment, and the replay base for it
 pub record PlainReplayBaseAt : Type 0 where
   pub version : ℕ
   pub base : PlainReplayBase
@@ -30,8 +30,8 @@ abbrev pub replay_base_at_view : Result ReplayBaseAt Code → Result PlainReplay
 replay_base_at_view (Ok l) = Ok (record { version = l.version; base = plain_replay_base l.base })
 replay_base_at_view (Err code) = Err code
 
--- what leads to the document at a moment is lent, whole where that is the present version, or the read of that moment
--- answers this code
+-- a replay base of the document at a moment, without entries if the version is the current one, or the code with which
+-- a read of that moment fails
 abbrev pub IsReplayBaseAtOrError : Machine → PlainKey → ℕ → Result PlainReplayBaseAt Code → Type 0
 IsReplayBaseAtOrError m k t (Ok l) =
     (l.version ≡ version_at (m.logs k) t) × IsReplayBase (m.logs k) l.version l.base

@@ -1,10 +1,10 @@
-//! What was stored, once nobody can store any more.
+//! The stored operations of a closed backend.
 ghost use Rattle.std.specs.Prelude.{◌≡◌, length};
 
 use crate::shard_value::Held;
 use std::alloc::Global;
 
-/// The logs of all documents of a backend that was closed.
+/// The logs of all documents of a closed backend.
 #[derive(Drop)]
 pub struct Audit {
     pub(crate) alloc: Global,
@@ -13,7 +13,7 @@ pub struct Audit {
 }
 
 impl Audit {
-    // The audit of eight shards.
+    // Creates the audit of eight shards.
     pub(crate) fn new(alloc: Global, shards: Vec<Held>) -> Audit
         requires { length shards.items ≡ 8 }
         ensures { result.shards ≡ shards }

@@ -16,18 +16,22 @@ use std::alloc::AllocError;
 use std::collections::BTreeSet;
 
 impl Audit {
-    /// The log of the document, if something is stored of it. Each log is made: its entries are those
-    /// that were decided, one after the other.
+    /// Returns the document's log, or `None` if nothing is stored. Each log is made: an entry is
+    /// what its submission stores on the entries before it.
     pub fn log(&self, key: &Key) -> Option<&Log>
         ensures log { unwrap_or (option_map (λ l. l.now) result) [] ≡ audit_logs self.now (plain_key key.now) }
-        ensures filled { IfSome result (λ l. l.now ≢ []) }
-        ensures made { IsMade (audit_logs self.now (plain_key key.now)) }
+        ensures nonempty { IfSome result (λ l. l.now ≢ []) }
+        ensures is_made { IsMade (audit_logs self.now (plain_key key.now)) }
     {
         self.shards[key.shard()].shard.log(key)
     }
 
-    /// The keys of all documents that something is stored of, each once, by the bytes of the collection,
-    /// then of the id. It fails only for want of memory.
+    /// Returns the keys of all documents with entries, each once, by the bytes of the collection
+    /// and then of the id.
+    ///
+    /// # Errors
+    ///
+    /// [`AllocError`] if an allocation fails.
     pub fn documents(&self) -> Result<Vec<Key>, AllocError>
         ensures { IfOk result (λ keys. IsKeyList (audit_logs self.now) (map plain_key keys.items)) }
     {
@@ -38,8 +42,8 @@ impl Audit {
         all.into_iter().collect(self.alloc)
     }
 
-    /// How many queues were left open, over all shards; the greatest u64 where they are more. It takes no
-    /// memory.
+    /// Returns the number of queues that are still open in all shards, at most the greatest `u64`.
+    /// It doesn't allocate.
     pub fn queues(&self) -> u64
         ensures { IsOpenQueueCount self.now result }
     {
@@ -51,7 +55,7 @@ impl Audit {
     }
 }
 
-// Adds the keys of the shard's documents that are of its number.
+// Adds the keys of the shard's documents that belong to its number.
 fn gather_keys(all: &mut BTreeSet<Key>, shard: &Shard, number: usize) -> Result<(), AllocError>
     ensures { OnOk result ((k : PlainKey) → is_gathered all.new k ≡
         (is_gathered all.old k || (nat_eq (shard_of k) number && is_nonempty (logs_of shard.now k)))) }

@@ -23,9 +23,9 @@ use sdb_striped_lock::{CloseBuffers, SeatSet, SplitFault, StripedLock};
 use std::alloc::{AllocError, Global};
 use std::sync::Wait;
 
-/// All documents, behind eight locks: that of a key is the one of its shard's number. Each call of the
-/// desk that it is takes one lock, does one call of the documents behind it and lets go; what is worked
-/// between two calls is worked without it.
+/// A document store for many threads, with lock striping: a key's lock is that of its shard. Each
+/// call acquires one lock, makes one call of the shard and releases the lock. Transforming and
+/// applying run without a lock.
 #[derive(Drop)]
 pub struct Backend<R: Wait> {
     pub(crate) alloc: Global,
@@ -33,16 +33,16 @@ pub struct Backend<R: Wait> {
     pub(crate) locks: StripedLock<Held>,
 }
 
-/// Why a backend can't be closed.
+/// The reason why a backend can't be closed.
 #[derive(Clone, Copy, PartialEq, Eq, Debug, Drop)]
 pub enum CloseError {
-    /// A pass that was given isn't among those handed in: somebody may still store.
+    /// A pass is missing, so an operation may still be stored.
     MissingPass,
-    /// Memory was wanting for the list of seats.
+    /// The allocation of the list of seats failed.
     OutOfMemory,
 }
 
-/// A close that was refused: all that was handed in comes back, the passes in the order of their numbers.
+/// A refused close, with all its arguments. The passes are in the order of their numbers.
 #[derive(Drop)]
 pub struct CloseRefused<R: Wait> {
     pub error: CloseError,
@@ -52,8 +52,12 @@ pub struct CloseRefused<R: Wait> {
 }
 
 impl<R: Wait + Drop> Backend<R> {
-    /// A backend in which nothing is stored, and its host, who has let nobody in. It keeps the allocator;
-    /// the handle is what waits for a lock.
+    /// Creates a backend without documents, and its host. The backend keeps the allocator, and `rt`
+    /// to wait for locks.
+    ///
+    /// # Errors
+    ///
+    /// [`AllocError`] if an allocation fails.
     pub fn new(alloc: Global, rt: R) -> Result<(Backend<R>, Host), AllocError>
         ensures host { IfOk result (λ made. IsHostOfBackend made.1 made.0) }
         ensures next { IfOk result (λ made. next_pass_number made.1 ≡ 1) }
@@ -62,19 +66,23 @@ impl<R: Wait + Drop> Backend<R> {
         Ok((Backend { alloc, rt, locks }, Host { seats }))
     }
 
-    /// A pass with a number of its own: 1 at first, then one higher each time. It has seen what its host
-    /// has, and nothing is stored under its number. E11 comes where 2^64 - 2 of them were given, E10 for
-    /// want of memory; nothing has changed then.
+    /// Creates a pass with a new number, starting with 1. The pass has observed what its host has,
+    /// and nothing is stored under its number.
+    ///
+    /// # Errors
+    ///
+    /// [`Code::E11`] if 2^64 - 2 passes were created, [`Code::E10`] if an allocation fails. The
+    /// host is then unchanged.
     pub fn enter(&self, host: &mut Host) -> Result<Pass, Code>
         requires { IsHostOfBackend host.old self.now }
         ensures host { IsHostOfBackend host.new self.now }
         ensures pass { IfOk result (λ p. IsPassOfBackend p self.now × (pass_number p ≡ next_pass_number host.old)) }
         ensures new { IfOk result (λ p. HasEmptyShare p) }
         ensures next { OnOk result (next_pass_number host.new ≡ next_pass_number host.old + 1) }
-        ensures few { OnOk result (next_pass_number host.old < u64.MAX) }
+        ensures bound { OnOk result (next_pass_number host.old < u64.MAX) }
         ensures full { IfErr result (λ code. code ≡ E11 → next_pass_number host.old ≡ u64.MAX) }
         ensures memory { IfErr result (λ code. code ≢ E11 → (code ≡ E10) × (next_pass_number host.old ≢ u64.MAX)) }
-        ensures same { OnErr result (host.new ≡ host.old) }
+        ensures unchanged_on_err { OnErr result (host.new ≡ host.old) }
     {
         match self.locks.split(self.alloc, &mut host.seats) {
             Ok(seats) => Ok(Pass { seats }),
@@ -83,9 +91,15 @@ impl<R: Wait + Drop> Backend<R> {
         }
     }
 
-    /// Ends the backend, once its host and all passes that he gave are handed back: what was stored can
-    /// be read then, and nothing be stored. It extends what each pass has seen, and its entries are those
-    /// of the passes and no others. Where it is refused, all is handed back as it was.
+    /// Closes the backend, given its host and all its passes, and returns the audit of its logs.
+    /// The audit extends what each pass has observed, and its entries are those that the passes
+    /// stored.
+    ///
+    /// # Errors
+    ///
+    /// [`CloseError::MissingPass`] if a pass is missing, [`CloseError::OutOfMemory`] if an
+    /// allocation fails. [`CloseRefused`] returns all arguments unchanged, except for the order of
+    /// the passes.
     pub fn close(self, host: Host, mut passes: Vec<Pass>) -> Result<Audit, CloseRefused<R>>
         requires host { IsHostOfBackend host self }
         requires passes { ForEach (λ p. IsPassOfBackend p self) passes.items }
@@ -126,7 +140,7 @@ impl<R: Wait + Drop> Backend<R> {
         }
     }
 
-    // Runs the job on the documents of the key's shard.
+    // Runs the job on the documents of the key's shard, with the lock acquired.
     pub(crate) fn run<J: Job<Held>>(&self, pass: &mut Pass, key: &Key, job: J) -> J::Answer
         requires pass { IsPassOfBackend pass.old self.now }
         requires ready { (x v : Documents) → PassHasSeen pass.old (plain_key key.now) x
@@ -136,8 +150,8 @@ impl<R: Wait + Drop> Backend<R> {
             → J.precondition job (pass_number pass.old) v }
         ensures pass { IsPassOfBackend pass.new self.now }
         ensures number { pass_number pass.new ≡ pass_number pass.old }
-        ensures others { ChangedOnlyAt (shard_of (plain_key key.now)) pass.old.seats pass.new.seats }
-        ensures done { (x v w : Documents) × PassHasSeen pass.old (plain_key key.now) x
+        ensures others_unchanged { ChangedOnlyAt (shard_of (plain_key key.now)) pass.old.seats pass.new.seats }
+        ensures ran { (x v w : Documents) × PassHasSeen pass.old (plain_key key.now) x
             × Extends (machine_of v.shard) (machine_of x.shard)
             × (share_of (pass_number pass.old) (machine_of x.shard)
             ≡ share_of (pass_number pass.old) (machine_of v.shard))
@@ -147,7 +161,7 @@ impl<R: Wait + Drop> Backend<R> {
     }
 }
 
-// Room for the seats of so many passes, in two ways: by pass, and by shard.
+// Reserves space for the seats of all passes, by pass and by shard.
 fn reserve_close_buffers(
     alloc: Global,
     passes: usize,

@@ -21,8 +21,8 @@ use sdb_subscribe::SubId;
 use std::alloc::{AllocError, Global};
 use std::sync::Wait;
 
-/// Each call is answered as the machine answers it at one history of the key's shard, which extends what
-/// the pass had seen. A call that is no deciding one holds the lock only while it copies what it shows.
+/// Each call gets the machine's answer at one history of the key's shard, an extension of what the
+/// pass has observed. A call that doesn't decide holds the lock only while it copies its result.
 impl<R: Wait + Drop> Desk for Backend<R> {
     type Pass = Pass;
 
@@ -151,8 +151,8 @@ impl<R: Wait + Drop> Desk for Backend<R> {
 }
 
 impl<R: Wait + Drop> Backend<R> {
-    // The document at a version. What it is made of is lent under the lock, and replayed without it; what was
-    // replayed is offered then.
+    // Returns the document at a version. The replay base is copied under the lock and replayed
+    // without it; the new snapshot is then offered to the cache.
     fn snapshot_of(&self, pass: &mut Pass, key: &Key, version: u64) -> Result<FetchResult, Code>
         requires { IsPassOfBackend pass.old self.now }
         ensures pass { IsPassOfBackend pass.new self.now }
@@ -174,8 +174,9 @@ impl<R: Wait + Drop> Backend<R> {
         Ok(FetchResult { version, snapshot })
     }
 
-    // The version at a moment, and the document there, replayed without the lock as that of a version is. What is
-    // stored meanwhile has a later moment, unless the version was the present one, whose document is lent whole.
+    // Returns the version at a moment and the document at it, replayed without the lock. Entries
+    // stored meanwhile are later than the moment, unless the version is the current one, which
+    // needs no replay.
     fn snapshot_at_moment(
         &self,
         pass: &mut Pass,
@@ -206,9 +207,8 @@ impl<R: Wait + Drop> Backend<R> {
     }
 }
 
-/// Submits at a moment: the submission is decided in one step, at a history that extends all that the pass has seen.
-/// A reply that it is stored adds the one entry to what stands under the number of the pass, and any
-/// other adds none.
+/// Submits at a moment, in one atomic step at a history that extends what the pass has observed. A
+/// reply `Stored` adds one entry to the entries under the pass's number; any other reply adds none.
 pub fn submit_is_atomic<R: Wait + Drop, G: Gate>(
     alloc: Global,
     backend: &Backend<R>,
@@ -228,8 +228,12 @@ pub fn submit_is_atomic<R: Wait + Drop, G: Gate>(
     submit(alloc, backend, pass, key, submission, now, gate)
 }
 
-/// The next entries of a queue of the pass, at most `max`, from where its last take ended; `None` where
-/// the pass has no open queue of this number.
+/// Returns the next entries of a queue, at most `max`, from where its last take ended. Returns
+/// `None` if the pass has no open queue with this number.
+///
+/// # Errors
+///
+/// [`AllocError`] if an allocation fails.
 pub fn take_is_fifo<R: Wait + Drop>(
     backend: &Backend<R>,
     pass: &mut Pass,

@@ -1,9 +1,9 @@
-//! The calls of the documents, as jobs under a lock. What each does is what the machine does at this call.
+//! The calls of a shard as jobs under a lock. Each job does what the machine does for its call.
 ghost use Rattle.std.specs.Prelude.{◌≡◌, option_map};
 ghost use Rattle.sdb_oplog.specs.Decide.{IsMade};
 ghost use Rattle.sdb_oplog.specs.Keys.{plain_key};
 ghost use Rattle.sdb_desk.specs.ShardView.{machine_of, logs_of};
-ghost use Rattle.sdb_desk.specs.LookLaws.{IsLook};
+ghost use Rattle.sdb_desk.specs.Looks.{IsLook};
 ghost use Rattle.sdb_desk.specs.View.{outcome_of_decision, fetch_result_view, entries_view, subscribe_result_view, taken_view};
 ghost use Rattle.sdb_desk.specs.ReplyView.{plain_reply};
 ghost use Rattle.sdb_submit.specs.Calls.{MachineStep, copied_entries_view, look_view};
@@ -180,7 +180,7 @@ impl<'a> Job<Held> for SnapshotAtTimeJob<'a> {
     }
 }
 
-// What is lent for a moment, and the version at it.
+// The replay base for a moment, and the version at it.
 #[derive(Drop)]
 pub(crate) struct ReplayBaseAt {
     pub(crate) version: u64,

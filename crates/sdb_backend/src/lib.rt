@@ -1,8 +1,9 @@
-//! The documents that many threads share: a desk whose calls take a lock, a pass for each who calls, and
-//! the audit of what was stored.
+//! A document store for many threads: a desk whose calls acquire a lock, a pass for each caller,
+//! and the audit of the stored operations.
 //!
-//! What a caller is told is the machine's answer at one history of the key's shard, which extends all that
-//! its pass had seen and holds, of its own submissions, just those that were stored, each once.
+//! Each answer is the machine's at one history of the key's shard. That history extends all that
+//! the pass has observed, and contains exactly the caller's submissions that were answered as
+//! stored, each once.
 #![tactic(auto)]
 
 mod audit;

@@ -1,26 +1,26 @@
-//! The seats of those who call a backend.
+//! The passes of a backend's callers.
 ghost use Rattle.std.specs.Prelude.{◌≡◌};
 ghost use Rattle.sdb_backend.specs.PassModel.{pass_number, next_pass_number};
 
 use crate::shard_value::Held;
 use sdb_striped_lock::{RootSeats, SeatSet};
 
-/// What a caller of a backend holds: a seat at the lock of each shard. It has a number, which no other pass
-/// of the backend has, and has seen a history of each shard.
+/// A caller's handle of a backend: one seat per lock. It has a unique number, and records the last
+/// history of each shard that it observed.
 #[derive(Drop)]
 pub struct Pass {
     pub(crate) seats: SeatSet<Held>,
 }
 
 impl Pass {
-    /// Its number, from 1 on.
+    /// Returns the pass's number, 1 or more.
     pub fn number(&self) -> u64
         ensures { result ≡ pass_number self.now }
     {
         self.seats.number()
     }
 
-    // Its seats.
+    // Returns the seats.
     pub(crate) fn into_seats(self) -> SeatSet<Held>
         ensures { result ≡ self.seats }
     {
@@ -29,21 +29,21 @@ impl Pass {
     }
 }
 
-/// Who lets callers of a backend in: the first seat at the lock of each shard.
+/// The creator of a backend's passes, with the first seat of each lock.
 #[derive(Drop)]
 pub struct Host {
     pub(crate) seats: RootSeats<Held>,
 }
 
 impl Host {
-    // The number that the next pass is given.
+    // Returns the number of the next pass.
     pub(crate) fn next(&self) -> u64
         ensures { result ≡ next_pass_number self.now }
     {
         self.seats.next()
     }
 
-    // Its seats.
+    // Returns the seats.
     pub(crate) fn into_seats(self) -> RootSeats<Held>
         ensures { result ≡ self.seats }
     {

@@ -1,4 +1,4 @@
-//! Whether all passes that a host gave are there, and their seats.
+//! The check that all passes of a host are present, and their seats.
 ghost use Rattle.std.specs.Prelude.{◌≡◌, ◌≤◌, map, Contains, IsTrue, IsFalse, vec_len, vec_capacity};
 ghost use Rattle.std.specs.List.Sorted.{IsNonDecreasing, IsPermutation};
 ghost use Rattle.sdb_backend.specs.PassModel.{pass_number, next_pass_number, HasEveryPass};
@@ -8,11 +8,11 @@ use crate::shard_value::Held;
 use sdb_striped_lock::SeatSet;
 
 impl Host {
-    // Whether each pass that was given is among these. They are put in the order of their numbers.
+    // Returns whether all passes are present. It sorts them by number.
     pub(crate) fn has_every_pass(&self, passes: &mut Vec<Pass>) -> bool
         ensures all { IsTrue result → HasEveryPass (next_pass_number self.now) passes.old.items }
         ensures missing { IsFalse result → HasEveryPass (next_pass_number self.now) passes.old.items → ⊥ }
-        ensures same { IsPermutation passes.old.items passes.new.items }
+        ensures equal { IsPermutation passes.old.items passes.new.items }
     {
         passes.sort_unstable_by_key(
             |pass: &Pass| -> u64
@@ -22,7 +22,7 @@ impl Host {
         self.find_every_pass(passes.as_slice())
     }
 
-    // Whether each pass that was given is among these, which are in the order of their numbers.
+    // Returns whether all passes are present in a list sorted by number.
     fn find_every_pass(&self, passes: &[Pass]) -> bool
         requires { IsNonDecreasing (map pass_number passes.now) }
         ensures all { IsTrue result → HasEveryPass (next_pass_number self.now) passes.now }
@@ -37,7 +37,7 @@ impl Host {
     }
 }
 
-// Whether one of the passes, which are in the order of their numbers, has the number.
+// Returns whether a list sorted by number contains the number.
 fn contains_number(passes: &[Pass], number: u64) -> bool
     requires { IsNonDecreasing (map pass_number passes.now) }
     ensures is { IsTrue result → Contains (map pass_number passes.now) number }
@@ -53,10 +53,10 @@ fn contains_number(passes: &[Pass], number: u64) -> bool
         .is_ok()
 }
 
-// The seats of the passes, put into the empty list.
+// Moves the passes' seats to the empty list.
 pub(crate) fn seat_sets_of(passes: Vec<Pass>, mut seats: Vec<SeatSet<Held>>) -> Vec<SeatSet<Held>>
     requires empty { vec_len seats ≡ 0 }
-    requires room { vec_len passes ≤ vec_capacity seats }
+    requires capacity { vec_len passes ≤ vec_capacity seats }
     ensures { result.items ≡ map (λ p. p.seats) passes.items }
 {
     for pass in passes {

@@ -1,10 +1,10 @@
-//! The documents behind one lock.
+//! The documents of one lock.
 use sdb_desk::Shard;
 use sdb_growlock::Grows;
 use sdb_striped_lock::Empty;
 use std::alloc::Global;
 
-/// The documents of one shard, as a value that grows: logs become longer, and queues go on.
+/// A shard as a value that only grows: logs get longer, and queues advance.
 #[derive(Drop)]
 pub struct Held {
     pub shard: Shard,

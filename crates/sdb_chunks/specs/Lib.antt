@@ -3,7 +3,7 @@ pub mod Chunks
 pub mod formers
 pub mod ChunkGroup
 pub mod Iter
-pub mod Laws
 pub mod ChunkedVec
 pub mod Position
 pub mod Rows
+pub mod laws

@@ -90,9 +90,9 @@ impl<T> Chunk<T> {
 impl<T: Drop> Chunk<T> {
     /// The same items, shared, so that the next copy of them is a pointer.
     pub fn into_frozen(self, alloc: Global) -> Result<Chunk<T>, AllocError>
-        ensures same { IfOk result (λ b. items_of b ≡ items_of self) }
+        ensures equal { IfOk result (λ b. items_of b ≡ items_of self) }
         ensures shared { IfOk result (λ b. is_chunk_shared b ≡ true) }
-        ensures own { OnErr result (is_chunk_unique self ≡ true) }
+        ensures unique { OnErr result (is_chunk_unique self ≡ true) }
     {
         match self {
             Chunk::Unique(items) => Ok(Chunk::Shared(Arc::new(alloc, items)?)),
@@ -103,7 +103,7 @@ impl<T: Drop> Chunk<T> {
     /// Makes the items shared in place, so that the next copy of them is a pointer: they are moved, and memory
     /// is taken for the pointer alone, where they had one owner.
     pub fn freeze(&mut self, alloc: Global) -> Result<(), AllocError>
-        ensures same { items_of self.new ≡ items_of self.old }
+        ensures unchanged { items_of self.new ≡ items_of self.old }
         ensures shared { OnOk result (is_chunk_shared self.new ≡ true) }
     {
         match replace(self, Chunk::Unique(Vec::new(alloc))) {
@@ -129,10 +129,10 @@ impl<T> Chunk<T> {
     /// The same items again, as a pointer to them, where they are shared; `None` where they have one owner.
     /// Fails only where no more pointers can be counted.
     pub fn clone_shared(&self) -> Result<Option<Chunk<T>>, AllocError>
-        ensures same { IfOk result (λ o. IfSome o (λ b. items_of b ≡ items_of self.now)) }
+        ensures equal { IfOk result (λ o. IfSome o (λ b. items_of b ≡ items_of self.now)) }
         ensures shared { IfOk result (λ o. IfSome o (λ b. is_chunk_shared b ≡ true)) }
         ensures found { IfOk result (λ o. is_some o ≡ is_chunk_shared self.now) }
-        ensures some { OnErr result (is_chunk_shared self.now ≡ true) }
+        ensures memory { OnErr result (is_chunk_shared self.now ≡ true) }
     {
         match self {
             Chunk::Unique(_) => Ok(None),
@@ -146,8 +146,8 @@ impl<T: TryClone> Chunk<T> {
     /// Fails only where they were shared and memory is wanting.
     pub fn make_unique(&mut self, alloc: Global) -> Result<(), AllocError>
         ensures same { map T.model (items_of self.new) ≡ map T.model (items_of self.old) }
-        ensures own { OnOk result (is_chunk_unique self.new ≡ true) }
-        ensures shared { OnErr result (is_chunk_unique self.old ≡ false) }
+        ensures unique { OnOk result (is_chunk_unique self.new ≡ true) }
+        ensures shared_on_err { OnErr result (is_chunk_unique self.old ≡ false) }
     {
         self.make_unique_with_capacity(alloc, 0)
     }
@@ -158,9 +158,9 @@ impl<T: TryClone> Chunk<T> {
         alloc: Global,
         room: usize,
     ) -> Result<(), AllocError>
-        ensures same { map T.model (items_of self.new) ≡ map T.model (items_of self.old) }
-        ensures own { OnOk result (is_chunk_unique self.new ≡ true) }
-        ensures shared { OnErr result (is_chunk_unique self.old ≡ false) }
+        ensures unchanged { map T.model (items_of self.new) ≡ map T.model (items_of self.old) }
+        ensures unique { OnOk result (is_chunk_unique self.new ≡ true) }
+        ensures shared_on_err { OnErr result (is_chunk_unique self.old ≡ false) }
     {
         match replace(self, Chunk::Unique(Vec::new(alloc))) {
             Chunk::Unique(items) => {

@@ -24,8 +24,8 @@ const MAX_CHUNK_LEN: usize = 512;
 // How many items a block may have in a list of so many blocks: as many, within bounds. So a change copies about as many
 // blocks as items of one block, where both are shared.
 pub(crate) fn max_chunk_len(blocks: usize) -> usize
-    ensures low { 20 ≤ result }
-    ensures high { result ≤ 512 }
+    ensures lower_bound { 20 ≤ result }
+    ensures upper_bound { result ≤ 512 }
 {
     blocks.clamp(MIN_CHUNK_LEN, MAX_CHUNK_LEN)
 }
@@ -33,7 +33,7 @@ pub(crate) fn max_chunk_len(blocks: usize) -> usize
 // The same for a list of so many items that is cut into blocks.
 pub(crate) fn max_chunk_len_for(items: usize) -> usize
     ensures some { 0 < result }
-    ensures high { result ≤ 512 }
+    ensures upper_bound { result ≤ 512 }
 {
     let mut bound = MIN_CHUNK_LEN;
     while bound < MAX_CHUNK_LEN && items / bound > bound {
@@ -98,8 +98,8 @@ pub(crate) fn chunk_insert<T: TryClone>(
     ensures ok { OnOk result (map T.model (items_of block.new)
         ≡ insert (map T.model (items_of block.old)) index (T.model item)) }
     ensures err { OnErr result (map T.model (items_of block.new) ≡ map T.model (items_of block.old)) }
-    ensures own { is_chunk_unique block.old ≡ true → is_chunk_unique block.new ≡ true }
-    ensures now_own { OnOk result (is_chunk_unique block.new ≡ true) }
+    ensures unique { is_chunk_unique block.old ≡ true → is_chunk_unique block.new ≡ true }
+    ensures unique_after { OnOk result (is_chunk_unique block.new ≡ true) }
     ensures bound { length (items_of block.new) ≤ length (items_of block.old) + 1 }
 {
     block.make_unique_with_capacity(alloc, 1)?;
@@ -119,8 +119,8 @@ pub(crate) fn chunk_remove<T: TryClone>(
     ensures item { IfOk result (λ x. option_map T.model x ≡ slice_get (map T.model (items_of block.old)) index) }
     ensures ok { OnOk result (map T.model (items_of block.new) ≡ remove (map T.model (items_of block.old)) index) }
     ensures err { OnErr result (map T.model (items_of block.new) ≡ map T.model (items_of block.old)) }
-    ensures own { is_chunk_unique block.old ≡ true → is_chunk_unique block.new ≡ true }
-    ensures shared { OnErr result (is_chunk_unique block.old ≡ false) }
+    ensures unique { is_chunk_unique block.old ≡ true → is_chunk_unique block.new ≡ true }
+    ensures shared_on_err { OnErr result (is_chunk_unique block.old ≡ false) }
     ensures bound { length (items_of block.new) ≤ length (items_of block.old) }
 {
     block.make_unique(alloc)?;
@@ -142,9 +142,9 @@ pub(crate) fn chunk_replace<T: TryClone>(
     ensures ok { OnOk result (map T.model (items_of block.new)
         ≡ slice_set (map T.model (items_of block.old)) index (T.model item)) }
     ensures err { OnErr result (map T.model (items_of block.new) ≡ map T.model (items_of block.old)) }
-    ensures own { is_chunk_unique block.old ≡ true → is_chunk_unique block.new ≡ true }
-    ensures shared { OnErr result (is_chunk_unique block.old ≡ false) }
-    ensures now_own { OnOk result (is_chunk_unique block.new ≡ true) }
+    ensures unique { is_chunk_unique block.old ≡ true → is_chunk_unique block.new ≡ true }
+    ensures shared_on_err { OnErr result (is_chunk_unique block.old ≡ false) }
+    ensures unique_after { OnOk result (is_chunk_unique block.new ≡ true) }
     ensures bound { length (items_of block.new) ≤ length (items_of block.old) }
 {
     block.make_unique(alloc)?;
@@ -159,12 +159,12 @@ pub(crate) fn split_off_half<T: TryClone>(
     alloc: Global,
     block: &mut Chunk<T>,
 ) -> Result<Chunk<T>, AllocError>
-    ensures low { OnOk result (map T.model (items_of block.new)
+    ensures lower_half { OnOk result (map T.model (items_of block.new)
         ≡ take (length (items_of block.old) / 2) (map T.model (items_of block.old))) }
     ensures high { IfOk result (λ b. map T.model (items_of b)
         ≡ drop (length (items_of block.old) / 2) (map T.model (items_of block.old))) }
     ensures err { OnErr result (map T.model (items_of block.new) ≡ map T.model (items_of block.old)) }
-    ensures own { is_chunk_unique block.old ≡ true → is_chunk_unique block.new ≡ true }
+    ensures unique { is_chunk_unique block.old ≡ true → is_chunk_unique block.new ≡ true }
     ensures other { IfOk result (λ b. is_chunk_unique b ≡ true) }
 {
     let middle = block.len() / 2;
@@ -182,8 +182,8 @@ pub fn split_chunk<T: TryClone>(
     at: usize,
 ) -> Result<(), AllocError>
     requires { at < length blocks.old.items }
-    ensures same { flatten_models T.model blocks.new.items ≡ flatten_models T.model blocks.old.items }
-    ensures own { all_unique blocks.old.items ≡ true → all_unique blocks.new.items ≡ true }
+    ensures unchanged { flatten_models T.model blocks.new.items ≡ flatten_models T.model blocks.old.items }
+    ensures unique { all_unique blocks.old.items ≡ true → all_unique blocks.new.items ≡ true }
     ensures bound { max_chunk_length blocks.new.items ≤ max_chunk_length blocks.old.items }
     ensures half { OnOk result ((i : ℕ) → insert_chunk_index blocks.old.items i ≡ at
         → 2 * chunk_length_at blocks.new.items i ≤ chunk_length_at blocks.old.items i + 1) }
@@ -205,10 +205,10 @@ fn insert_in_chunk<T: TryClone>(
     ensures ok { IfOk result (λ done. flatten_models T.model blocks.new.items ≡ (if done
         then insert (flatten_models T.model blocks.old.items) index
         (T.model item) else flatten_models T.model blocks.old.items)) }
-    ensures within { IfOk result (λ done. done ≡ nat_le index (length (flatten_models T.model blocks.old.items))) }
+    ensures in_range { IfOk result (λ done. done ≡ nat_le index (length (flatten_models T.model blocks.old.items))) }
     ensures err { OnErr result (flatten_models T.model blocks.new.items ≡ flatten_models T.model blocks.old.items) }
-    ensures own { all_unique blocks.old.items ≡ true → all_unique blocks.new.items ≡ true }
-    ensures now_own { IfOk result (λ done. done ≡ true → is_unique_at blocks.new.items index ≡ true) }
+    ensures unique { all_unique blocks.old.items ≡ true → all_unique blocks.new.items ≡ true }
+    ensures unique_after { IfOk result (λ done. done ≡ true → is_unique_at blocks.new.items index ≡ true) }
     ensures bound { max_chunk_length blocks.new.items ≤ max (chunk_length_at blocks.old.items index + 1)
         (max_chunk_length blocks.old.items) }
 {
@@ -241,10 +241,10 @@ pub(crate) fn insert_in_chunks<T: TryClone>(
     ensures ok { IfOk result (λ done. flatten_models T.model blocks.new.items ≡ (if done
         then insert (flatten_models T.model blocks.old.items) index
         (T.model item) else flatten_models T.model blocks.old.items)) }
-    ensures within { IfOk result (λ done. done ≡ nat_le index (length (flatten_models T.model blocks.old.items))) }
+    ensures in_range { IfOk result (λ done. done ≡ nat_le index (length (flatten_models T.model blocks.old.items))) }
     ensures err { OnErr result (flatten_models T.model blocks.new.items ≡ flatten_models T.model blocks.old.items) }
-    ensures own { all_unique blocks.old.items ≡ true → all_unique blocks.new.items ≡ true }
-    ensures now_own { IfOk result (λ done. done ≡ true → is_unique_at blocks.new.items index ≡ true) }
+    ensures unique { all_unique blocks.old.items ≡ true → all_unique blocks.new.items ≡ true }
+    ensures unique_after { IfOk result (λ done. done ≡ true → is_unique_at blocks.new.items index ≡ true) }
     ensures bound { max_chunk_length blocks.new.items ≤ max most (max_chunk_length blocks.old.items) }
 {
     if let Some((at, _)) = insert_position(blocks, index) {
@@ -259,8 +259,8 @@ pub(crate) fn insert_in_chunks<T: TryClone>(
 // Takes a block out in which nothing is left.
 fn remove_empty_chunk<T: TryClone>(blocks: &mut Vec<Chunk<T>>, at: usize)
     requires { at < length blocks.old.items }
-    ensures same { flatten_models T.model blocks.new.items ≡ flatten_models T.model blocks.old.items }
-    ensures own { all_unique blocks.old.items ≡ true → all_unique blocks.new.items ≡ true }
+    ensures unchanged { flatten_models T.model blocks.new.items ≡ flatten_models T.model blocks.old.items }
+    ensures unique { all_unique blocks.old.items ≡ true → all_unique blocks.new.items ≡ true }
     ensures bound { max_chunk_length blocks.new.items ≤ max_chunk_length blocks.old.items }
 {
     if blocks[at].len() == 0 {
@@ -278,8 +278,8 @@ pub(crate) fn remove_from_chunks<T: TryClone>(
     ensures ok { OnOk result (flatten_models T.model blocks.new.items
         ≡ remove (flatten_models T.model blocks.old.items) index) }
     ensures err { OnErr result (flatten_models T.model blocks.new.items ≡ flatten_models T.model blocks.old.items) }
-    ensures own { all_unique blocks.old.items ≡ true → all_unique blocks.new.items ≡ true }
-    ensures shared { OnErr result (all_unique blocks.old.items ≡ false) }
+    ensures unique { all_unique blocks.old.items ≡ true → all_unique blocks.new.items ≡ true }
+    ensures shared_on_err { OnErr result (all_unique blocks.old.items ≡ false) }
     ensures shared_there { OnErr result (is_unique_at blocks.old.items index ≡ false) }
     ensures bound { max_chunk_length blocks.new.items ≤ max_chunk_length blocks.old.items }
 {
@@ -303,9 +303,9 @@ pub(crate) fn replace_in_chunks<T: TryClone>(
     ensures ok { OnOk result (flatten_models T.model blocks.new.items
         ≡ slice_set (flatten_models T.model blocks.old.items) index (T.model item)) }
     ensures err { OnErr result (flatten_models T.model blocks.new.items ≡ flatten_models T.model blocks.old.items) }
-    ensures own { all_unique blocks.old.items ≡ true → all_unique blocks.new.items ≡ true }
-    ensures shared { OnErr result (is_unique_at blocks.old.items index ≡ false) }
-    ensures now_own { IfOk result (λ x. IfSome x (λ _. is_unique_at blocks.new.items index ≡ true)) }
+    ensures unique { all_unique blocks.old.items ≡ true → all_unique blocks.new.items ≡ true }
+    ensures shared_on_err { OnErr result (is_unique_at blocks.old.items index ≡ false) }
+    ensures unique_after { IfOk result (λ x. IfSome x (λ _. is_unique_at blocks.new.items index ≡ true)) }
     ensures bound { max_chunk_length blocks.new.items ≤ max_chunk_length blocks.old.items }
 {
     let Some((at, inside)) = item_position(blocks, index) else {

@@ -102,7 +102,7 @@ impl<T: TryClone> ChunkGroup<T> {
         ensures ok { OnOk result (group_models T.model self.new
             ≡ insert (group_models T.model self.old) index (T.model item)) }
         ensures err { OnErr result (group_models T.model self.new ≡ group_models T.model self.old) }
-        ensures now_own { OnOk result (is_unique_group_at self.new index ≡ true) }
+        ensures unique_after { OnOk result (is_unique_group_at self.new index ≡ true) }
         ensures bound { max_chunk_length (group_chunks self.new) ≤ max 20 (max_chunk_length (group_chunks self.old)) }
     {
         let _ = insert_in_chunk_list(alloc, &mut self.blocks, index, item, MIN_CHUNK_LEN)?;
@@ -116,7 +116,7 @@ impl<T: TryClone> ChunkGroup<T> {
         ensures item { IfOk result (λ x. option_map T.model x ≡ slice_get (group_models T.model self.old) index) }
         ensures ok { OnOk result (group_models T.model self.new ≡ remove (group_models T.model self.old) index) }
         ensures err { OnErr result (group_models T.model self.new ≡ group_models T.model self.old) }
-        ensures shared { OnErr result (is_unique_group_at self.old index ≡ false) }
+        ensures shared_on_err { OnErr result (is_unique_group_at self.old index ≡ false) }
         ensures bound { max_chunk_length (group_chunks self.new) ≤ max_chunk_length (group_chunks self.old) }
     {
         let item = remove_from_chunk_list(alloc, &mut self.blocks, index)?;
@@ -135,8 +135,8 @@ impl<T: TryClone> ChunkGroup<T> {
         ensures ok { OnOk result (group_models T.model self.new
             ≡ slice_set (group_models T.model self.old) index (T.model item)) }
         ensures err { OnErr result (group_models T.model self.new ≡ group_models T.model self.old) }
-        ensures shared { OnErr result (is_unique_group_at self.old index ≡ false) }
-        ensures now_own { IfOk result (λ x. IfSome x (λ _. is_unique_group_at self.new index ≡ true)) }
+        ensures shared_on_err { OnErr result (is_unique_group_at self.old index ≡ false) }
+        ensures unique_after { IfOk result (λ x. IfSome x (λ _. is_unique_group_at self.new index ≡ true)) }
         ensures bound { max_chunk_length (group_chunks self.new) ≤ max_chunk_length (group_chunks self.old) }
     {
         let old = replace_in_chunk_list(alloc, &mut self.blocks, index, item)?;

@@ -20,10 +20,10 @@ fn make_chunks_unique<T: TryClone>(
     blocks: &mut Chunk<Chunk<T>>,
 ) -> Result<(), AllocError>
     ensures same { flatten_models T.model (items_of blocks.new) ≡ flatten_models T.model (items_of blocks.old) }
-    ensures kept { all_unique (items_of blocks.new) ≡ all_unique (items_of blocks.old) }
+    ensures unchanged { all_unique (items_of blocks.new) ≡ all_unique (items_of blocks.old) }
     ensures among { (i : ℕ) → is_unique_at (items_of blocks.new) i ≡ is_unique_at (items_of blocks.old) i }
-    ensures own { OnOk result (is_chunk_unique blocks.new ≡ true) }
-    ensures shared { OnErr result (is_chunk_unique blocks.old ≡ false) }
+    ensures unique { OnOk result (is_chunk_unique blocks.new ≡ true) }
+    ensures shared_on_err { OnErr result (is_chunk_unique blocks.old ≡ false) }
     ensures bound { max_chunk_length (items_of blocks.new) ≡ max_chunk_length (items_of blocks.old) }
 {
     blocks.make_unique(alloc)?;
@@ -42,11 +42,12 @@ pub(crate) fn insert_in_chunk_list<T: TryClone>(
     ensures ok { IfOk result (λ done. flatten_models T.model (items_of blocks.new) ≡ (if done
         then insert (flatten_models T.model (items_of blocks.old)) index (T.model item)
         else flatten_models T.model (items_of blocks.old))) }
-    ensures within { IfOk result (λ done. done ≡ nat_le index (length (flatten_models T.model (items_of blocks.old)))) }
+    ensures in_range { IfOk result (λ done. done
+        ≡ nat_le index (length (flatten_models T.model (items_of blocks.old)))) }
     ensures err { OnErr result (flatten_models T.model (items_of blocks.new)
         ≡ flatten_models T.model (items_of blocks.old)) }
-    ensures own { is_unique_repr (Chunks blocks.old) ≡ true → is_unique_repr (Chunks blocks.new) ≡ true }
-    ensures now_own { IfOk result (λ done. done ≡ true → is_unique_repr_at (Chunks blocks.new) index ≡ true) }
+    ensures unique { is_unique_repr (Chunks blocks.old) ≡ true → is_unique_repr (Chunks blocks.new) ≡ true }
+    ensures unique_after { IfOk result (λ done. done ≡ true → is_unique_repr_at (Chunks blocks.new) index ≡ true) }
     ensures bound { max_chunk_length (items_of blocks.new) ≤ max most (max_chunk_length (items_of blocks.old)) }
 {
     make_chunks_unique(alloc, blocks)?;
@@ -71,8 +72,8 @@ pub(crate) fn remove_from_chunk_list<T: TryClone>(
         ≡ remove (flatten_models T.model (items_of blocks.old)) index) }
     ensures err { OnErr result (flatten_models T.model (items_of blocks.new)
         ≡ flatten_models T.model (items_of blocks.old)) }
-    ensures own { is_unique_repr (Chunks blocks.old) ≡ true → is_unique_repr (Chunks blocks.new) ≡ true }
-    ensures shared { OnErr result (is_unique_repr (Chunks blocks.old) ≡ false) }
+    ensures unique { is_unique_repr (Chunks blocks.old) ≡ true → is_unique_repr (Chunks blocks.new) ≡ true }
+    ensures shared_on_err { OnErr result (is_unique_repr (Chunks blocks.old) ≡ false) }
     ensures shared_there { OnErr result (is_unique_repr_at (Chunks blocks.old) index ≡ false) }
     ensures bound { max_chunk_length (items_of blocks.new) ≤ max_chunk_length (items_of blocks.old) }
 {
@@ -99,9 +100,9 @@ pub(crate) fn replace_in_chunk_list<T: TryClone>(
         ≡ slice_set (flatten_models T.model (items_of blocks.old)) index (T.model item)) }
     ensures err { OnErr result (flatten_models T.model (items_of blocks.new)
         ≡ flatten_models T.model (items_of blocks.old)) }
-    ensures own { is_unique_repr (Chunks blocks.old) ≡ true → is_unique_repr (Chunks blocks.new) ≡ true }
-    ensures shared { OnErr result (is_unique_repr_at (Chunks blocks.old) index ≡ false) }
-    ensures now_own { IfOk result (λ x. IfSome x (λ _. is_unique_repr_at (Chunks blocks.new) index ≡ true)) }
+    ensures unique { is_unique_repr (Chunks blocks.old) ≡ true → is_unique_repr (Chunks blocks.new) ≡ true }
+    ensures shared_on_err { OnErr result (is_unique_repr_at (Chunks blocks.old) index ≡ false) }
+    ensures unique_after { IfOk result (λ x. IfSome x (λ _. is_unique_repr_at (Chunks blocks.new) index ≡ true)) }
     ensures bound { max_chunk_length (items_of blocks.new) ≤ max_chunk_length (items_of blocks.old) }
 {
     make_chunks_unique(alloc, blocks)?;

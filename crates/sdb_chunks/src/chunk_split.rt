@@ -15,7 +15,7 @@ pub(crate) fn split_into_chunks<T: Drop>(
 ) -> Result<Vec<Chunk<T>>, AllocError>
     requires { 0 < most }
     ensures items { IfOk result (λ v. flat_map items_of v.items ≡ items.items) }
-    ensures own { IfOk result (λ v. all_unique v.items ≡ true) }
+    ensures unique { IfOk result (λ v. all_unique v.items ≡ true) }
     ensures bound { IfOk result (λ v. max_chunk_length v.items ≤ most) }
 {
     let mut left = items;

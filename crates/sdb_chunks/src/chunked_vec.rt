@@ -52,7 +52,7 @@ impl<T> ChunkedVec<T> {
     /// A list of these items, in the vector's own memory.
     pub fn from_vec(items: Vec<T>) -> ChunkedVec<T>
         ensures items { vec_chunk_items result ≡ items.items ∷ [] }
-        ensures own { is_unique_vec result ≡ true }
+        ensures unique { is_unique_vec result ≡ true }
     {
         ChunkedVec {
             repr: Repr::Flat(Chunk::Unique(items)),
@@ -126,7 +126,7 @@ impl<T: Drop> ChunkedVec<T> {
     /// The list of these blocks, in order. One block alone is in no other vector.
     pub fn from_chunks(mut blocks: Vec<Chunk<T>>) -> ChunkedVec<T>
         ensures blocks { vec_chunks result ≡ blocks.items }
-        ensures own { is_unique_vec result ≡ all_unique blocks.items }
+        ensures unique { is_unique_vec result ≡ all_unique blocks.items }
     {
         if blocks.len() == 1 {
             if let Some(block) = blocks.pop() {
@@ -144,7 +144,7 @@ impl<T: Drop> ChunkedVec<T> {
     /// more there are.
     pub fn from_vec_chunked(alloc: Global, items: Vec<T>) -> Result<ChunkedVec<T>, AllocError>
         ensures items { IfOk result (λ l. vec_items l ≡ items.items) }
-        ensures own { IfOk result (λ l. is_unique_vec l ≡ true) }
+        ensures unique { IfOk result (λ l. is_unique_vec l ≡ true) }
         ensures bound { IfOk result (λ l. max_chunk_length (vec_chunks l) ≤ 512) }
     {
         let most = max_chunk_len_for(items.len());
@@ -181,10 +181,10 @@ impl<T> ChunkedVec<T> {
     /// The same list again, as a pointer to its items, where it is shared; `None` where it isn't. Fails only
     /// where no more pointers can be counted.
     pub fn clone_shared(&self) -> Result<Option<ChunkedVec<T>>, AllocError>
-        ensures same { IfOk result (λ o. IfSome o (λ l. vec_chunk_items l ≡ vec_chunk_items self.now)) }
+        ensures equal { IfOk result (λ o. IfSome o (λ l. vec_chunk_items l ≡ vec_chunk_items self.now)) }
         ensures shared { IfOk result (λ o. IfSome o (λ l. is_shared_vec l ≡ true)) }
         ensures found { IfOk result (λ o. is_some o ≡ is_shared_vec self.now) }
-        ensures some { OnErr result (is_shared_vec self.now ≡ true) }
+        ensures memory { OnErr result (is_shared_vec self.now ≡ true) }
     {
         match &self.repr {
             Repr::Flat(block) => match block.clone_shared()? {
@@ -214,7 +214,7 @@ impl<T: TryClone> ChunkedVec<T> {
     /// own; else they are had again.
     pub fn into_vec(self, alloc: Global) -> Result<Vec<T>, AllocError>
         ensures items { IfOk result (λ v. map T.model v.items ≡ vec_models T.model self) }
-        ensures apart { OnErr result (is_unique_flat_vec self ≡ false) }
+        ensures shared_on_err { OnErr result (is_unique_flat_vec self ≡ false) }
     {
         let ChunkedVec { repr: form } = self;
         match form {
@@ -256,8 +256,8 @@ impl<T: TryClone> ChunkedVec<T> {
 
     // How many items a block may have.
     fn max_chunk_len(&self) -> usize
-        ensures low { 20 ≤ result }
-        ensures high { result ≤ 512 }
+        ensures lower_bound { 20 ≤ result }
+        ensures upper_bound { result ≤ 512 }
     {
         match &self.repr {
             Repr::Chunks(blocks) => max_chunk_len(blocks.len()),
@@ -267,10 +267,10 @@ impl<T: TryClone> ChunkedVec<T> {
 
     // Makes a list of blocks of one block that has as many items as it may have.
     fn reserve_for_insert(&mut self, alloc: Global, most: usize) -> Result<(), AllocError>
-        ensures same { vec_models T.model self.new ≡ vec_models T.model self.old }
-        ensures own { is_unique_vec self.old ≡ true → is_unique_vec self.new ≡ true }
+        ensures unchanged { vec_models T.model self.new ≡ vec_models T.model self.old }
+        ensures unique { is_unique_vec self.old ≡ true → is_unique_vec self.new ≡ true }
         ensures blocks { vec_chunks self.new ≡ vec_chunks self.old }
-        ensures room { OnOk result ((b : Chunk T) → self.new.repr ≡ Flat b → length (items_of b) < most) }
+        ensures bound { OnOk result ((b : Chunk T) → self.new.repr ≡ Flat b → length (items_of b) < most) }
     {
         if let Repr::Flat(block) = &mut self.repr {
             if block.len() >= most {
@@ -288,10 +288,10 @@ impl<T: TryClone> ChunkedVec<T> {
     pub fn insert(&mut self, alloc: Global, index: usize, item: T) -> Result<bool, AllocError>
         ensures ok { IfOk result (λ done. vec_models T.model self.new ≡ (if done
             then insert (vec_models T.model self.old) index (T.model item) else vec_models T.model self.old)) }
-        ensures within { IfOk result (λ done. done ≡ nat_le index (length (vec_models T.model self.old))) }
+        ensures in_range { IfOk result (λ done. done ≡ nat_le index (length (vec_models T.model self.old))) }
         ensures err { OnErr result (vec_models T.model self.new ≡ vec_models T.model self.old) }
-        ensures own { is_unique_vec self.old ≡ true → is_unique_vec self.new ≡ true }
-        ensures now_own { IfOk result (λ done. done ≡ true → is_unique_vec_at self.new index ≡ true) }
+        ensures unique { is_unique_vec self.old ≡ true → is_unique_vec self.new ≡ true }
+        ensures unique_after { IfOk result (λ done. done ≡ true → is_unique_vec_at self.new index ≡ true) }
         ensures bound { max_chunk_length (vec_chunks self.new) ≤ max 512 (max_chunk_length (vec_chunks self.old)) }
     {
         let most = self.max_chunk_len();
@@ -322,8 +322,8 @@ impl<T: TryClone> ChunkedVec<T> {
         ensures item { IfOk result (λ x. option_map T.model x ≡ slice_get (vec_models T.model self.old) index) }
         ensures ok { OnOk result (vec_models T.model self.new ≡ remove (vec_models T.model self.old) index) }
         ensures err { OnErr result (vec_models T.model self.new ≡ vec_models T.model self.old) }
-        ensures own { is_unique_vec self.old ≡ true → is_unique_vec self.new ≡ true }
-        ensures shared { OnErr result (is_unique_vec self.old ≡ false) }
+        ensures unique { is_unique_vec self.old ≡ true → is_unique_vec self.new ≡ true }
+        ensures shared_on_err { OnErr result (is_unique_vec self.old ≡ false) }
         ensures shared_there { OnErr result (is_unique_vec_at self.old index ≡ false) }
         ensures bound { max_chunk_length (vec_chunks self.new) ≤ max_chunk_length (vec_chunks self.old) }
     {
@@ -355,9 +355,9 @@ impl<T: TryClone> ChunkedVec<T> {
         ensures ok { OnOk result (vec_models T.model self.new
             ≡ slice_set (vec_models T.model self.old) index (T.model item)) }
         ensures err { OnErr result (vec_models T.model self.new ≡ vec_models T.model self.old) }
-        ensures own { is_unique_vec self.old ≡ true → is_unique_vec self.new ≡ true }
-        ensures shared { OnErr result (is_unique_vec_at self.old index ≡ false) }
-        ensures now_own { IfOk result (λ x. IfSome x (λ _. is_unique_vec_at self.new index ≡ true)) }
+        ensures unique { is_unique_vec self.old ≡ true → is_unique_vec self.new ≡ true }
+        ensures shared_on_err { OnErr result (is_unique_vec_at self.old index ≡ false) }
+        ensures unique_after { IfOk result (λ x. IfSome x (λ _. is_unique_vec_at self.new index ≡ true)) }
         ensures bound { max_chunk_length (vec_chunks self.new) ≤ max_chunk_length (vec_chunks self.old) }
     {
         match &mut self.repr {

@@ -64,12 +64,12 @@ fn make_groups_unique<T: TryClone>(
     alloc: Global,
     groups: &mut Chunk<ChunkGroup<T>>,
 ) -> Result<(), AllocError>
-    ensures same { flatten_group_models T.model (items_of groups.new)
+    ensures unchanged { flatten_group_models T.model (items_of groups.new)
         ≡ flatten_group_models T.model (items_of groups.old) }
     ensures among { (i : ℕ) → is_unique_in_groups_at (items_of groups.new) i
         ≡ is_unique_in_groups_at (items_of groups.old) i }
-    ensures own { OnOk result (is_chunk_unique groups.new ≡ true) }
-    ensures shared { OnErr result (is_chunk_unique groups.old ≡ false) }
+    ensures unique { OnOk result (is_chunk_unique groups.new ≡ true) }
+    ensures shared_on_err { OnErr result (is_chunk_unique groups.old ≡ false) }
     ensures bound { max_grouped_length (items_of groups.new) ≡ max_grouped_length (items_of groups.old) }
 {
     groups.make_unique(alloc)?;
@@ -83,7 +83,7 @@ fn split_group<T: TryClone>(
     at: usize,
 ) -> Result<(), AllocError>
     requires { at < length groups.old.items }
-    ensures same { flatten_group_models T.model groups.new.items ≡ flatten_group_models T.model groups.old.items }
+    ensures unchanged { flatten_group_models T.model groups.new.items ≡ flatten_group_models T.model groups.old.items }
     ensures bound { max_grouped_length groups.new.items ≤ max_grouped_length groups.old.items }
 {
     groups.insert(at + 1, ChunkGroup::new(Chunk::Unique(Vec::new(alloc))))?;
@@ -98,7 +98,7 @@ fn split_long_chunk<T: TryClone>(
     groups: &mut Vec<ChunkGroup<T>>,
     index: usize,
 ) -> Result<(), AllocError>
-    ensures same { flatten_group_models T.model groups.new.items ≡ flatten_group_models T.model groups.old.items }
+    ensures unchanged { flatten_group_models T.model groups.new.items ≡ flatten_group_models T.model groups.old.items }
     ensures bound { max_grouped_length groups.new.items ≤ max_grouped_length groups.old.items }
 {
     if let Some((at, _)) = group_insert_position(groups, index) {
@@ -114,7 +114,7 @@ fn ensure_group<T: TryClone>(
     alloc: Global,
     groups: &mut Vec<ChunkGroup<T>>,
 ) -> Result<(), AllocError>
-    ensures same { flatten_group_models T.model groups.new.items ≡ flatten_group_models T.model groups.old.items }
+    ensures unchanged { flatten_group_models T.model groups.new.items ≡ flatten_group_models T.model groups.old.items }
     ensures some { OnOk result (0 < length groups.new.items) }
     ensures bound { max_grouped_length groups.new.items ≤ max_grouped_length groups.old.items }
 {
@@ -135,11 +135,11 @@ fn insert_in_group_at<T: TryClone>(
     ensures ok { IfOk result (λ done. flatten_group_models T.model groups.new.items ≡ (if done
         then insert (flatten_group_models T.model groups.old.items) index (T.model item)
         else flatten_group_models T.model groups.old.items)) }
-    ensures within { IfOk result (λ done. done
+    ensures in_range { IfOk result (λ done. done
         ≡ nat_le index (length (flatten_group_models T.model groups.old.items))) }
     ensures err { OnErr result (flatten_group_models T.model groups.new.items
         ≡ flatten_group_models T.model groups.old.items) }
-    ensures now_own { IfOk result (λ done. done ≡ true → is_unique_in_groups_at groups.new.items index ≡ true) }
+    ensures unique_after { IfOk result (λ done. done ≡ true → is_unique_in_groups_at groups.new.items index ≡ true) }
     ensures bound { max_grouped_length groups.new.items ≤ max 20 (max_grouped_length groups.old.items) }
 {
     match group_insert_position(groups, index) {
@@ -161,11 +161,11 @@ fn insert_in_groups<T: TryClone>(
     ensures ok { IfOk result (λ done. flatten_group_models T.model groups.new.items ≡ (if done
         then insert (flatten_group_models T.model groups.old.items) index (T.model item)
         else flatten_group_models T.model groups.old.items)) }
-    ensures within { IfOk result (λ done. done
+    ensures in_range { IfOk result (λ done. done
         ≡ nat_le index (length (flatten_group_models T.model groups.old.items))) }
     ensures err { OnErr result (flatten_group_models T.model groups.new.items
         ≡ flatten_group_models T.model groups.old.items) }
-    ensures now_own { IfOk result (λ done. done ≡ true → is_unique_in_groups_at groups.new.items index ≡ true) }
+    ensures unique_after { IfOk result (λ done. done ≡ true → is_unique_in_groups_at groups.new.items index ≡ true) }
     ensures bound { max_grouped_length groups.new.items ≤ max 20 (max_grouped_length groups.old.items) }
 {
     split_long_chunk(alloc, groups, index)?;
@@ -184,11 +184,11 @@ pub(crate) fn insert_in_group_list<T: TryClone>(
     ensures ok { IfOk result (λ done. flatten_group_models T.model (items_of groups.new) ≡ (if done
         then insert (flatten_group_models T.model (items_of groups.old)) index (T.model item)
         else flatten_group_models T.model (items_of groups.old))) }
-    ensures within { IfOk result (λ done. done
+    ensures in_range { IfOk result (λ done. done
         ≡ nat_le index (length (flatten_group_models T.model (items_of groups.old)))) }
     ensures err { OnErr result (flatten_group_models T.model (items_of groups.new)
         ≡ flatten_group_models T.model (items_of groups.old)) }
-    ensures now_own { IfOk result (λ done. done ≡ true → is_unique_repr_at (Groups groups.new) index ≡ true) }
+    ensures unique_after { IfOk result (λ done. done ≡ true → is_unique_repr_at (Groups groups.new) index ≡ true) }
     ensures bound { max_grouped_length (items_of groups.new) ≤ max 20 (max_grouped_length (items_of groups.old)) }
 {
     make_groups_unique(alloc, groups)?;
@@ -204,7 +204,7 @@ pub(crate) fn insert_in_group_list<T: TryClone>(
 // Takes a group out that has no blocks left.
 fn remove_empty_group<T: TryClone>(groups: &mut Vec<ChunkGroup<T>>, at: usize)
     requires { at < length groups.old.items }
-    ensures same { flatten_group_models T.model groups.new.items ≡ flatten_group_models T.model groups.old.items }
+    ensures unchanged { flatten_group_models T.model groups.new.items ≡ flatten_group_models T.model groups.old.items }
     ensures bound { max_grouped_length groups.new.items ≤ max_grouped_length groups.old.items }
 {
     if groups[at].chunks().len() == 0 {
@@ -224,7 +224,7 @@ fn remove_from_groups<T: TryClone>(
         ≡ remove (flatten_group_models T.model groups.old.items) index) }
     ensures err { OnErr result (flatten_group_models T.model groups.new.items
         ≡ flatten_group_models T.model groups.old.items) }
-    ensures shared { OnErr result (is_unique_in_groups_at groups.old.items index ≡ false) }
+    ensures shared_on_err { OnErr result (is_unique_in_groups_at groups.old.items index ≡ false) }
     ensures bound { max_grouped_length groups.new.items ≤ max_grouped_length groups.old.items }
 {
     let Some((at, inside)) = group_item_position(groups, index) else {
@@ -247,7 +247,7 @@ pub(crate) fn remove_from_group_list<T: TryClone>(
         ≡ remove (flatten_group_models T.model (items_of groups.old)) index) }
     ensures err { OnErr result (flatten_group_models T.model (items_of groups.new)
         ≡ flatten_group_models T.model (items_of groups.old)) }
-    ensures shared { OnErr result (is_unique_repr_at (Groups groups.old) index ≡ false) }
+    ensures shared_on_err { OnErr result (is_unique_repr_at (Groups groups.old) index ≡ false) }
     ensures bound { max_grouped_length (items_of groups.new) ≤ max_grouped_length (items_of groups.old) }
 {
     make_groups_unique(alloc, groups)?;
@@ -274,8 +274,8 @@ fn replace_in_groups<T: TryClone>(
         ≡ slice_set (flatten_group_models T.model groups.old.items) index (T.model item)) }
     ensures err { OnErr result (flatten_group_models T.model groups.new.items
         ≡ flatten_group_models T.model groups.old.items) }
-    ensures shared { OnErr result (is_unique_in_groups_at groups.old.items index ≡ false) }
-    ensures now_own { IfOk result (λ x. IfSome x (λ _. is_unique_in_groups_at groups.new.items index ≡ true)) }
+    ensures shared_on_err { OnErr result (is_unique_in_groups_at groups.old.items index ≡ false) }
+    ensures unique_after { IfOk result (λ x. IfSome x (λ _. is_unique_in_groups_at groups.new.items index ≡ true)) }
     ensures bound { max_grouped_length groups.new.items ≤ max_grouped_length groups.old.items }
 {
     let Some((at, inside)) = group_item_position(groups, index) else {
@@ -298,8 +298,8 @@ pub(crate) fn replace_in_group_list<T: TryClone>(
         ≡ slice_set (flatten_group_models T.model (items_of groups.old)) index (T.model item)) }
     ensures err { OnErr result (flatten_group_models T.model (items_of groups.new)
         ≡ flatten_group_models T.model (items_of groups.old)) }
-    ensures shared { OnErr result (is_unique_repr_at (Groups groups.old) index ≡ false) }
-    ensures now_own { IfOk result (λ x. IfSome x (λ _. is_unique_repr_at (Groups groups.new) index ≡ true)) }
+    ensures shared_on_err { OnErr result (is_unique_repr_at (Groups groups.old) index ≡ false) }
+    ensures unique_after { IfOk result (λ x. IfSome x (λ _. is_unique_repr_at (Groups groups.new) index ≡ true)) }
     ensures bound { max_grouped_length (items_of groups.new) ≤ max_grouped_length (items_of groups.old) }
 {
     make_groups_unique(alloc, groups)?;

@@ -98,7 +98,7 @@ fn freeze_each<T: TryClone>(
     alloc: Global,
     groups: &mut Vec<ChunkGroup<T>>,
 ) -> Result<(), AllocError>
-    ensures same { flatten_group_models T.model groups.new.items ≡ flatten_group_models T.model groups.old.items }
+    ensures unchanged { flatten_group_models T.model groups.new.items ≡ flatten_group_models T.model groups.old.items }
     ensures bound { max_grouped_length groups.new.items ≡ max_grouped_length groups.old.items }
 {
     for at in 0..groups.len() {
@@ -112,7 +112,7 @@ fn freeze_unique<T: TryClone>(
     alloc: Global,
     groups: &mut Chunk<ChunkGroup<T>>,
 ) -> Result<(), AllocError>
-    ensures same { flatten_group_models T.model (items_of groups.new)
+    ensures unchanged { flatten_group_models T.model (items_of groups.new)
         ≡ flatten_group_models T.model (items_of groups.old) }
     ensures bound { max_grouped_length (items_of groups.new) ≡ max_grouped_length (items_of groups.old) }
 {
@@ -127,7 +127,7 @@ fn freeze_groups<T: TryClone>(
     alloc: Global,
     groups: &mut Chunk<ChunkGroup<T>>,
 ) -> Result<(), AllocError>
-    ensures same { flatten_group_models T.model (items_of groups.new)
+    ensures unchanged { flatten_group_models T.model (items_of groups.new)
         ≡ flatten_group_models T.model (items_of groups.old) }
     ensures shared { OnOk result (is_chunk_shared groups.new ≡ true) }
     ensures bound { max_grouped_length (items_of groups.new) ≡ max_grouped_length (items_of groups.old) }
@@ -159,7 +159,7 @@ impl<T: TryClone> Repr<T> {
     /// put in groups of blocks of at most 20. Blocks that aren't shared are had again there. Fails only where memory
     /// is wanting.
     pub fn freeze(&mut self, alloc: Global) -> Result<(), AllocError>
-        ensures same { repr_models T.model self.new ≡ repr_models T.model self.old }
+        ensures unchanged { repr_models T.model self.new ≡ repr_models T.model self.old }
         ensures shared { OnOk result (is_shared_repr self.new ≡ true) }
         ensures bound { max_chunk_length (repr_chunks self.new) ≤ max 20 (max_chunk_length (repr_chunks self.old)) }
     {

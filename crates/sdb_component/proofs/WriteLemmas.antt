@@ -9,7 +9,7 @@ use Rattle.sdb_value.specs.Value.{PlainStep}
 use Rattle.sdb_component.specs.Plain.{PlainAct, na, si, sd, li, ld, lr, oi, od, or}
 use Rattle.sdb_component.specs.ToJson.{act_members, path_items}
 use Rattle.sdb_component.specs.Write.{members_before_path, members_after_path}
-use Rattle.sdb_value.specs.PrefixLaws.{writes_prefix_after, writes_prefix_of_rest}
+use Rattle.sdb_value.specs.laws.PrefixLaws.{writes_prefix_after, writes_prefix_of_rest}
 
 in_order : (a : PlainAct) (p : raw.Data) → members_before_path a (raw.member (codes "p") p (members_after_path a)) ≡ act_members a p
 in_order (na x) p = refl

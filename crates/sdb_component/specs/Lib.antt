@@ -6,5 +6,5 @@ pub mod FromJson
 pub mod Size
 pub mod View
 pub mod Weight
-pub mod Examples
 pub mod Write
+pub mod worked

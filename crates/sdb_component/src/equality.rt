@@ -7,8 +7,8 @@ use sdb_value::{paths_equal, values_equal};
 
 /// Whether the components are the same, one by one. It takes no memory.
 pub fn components_equal(a: &[Component], b: &[Component]) -> bool
-    ensures same { IsTrue result → a.now ≡ b.now }
-    ensures other { IsFalse result → a.now ≡ b.now → ⊥ }
+    ensures on_true { IsTrue result → a.now ≡ b.now }
+    ensures on_false { IsFalse result → a.now ≡ b.now → ⊥ }
 {
     if a.len() != b.len() {
         return false;
@@ -22,15 +22,15 @@ pub fn components_equal(a: &[Component], b: &[Component]) -> bool
 }
 
 fn component_equal(a: &Component, b: &Component) -> bool
-    ensures same { IsTrue result → a.now ≡ b.now }
-    ensures other { IsFalse result → a.now ≡ b.now → ⊥ }
+    ensures on_true { IsTrue result → a.now ≡ b.now }
+    ensures on_false { IsFalse result → a.now ≡ b.now → ⊥ }
 {
     paths_equal(a.path(), b.path()) && acts_equal(a.act(), b.act())
 }
 
 fn acts_equal(a: &Act, b: &Act) -> bool
-    ensures same { IsTrue result → plain_act a.now ≡ plain_act b.now }
-    ensures other { IsFalse result → plain_act a.now ≡ plain_act b.now → ⊥ }
+    ensures on_true { IsTrue result → plain_act a.now ≡ plain_act b.now }
+    ensures on_false { IsFalse result → plain_act a.now ≡ plain_act b.now → ⊥ }
 {
     match a {
         Act::Na(x) => match b {

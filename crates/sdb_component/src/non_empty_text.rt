@@ -35,7 +35,7 @@ impl NonEmptyText {
     /// The text.
     pub fn as_str(&self) -> &str
         ensures value { result.now ≡ self.now }
-        ensures filled { 0 < length result.now }
+        ensures nonempty { 0 < length result.now }
     {
         self.text.as_str()
     }
@@ -51,7 +51,7 @@ impl NonEmptyText {
     /// The text, given up.
     pub fn into_string(self) -> String
         ensures value { string_bytes result ≡ self }
-        ensures filled { 0 < length (string_bytes result) }
+        ensures nonempty { 0 < length (string_bytes result) }
     {
         self.text
     }

@@ -23,7 +23,7 @@ use std::sync::Arc;
 /// Fails only where memory is wanting, and a part of it may then be written.
 pub fn write_op(op: &Op, out: &mut Writer) -> Result<(), AllocError>
     ensures tokens { OnOk result (out.new.tokens ≡ out.old.tokens ++ data_tokens (op_data op.now)) }
-    ensures before { out.new.before ≡ out.old.before }
+    ensures before_unchanged { out.new.before ≡ out.old.before }
     ensures err { OnErr result (WritesFront out.old.tokens out.new.tokens (data_tokens (op_data op.now))) }
 {
     out.begin_array()?;
@@ -35,7 +35,7 @@ pub fn write_op(op: &Op, out: &mut Writer) -> Result<(), AllocError>
 
 fn write_component(component: &Component, out: &mut Writer) -> Result<(), AllocError>
     ensures tokens { OnOk result (out.new.tokens ≡ out.old.tokens ++ data_tokens (component_data component.now)) }
-    ensures before { out.new.before ≡ out.old.before }
+    ensures before_unchanged { out.new.before ≡ out.old.before }
     ensures err { OnErr result (WritesFront out.old.tokens out.new.tokens
         (data_tokens (component_data component.now))) }
 {
@@ -51,7 +51,7 @@ fn write_component(component: &Component, out: &mut Writer) -> Result<(), AllocE
 fn write_values(act: &Act, out: &mut Writer) -> Result<(), AllocError>
     ensures tokens { OnOk result ((rest : Members) → out.new.tokens ++ object_tail_tokens rest
         ≡ out.old.tokens ++ object_tail_tokens (members_before_path (plain_act act.now) rest)) }
-    ensures before { out.new.before ≡ out.old.before }
+    ensures before_unchanged { out.new.before ≡ out.old.before }
     ensures err { OnErr result ((rest : Members) → WritesFront out.old.tokens out.new.tokens
         (object_tail_tokens (members_before_path (plain_act act.now) rest))) }
 {
@@ -79,7 +79,7 @@ fn write_values(act: &Act, out: &mut Writer) -> Result<(), AllocError>
 fn write_member(name: &str, value: &Arc<Json>, out: &mut Writer) -> Result<(), AllocError>
     ensures tokens { OnOk result (out.new.tokens
         ≡ out.old.tokens ++ key name.now ∷ data_tokens (data_of_value (value_of (arc_value value.now)))) }
-    ensures before { out.new.before ≡ out.old.before }
+    ensures before_unchanged { out.new.before ≡ out.old.before }
     ensures err { OnErr result (WritesFront out.old.tokens out.new.tokens
         (key name.now ∷ data_tokens (data_of_value (value_of (arc_value value.now))))) }
 {
@@ -91,7 +91,7 @@ fn write_member(name: &str, value: &Arc<Json>, out: &mut Writer) -> Result<(), A
 fn write_text(act: &Act, out: &mut Writer) -> Result<(), AllocError>
     ensures tokens { OnOk result (out.new.tokens ++ object_tail_tokens no_members
         ≡ out.old.tokens ++ object_tail_tokens (members_after_path (plain_act act.now))) }
-    ensures before { out.new.before ≡ out.old.before }
+    ensures before_unchanged { out.new.before ≡ out.old.before }
     ensures err { OnErr result (WritesFront out.old.tokens out.new.tokens
         (object_tail_tokens (members_after_path (plain_act act.now)))) }
 {
@@ -111,7 +111,7 @@ fn write_text(act: &Act, out: &mut Writer) -> Result<(), AllocError>
 fn write_path(component: &Component, out: &mut Writer) -> Result<(), AllocError>
     ensures tokens { OnOk result (out.new.tokens
         ≡ out.old.tokens ++ data_tokens (path_data (full_path component.now.path component.now.act))) }
-    ensures before { out.new.before ≡ out.old.before }
+    ensures before_unchanged { out.new.before ≡ out.old.before }
     ensures err { OnErr result (WritesFront out.old.tokens out.new.tokens
         (data_tokens (path_data (full_path component.now.path component.now.act)))) }
 {
@@ -125,7 +125,7 @@ fn write_path(component: &Component, out: &mut Writer) -> Result<(), AllocError>
 
 fn write_step(step: &Step, out: &mut Writer) -> Result<(), AllocError>
     ensures tokens { OnOk result (out.new.tokens ≡ out.old.tokens ++ data_tokens (step_data (plain_step step.now))) }
-    ensures before { out.new.before ≡ out.old.before }
+    ensures before_unchanged { out.new.before ≡ out.old.before }
     ensures err { OnErr result (WritesFront out.old.tokens out.new.tokens
         (data_tokens (step_data (plain_step step.now)))) }
 {
@@ -139,7 +139,7 @@ fn write_step(step: &Step, out: &mut Writer) -> Result<(), AllocError>
 fn write_last(act: &Act, out: &mut Writer) -> Result<(), AllocError>
     ensures tokens { OnOk result (out.new.tokens ++ array_tail_tokens no_items
         ≡ out.old.tokens ++ array_tail_tokens (path_items (last_step (plain_act act.now)))) }
-    ensures before { out.new.before ≡ out.old.before }
+    ensures before_unchanged { out.new.before ≡ out.old.before }
     ensures err { OnErr result (WritesFront out.old.tokens out.new.tokens
         (array_tail_tokens (path_items (last_step (plain_act act.now))))) }
 {

@@ -1,4 +1,4 @@
--- What a document keeps: snapshots of its log.
+-- A document's cache has snapshots of its log.
 use Rattle.std.proofs.Common.{◌≡◌, ◌≢◌, ℕ, zero, suc, ◌<◌, ◌≤◌, length, true, inr, List, [], ◌∷◌, ◌++◌, take, Option, Some, None, Result, OnOk, OnErr, Ok, Err, sym, ap, ◌∙◌, subst, arith, refl}
 use Rattle.std.specs.Prelude.{⊤}
 use Rattle.std.specs.Option.{is_some}
@@ -7,35 +7,35 @@ use Rattle.sdb_value.specs.declared.value.Json.{Json}
 use Rattle.sdb_oplog.specs.Plain.{PlainEntry, PlainSubmission}
 use Rattle.sdb_oplog.specs.Decide.{decide}
 use Rattle.sdb_oplog.specs.Snap.{snap, document_of}
-use Rattle.sdb_oplog.specs.Laws.{decide_extends}
+use Rattle.sdb_oplog.specs.laws.LogLaws.{decide_extends}
 use Rattle.sdb_snapcache.specs.CacheModel.{Snapshot, nearest, promote_nearest, insert_front}
 use Rattle.sdb_snapcache.specs.SnapInvariant.{IsSnapOf, AreSnapsOf}
-use Rattle.sdb_snapcache.specs.Laws.{snap_of_nearest, nearest_not_above, snaps_of_promoted_nearest, snaps_of_inserted, snaps_of_extension}
+use Rattle.sdb_snapcache.specs.laws.CacheLaws.{snap_of_nearest, nearest_not_above, snaps_of_promoted_nearest, snaps_of_inserted, snaps_of_extension}
 use Rattle.sdb_desk.specs.Reads.{CacheAfterOffer, CacheAfterRead}
 use Rattle.sdb_desk.specs.DocumentModel.{IsMadeDocument, IsDocument, IsReplayStart}
 
--- another list of snapshots
+-- with another cache of snapshots
 pub with_kept : (log : List PlainEntry) (present : Option Json) (kept other : List Snapshot) → AreSnapsOf log other → IsDocument log present kept → IsDocument log present other
 with_kept log present kept other snaps d = record { is_made = d.is_made; not_empty = d.not_empty; cache_is_snaps = snaps }
 
 pub with_used : (log : List PlainEntry) (present : Option Json) (kept other : List Snapshot) (v : ℕ) → other ≡ promote_nearest v kept → IsDocument log present kept → IsDocument log present other
 with_used log present kept other v is d = with_kept log present kept other (subst (AreSnapsOf log) (sym is) (snaps_of_promoted_nearest log v kept d.cache_is_snaps)) d
 
--- the version that a replay begins with
+-- the version at which a replay starts
 pub begins_up_to : (v w : ℕ) (o : Option Snapshot) (kept : List Snapshot) (d : Option Value) → nearest v kept ≡ o → IsReplayStart o w d → w ≤ v
 begins_up_to v w None kept d e h = let z = h.0 in omega (arith, z)
 begins_up_to v w (Some s) kept d e h = let z = h.0 in let n = nearest_not_above v kept s e in omega (arith, z, n)
 
--- what is there is the document of that version
+-- the start of a replay is the document of its version
 pub begins_snap : (log : List PlainEntry) (v w : ℕ) (o : Option Snapshot) (kept : List Snapshot) (d : Option Value) → AreSnapsOf log kept → nearest v kept ≡ o → IsReplayStart o w d → snap (take w log) ≡ Some d
 begins_snap log v w None kept d snaps e h = ap (λ n. snap (take n log)) h.0 ∙ ap Some (sym h.1)
 begins_snap log v w (Some s) kept d snaps e h = ap (λ n. snap (take n log)) h.0 ∙ (snap_of_nearest log v kept s snaps e).is ∙ ap Some (sym h.1)
 
--- a decision keeps the snapshots
+-- a decision preserves the snapshots
 pub decided_snaps : (log : List PlainEntry) (s : PlainSubmission) (now : ℕ) (kept : List Snapshot) → AreSnapsOf log kept → AreSnapsOf (decide log s now).log kept
 decided_snaps log s now kept snaps = let g = decide_extends log s now in subst (λ l. AreSnapsOf l kept) (sym g.1) (snaps_of_extension log g.0 kept snaps)
 
--- what is kept after an offer that may have found no memory
+-- the cache after an offer whose allocation may have failed
 pub offered_or : {E : Type 0} (log : List PlainEntry) (v : ℕ) (d : Value) (kept other : List Snapshot) (r : Result ⊤ E) → IsSnapOf log (record { version = v; value = d }) → AreSnapsOf log kept
     → OnOk r (other ≡ insert_front v d kept) → OnErr r (other ≡ kept) → AreSnapsOf log other
 offered_or log v d kept other (Ok u) is snaps ok err = subst (AreSnapsOf log) (sym ok) (snaps_of_inserted log v d kept is snaps)
@@ -48,7 +48,7 @@ none_of_more (x ∷ log) rest e = cc
 decided_filled : (log : List PlainEntry) (s : PlainSubmission) (now : ℕ) → log ≢ [] → (decide log s now).log ≢ []
 decided_filled log s now filled none = let g = decide_extends log s now in filled (none_of_more log g.0 (sym g.1 ∙ none))
 
--- a document after a decision that may have found no memory
+-- a document after a decision whose allocation may have failed
 pub decided_document : {A E : Type 0} (log new : List PlainEntry) (s : PlainSubmission) (now : ℕ) (old present : Option Json) (kept : List Snapshot) (r : Result A E) → OnOk r (new ≡ (decide log s now).log) → OnErr r (new ≡ log)
     → IsMadeDocument new present → IsDocument log old kept → IsDocument new present kept
 decided_document log new s now old present kept (Ok x) ok err made d = record {
@@ -70,7 +70,7 @@ offers_none : (o : Option Value) (v : ℕ) (kept new : List Snapshot) → new �
 offers_none None v kept new e = e
 offers_none (Some d) v kept new e = inr e
 
--- nothing is there at version 0
+-- no snapshot is cached at version 0
 pub above_zero : (log : List PlainEntry) (v : ℕ) (kept : List Snapshot) (o : Option Snapshot) → AreSnapsOf log kept → nearest v kept ≡ o → is_some o ≡ true → 0 < v
 above_zero log v kept None snaps e some = cc
 above_zero log (suc v) kept (Some s) snaps e some = omega arith
@@ -80,6 +80,6 @@ above_zero log zero kept (Some s) snaps e some =
     let at : snap (take 0 log) ≡ Some (Some s.value) = ap (λ k. snap (take k log)) (sym z) ∙ (snap_of_nearest log 0 kept s snaps e).is in
     nothing_at_zero log s.value at
 
--- what is kept after a snapshot was used for a version: the nearest, and no replay
+-- the cache after the nearest snapshot was used without a replay
 pub used_only : (log : List PlainEntry) (v : ℕ) (kept new : List Snapshot) → v < length log → new ≡ promote_nearest v kept → CacheAfterRead log v kept new
 used_only log v kept new below is = inr (below, offers_none (document_of (take v log)) v (promote_nearest v kept) new is)

@@ -1,4 +1,4 @@
--- What a refusal leaves, and what a commit answers for it.
+-- The log after a refusal, and the outcome of its commit.
 use Rattle.std.proofs.Common.{◌≡◌, List, length, true, Option, Some, None, Result, Ok, Err, inl, inr, refl, sym, ap, ◌∙◌, ℕ}
 use Rattle.sdb_oplog.specs.declared.codes.Code.{Code}
 use Rattle.sdb_oplog.specs.declared.codes.Code.TheVariants.{E10}
@@ -6,10 +6,10 @@ use Rattle.sdb_oplog.specs.Plain.{PlainContent, PlainEntry, PlainSubmission}
 use Rattle.sdb_oplog.specs.Keys.{PlainKey, Logs, with_log}
 use Rattle.sdb_oplog.specs.Snap.{stored_at}
 use Rattle.sdb_oplog.specs.Decide.{decide, rebased_content, append_decided, refused, decide_allocates}
-use Rattle.sdb_oplog.specs.Laws.{decides_repeat, decides_settled}
+use Rattle.sdb_oplog.specs.laws.LogLaws.{decides_repeat, decides_settled}
 use Rattle.sdb_desk.specs.Machine.{PlainAttempt, DecidesOrOutOfMemory, CommitsOrOutOfMemory, IsRefusedByWork, decided}
 use Rattle.sdb_desk.specs.DocumentModel.{IsRefusalReplyOrOutOfMemory}
-use Rattle.sdb_desk.specs.MapLaws.{updated_at_same}
+use Rattle.sdb_desk.specs.laws.MapLaws.{updated_at_same}
 
 not_stored : (log : List PlainEntry) (s : PlainSubmission) (now : ℕ) (r : Result PlainContent Code) (code : Code) → (append_decided log s now r).reply ≡ refused code → (append_decided log s now r).log ≡ log
 not_stored log s now (Ok m) code h = cc
@@ -21,11 +21,11 @@ not_first log s now code None e h =
     let d = decides_settled log s now (rebased_content log s) e refl in
     ap (λ x. x.log) d ∙ not_stored log s now (rebased_content log s) code (sym (ap (λ x. x.reply) d) ∙ h)
 
--- a refusal leaves the log
+-- a refusal leaves the log unchanged
 refused_leaves : (log : List PlainEntry) (s : PlainSubmission) (now : ℕ) (code : Code) → (decide log s now).reply ≡ refused code → (decide log s now).log ≡ log
 refused_leaves log s now code h = not_first log s now code (stored_at s.src s.seq log) refl h
 
--- a decision that leaves the log
+-- a decision that leaves the log unchanged
 pub logs_unchanged_of_decide : (logs : Logs) (k : PlainKey) (s : PlainSubmission) (now : ℕ) → (decide (logs k) s now).log ≡ logs k → logs ≡ with_log logs k (decide (logs k) s now).log
 logs_unchanged_of_decide logs k s now e = updated_at_same logs k (decide (logs k) s now).log e
 

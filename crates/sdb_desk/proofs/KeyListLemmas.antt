@@ -1,4 +1,4 @@
--- The keys under which something is stored, out of the entries of a map.
+-- The keys of documents with entries, from the entries of a map.
 use Rattle.std.proofs.Common.{◌≡◌, List, [], ◌∷◌, Bool, true, false, cond, Some, unwrap_or, Less, refl, sym, subst, ◌∙◌}
 use Rattle.std.specs.BTreeMap.{is_at}
 use Rattle.std.specs.List.{AllByRecursion, list_any}
@@ -7,12 +7,12 @@ use Rattle.std.specs.Map.{keys_of, lookup}
 use Rattle.sdb_oplog.specs.Keys.{PlainKey, compare_keys, keys_equal, plain_key}
 use Rattle.sdb_oplog.specs.declared.keys.Key.{Key}
 use Rattle.sdb_desk.specs.MapModel.{value_at_key}
-use Rattle.sdb_desk.specs.Laws.{eq_of_keys_equal}
+use Rattle.sdb_desk.specs.laws.KeyLaws.{eq_of_keys_equal}
 use Rattle.sdb_desk.specs.StoredKeys.{IsKeyList}
 use Rattle.sdb_desk.specs.SlotModel.{PlainSlot, empty_slot}
 use Rattle.sdb_desk.specs.Machine.{is_nonempty}
 
--- the keys of the entries whose log isn't empty
+-- the keys of the slots whose log isn't empty
 abbrev pub nonempty_keys : List (Key × PlainSlot) → List PlainKey
 nonempty_keys [] = []
 nonempty_keys (e ∷ es) = cond (is_nonempty e.1.document.log) (plain_key e.0 ∷ nonempty_keys es) (nonempty_keys es)
@@ -38,7 +38,7 @@ unfolding IsStrictlySortedBy
 in_order [] ordered = tt
 in_order (e ∷ es) ordered = in_order_or (is_nonempty e.1.document.log) e es ordered.0 (in_order es ordered.1)
 
--- none of these is a
+-- a is none of these keys
 none_equal : (a : PlainKey) (ks : List PlainKey) → AllByRecursion (λ y. compare_keys a y ≡ Less) ks → list_any (keys_equal a) ks ≡ false
 none_equal a [] all = refl
 none_equal a (k ∷ ks) all = rw (all.0) (none_equal a ks all.1)
@@ -64,6 +64,6 @@ unfolding IsStrictlySortedBy
 member_of_nonempty_keys [] ordered k = refl
 member_of_nonempty_keys (e ∷ es) ordered k = found_or (keys_equal k (plain_key e.0)) e es k refl ordered.0 (member_of_nonempty_keys es ordered.1 k)
 
--- the keys that are kept of a map in order are those under which something is stored
+-- the nonempty keys of a sorted map are the key list
 pub nonempty_keys_are_key_list : (es : List (Key × PlainSlot)) → KeysAscend es → IsKeyList (λ k. (value_at_key empty_slot es k).document.log) (nonempty_keys es)
 nonempty_keys_are_key_list es ordered = record { in_order = in_order es ordered; whole = member_of_nonempty_keys es ordered }

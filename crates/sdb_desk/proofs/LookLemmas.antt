@@ -1,10 +1,10 @@
--- What a call leaves where it writes nothing.
+-- Calls that change nothing.
 use Rattle.std.proofs.Common.{◌≡◌, ℕ, ◌<◌, Bool, true, false, not, nat_eq, arith, List, [], ◌∷◌, length, Result, Ok, Err, OnOk, OnErr, IfOk, IfErr, refl, sym, ap, ◌∙◌}
 use Rattle.sdb_oplog.specs.Plain.{PlainEntry}
 use Rattle.sdb_oplog.specs.Keys.{PlainKey, keys_equal, with_log}
-use Rattle.sdb_desk.specs.MapLaws.{cond_same}
+use Rattle.sdb_desk.specs.laws.MapLaws.{cond_same}
 use Rattle.std.proofs.lemmas.Bool.{eqb-true}
-use Rattle.sdb_desk.specs.Laws.{eq_of_keys_equal}
+use Rattle.sdb_desk.specs.laws.KeyLaws.{eq_of_keys_equal}
 use Rattle.sdb_desk.specs.Machine.{is_nonempty}
 
 pub on_ok : {A E P Q : Type 0} (r : Result A E) → (P → Q) → OnOk r P → OnOk r Q
@@ -19,12 +19,12 @@ pub on_err_all : {A E P : Type 0} (r : Result A E) → P → OnErr r P
 on_err_all (Ok x) p = tt
 on_err_all (Err e) p = p
 
--- a log without entries
+-- a log of length 0 is empty
 pub no_snapshot : (log : List PlainEntry) → length log ≡ 0 → log ≡ []
 no_snapshot [] h = refl
 no_snapshot (e ∷ es) h = cc
 
--- writing nothing where nothing stands
+-- an update of an empty cache with the empty list
 pub no_cache : (f : PlainKey → List PlainEntry) (k : PlainKey) (l : List PlainEntry) → [] ≡ f k → [] ≡ l → f ≡ with_log f k l
 no_cache f k l there same = λ i q. cond_same (keys_equal k q) (f q) l (λ h. ap f (sym (eq_of_keys_equal k q h)) ∙ sym there ∙ same) i
 

@@ -1,12 +1,12 @@
--- What a write of one topic does to a part of each: to the logs, the snapshots that are kept, the queues.
+-- The effect of an update of one slot on the logs, the caches and the queues.
 use Rattle.std.proofs.Common.{◌≡◌, ℕ, List, [], ◌∷◌, ◌++◌, length, Bool, true, false, cond, refl, sym, ap, ◌∙◌, subst, arith, length-append}
 use Rattle.sdb_oplog.specs.Keys.{PlainKey, keys_equal, with_value_at_key}
 use Rattle.sdb_oplog.specs.Plain.{PlainEntry}
 use Rattle.sdb_snapcache.specs.CacheModel.{Snapshot}
 use Rattle.sdb_subscribe.specs.Queue.{PlainQueues}
 use Rattle.sdb_subscribe.specs.Ring.{RingedQueue, without_rings}
-use Rattle.sdb_desk.specs.MapLaws.{updated_at_same, updated_of_write_at, value_of_updated}
-use Rattle.sdb_desk.specs.Laws.{eq_of_keys_equal}
+use Rattle.sdb_desk.specs.laws.MapLaws.{updated_at_same, updated_of_write_at, value_of_updated}
+use Rattle.sdb_desk.specs.laws.KeyLaws.{eq_of_keys_equal}
 use Rattle.sdb_desk.specs.Rings.{RingsAfterAppend}
 use Rattle.sdb_desk.specs.SlotModel.{PlainSlot}
 
@@ -21,14 +21,14 @@ module _ {A : Type 0} (p : PlainSlot → A) (f g : PlainKey → PlainSlot) (k : 
   pub map_of_unchanged : g ≡ f → ◌≡◌ {A = PlainKey → A} (λ q. p (g q)) (λ q. p (f q))
   map_of_unchanged e = λ i q. p (e i q)
 
-  -- the part is as it was
+  -- this part is unchanged
   pub map_of_updated_same : g ≡ with_value_at_key f k w → p w ≡ p (f k) → ◌≡◌ {A = PlainKey → A} (λ q. p (g q)) (λ q. p (f q))
   map_of_updated_same e is = map_of_updated e ∙ (let old : PlainKey → A = λ q. p (f q) in sym (updated_at_same old k (p w) is))
 
 append_not_equal : (log : List PlainEntry) (e : PlainEntry) → log ≡ log ++ e ∷ [] → ⊥
 append_not_equal log e is = let l = length-append log (e ∷ []) in omega (arith, ap length is, l)
 
--- nothing is stored, and the rings are as they were
+-- the log and the ring buffers are unchanged
 pub not_noted : (log new : List PlainEntry) (qs after : List (ℕ × RingedQueue)) → new ≡ log → after ≡ qs → RingsAfterAppend log new qs after
 not_noted log new qs after is rings = record { unchanged_if_log_unchanged = λ _. rings; pushed_if_log_grows = λ e more. absurd (append_not_equal log e (sym is ∙ more)) }
 
@@ -37,7 +37,7 @@ noted_at : (b : Bool) (old w : PlainSlot) → (b ≡ true → RingsAfterAppend o
 noted_at true old w h = h refl
 noted_at false old w h = not_noted old.document.log old.document.log old.queues.queues old.queues.queues refl refl
 
--- a topic whose document is as it was, and its queues
+-- a slot whose document and queues are unchanged
 module _ (f g : PlainKey → PlainSlot) (k : PlainKey) (old w : PlainSlot) (found : old ≡ f k) (wrote : g ≡ with_value_at_key f k w) where
   pub logs_unchanged : w.document ≡ old.document → ◌≡◌ {A = PlainKey → List PlainEntry} (λ q. (g q).document.log) (λ q. (f q).document.log)
   logs_unchanged e = map_of_updated_same (λ t. t.document.log) f g k w wrote (ap (λ d. d.log) e ∙ ap (λ t. t.document.log) found)
@@ -66,7 +66,7 @@ module _ (f g : PlainKey → PlainSlot) (k : PlainKey) (old w : PlainSlot) (foun
   pub rings_written : ◌≡◌ {A = PlainKey → List (ℕ × RingedQueue)} (λ q. (g q).queues.queues) (with_value_at_key (λ q. (f q).queues.queues) k w.queues.queues)
   rings_written = map_of_updated (λ t. t.queues.queues) f g k w wrote
 
-  -- the rings of a key whose log may have grown
+  -- the ring buffers of a key whose log may have grown
   pub rings_noted : RingsAfterAppend old.document.log w.document.log old.queues.queues w.queues.queues
       → (q : PlainKey) → RingsAfterAppend (f q).document.log (g q).document.log (f q).queues.queues (g q).queues.queues
   rings_noted h q =

@@ -1,4 +1,4 @@
--- The open queues of all keys, out of the entries of a map.
+-- The open queues of all keys, from the entries of a map.
 use Rattle.std.proofs.Common.{◌≡◌, ℕ, ◌+◌, nat_lt, List, [], ◌∷◌, Bool, true, false, ◌||◌, min, length, Less, is_eq, refl, sym, ap, ◌∙◌, arith}
 use Rattle.std.specs.List.{AllByRecursion, IsDistinct, list_any}
 use Rattle.std.specs.List.Sorted.{IsStrictlySortedBy}
@@ -10,14 +10,14 @@ use Rattle.std.proofs.lemmas.Map.Keys.{IsDistinct-from_sorted}
 use Rattle.sdb_oplog.specs.Keys.{PlainKey, compare_keys, keys_equal, plain_key}
 use Rattle.sdb_oplog.specs.declared.keys.Key.{Key}
 use Rattle.sdb_subscribe.specs.Ring.{without_rings}
-use Rattle.sdb_desk.specs.Laws.{keys_equal_refl}
+use Rattle.sdb_desk.specs.laws.KeyLaws.{keys_equal_refl}
 use Rattle.sdb_desk.specs.Machine.{QueuesByKey}
 use Rattle.sdb_desk.specs.MapModel.{value_at_key}
-use Rattle.sdb_desk.specs.MapLaws.{keys_equal_comm}
+use Rattle.sdb_desk.specs.laws.MapLaws.{keys_equal_comm}
 use Rattle.sdb_desk.specs.OpenQueues.{open_count}
 use Rattle.sdb_desk.specs.SlotModel.{PlainSlot, empty_slot}
 
--- how many queues these topics have open
+-- the number of open queues of these slots
 abbrev pub open_total : List PlainSlot → ℕ
 open_total [] = 0
 open_total (t ∷ ts) = length (without_rings t.queues).queues + open_total ts
@@ -41,7 +41,7 @@ unfolding IsStrictlySortedBy
 in_order [] ordered = tt
 in_order (e ∷ es) ordered = (all_below_key (plain_key e.0) es ordered.0, in_order es ordered.1)
 
--- each of the keys stands there once
+-- the keys are distinct
 pub keys_distinct : (es : List (Key × PlainSlot)) → KeysAscend es → IsDistinct keys_equal (plain_keys es)
 keys_distinct es ordered = IsDistinct-from_sorted compare_keys (plain_keys es) (in_order es ordered)
 
@@ -54,19 +54,19 @@ none_or : (same : Bool) (e : Key × PlainSlot) (es : List (Key × PlainSlot)) (k
 none_or true e es k is none rest = let x : true ≡ false = sym is ∙ (or_false_elim (keys_equal k (plain_key e.0)) (list_any (keys_equal k) (plain_keys es)) none).0 in cc
 none_or false e es k is none rest = rw is (rest ((or_false_elim (keys_equal k (plain_key e.0)) (list_any (keys_equal k) (plain_keys es)) none).1))
 
--- a key that isn't among them has no queue
+-- any other key has no queue
 pub no_queue_of_other_key : (es : List (Key × PlainSlot)) (k : PlainKey) → is_member keys_equal (plain_keys es) k ≡ false → (queues_at es k).queues ≡ []
 no_queue_of_other_key [] k none = refl
 no_queue_of_other_key (e ∷ es) k none = none_or (keys_equal k (plain_key e.0)) e es k refl none (no_queue_of_other_key es k)
 
--- an entry before these keys makes no difference to them
+-- an entry before these keys doesn't change their count
 open_of_skip : (e : Key × PlainSlot) (es : List (Key × PlainSlot)) (ks : List PlainKey) → AllByRecursion (λ y. compare_keys (plain_key e.0) y ≡ Less) ks → open_count (queues_at (e ∷ es)) ks ≡ open_count (queues_at es) ks
 open_of_skip e es [] all = refl
 open_of_skip e es (k ∷ ks) all =
     let apart : keys_equal k (plain_key e.0) ≡ false = keys_equal_comm k (plain_key e.0) ∙ ap is_eq all.0 in
     rw (apart, open_of_skip e es ks all.1) refl
 
--- the topics have open what is open of their keys
+-- the count over slots is the count over their keys
 pub open_of_total : (es : List (Key × PlainSlot)) → KeysAscend es → open_count (queues_at es) (plain_keys es) ≡ open_total (values_of es)
 unfolding IsStrictlySortedBy
 open_of_total [] ordered = refl
@@ -75,7 +75,7 @@ open_of_total (e ∷ es) ordered =
     open_of_skip e es (plain_keys es) (all_below_key (plain_key e.0) es ordered.0) ∙ open_of_total es ordered.1 in
     rw (keys_equal_refl (plain_key e.0), rest) refl
 
--- a count up to a bound, of topics that are counted one after the other
+-- a bounded count over the slots before the rest
 pub record IsCountSoFar (all rest : List PlainSlot) (count : ℕ) : Type 0 where
   pub small : min count 18446744073709551615 ≡ count
   pub whole : min (count + open_total rest) 18446744073709551615 ≡ min (open_total all) 18446744073709551615

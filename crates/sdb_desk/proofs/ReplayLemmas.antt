@@ -1,4 +1,4 @@
--- What is lent of a log leads to the document.
+-- The replay of a replay base is the document.
 use Rattle.std.proofs.Common.{◌≡◌, ℕ, zero, suc, ◌+◌, ◌-◌, ◌≤◌, List, [], ◌∷◌, ◌++◌, take, drop, length, true, Option, Some, None, unwrap_or, refl, sym, ap, ◌∙◌, subst, arith}
 use Rattle.std.proofs.Math.Seq.{take-add, take-length}
 use Rattle.std.proofs.lemmas.List.{drop-take}
@@ -14,7 +14,7 @@ snap_from_step : (o : Option (Option Value)) (f g h : Option Value → Option (O
 snap_from_step None f g h e = refl
 snap_from_step (Some n) f g h e = e n
 
--- the document after two lists is the one after the first, and then after the second
+-- the replay of two lists is the replay of the first, then of the second
 snap_more : (d : Option Value) (xs ys : List PlainEntry) → snap_from d (xs ++ ys) ≡ option_and_then (λ n. snap_from n ys) (snap_from d xs)
 snap_more d [] ys = refl
 snap_more d (x ∷ xs) ys =
@@ -25,7 +25,7 @@ snap_some_step : (o : Option (Option Value)) (f g : Option Value → Option (Opt
 snap_some_step None f g h e = e
 snap_some_step (Some n) f g h e = h n e
 
--- a front of a log has a document too
+-- a prefix of a log has a document too
 snap_some_prefix : (es : List PlainEntry) (n : ℕ) (d : Option Value) → is_some (snap_from d es) ≡ true → is_some (snap_from d (take n es)) ≡ true
 snap_some_prefix [] zero d h = h
 snap_some_prefix [] (suc n) d h = h
@@ -70,7 +70,7 @@ no_entries_after v log =
     let z : v + 0 ≡ v = omega arith in
     ap (λ n. drop v (take n log)) (sym z) ∙ drop-take v 0 log
 
--- the present document
+-- the current document
 pub lends_present : (log : List PlainEntry) (v : ℕ) (d : Option Value) → v ≡ length log → d ≡ document_of log
     → IsReplayBase log v (record { version = v; snapshot = d; entries = [] })
 lends_present log v d is same =

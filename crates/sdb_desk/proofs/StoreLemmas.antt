@@ -12,13 +12,13 @@ use Rattle.sdb_oplog.specs.Refusal.{IsRefusalOrOutOfMemory}
 use Rattle.sdb_oplog.specs.Snap.{apply_content, snap, document_of}
 use Rattle.sdb_oplog.specs.Rebase.{rebase}
 use Rattle.sdb_oplog.specs.Decide.{decide, missed_entries, stored, apply_to_copy_allocates, decide_allocates, IsMade}
-use Rattle.sdb_oplog.specs.Laws.{out_of_memory_or_refusal, decides_over, document_of_snap, document_of_append, decides_stored, decides_refused, made_of_decide, apply_allocates_decide}
+use Rattle.sdb_oplog.specs.laws.LogLaws.{out_of_memory_or_refusal, decides_over, document_of_snap, document_of_append, decides_stored, decides_refused, made_of_decide, apply_allocates_decide}
 use Rattle.sdb_desk.specs.DocumentModel.{IsMadeDocument, CanStore, WillStore, IsRefusalReplyOrOutOfMemory}
 
 abbrev pub prepared_of : List PlainEntry → PlainSubmission → PlainReservedAppend
 prepared_of log s = record { log = log; submission = s }
 
--- the document after what is stored
+-- the document after an append
 makes_stored : (p : PlainReservedAppend) (log : List PlainEntry) (s : PlainSubmission) (now : ℕ) (content : Option PlainContent) (old : Option Json) (made : Option Value) → p ≡ prepared_of log s → IsMadeDocument log old → WillStore log s content made
     → snap (p.log ++ appended_entry p now content ∷ []) ≡ Some made
 makes_stored p log s now content old made is keeps settles =
@@ -30,7 +30,7 @@ pub lives_stored : (p : PlainReservedAppend) (log : List PlainEntry) (s : PlainS
     → is_some (snap (p.log ++ appended_entry p now content ∷ [])) ≡ true
 lives_stored p log s now content old made is keeps settles = ap is_some (makes_stored p log s now content old made is keeps settles)
 
--- what is decided
+-- the decision
 pub decided_stored : (p : PlainReservedAppend) (log : List PlainEntry) (s : PlainSubmission) (now : ℕ) (content : Option PlainContent) (made : Option Value) → p ≡ prepared_of log s → WillStore log s content made
     → decide log s now ≡ record { reply = stored (length log) (missed_entries log s); log = p.log ++ appended_entry p now content ∷ [] }
 decided_stored p log s now content made is settles =
@@ -45,7 +45,7 @@ keeps_stored r p log s now content old made is of keeps settles =
       made = subst P (sym (is ∙ sym (ap (λ d. d.log) (decided_stored p log s now content (option_map value_of made) of settles)))) (made_of_decide log s now keeps.made);
     }
 
--- what was refused on the way
+-- the refusal of a rebase
 pub carrying_refuses : (log : List PlainEntry) (s : PlainSubmission) (now : ℕ) (code : Code) → CanStore log s → rebase s.content (missed_entries log s) ≡ Err code → IsRefusalReplyOrOutOfMemory (decide log s now).reply code
 carrying_refuses log s now code new e = inr (ap (λ d. d.reply) (decides_over log s now code new.is_new new.has_room new.version_reached e))
 
@@ -56,7 +56,7 @@ carrying_or log s now code new (inr e) = carrying_refuses log s now code new e
 pub carrying_refused : (log : List PlainEntry) (s : PlainSubmission) (now : ℕ) (code : Code) → CanStore log s → IsRefusalOrOutOfMemory (rebase s.content (missed_entries log s)) code → IsRefusalReplyOrOutOfMemory (decide log s now).reply code
 carrying_refused log s now code new h = carrying_or log s now code new (out_of_memory_or_refusal (rebase s.content (missed_entries log s)) code h)
 
--- what the document refuses
+-- the refusal of the document
 document_refuses : (log : List PlainEntry) (s : PlainSubmission) (now : ℕ) (m : PlainContent) (code : Code) → CanStore log s → rebase s.content (missed_entries log s) ≡ Ok m → (code ≡ E10) ⊎ (apply_content m (document_of log) ≡ Err code) → IsRefusalReplyOrOutOfMemory (decide log s now).reply code
 document_refuses log s now m code new over (inl e) = inl e
 document_refuses log s now m code new over (inr e) = inr (ap (λ d. d.reply) (decides_refused log s now m code new.is_new new.has_room new.version_reached over e))
@@ -64,7 +64,7 @@ document_refuses log s now m code new over (inr e) = inr (ap (λ d. d.reply) (de
 pub making_refused : (log : List PlainEntry) (s : PlainSubmission) (now : ℕ) (m : PlainContent) (code : Code) → CanStore log s → rebase s.content (missed_entries log s) ≡ Ok m → IsRefusalOrOutOfMemory (apply_content m (document_of log)) code → IsRefusalReplyOrOutOfMemory (decide log s now).reply code
 making_refused log s now m code new over h = document_refuses log s now m code new over (out_of_memory_or_refusal (apply_content m (document_of log)) code h)
 
--- what is made takes memory to be stored
+-- an append allocates
 made_stored : (m : PlainContent) (d made : Option Value) → apply_content m d ≡ Ok made → apply_to_copy_allocates m d ≡ true
 made_stored (create v) None made e = refl
 made_stored (create v) (Some d) made e = cc

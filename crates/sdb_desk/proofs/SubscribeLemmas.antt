@@ -1,16 +1,16 @@
--- A subscribe: that opens no queue, and that opens one.
+-- A subscribe that is refused, and one that opens a queue.
 use Rattle.std.proofs.Common.{◌≡◌, ◌+◌, ℕ, List, [], ◌∷◌, ◌++◌, length, Bool, true, false, nat_eq, cond, nat_lt, Option, unwrap_or, Ok, Err, ◌⊎◌, inl, inr, refl, sym, ap, ◌∙◌, subst}
 use Rattle.std.specs.Result.{is_ok}
 use Rattle.sdb_oplog.specs.Plain.{PlainEntry}
 use Rattle.sdb_oplog.specs.declared.codes.Code.{Code}
 use Rattle.sdb_oplog.specs.declared.codes.Code.TheVariants.{E4, E10, E11}
 use Rattle.sdb_oplog.specs.Refusal.{IsRefusalOrOutOfMemory}
-use Rattle.sdb_oplog.specs.Laws.{out_of_memory_or_refusal}
+use Rattle.sdb_oplog.specs.laws.LogLaws.{out_of_memory_or_refusal}
 use Rattle.sdb_subscribe.specs.Queue.{PlainQueues, open_queue}
 use Rattle.sdb_value.specs.Value.{Value}
 use Rattle.sdb_desk.specs.Machine.{PlainFetchResult, queue_start, subscribe_opened, subscribe_step, subscribe_from_start, fetch_result, read_has_document, ReadOrOutOfMemory, SubscribesOrOutOfMemory}
 
--- the answer is due, or memory was wanting for a queue that could be opened
+-- the answer is due, or the allocation of a new queue failed
 subscribes_or : (log : List PlainEntry) (by : ℕ) (v : Option ℕ) (q new : PlainQueues) (code : Code) → nat_lt (length log) (unwrap_or v (length log)) ≡ false → nat_eq q.next 18446744073709551615 ≡ false → new ≡ q → (code ≡ E10) ⊎ (open_queue by (unwrap_or v (length log)) q ≡ Err code)
     → SubscribesOrOutOfMemory log by v q (Err code) new
 subscribes_or log by v q new code seen free same (inl e) =
@@ -34,7 +34,7 @@ start_is log v false s e is =
     let same : Ok s ≡ Ok (unwrap_or v (length log)) = sym is ∙ c in
     cc
 
--- a queue that may be opened: the numbers aren't used up, and its start is reached
+-- a queue that may be opened: a number is left, and its start exists
 pub subscribe_refused : (log : List PlainEntry) (by : ℕ) (v : Option ℕ) (s : ℕ) (q new : PlainQueues) (code : Code) → queue_start log v ≡ Ok s → nat_eq q.next 18446744073709551615 ≡ false
     → IsRefusalOrOutOfMemory (open_queue by s q) code → new ≡ q → SubscribesOrOutOfMemory log by v q (Err code) new
 subscribe_refused log by v s q new code is free h same =
@@ -43,7 +43,7 @@ subscribe_refused log by v s q new code is free h same =
     subscribes_or log by v q new code (start_seen log v test s refl is) free same
     (out_of_memory_or_refusal (open_queue by (unwrap_or v (length log)) q) code (subst (λ m. IsRefusalOrOutOfMemory (open_queue by m q) code) at h))
 
--- memory was wanting for the document
+-- the allocation of the document failed
 pub read_wanting : {A : Type 0} (takes : A → Bool) (code : Code) (x : A) → ReadOrOutOfMemory takes (Err code) (Ok x) → code ≡ E10
 read_wanting takes code x (inl h) = let w = h.0 in cc
 read_wanting takes code x (inr h) = cc
@@ -54,7 +54,7 @@ subscribe_wanting log by v s q new code is free e same =
     let test = nat_lt (length log) (unwrap_or v (length log)) in
     subscribes_or log by v q new code (start_seen log v test s refl is) free same (inl e)
 
--- a queue is opened, and shows the document
+-- a queue is opened and the document is returned
 pub subscribe_done : (log : List PlainEntry) (by : ℕ) (v : Option ℕ) (s id n : ℕ) (q new : PlainQueues) (d : Option Value) → queue_start log v ≡ Ok s → id ≡ q.next → open_queue by s q ≡ Ok new
     → ReadOrOutOfMemory read_has_document (Ok (record { version = n; snapshot = d })) (Ok (fetch_result log)) → SubscribesOrOutOfMemory log by v q (Ok (record { id = id; start = s; version = n; snapshot = d })) new
 subscribe_done log by v s id n q new d is at made (inl h) = let w = h.0 in cc

@@ -1,4 +1,4 @@
--- Codes of attempts, of documents and of topics, by which a proof tells them apart.
+-- Codes of attempts, documents and slots, which decide their equality.
 use Rattle.std.specs.Prelude.{ℕ, List, Option, refl}
 use Rattle.std.specs.Coded.{Coded, code_by, coded×, coded_ℕ, coded_option}
 use Rattle.sdb_oplog.specs.Plain.{PlainEntry, PlainSubmission}
@@ -13,7 +13,7 @@ use Rattle.sdb_subscribe.specs.Ring.{RingedQueues}
 use Rattle.sdb_desk.specs.Machine.{PlainLook, PlainAttempt}
 use Rattle.sdb_desk.specs.SlotModel.{PlainSlot}
 
--- version, repeat, missed, snapshot
+-- version, duplicate, missed entries, snapshot
 abbrev Look : Type 0
 Look = (ℕ × Option ℕ) × (List PlainEntry × Option Value)
 

@@ -1,4 +1,4 @@
--- What a document keeps beside its log, and a submission that will be stored unless the document refuses it.
+-- The state of a document, and a submission that will be stored unless the document refuses it.
 use Rattle.std.specs.Prelude.{◌≡◌, ◌≢◌, ℕ, ◌<◌, ◌≤◌, List, [], length, Option, Some, None, option_map, unwrap_or, Ok, ⊤, ◌⊎◌}
 use Rattle.sdb_value.specs.Value.{Value}
 use Rattle.sdb_value.specs.View.{value_of}
@@ -12,45 +12,45 @@ use Rattle.sdb_oplog.specs.declared.codes.Code.TheVariants.{E10}
 use Rattle.sdb_snapcache.specs.CacheModel.{Snapshot}
 use Rattle.sdb_snapcache.specs.SnapInvariant.{AreSnapsOf}
 
--- its log, and the snapshots that are kept of it
+-- the log and its cached snapshots
 pub record PlainDocument : Type 0 where
   pub log : List PlainEntry
   pub cache : List Snapshot
 
--- nothing is stored of it
+-- the document without entries
 abbrev pub empty_document : PlainDocument
 empty_document = record { log = []; cache = [] }
 
--- the document is the one that the log makes, and the log is made
+-- the current document is the snapshot of the log, and the log is made
 pub record IsMadeDocument (log : List PlainEntry) (present : Option Json) : Type 0 where
   pub makes : snap log ≡ Some (option_map value_of present)
   pub made : IsMade log
 
--- and something is stored, and what is kept are snapshots of the log
+-- the log isn't empty either, and the cache has snapshots of it
 pub record IsDocument (log : List PlainEntry) (present : Option Json) (kept : List Snapshot) : Type 0 where
   pub is_made : IsMadeDocument log present
   pub not_empty : log ≢ []
   pub cache_is_snaps : AreSnapsOf log kept
 
--- the submission is new, there is room, and its version has been reached
+-- the submission is no duplicate, the log isn't full, and its base version exists
 pub record CanStore (log : List PlainEntry) (s : PlainSubmission) : Type 0 where
   pub is_new : stored_at s.src s.seq log ≡ None
   pub has_room : length log < 9007199254740991
   pub version_reached : base_version log s ≤ length log
 
--- and along what it missed it became this content, which makes this document; without a content it stays as it arrived
+-- its rebased content is this one, or unchanged if absent, and it applies to the document with this result
 pub record WillStore (log : List PlainEntry) (s : PlainSubmission) (content : Option PlainContent) (made : Option Value)
     : Type 0 where
   pub new : CanStore log s
   pub rebased_is : rebase s.content (missed_entries log s) ≡ Ok (unwrap_or content s.content)
   pub makes : apply_content (unwrap_or content s.content) (document_of log) ≡ Ok made
 
--- a replay begins with the snapshot that was found, or with nothing at version 0
+-- a replay starts with the given snapshot, or with the absent document at version 0
 abbrev pub IsReplayStart : Option Snapshot → ℕ → Option Value → Type 0
 IsReplayStart None v d = (v ≡ 0) × (d ≡ None)
 IsReplayStart (Some s) v d = (v ≡ s.version) × (d ≡ Some s.value)
 
--- a reply that is this refusal, or memory was wanting
+-- the reply is this refusal, or an allocation failed
 abbrev pub IsRefusalReplyOrOutOfMemory : PlainReply → Code → Type 0
 IsRefusalReplyOrOutOfMemory r code = (code ≡ E10) ⊎ (r ≡ refused code)
 

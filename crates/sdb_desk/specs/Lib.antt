@@ -1,10 +1,8 @@
 pub mod Coding
 pub mod DocumentModel
-pub mod Laws
-pub mod LookLaws
 pub mod Machine
+pub mod Looks
 pub mod MapModel
-pub mod MapLaws
 pub mod OpenQueues
 pub mod Reads
 pub mod ReplyView
@@ -14,3 +12,4 @@ pub mod StoredKeys
 pub mod SlotModel
 pub mod View
 pub mod WorkInvariant
+pub mod laws

@@ -1,4 +1,4 @@
--- What a map holds at each key: something where nothing stands.
+-- The value of a map at each key, with a default.
 use Rattle.std.specs.Prelude.{List, unwrap_or}
 use Rattle.std.specs.Map.{lookup}
 use Rattle.std.specs.BTreeMap.{is_at}

@@ -1,17 +1,16 @@
--- How many queues are open, of all keys together.
+-- The number of open queues of all keys.
 use Rattle.std.specs.Prelude.{◌≡◌, ℕ, ◌+◌, min, List, [], ◌∷◌, length, false}
 use Rattle.std.specs.List.{IsDistinct}
 use Rattle.std.specs.Set.{is_member}
 use Rattle.sdb_oplog.specs.Keys.{PlainKey, keys_equal}
 use Rattle.sdb_desk.specs.Machine.{QueuesByKey}
 
--- how many are open of these keys
+-- the number of open queues of these keys
 abbrev pub open_count : QueuesByKey → List PlainKey → ℕ
 open_count q [] = 0
 open_count q (k ∷ ks) = length (q k).queues + open_count q ks
 
--- so many are open of all keys, or that is the greatest u64 and they are more: the keys of which any is open are among
--- some, each of which stands there once
+-- the number of open queues of all keys, at most the greatest u64; the keys with an open queue are among distinct keys
 pub record IsOpenCount (q : QueuesByKey) (n : ℕ) : Type 0 where
   pub keys : List PlainKey
   pub distinct : IsDistinct keys_equal keys

@@ -1,4 +1,4 @@
--- What a reply of the code stands for.
+-- The view of a reply.
 use Rattle.sdb_oplog.specs.Decide.{PlainReply, stored, repeated, refused}
 use Rattle.sdb_desk.specs.declared.document.Reply.{Reply}
 use Rattle.sdb_desk.specs.declared.document.Reply.TheVariants.{Stored, Repeat, Refused}

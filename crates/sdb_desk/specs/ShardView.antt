@@ -1,4 +1,4 @@
--- The logs, the kept snapshots, the queues and the rings of a shard.
+-- The logs, caches, queues and ring buffers of a shard.
 use Rattle.std.specs.Prelude.{ℕ, List, Option}
 use Rattle.sdb_oplog.specs.Keys.{PlainKey, Logs, with_value_at_key}
 use Rattle.sdb_oplog.specs.Plain.{PlainEntry}
@@ -10,18 +10,18 @@ use Rattle.sdb_desk.specs.Machine.{QueuesByKey, Machine}
 use Rattle.sdb_desk.specs.SlotModel.{PlainSlot, empty_slot}
 use Rattle.sdb_desk.specs.declared.shard.Shard.{Shard}
 
--- what is kept of each key
+-- the slot of each key
 abbrev pub slots_of : Shard → PlainKey → PlainSlot
 slots_of m = value_at_key empty_slot m.slots.entries
 
--- the document of each key, one of which nothing is stored where there is none
+-- the document of each key, empty by default
 abbrev pub documents_of : Shard → PlainKey → PlainDocument
 documents_of m k = (slots_of m k).document
 
 abbrev pub logs_of : Shard → Logs
 logs_of m k = (documents_of m k).log
 
--- the snapshots that are kept of each document, the one that was used last first
+-- the cached snapshots of each document, most recently used first
 abbrev pub CachesByKey : Type 0
 CachesByKey = PlainKey → List Snapshot
 
@@ -31,11 +31,11 @@ caches_of m k = (documents_of m k).cache
 abbrev pub with_cache : CachesByKey → PlainKey → List Snapshot → CachesByKey
 with_cache = with_value_at_key
 
--- the queues of each key, without their rings
+-- the queues of each key, without their ring buffers
 abbrev pub queues_of : Shard → QueuesByKey
 queues_of m k = without_rings (slots_of m k).queues
 
--- the open queues of each key with their rings, by their numbers
+-- the open queues of each key with their ring buffers, by number
 abbrev pub RingedQueuesByKey : Type 0
 RingedQueuesByKey = PlainKey → List (ℕ × RingedQueue)
 
@@ -45,7 +45,7 @@ ringed_queues_of m k = (slots_of m k).queues.queues
 abbrev pub with_ringed_queues : RingedQueuesByKey → PlainKey → List (ℕ × RingedQueue) → RingedQueuesByKey
 with_ringed_queues = with_value_at_key
 
--- the rings of each key, by the numbers of their queues
+-- the ring buffers of each key, by queue number
 abbrev pub rings_of : Shard → PlainKey → ℕ → Option (List PlainEntry)
 rings_of m k n = ring_at n (ringed_queues_of m k)
 

@@ -1,4 +1,4 @@
--- What looks, attempts and answers of the code stand for.
+-- The views of looks, attempts and outcomes.
 use Rattle.std.specs.Prelude.{List, Option, Some, None, option_map, Result, Ok, Err, Vec}
 use Rattle.std.specs.declared.alloc.AllocError.{AllocError}
 use Rattle.std.specs.declared.alloc.Global.{Global}
@@ -35,12 +35,12 @@ plain_look l =
 abbrev pub plain_attempt : Attempt → PlainAttempt
 plain_attempt a = record { submission = a.submission; look = plain_look a.look }
 
--- the document that was made, or the code that refuses it
+-- the new document, or the code that refuses it
 abbrev pub plain_document_result : Result (Option Json) Code → Result (Option Value) Code
 plain_document_result (Ok d) = Ok (option_map value_of d)
 plain_document_result (Err code) = Err code
 
--- the content that was worked, or the code that refuses it
+-- the rebased content, or the code that refuses it
 abbrev pub rebased_content_of : PlainContent → RebasedContent → Result PlainContent Code
 rebased_content_of arrived Unchanged = Ok arrived
 rebased_content_of arrived (Changed content) = Ok content
@@ -50,7 +50,7 @@ abbrev pub plain_outcome : Outcome → PlainOutcome
 plain_outcome (Decided r) = decided (plain_reply r)
 plain_outcome (Moved l) = moved (plain_look l)
 
--- what a commit of the attempt answers: where it is stored, with the entries that the attempt shows as missed
+-- the outcome of a decision; a stored submission has the missed entries of its attempt
 abbrev pub outcome_of_decision : PlainAttempt → CommitDecision → PlainOutcome
 outcome_of_decision a (Store v) = decided (stored v a.look.missed)
 outcome_of_decision a (Reply o) = plain_outcome o

@@ -1,4 +1,4 @@
--- What was worked of an attempt.
+-- The invariant of a work.
 use Rattle.std.specs.Prelude.{◌≡◌, Option, None, Result}
 use Rattle.sdb_value.specs.Value.{Value}
 use Rattle.sdb_oplog.specs.Rebase.{rebase}
@@ -6,7 +6,8 @@ use Rattle.sdb_oplog.specs.Plain.{PlainContent}
 use Rattle.sdb_oplog.specs.declared.codes.Code.{Code}
 use Rattle.sdb_desk.specs.Machine.{PlainAttempt, work_result}
 
--- its content came along what the look shows as missed. Where the look shows no repeat, this is what comes of the document
+-- the content is transformed against the look's missed entries and, if the look has no duplicate, applied to its
+-- document
 pub record WorkInvariant (a : PlainAttempt) (content : Result PlainContent Code) (made : Result (Option Value) Code)
     : Type 0 where
   pub carries : content ≡ rebase a.submission.content a.look.missed

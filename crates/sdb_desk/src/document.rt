@@ -1,4 +1,4 @@
-//! One document: its log, and what it makes.
+//! One document: its log and its current value.
 ghost use Rattle.std.specs.Prelude.{◌≡◌, ◌≢◌, ℕ, ◌<◌, ◌≤◌, [], ◌∷◌, true, length, take, OnOk, OnErr, IfOk, IfErr, IsErrOf, IfSome, OnSome, IfNone, is_some, Some, Ok, Err, option_map, unwrap_or};
 ghost use Rattle.sdb_value.specs.Uniqueness.{is_frozen};
 ghost use Rattle.sdb_value.specs.View.{value_of};
@@ -24,18 +24,18 @@ use std::alloc::{AllocError, Global};
 use std::marker::Model;
 use std::mem;
 
-/// What a submission is answered.
+/// The reply to a submission.
 #[derive(Drop)]
 pub enum Reply {
-    /// It is stored: the version that it was stored at, and the entries that it had not seen.
+    /// Stored at version `v`, with the entries stored since the submission's base version.
     Stored { v: u64, missed: Vec<Entry> },
-    /// It was stored long since, at this version.
+    /// A duplicate of the submission stored at version `v`.
     Repeat { v: u64 },
-    /// It is refused, and nothing has changed. E10 is want of memory.
+    /// Refused, without any change. E10 is an allocation failure.
     Refused(Code),
 }
 
-// A log that isn't empty, with the document that it makes beside it, and snapshots of older versions.
+// A log that isn't empty, its current value, and a cache of snapshots at older versions.
 #[derive(Drop)]
 pub(crate) struct Document {
     log: Log,
@@ -57,7 +57,7 @@ impl Model for Document {
 }
 
 impl Document {
-    // What a submission that is the first of its key makes.
+    // Creates the document of the first submission of a key.
     pub(crate) fn with_first_entry(
         alloc: Global,
         submission: Submission,
@@ -67,7 +67,7 @@ impl Document {
     ) -> Result<Document, AllocError>
         requires { WillStore [] submission content (option_map value_of made) }
         ensures log { IfOk result (λ d. d.log ≡ (decide [] submission now).log) }
-        ensures kept { IfOk result (λ d. d.cache ≡ []) }
+        ensures cache { IfOk result (λ d. d.cache ≡ []) }
         ensures reply { OnOk result ((decide [] submission now).reply ≡ stored 0 (missed_entries [] submission)) }
     {
         let mut log = Log::new(alloc);
@@ -91,39 +91,39 @@ impl Document {
 
     pub(crate) fn log(&self) -> &Log
         ensures log { result.now ≡ self.now.log }
-        ensures filled { self.now.log ≢ [] }
-        ensures made { IsMade self.now.log }
+        ensures nonempty { self.now.log ≢ [] }
+        ensures is_made { IsMade self.now.log }
     {
         &self.log
     }
 
-    // The present document.
+    // Returns the current value.
     pub(crate) fn current(&self) -> Option<&Json>
         ensures { option_map (λ v. value_of v.now) result ≡ document_of self.now.log }
     {
         self.current.as_ref()
     }
 
-    // A copy of the present document, which shares all of it.
+    // Returns a clone of the current value, after freezing it.
     pub(crate) fn freeze(&mut self, alloc: Global) -> Result<Option<Json>, AllocError>
         ensures copy { IfOk result (λ d. option_map value_of d ≡ document_of self.old.log) }
-        ensures pointer { IfOk result (λ d. IfSome d (λ v. is_frozen v ≡ true)) }
-        ensures some { OnErr result (is_some (document_of self.old.log) ≡ true) }
-        ensures same { self.new ≡ self.old }
+        ensures frozen { IfOk result (λ d. IfSome d (λ v. is_frozen v ≡ true)) }
+        ensures memory { OnErr result (is_some (document_of self.old.log) ≡ true) }
+        ensures unchanged { self.new ≡ self.old }
     {
         freeze_document(alloc, &mut self.current)
     }
 
-    // How many snapshots are kept.
+    // Returns the number of cached snapshots.
     pub(crate) fn cached_count(&self) -> usize
         ensures count { result ≡ length self.now.cache }
-        ensures few { length self.now.cache ≤ 8 }
+        ensures bound { length self.now.cache ≤ 8 }
         ensures snaps { AreSnapsOf self.now.log self.now.cache }
     {
         self.cache.len()
     }
 
-    // Stores now what a submission has become, with the document that it makes.
+    // Appends a submission with its rebased content and the new value.
     pub(crate) fn append(
         &mut self,
         alloc: Global,
@@ -136,7 +136,7 @@ impl Document {
         ensures log { OnOk result (self.new.log ≡ (decide self.old.log submission now).log) }
         ensures reply { OnOk result ((decide self.old.log submission now).reply ≡
             stored (length self.old.log) (missed_entries self.old.log submission)) }
-        ensures same { OnErr result (self.new.log ≡ self.old.log) }
+        ensures unchanged_on_err { OnErr result (self.new.log ≡ self.old.log) }
         ensures kept { self.new.cache ≡ self.old.cache }
     {
         let Document {
@@ -147,15 +147,15 @@ impl Document {
         append_entry(alloc, log, present, submission, now, content, made)
     }
 
-    // The document at a version, made of the nearest snapshot that is kept. It is kept then, where there
-    // is memory for it.
+    // Returns the document at a version, replayed from the nearest cached snapshot. The result is
+    // cached unless an allocation fails.
     pub(crate) fn snapshot_at(&mut self, alloc: Global, version: u64) -> Result<Option<Json>, Code>
         requires { version ≤ length self.old.log }
         ensures snap { IfOk result (λ d. snap (take version self.old.log) ≡ Some (option_map value_of d)) }
         ensures err { IfErr result (λ code. code ≡ E10) }
         ensures memory { OnErr result (0 < version) }
         ensures log { self.new.log ≡ self.old.log }
-        ensures kept { CacheAfterRead self.old.log version self.old.cache self.new.cache }
+        ensures cache { CacheAfterRead self.old.log version self.old.cache self.new.cache }
     {
         if version == self.log.len() {
             return Ok(self.freeze(alloc)?);
@@ -169,19 +169,20 @@ impl Document {
         Ok(snapshot)
     }
 
-    // What the document at a version is made of: the nearest snapshot that is kept, and the entries behind it.
+    // Returns the replay base of a version: the nearest cached snapshot and the entries after it.
     pub(crate) fn replay_base(
         &mut self,
         alloc: Global,
         version: u64,
     ) -> Result<ReplayBase, AllocError>
         requires { version ≤ length self.old.log }
-        ensures lends { IfOk result (λ l. IsReplayBase self.old.log version (plain_replay_base l)) }
-        ensures from { IfOk result (λ l. IsCachedReplayBase self.old.log self.old.cache version (plain_replay_base l)) }
-        ensures present { IfOk result (λ l. version ≡ length self.old.log → l.entries.items ≡ []) }
+        ensures replay_base { IfOk result (λ l. IsReplayBase self.old.log version (plain_replay_base l)) }
+        ensures cached_base { IfOk result (λ l. IsCachedReplayBase self.old.log self.old.cache version
+            (plain_replay_base l)) }
+        ensures current_version { IfOk result (λ l. version ≡ length self.old.log → l.entries.items ≡ []) }
         ensures memory { OnErr result (0 < version) }
         ensures log { self.new.log ≡ self.old.log }
-        ensures kept { CacheAfterUse self.old.log version self.old.cache self.new.cache }
+        ensures cache { CacheAfterUse self.old.log version self.old.cache self.new.cache }
     {
         if self.log.len() == version {
             return Ok(ReplayBase {
@@ -200,8 +201,7 @@ impl Document {
         })
     }
 
-    // The kept snapshot of the greatest version up to this one; without one the version 0, where nothing
-    // is.
+    // Returns the nearest cached snapshot up to this version, or the absent document at version 0.
     fn nearest(&mut self, alloc: Global, version: u64) -> Result<(u64, Option<Json>), AllocError>
         requires { version ≤ length self.old.log }
         ensures up_to { IfOk result (λ r. r.0 ≤ version) }
@@ -210,26 +210,26 @@ impl Document {
             (option_map value_of r.1)) }
         ensures memory { OnErr result (0 < version) }
         ensures log { self.new.log ≡ self.old.log }
-        ensures kept { self.new.cache ≡ promote_nearest version self.old.cache }
+        ensures cache { self.new.cache ≡ promote_nearest version self.old.cache }
     {
         let found = clone_nearest(alloc, &mut self.cache, version)?;
         Ok(replay_start(found))
     }
 
-    // Keeps a copy of the snapshot, where there is one, and memory for it.
+    // Caches a clone of the snapshot, unless it is absent or an allocation fails.
     pub(crate) fn offer(&mut self, alloc: Global, version: u64, snapshot: Option<&Json>)
-        requires reached { version ≤ length self.old.log }
+        requires bound { version ≤ length self.old.log }
         requires snapshot { document_of (take version self.old.log) ≡ option_map (λ v. value_of v.now) snapshot }
         ensures log { self.new.log ≡ self.old.log }
-        ensures kept { CacheAfterOffer version (option_map (λ v. value_of v.now) snapshot.entry) self.old.cache self.new.cache }
-        ensures made { IsMade self.old.log }
+        ensures cache { CacheAfterOffer version (option_map (λ v. value_of v.now) snapshot.entry) self.old.cache self.new.cache }
+        ensures is_made { IsMade self.old.log }
     {
         if let Ok(Some(copy)) = clone_document(alloc, snapshot) {
             let _ = self.cache.offer(version, copy);
         }
     }
 
-    // Lets the kept snapshots go.
+    // Empties the snapshot cache.
     pub(crate) fn forget(&mut self)
         ensures log { self.new.log ≡ self.old.log }
         ensures kept { self.new.cache ≡ [] }
@@ -238,15 +238,15 @@ impl Document {
     }
 }
 
-// The kept snapshot of the greatest version up to this one, copied.
+// Returns a clone of the nearest cached snapshot up to this version.
 fn clone_nearest(
     alloc: Global,
     cache: &mut Cache,
     version: u64,
 ) -> Result<Option<(u64, Json)>, AllocError>
     ensures found { IfOk result (λ o. option_map plain_snapshot o ≡ nearest version cache.old) }
-    ensures used { cache.new ≡ promote_nearest version cache.old }
-    ensures some { OnErr result (is_some (nearest version cache.old) ≡ true) }
+    ensures cache { cache.new ≡ promote_nearest version cache.old }
+    ensures memory { OnErr result (is_some (nearest version cache.old) ≡ true) }
 {
     match cache.nearest(version) {
         Some((at, value)) => Ok(Some((at, value.try_clone(alloc)?))),
@@ -254,7 +254,7 @@ fn clone_nearest(
     }
 }
 
-// The version and the document to begin a replay with.
+// Returns the version and the document from which a replay starts.
 fn replay_start(found: Option<(u64, Json)>) -> (u64, Option<Json>)
     ensures { IsReplayStart (option_map plain_snapshot found) result.0 (option_map value_of result.1) }
 {
@@ -264,14 +264,14 @@ fn replay_start(found: Option<(u64, Json)>) -> (u64, Option<Json>)
     }
 }
 
-// A copy of a document, which may be none, all of it shared: the next copy of it is a pointer.
+// Clones a document, which may be absent. The clone is frozen.
 pub(crate) fn clone_document(
     alloc: Global,
     document: Option<&Json>,
 ) -> Result<Option<Json>, AllocError>
     ensures copy { IfOk result (λ d. option_map value_of d ≡ option_map (λ v. value_of v.now) document.entry) }
-    ensures pointer { IfOk result (λ d. IfSome d (λ v. is_frozen v ≡ true)) }
-    ensures some { OnErr result (is_some document.entry ≡ true) }
+    ensures frozen { IfOk result (λ d. IfSome d (λ v. is_frozen v ≡ true)) }
+    ensures memory { OnErr result (is_some document.entry ≡ true) }
 {
     match document {
         Some(value) => Ok(Some(value.frozen_clone(alloc)?)),
@@ -279,13 +279,13 @@ pub(crate) fn clone_document(
     }
 }
 
-// A copy of a document, which may be none. It and the document share all of it then; what they shared before
-// costs a pointer.
+// Freezes a document, which may be absent, and clones it. Only the parts that weren't frozen before
+// cost more than a pointer.
 fn freeze_document(alloc: Global, document: &mut Option<Json>) -> Result<Option<Json>, AllocError>
     ensures copy { IfOk result (λ d. option_map value_of d ≡ option_map value_of document.old) }
-    ensures pointer { IfOk result (λ d. IfSome d (λ v. is_frozen v ≡ true)) }
-    ensures same { option_map value_of document.new ≡ option_map value_of document.old }
-    ensures some { OnErr result (is_some document.old ≡ true) }
+    ensures frozen { IfOk result (λ d. IfSome d (λ v. is_frozen v ≡ true)) }
+    ensures unchanged { option_map value_of document.new ≡ option_map value_of document.old }
+    ensures memory { OnErr result (is_some document.old ≡ true) }
 {
     match document {
         Some(value) => Ok(Some(freeze_value(alloc, value)?)),
@@ -295,14 +295,14 @@ fn freeze_document(alloc: Global, document: &mut Option<Json>) -> Result<Option<
 
 fn freeze_value(alloc: Global, value: &mut Json) -> Result<Json, AllocError>
     ensures copy { IfOk result (λ v. value_of v ≡ value_of value.old) }
-    ensures pointer { IfOk result (λ v. is_frozen v ≡ true) }
-    ensures same { value_of value.new ≡ value_of value.old }
+    ensures frozen { IfOk result (λ v. is_frozen v ≡ true) }
+    ensures unchanged { value_of value.new ≡ value_of value.old }
 {
     value.freeze(alloc)?;
     value.frozen_clone(alloc)
 }
 
-// Makes a document, which may be none, shared: the next copy of it is a pointer.
+// Freezes a document, which may be absent.
 fn freeze_all(alloc: Global, document: &mut Option<Json>) -> Result<(), AllocError>
     ensures { option_map value_of document.new ≡ option_map value_of document.old }
 {
@@ -312,13 +312,12 @@ fn freeze_all(alloc: Global, document: &mut Option<Json>) -> Result<(), AllocErr
     }
 }
 
-// What a submission is answered whatever it asks and whenever, where it isn't to be carried: a repeat, a full
-// log, a version too new.
+// Returns the reply that needs no rebase, if there is one: duplicate, full log, or version too new.
 pub(crate) fn early_reply(log: &Log, submission: &Submission) -> Option<Reply>
     ensures reply { (t : ℕ) → IfSome result (λ r. plain_reply r ≡ (decide log.now submission.now t).reply) }
     ensures log { (t : ℕ) → OnSome result ((decide log.now submission.now t).log ≡ log.now) }
     ensures unstored { IfSome result (λ r. StoresNothing (plain_reply r)) }
-    ensures open { IfNone result (CanStore log.now submission.now) }
+    ensures can_store { IfNone result (CanStore log.now submission.now) }
 {
     if let Some(v) = log.stored_at(submission.src(), submission.seq()) {
         return Some(Reply::Repeat { v });
@@ -333,8 +332,8 @@ pub(crate) fn early_reply(log: &Log, submission: &Submission) -> Option<Reply>
     None
 }
 
-// What a content makes of a document, which may be none: a copy, all of it shared, which shares with the document
-// what the content doesn't touch. A delete takes no memory.
+// Applies a content to a clone of a document, which may be absent, and freezes the result. A delete
+// doesn't allocate.
 pub(crate) fn apply_content(
     alloc: Global,
     content: &Content,
@@ -358,7 +357,7 @@ pub(crate) fn apply_content(
     Ok(made)
 }
 
-// Refuses a create on a document, and an edit of none.
+// Refuses a create on a present document and an edit of an absent one.
 fn check_presence(content: &Content, document: Option<&Json>) -> Result<(), Code>
     ensures ok { OnOk result
         (apply_to_copy_allocates content.now (option_map (λ v. value_of v.now) document.entry) ≡ true) }
@@ -378,7 +377,8 @@ fn check_presence(content: &Content, document: Option<&Json>) -> Result<(), Code
     }
 }
 
-// Stores what a submission has become, and swaps in the document that it makes.
+// Appends a submission with its rebased content, and replaces the current value. Space is reserved
+// first, so the append can't fail.
 fn append_entry(
     alloc: Global,
     log: &mut Log,
@@ -393,7 +393,7 @@ fn append_entry(
     ensures log { OnOk result (log.new ≡ (decide log.old submission now).log) }
     ensures reply { OnOk result
         ((decide log.old submission now).reply ≡ stored (length log.old) (missed_entries log.old submission)) }
-    ensures same { OnErr result (log.new ≡ log.old) }
+    ensures unchanged_on_err { OnErr result (log.new ≡ log.old) }
     ensures document { IsMadeDocument log.new present.new }
 {
     match mem::replace(log, Log::new(alloc)).reserve_append(submission) {
@@ -409,7 +409,7 @@ fn append_entry(
     }
 }
 
-// What a look at the log, and at the document that it makes, shows for a submission.
+// Returns a look at the log and the current value, for a submission.
 pub(crate) fn look_at(
     alloc: Global,
     log: &Log,
@@ -437,7 +437,7 @@ pub(crate) fn look_at(
     })
 }
 
-// The entries that the submission has not seen.
+// Returns the entries stored since the submission's base version.
 pub(crate) fn missed_entries<'l>(log: &'l Log, submission: &Submission) -> &'l [Entry]
     ensures { result.now ≡ missed_entries log.now submission.now }
 {
@@ -446,7 +446,7 @@ pub(crate) fn missed_entries<'l>(log: &'l Log, submission: &Submission) -> &'l [
     log.entries_from(since)
 }
 
-// The entries from a version on, before another one, as far as the log has come.
+// Returns the entries from a version on, before another one; fewer if the log ends before.
 pub(crate) fn entries_between(log: &Log, from: u64, to: u64) -> &[Entry]
     ensures { result.now ≡ operations_between log.now from to }
 {

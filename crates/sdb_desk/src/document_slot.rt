@@ -1,4 +1,4 @@
-//! What is kept of a key: a document, those who follow it, or both.
+//! The slot of a key: a document, queues, or both.
 ghost use Rattle.std.specs.Prelude.{◌≡◌, ◌≢◌, ◌≤◌, ◌<◌, ◌++◌, ◌∷◌, List, [], length, take, is_some, true, IfOk, IfErr, IfSome, OnOk, OnErr, Ok, Err, Some, None, option_map, unwrap_or};
 ghost use Rattle.sdb_value.specs.Uniqueness.{is_frozen};
 ghost use Rattle.sdb_value.specs.View.{value_of};
@@ -24,7 +24,7 @@ use sdb_value::Json;
 use std::alloc::{AllocError, Global};
 use std::marker::Model;
 
-// A document and the queues of those who follow it. The rings of the queues fit its log.
+// A document and its queues. The queues' ring buffers hold entries of its log.
 #[derive(Drop)]
 pub(crate) struct DocumentSlot {
     document: Option<Box<Document>>,
@@ -46,7 +46,7 @@ impl Model for DocumentSlot {
 }
 
 impl DocumentSlot {
-    // Nothing stored, and no queue.
+    // Creates a slot without entries and queues.
     pub(crate) fn new(alloc: Global) -> DocumentSlot
         ensures { result ≡ empty_slot }
     {
@@ -56,7 +56,7 @@ impl DocumentSlot {
         }
     }
 
-    // The document, if something is stored of it.
+    // Returns the document, if it has entries.
     pub(crate) fn document(&self) -> Option<&Document>
         ensures { unwrap_or (option_map (λ d. d.now) result) empty_document ≡ self.now.document }
     {
@@ -66,21 +66,22 @@ impl DocumentSlot {
         }
     }
 
-    // Whether something is stored.
+    // Returns whether the log has entries.
     pub(crate) fn has_document(&self) -> bool
         ensures { result ≡ is_nonempty self.now.document.log }
     {
         version_of(&self.document) != 0
     }
 
-    // The queues.
+    // Returns the queues.
     pub(crate) fn queues(&self) -> &Queues
         ensures { result.now ≡ self.now.queues }
     {
         &self.queues
     }
 
-    // Stores now what a submission has become, with the document that it makes, and tells the rings.
+    // Appends a submission with its rebased content and the new value, and pushes the entry to the
+    // ring buffers.
     pub(crate) fn append(
         &mut self,
         alloc: Global,
@@ -93,7 +94,7 @@ impl DocumentSlot {
         ensures log { OnOk result (self.new.document.log ≡ (decide self.old.document.log submission now).log) }
         ensures reply { OnOk result ((decide self.old.document.log submission now).reply ≡
             stored (length self.old.document.log) (missed_entries self.old.document.log submission)) }
-        ensures same { OnErr result (self.new.document.log ≡ self.old.document.log) }
+        ensures unchanged_on_err { OnErr result (self.new.document.log ≡ self.old.document.log) }
         ensures kept { self.new.document.cache ≡ self.old.document.cache }
         ensures queues { without_rings self.new.queues ≡ without_rings self.old.queues }
         ensures rings { RingsAfterAppend self.old.document.log self.new.document.log
@@ -105,12 +106,12 @@ impl DocumentSlot {
         Ok(())
     }
 
-    // A copy of the present document, which shares all of it.
+    // Returns a clone of the current value, after freezing it.
     pub(crate) fn freeze(&mut self, alloc: Global) -> Result<Option<Json>, AllocError>
         ensures copy { IfOk result (λ d. option_map value_of d ≡ document_of self.old.document.log) }
-        ensures pointer { IfOk result (λ d. IfSome d (λ v. is_frozen v ≡ true)) }
-        ensures some { OnErr result (is_some (document_of self.old.document.log) ≡ true) }
-        ensures same { self.new ≡ self.old }
+        ensures frozen { IfOk result (λ d. IfSome d (λ v. is_frozen v ≡ true)) }
+        ensures memory { OnErr result (is_some (document_of self.old.document.log) ≡ true) }
+        ensures unchanged { self.new ≡ self.old }
     {
         match &mut self.document {
             Some(document) => document.freeze(alloc),
@@ -118,15 +119,15 @@ impl DocumentSlot {
         }
     }
 
-    // The document at a version, made of the nearest snapshot that is kept.
+    // Returns the document at a version, replayed from the nearest cached snapshot.
     pub(crate) fn snapshot_at(&mut self, alloc: Global, version: u64) -> Result<Option<Json>, Code>
         requires { version ≤ length self.old.document.log }
         ensures snap { IfOk result (λ d. snap (take version self.old.document.log) ≡ Some (option_map value_of d)) }
         ensures err { IfErr result (λ code. code ≡ E10) }
         ensures memory { OnErr result (0 < version) }
         ensures log { self.new.document.log ≡ self.old.document.log }
-        ensures kept { CacheAfterRead self.old.document.log version self.old.document.cache self.new.document.cache }
-        ensures queues { self.new.queues ≡ self.old.queues }
+        ensures cache { CacheAfterRead self.old.document.log version self.old.document.cache self.new.document.cache }
+        ensures queues_unchanged { self.new.queues ≡ self.old.queues }
     {
         match &mut self.document {
             Some(document) => document.snapshot_at(alloc, version),
@@ -134,21 +135,21 @@ impl DocumentSlot {
         }
     }
 
-    // What the document at a version is made of.
+    // Returns the replay base of a version.
     pub(crate) fn replay_base(
         &mut self,
         alloc: Global,
         version: u64,
     ) -> Result<ReplayBase, AllocError>
         requires { version ≤ length self.old.document.log }
-        ensures lends { IfOk result (λ l. IsReplayBase self.old.document.log version (plain_replay_base l)) }
-        ensures from { IfOk result
+        ensures replay_base { IfOk result (λ l. IsReplayBase self.old.document.log version (plain_replay_base l)) }
+        ensures cached_base { IfOk result
             (λ l. IsCachedReplayBase self.old.document.log self.old.document.cache version (plain_replay_base l)) }
-        ensures present { IfOk result (λ l. version ≡ length self.old.document.log → l.entries.items ≡ []) }
+        ensures current_version { IfOk result (λ l. version ≡ length self.old.document.log → l.entries.items ≡ []) }
         ensures memory { OnErr result (0 < version) }
         ensures log { self.new.document.log ≡ self.old.document.log }
-        ensures kept { CacheAfterUse self.old.document.log version self.old.document.cache self.new.document.cache }
-        ensures queues { self.new.queues ≡ self.old.queues }
+        ensures cache { CacheAfterUse self.old.document.log version self.old.document.cache self.new.document.cache }
+        ensures queues_unchanged { self.new.queues ≡ self.old.queues }
     {
         match &mut self.document {
             Some(document) => document.replay_base(alloc, version),
@@ -156,23 +157,23 @@ impl DocumentSlot {
         }
     }
 
-    // Keeps the document at a version, where there is one, and memory for it.
+    // Caches the document at a version, unless it is absent or an allocation fails.
     pub(crate) fn offer(&mut self, alloc: Global, version: u64, snapshot: Option<&Json>)
-        requires reached { version ≤ length self.old.document.log }
+        requires bound { version ≤ length self.old.document.log }
         requires snapshot { document_of (take version self.old.document.log)
             ≡ option_map (λ v. value_of v.now) snapshot }
         ensures log { self.new.document.log ≡ self.old.document.log }
-        ensures kept { CacheAfterOffer version (option_map (λ v. value_of v.now) snapshot.entry)
+        ensures cache { CacheAfterOffer version (option_map (λ v. value_of v.now) snapshot.entry)
             self.old.document.cache self.new.document.cache }
-        ensures made { IsMade self.old.document.log }
-        ensures queues { self.new.queues ≡ self.old.queues }
+        ensures is_made { IsMade self.old.document.log }
+        ensures queues_unchanged { self.new.queues ≡ self.old.queues }
     {
         if let Some(document) = &mut self.document {
             document.offer(alloc, version, snapshot);
         }
     }
 
-    // Lets the kept snapshots go.
+    // Empties the snapshot cache.
     pub(crate) fn forget(&mut self)
         ensures log { self.new.document.log ≡ self.old.document.log }
         ensures kept { self.new.document.cache ≡ [] }
@@ -183,7 +184,7 @@ impl DocumentSlot {
         }
     }
 
-    // Opens a queue of a number.
+    // Opens a queue for an owner number.
     pub(crate) fn open(&mut self, by: u64, start: u64) -> Result<SubId, Code>
         ensures id { IfOk result (λ id. id ≡ (without_rings self.old.queues).next) }
         ensures ok { OnOk result (open_queue by start (without_rings self.old.queues)
@@ -193,7 +194,7 @@ impl DocumentSlot {
             Some (record { start = start; taken = 0; by = by })) }
         ensures err { IfErr result (λ code. IsRefusalOrOutOfMemory (open_queue by start
             (without_rings self.old.queues)) code) }
-        ensures same { OnErr result (self.new ≡ self.old) }
+        ensures unchanged_on_err { OnErr result (self.new ≡ self.old) }
         ensures document { self.new.document ≡ self.old.document }
         ensures rings { IfOk result
             (λ id. self.new.queues.queues ≡ append_ringed_queue id by start self.old.queues.queues) }
@@ -201,7 +202,7 @@ impl DocumentSlot {
         self.queues.open(by, start)
     }
 
-    // Takes the next entries of a queue of a number.
+    // Reads the next entries of the owner's queue.
     pub(crate) fn take(
         &mut self,
         alloc: Global,
@@ -211,13 +212,13 @@ impl DocumentSlot {
     ) -> Result<Option<Vec<Entry>>, AllocError>
         ensures entries { IfOk result (λ v. option_map (λ es. es.items) v ≡
             take_result_by self.old.document.log by id max (without_rings self.old.queues).queues) }
-        ensures moved { OnOk result ((without_rings self.new.queues).queues ≡
+        ensures queues_after { OnOk result ((without_rings self.new.queues).queues ≡
             queues_after_take_by self.old.document.log by id max (without_rings self.old.queues).queues) }
         ensures err { OnErr result (self.new ≡ self.old) }
-        ensures some { OnErr result
+        ensures memory { OnErr result
             (0 < length (unwrap_or
             (take_result_by self.old.document.log by id max (without_rings self.old.queues).queues) [])) }
-        ensures next { self.new.queues.next ≡ self.old.queues.next }
+        ensures next_unchanged { self.new.queues.next ≡ self.old.queues.next }
         ensures document { self.new.document ≡ self.old.document }
         ensures rings { OnOk result (self.new.queues.queues ≡
             ringed_queues_after_take_by self.old.document.log by id max self.old.queues.queues) }
@@ -228,13 +229,13 @@ impl DocumentSlot {
         }
     }
 
-    // Closes a queue of a number.
+    // Closes the owner's queue.
     pub(crate) fn close(&mut self, by: u64, id: SubId)
         ensures queues { (without_rings self.new.queues).queues
             ≡ remove_queue_by by id (without_rings self.old.queues).queues }
-        ensures gone { is_open_by by id (without_rings self.old.queues).queues ≡ true →
+        ensures removed { is_open_by by id (without_rings self.old.queues).queues ≡ true →
             queue_at id (without_rings self.new.queues).queues ≡ None }
-        ensures next { self.new.queues.next ≡ self.old.queues.next }
+        ensures next_unchanged { self.new.queues.next ≡ self.old.queues.next }
         ensures rings { self.new.queues.queues ≡ remove_ringed_queue_by by id self.old.queues.queues }
         ensures document { self.new.document ≡ self.old.document }
     {
@@ -242,7 +243,7 @@ impl DocumentSlot {
     }
 }
 
-// How many operations are stored of the document.
+// Returns the number of entries of the document.
 fn version_of(document: &Option<Box<Document>>) -> u64
     ensures { result ≡ length (document_or_empty document.now).log }
 {
@@ -252,7 +253,7 @@ fn version_of(document: &Option<Box<Document>>) -> u64
     }
 }
 
-// Stores what a submission has become, with the document that it makes, the first of its key where there is none.
+// Appends a submission to the document, or creates the document with it.
 fn append_to_document(
     document: &mut Option<Box<Document>>,
     alloc: Global,
@@ -267,8 +268,9 @@ fn append_to_document(
     ensures reply { OnOk result ((decide (document_or_empty document.old).log submission now).reply ≡
         stored (length (document_or_empty document.old).log) (missed_entries
         (document_or_empty document.old).log submission)) }
-    ensures same { OnErr result ((document_or_empty document.new).log ≡ (document_or_empty document.old).log) }
-    ensures kept { (document_or_empty document.new).cache ≡ (document_or_empty document.old).cache }
+    ensures unchanged_on_err { OnErr result ((document_or_empty document.new).log
+        ≡ (document_or_empty document.old).log) }
+    ensures cache_unchanged { (document_or_empty document.new).cache ≡ (document_or_empty document.old).cache }
 {
     match document {
         Some(document) => document.append(alloc, submission, now, content, made),
@@ -280,7 +282,7 @@ fn append_to_document(
     }
 }
 
-// The document in a block of its own.
+// Moves the document to the heap.
 fn try_box(alloc: Global, document: Document) -> Result<Box<Document>, AllocError>
     ensures { IfOk result (λ b. b.value ≡ document) }
 {
@@ -290,10 +292,10 @@ fn try_box(alloc: Global, document: Document) -> Result<Box<Document>, AllocErro
     }
 }
 
-// Shows the rings the entry of the version, which was stored last.
+// Pushes the entry of this version, the newest one, to the ring buffers.
 fn push_to_rings(queues: &mut Queues, document: &Option<Box<Document>>, version: u64)
     ensures bare { without_rings queues.new ≡ without_rings queues.old }
-    ensures fit { (log : List PlainEntry) (entry : PlainEntry)
+    ensures rings_of_log { (log : List PlainEntry) (entry : PlainEntry)
         → (document_or_empty document.now).log ≡ log ++ entry ∷ [] → version ≡ length log
         → entry.version ≡ length log → AreRingsOfLog log queues.old.queues
         → AreRingsOfLog (log ++ entry ∷ []) queues.new.queues }

@@ -1,4 +1,4 @@
-//! The documents of a server: what a look at one shows, and how a submission is committed to it.
+//! The documents of a shard: looks, commits, snapshots and queues.
 #![tactic(auto)]
 
 mod document;

@@ -1,4 +1,4 @@
-//! What older versions of a document are made of, lent to be replayed without the documents.
+//! Replay bases: the parts of an older snapshot, to be replayed without the shard.
 ghost use Rattle.std.specs.Prelude.{◌≡◌, ◌<◌, [], true, length, is_some, Some, None, IfOk, IfErr, OnErr, option_map};
 ghost use Rattle.sdb_value.specs.View.{value_of};
 ghost use Rattle.sdb_oplog.specs.Snap.{snap_from};
@@ -9,22 +9,24 @@ use sdb_oplog::{Code, Entry};
 use sdb_value::Json;
 use std::alloc::Global;
 
-/// What the document at a version is made of: the document at a version before it, or there, and the stored
-/// operations from there on. All of it is shared with the shard.
+/// The parts of the document at a version: a snapshot at or before it, and the entries from there
+/// on. All parts are shared with the shard.
 #[derive(Drop)]
 pub struct ReplayBase {
     /// The version of the snapshot.
     pub version: u64,
-    /// The document there.
+    /// The document at that version.
     pub snapshot: Option<Json>,
-    /// The operations that were stored from there on.
+    /// The entries from that version on.
     pub entries: Vec<Entry>,
 }
 
 impl ReplayBase {
-    /// The document that it makes: the operations are applied to a copy of the snapshot, one by one, which
-    /// shares what they don't touch. All of it is shared, so that a copy of it is a pointer. E10 is want of
-    /// memory, where there are operations.
+    /// Applies the entries to a copy-on-write copy of the snapshot. The result is frozen.
+    ///
+    /// # Errors
+    ///
+    /// [`Code::E10`] if an allocation fails. Without entries it doesn't fail.
     pub fn replay(self, alloc: Global) -> Result<Option<Json>, Code>
         requires { is_some (snap_from (option_map value_of self.snapshot) self.entries.items) ≡ true }
         ensures ok { IfOk result
@@ -48,7 +50,7 @@ impl ReplayBase {
     }
 }
 
-// What is lent where nothing is stored.
+// Returns the replay base of an empty log.
 pub(crate) fn empty_replay_base(alloc: Global) -> ReplayBase
     ensures { plain_replay_base result ≡ record { version = 0; snapshot = None; entries = [] } }
 {
@@ -59,7 +61,7 @@ pub(crate) fn empty_replay_base(alloc: Global) -> ReplayBase
     }
 }
 
-// The document after these operations, from this one on.
+// Applies the entries to the snapshot in order.
 fn replay_entries(
     alloc: Global,
     snapshot: Option<Json>,

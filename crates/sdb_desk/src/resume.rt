@@ -1,4 +1,4 @@
-//! Work that is taken up again by a fresh look.
+//! Work resumed with a newer look.
 ghost use Rattle.std.specs.Prelude.{◌≡◌, ◌≤◌, IfOk, IfErr, IfSome, IsTrue, IsFalse, length, take, drop};
 ghost use Rattle.sdb_oplog.specs.Rebase.{rebase};
 ghost use Rattle.sdb_oplog.specs.Refusal.{result_and_then};
@@ -9,10 +9,13 @@ use sdb_oplog::{Code, Content, Entry, entries_equal, rebase};
 use std::alloc::Global;
 
 impl Work {
-    /// Works the submission on by a fresh look. Only the entries behind those that were missed already are
-    /// transformed, and what comes of it is applied to the document of the fresh look; where these aren't the
-    /// first of the fresh look, or the submission has no version, it starts afresh. For want of memory alone
-    /// the attempt comes back, by the fresh look; what was worked before is gone then.
+    /// Works the submission for a newer look. It transforms the content only against entries that
+    /// are new in it, and applies the result to its snapshot. It starts again if the old entries
+    /// aren't a prefix of the new ones, or if the submission has no version.
+    ///
+    /// # Errors
+    ///
+    /// The attempt with the newer look if an allocation fails. The old work is then lost.
     pub fn resume(self, alloc: Global, look: Look) -> Result<Work, Attempt>
         ensures ok { IfOk result (λ w. w ≡ record { submission = self.submission; look = plain_look look }) }
         ensures err { IfErr result
@@ -36,16 +39,16 @@ impl Work {
     }
 }
 
-// Whether the entries are the first of the others.
+// Returns whether `first` is a prefix of `all`.
 fn is_prefix(first: &[Entry], all: &[Entry]) -> bool
     ensures long { IsTrue result → length first.now ≤ length all.now }
-    ensures same { IsTrue result → first.now ≡ take (length first.now) all.now }
-    ensures other { IsFalse result → first.now ≡ take (length first.now) all.now → ⊥ }
+    ensures on_true { IsTrue result → first.now ≡ take (length first.now) all.now }
+    ensures on_false { IsFalse result → first.now ≡ take (length first.now) all.now → ⊥ }
 {
     first.len() <= all.len() && entries_equal(first, &all[..first.len()])
 }
 
-// The entries behind the first ones.
+// Returns the entries after the first ones.
 fn entries_after(entries: &[Entry], first: usize) -> &[Entry]
     requires { first ≤ length entries.now }
     ensures { result.now ≡ drop first entries.now }
@@ -53,7 +56,7 @@ fn entries_after(entries: &[Entry], first: usize) -> &[Entry]
     &entries[first..]
 }
 
-// What was worked, along further entries. None where memory is wanting.
+// Transforms the rebased content against further entries. Returns `None` if an allocation fails.
 fn rebase_rest(
     alloc: Global,
     arrived: &Content,

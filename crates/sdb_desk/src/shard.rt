@@ -1,4 +1,4 @@
-//! All documents and their queues, by key.
+//! All documents and queues by key.
 ghost use Rattle.std.specs.Prelude.{◌≡◌, ◌≢◌, ℕ, ◌≤◌, ◌<◌, [], true, length, map, is_some, take, IfOk, IfErr, IfSome, OnSome, IfNone, IsErrOf, OnOk, OnErr, Ok, Err, Some, None, option_map, unwrap_or, nat_eq};
 ghost use Rattle.sdb_oplog.specs.Decide.{decide, stored, missed_entries, IsMade, apply_to_copy_allocates, decide_allocates};
 ghost use Rattle.sdb_oplog.specs.Rebase.{rebase, rebase_allocates};
@@ -18,7 +18,7 @@ ghost use Rattle.sdb_desk.specs.Rings.{RingsFollowLogs, append_ringed_queue};
 ghost use Rattle.sdb_desk.specs.SlotModel.{empty_slot};
 ghost use Rattle.sdb_desk.specs.Reads.{CacheAfterRead, CacheAfterOffer, IsReplayBase, IsCachedReplayBase, CacheAfterUse};
 ghost use Rattle.sdb_desk.specs.StoredKeys.{IsKeyList};
-ghost use Rattle.sdb_desk.specs.LookLaws.{IsLook};
+ghost use Rattle.sdb_desk.specs.Looks.{IsLook};
 ghost use Rattle.sdb_desk.specs.OpenQueues.{IsOpenCount};
 ghost use Rattle.sdb_desk.specs.Machine.{IsRefusedByWork, look_at, look_allocates, fetch_result, operations_from, operations_between, snapshot_at, queue_start, queue_start_or_full, is_nonempty, read_has_document, read_has_version, version_at_moment, fetch_at_moment, no_queues, with_queues, close_queue, DecidesOrOutOfMemory, CommitsOrOutOfMemory, WorkAfterCommit, ReadOrOutOfMemory, SubscribesOrOutOfMemory, TakesOrOutOfMemory};
 ghost use Rattle.sdb_desk.specs.View.{plain_replay_base, plain_look, plain_outcome, outcome_of_decision, fetch_result_view, entries_view, subscribe_result_view, taken_view};
@@ -37,34 +37,32 @@ use sdb_value::Json;
 use std::alloc::{AllocError, Global};
 use std::collections::BTreeMap;
 
-/// What a commit answers.
+/// The outcome of a commit.
 #[derive(Drop)]
 pub enum Outcome {
     /// The submission is decided.
     Decided(Reply),
-    /// The log is not as long as it was looked at: it is shown afresh.
+    /// The log has grown since the look; a new look.
     Moved(Look),
 }
 
-/// What was decided of a work, which isn't told yet.
+/// The decision about a work, before the work is updated.
 #[derive(Drop)]
 pub enum CommitDecision {
-    /// The submission is stored at this version. The entries that it had not seen are those that the
-    /// look of its work shows as missed.
+    /// Stored at version `v`. The missed entries are those of the work's look.
     Store { v: u64 },
-    /// The commit answers this, and the work stays as it is.
+    /// The outcome, with an unchanged work.
     Reply(Outcome),
 }
 
-/// A version, and the document there.
+/// A version and the document at it.
 #[derive(Drop)]
 pub struct FetchResult {
     pub version: u64,
     pub snapshot: Option<Json>,
 }
 
-/// A queue that was opened: its number, the version that it starts at, the present version and the
-/// document there.
+/// A new queue: its number, its start version, the current version and the current document.
 #[derive(Drop)]
 pub struct SubscribeResult {
     pub id: SubId,
@@ -73,9 +71,8 @@ pub struct SubscribeResult {
     pub snapshot: Option<Json>,
 }
 
-/// The documents that something is stored of, by key, and the queues of each key. A key without a
-/// document has version 0; it may have queues. A key that has neither, and had queues, keeps how many
-/// numbers it gave.
+/// The documents and queues of one shard by key. A key without a document has version 0 and may
+/// have queues. A key keeps its count of queue numbers after all its queues are closed.
 #[derive(Drop)]
 pub struct Shard {
     alloc: Global,
@@ -83,7 +80,7 @@ pub struct Shard {
 }
 
 impl Shard {
-    /// A shard in which nothing is stored and no queue was opened. It keeps the allocator.
+    /// Creates a shard without documents and queues. It keeps the allocator.
     pub fn new(alloc: Global) -> Shard
         ensures logs { logs_of result ≡ no_logs }
         ensures kept { caches_of result ≡ (λ k. []) }
@@ -96,7 +93,7 @@ impl Shard {
         }
     }
 
-    // The document of the key, if something is stored of it.
+    // Returns the key's document, if it has entries.
     fn find(&self, key: &Key) -> Option<&Document>
         ensures { unwrap_or (option_map (λ d. d.now) result) empty_document
             ≡ documents_of self.now (plain_key key.now) }
@@ -107,12 +104,12 @@ impl Shard {
         }
     }
 
-    /// The log of the document, if something is stored of it. Each log is made: its entries are those
-    /// that were decided, one after the other.
+    /// Returns the document's log, or `None` if it has no entries. Each log is made: an entry is
+    /// what its submission stores on the entries before it.
     pub fn log(&self, key: &Key) -> Option<&Log>
         ensures log { unwrap_or (option_map (λ l. l.now) result) [] ≡ logs_of self.now (plain_key key.now) }
-        ensures filled { IfSome result (λ l. l.now ≢ []) }
-        ensures made { IsMade (logs_of self.now (plain_key key.now)) }
+        ensures nonempty { IfSome result (λ l. l.now ≢ []) }
+        ensures is_made { IsMade (logs_of self.now (plain_key key.now)) }
     {
         match self.find(key) {
             Some(document) => Some(document.log()),
@@ -120,8 +117,12 @@ impl Shard {
         }
     }
 
-    /// The keys of all documents that something is stored of, by the bytes of the collection, then of the
-    /// id. It fails only for want of memory.
+    /// Returns the keys of all documents with entries, by the bytes of the collection and then of
+    /// the id.
+    ///
+    /// # Errors
+    ///
+    /// [`AllocError`] if an allocation fails.
     pub fn documents(&self) -> Result<Vec<Key>, AllocError>
         ensures { IfOk result (λ keys. IsKeyList (logs_of self.now) (map plain_key keys.items)) }
     {
@@ -134,8 +135,8 @@ impl Shard {
         Ok(keys)
     }
 
-    /// How many queues are open, of all keys together; the greatest u64 where they are more. It takes no
-    /// memory.
+    /// Returns the number of open queues of all keys, at most the greatest `u64`. It doesn't
+    /// allocate.
     pub fn queues(&self) -> u64
         ensures { IsOpenCount (queues_of self.now) result }
     {
@@ -146,11 +147,11 @@ impl Shard {
         count
     }
 
-    /// How many older snapshots are kept of the document, at most eight. Each is the document at its
-    /// version.
+    /// Returns the number of the document's cached snapshots, at most eight. Each is the document
+    /// at its version.
     pub fn cached_count(&self, key: &Key) -> usize
         ensures count { result ≡ length (caches_of self.now (plain_key key.now)) }
-        ensures few { length (caches_of self.now (plain_key key.now)) ≤ 8 }
+        ensures bound { length (caches_of self.now (plain_key key.now)) ≤ 8 }
         ensures snaps { AreSnapsOf (logs_of self.now (plain_key key.now)) (caches_of self.now (plain_key key.now)) }
     {
         match self.find(key) {
@@ -159,7 +160,7 @@ impl Shard {
         }
     }
 
-    /// The present version: how many operations are stored of the document.
+    /// Returns the current version: the number of the document's entries.
     pub fn version(&self, key: &Key) -> u64
         ensures { result ≡ length (logs_of self.now (plain_key key.now)) }
     {
@@ -169,8 +170,13 @@ impl Shard {
         }
     }
 
-    /// What a look at the document shows for a submission. The document in it shares all with the shard: a
-    /// pointer. It fails only for want of memory, where it shows entries as missed, or a document.
+    /// Reads what a submission needs: version, duplicate, missed entries and snapshot. The snapshot
+    /// is a shared pointer.
+    ///
+    /// # Errors
+    ///
+    /// [`AllocError`] if an allocation fails. Without missed entries and a document it doesn't
+    /// fail.
     pub fn look(&self, key: &Key, submission: &Submission) -> Result<Look, AllocError>
         ensures look { IfOk result (λ l. plain_look l ≡ look_at (logs_of self.now (plain_key key.now)) submission.now) }
         ensures memory { OnErr result
@@ -184,22 +190,22 @@ impl Shard {
         }
     }
 
-    /// Decides the submission of a work, where the log is as long as it was looked at; elsewhere it
-    /// shows the log afresh. The look is one at this log, as it is or when it was shorter.
+    /// Decides the submission of a work if the log hasn't grown since its look. Otherwise returns a
+    /// new look, and the work is unchanged.
     ///
-    /// Where it is stored, it has this moment, or that of the entry before it where that is later; the entries
-    /// that the look showed as missed are in the answer, and the work keeps its submission. In all other cases
-    /// the work stays as it is.
+    /// A stored entry has the moment `now`, or that of the entry before it if that is later. The
+    /// reply then takes the missed entries out of the work, which keeps its submission; in all
+    /// other cases the work is unchanged.
     ///
-    /// `Refused(E10)` is want of memory, and nothing has changed then. A repeat, a full log, a version
-    /// above the present one and what the work found refused take none.
+    /// `Refused(E10)` is an allocation failure, and nothing changes. A duplicate, a full log, a
+    /// version that is too new and a refused work don't allocate.
     pub fn commit(&mut self, key: &Key, work: &mut Work, now: Moment) -> Outcome
         requires { IsLook (logs_of self.old (plain_key key.now)) work.old }
         ensures commits { CommitsOrOutOfMemory (logs_of self.old) (plain_key key.now) work.old now
             (plain_outcome result)
             (logs_of self.new) }
-        ensures keeps { WorkAfterCommit (plain_outcome result) work.old work.new }
-        ensures kept { caches_of self.new ≡ caches_of self.old }
+        ensures work { WorkAfterCommit (plain_outcome result) work.old work.new }
+        ensures caches_unchanged { caches_of self.new ≡ caches_of self.old }
         ensures queues { queues_of self.new ≡ queues_of self.old }
         ensures rings { RingsFollowLogs (logs_of self.old) (logs_of self.new) (ringed_queues_of self.old)
             (ringed_queues_of self.new) }
@@ -208,15 +214,15 @@ impl Shard {
         work.finish(self.alloc, decision)
     }
 
-    /// Decides a work as [`commit`](Shard::commit) does, and leaves it to the caller to tell the work, by
+    /// Decides a work as [`commit`](Shard::commit) does. The caller updates the work with
     /// [`Work::finish`].
     pub fn decide(&mut self, key: &Key, work: &Work, now: Moment) -> CommitDecision
         requires { IsLook (logs_of self.old (plain_key key.now)) work.now }
         ensures commits { CommitsOrOutOfMemory (logs_of self.old) (plain_key key.now) work.now now
             (outcome_of_decision work.now result)
             (logs_of self.new) }
-        ensures kept { caches_of self.new ≡ caches_of self.old }
-        ensures queues { queues_of self.new ≡ queues_of self.old }
+        ensures caches_unchanged { caches_of self.new ≡ caches_of self.old }
+        ensures queues_unchanged { queues_of self.new ≡ queues_of self.old }
         ensures rings { RingsFollowLogs (logs_of self.old) (logs_of self.new) (ringed_queues_of self.old)
             (ringed_queues_of self.new) }
     {
@@ -235,15 +241,15 @@ impl Shard {
         }
     }
 
-    /// Decides a submission at a moment, in one step. `Refused(E10)` is want of memory, and nothing has changed then. A
-    /// repeat, a full log, a version above the present one, a create on a document and an edit of none
-    /// take none.
+    /// Decides a submission at a moment, in one step. `Refused(E10)` is an allocation failure, and
+    /// nothing changes. A duplicate, a full log, a version that is too new, a create on a present
+    /// document and an edit of an absent one don't allocate.
     pub fn commit_now(&mut self, key: &Key, submission: &Submission, now: Moment) -> Reply
         ensures decides { DecidesOrOutOfMemory (logs_of self.old) (plain_key key.now) submission.now now
             (plain_reply result)
             (logs_of self.new) }
-        ensures kept { caches_of self.new ≡ caches_of self.old }
-        ensures queues { queues_of self.new ≡ queues_of self.old }
+        ensures caches_unchanged { caches_of self.new ≡ caches_of self.old }
+        ensures queues_unchanged { queues_of self.new ≡ queues_of self.old }
         ensures rings { RingsFollowLogs (logs_of self.old) (logs_of self.new) (ringed_queues_of self.old)
             (ringed_queues_of self.new) }
     {
@@ -257,15 +263,15 @@ impl Shard {
         }
     }
 
-    /// Decides the submission of a work at a moment, in one step, whatever was stored since its look: only
-    /// that is carried over here, and what comes of it is applied to the present document. Where memory is
-    /// wanting for that it is decided as [`Shard::commit_now`] does.
+    /// Decides the submission of a work at a moment, in one step, even if the log has grown since
+    /// its look. Only newer entries are transformed against. If an allocation for this fails, it
+    /// decides as [`Shard::commit_now`] does.
     pub fn commit_last(&mut self, key: &Key, work: Work, now: Moment) -> Reply
         ensures decides { DecidesOrOutOfMemory (logs_of self.old) (plain_key key.now) work.submission now
             (plain_reply result)
             (logs_of self.new) }
-        ensures kept { caches_of self.new ≡ caches_of self.old }
-        ensures queues { queues_of self.new ≡ queues_of self.old }
+        ensures caches_unchanged { caches_of self.new ≡ caches_of self.old }
+        ensures queues_unchanged { queues_of self.new ≡ queues_of self.old }
         ensures rings { RingsFollowLogs (logs_of self.old) (logs_of self.new) (ringed_queues_of self.old)
             (ringed_queues_of self.new) }
     {
@@ -281,14 +287,15 @@ impl Shard {
         }
     }
 
-    // What a submission is answered whatever it asks and whenever: a repeat, a full log, a version too new.
+    // Returns the reply that needs no rebase, if there is one: duplicate, full log, or version too
+    // new.
     fn early_reply(&self, key: &Key, submission: &Submission) -> Option<Reply>
         ensures reply { (t : ℕ) → IfSome result
             (λ r. plain_reply r ≡ (decide (logs_of self.now (plain_key key.now)) submission.now t).reply) }
         ensures log { (t : ℕ) → OnSome result ((decide (logs_of self.now (plain_key key.now)) submission.now t).log ≡
             logs_of self.now (plain_key key.now)) }
         ensures unstored { IfSome result (λ r. StoresNothing (plain_reply r)) }
-        ensures open { IfNone result (CanStore (logs_of self.now (plain_key key.now)) submission.now) }
+        ensures can_store { IfNone result (CanStore (logs_of self.now (plain_key key.now)) submission.now) }
     {
         match self.find(key) {
             Some(document) => early_reply(document.log(), submission),
@@ -296,10 +303,9 @@ impl Shard {
         }
     }
 
-    // Stores what a work has become, with the document that it makes, unless it was refused on the way or by the
-    // document.
+    // Appends a work's submission with its rebased content, unless the work refuses it.
     fn append_work(&mut self, key: &Key, work: &Work, now: Moment) -> Result<(), Code>
-        requires open { CanStore (logs_of self.old (plain_key key.now)) work.now.submission }
+        requires can_store { CanStore (logs_of self.old (plain_key key.now)) work.now.submission }
         requires missed { work.now.look.missed
             ≡ missed_entries (logs_of self.old (plain_key key.now)) work.now.submission }
         requires snapshot { work.now.look.snapshot ≡ document_of (logs_of self.old (plain_key key.now)) }
@@ -314,9 +320,9 @@ impl Shard {
         ensures memory { IsErrOf result E10 →
             decide_allocates (logs_of self.old (plain_key key.now)) work.now.submission ≡ true }
         ensures found { IsErrOf result E10 → IsRefusedByWork (logs_of self.old (plain_key key.now)) work.now → ⊥ }
-        ensures same { OnErr result (logs_of self.new ≡ logs_of self.old) }
-        ensures kept { caches_of self.new ≡ caches_of self.old }
-        ensures queues { queues_of self.new ≡ queues_of self.old }
+        ensures unchanged_on_err { OnErr result (logs_of self.new ≡ logs_of self.old) }
+        ensures caches_unchanged { caches_of self.new ≡ caches_of self.old }
+        ensures queues_unchanged { queues_of self.new ≡ queues_of self.old }
         ensures rings { RingsFollowLogs (logs_of self.old) (logs_of self.new) (ringed_queues_of self.old)
             (ringed_queues_of self.new) }
     {
@@ -326,8 +332,7 @@ impl Shard {
         Ok(())
     }
 
-    // Stores a submission, worked along the entries that it has missed now, and copies these; unless it is
-    // refused.
+    // Rebases, applies and appends a submission, and returns clones of its missed entries.
     fn append_now(
         &mut self,
         key: &Key,
@@ -343,9 +348,9 @@ impl Shard {
             (IsRefusalReplyOrOutOfMemory (decide (logs_of self.old (plain_key key.now)) submission.now now).reply) }
         ensures memory { IsErrOf result E10 →
             decide_allocates (logs_of self.old (plain_key key.now)) submission.now ≡ true }
-        ensures same { OnErr result (logs_of self.new ≡ logs_of self.old) }
-        ensures kept { caches_of self.new ≡ caches_of self.old }
-        ensures queues { queues_of self.new ≡ queues_of self.old }
+        ensures unchanged_on_err { OnErr result (logs_of self.new ≡ logs_of self.old) }
+        ensures caches_unchanged { caches_of self.new ≡ caches_of self.old }
+        ensures queues_unchanged { queues_of self.new ≡ queues_of self.old }
         ensures rings { RingsFollowLogs (logs_of self.old) (logs_of self.new) (ringed_queues_of self.old)
             (ringed_queues_of self.new) }
     {
@@ -356,7 +361,7 @@ impl Shard {
         Ok(missed)
     }
 
-    // What the content of a submission becomes along the entries that it has missed.
+    // Rebases the submission's content on the current log.
     fn rebase(&self, key: &Key, submission: &Submission) -> Result<Option<Content>, Code>
         ensures ok { IfOk result (λ m. rebase submission.now.content
             (missed_entries (logs_of self.now (plain_key key.now)) submission.now) ≡
@@ -375,7 +380,7 @@ impl Shard {
         }
     }
 
-    // Copies of the entries that a submission has missed.
+    // Returns clones of the submission's missed entries.
     fn clone_missed_entries(
         &self,
         key: &Key,
@@ -389,7 +394,7 @@ impl Shard {
         }
     }
 
-    // What a content makes of the present document.
+    // Applies a content to the current document.
     fn apply(&self, key: &Key, content: &Content) -> Result<Option<Json>, Code>
         ensures ok { IfOk result (λ d. apply_content content.now (document_of (logs_of self.now (plain_key key.now))) ≡
             Ok (option_map value_of d)) }
@@ -405,7 +410,7 @@ impl Shard {
         }
     }
 
-    // Stores what a submission has become, with the document that it makes.
+    // Appends a submission with its rebased content and the new value.
     fn append(
         &mut self,
         key: &Key,
@@ -421,7 +426,7 @@ impl Shard {
         ensures reply { OnOk result ((decide (logs_of self.old (plain_key key.now)) submission.now now).reply ≡
             stored (length (logs_of self.old (plain_key key.now)))
             (missed_entries (logs_of self.old (plain_key key.now)) submission.now)) }
-        ensures same { OnErr result (logs_of self.new ≡ logs_of self.old) }
+        ensures unchanged_on_err { OnErr result (logs_of self.new ≡ logs_of self.old) }
         ensures kept { caches_of self.new ≡ caches_of self.old }
         ensures queues { queues_of self.new ≡ queues_of self.old }
         ensures rings { RingsFollowLogs (logs_of self.old) (logs_of self.new) (ringed_queues_of self.old)
@@ -435,7 +440,7 @@ impl Shard {
         }
     }
 
-    // Stores the first submission to a key.
+    // Appends the first submission of a key.
     fn append_first(
         &mut self,
         key: &Key,
@@ -449,7 +454,7 @@ impl Shard {
         ensures logs { OnOk result
             (logs_of self.new ≡ with_log (logs_of self.old) (plain_key key.now) (decide [] submission now).log) }
         ensures reply { OnOk result ((decide [] submission now).reply ≡ stored 0 (missed_entries [] submission)) }
-        ensures same { OnErr result (logs_of self.new ≡ logs_of self.old) }
+        ensures unchanged_on_err { OnErr result (logs_of self.new ≡ logs_of self.old) }
         ensures kept { caches_of self.new ≡ caches_of self.old }
         ensures queues { queues_of self.new ≡ queues_of self.old }
         ensures rings { RingsFollowLogs (logs_of self.old) (logs_of self.new) (ringed_queues_of self.old)
@@ -461,7 +466,7 @@ impl Shard {
         Ok(())
     }
 
-    // Keeps the topic of a key.
+    // Inserts the slot of a key.
     fn insert_slot(&mut self, key: &Key, topic: DocumentSlot) -> Result<(), AllocError>
         ensures ok { OnOk result (slots_of self.new ≡ with_value_at_key (slots_of self.old) (plain_key key.now) topic) }
         ensures err { OnErr result (slots_of self.new ≡ slots_of self.old) }
@@ -470,15 +475,18 @@ impl Shard {
         Ok(())
     }
 
-    /// The present version, and a copy of the document there, which shares all of it with the shard. So it
-    /// costs what has changed of the document since it was shared last, and where nothing has, a pointer. E10
-    /// is want of memory for that.
+    /// Returns the current version and a clone of the document. Its cost is to freeze what changed
+    /// since the last freeze, else a pointer.
+    ///
+    /// # Errors
+    ///
+    /// [`Code::E10`] if an allocation fails. No log and no queue changes.
     pub fn fetch(&mut self, key: &Key) -> Result<FetchResult, Code>
         ensures fetched { ReadOrOutOfMemory read_has_document (fetch_result_view result)
             (Ok (fetch_result (logs_of self.old (plain_key key.now)))) }
-        ensures pointer { IfOk result (λ f. IfSome f.snapshot (λ v. is_frozen v ≡ true)) }
-        ensures logs { logs_of self.new ≡ logs_of self.old }
-        ensures kept { caches_of self.new ≡ caches_of self.old }
+        ensures frozen { IfOk result (λ f. IfSome f.snapshot (λ v. is_frozen v ≡ true)) }
+        ensures logs_unchanged { logs_of self.new ≡ logs_of self.old }
+        ensures caches_unchanged { caches_of self.new ≡ caches_of self.old }
         ensures queues { queues_of self.new ≡ queues_of self.old }
         ensures rings { ringed_queues_of self.new ≡ ringed_queues_of self.old }
     {
@@ -487,15 +495,15 @@ impl Shard {
         Ok(FetchResult { version, snapshot })
     }
 
-    // A copy of the present document, which shares all of it.
+    // Returns a clone of the current value, after freezing it.
     fn freeze(&mut self, key: &Key) -> Result<Option<Json>, AllocError>
         ensures copy { IfOk result (λ d. option_map value_of d ≡ document_of (logs_of self.old (plain_key key.now))) }
-        ensures pointer { IfOk result (λ d. IfSome d (λ v. is_frozen v ≡ true)) }
-        ensures some { OnErr result (is_some (document_of (logs_of self.old (plain_key key.now))) ≡ true) }
-        ensures logs { logs_of self.new ≡ logs_of self.old }
-        ensures kept { caches_of self.new ≡ caches_of self.old }
-        ensures queues { queues_of self.new ≡ queues_of self.old }
-        ensures rings { ringed_queues_of self.new ≡ ringed_queues_of self.old }
+        ensures frozen { IfOk result (λ d. IfSome d (λ v. is_frozen v ≡ true)) }
+        ensures memory { OnErr result (is_some (document_of (logs_of self.old (plain_key key.now))) ≡ true) }
+        ensures logs_unchanged { logs_of self.new ≡ logs_of self.old }
+        ensures caches_unchanged { caches_of self.new ≡ caches_of self.old }
+        ensures queues_unchanged { queues_of self.new ≡ queues_of self.old }
+        ensures rings_unchanged { ringed_queues_of self.new ≡ ringed_queues_of self.old }
     {
         match self.slots.get_mut(key) {
             Some(topic) => topic.freeze(self.alloc),
@@ -503,8 +511,12 @@ impl Shard {
         }
     }
 
-    /// Copies of the stored operations from a version on. E4 where the version is above the present one,
-    /// E10 is want of memory, where there are any.
+    /// Returns clones of the entries from a version on.
+    ///
+    /// # Errors
+    ///
+    /// [`Code::E4`] if the version is above the current one, [`Code::E10`] if an allocation fails.
+    /// Without entries it doesn't fail.
     pub fn ops_from(&self, key: &Key, version: u64) -> Result<Vec<Entry>, Code>
         ensures { ReadOrOutOfMemory is_nonempty (entries_view result)
             (operations_from (logs_of self.now (plain_key key.now)) version) }
@@ -520,8 +532,12 @@ impl Shard {
         }
     }
 
-    /// Copies of the stored operations from a version on, before the version `to`, as far as there are any. It
-    /// fails only for want of memory, where there are.
+    /// Returns clones of the entries from version `from` up to, and without, version `to`; fewer if
+    /// the log ends before.
+    ///
+    /// # Errors
+    ///
+    /// [`AllocError`] if an allocation fails. Without entries it doesn't fail.
     pub fn ops_between(&self, key: &Key, from: u64, to: u64) -> Result<Vec<Entry>, AllocError>
         ensures entries { IfOk result
             (λ es. es.items ≡ operations_between (logs_of self.now (plain_key key.now)) from to) }
@@ -534,24 +550,29 @@ impl Shard {
         }
     }
 
-    /// The version, or the present one where none is named, and the document there. E4 where the version
-    /// is above the present one, E10 is want of memory, at a version above 0.
+    /// Returns the document at a version, or the current one if it is `None`, with its version. An
+    /// older document is replayed from the nearest cached snapshot and then cached: at most eight
+    /// per document, least recently used first out.
     ///
-    /// The document is made of the nearest older snapshot that is kept, and is kept itself, at most eight
-    /// of a document, those that were used last. It and the kept ones share what the entries from there on
-    /// don't touch: so it costs those entries, and a copy of what they touch; the present one costs what
-    /// [`Shard::fetch`] does, and one that is kept a pointer.
+    /// Snapshots share what the entries between them don't touch. A cached one costs a pointer, the
+    /// current one as much as [`Shard::fetch`], another one its replayed entries and a copy of what
+    /// they touch.
+    ///
+    /// # Errors
+    ///
+    /// [`Code::E4`] if the version is above the current one, [`Code::E10`] if an allocation fails
+    /// at a version above 0. No log and no queue changes.
     pub fn snapshot_at(&mut self, key: &Key, version: Option<u64>) -> Result<FetchResult, Code>
         ensures snapshot { ReadOrOutOfMemory read_has_version (fetch_result_view result)
             (snapshot_at (logs_of self.old (plain_key key.now)) version) }
-        ensures kept { CacheAfterRead (logs_of self.old (plain_key key.now))
+        ensures caches { CacheAfterRead (logs_of self.old (plain_key key.now))
             (unwrap_or version (length (logs_of self.old (plain_key key.now))))
             (caches_of self.old (plain_key key.now)) (caches_of self.new (plain_key key.now)) }
-        ensures others { caches_of self.new ≡
+        ensures others_unchanged { caches_of self.new ≡
             with_cache (caches_of self.old) (plain_key key.now) (caches_of self.new (plain_key key.now)) }
-        ensures logs { logs_of self.new ≡ logs_of self.old }
-        ensures queues { queues_of self.new ≡ queues_of self.old }
-        ensures rings { ringed_queues_of self.new ≡ ringed_queues_of self.old }
+        ensures logs_unchanged { logs_of self.new ≡ logs_of self.old }
+        ensures queues_unchanged { queues_of self.new ≡ queues_of self.old }
+        ensures rings_unchanged { ringed_queues_of self.new ≡ ringed_queues_of self.old }
     {
         let present = self.version(key);
         let version = version.unwrap_or(present);
@@ -562,8 +583,8 @@ impl Shard {
         Ok(FetchResult { version, snapshot })
     }
 
-    /// The version at a moment, or the present one where none is named: how many of its operations were stored
-    /// up to then. It is found by halving, and takes no memory.
+    /// Returns the version at a moment, or the current one if it is `None`: the number of entries
+    /// stored up to the moment. It is found by binary search and doesn't allocate.
     pub fn version_at(&self, key: &Key, moment: Option<Moment>) -> u64
         ensures { result ≡ version_at_moment (logs_of self.now (plain_key key.now)) moment }
     {
@@ -576,8 +597,12 @@ impl Shard {
         }
     }
 
-    /// The version at a moment, or the present one where none is named, and the document there, made as that of
-    /// [`Shard::snapshot_at`]. E10 is want of memory, at a version above 0.
+    /// Returns the document at a moment, or the current one if it is `None`, with its version. It
+    /// is replayed and cached as by [`Shard::snapshot_at`].
+    ///
+    /// # Errors
+    ///
+    /// [`Code::E10`] if an allocation fails at a version above 0. No log and no queue changes.
     pub fn snapshot_at_time(
         &mut self,
         key: &Key,
@@ -585,14 +610,14 @@ impl Shard {
     ) -> Result<FetchResult, Code>
         ensures snapshot { ReadOrOutOfMemory read_has_version (fetch_result_view result)
             (Ok (fetch_at_moment (logs_of self.old (plain_key key.now)) moment)) }
-        ensures kept { CacheAfterRead (logs_of self.old (plain_key key.now))
+        ensures caches { CacheAfterRead (logs_of self.old (plain_key key.now))
             (version_at_moment (logs_of self.old (plain_key key.now)) moment)
             (caches_of self.old (plain_key key.now)) (caches_of self.new (plain_key key.now)) }
-        ensures others { caches_of self.new ≡
+        ensures others_unchanged { caches_of self.new ≡
             with_cache (caches_of self.old) (plain_key key.now) (caches_of self.new (plain_key key.now)) }
-        ensures logs { logs_of self.new ≡ logs_of self.old }
+        ensures logs_unchanged { logs_of self.new ≡ logs_of self.old }
         ensures queues { queues_of self.new ≡ queues_of self.old }
-        ensures rings { ringed_queues_of self.new ≡ ringed_queues_of self.old }
+        ensures rings_unchanged { ringed_queues_of self.new ≡ ringed_queues_of self.old }
     {
         let version = self.version_at(key, moment);
         Ok(FetchResult {
@@ -601,20 +626,20 @@ impl Shard {
         })
     }
 
-    // The document at a version, up to the present one.
+    // Returns the document at a version up to the current one.
     fn snapshot_of(&mut self, key: &Key, version: u64) -> Result<Option<Json>, Code>
         requires { version ≤ length (logs_of self.old (plain_key key.now)) }
         ensures snapshot { IfOk result
             (λ d. document_of (take version (logs_of self.old (plain_key key.now))) ≡ option_map value_of d) }
         ensures err { IfErr result (λ code. code ≡ E10) }
         ensures memory { OnErr result (0 < version) }
-        ensures kept { CacheAfterRead (logs_of self.old (plain_key key.now)) version
+        ensures caches { CacheAfterRead (logs_of self.old (plain_key key.now)) version
             (caches_of self.old (plain_key key.now)) (caches_of self.new (plain_key key.now)) }
-        ensures others { caches_of self.new ≡
+        ensures others_unchanged { caches_of self.new ≡
             with_cache (caches_of self.old) (plain_key key.now) (caches_of self.new (plain_key key.now)) }
-        ensures logs { logs_of self.new ≡ logs_of self.old }
-        ensures queues { queues_of self.new ≡ queues_of self.old }
-        ensures rings { ringed_queues_of self.new ≡ ringed_queues_of self.old }
+        ensures logs_unchanged { logs_of self.new ≡ logs_of self.old }
+        ensures queues_unchanged { queues_of self.new ≡ queues_of self.old }
+        ensures rings_unchanged { ringed_queues_of self.new ≡ ringed_queues_of self.old }
     {
         match self.slots.get_mut(key) {
             Some(topic) => topic.snapshot_at(self.alloc, version),
@@ -622,25 +647,29 @@ impl Shard {
         }
     }
 
-    /// Lends what the document at a version is made of: the nearest older snapshot that is kept and the
-    /// operations from there on, at the cost of a pointer each, or the present document. E4 where the version
-    /// is above the present one, E10 is want of memory, at a version above 0.
+    /// Returns the replay base of a version: the nearest cached snapshot and the entries after it,
+    /// each as a shared pointer, or the current document.
+    ///
+    /// # Errors
+    ///
+    /// [`Code::E4`] if the version is above the current one, [`Code::E10`] if an allocation fails
+    /// at a version above 0. No log and no queue changes.
     pub fn replay_base(&mut self, key: &Key, version: u64) -> Result<ReplayBase, Code>
-        ensures lends { IfOk result (λ l. IsReplayBase (logs_of self.old (plain_key key.now)) version
+        ensures replay_base { IfOk result (λ l. IsReplayBase (logs_of self.old (plain_key key.now)) version
             (plain_replay_base l)) }
-        ensures from { IfOk result (λ l. IsCachedReplayBase (logs_of self.old (plain_key key.now))
+        ensures cached_base { IfOk result (λ l. IsCachedReplayBase (logs_of self.old (plain_key key.now))
             (caches_of self.old (plain_key key.now)) version (plain_replay_base l)) }
-        ensures present { IfOk result
+        ensures current_version { IfOk result
             (λ l. version ≡ length (logs_of self.old (plain_key key.now)) → l.entries.items ≡ []) }
         ensures err { IfErr result (λ code. ReadOrOutOfMemory read_has_version (Err code)
             (snapshot_at (logs_of self.old (plain_key key.now)) (Some version))) }
-        ensures kept { OnOk result (CacheAfterUse (logs_of self.old (plain_key key.now)) version
+        ensures caches { OnOk result (CacheAfterUse (logs_of self.old (plain_key key.now)) version
             (caches_of self.old (plain_key key.now)) (caches_of self.new (plain_key key.now))) }
-        ensures others { caches_of self.new ≡
+        ensures others_unchanged { caches_of self.new ≡
             with_cache (caches_of self.old) (plain_key key.now) (caches_of self.new (plain_key key.now)) }
-        ensures logs { logs_of self.new ≡ logs_of self.old }
-        ensures queues { queues_of self.new ≡ queues_of self.old }
-        ensures rings { ringed_queues_of self.new ≡ ringed_queues_of self.old }
+        ensures logs_unchanged { logs_of self.new ≡ logs_of self.old }
+        ensures queues_unchanged { queues_of self.new ≡ queues_of self.old }
+        ensures rings_unchanged { ringed_queues_of self.new ≡ ringed_queues_of self.old }
     {
         if version > self.version(key) {
             return Err(Code::E4);
@@ -648,23 +677,23 @@ impl Shard {
         Ok(self.replay_base_in_range(key, version)?)
     }
 
-    // What the document at a version is made of, up to the present one.
+    // Returns the replay base of a version up to the current one.
     fn replay_base_in_range(&mut self, key: &Key, version: u64) -> Result<ReplayBase, AllocError>
         requires { version ≤ length (logs_of self.old (plain_key key.now)) }
-        ensures lends { IfOk result (λ l. IsReplayBase (logs_of self.old (plain_key key.now)) version
+        ensures replay_base { IfOk result (λ l. IsReplayBase (logs_of self.old (plain_key key.now)) version
             (plain_replay_base l)) }
-        ensures from { IfOk result (λ l. IsCachedReplayBase (logs_of self.old (plain_key key.now))
+        ensures cached_base { IfOk result (λ l. IsCachedReplayBase (logs_of self.old (plain_key key.now))
             (caches_of self.old (plain_key key.now)) version (plain_replay_base l)) }
-        ensures present { IfOk result
+        ensures current_version { IfOk result
             (λ l. version ≡ length (logs_of self.old (plain_key key.now)) → l.entries.items ≡ []) }
         ensures memory { OnErr result (0 < version) }
-        ensures kept { CacheAfterUse (logs_of self.old (plain_key key.now)) version
+        ensures caches { CacheAfterUse (logs_of self.old (plain_key key.now)) version
             (caches_of self.old (plain_key key.now)) (caches_of self.new (plain_key key.now)) }
-        ensures others { caches_of self.new ≡
+        ensures others_unchanged { caches_of self.new ≡
             with_cache (caches_of self.old) (plain_key key.now) (caches_of self.new (plain_key key.now)) }
-        ensures logs { logs_of self.new ≡ logs_of self.old }
-        ensures queues { queues_of self.new ≡ queues_of self.old }
-        ensures rings { ringed_queues_of self.new ≡ ringed_queues_of self.old }
+        ensures logs_unchanged { logs_of self.new ≡ logs_of self.old }
+        ensures queues_unchanged { queues_of self.new ≡ queues_of self.old }
+        ensures rings_unchanged { ringed_queues_of self.new ≡ ringed_queues_of self.old }
     {
         match self.slots.get_mut(key) {
             Some(topic) => topic.replay_base(self.alloc, version),
@@ -672,42 +701,46 @@ impl Shard {
         }
     }
 
-    /// Keeps the document at a version, where there is one, and memory for it: at most eight of a document are
-    /// kept, those that were used last.
+    /// Caches the document at a version, unless it is absent or an allocation fails. At most eight
+    /// snapshots are cached, least recently used first out.
     pub fn offer(&mut self, key: &Key, version: u64, snapshot: Option<&Json>)
-        requires reached { version ≤ length (logs_of self.old (plain_key key.now)) }
+        requires bound { version ≤ length (logs_of self.old (plain_key key.now)) }
         requires snapshot { document_of (take version (logs_of self.old (plain_key key.now))) ≡
             option_map (λ v. value_of v.now) snapshot }
-        ensures made { IsMade (logs_of self.old (plain_key key.now)) }
-        ensures kept { CacheAfterOffer version (option_map (λ v. value_of v.now) snapshot.entry)
+        ensures is_made { IsMade (logs_of self.old (plain_key key.now)) }
+        ensures caches { CacheAfterOffer version (option_map (λ v. value_of v.now) snapshot.entry)
             (caches_of self.old (plain_key key.now)) (caches_of self.new (plain_key key.now)) }
-        ensures others { caches_of self.new ≡
+        ensures others_unchanged { caches_of self.new ≡
             with_cache (caches_of self.old) (plain_key key.now) (caches_of self.new (plain_key key.now)) }
-        ensures logs { logs_of self.new ≡ logs_of self.old }
-        ensures queues { queues_of self.new ≡ queues_of self.old }
-        ensures rings { ringed_queues_of self.new ≡ ringed_queues_of self.old }
+        ensures logs_unchanged { logs_of self.new ≡ logs_of self.old }
+        ensures queues_unchanged { queues_of self.new ≡ queues_of self.old }
+        ensures rings_unchanged { ringed_queues_of self.new ≡ ringed_queues_of self.old }
     {
         if let Some(topic) = self.slots.get_mut(key) {
             topic.offer(self.alloc, version, snapshot);
         }
     }
 
-    /// Lets the snapshots go that are kept of the document. It takes no memory.
+    /// Empties the document's snapshot cache. It doesn't allocate.
     pub fn forget(&mut self, key: &Key)
         ensures kept { caches_of self.new ≡ with_cache (caches_of self.old) (plain_key key.now) [] }
-        ensures logs { logs_of self.new ≡ logs_of self.old }
+        ensures logs_unchanged { logs_of self.new ≡ logs_of self.old }
         ensures queues { queues_of self.new ≡ queues_of self.old }
-        ensures rings { ringed_queues_of self.new ≡ ringed_queues_of self.old }
+        ensures rings_unchanged { ringed_queues_of self.new ≡ ringed_queues_of self.old }
     {
         if let Some(topic) = self.slots.get_mut(key) {
             topic.forget();
         }
     }
 
-    /// Opens a queue of a number that takes all stored operations from the version on, or from the present
-    /// one, and shows the document there. E4 where the version is above the present one; E11 where the numbers of
-    /// this key are used up, after 18446744073709551615 of them; E10 is want of memory for a queue that
-    /// was to be opened. Nothing has changed then.
+    /// Opens a queue of all entries from a version on, or from the current one if it is `None`, and
+    /// returns the current document. The queue belongs to the number `by`.
+    ///
+    /// # Errors
+    ///
+    /// [`Code::E4`] if the version is above the current one, [`Code::E11`] if the key's
+    /// 18,446,744,073,709,551,615 queue numbers are used up, [`Code::E10`] if an allocation fails.
+    /// No queue, ring buffer, cache or log changes.
     pub fn subscribe(
         &mut self,
         key: &Key,
@@ -717,13 +750,13 @@ impl Shard {
         ensures subscribes { SubscribesOrOutOfMemory (logs_of self.old (plain_key key.now)) by version
             (queues_of self.old (plain_key key.now)) (subscribe_result_view result) (queues_of self.new
             (plain_key key.now)) }
-        // The queue stands at its start, and nothing was taken.
+        // The queue is at its start: no entry was read.
         ensures open { IfOk result (λ s. queue_at s.id (queues_of self.new (plain_key key.now)).queues ≡
             Some (record { start = s.start; taken = 0; by = by })) }
-        ensures others { queues_of self.new ≡
+        ensures others_unchanged { queues_of self.new ≡
             with_queues (queues_of self.old) (plain_key key.now) (queues_of self.new (plain_key key.now)) }
-        ensures logs { logs_of self.new ≡ logs_of self.old }
-        ensures kept { caches_of self.new ≡ caches_of self.old }
+        ensures logs_unchanged { logs_of self.new ≡ logs_of self.old }
+        ensures caches_unchanged { caches_of self.new ≡ caches_of self.old }
         ensures rings { IfOk result (λ s. ringed_queues_of self.new
             ≡ with_ringed_queues (ringed_queues_of self.old) (plain_key key.now)
             (append_ringed_queue s.id by s.start (ringed_queues_of self.old (plain_key key.now)))) }
@@ -743,8 +776,13 @@ impl Shard {
         })
     }
 
-    /// The version that a queue would start at: the one that is named, or the present one. E4 where it is
-    /// above the present one, E11 where the numbers of this key are used up. It takes no memory.
+    /// Returns the version at which a queue would start: the given one, or the current one if it is
+    /// `None`. It doesn't allocate.
+    ///
+    /// # Errors
+    ///
+    /// [`Code::E4`] if the version is above the current one, [`Code::E11`] if the key's queue
+    /// numbers are used up.
     pub fn queue_start_or_full(&self, key: &Key, version: Option<u64>) -> Result<u64, Code>
         ensures { result ≡ queue_start_or_full (logs_of self.now (plain_key key.now)) version
             (queues_of self.now (plain_key key.now)) }
@@ -756,7 +794,7 @@ impl Shard {
         Err(Code::E11)
     }
 
-    // The version that a queue would start at, if the log has come so far.
+    // Returns the start version of a queue, or E4 if it is above the current one.
     fn queue_start(&self, key: &Key, version: Option<u64>) -> Result<u64, Code>
         ensures { result ≡ queue_start (logs_of self.now (plain_key key.now)) version }
     {
@@ -768,7 +806,7 @@ impl Shard {
         Ok(start)
     }
 
-    // Whether the numbers of the queues of this key are used up.
+    // Returns whether the key's queue numbers are used up.
     fn ids_exhausted(&self, key: &Key) -> bool
         ensures { result ≡ nat_eq (queues_of self.now (plain_key key.now)).next 18446744073709551615 }
     {
@@ -778,8 +816,8 @@ impl Shard {
         }
     }
 
-    /// How many entries a queue of the key has at hand, at most 64: `None` where no open queue has the
-    /// number. It takes no memory.
+    /// Returns the number of entries in a queue's ring buffer, at most 64, or `None` if the key has
+    /// no open queue of this number. It doesn't allocate.
     pub fn ring_entries(&self, key: &Key, id: SubId) -> Option<u64>
         ensures { result ≡ option_map length (rings_of self.now (plain_key key.now) id) }
     {
@@ -789,7 +827,7 @@ impl Shard {
         }
     }
 
-    // Opens a queue of a number at a version.
+    // Opens a queue at a version, for an owner number.
     fn open(&mut self, key: &Key, by: u64, start: u64) -> Result<SubId, Code>
         ensures ok { IfOk result (λ id. id ≡ (queues_of self.old (plain_key key.now)).next) }
         ensures opened { OnOk result
@@ -799,11 +837,11 @@ impl Shard {
             Some (record { start = start; taken = 0; by = by })) }
         ensures err { IfErr result
             (λ code. IsRefusalOrOutOfMemory (open_queue by start (queues_of self.old (plain_key key.now))) code) }
-        ensures same { OnErr result (queues_of self.new ≡ queues_of self.old) }
-        ensures others { queues_of self.new ≡
+        ensures unchanged_on_err { OnErr result (queues_of self.new ≡ queues_of self.old) }
+        ensures others_unchanged { queues_of self.new ≡
             with_queues (queues_of self.old) (plain_key key.now) (queues_of self.new (plain_key key.now)) }
-        ensures logs { logs_of self.new ≡ logs_of self.old }
-        ensures kept { caches_of self.new ≡ caches_of self.old }
+        ensures logs_unchanged { logs_of self.new ≡ logs_of self.old }
+        ensures caches_unchanged { caches_of self.new ≡ caches_of self.old }
         ensures rings { IfOk result (λ id. ringed_queues_of self.new
             ≡ with_ringed_queues (ringed_queues_of self.old) (plain_key key.now)
             (append_ringed_queue id by start (ringed_queues_of self.old (plain_key key.now)))) }
@@ -818,9 +856,13 @@ impl Shard {
         Ok(id)
     }
 
-    /// The next entries of a queue, at most `max`, fewer where the log ends; `None` where no open queue
-    /// of the key has the number `id`, or where it was opened under another number than `by`. Where
-    /// nothing waits it takes no memory; after want of memory nothing is taken.
+    /// Returns the next entries of a queue, at most `max`; fewer if the log ends before. Returns
+    /// `None` if the key has no open queue of this number, or if it belongs to another number than
+    /// `by`. Without pending entries it doesn't allocate.
+    ///
+    /// # Errors
+    ///
+    /// [`AllocError`] if an allocation fails. The queue is then unchanged.
     pub fn take(
         &mut self,
         key: &Key,
@@ -830,9 +872,9 @@ impl Shard {
     ) -> Result<Option<Vec<Entry>>, AllocError>
         ensures takes { TakesOrOutOfMemory (logs_of self.old (plain_key key.now)) by id max
             (queues_of self.old (plain_key key.now)) (taken_view result) (queues_of self.new (plain_key key.now)) }
-        ensures others { queues_of self.new ≡
+        ensures others_unchanged { queues_of self.new ≡
             with_queues (queues_of self.old) (plain_key key.now) (queues_of self.new (plain_key key.now)) }
-        ensures logs { logs_of self.new ≡ logs_of self.old }
+        ensures logs_unchanged { logs_of self.new ≡ logs_of self.old }
         ensures kept { caches_of self.new ≡ caches_of self.old }
         ensures rings { OnOk result (ringed_queues_of self.new
             ≡ with_ringed_queues (ringed_queues_of self.old) (plain_key key.now)
@@ -846,15 +888,15 @@ impl Shard {
         }
     }
 
-    /// Closes a queue of the key, which isn't found afterwards. It takes no memory. A number that no open
-    /// queue has, or one that was opened under another number than `by`, does nothing.
+    /// Closes a queue of the key. It has no effect if no open queue has this number, or if it
+    /// belongs to another number than `by`. It doesn't allocate.
     pub fn unsubscribe(&mut self, key: &Key, by: u64, id: SubId)
         ensures queues { queues_of self.new ≡ with_queues (queues_of self.old) (plain_key key.now)
             (close_queue by id (queues_of self.old (plain_key key.now))) }
-        ensures gone { is_open_by by id (queues_of self.old (plain_key key.now)).queues ≡ true →
+        ensures removed { is_open_by by id (queues_of self.old (plain_key key.now)).queues ≡ true →
             queue_at id (queues_of self.new (plain_key key.now)).queues ≡ None }
-        ensures logs { logs_of self.new ≡ logs_of self.old }
-        ensures kept { caches_of self.new ≡ caches_of self.old }
+        ensures logs_unchanged { logs_of self.new ≡ logs_of self.old }
+        ensures caches_unchanged { caches_of self.new ≡ caches_of self.old }
         ensures rings { ringed_queues_of self.new ≡ with_ringed_queues (ringed_queues_of self.old) (plain_key key.now)
             (remove_ringed_queue_by by id (ringed_queues_of self.old (plain_key key.now))) }
     {
@@ -864,7 +906,7 @@ impl Shard {
     }
 }
 
-// A copy of a content, which shares what it holds.
+// Clones a content, which may be absent.
 fn clone_content(content: Option<&Content>) -> Result<Option<Content>, AllocError>
     ensures { IfOk result (λ c. c ≡ option_map (λ k. k.now) content.entry) }
 {

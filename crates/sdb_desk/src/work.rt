@@ -1,4 +1,4 @@
-//! Looks, attempts, and the work on them.
+//! Looks, attempts and works.
 ghost use Rattle.std.specs.Prelude.{◌≡◌, [], true, IfOk, IfErr, IsErrOf, None, Ok, Err, OnErr, option_map, unwrap_or};
 ghost use Rattle.sdb_oplog.specs.Rebase.{rebase};
 ghost use Rattle.sdb_oplog.specs.Refusal.{IsRefusalOrOutOfMemory};
@@ -15,41 +15,39 @@ use std::alloc::Global;
 use std::marker::Model;
 use std::mem;
 
-/// What a look at a document shows of it for a submission.
+/// What is read before the work, for a submission.
 #[derive(Drop)]
 pub struct Look {
-    /// The present version.
+    /// The current version.
     pub version: u64,
-    /// The version at which the submission was stored long since.
+    /// The version of the submission's duplicate, if it has one.
     pub repeat: Option<u64>,
-    /// The entries that the submission has not seen: none where it is stored long since, or where its
-    /// version is above the present one.
+    /// The entries stored since the submission's base version. Empty for a duplicate, and if the
+    /// version is too new.
     pub missed: Vec<Entry>,
-    /// The present document, shared with the shard. It isn't shown where the submission is stored long
-    /// since.
+    /// The current document, shared with the shard. `None` for a duplicate.
     pub snapshot: Option<Json>,
 }
 
-/// A submission, and the look that it is worked on.
+/// A submission with its look.
 #[derive(Drop)]
 pub struct Attempt {
     pub submission: Submission,
     pub look: Look,
 }
 
-/// What the content of a submission is along the entries that it has missed.
+/// The content of a submission, transformed against its missed entries.
 #[derive(Drop)]
 pub enum RebasedContent {
-    /// It stays as it arrived.
+    /// Equal to the submitted content.
     Unchanged,
-    /// It became this.
+    /// Another content.
     Changed(Content),
-    /// It is refused by this code.
+    /// Refused with a code.
     Refused(Code),
 }
 
-/// An attempt, with what its content becomes along the entries that the look shows as missed, and what
-/// that makes of the document that the look shows.
+/// An attempt with its rebased content and the new document, or with the code of their refusal.
 #[derive(Drop)]
 pub struct Work {
     attempt: Attempt,
@@ -76,10 +74,11 @@ impl Model for Work {
 }
 
 impl Work {
-    /// The attempt, worked: the content or the code is what comes of the submission along the entries
-    /// that the look shows as missed, and the snapshot or the code is what the content makes of the document
-    /// that the look shows. The code of a content that is refused is both. A snapshot that isn't all shared
-    /// is copied by each look until the document is changed again.
+    /// Creates a work from results that the caller computed. `worked` is the content transformed
+    /// against `look.missed`, or its refusal. `snapshot` is that content applied to
+    /// `look.snapshot`, or its refusal, which is the code of `worked` if that is refused.
+    ///
+    /// A snapshot that isn't frozen is copied by each look until the document changes.
     pub fn new(
         attempt: Attempt,
         worked: Result<Content, Code>,
@@ -100,10 +99,13 @@ impl Work {
         }
     }
 
-    /// Works the attempt: carries the content along the entries that the look shows as missed, and applies it
-    /// to a copy of the document that the look shows, which shares what isn't touched. The attempt is handed
-    /// back for want of memory alone, where an edit was to be carried over an edit, or a document to be
-    /// changed.
+    /// Works the attempt: transforms its content against the missed entries, and applies the result
+    /// to a copy-on-write copy of the look's document.
+    ///
+    /// # Errors
+    ///
+    /// The attempt, unchanged, if an allocation fails. This needs an edit to transform against an
+    /// edit, or a document to change.
     pub fn compute(alloc: Global, attempt: Attempt) -> Result<Work, Attempt>
         ensures ok { IfOk result (λ w. w ≡ plain_attempt attempt) }
         ensures err { IfErr result (λ a. plain_attempt a ≡ plain_attempt attempt) }
@@ -119,9 +121,12 @@ impl Work {
         Work::from_content(alloc, attempt, worked)
     }
 
-    /// The work of an attempt whose content became this along the entries that the look shows as missed: it is
-    /// applied to a copy of the document that the look shows. The attempt is handed back for want of memory
-    /// alone, where a document was to be changed.
+    /// Creates the work of an attempt with this rebased content, and applies it to a copy of the
+    /// look's document.
+    ///
+    /// # Errors
+    ///
+    /// The attempt, unchanged, if an allocation fails. This needs a document to change.
     pub fn from_content(
         alloc: Global,
         attempt: Attempt,
@@ -145,29 +150,32 @@ impl Work {
         })
     }
 
-    /// The submission.
+    /// Returns the submission.
     pub fn submission(&self) -> &Submission
         ensures { result.now ≡ self.now.submission }
     {
         &self.attempt.submission
     }
 
-    /// The version that was looked at.
+    /// Returns the version of the look.
     pub fn version(&self) -> u64
         ensures { result ≡ self.now.look.version }
     {
         self.attempt.look.version
     }
 
-    /// The entries that were missed.
+    /// Returns the missed entries of the look.
     pub fn missed(&self) -> &[Entry]
         ensures { result.now ≡ self.now.look.missed }
     {
         self.attempt.look.missed.as_slice()
     }
 
-    /// What the content became, or the code that it was refused by; no content where it stays as it
-    /// arrived.
+    /// Returns the rebased content, or `None` if it equals the submitted one.
+    ///
+    /// # Errors
+    ///
+    /// The code with which the rebase refused the content.
     pub fn content(&self) -> Result<Option<&Content>, Code>
         ensures ok { IfOk result (λ c. rebase self.now.submission.content self.now.look.missed ≡
             Ok (unwrap_or (option_map (λ k. k.now) c) self.now.submission.content)) }
@@ -181,8 +189,11 @@ impl Work {
         }
     }
 
-    /// What the content made of the document that the look shows, or the code that it is refused by there or
-    /// was on the way; nothing is said of a submission that the look shows as stored long since.
+    /// Returns the new document. For a duplicate the result is unspecified.
+    ///
+    /// # Errors
+    ///
+    /// The code with which the rebase or the document refused the content.
     pub fn snapshot(&self) -> Result<Option<&Json>, Code>
         ensures ok { self.now.look.repeat ≡ None → IfOk result
             (λ d. work_result self.now ≡ Ok (option_map (λ v. value_of v.now) d)) }
@@ -194,14 +205,14 @@ impl Work {
         }
     }
 
-    /// The attempt, given back.
+    /// Returns the attempt.
     pub fn into_attempt(self) -> Attempt
         ensures { plain_attempt result ≡ self }
     {
         self.attempt
     }
 
-    /// The attempt and what its content became, given back.
+    /// Returns the attempt and its rebased content.
     pub fn into_parts(self) -> (Attempt, RebasedContent)
         ensures attempt { plain_attempt result.0 ≡ self }
         ensures worked { rebased_content_of self.submission.content result.1 ≡
@@ -210,12 +221,12 @@ impl Work {
         (self.attempt, self.rebased)
     }
 
-    /// Tells the work what was decided of it, and gives the answer: where it is stored, the entries that
-    /// the look showed as missed go into the answer, and the work keeps its submission. In all other
-    /// cases it stays as it is.
+    /// Updates the work after a decision and returns the outcome. If the submission is stored, the
+    /// missed entries move to the reply and the work keeps its submission. Otherwise the work is
+    /// unchanged.
     pub fn finish(&mut self, alloc: Global, decision: CommitDecision) -> Outcome
         ensures outcome { plain_outcome result ≡ outcome_of_decision self.old decision }
-        ensures keeps { WorkAfterCommit (plain_outcome result) self.old self.new }
+        ensures work { WorkAfterCommit (plain_outcome result) self.old self.new }
     {
         match decision {
             CommitDecision::Store { v } => Outcome::Decided(Reply::Stored {
@@ -226,11 +237,11 @@ impl Work {
         }
     }
 
-    // Takes the missed entries out of what was stored at a version, and lets the snapshots go. The submission
-    // stays, on a look that shows it as stored there.
+    // Takes the missed entries and drops the documents. The submission keeps a look that has it as
+    // a duplicate at `v`.
     fn take_missed_entries(&mut self, alloc: Global, v: u64) -> Vec<Entry>
         ensures missed { result.items ≡ self.old.look.missed }
-        ensures submission { self.new.submission ≡ self.old.submission }
+        ensures submission_unchanged { self.new.submission ≡ self.old.submission }
     {
         self.rebased = RebasedContent::Unchanged;
         self.new_document = Ok(None);
@@ -240,8 +251,7 @@ impl Work {
     }
 }
 
-// What the content that was worked makes of the document that the look shows. Nothing, where the look shows the
-// submission as stored long since.
+// Applies the rebased content to the look's document. Returns `None` for a duplicate.
 fn apply_rebased(
     alloc: Global,
     attempt: &Attempt,

@@ -8,7 +8,7 @@ use Rattle.std.specs.Ordering.{is_lt, ordering_reverse}
 use Rattle.std.proofs.Math.Seq.{get_or-append_seam}
 use Rattle.std.proofs.lemmas.Bool.{cases_Bool}
 use Rattle.std.proofs.lemmas.Option.{slice_get-get_or}
-use Rattle.sdb_desk.specs.MapLaws.{updated_of_insert}
+use Rattle.sdb_desk.specs.laws.MapLaws.{updated_of_insert}
 use Rattle.sdb_oplog.specs.Keys.{PlainKey, Logs, plain_key, compare_keys, keys_equal, with_log}
 use Rattle.sdb_oplog.specs.Plain.{PlainEntry}
 use Rattle.sdb_oplog.specs.declared.keys.Key.{Key}

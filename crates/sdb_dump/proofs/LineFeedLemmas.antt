@@ -9,7 +9,7 @@ use Rattle.json.specs.Token as token
 use Rattle.json.proofs.Printed.Strings.{escape_byte_plain}
 use Rattle.serde_json.specs.Data.{Num, unsigned, negative, float, Data, null, boolean, number, string, array, object, Items, no_items, item, Members, no_members, member}
 use Rattle.serde_json.specs.Written.{number_text, comma_if, compact_text, items_text, members_text}
-use Rattle.sdb_dump.specs.SoundData.{IsSafeNumber, IsSoundData, AreSound, MembersSound}
+use Rattle.sdb_dump.specs.laws.SoundData.{IsSafeNumber, IsSoundData, AreSound, MembersSound}
 use Rattle.sdb_dump.specs.LineSplit.{HasNoLineFeed}
 
 pub line_append : (xs ys : List ℕ) → HasNoLineFeed xs → HasNoLineFeed ys → HasNoLineFeed (xs ++ ys)

@@ -9,7 +9,7 @@ use Rattle.sdb_dump.specs.declared.version.DumpVersion.{DumpVersion}
 use Rattle.sdb_dump.specs.declared.version.DumpVersion.TheVariants.{One, Two}
 use Rattle.sdb_dump.specs.DumpLine.{dump_version_number, written_moment, line_data}
 use Rattle.sdb_dump.proofs.ReadBackEntries.{line_sound, shown_counts}
-use Rattle.sdb_dump.specs.SoundData.{IsSoundData}
+use Rattle.sdb_dump.specs.laws.SoundData.{IsSoundData}
 use Rattle.json.proofs.Printed.Utf8.{are_ascii, IsUtf8-are_ascii}
 use Rattle.serde_json.specs.Data.{number, unsigned, object, no_members, member}
 use Rattle.sdb_dump.specs.LineSplit.{cons_line, split_lines, check_text, HasNoLineFeed}

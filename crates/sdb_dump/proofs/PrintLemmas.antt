@@ -6,7 +6,7 @@ use Rattle.json.specs.Print.{quoted}
 use Rattle.json.proofs.Printed.Utf8.{IsUtf8-are_ascii, IsUtf8-quoted, IsUtf8-boolean}
 use Rattle.serde_json.specs.Data.{Num, unsigned, negative, float, Data, null, boolean, number, string, array, object, Items, no_items, item, Members, no_members, member}
 use Rattle.serde_json.specs.Written.{number_text, comma_if, compact_text, items_text, members_text}
-use Rattle.sdb_dump.specs.SoundData.{IsSafeNumber, IsSoundData, AreSound, MembersSound}
+use Rattle.sdb_dump.specs.laws.SoundData.{IsSafeNumber, IsSoundData, AreSound, MembersSound}
 
 comma_utf8 : (b : Bool) → IsUtf8 (comma_if b)
 comma_utf8 true = IsUtf8-are_ascii (44 ∷ []) refl

@@ -11,7 +11,7 @@ use Rattle.sdb_value.specs.FromJson.{count_of}
 use Rattle.sdb_component.specs.Plain.{PlainAct, na, si, sd, li, ld, lr, oi, od, or, PlainComponent}
 use Rattle.sdb_component.specs.ToJson.{step_data, path_items, path_data, last_step, full_path, act_members, component_data, component_items, op_data}
 use Rattle.sdb_component.specs.FromJson.{path_step_of, path_steps_of, data_item_count, path_of, split_last_index, split_last_key, unless_empty, one_component, component_of, components_of, op_of}
-use Rattle.sdb_dump.specs.SoundData.{IsSoundData, AreSound, MembersSound}
+use Rattle.sdb_dump.specs.laws.SoundData.{IsSoundData, AreSound, MembersSound}
 use Rattle.sdb_dump.specs.ValueLimits.{IsSafeInteger, StepInLimits, StepsInLimits, ActInLimits, ComponentInLimits, ComponentsInLimits}
 use Rattle.sdb_dump.proofs.ReadBackValues.{integer_sound, integer_back, value_sound, value_deep, profile_back}
 

@@ -16,7 +16,7 @@ use Rattle.serde_json.specs.Read.{number_of, of_json, of_items, of_members, read
 use Rattle.serde_json.specs.Written.{number_text, outline, items_outline, members_outline, compact_text}
 use Rattle.serde_json.proofs.Numbers.{number_of-decimal, number_of-negative}
 use Rattle.serde_json.proofs.Texts.{print-outline}
-use Rattle.sdb_dump.specs.SoundData.{IsSafeNumber, IsKeyBelowAll, IsSoundData, AreSound, MembersSound}
+use Rattle.sdb_dump.specs.laws.SoundData.{IsSafeNumber, IsKeyBelowAll, IsSoundData, AreSound, MembersSound}
 
 -- ---- the outline has numbers, and is as deep
 

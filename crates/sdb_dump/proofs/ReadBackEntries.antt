@@ -15,7 +15,7 @@ use Rattle.sdb_oplog.specs.Keys.{PlainKey}
 use Rattle.sdb_oplog.specs.Plain.{PlainContent, create, delete, edit, PlainSubmission, PlainEntry}
 use Rattle.sdb_wire.specs.Answers.{create_data}
 use Rattle.sdb_wire.specs.Wire.{name_value, read_optional, present_member, content_of}
-use Rattle.sdb_dump.specs.SoundData.{IsSoundData, MembersSound, IsKeyBelowAll}
+use Rattle.sdb_dump.specs.laws.SoundData.{IsSoundData, MembersSound, IsKeyBelowAll}
 use Rattle.sdb_dump.specs.ValueLimits.{IsSafeInteger, ValueInLimits, ComponentsInLimits}
 use Rattle.std.proofs.lemmas.Str.{is_utf8-from_IsUtf8}
 use Rattle.sdb_dump.proofs.ReadBackData.{read_compact}

@@ -8,8 +8,8 @@ use Rattle.serde_json.specs.Find.{of_integer}
 use Rattle.sdb_value.specs.Value.{Value, null, truth, whole, text, list, object, Items, no_items, item, Members, no_members, member, depth, items_depth, members_depth}
 use Rattle.sdb_value.specs.FromJson.{checked_whole, whole_of, value_of_data, items_of_data, members_of_data, bounded_value_of_data, data_of_value, data_of_items, data_of_members}
 use Rattle.sdb_value.specs.WellFormed.{IsInRange, IsKeyBelowAll, IsWellFormed, AreWellFormed, MembersWellFormed}
-use Rattle.sdb_dump.specs.SoundData as sound
-use Rattle.sdb_dump.specs.SoundData.{IsSafeNumber, IsSoundData, AreSound, MembersSound}
+use Rattle.sdb_dump.specs.laws.SoundData as sound
+use Rattle.sdb_dump.specs.laws.SoundData.{IsSafeNumber, IsSoundData, AreSound, MembersSound}
 use Rattle.sdb_dump.specs.ValueLimits.{ValueInLimits}
 
 le_of_pos_le : (n m : ℕ) → pos n ≤ℤ pos m → n ≤ m

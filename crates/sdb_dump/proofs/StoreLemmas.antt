@@ -8,7 +8,7 @@ use Rattle.sdb_value.specs.View.{value_of}
 use Rattle.sdb_value.specs.declared.value.Json.{Json}
 use Rattle.sdb_desk.specs.DocumentModel.{IsMadeDocument, WillStore}
 use Rattle.sdb_oplog.specs.Decide.{decide, missed_entries, stored, IsMade}
-use Rattle.sdb_oplog.specs.Laws.{document_of_snap, decides_stored, made_of_decide, document_of_append}
+use Rattle.sdb_oplog.specs.laws.LogLaws.{document_of_snap, decides_stored, made_of_decide, document_of_append}
 use Rattle.sdb_oplog.specs.LogInvariant.{appended_entry}
 use Rattle.sdb_oplog.specs.Plain.{PlainContent, PlainEntry, PlainSubmission, PlainReservedAppend}
 use Rattle.sdb_oplog.specs.Snap.{apply_content, snap}

@@ -9,12 +9,12 @@ pub mod DumpLine
 pub mod LogListing
 pub mod LogDumps
 pub mod PrintLaws
-pub mod SoundData
 pub mod CheckStages
 pub mod DecideModel
 pub mod CheckText
 pub mod Utf8Facts
 pub mod View
 pub mod EntryLimits
-pub mod Examples
 pub mod WriteModel
+pub mod laws
+pub mod worked

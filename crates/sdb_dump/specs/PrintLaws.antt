@@ -4,7 +4,7 @@ use Rattle.std.specs.Str.{IsUtf8}
 use Rattle.serde_json.specs.Data.{Data, depth}
 use Rattle.serde_json.specs.Read.{read, max_depth}
 use Rattle.serde_json.specs.Written.{compact_text}
-use Rattle.sdb_dump.specs.SoundData.{IsSoundData}
+use Rattle.sdb_dump.specs.laws.SoundData.{IsSoundData}
 
 -- the compact text of sound data, nested as deep as a reader goes, denotes those data
 abbrev pub PrintedReadsBack : Type 0

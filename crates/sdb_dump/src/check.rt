@@ -18,10 +18,10 @@ const BUFFER_LEN: usize = 65_536;
 /// line may have any length.
 pub fn check_dump<R: Source>(alloc: Global, reader: &mut R) -> Result<CheckedDump, DumpFault>
     ensures accepted { IfOk result (λ c. IfSome (R.remaining_input reader.old) (λ text. AcceptsText c text)) }
-    ensures wrong { IfErr result (λ f. IfSome (R.remaining_input reader.old) (λ text. IsDumpFault f
+    ensures fault { IfErr result (λ f. IfSome (R.remaining_input reader.old) (λ text. IsDumpFault f
         (check_text text))) }
     // No read failed, but for the one that is the fault.
-    ensures reads { DumpReadFaultIsCounted result (R.calls reader.old) (R.failures reader.old)
+    ensures read_failures { DumpReadFaultIsCounted result (R.calls reader.old) (R.failures reader.old)
         (R.calls reader.new) (R.failures reader.new) }
 {
     let mut space = reserve_buffer(alloc)?;
@@ -40,13 +40,13 @@ pub fn check_dump<R: Source>(alloc: Global, reader: &mut R) -> Result<CheckedDum
 
 // Takes the lines that end in this piece of the text, and holds the rest of it.
 fn check_chunk(checker: &mut Checker, held: &mut Vec<u8>, piece: &[u8]) -> Result<(), DumpFault>
-    requires room { checker.old.entries + length piece.now + 3 < 2 ^ 64 }
-    ensures few { OnOk result (checker.new.entries ≤ checker.old.entries + length piece.now) }
+    requires counter_bound { checker.old.entries + length piece.now + 3 < 2 ^ 64 }
+    ensures bound { OnOk result (checker.new.entries ≤ checker.old.entries + length piece.now) }
     ensures taken { OnOk result ((s : PlainStage) → CheckerAtStage checker.old s →
         CheckContinues s held.old.items piece.now checker.new held.new.items) }
-    ensures wrong { IfErr result (λ f. (s : PlainStage) → CheckerAtStage checker.old s → (rest : List ℕ) →
+    ensures fault { IfErr result (λ f. (s : PlainStage) → CheckerAtStage checker.old s → (rest : List ℕ) →
         IsDumpFault f (check_result_from s held.old.items (piece.now ++ rest))) }
-    ensures unread { IsErrOf result DumpFault.ReadFailed → ⊥ }
+    ensures never_read_failed { IsErrOf result DumpFault.ReadFailed → ⊥ }
 {
     let mut rest = piece;
     while let Some(at) = first_line_feed(rest) {
@@ -59,14 +59,14 @@ fn check_chunk(checker: &mut Checker, held: &mut Vec<u8>, piece: &[u8]) -> Resul
 
 // Takes the line that ends with this piece.
 fn check_line(checker: &mut Checker, held: &mut Vec<u8>, piece: &[u8]) -> Result<(), DumpFault>
-    requires room { checker.old.entries + 3 < 2 ^ 64 }
-    ensures few { OnOk result (checker.new.entries ≤ checker.old.entries + 1) }
-    ensures held { OnOk result (held.new.items ≡ []) }
+    requires counter_bound { checker.old.entries + 3 < 2 ^ 64 }
+    ensures bound { OnOk result (checker.new.entries ≤ checker.old.entries + 1) }
+    ensures partial_line { OnOk result (held.new.items ≡ []) }
     ensures taken { OnOk result ((s : PlainStage) → CheckerAtStage checker.old s →
         CheckerAtStage checker.new (stage_after_line s (held.old.items ++ piece.now))) }
-    ensures wrong { IfErr result (λ f. (s : PlainStage) → CheckerAtStage checker.old s →
+    ensures fault { IfErr result (λ f. (s : PlainStage) → CheckerAtStage checker.old s →
         IsStageFault f (stage_after_line s (held.old.items ++ piece.now))) }
-    ensures unread { IsErrOf result DumpFault.ReadFailed → ⊥ }
+    ensures never_read_failed { IsErrOf result DumpFault.ReadFailed → ⊥ }
 {
     held.extend_from_slice(piece)?;
     checker.check_line(held.as_slice())?;

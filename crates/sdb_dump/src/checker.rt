@@ -59,7 +59,7 @@ impl CheckedDump {
     /// The log of the document, if something is stored of it.
     pub fn log(&self, key: &Key) -> Option<&Log>
         ensures log { unwrap_or (option_map (λ l. l.now) result) [] ≡ accepted_logs self.now (plain_key key.now) }
-        ensures made { IsMade (accepted_logs self.now (plain_key key.now)) }
+        ensures is_made { IsMade (accepted_logs self.now (plain_key key.now)) }
     {
         match self.logs.get(key) {
             Some(made) => Some(made.log()),
@@ -109,13 +109,13 @@ impl Checker {
 
     // Takes the next line. After a fault nothing is said of what was checked.
     pub fn check_line(&mut self, line: &[u8]) -> Result<(), DumpFault>
-        requires room { self.old.entries + 3 < 2 ^ 64 }
-        ensures few { OnOk result (self.new.entries ≤ self.old.entries + 1) }
+        requires counter_bound { self.old.entries + 3 < 2 ^ 64 }
+        ensures bound { OnOk result (self.new.entries ≤ self.old.entries + 1) }
         ensures taken { OnOk result ((s : PlainStage) → CheckerAtStage self.old s
             → CheckerAtStage self.new (stage_after_line s line.now)) }
-        ensures wrong { IfErr result (λ f. (s : PlainStage) → CheckerAtStage self.old s
+        ensures fault { IfErr result (λ f. (s : PlainStage) → CheckerAtStage self.old s
             → IsStageFault f (stage_after_line s line.now)) }
-        ensures unread { IsErrOf result DumpFault.ReadFailed → ⊥ }
+        ensures never_read_failed { IsErrOf result DumpFault.ReadFailed → ⊥ }
     {
         match self.stage {
             Stage::Header => self.check_header(line),
@@ -126,12 +126,12 @@ impl Checker {
 
     fn check_header(&mut self, line: &[u8]) -> Result<(), DumpFault>
         requires head { self.old.stage ≡ Header }
-        ensures same { OnOk result (self.new.entries ≡ self.old.entries) }
+        ensures equal { OnOk result (self.new.entries ≡ self.old.entries) }
         ensures taken { OnOk result ((s : PlainStage) → CheckerAtStage self.old s
             → CheckerAtStage self.new (stage_after_line s line.now)) }
-        ensures wrong { IfErr result (λ f. (s : PlainStage) → CheckerAtStage self.old s
+        ensures fault { IfErr result (λ f. (s : PlainStage) → CheckerAtStage self.old s
             → IsStageFault f (stage_after_line s line.now)) }
-        ensures unread { IsErrOf result DumpFault.ReadFailed → ⊥ }
+        ensures never_read_failed { IsErrOf result DumpFault.ReadFailed → ⊥ }
     {
         let Some(version) = version_of(line) else {
             return Err(DumpFault::WrongLine { line: 1 });
@@ -142,13 +142,13 @@ impl Checker {
 
     fn check_body(&mut self, version: DumpVersion, line: &[u8]) -> Result<(), DumpFault>
         requires body { self.old.stage ≡ Body version }
-        requires room { self.old.entries + 3 < 2 ^ 64 }
-        ensures few { OnOk result (self.new.entries ≤ self.old.entries + 1) }
+        requires counter_bound { self.old.entries + 3 < 2 ^ 64 }
+        ensures bound { OnOk result (self.new.entries ≤ self.old.entries + 1) }
         ensures taken { OnOk result ((s : PlainStage) → CheckerAtStage self.old s
             → CheckerAtStage self.new (stage_after_line s line.now)) }
-        ensures wrong { IfErr result (λ f. (s : PlainStage) → CheckerAtStage self.old s
+        ensures fault { IfErr result (λ f. (s : PlainStage) → CheckerAtStage self.old s
             → IsStageFault f (stage_after_line s line.now)) }
-        ensures unread { IsErrOf result DumpFault.ReadFailed → ⊥ }
+        ensures never_read_failed { IsErrOf result DumpFault.ReadFailed → ⊥ }
     {
         let last = count_line(self.alloc, self.entries)?;
         if line == last.as_bytes() {
@@ -165,9 +165,9 @@ impl Checker {
 
     // Enters the entry that the line is of. False where it is of none that is stored next.
     fn accept_entry(&mut self, version: DumpVersion, line: &[u8]) -> Result<bool, AllocError>
-        requires room { self.old.entries + 3 < 2 ^ 64 }
-        ensures few { self.new.entries ≤ self.old.entries + 1 }
-        ensures stage { self.new.stage ≡ self.old.stage }
+        requires counter_bound { self.old.entries + 3 < 2 ^ 64 }
+        ensures bound { self.new.entries ≤ self.old.entries + 1 }
+        ensures stage_unchanged { self.new.stage ≡ self.old.stage }
         ensures enters { IfOk result (λ b. (xs : List PlainLine) → CheckerHolds self.old xs →
             AcceptsOrRejects b (accepted_line version xs line.now) self.new xs) }
     {
@@ -184,10 +184,10 @@ impl Checker {
         line: &[u8],
         read: LineContent,
     ) -> Result<bool, AllocError>
-        requires room { self.old.entries + 3 < 2 ^ 64 }
+        requires counter_bound { self.old.entries + 3 < 2 ^ 64 }
         requires fits { KeyInLimits (plain_key read.key) × SubmissionInLimits read.submission }
-        ensures few { self.new.entries ≤ self.old.entries + 1 }
-        ensures stage { self.new.stage ≡ self.old.stage }
+        ensures bound { self.new.entries ≤ self.old.entries + 1 }
+        ensures stage_unchanged { self.new.stage ≡ self.old.stage }
         ensures enters { IfOk result (λ b. (xs : List PlainLine) → CheckerHolds self.old xs →
             AcceptsOrRejects b (line_of_read version xs line.now (plain_line_content read)) self.new xs) }
     {
@@ -215,7 +215,7 @@ impl Checker {
     // Takes out the document that a line of this key goes on with: the last one, or, where the key is above its, one of
     // which nothing is stored yet. `None` where the key is below it.
     fn take_decided_log(&mut self, key: &Key) -> Result<Option<DecidedLog>, AllocError>
-        ensures stage { self.new.stage ≡ self.old.stage }
+        ensures stage_unchanged { self.new.stage ≡ self.old.stage }
         ensures entries { self.new.entries ≡ self.old.entries }
         ensures takes { IfOk result (λ d. (xs : List PlainLine) → CheckerHolds self.old xs →
             TakesDecidedLog xs (plain_key key.now) self.new d) }
@@ -237,7 +237,7 @@ impl Checker {
     fn keep_log(&mut self, last: LastDocument) -> Result<(), AllocError>
         ensures kept { OnOk result (self.new.logs.entries ≡
             insert_entry (λ a b. compare_keys (plain_key a) (plain_key b)) self.old.logs.entries last.key last.document) }
-        ensures stage { self.new.stage ≡ self.old.stage }
+        ensures stage_unchanged { self.new.stage ≡ self.old.stage }
         ensures last { self.new.last ≡ self.old.last }
         ensures entries { self.new.entries ≡ self.old.entries }
     {
@@ -248,12 +248,12 @@ impl Checker {
 
     // Accepts what was checked, where nothing comes but these bytes without a line feed.
     pub fn finish(self, rest: &[u8]) -> Result<CheckedDump, DumpFault>
-        requires room { self.entries + 3 < 2 ^ 64 }
+        requires counter_bound { self.entries + 3 < 2 ^ 64 }
         ensures accepted { IfOk result (λ c. (s : PlainStage) → CheckerAtStage self s →
             (xs : List PlainLine) × (stage_result s rest.now ≡ Ok xs) × AcceptedHasAll c xs) }
-        ensures wrong { IfErr result (λ f. (s : PlainStage) → CheckerAtStage self s
+        ensures fault { IfErr result (λ f. (s : PlainStage) → CheckerAtStage self s
             → IsDumpFault f (stage_result s rest.now)) }
-        ensures unread { IsErrOf result DumpFault.ReadFailed → ⊥ }
+        ensures never_read_failed { IsErrOf result DumpFault.ReadFailed → ⊥ }
     {
         match self.stage {
             Stage::Header => Err(DumpFault::WrongLine { line: 1 }),
@@ -281,7 +281,7 @@ impl Checker {
 
     // What is wrong so many lines behind the entries that were checked.
     fn wrong_line(&self, behind: u128) -> DumpFault
-        requires room { self.now.entries + behind < 2 ^ 64 }
+        requires counter_bound { self.now.entries + behind < 2 ^ 64 }
         ensures { result ≡ WrongLine (self.now.entries + behind) }
     {
         DumpFault::WrongLine {

@@ -37,7 +37,7 @@ impl Model for MadeLog {
 impl MadeLog {
     pub fn log(&self) -> &Log
         ensures log { result.now ≡ self.now }
-        ensures made { IsMade self.now }
+        ensures is_made { IsMade self.now }
     {
         &self.log
     }
@@ -138,7 +138,7 @@ fn decide_content(
     submission: &Submission,
     present: &mut Option<Json>,
 ) -> Result<Option<Content>, Code>
-    requires open { CanStore log.now submission.now }
+    requires can_store { CanStore log.now submission.now }
     requires present { option_map value_of present.old ≡ document_of log.now }
     ensures ok { IfOk result (λ content. WillStore log.now submission.now content (option_map value_of present.new)) }
     ensures err { IfErr result (IsNeverStoredOrOutOfMemory log.now submission.now) }

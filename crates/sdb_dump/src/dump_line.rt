@@ -74,7 +74,7 @@ fn write_line(
 ) -> Result<(), AllocError>
     ensures tokens { OnOk result (out.new.tokens ≡ out.old.tokens ++ data_tokens
         (line_data (plain_key key.now) entry.now (written_moment version (entry.now).moment))) }
-    ensures before { out.new.before ≡ out.old.before }
+    ensures before_unchanged { out.new.before ≡ out.old.before }
 {
     out.begin_object()?;
     out.key("arrived")?;
@@ -98,7 +98,7 @@ fn written_moment(version: DumpVersion, moment: Moment) -> Option<Moment>
 // The content as it came, and the version.
 fn write_arrived(submission: &Submission, out: &mut Writer) -> Result<(), AllocError>
     ensures tokens { OnOk result (out.new.tokens ≡ out.old.tokens ++ data_tokens (arrived_data submission.now)) }
-    ensures before { out.new.before ≡ out.old.before }
+    ensures before_unchanged { out.new.before ≡ out.old.before }
 {
     out.begin_object()?;
     write_arrived_content(submission.content(), out)?;
@@ -114,7 +114,7 @@ fn write_arrived(submission: &Submission, out: &mut Writer) -> Result<(), AllocE
 fn write_arrived_content(content: &Content, out: &mut Writer) -> Result<(), AllocError>
     ensures tokens { OnOk result ((w : Data) → out.new.tokens ++ object_tail_tokens (member (codes "v") w no_members)
         ≡ out.old.tokens ++ object_tail_tokens (arrived_members content.now w)) }
-    ensures before { out.new.before ≡ out.old.before }
+    ensures before_unchanged { out.new.before ≡ out.old.before }
 {
     match content.kind() {
         Kind::Create(value) => {
@@ -142,7 +142,7 @@ fn write_content(
     ensures tokens { OnOk result ((rest : Members) → out.new.tokens ++ object_tail_tokens rest
         ≡ out.old.tokens ++ object_tail_tokens (content_members_with_moment
         (plain_key key.now) content.now moment rest)) }
-    ensures before { out.new.before ≡ out.old.before }
+    ensures before_unchanged { out.new.before ≡ out.old.before }
 {
     write_text("c", key.collection.as_str(), out)?;
     match content.kind() {
@@ -171,7 +171,7 @@ fn write_content(
 fn write_moment(moment: Option<Moment>, out: &mut Writer) -> Result<(), AllocError>
     ensures tokens { OnOk result ((rest : Members) → out.new.tokens ++ object_tail_tokens rest
         ≡ out.old.tokens ++ object_tail_tokens (push_moment moment rest)) }
-    ensures before { out.new.before ≡ out.old.before }
+    ensures before_unchanged { out.new.before ≡ out.old.before }
 {
     match moment {
         Some(moment) => write_count("m", moment.milliseconds(), out),
@@ -182,7 +182,7 @@ fn write_moment(moment: Option<Moment>, out: &mut Writer) -> Result<(), AllocErr
 // What follows the content and the moment, and the end.
 fn write_tail(entry: &Entry, out: &mut Writer) -> Result<(), AllocError>
     ensures tokens { OnOk result (out.new.tokens ≡ out.old.tokens ++ object_tail_tokens (line_tail entry.now)) }
-    ensures before { out.new.before ≡ out.old.before }
+    ensures before_unchanged { out.new.before ≡ out.old.before }
 {
     write_count("seq", entry.arrived().seq(), out)?;
     write_text("src", entry.arrived().src(), out)?;

@@ -40,15 +40,15 @@ pub fn write_dump<D: DumpSource, W: Sink>(
     documents: &D,
     writer: &mut W,
 ) -> Result<u128, RunFault>
-    ensures whole { OnOk result
+    ensures wrote_all { OnOk result
         (WroteDump (D.logs documents.now) (W.bytes_written writer.old) (W.bytes_written writer.new)) }
     ensures entries { IfOk result (λ n. HasEntryCount (D.logs documents.now) n) }
     // After a fault nothing was written, or a front of the dump.
-    ensures front { OnErr result
+    ensures prefix_on_err { OnErr result
         (WroteDumpPrefix (D.logs documents.now) (W.bytes_written writer.old) (W.bytes_written writer.new)) }
     // No write or flush failed, but for the one that is the fault.
-    ensures writes { WriteFaultIsCounted result (W.failures writer.old) (W.failures writer.new) }
-    ensures read { IsErrOf result RunFault.ReadFailed → ⊥ }
+    ensures write_failures { WriteFaultIsCounted result (W.failures writer.old) (W.failures writer.new) }
+    ensures never_read_failed { IsErrOf result RunFault.ReadFailed → ⊥ }
 {
     let keys = documents.keys()?;
     let mut out = Vec::with_capacity(alloc, OUTPUT_LIMIT)?;
@@ -70,13 +70,13 @@ fn write_logs<D: DumpSource, W: Sink>(
 ) -> Result<u128, RunFault>
     ensures wrote { OnOk result (WroteUpTo (W.bytes_written writer.old) (W.bytes_written writer.new)
         (out.old.items ++ logs_text (D.logs documents.now) (map plain_key keys.now)) out.new.items) }
-    ensures counted { IfOk result (λ n. n ≡ length (lines_of_logs (D.logs documents.now) (map plain_key keys.now))) }
-    ensures front { OnErr result (AppendsPrefix (W.bytes_written writer.old) (W.bytes_written writer.new)
+    ensures count { IfOk result (λ n. n ≡ length (lines_of_logs (D.logs documents.now) (map plain_key keys.now))) }
+    ensures prefix_on_err { OnErr result (AppendsPrefix (W.bytes_written writer.old) (W.bytes_written writer.new)
         (out.old.items ++ logs_text (D.logs documents.now) (map plain_key keys.now))) }
-    ensures writes { (W.failures writer.new ≡ W.failures writer.old) ⊎ IsErrOf result RunFault.WriteFailed }
-    ensures write { IsErrOf result RunFault.WriteFailed →
+    ensures write_failures { (W.failures writer.new ≡ W.failures writer.old) ⊎ IsErrOf result RunFault.WriteFailed }
+    ensures write_failed { IsErrOf result RunFault.WriteFailed →
         W.failures writer.new ≡ failures_after true (W.failures writer.old) }
-    ensures read { IsErrOf result RunFault.ReadFailed → ⊥ }
+    ensures never_read_failed { IsErrOf result RunFault.ReadFailed → ⊥ }
 {
     let mut count: u128 = 0;
     for key in keys {
@@ -107,12 +107,12 @@ fn write_log<W: Sink>(
 ) -> Result<(), RunFault>
     ensures wrote { OnOk result (WroteUpTo (W.bytes_written writer.old) (W.bytes_written writer.new)
         (out.old.items ++ log_text (plain_key key.now) entries.now) out.new.items) }
-    ensures front { OnErr result (AppendsPrefix (W.bytes_written writer.old) (W.bytes_written writer.new)
+    ensures prefix_on_err { OnErr result (AppendsPrefix (W.bytes_written writer.old) (W.bytes_written writer.new)
         (out.old.items ++ log_text (plain_key key.now) entries.now)) }
-    ensures writes { (W.failures writer.new ≡ W.failures writer.old) ⊎ IsErrOf result RunFault.WriteFailed }
-    ensures write { IsErrOf result RunFault.WriteFailed →
+    ensures write_failures { (W.failures writer.new ≡ W.failures writer.old) ⊎ IsErrOf result RunFault.WriteFailed }
+    ensures write_failed { IsErrOf result RunFault.WriteFailed →
         W.failures writer.new ≡ failures_after true (W.failures writer.old) }
-    ensures read { IsErrOf result RunFault.ReadFailed → ⊥ }
+    ensures never_read_failed { IsErrOf result RunFault.ReadFailed → ⊥ }
 {
     for entry in entries {
         append_line(alloc, DumpVersion::Two, key, entry, out)?;
@@ -126,9 +126,9 @@ fn write_log<W: Sink>(
 fn flush_if_full<W: Sink>(out: &mut Vec<u8>, writer: &mut W) -> Result<(), RunFault>
     ensures wrote { OnOk result (WroteUpTo (W.bytes_written writer.old) (W.bytes_written writer.new)
         out.old.items out.new.items) }
-    ensures front { OnErr result (AppendsPrefix (W.bytes_written writer.old)
+    ensures prefix_on_err { OnErr result (AppendsPrefix (W.bytes_written writer.old)
         (W.bytes_written writer.new) out.old.items) }
-    ensures unfailed { OnOk result (W.failures writer.new ≡ W.failures writer.old) }
+    ensures no_failure { OnOk result (W.failures writer.new ≡ W.failures writer.old) }
     ensures fault { OnErr result (IsErrOf result RunFault.WriteFailed
         × (W.failures writer.new ≡ failures_after true (W.failures writer.old))) }
 {
@@ -150,8 +150,9 @@ fn push_count(alloc: Global, count: u128, out: &mut Vec<u8>) -> Result<(), Alloc
 // Writes all of the output, and flushes it.
 fn write_and_flush<W: Sink>(mut out: Vec<u8>, writer: &mut W) -> Result<(), RunFault>
     ensures wrote { OnOk result (Appends (W.bytes_written writer.old) (W.bytes_written writer.new) out.items) }
-    ensures front { OnErr result (AppendsPrefix (W.bytes_written writer.old) (W.bytes_written writer.new) out.items) }
-    ensures unfailed { OnOk result (W.failures writer.new ≡ W.failures writer.old) }
+    ensures prefix_on_err { OnErr result (AppendsPrefix (W.bytes_written writer.old)
+        (W.bytes_written writer.new) out.items) }
+    ensures no_failure { OnOk result (W.failures writer.new ≡ W.failures writer.old) }
     ensures fault { OnErr result (IsErrOf result RunFault.WriteFailed
         × (W.failures writer.new ≡ failures_after true (W.failures writer.old))) }
 {

@@ -42,6 +42,6 @@ pub trait Job<T: Grows> {
     fn run(self, number: u64, value: &mut T) -> Self::Answer
         requires { precondition self number value.old }
         ensures extends { T.extends value.new value.old }
-        ensures others { (k : ℕ) → k ≢ number → T.same k value.old value.new }
+        ensures others_unchanged { (k : ℕ) → k ≢ number → T.same k value.old value.new }
         ensures does { postcondition self number value.old value.new result };
 }

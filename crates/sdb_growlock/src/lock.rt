@@ -28,7 +28,7 @@ impl<T: Grows> GrowLock<T> {
     /// A lock round the value, and its first seat. Where memory is wanting the value comes back.
     pub fn new(alloc: Global, value: T) -> Result<(GrowLock<T>, Seat<T>), T>
         requires clear { (k : ℕ) → 0 < k → T.blank k value }
-        ensures own { IfOk result (λ made. BelongsTo made.1 made.0) }
+        ensures belongs { IfOk result (λ made. BelongsTo made.1 made.0) }
         ensures first { IfOk result (λ made. (number made.1 ≡ 0) × (next made.1 ≡ 1)) }
         ensures seen { IfOk result (λ made. HasSeen made.1 value) }
         ensures err { IfErr result (λ given. given ≡ value) }
@@ -60,12 +60,12 @@ impl<T: Grows> GrowLock<T> {
     /// Runs the job once, on a value that extends what the seat has seen and holds under the seat's number just what it
     /// has seen there. The seat has then seen what the job left. Waits until no other seat has the value.
     pub fn with<J: Job<T>, R: Wait>(&self, rt: &R, seat: &mut Seat<T>, job: J) -> J::Answer
-        requires own { BelongsTo seat.old self.now }
+        requires belongs { BelongsTo seat.old self.now }
         requires ready { (x v : T) → HasSeen seat.old x → T.extends v x → T.same (number seat.old) x v
             → J.precondition job (number seat.old) v }
-        ensures own { BelongsTo seat.new self.now }
-        ensures kept { (number seat.new ≡ number seat.old) × (next seat.new ≡ next seat.old) }
-        ensures done { (x v w : T) × HasSeen seat.old x × T.extends v x × T.same (number seat.old) x v
+        ensures belongs { BelongsTo seat.new self.now }
+        ensures number_unchanged { (number seat.new ≡ number seat.old) × (next seat.new ≡ next seat.old) }
+        ensures ran { (x v w : T) × HasSeen seat.old x × T.extends v x × T.same (number seat.old) x v
             × J.postcondition job (number seat.old) v w result × T.extends w v
             × ((k : ℕ) → k ≢ number seat.old → T.same k v w) × HasSeen seat.new w }
     {
@@ -83,10 +83,10 @@ impl<T: Grows> GrowLock<T> {
     /// By the first seat: a seat with the next number, which has seen what the first has seen. That holds nothing under
     /// the new number.
     pub fn split(&self, seat: &mut Seat<T>) -> Result<Seat<T>, SplitFault>
-        requires own { BelongsTo seat.old self.now }
+        requires belongs { BelongsTo seat.old self.now }
         requires first { 0 < next seat.old }
-        ensures own { BelongsTo seat.new self.now × (number seat.new ≡ number seat.old) }
-        ensures given { IfOk result (λ s. BelongsTo s self.now × (number s ≡ next seat.old) × (next s ≡ 0)) }
+        ensures belongs { BelongsTo seat.new self.now × (number seat.new ≡ number seat.old) }
+        ensures split_seat { IfOk result (λ s. BelongsTo s self.now × (number s ≡ next seat.old) × (next s ≡ 0)) }
         ensures next { IfOk result (λ s. next seat.new ≡ next seat.old + 1) }
         ensures seen { IfOk result (λ s. (x : T) × HasSeen seat.old x × HasSeen seat.new x × HasSeen s x
             × T.blank (number s) x) }
@@ -108,7 +108,7 @@ impl<T: Grows> GrowLock<T> {
     /// Gives the value back, to whoever has every seat of the lock. It extends what each has seen, holds under the
     /// number of each just what that one has seen there, and nothing under a number that no seat has.
     pub fn close(self, mut seats: Vec<Seat<T>>) -> T
-        requires own { ForEach (λ s. BelongsTo s self) seats.items }
+        requires belongs { ForEach (λ s. BelongsTo s self) seats.items }
         requires first { 0 < seat_count seats.items }
         requires all { (k : ℕ) → k < seat_count seats.items → HasNumber k seats.items }
         ensures seen { ForEach (λ s. (x : T) → HasSeen s x → T.extends result x
@@ -130,10 +130,10 @@ impl<T: Grows> GrowLock<T> {
 
     // Waits for the value. It is then in the seat's slot.
     fn acquire<R: Wait>(&self, rt: &R, place: &mut TableSeat<T>)
-        requires own { place.old.table_id ≡ self.now.table.shared.table_id }
+        requires belongs { place.old.table_id ≡ self.now.table.shared.table_id }
         requires one { (n : ℕ) × (x : T) × (place.old.me.0.seen ≡ observation n x ∷ []) }
-        ensures own { (place.new.table_id ≡ place.old.table_id) × (place.new.id ≡ place.old.id) }
-        ensures took { AcquiresValue T.extends T.same T.blank place.old.me place.new.me }
+        ensures belongs { (place.new.table_id ≡ place.old.table_id) × (place.new.id ≡ place.old.id) }
+        ensures taken { AcquiresValue T.extends T.same T.blank place.old.me place.new.me }
     {
         if self.try_acquire(place) {
             return;
@@ -152,10 +152,10 @@ impl<T: Grows> GrowLock<T> {
 
     // Takes the value, if it is at home: whether it was.
     fn try_acquire(&self, place: &mut TableSeat<T>) -> bool
-        requires own { place.old.table_id ≡ self.now.table.shared.table_id }
+        requires belongs { place.old.table_id ≡ self.now.table.shared.table_id }
         requires one { (n : ℕ) × (x : T) × (place.old.me.0.seen ≡ observation n x ∷ []) }
-        ensures own { (place.new.table_id ≡ place.old.table_id) × (place.new.id ≡ place.old.id) }
-        ensures took { IsTrue result → AcquiresValue T.extends T.same T.blank place.old.me place.new.me }
+        ensures belongs { (place.new.table_id ≡ place.old.table_id) × (place.new.id ≡ place.old.id) }
+        ensures taken { IsTrue result → AcquiresValue T.extends T.same T.blank place.old.me place.new.me }
         ensures left { IsFalse result → place.new.me ≡ place.old.me }
     {
         self.table.shared.swap::<AcquireStep>(place, 0, 1) == 0
@@ -174,10 +174,10 @@ impl<T: Grows> GrowLock<T> {
     // Puts the value home. Who parks has counted itself before, and parks only while the value is out: so
     // where nobody is counted here, nobody parks that this would have to wake.
     fn release(&self, place: &mut TableSeat<T>)
-        requires own { place.old.table_id ≡ self.now.table.shared.table_id }
+        requires belongs { place.old.table_id ≡ self.now.table.shared.table_id }
         requires grown { (n k : ℕ) × (v w : T) × (place.old.me ≡ (holder_view n v k, (0, Some w) ∷ [])) × T.extends w v
             × ((j : ℕ) → j ≢ n → T.same j v w) }
-        ensures own { (place.new.table_id ≡ place.old.table_id) × (place.new.id ≡ place.old.id) }
+        ensures belongs { (place.new.table_id ≡ place.old.table_id) × (place.new.id ≡ place.old.id) }
         ensures freed { (w : T) → place.old.me.1 ≡ (0, Some w) ∷ []
             → place.new.me ≡ (released_view place.old.me.0 w, []) }
     {
@@ -189,9 +189,9 @@ impl<T: Grows> GrowLock<T> {
 
     // The new one has the next number.
     fn split_table_seat(&self, place: &mut TableSeat<T>) -> TableSeat<T>
-        requires own { place.old.table_id ≡ self.now.table.shared.table_id }
+        requires belongs { place.old.table_id ≡ self.now.table.shared.table_id }
         requires first { (n k : ℕ) × (x : T) × (place.old.me ≡ (idle_view n x k, [])) × (0 < k) }
-        ensures own { (place.new.table_id ≡ place.old.table_id) × (place.new.id ≡ place.old.id)
+        ensures belongs { (place.new.table_id ≡ place.old.table_id) × (place.new.id ≡ place.old.id)
             × (result.table_id ≡ place.old.table_id) }
         ensures parts { (place.new.me ≡ (splitter_view place.old.me.0, place.old.me.1))
             × (result.me ≡ (split_off_view place.old.me.0, [])) }
@@ -203,10 +203,10 @@ impl<T: Grows> GrowLock<T> {
 
     // The one takes in the other.
     fn join_table_seat(&self, place: &mut TableSeat<T>, other: TableSeat<T>)
-        requires own { (place.old.table_id ≡ self.now.table.shared.table_id)
+        requires belongs { (place.old.table_id ≡ self.now.table.shared.table_id)
             × (other.table_id ≡ self.now.table.shared.table_id) }
         requires idle { (other.me.1 ≡ []) × (other.me.0.out ≡ None) }
-        ensures own { (place.new.table_id ≡ place.old.table_id) × (place.new.id ≡ place.old.id) }
+        ensures belongs { (place.new.table_id ≡ place.old.table_id) × (place.new.id ≡ place.old.id) }
         ensures both { place.new.me ≡ (join_views place.old.me.0 other.me.0, place.old.me.1) }
     {
         self.table.shared.join_seat::<SplitJoinStep>(place, other);
@@ -214,9 +214,9 @@ impl<T: Grows> GrowLock<T> {
 
     // The one takes in all seats.
     fn join_all_table_seats(&self, place: &mut TableSeat<T>, mut seats: Vec<Seat<T>>)
-        requires own { place.old.table_id ≡ self.now.table.shared.table_id }
+        requires belongs { place.old.table_id ≡ self.now.table.shared.table_id }
         requires owns { ForEach (λ s. s.inner.table_id ≡ self.now.table.shared.table_id) seats.items }
-        ensures own { (place.new.table_id ≡ place.old.table_id) × (place.new.id ≡ place.old.id) }
+        ensures belongs { (place.new.table_id ≡ place.old.table_id) × (place.new.id ≡ place.old.id) }
         ensures all { place.new.me ≡ (
           join_all_views place.old.me.0 (map
               (λ s. s.inner.me.0) seats.items),

@@ -60,7 +60,7 @@ fn parse_value<'a>(
 ) -> Result<JsonTree<'a>, ParseFault>
     ensures ok { IfOk result
         (λ v. converted of_json (value depth reader.old) ≡ Some (view v, reader.new)) }
-    ensures shorter { OnOk result (length reader.new < length reader.old) }
+    ensures bound { OnOk result (length reader.new < length reader.old) }
     ensures err { result ≡ Err BadlyFormed → converted of_json (value depth reader.old) ≡ None }
 {
     let token = reader.next().ok_or(ParseFault::BadlyFormed)?;
@@ -99,7 +99,7 @@ fn parse_array<'a>(
     ensures ok { IfOk result
         (λ v. converted of_items (items (value depth) (length reader.old) reader.old)
         ≡ Some (items_view v.items, reader.new)) }
-    ensures shorter { OnOk result (length reader.new < length reader.old) }
+    ensures bound { OnOk result (length reader.new < length reader.old) }
     ensures err { result ≡ Err BadlyFormed
         → converted of_items (items (value depth) (length reader.old) reader.old) ≡ None }
 {
@@ -121,7 +121,7 @@ fn parse_object<'a>(
         (λ m. converted (λ ms. of_members ms no_members)
         (members (value depth) (length reader.old) reader.old)
         ≡ Some (fields_view m.items, reader.new)) }
-    ensures shorter { OnOk result (length reader.new < length reader.old) }
+    ensures bound { OnOk result (length reader.new < length reader.old) }
     ensures err { result ≡ Err BadlyFormed
         → converted (λ ms. of_members ms no_members)
         (members (value depth) (length reader.old) reader.old) ≡ None }

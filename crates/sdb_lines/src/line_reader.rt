@@ -72,7 +72,7 @@ pub(crate) struct LineBuffer {
 
 impl LineBuffer {
     pub fn new(alloc: Global) -> LineBuffer
-        ensures held { result.partial_line.items ≡ [] }
+        ensures partial_line { result.partial_line.items ≡ [] }
         ensures out { result.out.items ≡ [] }
         ensures lines { result.counts.lines ≡ 0 }
         ensures steps { result.counts.steps ≡ 0 }
@@ -124,9 +124,9 @@ fn append_partial(held: &mut Vec<u8>, piece: &[u8]) -> Result<(), AllocError>
 pub fn flush_buffer<W: Sink>(out: &mut Vec<u8>, writer: &mut W) -> Result<(), RunFault>
     ensures empty { OnOk result (out.new.items ≡ []) }
     ensures wrote { OnOk result (Appends (W.bytes_written writer.old) (W.bytes_written writer.new) out.old.items) }
-    ensures front { OnErr result (AppendsPrefix (W.bytes_written writer.old)
+    ensures prefix_on_err { OnErr result (AppendsPrefix (W.bytes_written writer.old)
         (W.bytes_written writer.new) out.old.items) }
-    ensures unfailed { OnOk result (W.failures writer.new ≡ W.failures writer.old) }
+    ensures no_failure { OnOk result (W.failures writer.new ≡ W.failures writer.old) }
     ensures fault { OnErr result (IsErrOf result RunFault.WriteFailed
         × (W.failures writer.new ≡ failures_after true (W.failures writer.old))) }
 {
@@ -160,21 +160,21 @@ fn handle_partial<M: LineHandler, W: Sink>(
     writer: &mut W,
     piece: &[u8],
 ) -> Result<(), RunFault>
-    requires room { pending.old.counts.lines + 1 < 2 ^ 64 }
-    ensures held { OnOk result (pending.new.partial_line.items ≡ []) }
-    ensures counted { OnOk result (pending.new.counts
+    requires counter_bound { pending.old.counts.lines + 1 < 2 ^ 64 }
+    ensures partial_line { OnOk result (pending.new.partial_line.items ≡ []) }
+    ensures count { OnOk result (pending.new.counts
         ≡ counts_after M.counts_as_step pending.old.counts (readable_text (pending.old.partial_line.items ++ piece.now)
         ∷ [])) }
-    ensures all { OnOk result (AppendsAnswersUpTo M.handles pending.new.out.items
+    ensures wrote_answers { OnOk result (AppendsAnswersUpTo M.handles pending.new.out.items
         machine.old (readable_text (pending.old.partial_line.items ++ piece.now) ∷ []) machine.new
         pending.old.out.items (W.bytes_written writer.old) (W.bytes_written writer.new)) }
-    ensures front { OnErr result (AppendsAnswerPrefix M.handles
+    ensures prefix_on_err { OnErr result (AppendsAnswerPrefix M.handles
         machine.old (readable_text (pending.old.partial_line.items ++ piece.now) ∷ [])
         pending.old.out.items (W.bytes_written writer.old) (W.bytes_written writer.new)) }
-    ensures writes { (W.failures writer.new ≡ W.failures writer.old) ⊎ IsErrOf result RunFault.WriteFailed }
-    ensures write { IsErrOf result RunFault.WriteFailed →
+    ensures write_failures { (W.failures writer.new ≡ W.failures writer.old) ⊎ IsErrOf result RunFault.WriteFailed }
+    ensures write_failed { IsErrOf result RunFault.WriteFailed →
         W.failures writer.new ≡ failures_after true (W.failures writer.old) }
-    ensures read { IsErrOf result RunFault.ReadFailed → ⊥ }
+    ensures never_read_failed { IsErrOf result RunFault.ReadFailed → ⊥ }
 {
     append_partial(&mut pending.partial_line, piece)?;
     let is_step = handle_line(
@@ -199,21 +199,21 @@ fn handle_chunk_lines<M: LineHandler, W: Sink>(
     writer: &mut W,
     piece: &[u8],
 ) -> Result<(), RunFault>
-    requires room { pending.old.counts.lines + length piece.now < 2 ^ 64 }
-    ensures held { OnOk result (pending.new.partial_line.items
+    requires counter_bound { pending.old.counts.lines + length piece.now < 2 ^ 64 }
+    ensures partial_line { OnOk result (pending.new.partial_line.items
         ≡ kept_prefix (partial_line_after piece.now pending.old.partial_line.items)) }
-    ensures counted { OnOk result (pending.new.counts
+    ensures count { OnOk result (pending.new.counts
         ≡ counts_after M.counts_as_step pending.old.counts (lines_ended_by piece.now pending.old.partial_line.items)) }
-    ensures all { OnOk result (AppendsAnswersUpTo M.handles pending.new.out.items
+    ensures wrote_answers { OnOk result (AppendsAnswersUpTo M.handles pending.new.out.items
         machine.old (lines_ended_by piece.now pending.old.partial_line.items) machine.new
         pending.old.out.items (W.bytes_written writer.old) (W.bytes_written writer.new)) }
-    ensures front { OnErr result (AppendsAnswerPrefix M.handles machine.old
+    ensures prefix_on_err { OnErr result (AppendsAnswerPrefix M.handles machine.old
         (lines_ended_by piece.now pending.old.partial_line.items)
         pending.old.out.items (W.bytes_written writer.old) (W.bytes_written writer.new)) }
-    ensures writes { (W.failures writer.new ≡ W.failures writer.old) ⊎ IsErrOf result RunFault.WriteFailed }
-    ensures write { IsErrOf result RunFault.WriteFailed →
+    ensures write_failures { (W.failures writer.new ≡ W.failures writer.old) ⊎ IsErrOf result RunFault.WriteFailed }
+    ensures write_failed { IsErrOf result RunFault.WriteFailed →
         W.failures writer.new ≡ failures_after true (W.failures writer.old) }
-    ensures read { IsErrOf result RunFault.ReadFailed → ⊥ }
+    ensures never_read_failed { IsErrOf result RunFault.ReadFailed → ⊥ }
 {
     let mut rest = piece;
     while let Some(at) = first_line_feed(rest) {
@@ -228,9 +228,9 @@ fn handle_chunk_lines<M: LineHandler, W: Sink>(
 fn write_and_flush<W: Sink>(out: &mut Vec<u8>, writer: &mut W) -> Result<(), RunFault>
     ensures empty { OnOk result (out.new.items ≡ []) }
     ensures wrote { OnOk result (Appends (W.bytes_written writer.old) (W.bytes_written writer.new) out.old.items) }
-    ensures front { OnErr result (AppendsPrefix (W.bytes_written writer.old)
+    ensures prefix_on_err { OnErr result (AppendsPrefix (W.bytes_written writer.old)
         (W.bytes_written writer.new) out.old.items) }
-    ensures unfailed { OnOk result (W.failures writer.new ≡ W.failures writer.old) }
+    ensures no_failure { OnOk result (W.failures writer.new ≡ W.failures writer.old) }
     ensures fault { OnErr result (IsErrOf result RunFault.WriteFailed
         × (W.failures writer.new ≡ failures_after true (W.failures writer.old))) }
 {
@@ -246,12 +246,12 @@ pub(crate) fn write_opening<M: LineHandler, W: Sink>(
 ) -> Result<(), RunFault>
     ensures wrote { OnOk result (Appends (W.bytes_written writer.old) (W.bytes_written writer.new)
         (M.opening machine.now)) }
-    ensures front { OnErr result
+    ensures prefix_on_err { OnErr result
         (AppendsPrefix (W.bytes_written writer.old) (W.bytes_written writer.new) (M.opening machine.now)) }
-    ensures writes { (W.failures writer.new ≡ W.failures writer.old) ⊎ IsErrOf result RunFault.WriteFailed }
-    ensures write { IsErrOf result RunFault.WriteFailed →
+    ensures write_failures { (W.failures writer.new ≡ W.failures writer.old) ⊎ IsErrOf result RunFault.WriteFailed }
+    ensures write_failed { IsErrOf result RunFault.WriteFailed →
         W.failures writer.new ≡ failures_after true (W.failures writer.old) }
-    ensures read { IsErrOf result RunFault.ReadFailed → ⊥ }
+    ensures never_read_failed { IsErrOf result RunFault.ReadFailed → ⊥ }
 {
     let mut out = Vec::new(alloc);
     machine.write_opening(alloc, &mut out)?;
@@ -267,22 +267,22 @@ pub(crate) fn handle_chunk<M: LineHandler, W: Sink>(
     piece: &[u8],
 ) -> Result<(), RunFault>
     requires empty { pending.old.out.items ≡ [] }
-    requires room { pending.old.counts.lines + length piece.now < 2 ^ 64 }
+    requires counter_bound { pending.old.counts.lines + length piece.now < 2 ^ 64 }
     ensures empty { OnOk result (pending.new.out.items ≡ []) }
-    ensures held { OnOk result (pending.new.partial_line.items
+    ensures partial_line { OnOk result (pending.new.partial_line.items
         ≡ kept_prefix (partial_line_after piece.now pending.old.partial_line.items)) }
-    ensures counted { OnOk result (pending.new.counts
+    ensures count { OnOk result (pending.new.counts
         ≡ counts_after M.counts_as_step pending.old.counts (lines_ended_by piece.now pending.old.partial_line.items)) }
-    ensures all { OnOk result (AppendsAnswers M.handles machine.old
+    ensures wrote_answers { OnOk result (AppendsAnswers M.handles machine.old
         (lines_ended_by piece.now pending.old.partial_line.items) machine.new
         [] (W.bytes_written writer.old) (W.bytes_written writer.new)) }
-    ensures front { OnErr result (AppendsAnswerPrefix M.handles machine.old
+    ensures prefix_on_err { OnErr result (AppendsAnswerPrefix M.handles machine.old
         (lines_ended_by piece.now pending.old.partial_line.items)
         [] (W.bytes_written writer.old) (W.bytes_written writer.new)) }
-    ensures writes { (W.failures writer.new ≡ W.failures writer.old) ⊎ IsErrOf result RunFault.WriteFailed }
-    ensures write { IsErrOf result RunFault.WriteFailed →
+    ensures write_failures { (W.failures writer.new ≡ W.failures writer.old) ⊎ IsErrOf result RunFault.WriteFailed }
+    ensures write_failed { IsErrOf result RunFault.WriteFailed →
         W.failures writer.new ≡ failures_after true (W.failures writer.old) }
-    ensures read { IsErrOf result RunFault.ReadFailed → ⊥ }
+    ensures never_read_failed { IsErrOf result RunFault.ReadFailed → ⊥ }
 {
     handle_chunk_lines(alloc, machine, pending, writer, piece)?;
     write_and_flush(&mut pending.out, writer)
@@ -296,19 +296,19 @@ pub(crate) fn handle_rest<M: LineHandler, W: Sink>(
     writer: &mut W,
 ) -> Result<(), RunFault>
     requires empty { pending.old.out.items ≡ [] }
-    requires room { pending.old.counts.lines + 1 < 2 ^ 64 }
-    ensures counted { OnOk result (pending.new.counts
+    requires counter_bound { pending.old.counts.lines + 1 < 2 ^ 64 }
+    ensures count { OnOk result (pending.new.counts
         ≡ counts_after M.counts_as_step pending.old.counts (readable_lines_from [] pending.old.partial_line.items)) }
-    ensures all { OnOk result (AppendsAnswers M.handles machine.old
+    ensures wrote_answers { OnOk result (AppendsAnswers M.handles machine.old
         (readable_lines_from [] pending.old.partial_line.items) machine.new
         [] (W.bytes_written writer.old) (W.bytes_written writer.new)) }
-    ensures front { OnErr result (AppendsAnswerPrefix M.handles machine.old
+    ensures prefix_on_err { OnErr result (AppendsAnswerPrefix M.handles machine.old
         (readable_lines_from [] pending.old.partial_line.items)
         [] (W.bytes_written writer.old) (W.bytes_written writer.new)) }
-    ensures writes { (W.failures writer.new ≡ W.failures writer.old) ⊎ IsErrOf result RunFault.WriteFailed }
-    ensures write { IsErrOf result RunFault.WriteFailed →
+    ensures write_failures { (W.failures writer.new ≡ W.failures writer.old) ⊎ IsErrOf result RunFault.WriteFailed }
+    ensures write_failed { IsErrOf result RunFault.WriteFailed →
         W.failures writer.new ≡ failures_after true (W.failures writer.old) }
-    ensures read { IsErrOf result RunFault.ReadFailed → ⊥ }
+    ensures never_read_failed { IsErrOf result RunFault.ReadFailed → ⊥ }
 {
     if pending.partial_line.is_empty() {
         return Ok(());

@@ -31,7 +31,7 @@ pub struct Counts {
 impl Counts {
     // Counts one more line.
     pub(crate) fn count_line(&mut self, is_step: bool)
-        requires room { self.old.lines + 1 < 2 ^ 64 }
+        requires counter_bound { self.old.lines + 1 < 2 ^ 64 }
         requires ordered { self.old.steps ≤ self.old.lines }
         ensures lines { self.new.lines ≡ self.old.lines + 1 }
         ensures steps { self.new.steps ≡ self.old.steps + (if is_step then 1 else 0) }
@@ -83,19 +83,19 @@ pub fn run_lines<M: LineHandler, R: Source, W: Sink>(
     writer: &mut W,
 ) -> Result<Counts, RunFault>
     // The machine took the lines of the input, in order and no other, and all that it answered was written.
-    ensures whole { OnOk result (IfSome (R.remaining_input reader.old) (λ input.
+    ensures wrote_all { OnOk result (IfSome (R.remaining_input reader.old) (λ input.
         AppendsAnswers M.handles machine.old (map readable_text (lines_of input)) machine.new
         (M.opening machine.old) (W.bytes_written writer.old) (W.bytes_written writer.new))) }
     ensures counts { IfOk result (λ counts. IfSome (R.remaining_input reader.old)
         (λ input. AreCountsOf M.counts_as_step input counts)) }
     // After a fault a front of the opening and the answers to the first lines was written.
-    ensures front { OnErr result (IfSome (R.remaining_input reader.old) (λ input.
+    ensures prefix_on_err { OnErr result (IfSome (R.remaining_input reader.old) (λ input.
         AppendsAnswerPrefix M.handles machine.old (map readable_text (lines_of input))
         (M.opening machine.old) (W.bytes_written writer.old) (W.bytes_written writer.new))) }
     // No read failed, and no write or flush, but for the one that is the fault.
-    ensures reads { ReadFaultIsCounted result (R.calls reader.old) (R.failures reader.old)
+    ensures read_failures { ReadFaultIsCounted result (R.calls reader.old) (R.failures reader.old)
         (R.calls reader.new) (R.failures reader.new) }
-    ensures writes { WriteFaultIsCounted result (W.failures writer.old) (W.failures writer.new) }
+    ensures write_failures { WriteFaultIsCounted result (W.failures writer.old) (W.failures writer.new) }
 {
     let mut space = read_buffer(alloc)?;
     let buffer = space.as_mut_slice();

@@ -3,7 +3,7 @@ use Rattle.std.proofs.Common.{◌≡◌, List, [], ◌∷◌, map, refl, sym, ap
 use Rattle.sdb_chunks.specs.ChunkedVec.{repr_models, vec_models}
 use Rattle.sdb_chunks.specs.declared.chunked_vec.Repr.{Repr}
 use Rattle.sdb_chunks.specs.declared.chunked_vec.ChunkedVec.{ChunkedVec}
-use Rattle.sdb_sorted_map.specs.Laws.{keys_of_vec_models}
+use Rattle.sdb_sorted_map.specs.laws.SortedMapLaws.{keys_of_vec_models}
 use Rattle.sdb_sorted_map.specs.MapEntry.{entry_key, entry_model}
 use Rattle.sdb_sorted_map.specs.SortedMap.{entry_keys}
 use Rattle.sdb_sorted_map.specs.SearchModel.{entry_key_bytes, vec_keys}

@@ -57,8 +57,8 @@ impl Job<Tally> for AddNumber {
 
 // Adds the seat's number so many times. The seat, and how often there was memory.
 fn add_all<R: Wait>(rt: &R, lock: &GrowLock<Tally>, mut seat: Seat<Tally>) -> (Seat<Tally>, u64)
-    requires own { BelongsTo seat lock.now }
-    ensures own { BelongsTo result.0 lock.now × (number result.0 ≡ number seat) × (next result.0 ≡ next seat) }
+    requires belongs { BelongsTo seat lock.now }
+    ensures belongs { BelongsTo result.0 lock.now × (number result.0 ≡ number seat) × (next result.0 ≡ next seat) }
 {
     let mut added = 0;
     for _ in 0..TIMES {

@@ -6,7 +6,7 @@ use Rattle.std.specs.Option.{is_some}
 use Rattle.sdb_oplog.specs.Plain.{PlainEntry}
 use Rattle.sdb_oplog.specs.Snap.{snap, stored_at, are_identifiers_new}
 use Rattle.sdb_oplog.specs.Moments.{last_moment, MomentsOrderedFrom}
-use Rattle.sdb_oplog.specs.Laws.{moments_ordered_append}
+use Rattle.sdb_oplog.specs.laws.LogLaws.{moments_ordered_append}
 use Rattle.sdb_oplog.specs.LogInvariant.{LogInvariant}
 use Rattle.sdb_oplog.specs.IndexModel.{indexed_version, SourceHasEntries, AllSourcesHaveEntries, OtherSourcesHaveEntries}
 use Rattle.sdb_oplog.specs.declared.index.Index.{Index}

@@ -7,7 +7,7 @@ use Rattle.sdb_value.specs.Value.{Value}
 use Rattle.sdb_oplog.specs.declared.codes.Code.{Code}
 use Rattle.sdb_oplog.specs.Plain.{PlainEntry}
 use Rattle.sdb_oplog.specs.Snap.{apply_content, snap_from, snap, stored_at, has_identifier, are_identifiers_new}
-use Rattle.sdb_oplog.specs.Laws.{snap_one}
+use Rattle.sdb_oplog.specs.laws.LogLaws.{snap_one}
 
 -- ---- snapshots
 

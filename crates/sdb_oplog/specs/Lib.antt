@@ -2,7 +2,6 @@ pub mod Coding
 pub mod Decide
 pub mod FaultCodes
 pub mod Keys
-pub mod Laws
 pub mod LogInvariant
 pub mod Moments
 pub mod Rebase
@@ -11,4 +10,5 @@ pub mod Plain
 pub mod Refusal
 pub mod Snap
 pub mod View
-pub mod Examples
+pub mod laws
+pub mod worked

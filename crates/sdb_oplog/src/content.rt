@@ -143,7 +143,7 @@ impl Content {
         ensures memory { IsErrOf result E10 →
             apply_in_place_allocates self.now (option_map value_of document.old) (is_unique_document document.old)
             ≡ true }
-        ensures same { OnErr result (option_map value_of document.new ≡ option_map value_of document.old) }
+        ensures unchanged_on_err { OnErr result (option_map value_of document.new ≡ option_map value_of document.old) }
     {
         match &self.kind {
             Kind::Create(value) => apply_create(alloc, value, document),
@@ -165,7 +165,7 @@ fn apply_create(alloc: Global, value: &Json, document: &mut Option<Json>) -> Res
         (option_map value_of document.old)) code) }
     ensures memory { IsErrOf result E10 → apply_in_place_allocates (create (value_of value.now))
         (option_map value_of document.old) (is_unique_document document.old) ≡ true }
-    ensures same { OnErr result (option_map value_of document.new ≡ option_map value_of document.old) }
+    ensures unchanged_on_err { OnErr result (option_map value_of document.new ≡ option_map value_of document.old) }
 {
     if document.is_some() {
         return Err(Code::E6);
@@ -182,7 +182,7 @@ fn apply_edit(alloc: Global, op: &Op, document: &mut Option<Json>) -> Result<(),
     ensures memory { IsErrOf result E10 →
         apply_in_place_allocates (edit op.now) (option_map value_of document.old) (is_unique_document document.old)
         ≡ true }
-    ensures same { OnErr result (option_map value_of document.new ≡ option_map value_of document.old) }
+    ensures unchanged_on_err { OnErr result (option_map value_of document.new ≡ option_map value_of document.old) }
 {
     match document {
         None => Err(Code::E7),
@@ -194,7 +194,7 @@ fn edit_value(alloc: Global, op: &Op, value: &mut Json) -> Result<(), Code>
     ensures ok { OnOk result (apply_op op.now (value_of value.old) ≡ Ok (value_of value.new)) }
     ensures err { IfErr result (λ code. IsRefusalOrOutOfMemory (apply_op op.now (value_of value.old)) code) }
     ensures memory { IsErrOf result E10 → may_allocate (atomic_apply_allocates op.now) (is_unique value.old) ≡ true }
-    ensures same { OnErr result (value_of value.new ≡ value_of value.old) }
+    ensures unchanged_on_err { OnErr result (value_of value.new ≡ value_of value.old) }
 {
     apply_atomic(alloc, value, op)?;
     Ok(())

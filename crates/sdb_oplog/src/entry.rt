@@ -259,7 +259,7 @@ impl Entry {
 /// Copies of the entries, in their order. Where there are none it takes no memory.
 pub fn clone_entries(alloc: Global, entries: &[Entry]) -> Result<Vec<Entry>, AllocError>
     ensures copies { IfOk result (λ v. v.items ≡ entries.now) }
-    ensures some { OnErr result (0 < length entries.now) }
+    ensures memory { OnErr result (0 < length entries.now) }
 {
     if entries.is_empty() {
         return Ok(Vec::new(alloc));

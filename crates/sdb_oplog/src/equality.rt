@@ -9,8 +9,8 @@ use sdb_value::values_equal;
 
 /// Whether the entries are the same, one by one.
 pub fn entries_equal(a: &[Entry], b: &[Entry]) -> bool
-    ensures same { IsTrue result → a.now ≡ b.now }
-    ensures other { IsFalse result → a.now ≡ b.now → ⊥ }
+    ensures on_true { IsTrue result → a.now ≡ b.now }
+    ensures on_false { IsFalse result → a.now ≡ b.now → ⊥ }
 {
     if a.len() != b.len() {
         return false;
@@ -24,8 +24,8 @@ pub fn entries_equal(a: &[Entry], b: &[Entry]) -> bool
 }
 
 fn entry_equal(a: &Entry, b: &Entry) -> bool
-    ensures same { IsTrue result → a.now ≡ b.now }
-    ensures other { IsFalse result → a.now ≡ b.now → ⊥ }
+    ensures on_true { IsTrue result → a.now ≡ b.now }
+    ensures on_false { IsFalse result → a.now ≡ b.now → ⊥ }
 {
     a.version() == b.version()
         && a.moment().milliseconds() == b.moment().milliseconds()
@@ -36,8 +36,8 @@ fn entry_equal(a: &Entry, b: &Entry) -> bool
 // Whether of one submission the same is stored.
 fn entry_content_equal(a: &Entry, b: &Entry) -> bool
     requires { a.now.arrived ≡ b.now.arrived }
-    ensures same { IsTrue result → a.now.content ≡ b.now.content }
-    ensures other { IsFalse result → a.now.content ≡ b.now.content → ⊥ }
+    ensures on_true { IsTrue result → a.now.content ≡ b.now.content }
+    ensures on_false { IsFalse result → a.now.content ≡ b.now.content → ⊥ }
 {
     if a.has_arrived_content() && b.has_arrived_content() {
         return true;
@@ -46,8 +46,8 @@ fn entry_content_equal(a: &Entry, b: &Entry) -> bool
 }
 
 fn submission_equal(a: &Submission, b: &Submission) -> bool
-    ensures same { IsTrue result → a.now ≡ b.now }
-    ensures other { IsFalse result → a.now ≡ b.now → ⊥ }
+    ensures on_true { IsTrue result → a.now ≡ b.now }
+    ensures on_false { IsFalse result → a.now ≡ b.now → ⊥ }
 {
     a.src() == b.src()
         && a.seq() == b.seq()
@@ -58,8 +58,8 @@ fn submission_equal(a: &Submission, b: &Submission) -> bool
 }
 
 fn content_equal(a: &Content, b: &Content) -> bool
-    ensures same { IsTrue result → a.now ≡ b.now }
-    ensures other { IsFalse result → a.now ≡ b.now → ⊥ }
+    ensures on_true { IsTrue result → a.now ≡ b.now }
+    ensures on_false { IsFalse result → a.now ≡ b.now → ⊥ }
 {
     match a.kind() {
         Kind::Create(value) => match b.kind() {

@@ -15,7 +15,7 @@ pub(crate) struct Index {
 impl Index {
     pub(crate) fn new(alloc: Global) -> Index
         ensures places { (s : List ℕ) (n : ℕ) → indexed_version result s n ≡ None }
-        ensures used { AllSourcesHaveEntries result }
+        ensures has_entries { AllSourcesHaveEntries result }
     {
         Index {
             by_source: HashMap::new(alloc),
@@ -32,9 +32,9 @@ impl Index {
 
     // Makes room for one more number of the source.
     pub(crate) fn reserve(&mut self, alloc: Global, src: &str) -> Result<(), AllocError>
-        ensures same { (s : List ℕ) (n : ℕ) → indexed_version self.new s n ≡ indexed_version self.old s n }
-        ensures room { OnOk result (HasReserved self.new src.now) }
-        ensures used { (s : List ℕ) → s ≢ src.now → SourceHasEntries self.old s → SourceHasEntries self.new s }
+        ensures equal { (s : List ℕ) (n : ℕ) → indexed_version self.new s n ≡ indexed_version self.old s n }
+        ensures reserved { OnOk result (HasReserved self.new src.now) }
+        ensures has_entries { (s : List ℕ) → s ≢ src.now → SourceHasEntries self.old s → SourceHasEntries self.new s }
         ensures err { OnErr result ((s : List ℕ) → SourceHasEntries self.old s → SourceHasEntries self.new s) }
     {
         match self.by_source.get_mut(src) {
@@ -46,9 +46,9 @@ impl Index {
     // Puts a source in that has no number yet.
     fn add_source(&mut self, alloc: Global, src: &str) -> Result<(), AllocError>
         requires { (n : ℕ) → indexed_version self.old src.now n ≡ None }
-        ensures same { (s : List ℕ) (n : ℕ) → indexed_version self.new s n ≡ indexed_version self.old s n }
-        ensures room { OnOk result (HasReserved self.new src.now) }
-        ensures used { (s : List ℕ) → s ≢ src.now → SourceHasEntries self.old s → SourceHasEntries self.new s }
+        ensures equal { (s : List ℕ) (n : ℕ) → indexed_version self.new s n ≡ indexed_version self.old s n }
+        ensures reserved { OnOk result (HasReserved self.new src.now) }
+        ensures has_entries { (s : List ℕ) → s ≢ src.now → SourceHasEntries self.old s → SourceHasEntries self.new s }
         ensures err { OnErr result ((s : List ℕ) → SourceHasEntries self.old s → SourceHasEntries self.new s) }
     {
         let mut numbers = HashMap::new(alloc);
@@ -60,9 +60,9 @@ impl Index {
 
     // Takes a source out that has no number.
     pub(crate) fn remove_unused(&mut self, src: &str)
-        ensures same { (s : List ℕ) (n : ℕ) → indexed_version self.new s n ≡ indexed_version self.old s n }
+        ensures equal { (s : List ℕ) (n : ℕ) → indexed_version self.new s n ≡ indexed_version self.old s n }
         ensures unused { SourceHasEntries self.new src.now }
-        ensures used { (s : List ℕ) → s ≢ src.now → SourceHasEntries self.old s → SourceHasEntries self.new s }
+        ensures has_entries { (s : List ℕ) → s ≢ src.now → SourceHasEntries self.old s → SourceHasEntries self.new s }
     {
         let Some(numbers) = self.by_source.get(src) else {
             return;
@@ -75,9 +75,9 @@ impl Index {
     // Puts the place of one more number of the source. Room is made for it.
     pub(crate) fn insert(&mut self, src: &str, seq: u64, at: u64)
         requires { HasReserved self.old src.now }
-        ensures places { (s : List ℕ) (n : ℕ) → indexed_version self.new s n
+        ensures versions { (s : List ℕ) (n : ℕ) → indexed_version self.new s n
             ≡ (if nat_eq seq n && bytes_eq src.now s then Some at else indexed_version self.old s n) }
-        ensures used { (s : List ℕ) → s ≢ src.now → SourceHasEntries self.old s → SourceHasEntries self.new s }
+        ensures has_entries { (s : List ℕ) → s ≢ src.now → SourceHasEntries self.old s → SourceHasEntries self.new s }
     {
         let Some(numbers) = self.by_source.get_mut(src) else {
             unreachable!();

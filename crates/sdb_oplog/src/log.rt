@@ -91,8 +91,8 @@ impl Log {
     /// How many entries there are: the present version.
     pub fn len(&self) -> u64
         ensures len { result ≡ length self.now }
-        ensures room { length self.now ≤ MAX }
-        ensures lives { is_some (snap self.now) ≡ true }
+        ensures bound { length self.now ≤ MAX }
+        ensures alive { is_some (snap self.now) ≡ true }
         ensures first { are_identifiers_new [] self.now ≡ true }
         ensures time { MomentsOrderedFrom 0 self.now }
     {
@@ -151,9 +151,9 @@ impl Log {
     /// Stores an entry. After want of memory the log is unchanged.
     pub fn push(&mut self, entry: Entry) -> Result<(), AllocError>
         requires first { stored_at entry.arrived.src entry.arrived.seq self.old ≡ None }
-        requires lives { is_some (snap (self.old ++ entry ∷ [])) ≡ true }
+        requires alive { is_some (snap (self.old ++ entry ∷ [])) ≡ true }
         requires time { last_moment self.old ≤ entry.moment }
-        requires room { length self.old < MAX }
+        requires bound { length self.old < MAX }
         ensures ok { OnOk result (self.new ≡ self.old ++ entry ∷ []) }
         ensures err { OnErr result (self.new ≡ self.old) }
     {
@@ -215,7 +215,7 @@ impl Log {
         to: u64,
     ) -> Result<Option<Json>, Code>
         requires order { from ≤ to }
-        requires reached { to ≤ length self.now }
+        requires bound { to ≤ length self.now }
         requires document { snap (take from self.now) ≡ Some (option_map value_of document) }
         ensures ok { IfOk result (λ d. snap (take to self.now) ≡ Some (option_map value_of d)) }
         ensures err { IfErr result (λ code. code ≡ E10) }
@@ -241,8 +241,8 @@ impl ReservedAppend {
     /// this one, or that of the entry before it where that is later.
     pub fn commit(self, now: Moment, content: Option<Content>) -> Log
         requires first { stored_at self.submission.src self.submission.seq self.log ≡ None }
-        requires lives { is_some (snap (self.log ++ appended_entry self now content ∷ [])) ≡ true }
-        requires room { length self.log < MAX }
+        requires alive { is_some (snap (self.log ++ appended_entry self now content ∷ [])) ≡ true }
+        requires bound { length self.log < MAX }
         ensures { result ≡ self.log ++ appended_entry self now content ∷ [] }
     {
         let ReservedAppend {
@@ -300,9 +300,9 @@ fn reserve(
 ) -> Result<(), AllocError>
     ensures entries { entries.new.items ≡ entries.old.items }
     ensures places { (s : List ℕ) (n : ℕ) → indexed_version index.new s n ≡ indexed_version index.old s n }
-    ensures room { OnOk result (vec_len entries.new < vec_capacity entries.new) }
+    ensures capacity { OnOk result (vec_len entries.new < vec_capacity entries.new) }
     ensures source { OnOk result (HasReserved index.new src.now) }
-    ensures used { (s : List ℕ) → s ≢ src.now → SourceHasEntries index.old s → SourceHasEntries index.new s }
+    ensures has_entries { (s : List ℕ) → s ≢ src.now → SourceHasEntries index.old s → SourceHasEntries index.new s }
     ensures err { OnErr result ((s : List ℕ) → SourceHasEntries index.old s → SourceHasEntries index.new s) }
 {
     entries.reserve(1)?;
@@ -311,13 +311,14 @@ fn reserve(
 
 // Puts an entry behind the others. Room is made for it.
 fn append(entries: &mut Vec<Entry>, index: &mut Index, entry: Entry)
-    requires room { vec_len entries.old < vec_capacity entries.old }
+    requires capacity { vec_len entries.old < vec_capacity entries.old }
     requires source { HasReserved index.old entry.arrived.src }
     ensures entries { entries.new.items ≡ entries.old.items ++ entry ∷ [] }
     ensures places { (s : List ℕ) (n : ℕ) → indexed_version index.new s n
         ≡ (if nat_eq entry.arrived.seq n && bytes_eq entry.arrived.src s
         then Some (length entries.old.items) else indexed_version index.old s n) }
-    ensures used { (s : List ℕ) → s ≢ entry.arrived.src → SourceHasEntries index.old s → SourceHasEntries index.new s }
+    ensures has_entries { (s : List ℕ) → s ≢ entry.arrived.src → SourceHasEntries index.old s
+        → SourceHasEntries index.new s }
 {
     let at = entries.len() as u64;
     index.insert(entry.arrived().src(), entry.arrived().seq(), at);

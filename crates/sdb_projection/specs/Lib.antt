@@ -3,4 +3,4 @@ pub mod ProjectionLaw
 pub mod ProjectionModel
 pub mod Table
 pub mod View
-pub mod Examples
+pub mod worked

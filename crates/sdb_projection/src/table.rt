@@ -66,7 +66,7 @@ impl Table {
             → result ≡ Err fault }
         ensures ok { OnOk result (self.new ≡ self.old ++ plain_projection projection ∷ []) }
         ensures err { IfErr result (λ fault. IsTableFault (table_fault (plain_projection projection) self.old) fault) }
-        ensures same { OnErr result (self.new ≡ self.old) }
+        ensures unchanged_on_err { OnErr result (self.new ≡ self.old) }
     {
         self.check(&projection)?;
         match self.projections.push(projection) {

@@ -27,7 +27,7 @@ pub(crate) fn insert_into_chunks(
         (chunk_texts block.old)))
         (concat (chunk_texts block.old)) (concat (chunk_texts block.new))) }
     ensures err { OnErr result (concat (chunk_texts block.new) ≡ concat (chunk_texts block.old)) }
-    ensures own { is_unique_chunk block.old ≡ true → is_unique_chunk block.new ≡ true }
+    ensures unique { is_unique_chunk block.old ≡ true → is_unique_chunk block.new ≡ true }
     ensures short { AreBounded (chunk_texts block.old) → AreBounded (chunk_texts block.new) }
 {
     block.make_unique(alloc)?;
@@ -52,9 +52,9 @@ pub(crate) fn remove_from_chunks(
         (chunk_texts block.old)))
         (concat (chunk_texts block.old)) (concat (chunk_texts block.new))) }
     ensures err { OnErr result (concat (chunk_texts block.new) ≡ concat (chunk_texts block.old)) }
-    ensures own { is_unique_chunk block.old ≡ true → is_unique_chunk block.new ≡ true }
-    ensures short { AreBounded (chunk_texts block.old) → AreBounded (chunk_texts block.new) }
-    ensures shared { OnErr result (is_unique_chunk block.old ≡ false) }
+    ensures unique { is_unique_chunk block.old ≡ true → is_unique_chunk block.new ≡ true }
+    ensures chunks_bounded { AreBounded (chunk_texts block.old) → AreBounded (chunk_texts block.new) }
+    ensures shared_on_err { OnErr result (is_unique_chunk block.old ≡ false) }
 {
     if block.items().is_empty() {
         return Ok(offset == 0 && old.is_empty());
@@ -77,7 +77,7 @@ pub(crate) fn clone_shared_chunks(
     alloc: Global,
     block: &Chunk<RopeChunk>,
 ) -> Result<Chunk<RopeChunk>, AllocError>
-    ensures same { IfOk result (λ b. chunk_texts b ≡ chunk_texts block.now) }
+    ensures equal { IfOk result (λ b. chunk_texts b ≡ chunk_texts block.now) }
     ensures shared { IfOk result (λ b. is_chunk_shared b ≡ true) }
 {
     if let Some(copy) = block.clone_shared()? {
@@ -102,7 +102,7 @@ pub(crate) fn clone_chunk_list(
 
 /// Makes the pieces shared in place, and the list of them. What is shared already is left as it is.
 pub(crate) fn freeze_chunks(alloc: Global, block: &mut Chunk<RopeChunk>) -> Result<(), AllocError>
-    ensures same { chunk_texts block.new ≡ chunk_texts block.old }
+    ensures unchanged { chunk_texts block.new ≡ chunk_texts block.old }
     ensures shared { OnOk result (is_chunk_shared block.new ≡ true) }
 {
     freeze_within(alloc, block)?;

@@ -10,8 +10,8 @@ use sdb_chunks::Iter;
 
 /// Whether the pieces make this text.
 pub(crate) fn chunks_equal_str(parts: Iter<'_, RopeChunk>, text: &str) -> bool
-    ensures same { IsTrue result → concat (chunk_list_texts (remaining_items parts.entry)) ≡ text.now }
-    ensures other { IsFalse result → concat (chunk_list_texts (remaining_items parts.entry)) ≡ text.now → ⊥ }
+    ensures on_true { IsTrue result → concat (chunk_list_texts (remaining_items parts.entry)) ≡ text.now }
+    ensures on_false { IsFalse result → concat (chunk_list_texts (remaining_items parts.entry)) ≡ text.now → ⊥ }
 {
     let mut left = ChunkCursor::new(parts);
     left.advance(text) && left.is_end()
@@ -19,7 +19,7 @@ pub(crate) fn chunks_equal_str(parts: Iter<'_, RopeChunk>, text: &str) -> bool
 
 /// Whether the pieces make the same text, cut in whatever way.
 pub(crate) fn chunks_equal(parts: Iter<'_, RopeChunk>, others: Iter<'_, RopeChunk>) -> bool
-    ensures same { IsTrue result → concat (chunk_list_texts (remaining_items parts.entry))
+    ensures on_true { IsTrue result → concat (chunk_list_texts (remaining_items parts.entry))
         ≡ concat (chunk_list_texts (remaining_items others.entry)) }
     ensures other { IsFalse result → concat (chunk_list_texts (remaining_items parts.entry))
         ≡ concat (chunk_list_texts (remaining_items others.entry)) → ⊥ }

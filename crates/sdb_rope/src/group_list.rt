@@ -49,7 +49,7 @@ pub(crate) fn insert_into_groups(
         (concat (texts_of_groups (items_of groups.old))) (concat (texts_of_groups (items_of groups.new)))) }
     ensures err { OnErr result (concat (texts_of_groups (items_of groups.new))
         ≡ concat (texts_of_groups (items_of groups.old))) }
-    ensures short { AreBounded (texts_of_groups (items_of groups.old))
+    ensures chunks_bounded { AreBounded (texts_of_groups (items_of groups.old))
         → AreBounded (texts_of_groups (items_of groups.new)) }
 {
     groups.make_unique(alloc)?;
@@ -104,7 +104,7 @@ fn split_long_chunk(
 
 // Sees to it that there is a group.
 fn ensure_group(alloc: Global, groups: &mut Vec<Chunk<RopeChunk>>) -> Result<(), AllocError>
-    ensures same { texts_of_groups groups.new.items ≡ texts_of_groups groups.old.items }
+    ensures unchanged { texts_of_groups groups.new.items ≡ texts_of_groups groups.old.items }
     ensures some { OnOk result (0 < length groups.new.items) }
 {
     if groups.is_empty() {
@@ -121,14 +121,14 @@ pub(crate) fn remove_from_groups(
     offset: u64,
     old: &str,
 ) -> Result<bool, AllocError>
-    ensures done { IfOk result (λ done. done ≡ true
+    ensures removed { IfOk result (λ done. done ≡ true
         → texts.remove_text offset old.now (concat (texts_of_groups (items_of groups.old)))
         ≡ Some (concat (texts_of_groups (items_of groups.new)))) }
     ensures same { IfOk result (λ done. done ≡ false
         → concat (texts_of_groups (items_of groups.new)) ≡ concat (texts_of_groups (items_of groups.old))) }
     ensures err { OnErr result (concat (texts_of_groups (items_of groups.new))
         ≡ concat (texts_of_groups (items_of groups.old))) }
-    ensures short { AreBounded (texts_of_groups (items_of groups.old))
+    ensures chunks_bounded { AreBounded (texts_of_groups (items_of groups.old))
         → AreBounded (texts_of_groups (items_of groups.new)) }
 {
     groups.make_unique(alloc)?;
@@ -147,13 +147,14 @@ fn remove_in_group_list(
     offset: u64,
     old: &str,
 ) -> Result<bool, AllocError>
-    ensures done { IfOk result (λ done. done ≡ true
+    ensures removed { IfOk result (λ done. done ≡ true
         → texts.remove_text offset old.now (concat (texts_of_groups groups.old.items))
         ≡ Some (concat (texts_of_groups groups.new.items))) }
     ensures same { IfOk result (λ done. done ≡ false
         → concat (texts_of_groups groups.new.items) ≡ concat (texts_of_groups groups.old.items)) }
     ensures err { OnErr result (concat (texts_of_groups groups.new.items) ≡ concat (texts_of_groups groups.old.items)) }
-    ensures short { AreBounded (texts_of_groups groups.old.items) → AreBounded (texts_of_groups groups.new.items) }
+    ensures chunks_bounded { AreBounded (texts_of_groups groups.old.items)
+        → AreBounded (texts_of_groups groups.new.items) }
 {
     let Some((at, left)) = group_at_offset(groups, offset) else {
         return Ok(false);
@@ -185,7 +186,7 @@ pub(crate) fn remove_across_groups(
         (λ b. texts.remove_text offset old.now (concat (texts_of_groups groups.now)) ≡ Some (concat (chunk_texts b)))) }
     ensures none { IfOk result (λ o. IfNone o
         (texts.remove_text offset old.now (concat (texts_of_groups groups.now)) ≡ None)) }
-    ensures short { IfOk result (λ o. IfSome o
+    ensures chunks_bounded { IfOk result (λ o. IfSome o
         (λ b. AreBounded (texts_of_groups groups.now) → AreBounded (chunk_texts b))) }
 {
     let mut parts = Chunk::Unique(ungroup_chunks(alloc, groups)?);

@@ -20,8 +20,8 @@ const SPLIT_LEN: usize = 3072;
 /// The text in pieces of its own.
 pub(crate) fn split_chunks(alloc: Global, text: &str) -> Result<Vec<RopeChunk>, AllocError>
     ensures ok { IfOk result (λ v. concat (chunk_list_texts v.items) ≡ text.now) }
-    ensures own { IfOk result (λ v. All IsUniqueChunk v.items) }
-    ensures short { IfOk result (λ v. AreBounded (chunk_list_texts v.items)) }
+    ensures unique { IfOk result (λ v. All IsUniqueChunk v.items) }
+    ensures chunks_bounded { IfOk result (λ v. AreBounded (chunk_list_texts v.items)) }
 {
     let mut parts = Vec::new(alloc);
     let mut start = 0;
@@ -43,7 +43,7 @@ pub(crate) fn split_chunks_with(
 ) -> Result<Vec<RopeChunk>, AllocError>
     requires { IsSplitPoint text.now at }
     ensures ok { IfOk result (λ v. concat (chunk_list_texts v.items) ≡ insert_slice text.now at new.now) }
-    ensures own { IfOk result (λ v. All IsUniqueChunk v.items) }
+    ensures unique { IfOk result (λ v. All IsUniqueChunk v.items) }
     ensures short { IfOk result (λ v. AreBounded (chunk_list_texts v.items)) }
 {
     let mut whole = String::from_str(alloc, text)?;
@@ -66,7 +66,7 @@ fn insert_in_chunk(
         ≡ bytes_before (chunk_list_texts parts.old.items) at byte ++ (new.now ++ bytes_after
         (chunk_list_texts parts.old.items) at byte)) }
     ensures err { OnErr result (concat (chunk_list_texts parts.new.items) ≡ concat (chunk_list_texts parts.old.items)) }
-    ensures own { All IsUniqueChunk parts.old.items → All IsUniqueChunk parts.new.items }
+    ensures unique { All IsUniqueChunk parts.old.items → All IsUniqueChunk parts.new.items }
     ensures short { AreBounded (chunk_list_texts parts.old.items) → AreBounded (chunk_list_texts parts.new.items) }
 {
     if parts[at].as_str().len() + new.len() <= MAX_CHUNK_LEN {
@@ -80,10 +80,11 @@ fn insert_in_chunk(
 
 // Sees to it that there is a piece.
 fn ensure_chunk(alloc: Global, parts: &mut Vec<RopeChunk>) -> Result<(), AllocError>
-    ensures same { concat (chunk_list_texts parts.new.items) ≡ concat (chunk_list_texts parts.old.items) }
+    ensures unchanged { concat (chunk_list_texts parts.new.items) ≡ concat (chunk_list_texts parts.old.items) }
     ensures some { OnOk result (0 < length parts.new.items) }
-    ensures own { All IsUniqueChunk parts.old.items → All IsUniqueChunk parts.new.items }
-    ensures short { AreBounded (chunk_list_texts parts.old.items) → AreBounded (chunk_list_texts parts.new.items) }
+    ensures unique { All IsUniqueChunk parts.old.items → All IsUniqueChunk parts.new.items }
+    ensures chunks_bounded { AreBounded (chunk_list_texts parts.old.items)
+        → AreBounded (chunk_list_texts parts.new.items) }
 {
     if parts.is_empty() {
         parts.push(RopeChunk::new(String::new(alloc)))?;
@@ -103,7 +104,7 @@ pub(crate) fn insert(
         (chunk_list_texts parts.old.items)))
         (concat (chunk_list_texts parts.old.items)) (concat (chunk_list_texts parts.new.items))) }
     ensures err { OnErr result (concat (chunk_list_texts parts.new.items) ≡ concat (chunk_list_texts parts.old.items)) }
-    ensures own { All IsUniqueChunk parts.old.items → All IsUniqueChunk parts.new.items }
+    ensures unique { All IsUniqueChunk parts.old.items → All IsUniqueChunk parts.new.items }
     ensures short { AreBounded (chunk_list_texts parts.old.items) → AreBounded (chunk_list_texts parts.new.items) }
 {
     ensure_chunk(alloc, parts)?;

@@ -65,7 +65,7 @@ pub(crate) fn end_position(
     old: &str,
 ) -> Option<(usize, usize)>
     requires inside { first < length parts.now }
-    requires within { from ≤ length (chunk_text (chunk_list_texts parts.now) first) }
+    requires in_range { from ≤ length (chunk_text (chunk_list_texts parts.now) first) }
     ensures some { IfSome result (λ e. IsEndPosition (chunk_list_texts parts.now) first from old.now e.0 e.1) }
     ensures none { IfNone result (starts_with nat_eq (bytes_after (chunk_list_texts parts.now) first from) old.now
         ≡ false) }

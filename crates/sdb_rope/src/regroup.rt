@@ -29,7 +29,7 @@ pub(crate) fn into_groups(
     alloc: Global,
     parts: &[RopeChunk],
 ) -> Result<Chunk<Chunk<RopeChunk>>, AllocError>
-    ensures same { IfOk result (λ g. texts_of_groups (items_of g) ≡ chunk_list_texts parts.now) }
+    ensures equal { IfOk result (λ g. texts_of_groups (items_of g) ≡ chunk_list_texts parts.now) }
     ensures shared { IfOk result (λ g. is_chunk_shared g ≡ true) }
 {
     let groups = split_into_groups(alloc, parts)?;
@@ -87,7 +87,7 @@ pub(crate) fn clone_shared_groups(
     alloc: Global,
     groups: &Chunk<Chunk<RopeChunk>>,
 ) -> Result<Chunk<Chunk<RopeChunk>>, AllocError>
-    ensures same { IfOk result (λ g. texts_of_groups (items_of g) ≡ texts_of_groups (items_of groups.now)) }
+    ensures equal { IfOk result (λ g. texts_of_groups (items_of g) ≡ texts_of_groups (items_of groups.now)) }
     ensures shared { IfOk result (λ g. is_chunk_shared g ≡ true) }
 {
     if let Some(copy) = groups.clone_shared()? {
@@ -115,7 +115,7 @@ pub(crate) fn freeze_groups(
     alloc: Global,
     groups: &mut Chunk<Chunk<RopeChunk>>,
 ) -> Result<(), AllocError>
-    ensures same { texts_of_groups (items_of groups.new) ≡ texts_of_groups (items_of groups.old) }
+    ensures unchanged { texts_of_groups (items_of groups.new) ≡ texts_of_groups (items_of groups.old) }
     ensures shared { OnOk result (is_chunk_shared groups.new ≡ true) }
 {
     freeze_within_group(alloc, groups)?;

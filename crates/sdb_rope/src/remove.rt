@@ -21,9 +21,10 @@ pub(crate) fn remove_span(
         ≡ bytes_before (chunk_list_texts parts.old.items) span.first span.from
         ++ bytes_after (chunk_list_texts parts.old.items) span.last span.to) }
     ensures err { OnErr result (concat (chunk_list_texts parts.new.items) ≡ concat (chunk_list_texts parts.old.items)) }
-    ensures own { All IsUniqueChunk parts.old.items → All IsUniqueChunk parts.new.items }
-    ensures short { AreBounded (chunk_list_texts parts.old.items) → AreBounded (chunk_list_texts parts.new.items) }
-    ensures shared { OnErr result (All IsUniqueChunk parts.old.items → ⊥) }
+    ensures unique { All IsUniqueChunk parts.old.items → All IsUniqueChunk parts.new.items }
+    ensures chunks_bounded { AreBounded (chunk_list_texts parts.old.items)
+        → AreBounded (chunk_list_texts parts.new.items) }
+    ensures shared_on_err { OnErr result (All IsUniqueChunk parts.old.items → ⊥) }
 {
     make_chunk_unique(alloc, parts, span.first)?;
     make_chunk_unique(alloc, parts, span.last)?;
@@ -38,12 +39,14 @@ pub(crate) fn remove_span(
 // Makes a piece this owner's own.
 fn make_chunk_unique(alloc: Global, parts: &mut Vec<RopeChunk>, at: usize) -> Result<(), AllocError>
     requires { at < length parts.old.items }
-    ensures same { chunk_list_texts parts.new.items ≡ chunk_list_texts parts.old.items }
+    ensures unchanged { chunk_list_texts parts.new.items ≡ chunk_list_texts parts.old.items }
     ensures here { OnOk result (HoldsAt IsUniqueChunk parts.new.items at) }
-    ensures others { (k : ℕ) → HoldsAt IsUniqueChunk parts.old.items k → HoldsAt IsUniqueChunk parts.new.items k }
-    ensures own { All IsUniqueChunk parts.old.items → All IsUniqueChunk parts.new.items }
-    ensures short { AreBounded (chunk_list_texts parts.old.items) → AreBounded (chunk_list_texts parts.new.items) }
-    ensures shared { OnErr result (All IsUniqueChunk parts.old.items → ⊥) }
+    ensures others_unchanged { (k : ℕ) → HoldsAt IsUniqueChunk parts.old.items k
+        → HoldsAt IsUniqueChunk parts.new.items k }
+    ensures unique { All IsUniqueChunk parts.old.items → All IsUniqueChunk parts.new.items }
+    ensures chunks_bounded { AreBounded (chunk_list_texts parts.old.items)
+        → AreBounded (chunk_list_texts parts.new.items) }
+    ensures shared_on_err { OnErr result (All IsUniqueChunk parts.old.items → ⊥) }
 {
     let done = parts[at].make_unique(alloc)?;
     Ok(done)
@@ -52,12 +55,13 @@ fn make_chunk_unique(alloc: Global, parts: &mut Vec<RopeChunk>, at: usize) -> Re
 // Takes bytes out of one piece.
 fn remove_within_chunk(parts: &mut Vec<RopeChunk>, at: usize, from: usize, to: usize)
     requires range { IsByteRange (chunk_list_texts parts.old.items) at from at to }
-    requires own { HoldsAt IsUniqueChunk parts.old.items at }
+    requires unique { HoldsAt IsUniqueChunk parts.old.items at }
     ensures bytes { concat (chunk_list_texts parts.new.items)
         ≡ bytes_before (chunk_list_texts parts.old.items) at from ++ bytes_after
         (chunk_list_texts parts.old.items) at to }
-    ensures own { All IsUniqueChunk parts.old.items → All IsUniqueChunk parts.new.items }
-    ensures short { AreBounded (chunk_list_texts parts.old.items) → AreBounded (chunk_list_texts parts.new.items) }
+    ensures unique { All IsUniqueChunk parts.old.items → All IsUniqueChunk parts.new.items }
+    ensures chunks_bounded { AreBounded (chunk_list_texts parts.old.items)
+        → AreBounded (chunk_list_texts parts.new.items) }
 {
     parts[at].remove(from, to);
     remove_empty_chunk(parts, at);
@@ -72,8 +76,9 @@ fn remove_across_chunks(parts: &mut Vec<RopeChunk>, span: Span)
     ensures bytes { concat (chunk_list_texts parts.new.items)
         ≡ bytes_before (chunk_list_texts parts.old.items) span.first span.from
         ++ bytes_after (chunk_list_texts parts.old.items) span.last span.to }
-    ensures own { All IsUniqueChunk parts.old.items → All IsUniqueChunk parts.new.items }
-    ensures short { AreBounded (chunk_list_texts parts.old.items) → AreBounded (chunk_list_texts parts.new.items) }
+    ensures unique { All IsUniqueChunk parts.old.items → All IsUniqueChunk parts.new.items }
+    ensures chunks_bounded { AreBounded (chunk_list_texts parts.old.items)
+        → AreBounded (chunk_list_texts parts.new.items) }
 {
     let len = parts[span.first].as_str().len();
     parts[span.first].remove(span.from, len);
@@ -86,7 +91,7 @@ fn remove_across_chunks(parts: &mut Vec<RopeChunk>, span: Span)
 // Takes pieces out.
 fn remove_chunks_between(parts: &mut Vec<RopeChunk>, from: usize, to: usize)
     requires order { from ≤ to }
-    requires within { to ≤ length parts.old.items }
+    requires in_range { to ≤ length parts.old.items }
     ensures { parts.new.items ≡ remove_range parts.old.items from to }
 {
     drop(parts.drain(from..to));
@@ -95,10 +100,11 @@ fn remove_chunks_between(parts: &mut Vec<RopeChunk>, from: usize, to: usize)
 // Takes a piece out that has nothing left.
 fn remove_empty_chunk(parts: &mut Vec<RopeChunk>, at: usize)
     requires { at < length parts.old.items }
-    ensures same { concat (chunk_list_texts parts.new.items) ≡ concat (chunk_list_texts parts.old.items) }
+    ensures unchanged { concat (chunk_list_texts parts.new.items) ≡ concat (chunk_list_texts parts.old.items) }
     ensures count { length parts.old.items ≤ length parts.new.items + 1 }
-    ensures own { All IsUniqueChunk parts.old.items → All IsUniqueChunk parts.new.items }
-    ensures short { AreBounded (chunk_list_texts parts.old.items) → AreBounded (chunk_list_texts parts.new.items) }
+    ensures unique { All IsUniqueChunk parts.old.items → All IsUniqueChunk parts.new.items }
+    ensures chunks_bounded { AreBounded (chunk_list_texts parts.old.items)
+        → AreBounded (chunk_list_texts parts.new.items) }
 {
     if parts[at].as_str().is_empty() {
         let _gone = parts.remove(at);

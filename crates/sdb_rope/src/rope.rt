@@ -44,7 +44,7 @@ impl Rope {
     /// The text of these bytes. One of more than 4096 bytes is cut into pieces, for which memory is taken.
     pub fn new(alloc: Global, text: String) -> Result<Rope, AllocError>
         ensures ok { IfOk result (λ t. rope_bytes t ≡ string_bytes text) }
-        ensures own { IfOk result (λ t. is_unique_rope t ≡ true) }
+        ensures unique { IfOk result (λ t. is_unique_rope t ≡ true) }
         ensures short { IfOk result HasBoundedChunks }
         ensures long { OnErr result (4096 < length (string_bytes text)) }
     {
@@ -62,8 +62,8 @@ impl Rope {
     /// A copy of this text, in pieces where it has more than 4096 bytes.
     pub fn from_str(alloc: Global, text: &str) -> Result<Rope, AllocError>
         ensures ok { IfOk result (λ t. rope_bytes t ≡ text.now) }
-        ensures own { IfOk result (λ t. is_unique_rope t ≡ true) }
-        ensures short { IfOk result HasBoundedChunks }
+        ensures unique { IfOk result (λ t. is_unique_rope t ≡ true) }
+        ensures bound { IfOk result HasBoundedChunks }
     {
         if text.len() > MAX_CHUNK_LEN {
             let parts = split_chunks(alloc, text)?;
@@ -135,7 +135,7 @@ impl Rope {
         ensures ok { IfOk result (λ done. EditOutcome done (texts.insert_text offset new.now (rope_bytes self.old))
             (rope_bytes self.old) (rope_bytes self.new)) }
         ensures err { OnErr result (rope_bytes self.new ≡ rope_bytes self.old) }
-        ensures own { is_unique_rope self.old ≡ true → is_unique_rope self.new ≡ true }
+        ensures unique { is_unique_rope self.old ≡ true → is_unique_rope self.new ≡ true }
         ensures short { HasBoundedChunks self.old → HasBoundedChunks self.new }
     {
         match &mut self.repr {
@@ -168,9 +168,9 @@ impl Rope {
         ensures ok { IfOk result (λ done. EditOutcome done (texts.remove_text offset old.now (rope_bytes self.old))
             (rope_bytes self.old) (rope_bytes self.new)) }
         ensures err { OnErr result (rope_bytes self.new ≡ rope_bytes self.old) }
-        ensures own { is_unique_rope self.old ≡ true → is_unique_rope self.new ≡ true }
-        ensures short { HasBoundedChunks self.old → HasBoundedChunks self.new }
-        ensures shared { OnErr result (is_unique_rope self.old ≡ false) }
+        ensures unique { is_unique_rope self.old ≡ true → is_unique_rope self.new ≡ true }
+        ensures bound { HasBoundedChunks self.old → HasBoundedChunks self.new }
+        ensures shared_on_err { OnErr result (is_unique_rope self.old ≡ false) }
     {
         match &mut self.repr {
             RopeRepr::Flat(chars) => {
@@ -198,8 +198,8 @@ impl Rope {
 
     /// Whether both are the same text, without memory.
     pub fn equals(&self, other: &Rope) -> bool
-        ensures same { IsTrue result → rope_bytes self.now ≡ rope_bytes other.now }
-        ensures other { IsFalse result → rope_bytes self.now ≡ rope_bytes other.now → ⊥ }
+        ensures on_true { IsTrue result → rope_bytes self.now ≡ rope_bytes other.now }
+        ensures on_false { IsFalse result → rope_bytes self.now ≡ rope_bytes other.now → ⊥ }
     {
         match &self.repr {
             RopeRepr::Flat(chars) => other.is_str(chars.as_str()),
@@ -209,8 +209,8 @@ impl Rope {
     }
 
     fn is_str(&self, text: &str) -> bool
-        ensures same { IsTrue result → text.now ≡ rope_bytes self.now }
-        ensures other { IsFalse result → text.now ≡ rope_bytes self.now → ⊥ }
+        ensures on_true { IsTrue result → text.now ≡ rope_bytes self.now }
+        ensures on_false { IsFalse result → text.now ≡ rope_bytes self.now → ⊥ }
     {
         match &self.repr {
             RopeRepr::Flat(chars) => text == chars.as_str(),
@@ -220,8 +220,10 @@ impl Rope {
     }
 
     fn is_concat_of(&self, parts: Iter<'_, RopeChunk>) -> bool
-        ensures same { IsTrue result → concat (chunk_list_texts (remaining_items parts.entry)) ≡ rope_bytes self.now }
-        ensures other { IsFalse result → concat (chunk_list_texts (remaining_items parts.entry)) ≡ rope_bytes self.now
+        ensures on_true { IsTrue result → concat (chunk_list_texts (remaining_items parts.entry))
+            ≡ rope_bytes self.now }
+        ensures on_false { IsFalse result
+            → concat (chunk_list_texts (remaining_items parts.entry)) ≡ rope_bytes self.now
             → ⊥ }
     {
         match &self.repr {

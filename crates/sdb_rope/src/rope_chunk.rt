@@ -24,7 +24,7 @@ impl RopeChunk {
 
     pub(crate) fn new(text: String) -> RopeChunk
         ensures bytes { chunk_bytes result ≡ string_bytes text }
-        ensures own { is_unique_rope_chunk result ≡ true }
+        ensures unique { is_unique_rope_chunk result ≡ true }
     {
         RopeChunk {
             units: units(text.as_str()),
@@ -47,9 +47,9 @@ impl RopeChunk {
     /// Makes the bytes this owner's own. Fails only where they were shared and memory is wanting.
     pub(crate) fn make_unique(&mut self, alloc: Global) -> Result<(), AllocError>
         ensures same { chunk_bytes self.new ≡ chunk_bytes self.old }
-        ensures own { OnOk result (is_unique_rope_chunk self.new ≡ true) }
-        ensures shared { OnErr result (is_unique_rope_chunk self.old ≡ false) }
-        ensures kept { is_unique_rope_chunk self.old ≡ true → is_unique_rope_chunk self.new ≡ true }
+        ensures unique { OnOk result (is_unique_rope_chunk self.new ≡ true) }
+        ensures shared_on_err { OnErr result (is_unique_rope_chunk self.old ≡ false) }
+        ensures stays_unique { is_unique_rope_chunk self.old ≡ true → is_unique_rope_chunk self.new ≡ true }
     {
         let done = self.text.make_unique(alloc);
         done
@@ -60,7 +60,7 @@ impl RopeChunk {
         requires { IsSplitPoint (chunk_bytes self.old) at }
         ensures ok { OnOk result (chunk_bytes self.new ≡ insert_slice (chunk_bytes self.old) at new.now) }
         ensures err { OnErr result (chunk_bytes self.new ≡ chunk_bytes self.old) }
-        ensures own { is_unique_rope_chunk self.old ≡ true → is_unique_rope_chunk self.new ≡ true }
+        ensures unique { is_unique_rope_chunk self.old ≡ true → is_unique_rope_chunk self.new ≡ true }
     {
         self.text.insert(alloc, at, new)?;
         self.units += units(new);
@@ -69,12 +69,12 @@ impl RopeChunk {
 
     /// Takes the bytes from one place to another out.
     pub(crate) fn remove(&mut self, from: usize, to: usize)
-        requires own { is_unique_rope_chunk self.old ≡ true }
+        requires unique { is_unique_rope_chunk self.old ≡ true }
         requires order { from ≤ to }
         requires start { IsSplitPoint (chunk_bytes self.old) from }
         requires end { IsSplitPoint (chunk_bytes self.old) to }
         ensures bytes { chunk_bytes self.new ≡ remove_range (chunk_bytes self.old) from to }
-        ensures own { is_unique_rope_chunk self.new ≡ true }
+        ensures unique { is_unique_rope_chunk self.new ≡ true }
     {
         let gone = units(&self.text.as_str()[from..to]);
         self.text.remove(from, to);

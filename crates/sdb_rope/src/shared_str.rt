@@ -43,19 +43,19 @@ impl SharedStr {
     /// Makes the bytes this owner's own. Fails only where they were shared and memory is wanting.
     pub(crate) fn make_unique(&mut self, alloc: Global) -> Result<(), AllocError>
         ensures same { str_bytes self.new ≡ str_bytes self.old }
-        ensures own { OnOk result (is_unique_str self.new ≡ true) }
-        ensures shared { OnErr result (is_unique_str self.old ≡ false) }
-        ensures kept { is_unique_str self.old ≡ true → is_unique_str self.new ≡ true }
+        ensures unique { OnOk result (is_unique_str self.new ≡ true) }
+        ensures shared_on_err { OnErr result (is_unique_str self.old ≡ false) }
+        ensures stays_unique { is_unique_str self.old ≡ true → is_unique_str self.new ≡ true }
     {
         self.make_unique_with_capacity(alloc, 0)
     }
 
     // The same, where so many bytes are going to be put in: a copy has room for them.
     fn make_unique_with_capacity(&mut self, alloc: Global, room: usize) -> Result<(), AllocError>
-        ensures same { str_bytes self.new ≡ str_bytes self.old }
-        ensures own { OnOk result (is_unique_str self.new ≡ true) }
-        ensures shared { OnErr result (is_unique_str self.old ≡ false) }
-        ensures kept { is_unique_str self.old ≡ true → is_unique_str self.new ≡ true }
+        ensures unchanged { str_bytes self.new ≡ str_bytes self.old }
+        ensures unique { OnOk result (is_unique_str self.new ≡ true) }
+        ensures shared_on_err { OnErr result (is_unique_str self.old ≡ false) }
+        ensures stays_unique { is_unique_str self.old ≡ true → is_unique_str self.new ≡ true }
     {
         match replace(self, SharedStr::Unique(String::new(alloc))) {
             SharedStr::Unique(text) => {
@@ -82,7 +82,7 @@ impl SharedStr {
         requires { IsSplitPoint (str_bytes self.old) at }
         ensures ok { OnOk result (str_bytes self.new ≡ insert_slice (str_bytes self.old) at new.now) }
         ensures err { OnErr result (str_bytes self.new ≡ str_bytes self.old) }
-        ensures own { is_unique_str self.old ≡ true → is_unique_str self.new ≡ true }
+        ensures unique { is_unique_str self.old ≡ true → is_unique_str self.new ≡ true }
     {
         self.make_unique_with_capacity(alloc, new.len())?;
         match self {
@@ -94,12 +94,12 @@ impl SharedStr {
 
     /// Takes the bytes from one place to another out.
     pub(crate) fn remove(&mut self, from: usize, to: usize)
-        requires own { is_unique_str self.old ≡ true }
+        requires unique { is_unique_str self.old ≡ true }
         requires order { from ≤ to }
         requires start { IsSplitPoint (str_bytes self.old) from }
         requires end { IsSplitPoint (str_bytes self.old) to }
         ensures bytes { str_bytes self.new ≡ remove_range (str_bytes self.old) from to }
-        ensures own { is_unique_str self.new ≡ true }
+        ensures unique { is_unique_str self.new ≡ true }
     {
         match self {
             SharedStr::Unique(text) => {
@@ -120,9 +120,9 @@ impl SharedStr {
         ensures ok { IfOk result (λ done. EditOutcome done (texts.remove_text offset old.now (str_bytes self.old))
             (str_bytes self.old) (str_bytes self.new)) }
         ensures err { OnErr result (str_bytes self.new ≡ str_bytes self.old) }
-        ensures own { is_unique_str self.old ≡ true → is_unique_str self.new ≡ true }
-        ensures shared { OnErr result (is_unique_str self.old ≡ false) }
-        ensures short { length (str_bytes self.new) ≤ length (str_bytes self.old) }
+        ensures unique { is_unique_str self.old ≡ true → is_unique_str self.new ≡ true }
+        ensures shared_on_err { OnErr result (is_unique_str self.old ≡ false) }
+        ensures bound { length (str_bytes self.new) ≤ length (str_bytes self.old) }
     {
         let Some(at) = cut_at(self.as_str(), offset) else {
             return Ok(false);
@@ -137,7 +137,7 @@ impl SharedStr {
 
     /// The same bytes, shared: at the cost of a pointer where they are already.
     pub(crate) fn frozen_clone(&self, alloc: Global) -> Result<SharedStr, AllocError>
-        ensures same { IfOk result (λ c. str_bytes c ≡ str_bytes self.now) }
+        ensures equal { IfOk result (λ c. str_bytes c ≡ str_bytes self.now) }
         ensures shared { IfOk result (λ c. is_shared_str c ≡ true) }
     {
         match self {
@@ -152,7 +152,7 @@ impl SharedStr {
     /// Makes the bytes shared in place: they are moved, and memory is taken for the pointer alone, where they had
     /// one owner.
     pub(crate) fn freeze(&mut self, alloc: Global) -> Result<(), AllocError>
-        ensures same { str_bytes self.new ≡ str_bytes self.old }
+        ensures unchanged { str_bytes self.new ≡ str_bytes self.old }
         ensures shared { OnOk result (is_shared_str self.new ≡ true) }
     {
         match replace(self, SharedStr::Unique(String::new(alloc))) {

@@ -42,7 +42,7 @@ pub fn cut_at(text: &str, offset: u64) -> Option<usize>
 fn units_in(chunk: &[u8]) -> u64
     requires { length chunk.now ≤ 4096 }
     ensures value { result ≡ units chunk.now }
-    ensures few { result ≤ 2 * length chunk.now }
+    ensures bound { result ≤ 2 * length chunk.now }
 {
     let mut count = 0;
     for byte in chunk {
@@ -54,8 +54,8 @@ fn units_in(chunk: &[u8]) -> u64
 // Goes past whole chunks while their units are at most what is left of the offset: how many bytes,
 // and what is left then.
 fn skip(bytes: &[u8], offset: u64) -> (usize, u64)
-    ensures within { result.0 ≤ length bytes.now }
-    ensures same { cut_at bytes.now offset
+    ensures in_range { result.0 ≤ length bytes.now }
+    ensures equal { cut_at bytes.now offset
         ≡ option_map (λ i. result.0 + i) (cut_at (drop result.0 bytes.now) result.1) }
 {
     let mut start = 0;
@@ -74,7 +74,7 @@ fn skip(bytes: &[u8], offset: u64) -> (usize, u64)
 // The place of the cut, byte by byte.
 fn walk_chars(bytes: &[u8], offset: u64) -> Option<usize>
     ensures place { result ≡ cut_at bytes.now offset }
-    ensures within { IfSome result (λ at. at ≤ length bytes.now) }
+    ensures in_range { IfSome result (λ at. at ≤ length bytes.now) }
 {
     let mut left = offset;
     for (at, byte) in bytes.iter().enumerate() {
@@ -90,7 +90,7 @@ fn walk_chars(bytes: &[u8], offset: u64) -> Option<usize>
 // The units of the character that the byte begins, 0 where it begins none.
 fn utf16_width(byte: u8) -> u16
     ensures value { result ≡ utf16_width byte }
-    ensures few { result ≤ 2 }
+    ensures bound { result ≤ 2 }
 {
     u16::from((byte < 128) | (byte >= 192)) + u16::from(byte >= 240)
 }

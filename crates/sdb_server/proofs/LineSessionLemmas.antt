@@ -1,4 +1,4 @@
--- Lines of the dialogue, from what a session's calls write.
+-- Lines of the dialogue, from the outputs of the session's calls.
 use Rattle.std.proofs.Common.{◌≡◌, ℕ, List, [], ◌∷◌, ◌++◌, Option, Some, None, Result, Ok, Err, OnOk, OnErr, refl, sym, ap, ◌∙◌, subst, append_assoc, append-nil, IfSome}
 use Rattle.std.specs.Io.KnownBytes.{Appends}
 use Rattle.sdb_lines.specs.Prefixes.{AppendsPrefix}
@@ -10,7 +10,7 @@ use Rattle.sdb_session.specs.Sessions.{PlainSession}
 use Rattle.sdb_wire.specs.Answers.{PlainAnswer, failed}
 use Rattle.sdb_session.specs.Dialogue.{State, Transition, Allocation, ok, transition_of_line, pump_transition, line_transition, Dialogue, opening, first_state}
 use Rattle.sdb_session.specs.Output.{answer_lines, answer_line}
-use Rattle.sdb_session.specs.Laws.{pieces_append}
+use Rattle.sdb_session.specs.laws.SessionLaws.{pieces_append}
 use Rattle.sdb_server.specs.LineSource.{own_source}
 use Rattle.sdb_server.specs.Clocks.{TimedState, TimedDialogue, ClockReturns}
 use Rattle.sdb_server.specs.Runs.{WroteSession, WroteSessionPrefix, initial_timed}
@@ -29,12 +29,12 @@ on_any_err (Err e) p = p
 
 -- ---- a line
 
--- what was written behind what was there, in two steps
+-- output appended in two parts
 two_pieces : (old mid new : List ℕ) (a b : List PlainAnswer) → mid ≡ old ++ answer_lines a → new ≡ mid ++ answer_lines b → new ≡ old ++ answer_lines (a ++ b)
 two_pieces old mid new a b e f =
     f ∙ ap (λ l. l ++ answer_lines b) e ∙ append_assoc old (answer_lines a) (answer_lines b) ∙ ap (λ l. old ++ l) (sym (pieces_append answer_line a b))
 
--- the answers to a message, and what is pushed behind them
+-- the answers to a message, followed by the entries that are pushed
 pub line_answered : (t : List PlainProjection) (m mid last : State) (now : ℕ) (w : Allocation) (line : Option (List ℕ)) (old between new : List ℕ)
     → between ≡ old ++ answer_lines (transition_of_line t m now w line).answers → mid ≡ (transition_of_line t m now w line).state
     → new ≡ between ++ answer_lines (pump_transition t mid).answers → last ≡ (pump_transition t mid).state
@@ -45,7 +45,7 @@ line_answered t m mid last now w line old between new e is f after =
     let all : new ≡ old ++ answer_lines (line_transition t m now w line).answers = two_pieces old between new h.answers (pump_transition t h.state).answers e g in
     (answer_lines (line_transition t m now w line).answers, all, record { memory = w; written = refl; left = after ∙ ap (λ x. (pump_transition t x).state) is })
 
--- what the sessions calls write after a line, with what else is kept
+-- the output of the session's calls for a line, with what they leave unchanged
 pub line_taken : {X : Type 0} (t : List PlainProjection) (m mid last : State) (a b : Option (List ℕ)) (now : ℕ) (w : Allocation) (line : Option (List ℕ)) (old between new : List ℕ)
     → between ≡ old ++ answer_lines (transition_of_line t m now w line).answers → mid ≡ (transition_of_line t m now w line).state
     → new ≡ between ++ answer_lines (pump_transition t mid).answers → last ≡ (pump_transition t mid).state → ClockReturns a now b → X
@@ -54,7 +54,7 @@ line_taken t m mid last a b now w line old between new e is f after tells x =
     let g = line_answered t m mid last now w line old between new e is f after in
     (g.0, g.1, (record { now = now; clock_returns = tells; dialogue = g.2 }, x))
 
--- a state without documents and subscriptions
+-- a state without documents and subscriptions is the first state
 pub first_is : (m : Machine) (s : PlainSession) (source : List ℕ) → m.logs ≡ no_logs → m.queues ≡ (λ k. no_queues) → s.source ≡ source → s.subs ≡ [] → ◌≡◌ {A = State} (record { machine = m; session = s }) (first_state source)
 first_is m s source l q e n = λ i. record { machine = record { logs = l i; queues = q i }; session = record { source = e i; subs = n i } }
 
@@ -68,7 +68,7 @@ module _ {S T : Type 0} (table : S → T) (plain : T → List PlainProjection) (
   abbrev LineStep : S → Option (List ℕ) → List ℕ → S → Type 0
   LineStep a line answer b = TimedDialogue (plain (table a)) (f a) line answer (f b) × (table b ≡ table a)
 
-  -- a run of lines that keep their table is a run of the dialogue
+  -- a run of lines that leave the table unchanged is a run of the dialogue
   run_by : (s : S) (lines : List (Option (List ℕ))) (bytes : List ℕ) (t : S) → Handles LineStep s lines bytes t → Handles (TimedDialogue (plain (table s))) (f s) lines bytes (f t)
   run_by s [] bytes t (b, same) = (b, ap f same)
   run_by s (line ∷ lines) bytes t (answer, next, more, takes, rest, b) =
@@ -107,7 +107,7 @@ pub if_some_all : {X : Type 0} {Q : X → Type 0} (r : Option X) → ((x : X) �
 if_some_all None f = tt
 if_some_all (Some x) f = f x
 
--- before the opening nothing is written
+-- before the opening message the output is empty
 pub wrote_nothing : (x : List PlainProjection) (ahead : Option (List ℕ)) (lines : List (Option (List ℕ))) (old : Option (List ℕ)) → WroteSessionPrefix x ahead lines old old
 wrote_nothing x ahead lines old = record {
   taken = [];

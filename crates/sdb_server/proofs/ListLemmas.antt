@@ -1,4 +1,4 @@
--- Passes that came back.
+-- Passes that threads returned.
 use Rattle.std.proofs.Common.{◌≡◌, Bool, true, false, cond, List, [], ◌∷◌, ◌++◌, All}
 use Rattle.std.proofs.lemmas.List.Elements.{All-head, All-tail, All-same, All-push}
 use Rattle.sdb_growlock.specs.LockRule.{ForEach}

@@ -1,4 +1,4 @@
--- What the threads of connections share, and what they leave.
+-- Send and Sync of the values that connection threads share and return.
 use denote.RattleType.{RattleType}
 use denote.Param.Send.{IsSend, IsSync, sendable, view_send, view_sync}
 use denote.Param.SendFields.{declared_send, declared_sync}

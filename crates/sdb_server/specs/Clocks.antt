@@ -1,29 +1,29 @@
--- What a clock tells, and one session that is answered by it.
+-- The moments of a clock, and a session whose lines are answered at them.
 use Rattle.std.specs.Prelude.{◌≡◌, ℕ, List, [], ◌∷◌, Option, Some, None, ⊤}
 use Rattle.sdb_projection.specs.Table.{PlainProjection}
 use Rattle.sdb_session.specs.Dialogue.{State, Dialogue}
 
--- the next of these moments, 0 where there are no more
+-- the first of the moments, or 0 if there are none
 abbrev pub next_moment : List ℕ → ℕ
 next_moment [] = 0
 next_moment (t ∷ ts) = t
 
--- those behind it
+-- the moments after the first
 abbrev pub moments_after : List ℕ → List ℕ
 moments_after [] = []
 moments_after (t ∷ ts) = ts
 
--- the moment is the next one of those that a clock tells, where they are known
+-- the moment is the first of those that the clock returns, if they are known, and the rest remains
 abbrev pub ClockReturns : Option (List ℕ) → ℕ → Option (List ℕ) → Type 0
 ClockReturns None now new = ⊤
 ClockReturns (Some ts) now new = (now ≡ next_moment ts) × (new ≡ Some (moments_after ts))
 
--- the state of a session, and the moments that its clock tells from there on
+-- the state of a session, and the moments that its clock returns next
 pub record TimedState : Type 0 where
   pub state : State
   pub remaining_moments : Option (List ℕ)
 
--- a line is answered by `Dialogue`, at the moment that the clock tells
+-- the line is answered as `Dialogue` says, at the clock's moment
 pub record TimedDialogue (t : List PlainProjection) (old : TimedState) (line : Option (List ℕ)) (bytes : List ℕ) (new : TimedState)
     : Type 0 where
   pub now : ℕ

@@ -1,4 +1,4 @@
--- What a run over lines writes, from no documents on, by a clock that tells these moments, where they are known.
+-- The output of a run over lines that starts without documents, for a clock with given moments.
 use Rattle.std.specs.Prelude.{ℕ, List, Option}
 use Rattle.sdb_lines.specs.Runs.{AppendsAnswers, AppendsAnswerPrefix}
 use Rattle.sdb_projection.specs.Table.{PlainProjection}
@@ -9,13 +9,14 @@ use Rattle.sdb_server.specs.LineSource.{own_source}
 abbrev pub initial_timed : Option (List ℕ) → TimedState
 initial_timed ahead = record { state = first_state own_source; remaining_moments = ahead }
 
--- known bytes grew by the opening text and the answers to all these lines, by `Dialogue`, each at the next moment
+-- the output is extended by the opening message and the answers to all lines, by `Dialogue`, each at the clock's next
+-- moment
 abbrev pub WroteSession : List PlainProjection → Option (List ℕ) → List (Option (List ℕ)) → Option (List ℕ) → Option (List ℕ)
     → Type 0
 WroteSession table ahead lines old new =
     (last : TimedState) × AppendsAnswers (TimedDialogue table) (initial_timed ahead) lines last (opening own_source) old new
 
--- known bytes grew by a front of that
+-- the output is extended by a prefix of the opening message and the answers
 abbrev pub WroteSessionPrefix : List PlainProjection → Option (List ℕ) → List (Option (List ℕ)) → Option (List ℕ)
     → Option (List ℕ) → Type 0
 WroteSessionPrefix table ahead lines old new =

@@ -1,4 +1,4 @@
-//! The loop that lets clients in.
+//! The loop that accepts connections.
 ghost use Rattle.std.specs.Prelude.{◌≡◌, ◌+◌, ◌≤◌, IfOk, IfSome, IsSomeAnd, OnErr, OnOk};
 ghost use Rattle.sdb_backend.specs.PassModel.{next_pass_number, IsPassOfBackend};
 ghost use Rattle.sdb_growlock.specs.LockRule.{ForEach};
@@ -18,10 +18,10 @@ use std::thread::Threads;
 use std::time::{Clock, Duration};
 use std::{io, thread};
 
-// How long nobody is let in, where nobody has come or no slot is free.
+// Pause in milliseconds if no connection waits or no slot is free.
 const PAUSE_MS: u64 = 2;
 
-// The threads of the connections, and how many clients were served.
+// The threads of all connections, and the number of passes created.
 #[derive(Drop)]
 struct Acceptor<R: Wait> {
     handshakes: HandshakeThreads,
@@ -40,7 +40,7 @@ where
         state: &ServerState<R>,
         is_keeping: bool,
     ) -> Result<Acceptor<R>, AllocError>
-        ensures entered { IfOk result (λ r. r.pass_count ≡ 0) }
+        ensures pass_count { IfOk result (λ r. r.pass_count ≡ 0) }
         ensures sessions { IfOk result (λ r. NoThreads r.sessions) }
     {
         let visits = HandshakeThreads::new(alloc)?;
@@ -54,13 +54,13 @@ where
         })
     }
 
-    // Whether nobody is there.
+    // Returns whether no thread runs.
     fn is_empty(&self) -> bool {
         self.handshakes.is_empty() && self.sessions.is_empty()
     }
 
-    // One step: joins a thread that is about to end, and lets in who waits at the listener. Nobody more is
-    // let in or served where there is none. False where there is nothing to do.
+    // Joins one thread that is about to end, and accepts one connection if `listener` is given.
+    // Returns `false` if there was nothing to do.
     fn step(
         &mut self,
         rt: R,
@@ -69,14 +69,14 @@ where
         state: &Arc<ServerState<R>, Global>,
         host: &mut Host,
     ) -> bool
-        requires few { self.old.pass_count ≤ next_pass_number host.old }
+        requires bound { self.old.pass_count ≤ next_pass_number host.old }
         requires host { IsHostOfServer host.old state.now.value }
         requires sessions { ThreadsOfBackend self.old.sessions state.now.value.backend }
         ensures host { IsHostOfServer host.new state.now.value }
         ensures sessions { ThreadsOfBackend self.new.sessions state.now.value.backend }
-        ensures counted { self.new.pass_count + next_pass_number host.old
+        ensures count { self.new.pass_count + next_pass_number host.old
             ≡ self.old.pass_count + next_pass_number host.new }
-        ensures let_in { self.old.pass_count ≤ self.new.pass_count }
+        ensures pass_count { self.old.pass_count ≤ self.new.pass_count }
     {
         let has_ended = self.reap(rt, alloc, listener.is_some(), state, host);
         match listener {
@@ -85,7 +85,8 @@ where
         }
     }
 
-    // Joins a thread that is about to end, if there is one, and serves the client whose handshake it did.
+    // Joins a thread that is about to end, if there is one. Starts a session if it completed a
+    // handshake.
     fn reap(
         &mut self,
         rt: R,
@@ -94,14 +95,14 @@ where
         state: &Arc<ServerState<R>, Global>,
         host: &mut Host,
     ) -> bool
-        requires few { self.old.pass_count ≤ next_pass_number host.old }
+        requires bound { self.old.pass_count ≤ next_pass_number host.old }
         requires host { IsHostOfServer host.old state.now.value }
         requires sessions { ThreadsOfBackend self.old.sessions state.now.value.backend }
         ensures host { IsHostOfServer host.new state.now.value }
         ensures sessions { ThreadsOfBackend self.new.sessions state.now.value.backend }
-        ensures counted { self.new.pass_count + next_pass_number host.old
+        ensures count { self.new.pass_count + next_pass_number host.old
             ≡ self.old.pass_count + next_pass_number host.new }
-        ensures let_in { self.old.pass_count ≤ self.new.pass_count }
+        ensures pass_count { self.old.pass_count ≤ self.new.pass_count }
     {
         match state.next_ended(&rt) {
             Some(Slot::Session(slot)) => {
@@ -120,7 +121,7 @@ where
 
     fn end_session(&mut self, rt: &R, state: &ServerState<R>, slot: usize)
         ensures sessions { SameBackends self.old.sessions self.new.sessions }
-        ensures entered { self.new.pass_count ≡ self.old.pass_count }
+        ensures pass_count { self.new.pass_count ≡ self.old.pass_count }
     {
         if let Some(report) = self.sessions.join(rt, slot)
             && state.is_logging()
@@ -129,7 +130,7 @@ where
         }
     }
 
-    // Lets in the next who waits at the listener, if somebody does and there is room.
+    // Accepts one connection if one waits and a handshake slot is free.
     fn accept_next(
         &mut self,
         rt: R,
@@ -138,7 +139,7 @@ where
         state: &Arc<ServerState<R>, Global>,
     ) -> bool
         ensures sessions { SameBackends self.old.sessions self.new.sessions }
-        ensures entered { self.new.pass_count ≡ self.old.pass_count }
+        ensures pass_count { self.new.pass_count ≡ self.old.pass_count }
     {
         let has_room = self.handshakes.has_room();
         state.set_handshakes_full(!has_room);
@@ -158,10 +159,10 @@ where
         }
     }
 
-    // Tells a failure to accept, once until accepting works again.
+    // Logs a failure to accept, once until accepting works again.
     fn log_failure(&mut self, rt: &R, error: &Error)
         ensures sessions { SameBackends self.old.sessions self.new.sessions }
-        ensures entered { self.new.pass_count ≡ self.old.pass_count }
+        ensures pass_count { self.new.pass_count ≡ self.old.pass_count }
     {
         let is_failing = !matches!(error.kind(), ErrorKind::WouldBlock | ErrorKind::Interrupted);
         if is_failing && !self.is_accept_failing {
@@ -170,7 +171,7 @@ where
         self.is_accept_failing = is_failing;
     }
 
-    // Starts a thread for a connection that isn't served. Without one it is closed.
+    // Starts a thread for a handshake or a refusal. Without a thread the connection is closed.
     fn spawn_handshake(
         &mut self,
         rt: R,
@@ -180,14 +181,14 @@ where
         visit: HandshakeTask,
     )
         ensures sessions { SameBackends self.old.sessions self.new.sessions }
-        ensures entered { self.new.pass_count ≡ self.old.pass_count }
+        ensures pass_count { self.new.pass_count ≡ self.old.pass_count }
     {
         if !self.handshakes.start(rt, alloc, state, stream, visit) {
             log_no_thread(&rt);
         }
     }
 
-    // Serves a client whose handshake is done, or sends it away.
+    // Starts a session after a completed handshake, or refuses the connection.
     fn start_or_refuse(
         &mut self,
         rt: R,
@@ -197,14 +198,14 @@ where
         host: &mut Host,
         stream: TcpStream,
     )
-        requires few { self.old.pass_count ≤ next_pass_number host.old }
+        requires bound { self.old.pass_count ≤ next_pass_number host.old }
         requires host { IsHostOfServer host.old state.now.value }
         requires sessions { ThreadsOfBackend self.old.sessions state.now.value.backend }
         ensures host { IsHostOfServer host.new state.now.value }
         ensures sessions { ThreadsOfBackend self.new.sessions state.now.value.backend }
-        ensures counted { self.new.pass_count + next_pass_number host.old
+        ensures count { self.new.pass_count + next_pass_number host.old
             ≡ self.old.pass_count + next_pass_number host.new }
-        ensures let_in { self.old.pass_count ≤ self.new.pass_count }
+        ensures pass_count { self.old.pass_count ≤ self.new.pass_count }
     {
         if !is_open {
             self.spawn_handshake(rt, alloc, state, stream, HandshakeTask::Refuse);
@@ -215,7 +216,7 @@ where
         }
     }
 
-    // Serves a client whose handshake is done, with a pass. The stream, where there is no room.
+    // Starts a session with a new pass. Returns the stream if no slot or no pass is left.
     fn start_session(
         &mut self,
         rt: R,
@@ -224,14 +225,14 @@ where
         host: &mut Host,
         stream: TcpStream,
     ) -> Result<(), TcpStream>
-        requires few { self.old.pass_count ≤ next_pass_number host.old }
+        requires bound { self.old.pass_count ≤ next_pass_number host.old }
         requires host { IsHostOfServer host.old state.now.value }
         requires sessions { ThreadsOfBackend self.old.sessions state.now.value.backend }
         ensures host { IsHostOfServer host.new state.now.value }
         ensures sessions { ThreadsOfBackend self.new.sessions state.now.value.backend }
-        ensures counted { self.new.pass_count + next_pass_number host.old
+        ensures count { self.new.pass_count + next_pass_number host.old
             ≡ self.old.pass_count + next_pass_number host.new }
-        ensures let_in { self.old.pass_count ≤ self.new.pass_count }
+        ensures pass_count { self.old.pass_count ≤ self.new.pass_count }
     {
         let place = self.sessions.slot_for(state, stream)?;
         let Some(pass) = self.new_pass(state, host) else {
@@ -246,15 +247,15 @@ where
         Ok(())
     }
 
-    // A pass for one client more, where the backend has one.
+    // Creates a pass for one more client, if the backend has one.
     fn new_pass(&mut self, state: &ServerState<R>, host: &mut Host) -> Option<Pass>
-        requires few { self.old.pass_count ≤ next_pass_number host.old }
+        requires bound { self.old.pass_count ≤ next_pass_number host.old }
         requires host { IsHostOfServer host.old state.now }
         ensures host { IsHostOfServer host.new state.now }
         ensures pass { IfSome result (λ p. IsPassOfBackend p state.now.backend) }
-        ensures counted { self.new.pass_count + next_pass_number host.old
+        ensures count { self.new.pass_count + next_pass_number host.old
             ≡ self.old.pass_count + next_pass_number host.new }
-        ensures let_in { self.old.pass_count ≤ self.new.pass_count }
+        ensures pass_count { self.old.pass_count ≤ self.new.pass_count }
         ensures sessions { SameBackends self.old.sessions self.new.sessions }
     {
         let Ok(pass) = state.backend.enter(host) else {
@@ -265,21 +266,25 @@ where
     }
 }
 
-/// Lets clients in at the listener, each on a thread of its own with a pass from the host, until so many
-/// `connections` were served, and waits until those have gone. Where no number is named it goes on until
-/// the program ends.
+/// Accepts connections and serves each client on its own thread, until `connections` sessions have
+/// ended. If `connections` is `None`, it runs until the program ends.
 ///
-/// A client gets its pass once its handshake is done, so that whoever never finishes one takes no number; what
-/// is no handshake is answered 426. At most [`CLIENT_LIMIT`](crate::CLIENT_LIMIT) are served at once. Who
-/// comes meanwhile gets a close with the status 1013 behind its handshake, as does everybody once the host
-/// has no passes left; neither is counted. Counted is who gets a pass, also where no thread can be started
-/// for its session, which ends at once then.
+/// - A client gets its pass after its handshake. A request that is no WebSocket handshake is
+///   answered with status 426.
+/// - At most [`CLIENT_LIMIT`](crate::CLIENT_LIMIT) clients are served at once. Any other is closed
+///   with 1013 (try again later), as is each client once the host has no passes left. Neither
+///   counts as a connection.
+/// - A client with a pass counts, even if no thread can be started for its session, which then ends
+///   at once.
+/// - A failure to accept is logged on standard error, once until accepting works again, as is each
+///   thread that can't be started. [`with_log`](ServerState::with_log) also logs the begin and the
+///   end of each session.
+/// - The listener is non-blocking afterwards.
 ///
-/// A failure to accept is told on standard error, once until accepting works again, and so is each thread that
-/// can't be started; with [`with_log`](ServerState::with_log) also the begin and the end of each session.
+/// # Errors
 ///
-/// An error comes where the listener can't be told not to block, or for want of memory, and before
-/// anybody is let in. The listener doesn't block afterwards.
+/// The [`io::Error`] of setting the listener to non-blocking, or one of kind `OutOfMemory` if an
+/// allocation fails. No connection was then accepted and the host is unchanged.
 pub fn listen<R>(
     rt: R,
     alloc: Global,
@@ -293,7 +298,7 @@ where
     R: Threads + Wait + Clock + Eprint + Drop + Copy + Send + Sync + 'static,
     requires { IsHostOfServer host.old state.now.value }
     ensures host { IsHostOfServer host.new state.now.value }
-    ensures counted { OnOk result (IsSomeAnd connections (λ count. next_pass_number host.new
+    ensures count { OnOk result (IsSomeAnd connections (λ count. next_pass_number host.new
         ≡ next_pass_number host.old + count)) }
     ensures nobody { OnErr result (host.new ≡ host.old) }
 {
@@ -315,11 +320,13 @@ where
     unreachable!()
 }
 
-/// Lets clients in as [`listen`] does, until the server is [stopped](ServerState::stop), closes each session with
-/// the status 1001, and gives back all passes that the host gave here: with those that it gave elsewhere they
-/// are what [`Backend::close`](sdb_backend::Backend::close) asks for. They are kept meanwhile.
+/// Accepts connections as [`listen`] does until the server is [stopped](ServerState::stop), and
+/// closes each session with status 1001. Returns the passes that the host created here; with all
+/// its other passes they are the argument of [`Backend::close`](sdb_backend::Backend::close).
 ///
-/// An error comes as from `listen`.
+/// # Errors
+///
+/// As [`listen`]: no connection was accepted and the host is unchanged.
 pub fn listen_until_stopped<R>(
     rt: R,
     alloc: Global,

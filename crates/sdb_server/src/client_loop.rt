@@ -20,47 +20,47 @@ use tungstenite::{
     Bytes, CloseCode, CloseFrame, Error, Message, NoMask, Role, Utf8Bytes, WebSocket,
 };
 
-// How often what waits is taken between two reads.
+// Maximal number of pumps between two reads.
 const PUMP_LIMIT: u64 = 16;
 
-// After so many reads without a message the client is asked for a sign of life. With a read timeout of
-// 20 milliseconds that is a minute.
+// Number of silent reads before a ping: one minute at a read timeout of 20 milliseconds.
 const SILENCE_LIMIT_BEFORE_PING: u64 = 3_000;
 
-// After so many the connection ends.
+// Number of silent reads before the connection is closed.
 const SILENCE_LIMIT: u64 = 6_000;
 
-// How many reads, of so many bytes each, throw away what a client still sends to a session that has ended.
+// Maximal number of reads, of `DRAIN_BYTE_LIMIT` bytes each, that discard input after a session has
+// ended.
 const DRAIN_READ_LIMIT: u64 = 16_384;
 
 const DRAIN_BYTE_LIMIT: usize = 4_096;
 
-// How many of these may find nothing: with a read timeout of 20 milliseconds a second.
+// Maximal number of silent reads among them: one second at a read timeout of 20 milliseconds.
 const DRAIN_SILENCE_LIMIT: u64 = 50;
 
-// What is still said to a client whose session has ended.
+// What is sent to a client whose session has ended.
 #[derive(Drop)]
 enum CloseAction {
     None,
     Close(CloseCode),
-    // The answer to a message that is too long, and a close.
+    // The answer to a message that is too long, then a close.
     Refuse(Vec<String>),
 }
 
-// What a read of the socket gives.
+// The result of one read of the socket.
 #[derive(Drop)]
 enum Incoming {
     Text(Utf8Bytes),
     Binary,
     // A ping, a pong or a close, which the library answers.
     Control,
-    // Nothing, for as long as a read waits.
+    // The read timed out.
     Timeout,
-    // Nothing yet: something was stored meanwhile, or the server is ending.
+    // The read was woken: an operation was stored, or the server is shutting down.
     Wakeup,
 }
 
-// A client at a socket, and what it is served with.
+// One client: its socket, its session and the services that it uses.
 #[derive(Drop)]
 struct Client<'a, R: Wait, C, S> {
     rt: &'a R,
@@ -78,50 +78,51 @@ struct Client<'a, R: Wait, C, S> {
     operations: u64,
 }
 
-/// What a client is served with, but for its pass.
+/// What a session uses, except its pass.
 #[derive(Drop)]
 pub(crate) struct Service<'a, R: Wait, C> {
     /// The documents.
     pub(crate) backend: &'a Backend<R>,
-    /// The projections through which it sees them.
+    /// The projections through which the session sees documents.
     pub(crate) table: &'a Table,
-    /// Tells the moments of its messages.
+    /// The clock that gives the time of each message.
     pub(crate) clock: C,
-    /// Whether the server is ending, where there is one.
+    /// Set once the server is shutting down. `None` outside a server.
     pub(crate) is_ending: Option<&'a AtomicBool>,
-    /// The texts that it shares with others, if it does.
+    /// The cache of operation texts that sessions share, if any.
     pub(crate) texts: Option<&'a Arc<OpTextCache>>,
-    /// Its place among those that are woken, where it has one.
+    /// The session's entry in the wake registry, if any.
     pub(crate) wake_handle: Option<WakeHandle<'a>>,
 }
 
-/// How a client was served.
+/// The result of a session.
 #[derive(Drop)]
 pub(crate) struct Served {
-    /// The pass that it was served with.
+    /// The session's pass, returned.
     pub(crate) pass: Pass,
-    /// Why its session ended.
+    /// The reason why the session ended.
     pub(crate) end: SessionEnd,
-    /// Its source at the end, as a text of JSON, where there was memory for it.
+    /// The session's source at its end, as JSON text. `None` if an allocation failed.
     pub(crate) source: Option<String>,
-    /// How many messages came from it.
+    /// Number of messages received.
     pub(crate) messages: u64,
-    /// How many of them were operations that were acknowledged.
+    /// Number of operations acknowledged.
     pub(crate) operations: u64,
 }
 
-/// Serves a client at a socket until one of both closes it, and gives the pass back. The session's
-/// source is `s` and the number of the pass. Each text message is handled, a binary one answered as E1;
-/// the clock is asked once for each, and what a message submits is stored at that moment. Each answer goes to
-/// the socket as it is made. Between two reads what was stored meanwhile is sent, so the stream's reads should
-/// answer `WouldBlock` or `TimedOut` after some milliseconds without input, as those of a stream do on which
-/// [`set_socket_options`](crate::set_socket_options) was called; one that answers `Interrupted` sooner, so
-/// that this is sent, counts for nothing. A message longer than the socket takes is answered as E1, and ends
-/// the session.
+/// Serves one client over a WebSocket until either side closes it, and returns the pass.
 ///
-/// A client from which 3,000 reads in a row bring nothing is sent a ping, and after 6,000 a close with
-/// the status 1001, as is one that takes too many reads for a message ([`DeadlineStream`]). The session's
-/// queues are closed before anything is waited for at its end.
+/// - The session's source is `s` followed by the pass number.
+/// - Each text message is handled; a binary one is answered E1. The clock is read once for each,
+///   and an operation is stored with that time.
+/// - A message longer than the socket's limit is answered E1 and ends the session.
+/// - Operations stored by others are sent between two reads. A read should therefore return
+///   `WouldBlock` or `TimedOut` after some milliseconds without input, as after
+///   [`set_socket_options`](crate::set_socket_options). A read that returns `Interrupted` doesn't
+///   count as silent.
+/// - After 3,000 silent reads in a row the client is sent a ping, after 6,000 a close with status
+///   1001. A client that exceeds the reads of a message ([`DeadlineStream`]) is closed likewise.
+/// - The session's queues are closed before the connection is.
 pub fn serve<'a, R: Wait + Drop, C: Clock + Drop, S: Read + Write + Drop>(
     rt: &'a R,
     alloc: Global,
@@ -146,8 +147,8 @@ pub fn serve<'a, R: Wait + Drop, C: Clock + Drop, S: Read + Write + Drop>(
     serve_until(rt, alloc, socket, pass, service).pass
 }
 
-/// Serves a client as [`serve`] does, and also ends its session, with the status 1001, once the server is
-/// ending.
+/// Serves one client as [`serve`] does, and closes its session with status 1001 once the server is
+/// shutting down.
 pub(crate) fn serve_until<'a, R: Wait + Drop, C: Clock + Drop, S: Read + Write + Drop>(
     rt: &'a R,
     alloc: Global,
@@ -200,7 +201,7 @@ pub(crate) fn serve_until<'a, R: Wait + Drop, C: Clock + Drop, S: Read + Write +
     served
 }
 
-// A session of the source, which shares the texts, if there are such.
+// Creates a session for the source. It shares the cache of texts, if there is one.
 fn new_session(alloc: Global, source: String, texts: Option<&Arc<OpTextCache>>) -> Session {
     let mut session = Session::new(alloc, source);
     if let Some(Ok(texts)) = texts.map(Arc::try_clone) {
@@ -210,7 +211,7 @@ fn new_session(alloc: Global, source: String, texts: Option<&Arc<OpTextCache>>) 
 }
 
 impl<'a, R: Wait + Drop, C: Clock + Drop, S: Read + Write + Drop> Client<'a, R, C, S> {
-    // Answers the client until the session ends.
+    // Runs the session until it ends.
     fn run(&mut self) -> SessionEnd
         requires { IsPassOfBackend self.old.pass self.old.backend.now }
         ensures { KeepsPass self.old.backend.now self.old.pass self.new.backend.now self.new.pass }
@@ -237,8 +238,7 @@ impl<'a, R: Wait + Drop, C: Clock + Drop, S: Read + Write + Drop> Client<'a, R, 
         Ok(())
     }
 
-    // One read, its answers, and what was stored meanwhile. They go out together. Nothing is read any more
-    // once the server is ending.
+    // Reads once, answers, pumps and flushes. Ends the session if the server is shutting down.
     fn poll_once(&mut self) -> Result<(), SessionEnd>
         requires { IsPassOfBackend self.old.pass self.old.backend.now }
         ensures { KeepsPass self.old.backend.now self.old.pass self.new.backend.now self.new.pass }
@@ -262,7 +262,7 @@ impl<'a, R: Wait + Drop, C: Clock + Drop, S: Read + Write + Drop> Client<'a, R, 
         }
     }
 
-    // Whoever is woken has come back from its wait.
+    // Reads once, and clears the session's waiting flag.
     fn next_incoming(&mut self) -> Result<Incoming, SessionEnd>
         requires { IsPassOfBackend self.old.pass self.old.backend.now }
         ensures { KeepsPass self.old.backend.now self.old.pass self.new.backend.now self.new.pass }
@@ -285,7 +285,7 @@ impl<'a, R: Wait + Drop, C: Clock + Drop, S: Read + Write + Drop> Client<'a, R, 
         }
     }
 
-    // Handles a text at the moment that the clock tells.
+    // Handles a text message at the clock's time.
     fn answer_text(&mut self, text: &str) -> Result<(), SessionEnd>
         requires { IsPassOfBackend self.old.pass self.old.backend.now }
         ensures { KeepsPass self.old.backend.now self.old.pass self.new.backend.now self.new.pass }
@@ -308,7 +308,7 @@ impl<'a, R: Wait + Drop, C: Clock + Drop, S: Read + Write + Drop> Client<'a, R, 
         Ok(())
     }
 
-    // Follows what was subscribed to, and counts what was stored and wakes those who follow it.
+    // Registers a new subscription, and counts a stored operation and wakes its subscribers.
     fn record(&mut self, stored: Option<IdBucket>, followed: Option<IdBucket>)
         requires { IsPassOfBackend self.old.pass self.old.backend.now }
         ensures { KeepsPass self.old.backend.now self.old.pass self.new.backend.now self.new.pass }
@@ -338,15 +338,16 @@ impl<'a, R: Wait + Drop, C: Clock + Drop, S: Read + Write + Drop> Client<'a, R, 
         sent_or_end(refused, sink.failure)
     }
 
-    // What is stored from now on wakes the session. It looks at its queues behind this.
+    // Sets the waiting flag. The session must check its queues afterwards, so that no entry is
+    // missed.
     fn ask_to_be_woken(&self) {
         if let Some(following) = self.wake_handle {
             following.wait();
         }
     }
 
-    // Sends what was stored meanwhile. Where that is much, the rest of it is sent behind the next read, which
-    // doesn't wait then.
+    // Sends stored entries. If more are left after `PUMP_LIMIT` pumps, the next read returns at
+    // once.
     fn pump(&mut self) -> Result<(), SessionEnd>
         requires { IsPassOfBackend self.old.pass self.old.backend.now }
         ensures { KeepsPass self.old.backend.now self.old.pass self.new.backend.now self.new.pass }
@@ -363,7 +364,7 @@ impl<'a, R: Wait + Drop, C: Clock + Drop, S: Read + Write + Drop> Client<'a, R, 
         Ok(())
     }
 
-    // One take of each queue. How many entries were taken.
+    // Reads each queue once and returns the number of entries sent.
     fn pump_once(&mut self) -> Result<u128, SessionEnd>
         requires { IsPassOfBackend self.old.pass self.old.backend.now }
         ensures { KeepsPass self.old.backend.now self.old.pass self.new.backend.now self.new.pass }
@@ -376,7 +377,7 @@ impl<'a, R: Wait + Drop, C: Clock + Drop, S: Read + Write + Drop> Client<'a, R, 
         sent_or_end(pumped, sink.failure)
     }
 
-    // What came is whole, so the next message has a deadline of its own.
+    // Restarts the deadline after a complete message.
     fn restart_deadline(&mut self, incoming: &Incoming)
         requires { IsPassOfBackend self.old.pass self.old.backend.now }
         ensures { KeepsPass self.old.backend.now self.old.pass self.new.backend.now self.new.pass }
@@ -387,14 +388,14 @@ impl<'a, R: Wait + Drop, C: Clock + Drop, S: Read + Write + Drop> Client<'a, R, 
         }
     }
 
-    // Asks a client that is silent for a sign of life, and ends with one that gives none.
+    // Sends a ping to a silent client, and ends the session if the client stays silent.
     fn check_idle(&mut self, incoming: &Incoming) -> Result<(), SessionEnd>
         requires { IsPassOfBackend self.old.pass self.old.backend.now }
         ensures { KeepsPass self.old.backend.now self.old.pass self.new.backend.now self.new.pass }
     {
         self.silent_reads = match incoming {
             Incoming::Timeout => self.silent_reads.saturating_add(1),
-            // What others do says nothing of the client.
+            // A wake-up is caused by other sessions, so it neither counts nor resets.
             Incoming::Wakeup => return Ok(()),
             _ => 0,
         };
@@ -416,7 +417,7 @@ impl<'a, R: Wait + Drop, C: Clock + Drop, S: Read + Write + Drop> Client<'a, R, 
         Ok(())
     }
 
-    // What is said to the client at the end of its session.
+    // Returns what is sent to the client at the session's end.
     fn close_action(&mut self, end: SessionEnd) -> CloseAction
         requires { IsPassOfBackend self.old.pass self.old.backend.now }
         ensures { KeepsPass self.old.backend.now self.old.pass self.new.backend.now self.new.pass }
@@ -442,7 +443,7 @@ impl<'a, R: Wait + Drop, C: Clock + Drop, S: Read + Write + Drop> Client<'a, R, 
         }
     }
 
-    // Closes the queues of the session, and gives back the socket, the pass and how the client was served.
+    // Closes the session's queues, and returns the socket and the session's result.
     fn finish(self, end: SessionEnd) -> (&'a mut WebSocket<DeadlineStream<S>, NoMask>, Served)
         requires { IsPassOfBackend self.pass self.backend.now }
         ensures pass { IsPassOfBackend result.1.pass self.entry.backend.now }
@@ -471,7 +472,7 @@ impl<'a, R: Wait + Drop, C: Clock + Drop, S: Read + Write + Drop> Client<'a, R, 
     }
 }
 
-// The source of a session as its opening shows it, a text of JSON.
+// Returns the session's source as JSON text, cut out of its opening message.
 fn source_of(alloc: Global, session: &Session) -> Option<String> {
     let opening = session.opening().ok()?;
     let (_, rest) = opening.as_str().split_once(r#""id":"#)?;
@@ -479,7 +480,7 @@ fn source_of(alloc: Global, session: &Session) -> Option<String> {
     String::from_str(alloc, source).ok()
 }
 
-// Says what is still to be said, and closes the connection.
+// Sends what is left to send, and closes the connection.
 fn send_close_action<S: Read + Write + Drop>(
     alloc: Global,
     socket: &mut WebSocket<DeadlineStream<S>, NoMask>,
@@ -493,8 +494,8 @@ fn send_close_action<S: Read + Write + Drop>(
     }
 }
 
-// Answers a message that is too long, and closes. The socket that read it takes no text any more, so the answer
-// goes out over a fresh one on the same stream.
+// Answers a message that is too long, and closes. The socket that read it sends no more text, so a
+// new one on its stream does.
 fn refuse_too_long<S: Read + Write + Drop>(
     alloc: Global,
     stream: &mut DeadlineStream<S>,
@@ -509,7 +510,7 @@ fn refuse_too_long<S: Read + Write + Drop>(
     close_and_drain(&mut socket, CloseCode::Size);
 }
 
-// One read of the socket.
+// Reads the socket once.
 fn next_incoming<S: Read + Write + Drop>(
     socket: &mut WebSocket<S, NoMask>,
 ) -> Result<Incoming, SessionEnd> {
@@ -535,7 +536,7 @@ fn incoming_of(message: Message) -> Incoming {
     }
 }
 
-// An error of the socket ends the session, and else want of memory does.
+// Returns the socket's error if there is one, or else the session's.
 fn sent_or_end<T: Drop>(done: Result<T, Ended>, failure: Option<Error>) -> Result<T, SessionEnd> {
     match failure {
         Some(error) => Err(error.into()),
@@ -543,7 +544,7 @@ fn sent_or_end<T: Drop>(done: Result<T, Ended>, failure: Option<Error>) -> Resul
     }
 }
 
-// Whether the read was woken.
+// Returns whether a wake-up ended the read.
 fn is_wakeup(error: &Error) -> bool {
     match error {
         Error::Io(error) => error.kind() == ErrorKind::Interrupted,
@@ -551,7 +552,7 @@ fn is_wakeup(error: &Error) -> bool {
     }
 }
 
-// Whether the read has found nothing for as long as it waits.
+// Returns whether the read timed out.
 fn is_would_block(error: &Error) -> bool {
     match error {
         Error::Io(error) => is_silence(error),
@@ -569,8 +570,8 @@ fn send_text<S: Read + Write + Drop>(
     }
 }
 
-/// Closes a connection, and says why. What the client still sends is thrown away for a while, so that it
-/// reads this before its own writes fail.
+/// Closes a connection with a status, then drains its input, so that the client reads the close
+/// before its own writes fail.
 pub(crate) fn close_and_drain<S: Read + Write + Drop>(
     socket: &mut WebSocket<S, NoMask>,
     code: CloseCode,
@@ -581,7 +582,7 @@ pub(crate) fn close_and_drain<S: Read + Write + Drop>(
     }
 }
 
-/// Throws away what comes for a while.
+/// Discards input until the stream ends or a limit is reached.
 pub(crate) fn drain<S: Read>(stream: &mut S) {
     let mut bytes = [0; DRAIN_BYTE_LIMIT];
     let mut silent_reads = 0;
@@ -597,7 +598,7 @@ pub(crate) fn drain<S: Read>(stream: &mut S) {
     }
 }
 
-// Whether a read has found nothing for as long as it waits.
+// Returns whether the read timed out or was woken.
 fn is_silence(error: &IoError) -> bool {
     matches!(
         error.kind(),

@@ -1,21 +1,21 @@
-//! Clocks.
+//! Clocks of sessions.
 ghost use Rattle.std.specs.Prelude.{◌≡◌, ℕ, List, Option, Some, drop};
 ghost use Rattle.sdb_server.specs.Clocks.{ClockReturns};
 
 use sdb_oplog::Moment;
 use std::time::SystemTime;
 
-/// Tells moments: a session asks once for each line or message.
+/// A clock. A session reads it once for each line or message.
 pub trait Clock {
-    // The moments that it tells from here on, in order and then 0, where they are known.
+    // The moments that the clock returns next, in order and then 0. `None` if they aren't known.
     ghost remaining_moments: { Self → Option (List ℕ) };
 
-    /// The present moment.
+    /// Returns the present moment.
     fn now(&mut self) -> Moment
         ensures { ClockReturns (remaining_moments self.old) result (remaining_moments self.new) };
 }
 
-/// A clock that tells the moments of a list, one after the other, and then 0.
+/// A clock that returns the moments of a list in order, and then 0.
 #[derive(Drop)]
 pub struct ListClock {
     moments: Vec<Moment>,
@@ -23,7 +23,7 @@ pub struct ListClock {
 }
 
 impl ListClock {
-    /// A clock that tells these moments.
+    /// Creates a clock from a list of moments.
     pub fn new(moments: Vec<Moment>) -> ListClock
         ensures { drop result.next_index result.moments.items ≡ moments.items }
     {
@@ -48,21 +48,21 @@ impl Clock for ListClock {
     }
 }
 
-/// The machine's clock: milliseconds since the beginning of 1970, or 0 where it is set before that or can't be
-/// read.
+/// The system's clock, in milliseconds since the beginning of 1970. It returns 0 if it is set
+/// before that or can't be read.
 #[derive(Clone, Copy, Drop)]
 pub struct SystemClock<'a, T> {
     time: &'a T,
 }
 
 impl<'a, T> SystemClock<'a, T> {
-    /// The clock that this runtime reads.
+    /// Creates a clock that reads the time of a runtime.
     pub fn new(time: &'a T) -> SystemClock<'a, T> {
         SystemClock { time }
     }
 }
 
-/// What it tells isn't known here.
+/// Its moments aren't known to the contracts.
 impl<T: std::time::Clock> Clock for SystemClock<'_, T> {
     ghost use Rattle.std.specs.Prelude.{None};
 

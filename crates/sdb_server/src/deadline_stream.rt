@@ -1,18 +1,18 @@
-//! A stream on which what a client sends has a deadline.
+//! A stream with a deadline for each message.
 use std::io;
 use std::io::{ErrorKind, Read, Write};
 
-// How many reads a message may take, and how many bytes that came allow one more.
+// Number of reads that a message may take, and number of bytes that allow one more.
 const READ_LIMIT: u64 = 1_000;
 
 const BYTES_PER_READ: u64 = 1_024;
 
-/// A stream that gives a client up which sends something too slowly: a message, a handshake, or what follows a
-/// close. Since it was last restarted, it may take 1,000 reads, and one more for each 1,024 bytes that came.
-/// Reads that find nothing, for as long as the stream waits, aren't counted. With a stream that waits 20
-/// milliseconds a message of a megabyte may take 40 seconds of these reads.
+/// A stream that fails if a client sends a message too slowly. A message may take 1,000 reads, and
+/// one more for each 1,024 bytes received since the last restart. Reads that time out aren't
+/// counted.
 ///
-/// The read behind the last one fails by `ConnectionAborted`.
+/// The next read fails with `ConnectionAborted`. At a read timeout of 20 milliseconds the reads of
+/// a message of one megabyte may take 40 seconds.
 #[derive(Drop)]
 pub struct DeadlineStream<S> {
     stream: S,
@@ -21,7 +21,7 @@ pub struct DeadlineStream<S> {
 }
 
 impl<S> DeadlineStream<S> {
-    /// The stream, on which the first message begins.
+    /// Creates the stream, ready for the first message.
     pub fn new(stream: S) -> DeadlineStream<S> {
         DeadlineStream {
             stream,
@@ -30,13 +30,13 @@ impl<S> DeadlineStream<S> {
         }
     }
 
-    /// Whatever came is whole: what comes next has a deadline of its own.
+    /// Restarts the deadline, for the next message.
     pub fn restart(&mut self) {
         self.reads = 0;
         self.bytes = 0;
     }
 
-    /// The stream, given back.
+    /// Returns the inner stream.
     pub fn into_inner(self) -> S {
         self.stream
     }

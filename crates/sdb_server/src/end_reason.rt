@@ -1,34 +1,34 @@
-//! Why a session ends.
+//! The reasons for which a session ends.
 use std::alloc::AllocError;
 use std::fmt;
 use std::io::{Error as IoError, ErrorKind};
 use tungstenite::{CloseCode, Error};
 
-/// Why a session ends. It is written in words.
+/// The reason why a session ended. `Display` writes it in words.
 #[derive(Clone, Copy, Drop)]
 pub(crate) enum SessionEnd {
-    /// The client has closed the connection.
+    /// The client closed the connection.
     Closed,
     /// The connection is broken.
     Lost,
-    /// The message is longer than a message may be, so what follows it can't be told apart from it.
+    /// A message exceeded the length limit, so its end can't be found.
     TooLong,
-    /// The client gave no sign of life.
+    /// The client was silent for too long.
     Silent,
-    /// A message came too slowly.
+    /// A message arrived too slowly.
     Slow,
-    /// The client doesn't keep to the protocol of WebSockets: it may have gone without a close.
+    /// The client broke the WebSocket protocol, or closed without a close frame.
     Protocol,
-    /// A text is no UTF-8.
+    /// A text message was not UTF-8.
     NotText,
-    /// Memory was wanting.
+    /// An allocation failed.
     OutOfMemory,
-    /// The server ends.
+    /// The server is shutting down.
     Stopped,
 }
 
 impl SessionEnd {
-    /// The status of the close that the client is told, if it is told one by itself.
+    /// Returns the close code to send, or `None` if no close is sent.
     pub(crate) fn close_code(self) -> Option<CloseCode> {
         match self {
             SessionEnd::Closed | SessionEnd::Lost | SessionEnd::TooLong => None,
@@ -82,7 +82,7 @@ impl From<Error> for SessionEnd {
     }
 }
 
-// A client that was given up is told so, as one that is silent.
+// `ConnectionAborted` is the error of a `DeadlineStream`.
 fn end_of(error: &IoError) -> SessionEnd {
     match error.kind() {
         ErrorKind::ConnectionAborted => SessionEnd::Slow,

@@ -1,4 +1,4 @@
-//! The handshake of a connection, and what is answered to whoever asks for something else.
+//! The handshake of a connection, and the answer to any other request.
 use crate::client_loop::drain;
 use crate::deadline_stream::DeadlineStream;
 use std::alloc::Global;
@@ -7,13 +7,14 @@ use std::sync::atomic::{AtomicBool, Ordering};
 use tungstenite::handshake::server::start;
 use tungstenite::{Error, HandshakeError, NoCallback};
 
-// How many reads that find nothing a handshake may take: with a read timeout of 20 milliseconds ten seconds.
+// Number of silent reads that a handshake may take: ten seconds at a read timeout of 20
+// milliseconds.
 const HANDSHAKE_TIMEOUT: u64 = 500;
 
-// How many where others wait for its place: one second.
+// The number while other connections wait for a slot: one second.
 const CROWDED_TIMEOUT: u64 = 50;
 
-// The answer to a request that isn't the handshake of a WebSocket.
+// The answer to a request that isn't a WebSocket handshake.
 const UPGRADE_REQUIRED: &str = "HTTP/1.1 426 Upgrade Required\r\n\
     Upgrade: websocket\r\n\
     Connection: Upgrade, close\r\n\
@@ -23,20 +24,20 @@ const UPGRADE_REQUIRED: &str = "HTTP/1.1 426 Upgrade Required\r\n\
     \r\n\
     This is a ShareDB server. Its clients connect by a WebSocket.\n";
 
-// How a handshake ends.
+// The outcome of a handshake.
 #[derive(Clone, Copy, Drop)]
 enum HandshakeOutcome {
-    // It is done.
+    // The handshake is complete.
     Done,
-    // What came asks for no WebSocket.
+    // The request is no WebSocket handshake.
     NotUpgrade,
-    // The client is gone or too slow, or nobody is served any more.
+    // The client is gone or too slow, or the server accepts no more sessions.
     TimedOut,
 }
 
-/// Does a server's handshake, and gives the stream back where it is done. What is no handshake is
-/// answered 426. It is given up where the client takes too long, sooner where it is crowded, or nobody is
-/// served any more.
+/// Runs a server's handshake and returns the stream if it completes. Any other request is answered
+/// 426. The handshake is abandoned if it takes too long, sooner if `is_crowded` is set, and at once
+/// if `is_full` is set.
 pub(crate) fn handshake<S: Read + Write + Drop>(
     alloc: Global,
     stream: S,

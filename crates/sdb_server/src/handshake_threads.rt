@@ -1,4 +1,4 @@
-//! The threads of connections that aren't served: of those in their handshake, and those sent away.
+//! The threads that run handshakes and refusals.
 use crate::server_state::{HANDSHAKE_LIMIT, HandshakeTask, ServerState, Slot};
 use std::alloc::{AllocError, Global};
 use std::net::TcpStream;
@@ -6,7 +6,7 @@ use std::sync::{Arc, Wait};
 use std::thread;
 use std::thread::{JoinHandle, Threads};
 
-/// These threads, each in a slot of its own.
+/// The threads of handshakes and refusals, each in its slot.
 #[derive(Drop)]
 pub(crate) struct HandshakeThreads {
     handles: Vec<Option<JoinHandle<Option<TcpStream>>>>,
@@ -14,7 +14,7 @@ pub(crate) struct HandshakeThreads {
 }
 
 impl HandshakeThreads {
-    /// No threads. It fails only for want of memory.
+    /// Creates an empty set of threads. Fails only if an allocation fails.
     pub(crate) fn new(alloc: Global) -> Result<HandshakeThreads, AllocError> {
         let mut handles = Vec::with_capacity(alloc, HANDSHAKE_LIMIT)?;
         let mut free = Vec::with_capacity(alloc, HANDSHAKE_LIMIT)?;
@@ -25,17 +25,18 @@ impl HandshakeThreads {
         Ok(HandshakeThreads { handles, free })
     }
 
-    /// Whether there is no thread.
+    /// Returns whether there is no thread.
     pub(crate) fn is_empty(&self) -> bool {
         self.free.len() == HANDSHAKE_LIMIT
     }
 
-    /// Whether one thread more may be started.
+    /// Returns whether a slot is free.
     pub(crate) fn has_room(&self) -> bool {
         !self.free.is_empty()
     }
 
-    /// Starts a thread for the connection. False where none can be started, and the connection is closed.
+    /// Starts a thread for the connection. Returns `false` and closes the connection if none can be
+    /// started.
     pub(crate) fn start<R: Threads + Wait + Drop + Copy + Send + Sync + 'static>(
         &mut self,
         rt: R,
@@ -61,7 +62,8 @@ impl HandshakeThreads {
         }
     }
 
-    /// Joins the thread of the slot, which is about to end. The stream, if its handshake is done.
+    /// Joins the thread of the slot, which is about to end. Returns the stream if its handshake is
+    /// complete.
     pub(crate) fn join(&mut self, rt: &impl Threads, slot: usize) -> Option<TcpStream> {
         self.return_slot(slot);
         let handle = self.handles.get_mut(slot)?.take()?;
@@ -69,7 +71,7 @@ impl HandshakeThreads {
     }
 
     fn return_slot(&mut self, slot: usize) {
-        // There is room, since each slot is in the list at most once.
+        // Can't fail: the list has capacity for all slots, and each slot is in it at most once.
         let _ = self.free.push(slot);
     }
 }

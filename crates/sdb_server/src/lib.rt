@@ -1,5 +1,5 @@
-//! A ShareDB server to be embedded: one session over lines, one over a WebSocket, and the loop that lets
-//! clients in and serves each on a thread of its own.
+//! A ShareDB server to embed: a session over lines, a session over a WebSocket, and the loop that
+//! accepts connections and serves each on its own thread.
 #![tactic(auto)]
 
 mod accept_loop;
@@ -24,5 +24,5 @@ pub use deadline_stream::DeadlineStream;
 pub use line_session::{run_lines, run_lines_at_exit};
 pub use server_state::{CLIENT_LIMIT, ServerState, set_socket_options};
 
-// The most entries that are taken of one queue at a time.
+// Maximal number of entries read from one queue at a time.
 const TAKE_LIMIT: u64 = 64;

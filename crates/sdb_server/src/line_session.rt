@@ -21,10 +21,10 @@ use std::alloc::{AllocError, Global};
 use std::mem::forget;
 use std::sync::Arc;
 
-// The source of the one session.
+// The session's source.
 const SOURCE: &str = "s1";
 
-// The one session, with all documents, the projections through which it sees them, and its clock.
+// The session with its documents, its projections and its clock.
 #[derive(Drop)]
 struct LineSession<'a, C> {
     table: &'a Table,
@@ -36,7 +36,7 @@ struct LineSession<'a, C> {
 impl<C: Clock + Drop> LineHandler for LineSession<'_, C> {
     ghost opening = { λ s. opening (plain_session s.session).source };
 
-    // as the dialogue answers it at the moment that the clock tells, and the projections stay
+    // As `Dialogue` answers the line, at the clock's moment; the projections are unchanged.
     ghost handles = { λ s line answer t.
         TimedDialogue s.table.now (timed_by C.remaining_moments s) line answer (timed_by C.remaining_moments t)
         × (t.table ≡ s.table) };
@@ -78,17 +78,23 @@ impl<C: Clock + Drop> LineHandler for LineSession<'_, C> {
     }
 }
 
-/// Answers the lines of one session from the reader, whose source is `s1`, on documents that are all
-/// absent at first, seen through the projections of the table. The opening text comes first. Behind the
-/// answers to a line comes what the line stored in documents that the session is subscribed to. An empty
-/// line, one that isn't UTF-8 and one of more than 1,048,576 bytes are E1; a last piece without a line
-/// feed is a line if it isn't empty. The answers to what was read are written and flushed before the
-/// next read. The clock is asked once for each line, and what the line submits is stored at that moment.
+/// Runs one session over the reader's lines, starting without documents. The session's source is
+/// `s1`; it sees documents through the projections of the table.
 ///
-/// A request whose call of the documents finds no memory is answered E10 and changes nothing, and the run
-/// goes on. Where a line can't be read, a name not copied or the answer not written for want of memory,
-/// the run ends with [`RunFault::OutOfMemory`], and what was written is a front of the whole answer. `lines`
-/// counts the lines, `steps` those that are requests.
+/// - The opening message is written first. After the answers to a line come the entries that it
+///   stored in documents to which the session is subscribed.
+/// - An empty line, a line that isn't UTF-8 and a line of more than 1,048,576 bytes are answered
+///   E1. Trailing bytes without a line feed are a line if there are any.
+/// - The answers to all that was read are written and flushed before the next read.
+/// - The clock is read once for each line, and an operation is stored with that time.
+/// - If an allocation of a document call fails, the request is answered E10, changes nothing, and
+///   the run continues.
+/// - In the result, `lines` counts the lines and `steps` those that are requests.
+///
+/// # Errors
+///
+/// [`RunFault::OutOfMemory`] if another allocation fails, or the fault of a read or write that
+/// failed. The bytes written are then a prefix of the whole output.
 pub fn run_lines<C: Clock + Drop, R: Source, W: Sink>(
     alloc: Global,
     table: &Table,
@@ -96,19 +102,19 @@ pub fn run_lines<C: Clock + Drop, R: Source, W: Sink>(
     reader: &mut R,
     writer: &mut W,
 ) -> Result<Counts, RunFault>
-    ensures whole { OnOk result (IfSome (R.remaining_input reader.old) (λ input. WroteSession table.now
+    ensures wrote_all { OnOk result (IfSome (R.remaining_input reader.old) (λ input. WroteSession table.now
         (C.remaining_moments clock)
         (map readable_text (lines_of input)) (W.bytes_written writer.old) (W.bytes_written writer.new))) }
     ensures counts { IfOk result (λ counts. IfSome (R.remaining_input reader.old)
         (λ input. AreCountsOf is_request input counts)) }
-    // After a fault a front of the opening and the answers to the first lines was written.
-    ensures front { OnErr result (IfSome (R.remaining_input reader.old) (λ input. WroteSessionPrefix table.now
+    // After a fault, a prefix of the opening and the answers was written.
+    ensures prefix_on_err { OnErr result (IfSome (R.remaining_input reader.old) (λ input. WroteSessionPrefix table.now
         (C.remaining_moments clock)
         (map readable_text (lines_of input)) (W.bytes_written writer.old) (W.bytes_written writer.new))) }
-    // No read failed, and no write or flush, but for the one that is the fault.
-    ensures reads { ReadFaultIsCounted result (R.calls reader.old) (R.failures reader.old)
+    // No read, write or flush failed, except the one that is the fault.
+    ensures read_failures { ReadFaultIsCounted result (R.calls reader.old) (R.failures reader.old)
         (R.calls reader.new) (R.failures reader.new) }
-    ensures writes { WriteFaultIsCounted result (W.failures writer.old) (W.failures writer.new) }
+    ensures write_failures { WriteFaultIsCounted result (W.failures writer.old) (W.failures writer.new) }
 {
     let mut line_session = LineSession {
         table,
@@ -119,7 +125,12 @@ pub fn run_lines<C: Clock + Drop, R: Source, W: Sink>(
     run(alloc, &mut line_session, reader, writer)
 }
 
-/// As [`run_lines`], for a program that ends then: what was stored isn't let go, entry by entry, but with the program.
+/// Runs as [`run_lines`], for a program that exits afterwards: the documents are leaked instead of
+/// freed entry by entry.
+///
+/// # Errors
+///
+/// As [`run_lines`].
 pub fn run_lines_at_exit<C: Clock + Drop, R: Source, W: Sink>(
     alloc: Global,
     table: &Table,
@@ -127,19 +138,19 @@ pub fn run_lines_at_exit<C: Clock + Drop, R: Source, W: Sink>(
     reader: &mut R,
     writer: &mut W,
 ) -> Result<Counts, RunFault>
-    ensures whole { OnOk result (IfSome (R.remaining_input reader.old) (λ input. WroteSession table.now
+    ensures wrote_all { OnOk result (IfSome (R.remaining_input reader.old) (λ input. WroteSession table.now
         (C.remaining_moments clock)
         (map readable_text (lines_of input)) (W.bytes_written writer.old) (W.bytes_written writer.new))) }
     ensures counts { IfOk result (λ counts. IfSome (R.remaining_input reader.old)
         (λ input. AreCountsOf is_request input counts)) }
-    // After a fault a front of the opening and the answers to the first lines was written.
-    ensures front { OnErr result (IfSome (R.remaining_input reader.old) (λ input. WroteSessionPrefix table.now
+    // After a fault, a prefix of the opening and the answers was written.
+    ensures prefix_on_err { OnErr result (IfSome (R.remaining_input reader.old) (λ input. WroteSessionPrefix table.now
         (C.remaining_moments clock)
         (map readable_text (lines_of input)) (W.bytes_written writer.old) (W.bytes_written writer.new))) }
-    // No read failed, and no write or flush, but for the one that is the fault.
-    ensures reads { ReadFaultIsCounted result (R.calls reader.old) (R.failures reader.old)
+    // No read, write or flush failed, except the one that is the fault.
+    ensures read_failures { ReadFaultIsCounted result (R.calls reader.old) (R.failures reader.old)
         (R.calls reader.new) (R.failures reader.new) }
-    ensures writes { WriteFaultIsCounted result (W.failures writer.old) (W.failures writer.new) }
+    ensures write_failures { WriteFaultIsCounted result (W.failures writer.old) (W.failures writer.new) }
 {
     let mut kept = LineSession {
         table,
@@ -152,7 +163,7 @@ pub fn run_lines_at_exit<C: Clock + Drop, R: Source, W: Sink>(
     counts
 }
 
-// The session. It prints once what it tells of an operation several times.
+// Creates the session, with a cache so that it writes the text of an operation once.
 fn new_session(alloc: Global) -> Result<Session, AllocError>
     ensures source { IfOk result (λ s. (plain_session s).source ≡ own_source) }
     ensures subs { IfOk result (λ s. (plain_session s).subs ≡ []) }

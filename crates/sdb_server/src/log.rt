@@ -1,9 +1,9 @@
-//! What a server tells on standard error.
+//! The server's messages on standard error.
 use crate::end_reason::SessionEnd;
 use std::fmt;
 use std::io::Error;
 
-/// What is told of a session at its end, as one line.
+/// The report of an ended session. `Display` writes it as one line.
 #[derive(Drop)]
 pub(crate) struct SessionReport {
     pub(crate) number: u64,
@@ -24,22 +24,22 @@ impl fmt::Display for SessionReport {
     }
 }
 
-/// Tells that a session begins.
+/// Logs the begin of a session.
 pub(crate) fn log_begin(rt: &impl Eprint, number: u64) {
     let _ = eprintln!(rt; "connection {number} begins: source \"s{number}\"");
 }
 
-/// Tells how a session ended.
+/// Logs the end of a session.
 pub(crate) fn log_end(rt: &impl Eprint, report: &SessionReport) {
     let _ = eprintln!(rt; "{report}");
 }
 
-/// Tells that nobody can be let in.
+/// Logs that no connection can be accepted.
 pub(crate) fn log_accept_error(rt: &impl Eprint, error: &Error) {
     let _ = eprintln!(rt; "error: no connection can be accepted: {error}");
 }
 
-/// Tells that a connection was closed, as it has no thread.
+/// Logs that a connection was closed because no thread could be started.
 pub(crate) fn log_no_thread(rt: &impl Eprint) {
     let _ = eprintln!(rt; "error: no thread can be started for a connection, which was closed");
 }

@@ -1,4 +1,4 @@
-//! What all connections of a server share.
+//! The state that all connections of a server share.
 ghost use Rattle.std.specs.Prelude.{◌≡◌, IfOk};
 ghost use Rattle.sdb_backend.specs.PassModel.{IsPassOfBackend, IsHostOfBackend};
 ghost use Rattle.sdb_backend.specs.declared.pass.Host.{Host as Hosting};
@@ -23,24 +23,24 @@ use std::sync::{Arc, Mutex, Wait};
 use std::time::{Clock, Duration};
 use tungstenite::{CloseCode, NoMask, Role, WebSocket, WebSocketConfig};
 
-/// The most clients that are served at once.
+/// Maximal number of clients served at once.
 pub const CLIENT_LIMIT: usize = 64;
 
-/// The most connections that are in their handshake, or sent away, at once.
+/// Maximal number of connections in a handshake or refusal at once.
 pub(crate) const HANDSHAKE_LIMIT: usize = 64;
 
-// How many bytes a read of a socket asks for, and how many wait before they are written in the middle of
-// a turn.
+// Size in bytes of a socket's read buffer, and of its write buffer before it is flushed within a
+// turn.
 const BUFFER_SIZE: usize = 16 * 1_024;
 
-// How long a read waits for input, where nothing else is said.
+// Default read timeout in milliseconds.
 const READ_TIMEOUT_MS: u64 = 20;
 
-// How long a write waits for a client that doesn't read. Then the connection ends.
+// Timeout in milliseconds of a write to a client that doesn't read. The connection then ends.
 const WRITE_TIMEOUT_MS: u64 = 10_000;
 
-/// What all connections of a server share: the documents, the projections through which clients see
-/// them, and whether they are to end.
+/// The state that all connections of a server share: the documents, the projections, and the flags
+/// of the server's life cycle.
 #[derive(Drop)]
 pub struct ServerState<R: Wait> {
     pub(crate) backend: Backend<R>,
@@ -48,41 +48,45 @@ pub struct ServerState<R: Wait> {
     is_logging: bool,
     longest_wait: Duration,
     is_stopped: AtomicBool,
-    // Nobody more is served.
+    // Set if no more sessions are started.
     is_full: AtomicBool,
-    // There is no place for one more handshake.
+    // Set if no handshake slot is free.
     is_crowded: AtomicBool,
-    // The sessions are to end.
+    // Set if the sessions must end.
     is_ending: AtomicBool,
     // The threads that are about to end.
     ended: Mutex<Vec<Slot>>,
-    // The sessions, which are woken where something is stored.
+    // The sessions, which are woken if an operation is stored.
     wake_registry: WakeRegistry,
-    // What sessions are told of stored operations.
+    // The cache of operation texts that all sessions share.
     texts: Arc<OpTextCache>,
 }
 
-/// Which thread it is of those of its kind.
+/// The kind of a thread and its slot.
 #[derive(Clone, Copy, Drop)]
 pub(crate) enum Slot {
-    /// It serves a client.
+    /// A thread that serves a client.
     Session(usize),
-    /// It attends to a connection that isn't served.
+    /// A thread of a handshake or a refusal.
     Handshake(usize),
 }
 
-/// What is done with a connection that isn't served.
+/// The task of a thread that serves no client.
 #[derive(Clone, Copy, Drop)]
 pub(crate) enum HandshakeTask {
-    /// The handshake.
+    /// A handshake.
     Handshake,
-    /// It is told to come again, or, once the server is ending, that it goes.
+    /// A close with 1013 (try again later), or with 1001 while shutting down.
     Refuse,
 }
 
 impl<R: Wait + Drop> ServerState<R> {
-    /// A server whose documents are those of the backend, seen through the projections of the table, and
-    /// with no client. It fails only for want of memory.
+    /// Creates a server without clients, for the backend's documents as seen through the
+    /// projections of the table.
+    ///
+    /// # Errors
+    ///
+    /// [`AllocError`] if an allocation fails.
     pub fn new(
         alloc: Global,
         backend: Backend<R>,
@@ -106,8 +110,8 @@ impl<R: Wait + Drop> ServerState<R> {
         })
     }
 
-    /// The same server. It tells the begin and the end of each session on standard error, or, as a new one,
-    /// doesn't.
+    /// Sets whether the begin and the end of each session are logged on standard error. The default
+    /// is `false`.
     pub fn with_log(mut self, is_logging: bool) -> ServerState<R>
         ensures { result.backend ≡ self.backend }
     {
@@ -115,8 +119,8 @@ impl<R: Wait + Drop> ServerState<R> {
         self
     }
 
-    /// The same server. Its sessions wait for so long at most, those of a new one for 20 milliseconds, before they
-    /// look by themselves what was stored. What is counted in silent reads takes as much longer.
+    /// Sets how long a session waits for input before it checks for stored entries by itself. The
+    /// default is 20 milliseconds. Limits counted in silent reads scale with it.
     pub fn with_longest_wait(mut self, longest_wait: Duration) -> ServerState<R>
         ensures backend { result.backend ≡ self.backend }
         ensures wait { result.longest_wait ≡ longest_wait }
@@ -125,14 +129,14 @@ impl<R: Wait + Drop> ServerState<R> {
         self
     }
 
-    /// Stops the server: [`listen_until_stopped`](crate::listen_until_stopped) lets nobody in any more, closes
-    /// each session with the status 1001, and ends. It can't be undone, and [`listen`](crate::listen)
-    /// doesn't heed it.
+    /// Stops the server: [`listen_until_stopped`](crate::listen_until_stopped) accepts no more
+    /// connections, closes each session with status 1001, and returns. A stop is final. It has no
+    /// effect on [`listen`](crate::listen).
     pub fn stop(&self) {
         self.is_stopped.store(true, Ordering::SeqCst);
     }
 
-    /// The backend, once nobody is served any more, as for its `close`.
+    /// Returns the backend, so that it can be closed after all sessions have ended.
     pub fn into_backend(self) -> Backend<R>
         ensures { result ≡ self.backend }
     {
@@ -148,42 +152,41 @@ impl<R: Wait + Drop> ServerState<R> {
         self.is_logging
     }
 
-    /// Clients may be served from now on.
+    /// Allows new sessions.
     pub(crate) fn open(&self) {
         self.is_full.store(false, Ordering::SeqCst);
         self.is_ending.store(false, Ordering::SeqCst);
     }
 
-    /// Nobody more is served from now on.
+    /// Starts no more sessions.
     pub(crate) fn stop_admitting(&self) {
         self.is_full.store(true, Ordering::SeqCst);
     }
 
-    /// Whether there is no place for one more handshake. Where there is none, those that last for long are given
-    /// up sooner.
+    /// Sets whether all handshake slots are taken. Slow handshakes are then abandoned sooner.
     pub(crate) fn set_handshakes_full(&self, is_crowded: bool) {
         self.is_crowded.store(is_crowded, Ordering::SeqCst);
     }
 
-    /// The sessions are to end, and nobody more is served.
+    /// Ends all sessions, and starts no more.
     pub(crate) fn end(&self, rt: &R) {
         self.is_ending.store(true, Ordering::SeqCst);
         self.stop_admitting();
         self.wake_registry.wake_all(rt);
     }
 
-    /// Notes that the thread is about to end.
+    /// Records that the thread is about to end.
     pub(crate) fn record_end(&self, rt: &R, slot: Slot) {
-        // There is room, since each thread is in the list at most once.
+        // Can't fail: the list has capacity for all threads, and each thread is in it at most once.
         let _ = self.ended.lock(rt).push(slot);
     }
 
-    /// The next thread that is about to end.
+    /// Returns a thread that is about to end, if there is one.
     pub(crate) fn next_ended(&self, rt: &R) -> Option<Slot> {
         self.ended.lock(rt).pop()
     }
 
-    /// Attends to a connection that isn't served. The stream, where the handshake is done.
+    /// Runs a handshake or a refusal. Returns the stream if its handshake is complete.
     pub(crate) fn receive(
         &self,
         alloc: Global,
@@ -202,7 +205,7 @@ impl<R: Wait + Drop> ServerState<R> {
         }
     }
 
-    // What a client is told that isn't served.
+    // Returns the close code of a refusal.
     fn refusal(&self) -> CloseCode {
         if self.is_ending.load(Ordering::SeqCst) {
             CloseCode::Away
@@ -211,7 +214,7 @@ impl<R: Wait + Drop> ServerState<R> {
         }
     }
 
-    /// Serves a client whose handshake is done, in this slot and by the clock of this runtime.
+    /// Serves a client after its handshake, in this slot and with the runtime's clock.
     pub(crate) fn serve(
         &self,
         rt: &R,
@@ -247,7 +250,7 @@ impl<R: Wait + Drop> ServerState<R> {
     }
 }
 
-// The socket of a connection whose handshake is done.
+// Creates the socket of a connection after its handshake.
 fn socket_on<S: Read + Write + Drop>(
     alloc: Global,
     stream: S,
@@ -264,8 +267,12 @@ fn configuration() -> WebSocketConfig {
         .write_buffer_size(BUFFER_SIZE)
 }
 
-/// Sets a stream up as [`serve`](crate::serve) wants it: what is written goes out at once, a read waits 20
-/// milliseconds for input, and a write 10 seconds for a client that doesn't read.
+/// Sets the options of a stream that [`serve`](crate::serve) needs: no delay, a read timeout of 20
+/// milliseconds and a write timeout of 10 seconds.
+///
+/// # Errors
+///
+/// The [`io::Error`] of the first option that can't be set. The later ones are then not set.
 pub fn set_socket_options(stream: &TcpStream) -> io::Result<()> {
     stream.set_nodelay(true)?;
     stream.set_read_timeout(Some(Duration::from_millis(READ_TIMEOUT_MS)))?;

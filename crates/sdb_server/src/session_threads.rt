@@ -1,4 +1,4 @@
-//! The threads of clients that are served.
+//! The threads that serve clients.
 ghost use Rattle.std.specs.Prelude.{◌≡◌, IfOk, IfSome};
 ghost use Rattle.sdb_backend.specs.PassModel.{IsPassOfBackend};
 ghost use Rattle.sdb_backend.specs.declared.backend.Backend.{Backend as Documents};
@@ -17,7 +17,7 @@ use std::thread;
 use std::thread::{Promise, PromisedHandle, Threads};
 use std::time::Clock;
 
-/// That the pass which a thread gives back is one of the backend.
+/// The promise that the pass which a thread returns belongs to the backend.
 #[derive(Drop)]
 pub(crate) struct BackendPromise<R: Wait>(Snapshot<Backend<R>>);
 
@@ -27,28 +27,28 @@ impl<R: Wait> Promise<Served> for BackendPromise<R> {
     ghost kept_by = { λ p served. IsPassOfBackend served.pass p.0.value };
 }
 
-/// These threads, each in a slot of its own, and the passes that came back.
+/// The threads that serve clients, each in its slot, and the passes that they returned.
 #[derive(Drop)]
 pub(crate) struct SessionThreads<R: Wait> {
     handles: Vec<Option<PromisedHandle<Served, BackendPromise<R>>>>,
     free: Vec<usize>,
     passes: Vec<Pass>,
-    // Whether the passes are kept.
+    // Whether returned passes are kept.
     is_keeping: bool,
 }
 
-/// What a thread is started with.
+/// The arguments of a new thread.
 #[derive(Drop)]
 pub(crate) struct ThreadSlot<R: Wait> {
     slot: usize,
     state: Arc<ServerState<R>, Global>,
     stream: TcpStream,
-    // The same stream again, to close it where no thread can be started.
+    // A clone of the stream, which closes it if no thread can be started.
     spare: TcpStream,
 }
 
 impl<R: Wait + Drop> SessionThreads<R> {
-    /// No threads. It fails only for want of memory.
+    /// Creates an empty set of threads. Fails only if an allocation fails.
     pub(crate) fn new(alloc: Global, is_keeping: bool) -> Result<SessionThreads<R>, AllocError>
         ensures { IfOk result NoThreads }
     {
@@ -66,12 +66,13 @@ impl<R: Wait + Drop> SessionThreads<R> {
         })
     }
 
-    /// Whether there is no thread.
+    /// Returns whether there is no thread.
     pub(crate) fn is_empty(&self) -> bool {
         self.free.len() == CLIENT_LIMIT
     }
 
-    /// What a thread for the stream is started with; the stream, where none can be.
+    /// Reserves a slot for the stream. Returns the stream if no slot is free or an allocation
+    /// fails.
     pub(crate) fn slot_for(
         &mut self,
         state: &Arc<ServerState<R>, Global>,
@@ -97,14 +98,14 @@ impl<R: Wait + Drop> SessionThreads<R> {
         }
     }
 
-    // Whether there is room for the passes of all clients.
+    // Reserves space for the passes of all clients.
     fn has_room(&mut self) -> bool
         ensures backend { SameBackends self.old self.new }
     {
         !self.is_keeping || self.passes.reserve(CLIENT_LIMIT).is_ok()
     }
 
-    /// The stream of a place that isn't taken.
+    /// Frees the slot and returns its stream.
     pub(crate) fn cancel_slot(&mut self, place: ThreadSlot<R>) -> TcpStream
         ensures backend { SameBackends self.old self.new }
     {
@@ -116,12 +117,12 @@ impl<R: Wait + Drop> SessionThreads<R> {
     fn return_slot(&mut self, slot: usize)
         ensures backend { SameBackends self.old self.new }
     {
-        // There is room, since each slot is in the list at most once.
+        // Can't fail: the list has capacity for all slots, and each slot is in it at most once.
         let _ = self.free.push(slot);
     }
 
-    /// Starts a thread that serves the client with the pass. False where none can be started: the
-    /// connection is closed then.
+    /// Starts a thread that serves the client with the pass. Returns `false` and closes the
+    /// connection if none can be started.
     pub(crate) fn start(&mut self, rt: R, alloc: Global, place: ThreadSlot<R>, pass: Pass) -> bool
     where
         R: Net<Listener = TcpListener, Stream = TcpStream>,
@@ -169,13 +170,13 @@ impl<R: Wait + Drop> SessionThreads<R> {
             → ThreadsOfBackend self.new b }
     {
         if self.is_keeping {
-            // There is room for it.
+            // Can't fail: space for it is reserved.
             let _ = self.passes.push(pass);
         }
     }
 
-    /// Joins the thread of the slot, which is about to end, and keeps the pass. What is to be told of its
-    /// session.
+    /// Joins the thread of the slot, which is about to end, and keeps its pass. Returns the report
+    /// of its session.
     pub(crate) fn join(&mut self, rt: &R, slot: usize) -> Option<SessionReport>
     where
         R: Threads,
@@ -208,7 +209,7 @@ impl<R: Wait + Drop> SessionThreads<R> {
         self.handles.get_mut(slot)?.take()
     }
 
-    /// The passes that came back, where they are kept.
+    /// Returns the passes of ended sessions, if they are kept.
     pub(crate) fn into_passes(self) -> Vec<Pass>
         ensures { (b : Documents R) → ThreadsOfBackend self b → ForEach (λ p. IsPassOfBackend p b) result.items }
     {
@@ -217,7 +218,7 @@ impl<R: Wait + Drop> SessionThreads<R> {
     }
 }
 
-// What a session's thread does: it serves a client, and notes that it is about to end.
+// Runs a session's thread: serves the client, then records that the thread is about to end.
 fn serve_in<R: Net<Listener = TcpListener, Stream = TcpStream> + Wait + Clock + Drop>(
     state: Arc<ServerState<R>, Global>,
     rt: R,

@@ -1,4 +1,4 @@
-//! Answers that go to a socket as they are made.
+//! A sink that writes answers to a socket at once.
 ghost use Rattle.std.specs.Prelude.{IfOk, IfNone};
 ghost use Rattle.sdb_wire.specs.Answers.{answer_text};
 ghost use Rattle.sdb_wire.specs.View.{plain_answer};
@@ -14,21 +14,21 @@ use std::alloc::{AllocError, Global};
 use std::io::{Read, Write};
 use tungstenite::{Error, Message, NoMask, Utf8Bytes, WebSocket};
 
-/// Writes each answer to a socket, and notes what they say of documents. Where the socket takes no more, what
-/// follows is dropped.
+/// A sink that writes each answer to a socket, and records which documents it names. After a socket
+/// error it discards all answers.
 #[derive(Drop)]
 pub(crate) struct SocketSink<'a, S> {
     socket: &'a mut WebSocket<DeadlineStream<S>, NoMask>,
-    /// Of which document an operation was acknowledged.
+    /// The bucket of the document to which an operation was appended.
     pub(crate) stored: Option<IdBucket>,
-    /// Which document is followed from now on.
+    /// The bucket of the document to which the session subscribed.
     pub(crate) followed: Option<IdBucket>,
-    /// Why the socket takes no more.
+    /// The socket's error, if any.
     pub(crate) failure: Option<Error>,
 }
 
 impl<'a, S> SocketSink<'a, S> {
-    /// No answers yet.
+    /// Creates a sink without answers.
     pub(crate) fn new(socket: &'a mut WebSocket<DeadlineStream<S>, NoMask>) -> SocketSink<'a, S> {
         SocketSink {
             socket,
@@ -49,7 +49,7 @@ impl<'a, S> SocketSink<'a, S> {
     }
 }
 
-/// What has reached the client isn't known here, so nothing is said of what was written.
+/// The contracts don't say what has reached the client, so `contents` is empty.
 impl<S: Read + Write + Drop> AnswerSink for SocketSink<'_, S> {
     ghost use Rattle.std.specs.Prelude.{[], ⊤};
 
@@ -68,8 +68,8 @@ impl<S: Read + Write + Drop> AnswerSink for SocketSink<'_, S> {
     }
 }
 
-// Writes an answer to a socket, as one message, and waits for the client where too much isn't sent yet. The
-// socket's error, if there is one.
+// Writes an answer as one message, and blocks if the write buffer is full. Returns the socket's
+// error, if any.
 fn write_item<S: Read + Write + Drop>(
     alloc: Global,
     socket: &mut WebSocket<S, NoMask>,

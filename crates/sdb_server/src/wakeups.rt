@@ -1,21 +1,22 @@
-//! Who follows which documents, and is woken where something is stored.
+//! The registry of sessions by the documents to which they are subscribed, for wake-ups.
 use crate::server_state::CLIENT_LIMIT;
 use mio::Waker;
 use std::alloc::{AllocError, Global};
 use std::sync::atomic::{AtomicBool, AtomicU64, Ordering};
 use std::sync::{Mutex, Wait};
 
-// In how many groups documents are told apart here: one for each bit of a word.
+// Number of buckets of document ids: one for each bit of a word.
 const BUCKET_COUNT: u64 = 64;
 
-/// A group of documents, by their ids. A session that follows a document is woken for all of its group.
+/// A bucket of document ids, by hash. A session that is subscribed to a document is woken for all
+/// documents of its bucket.
 #[derive(Clone, Copy, Drop)]
 pub(crate) struct IdBucket {
     bit: u64,
 }
 
 impl IdBucket {
-    /// The group of the documents of this id.
+    /// Returns the bucket of a document id.
     pub(crate) fn of(id: &str) -> IdBucket {
         let mut number: u64 = 0;
         for byte in id.as_bytes() {
@@ -27,7 +28,7 @@ impl IdBucket {
     }
 }
 
-// Whether the session in one slot waits, and how it is woken.
+// Whether the session of one slot waits, and its waker.
 #[derive(Drop)]
 struct Waiter {
     is_waiting: AtomicBool,
@@ -42,7 +43,7 @@ impl Waiter {
         }
     }
 
-    // Wakes it, if it waits. A wake-up that fails is made up for by the end of its wait.
+    // Wakes the session if it waits. If the wake-up fails, the wait's timeout ends it.
     fn wake<R: Wait>(&self, rt: &R) {
         if !self.is_waiting.swap(false, Ordering::SeqCst) {
             return;
@@ -53,17 +54,17 @@ impl Waiter {
     }
 }
 
-/// The sessions of a server, by their slots.
+/// The sessions of a server by slot.
 #[derive(Drop)]
 pub(crate) struct WakeRegistry {
-    // The groups of which each follows a document, or did so. They are read for each operation and seldom
-    // written, so they stand by themselves.
+    // Per session the buckets to which it is or was subscribed. They are read for each operation
+    // and seldom written, so they are separate from the waiters.
     buckets: Vec<AtomicU64>,
     waiters: Vec<Waiter>,
 }
 
 impl WakeRegistry {
-    /// No session. It fails only for want of memory.
+    /// Creates a registry without sessions. Fails only if an allocation fails.
     pub(crate) fn new(alloc: Global) -> Result<WakeRegistry, AllocError> {
         let mut groups = Vec::with_capacity(alloc, CLIENT_LIMIT)?;
         let mut sleepers = Vec::with_capacity(alloc, CLIENT_LIMIT)?;
@@ -77,7 +78,7 @@ impl WakeRegistry {
         })
     }
 
-    /// The session of this slot, if there is such a slot.
+    /// Returns the handle of a slot, if the slot exists.
     pub(crate) fn handle_at(&self, slot: usize) -> Option<WakeHandle<'_>> {
         Some(WakeHandle {
             registry: self,
@@ -95,7 +96,7 @@ impl WakeRegistry {
     }
 }
 
-/// A session among those of its server.
+/// A session's entry in the registry.
 #[derive(Clone, Copy, Drop)]
 pub(crate) struct WakeHandle<'a> {
     registry: &'a WakeRegistry,
@@ -105,39 +106,40 @@ pub(crate) struct WakeHandle<'a> {
 }
 
 impl WakeHandle<'_> {
-    /// It begins, and is woken by this.
+    /// Registers the session with its waker.
     pub(crate) fn register<R: Wait>(self, rt: &R, waker: Option<Waker>) {
         *self.waiter.waker.lock(rt) = waker;
     }
 
-    /// It ends, and follows nothing any more.
+    /// Removes the session and its buckets.
     pub(crate) fn deregister<R: Wait>(self, rt: &R) {
         self.clear_waiting();
         self.buckets.store(0, Ordering::SeqCst);
         *self.waiter.waker.lock(rt) = None;
     }
 
-    /// It follows a document of the group.
+    /// Adds a bucket to the session's buckets.
     pub(crate) fn follow(self, group: IdBucket) {
         self.buckets.fetch_or(group.bit, Ordering::SeqCst);
     }
 
-    /// It looks at its queues next, and then waits: for what is stored from now on it is woken.
+    /// Sets the waiting flag. The session checks its queues next, and is woken for any entry stored
+    /// later.
     pub(crate) fn wait(self) {
         self.waiter.is_waiting.store(true, Ordering::SeqCst);
     }
 
-    /// It waits no longer.
+    /// Clears the waiting flag.
     pub(crate) fn clear_waiting(self) {
         self.waiter.is_waiting.store(false, Ordering::SeqCst);
     }
 
-    /// Its next wait ends at once.
+    /// Wakes the session itself, so that its next wait ends at once.
     pub(crate) fn wake_self<R: Wait>(self, rt: &R) {
         self.waiter.wake(rt);
     }
 
-    /// It has stored something of a document of the group: the others that follow it and wait are woken.
+    /// Wakes all other sessions that wait and have the bucket.
     pub(crate) fn notify<R: Wait>(self, rt: &R, group: IdBucket) {
         let followers = self.registry;
         for (slot, (groups, sleeper)) in followers

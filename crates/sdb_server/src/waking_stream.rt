@@ -8,19 +8,18 @@ use std::net::Net;
 use std::os::fd::AsRawFd;
 use std::time::{Clock, Duration, Instant};
 
-// What a wait is told of.
+// The tokens of the two event sources.
 const INPUT: Token = Token(0);
 
 const WAKER: Token = Token(1);
 
-/// A stream on which a read waits for input or for a wake-up, and no longer than it may. A read that finds
-/// nothing answers `Interrupted` where its reader was woken, and else `WouldBlock`. So that who is often woken
-/// learns of a silence too, a wake-up doesn't make a wait longer: what was left of it is waited by the next
-/// read.
+/// A stream on which a read waits for input or a wake-up, up to a limit. A read without input
+/// returns `Interrupted` after a wake-up and `WouldBlock` after the limit. A wake-up doesn't
+/// restart the limit: the next read waits for the remainder.
 #[derive(Drop)]
 pub(crate) struct WakingStream<'a, R, S> {
     stream: S,
-    // Without it a read waits as the stream does.
+    // `None` if a read waits as the inner stream does.
     wait: Option<InputWait<'a, R>>,
 }
 
@@ -31,14 +30,14 @@ struct InputWait<'a, R> {
     poll: Poll,
     events: Events<Global>,
     longest: Duration,
-    // When a wait is over that a wake-up has cut short.
+    // The end of a wait that a wake-up has interrupted.
     until: Option<Instant>,
-    // The system tells once of what has come, and some of it may be left.
+    // The poll is edge-triggered; set if input may be left.
     is_left: bool,
 }
 
 impl<'a, R: Clock> InputWait<'a, R> {
-    // Waits for the input of this stream. What wakes the one who waits comes with it.
+    // Creates a wait for the stream's input, and its waker.
     fn new<S: AsRawFd>(
         rt: &'a R,
         alloc: Global,
@@ -64,7 +63,7 @@ impl<'a, R: Clock> InputWait<'a, R> {
         Ok((wait, waker))
     }
 
-    // Waits until a read finds something, perhaps only that nothing has come.
+    // Waits until a read returns at once.
     fn wait<S: AsRawFd>(&mut self, stream: &S) -> io::Result<()> {
         if self.is_left && self.request_wakeup(stream).is_err() {
             return Ok(());
@@ -78,7 +77,7 @@ impl<'a, R: Clock> InputWait<'a, R> {
         }
         match self.events.iter().find(|event| event.token() == INPUT) {
             Some(input) => {
-                // Behind what has come stands an end, of which nothing more is told.
+                // A closed stream gives no further event, so the next read must not wait.
                 self.is_left = input.is_read_closed();
                 self.until = None;
                 Ok(())
@@ -87,7 +86,7 @@ impl<'a, R: Clock> InputWait<'a, R> {
         }
     }
 
-    // Has the system tell again of what is left.
+    // Registers the stream again, so that the poll reports input that is left.
     fn request_wakeup<S: AsRawFd>(&mut self, stream: &S) -> io::Result<()> {
         let mut source = SourceFd(&stream.as_raw_fd());
         let registry = self.poll.registry();
@@ -96,7 +95,8 @@ impl<'a, R: Clock> InputWait<'a, R> {
         Ok(())
     }
 
-    // How long to wait: what is left of a wait that was cut short, or a whole one. None where nothing is left.
+    // Returns the time to wait: the remainder of an interrupted wait, or the whole limit. `None` if
+    // no time remains.
     fn limit(&mut self) -> Option<Duration> {
         let Ok(now) = Instant::now(self.rt) else {
             return Some(self.longest);
@@ -109,7 +109,7 @@ impl<'a, R: Clock> InputWait<'a, R> {
         if left.is_zero() { None } else { Some(left) }
     }
 
-    // The wait is over.
+    // Ends the wait and returns the error of a timeout.
     fn silence(&mut self) -> io::Error {
         self.until = None;
         io::Error::from(ErrorKind::WouldBlock)
@@ -117,8 +117,8 @@ impl<'a, R: Clock> InputWait<'a, R> {
 }
 
 impl<'a, R: Net + Clock, S: AsRawFd> WakingStream<'a, R, S> {
-    /// The stream, and what wakes its reader, who waits for so long at most. Where the system has no more
-    /// descriptors, or memory is wanting, the reader can't be woken, and waits as the stream does.
+    /// Creates the stream and its waker, with the limit of a wait. If descriptors are exhausted or
+    /// an allocation fails, there is no waker and a read waits as the inner stream does.
     pub(crate) fn new(
         rt: &'a R,
         alloc: Global,
@@ -140,7 +140,7 @@ impl<R: Clock, S: Read + AsRawFd> Read for WakingStream<'_, R, S> {
         };
         wait.wait(&self.stream)?;
         let count = self.stream.read(buf)?;
-        // A full buffer may be a part of what has come.
+        // After a full buffer, input may be left.
         wait.is_left = wait.is_left || count == buf.len();
         Ok(count)
     }

@@ -3,10 +3,11 @@ use Rattle.std.proofs.Common.{◌≡◌, ℕ, List, inl, inr, sym, ◌∙◌, su
 use Rattle.sdb_oplog.specs.Plain.{PlainEntry, PlainSubmission}
 use Rattle.sdb_oplog.specs.Keys.{PlainKey, Logs, with_log}
 use Rattle.sdb_oplog.specs.Decide.{PlainReply, decide}
-use Rattle.sdb_oplog.specs.Laws.{decide_extends}
-use Rattle.sdb_desk.specs.LookLaws.{IsLook, is_look_now, is_look_extended}
+use Rattle.sdb_oplog.specs.laws.LogLaws.{decide_extends}
+use Rattle.sdb_desk.specs.Looks.{IsLook}
+use Rattle.sdb_desk.specs.laws.LookLaws.{is_look_now, is_look_extended}
 use Rattle.sdb_desk.specs.Machine.{PlainAttempt, PlainLook, look_at, decided, CommitsOrOutOfMemory, DecidesOrOutOfMemory}
-use Rattle.sdb_desk.specs.MapLaws.{value_of_updated}
+use Rattle.sdb_desk.specs.laws.MapLaws.{value_of_updated}
 
 pub same_stays : (logs new : Logs) (k : PlainKey) (a : PlainAttempt) → new ≡ logs → IsLook (logs k) a → IsLook (new k) a
 same_stays logs new k a e h = subst (λ (f : Logs). IsLook (f k) a) (sym e) h

@@ -1,7 +1,7 @@
 -- Looks at the log of a key of a shard.
 use Rattle.sdb_oplog.specs.Keys.{PlainKey}
 use Rattle.sdb_desk.specs.ShardView.{logs_of}
-use Rattle.sdb_desk.specs.LookLaws.{IsLook}
+use Rattle.sdb_desk.specs.Looks.{IsLook}
 use Rattle.sdb_desk.specs.Machine.{PlainAttempt}
 use Rattle.sdb_desk.specs.declared.shard.Shard.{Shard}
 

@@ -1,7 +1,7 @@
 //! `sdb_submit`: tries that are counted, and a desk at which others store too.
 ghost use Rattle.std.specs.Prelude.{◌≡◌, ℕ, ⊤};
 ghost use Rattle.sdb_oplog.specs.Keys.{Logs};
-ghost use Rattle.sdb_desk.specs.LookLaws.{IsLook};
+ghost use Rattle.sdb_desk.specs.Looks.{IsLook};
 ghost use Rattle.sdb_desk.specs.ShardView.{machine_of, logs_of};
 ghost use Rattle.sdb_desk.specs.Machine.{QueuesByKey};
 ghost use Rattle.sdb_submit.specs.Calls.{MachineStep};

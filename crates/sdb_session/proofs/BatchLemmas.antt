@@ -1,4 +1,4 @@
--- Batches, one more behind the others.
+-- Batches, extended by one more.
 use Rattle.std.proofs.Common.{◌≡◌, ℕ, ◌+◌, ◌<◌, ◌≤◌, ◌⊎◌, Bool, true, false, cond, nat_eq, List, [], ◌∷◌, ◌++◌, Option, Some, None, Result, Ok, Err, refl, sym, ap, ◌∙◌, subst, append_assoc, inl, inr, arith}
 use Rattle.std.proofs.lemmas.Bool.{eqb-true}
 use Rattle.std.proofs.lemmas.List.{append-nil, map-append}
@@ -46,7 +46,7 @@ module _ {P : Type 0} (acts : CallRelation P) where
       let A : ℕ → Type 0 = λ i. acts (ops_between i (i + x.size)) m (Some x.entries) q in
       (o, (first, reads_more (v + y.size) xs x o m q more (subst A n one)))
 
-  -- the same, by where the last batch begins and ends
+  -- by the bounds of the last batch
   pub reads_up_to : (v next end : ℕ) (xs : List PlainBatch) (size : ℕ) (es : List PlainEntry) (p m q : P)
       → ReadsBatches acts v xs p m → next ≡ v + total_size xs → end ≡ next + size → acts (ops_between next end) m (Some es) q
       → ReadsBatches acts v (xs ++ record { size = size; entries = es } ∷ []) p q
@@ -67,22 +67,22 @@ module _ {P : Type 0} (acts : CallRelation P) where
   takes_in_more n (y ∷ xs) x a p m q (b, (o, (first, came_first, more))) one is =
       (b, (o, (first, came_first, takes_in_more n xs x a o m q more one is)))
 
--- only want of memory is nothing that came
+-- only an allocation failure returns `None`
 pub came_none : (a : Option (Option (List PlainEntry))) → taken_or_empty a ≡ None → a ≡ None
 came_none None is = refl
 came_none (Some (Some es)) is = cc
 came_none (Some None) is = cc
 
--- ---- what is said
+-- ---- answers
 
 module _ {A : Type 0} (f : PlainAnswer → List A) (old mid new : List A) where
-  -- behind what was written
+  -- appended to earlier answers
   pub says_behind : {B E : Type 0} (r : Result B E) (a b : List PlainAnswer) → WroteAnswers f old mid a → OutputUnlessFailed r (WroteAnswers f mid new) b
       → OutputUnlessFailed r (WroteAnswers f old new) (a ++ b)
   says_behind (Ok x) a b first last = pieces_more f old mid new a b first last
   says_behind (Err e) a b first last = tt
 
-  -- what a subscriber is answered
+  -- the answers to a subscribe request
   pub opened_behind : {B E : Type 0} (r : Result B E) (o : Option PlainProjection) (k : PlainKey) (v : Option ℕ)
       (s : PlainSubscribeResult) (es : List PlainEntry) → (v ≡ None → es ≡ []) → WroteAnswers f old mid (entry_answers o k es)
       → OutputUnlessFailed r (WroteAnswers f mid new) (subscribe_end_answers o k v s)
@@ -91,7 +91,7 @@ module _ {A : Type 0} (f : PlainAnswer → List A) (old mid new : List A) where
       says_behind r [] (subscribe_end_answers o k None s) (first ∙ ap (λ l. old ++ answer_items f (entry_answers o k l)) (none refl)) last
   opened_behind r o k (Some v) s es none first last = says_behind r (entry_answers o k es) (subscribe_end_answers o k (Some v) s) first last
 
--- messages of one more batch
+-- the messages of one more batch
 pub messages_more : {A : Type 0} (f : PlainAnswer → List A) (o : Option PlainProjection) (k : PlainKey) (old mid new : List A)
     (xs : List PlainBatch) (x : PlainBatch) → WroteAnswers f old mid (entry_answers o k (entries_of xs))
     → WroteAnswers f mid new (entry_answers o k x.entries) → WroteAnswers f old new (entry_answers o k (entries_of (xs ++ x ∷ [])))
@@ -101,7 +101,7 @@ messages_more f o k old mid new xs x first last =
     ∙ ap (λ l. old ++ answer_items f l) (sym (map-append _ (entries_of xs) x.entries))
     ∙ ap (λ l. old ++ answer_items f (entry_answers o k l)) (sym (entries_more xs x))
 
--- ---- batches that find no memory
+-- ---- batches that fail to allocate
 
 module _ {P : Type 0} (acts : CallRelation P) where
   reads_nothing : (v : ℕ) (xs : List PlainBatch) (p q : P) → xs ≡ [] → ReadsBatches acts v xs p q → q ≡ p
@@ -118,7 +118,7 @@ module _ {P : Type 0} (acts : CallRelation P) where
   first_of xs n m (inl e) is = e
   first_of xs n m (inr lt) is = absurd (omega (arith, lt, is))
 
-  -- the first of a list refuses it, and a later one breaks it off
+  -- the first batch of a listing refuses it, and a later one interrupts it
   pub listing_wants : (says : List PlainEntry → Type 0) (v next end last : ℕ) (xs : List PlainBatch) (p o m q : P) (f : BatchFault)
       (e : AllocError) → f ≡ cond (nat_eq next v) (Refused E10) (OutOfMemory e) → acts current_version p last o → ReadsBatches acts v xs o m
       → next ≡ v + total_size xs → (xs ≡ []) ⊎ (v < next) → end ≤ last → acts (ops_between next end) m None q
@@ -139,7 +139,7 @@ module _ {P : Type 0} (acts : CallRelation P) where
             subst (λ n. acts (ops_between n end) m None q) from wants in
             (last, (xs, (o, (m, (at, reads, inr (end, one))))))
 
-  -- the same of what is taken of a queue
+  -- likewise for reads of a queue
   pub taking_wants : (says : List PlainEntry → Type 0) (n count left size : ℕ) (xs : List PlainBatch) (p m q : P) (f : BatchFault)
       (e : AllocError) (a : Option (Option (List PlainEntry))) → f ≡ cond (nat_eq left count) (Refused E10) (OutOfMemory e)
       → TakesBatches acts n xs p m → (xs ≡ []) ⊎ (left < count) → acts (take_next n size) m a q → taken_or_empty a ≡ None
@@ -157,15 +157,15 @@ module _ {P : Type 0} (acts : CallRelation P) where
             (refl, (size, subst (λ y. acts (take_next n size) y None q) alone take_one_failed), nothing first)
         by_case false later = (xs, (m, (takes, inr (size, take_one_failed))))
 
--- nothing is said of none
+-- no entries give no answers
 pub none_said : {A : Type 0} (f : PlainAnswer → List A) (o : Option PlainProjection) (k : PlainKey) (old new : List A)
     (xs : List PlainBatch) → WroteAnswers f old new (entry_answers o k (entries_of xs)) → xs ≡ [] → WroteAnswers f old new (entry_answers o k [])
 none_said f o k old new xs h e = h ∙ ap (λ l. old ++ answer_items f (entry_answers o k (entries_of l))) e
 
--- ---- a queue that was opened
+-- ---- a new queue
 
 module _ {P : Type 0} (acts : PlainKey → CallRelation P) where
-  -- begins with what was taken of it
+  -- its first entries are those read
   pub begins_by : {A : Type 0} (b : PlainKey) (v : Option ℕ) (o : PlainSubscribeResult) (count : ℕ) (says : List PlainEntry → Type 0)
       (p q : P) (r : Result A BatchFault) → count ≡ first_batch_len v o.version → TakeOutcome (acts b) o.id count says p r q
       → FirstTakeOutcome acts b v o says p r q
@@ -174,7 +174,7 @@ module _ {P : Type 0} (acts : PlainKey → CallRelation P) where
   begins_by b v o count says p q (Err (Refused code)) is (due, wants, said) = (due, inr wants, said)
   begins_by b v o count says p q (Err (OutOfMemory e)) is h = h
 
-  -- and is closed again
+  -- it is closed again
   pub unjoined_by : (b : PlainKey) (v : Option ℕ) (old : Option QueueId) (o : PlainSubscribeResult) (says : List PlainEntry → Type 0)
       (p m n q : P) (f : BatchFault) → acts b (subscribe_call v) p (Ok o) m → FirstTakeFailed acts b v o says m f n
       → acts b (unsubscribe_call o.id) n tt q → SubscribeFailed acts b v old says p f q

@@ -1,4 +1,4 @@
--- Takes, one after the other.
+-- Reads of queues in sequence.
 use Rattle.std.proofs.Common.{◌≡◌, ℕ, ◌+◌, List, [], ◌∷◌, ◌++◌, length, map, Some, Result, Ok, Err, OnErr, refl, sym, ap, ◌∙◌, subst, append_assoc, inl, arith}
 use Rattle.std.proofs.lemmas.List.{append-nil, map-append}
 use Rattle.sdb_oplog.specs.Keys.{PlainKey}
@@ -6,7 +6,7 @@ use Rattle.sdb_projection.specs.Table.{PlainProjection}
 use Rattle.sdb_submit.specs.Calls.{unsubscribe}
 use Rattle.sdb_submit.specs.SubmitLoop.{CallRelation}
 use Rattle.sdb_wire.specs.Answers.{PlainAnswer}
-use Rattle.sdb_session.specs.Laws.{pieces_append}
+use Rattle.sdb_session.specs.laws.SessionLaws.{pieces_append}
 use Rattle.sdb_session.specs.Sessions.{PlainSubscription, PlainSession}
 use Rattle.sdb_session.specs.Output.{answer_items}
 use Rattle.sdb_session.specs.PumpModel.{PumpInterrupted, PlainTake, TakeCall, TakeCalls, CloseAllCalls, take_answers, pump_answers, pump_count}
@@ -39,12 +39,12 @@ pub counts_more : (xs : List PlainTake) (x : PlainTake) → pump_count (xs ++ x 
 counts_more [] x = omega arith
 counts_more (y ∷ xs) x = omega (arith, counts_more xs x)
 
--- what is written behind what was written
+-- items appended to items
 pub pieces_more : {A : Type 0} (f : PlainAnswer → List A) (old mid new : List A) (a b : List PlainAnswer) → mid ≡ old ++ answer_items f a → new ≡ mid ++ answer_items f b → new ≡ old ++ answer_items f (a ++ b)
 pieces_more f old mid new a b e g =
     g ∙ ap (λ l. l ++ answer_items f b) e ∙ append_assoc old (answer_items f a) (answer_items f b) ∙ ap (λ l. old ++ l) (sym (pieces_append f a b))
 
--- one more of the queues is taken from
+-- one more queue is read
 pub taken_sub : {A : Type 0} (f : A → PlainSubscription) (ts : List PlainTake) (t : PlainTake) (x : A) (left rest : List A) (all : List PlainSubscription) → left ≡ x ∷ rest → t.sub ≡ f x → map (λ t. t.sub) ts ++ map f left ≡ all
     → map (λ t. t.sub) (ts ++ t ∷ []) ++ map f rest ≡ all
 taken_sub f ts t x left rest all is of before =
@@ -54,7 +54,7 @@ taken_sub f ts t x left rest all is of before =
     ∙ ap (λ l. map (λ t. t.sub) ts ++ map f l) (sym is)
     ∙ before
 
--- no queue was taken from
+-- no queue was read
 pub stops_at_once : {P : Type 0} (acts : PlainKey → CallRelation P) (max : ℕ) (s : PlainSession) (p : P) → PumpInterrupted acts max s p p
 stops_at_once acts max s p = ([], (s.subs, (p, (refl, takes_none acts max p, inl refl))))
 

@@ -1,4 +1,4 @@
--- How a request is handled, from a call of the desk and what is written of its reply.
+-- The outcome of a request, from the desk's call and the answers to its reply.
 use Rattle.std.proofs.Common.{◌≡◌, ℕ, List, [], ◌∷◌, ◌++◌, map, true, false, Option, Some, None, Result, Ok, Err, OnOk, inr, refl, sym, ap, ◌∙◌, subst}
 use Rattle.sdb_oplog.specs.declared.codes.Code.{Code}
 use Rattle.sdb_oplog.specs.declared.codes.Code.TheVariants.{E9}
@@ -21,7 +21,7 @@ pub on_says : {A E : Type 0} (r : Result A E) (f : List PlainAnswer → Type 0) 
 on_says (Ok x) f a h = h
 on_says (Err x) f a h = tt
 
--- after want of memory nothing is said
+-- after an allocation failure no answers are stated
 pub handled_by : {P : Type 0} {A E : Type 0} (b : P → P → Type 0) (acts : PlainKey → CallRelation P) (e : PlainEcho) (t : List PlainProjection) (by now : ℕ) (s : PlainSession) (r : PlainRequest) (p : P) (x : Result A E) (f : List PlainAnswer → Type 0) (new : PlainSession) (q : P)
     → RequestOutcome acts e t by now s r p (OutputUnlessFailed x f) new q → OutcomeOrInterrupted x (RequestOutcome acts e t by now s r p) b f s p new q
 handled_by b acts e t by now s r p (Ok x) f new q h = h
@@ -32,7 +32,7 @@ says_on (Ok x) f a h = h
 says_on (Err x) f a h = tt
 
 module _ {P : Type 0} (acts : PlainKey → CallRelation P) (e : PlainEcho) (t : List PlainProjection) (by now : ℕ) (s : PlainSession) (p q : P) (says : List PlainAnswer → Type 0) (k : PlainKey) (o : Option PlainProjection) (seen : o ≡ projection_of_key t k) where
-  -- the document's key, through what was found in the table
+  -- the base document's key, through the projection found in the table
   base_key_of_projection : (b : PlainKey) → b ≡ base_of o k → b ≡ base_key t k
   base_key_of_projection b is = is ∙ ap (λ x. base_of x k) seen
 
@@ -84,7 +84,7 @@ module _ {P : Type 0} (acts : PlainKey → CallRelation P) (e : PlainEcho) (t : 
     joined_handles j is h said =
         (Ok j, (subscribe_of_join (Ok j) h, is ∙ ap (λ x. with_subscription s k (record { base = x; id = j.opened.id })) (base_key_of_projection b base), subst (λ x. says (subscribe_answers x k v j)) seen said))
 
--- ---- requests that broke off
+-- ---- interrupted requests
 
 module _ {P : Type 0} (acts : PlainKey → CallRelation P) (t : List PlainProjection) (p q : P) (k : PlainKey) (o : Option PlainProjection) (seen : o ≡ projection_of_key t k) (b : PlainKey) (base : b ≡ base_of o k) where
   base_key_here : b ≡ base_key t k
@@ -96,7 +96,7 @@ module _ {P : Type 0} (acts : PlainKey → CallRelation P) (t : List PlainProjec
   pub joins_broken : (v : Option ℕ) → SubscribeInterrupted acts b v p q → RequestInterrupted acts t (subscribe k v) p q
   joins_broken v h = subst (λ y. SubscribeInterrupted acts y v p q) base_key_here h
 
--- ---- other words for what is said
+-- ---- equal answers
 
 module _ {P : Type 0} (acts : PlainKey → CallRelation P) (t : List PlainProjection) (by now : ℕ) (s : PlainSession) (p : P) (new : PlainSession) (q : P) (f g : List PlainAnswer → Type 0) (other : (a : List PlainAnswer) → f a → g a) where
   responds_other : (e : PlainEcho) (r : Result PlainRequest Code) → MessageOutcome acts e r t by now s p f new q → MessageOutcome acts e r t by now s p g new q
@@ -110,6 +110,6 @@ pub pieces_are_texts : (a : List PlainAnswer) → answer_items answer_texts a �
 pieces_are_texts [] = refl
 pieces_are_texts (x ∷ a) = ap (λ l. answer_text x ∷ l) (pieces_are_texts a)
 
--- texts that were written where there was none
+-- texts appended to an empty list
 pub texts_are : (old new : List (List ℕ)) (a : List PlainAnswer) → old ≡ [] → new ≡ old ++ answer_items answer_texts a → new ≡ map answer_text a
 texts_are old new a none e = e ∙ ap (λ l. l ++ answer_items answer_texts a) none ∙ pieces_are_texts a

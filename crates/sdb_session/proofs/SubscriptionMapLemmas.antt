@@ -1,4 +1,4 @@
--- The place of a pair among the subscriptions.
+-- The position of a key among the subscriptions.
 use Rattle.std.proofs.Common.{◌≡◌, List, [], ◌∷◌, map, Bool, true, false, cond, Option, Some, None, option_map, Result, Ok, Err, OnOk, refl, sym, ap, ◌∙◌}
 use Rattle.std.specs.Result.{IsOk}
 use Rattle.std.specs.Map.{lookup, remove_entry}
@@ -46,7 +46,7 @@ some_mapped : (o : Option Subscription) → is_some (option_map queue_id_of o) �
 some_mapped None = refl
 some_mapped (Some q) = refl
 
--- whether a pair is there
+-- whether a key is subscribed
 pub is_there : (es : SubscriptionEntries) (k : Key) → is_some (queue_of (plain_key k) (map plain_subscription es)) ≡ is_some (lookup (pair_eq k) es)
 is_there es k = ap is_some (sym (queue_entry es k)) ∙ some_mapped (lookup (pair_eq k) es)
 

@@ -1,5 +1,5 @@
--- What one session says to its lines where it is alone with the machine: `Dialogue`. A line is answered in one step, at one
--- moment; then what waits in the session's queues is pushed.
+-- The dialogue of one session that is alone with the machine. Each line is answered in one step at one moment; then the
+-- session's queues are pumped.
 use Rattle.std.specs.Prelude.{◌≡◌, ℕ, List, [], ◌∷◌, ◌++◌, if◌then◌else◌, Bool, true, false, not, ◌&&◌, Option, Some, None, unwrap_or, Result, Ok, Err}
 use Rattle.std.specs.Option.{option_map_or}
 use Rattle.std.specs.Result.{is_ok, result_ok}
@@ -19,25 +19,25 @@ use Rattle.sdb_session.specs.Output.{answer_lines}
 use Rattle.sdb_session.specs.Responses.{ReadResult, RequestResult, PlainSubscribeReply, submission_of, first_batch_len, Response, response_of}
 use Rattle.sdb_session.specs.PumpModel.{PlainTake, pump_answers}
 
--- the machine, and the session
+-- the machine and the session
 pub record State : Type 0 where
   pub machine : Machine
   pub session : PlainSession
 
--- what is answered, and the state after it
+-- the answers of a step and the state after it
 pub record Transition : Type 0 where
   pub answers : List PlainAnswer
   pub state : State
 
--- whether a request found the memory that it takes
+-- whether the allocations of a request succeed
 pub data Allocation : Type 0 where
   ok : Allocation
-  -- none, and nothing has changed
+  -- an allocation failed and nothing changed
   failed_before : Allocation
-  -- none any more when its queue was open: the number of that queue is given, and the queue closed
+  -- an allocation failed after the queue was opened: its number is used up, and it is closed
   failed_after_open : Allocation
 
--- ---- the calls of the machine, under the number of a session that is alone with it
+-- ---- the calls of the machine, for a session that is alone with it
 
 abbrev pub pass_zero : ℕ
 pass_zero = 0
@@ -45,7 +45,7 @@ pass_zero = 0
 abbrev pub with_machine_queues : Machine → QueuesByKey → Machine
 with_machine_queues m qs = record { logs = m.logs; queues = qs }
 
--- a queue of the document, from a version on, or from the present one
+-- opening a queue of the document, from the given version or the current one
 abbrev pub subscribe_step_at : Machine → PlainKey → Option ℕ → SubscribeStep
 subscribe_step_at m b v = subscribe_step (m.logs b) pass_zero v (m.queues b)
 
@@ -65,7 +65,7 @@ machine_after_take m q max =
       queues = queues_after_take_by (m.logs q.base) pass_zero q.id max (m.queues q.base).queues;
     }))
 
--- the queue is closed, if there is one
+-- the given queue, if any, is closed
 abbrev pub machine_after_close : Option QueueId → Machine → Machine
 machine_after_close None m = m
 machine_after_close (Some q) m = with_machine_queues m (with_queues m.queues q.base (close_queue pass_zero q.id (m.queues q.base)))
@@ -83,7 +83,7 @@ decide_result true m b s now = (
 )
 decide_result false m b s now = (refused E9, m)
 
--- the queue is opened, its entries up to the present version are taken, and the old queue of the pair is closed
+-- a queue is opened, its entries up to the current version are read, and the old queue of the key is closed
 abbrev pub subscribe_result : Machine → PlainKey → Option ℕ → Option QueueId → Result PlainSubscribeResult Code
     → (Result PlainSubscribeReply Code × Machine)
 subscribe_result m b v old (Ok o) = (
@@ -95,7 +95,7 @@ subscribe_result m b v old (Ok o) = (
 )
 subscribe_result m b v old (Err code) = (Err code, m)
 
--- a further pair of a session without room
+-- the refusal of a new key by a full session
 abbrev pub limit_code_at : Result ℕ Code → Code
 limit_code_at (Ok v) = E11
 limit_code_at (Err code) = code
@@ -104,7 +104,7 @@ abbrev pub subscribe_or_refuse : Bool → Machine → PlainKey → Option ℕ �
 subscribe_or_refuse true m b v old = (Err (limit_code_at (queue_start (m.logs b) v)), m)
 subscribe_or_refuse false m b v old = subscribe_result m b v old (subscribe_step_at m b v).answer
 
--- what the machine replies, and the machine after it
+-- the machine's reply and the machine after it
 abbrev pub machine_reply : List PlainProjection → State → ℕ → (r : PlainRequest) → (RequestResult r × Machine)
 machine_reply t s now (hello n) = (tt, s.machine)
 machine_reply t s now (fetch k v) = (read_result (s.machine.logs (base_key t k)) v, s.machine)
@@ -116,26 +116,26 @@ machine_reply t s now (subscribe k v) =
     subscribe_or_refuse (is_subscription_full k s.session.subs) s.machine (base_key t k) v (queue_of k s.session.subs)
 machine_reply t s now (unsubscribe k) = (tt, machine_after_close (queue_of k s.session.subs) s.machine)
 
--- the request is answered by this reply of the machine
+-- the transition of a request, from the session's response to the reply
 abbrev pub transition_of_reply : Response → Machine → Transition
 transition_of_reply u m = record { answers = u.answers; state = record { machine = m; session = u.session } }
 
 abbrev pub transition_of_request : List PlainProjection → PlainEcho → State → ℕ → PlainRequest → Transition
 transition_of_request t e s now r = transition_of_reply (response_of e t s.session r (machine_reply t s now r).0) (machine_reply t s now r).1
 
--- ---- want of memory
+-- ---- allocation failures
 
 -- whether the machine opens a queue for the session
 abbrev pub opens_queue : List PlainProjection → State → PlainKey → Option ℕ → Bool
 opens_queue t s k v =
     not (is_subscription_full k s.session.subs) && is_ok (subscribe_step_at s.machine (base_key t k) v).answer
 
--- whether a fetch takes memory: it copies a document, or stored operations
+-- whether a fetch allocates, because it copies a document or entries
 abbrev pub reading_allocates : List PlainEntry → Option ℕ → Bool
 reading_allocates log None = read_has_document (fetch_result log)
 reading_allocates log (Some v) = option_map_or is_nonempty (result_ok (operations_from log v)) false
 
--- whether the call of the machine that a request makes takes memory
+-- whether the machine's call for a request allocates
 abbrev pub request_allocates : List PlainProjection → State → PlainRequest → Bool
 request_allocates t s (hello n) = false
 request_allocates t s (fetch k v) = reading_allocates (s.machine.logs (base_key t k)) v
@@ -148,12 +148,12 @@ request_allocates t s (snapshot_at_time k m n) = read_has_version (fetch_at_mome
 request_allocates t s (subscribe k v) = opens_queue t s k v
 request_allocates t s (unsubscribe k) = false
 
--- the machine after a request that found none when its queue was open
+-- the machine after an allocation failed with the new queue open
 abbrev pub machine_after_failed_open : Machine → PlainKey → Option ℕ → Machine
 machine_after_failed_open m b v =
     machine_after_close (Some (record { base = b; id = (m.queues b).next })) (machine_after_open m b v)
 
--- a request that found none is answered E10
+-- the answer E10, which leaves the session unchanged
 abbrev pub out_of_memory_transition : PlainEcho → State → Machine → Transition
 out_of_memory_transition e s m =
     record { answers = failed e E10 ∷ []; state = record { machine = m; session = s.session } }
@@ -164,7 +164,7 @@ transition_after_open t e s now (subscribe k v) =
     else transition_of_request t e s now (subscribe k v)
 transition_after_open t e s now r = transition_of_request t e s now r
 
--- a request that takes no memory is answered whether there is some or not
+-- the transition of a request for each outcome of its allocations
 abbrev pub transition_with_allocation : Allocation → List PlainProjection → PlainEcho → State → ℕ → PlainRequest → Transition
 transition_with_allocation ok t e s now r = transition_of_request t e s now r
 transition_with_allocation failed_before t e s now r =
@@ -178,14 +178,14 @@ abbrev pub transition_of_message : List PlainProjection → State → ℕ → Al
 transition_of_message t s now w e (Ok r) = transition_with_allocation w t e s now r
 transition_of_message t s now w e (Err code) = record { answers = failed e code ∷ []; state = s }
 
--- a line, or none that isn't UTF-8 or is too long
+-- the transition of a line, or of one that isn't UTF-8 or is too long
 abbrev pub transition_of_line : List PlainProjection → State → ℕ → Allocation → Option (List ℕ) → Transition
 transition_of_line t s now w (Some line) = transition_of_message t s now w (parse_message line).echo (parse_message line).request
 transition_of_line t s now w None = record { answers = failed empty_echo E1 ∷ []; state = s }
 
--- ---- what waits
+-- ---- pumps
 
--- the most entries that are taken of one queue after a line
+-- maximal number of entries read from one queue after a line
 abbrev pub take_limit : ℕ
 take_limit = 64
 
@@ -198,7 +198,7 @@ abbrev pub machine_after_pump : List PlainSubscription → Machine → Machine
 machine_after_pump [] m = m
 machine_after_pump (s ∷ subs) m = machine_after_pump subs (machine_after_take m s.queue take_limit)
 
--- the entries that wait in each queue, in order, but for the session's own
+-- the entries of each queue in order, except the session's own
 abbrev pub pump_transition : List PlainProjection → State → Transition
 pump_transition t s = record {
   answers = pump_answers t s.session.source (pump_takes s.session.subs s.machine);
@@ -207,21 +207,21 @@ pump_transition t s = record {
 
 -- ---- the dialogue
 
--- the line is answered, then what waits is pushed
+-- the line is answered, then the queues are pumped
 abbrev pub line_transition : List PlainProjection → State → ℕ → Allocation → Option (List ℕ) → Transition
 line_transition t s now w line = record {
   answers = (transition_of_line t s now w line).answers ++ (pump_transition t (transition_of_line t s now w line).state).answers;
   state = (pump_transition t (transition_of_line t s now w line).state).state;
 }
 
--- `Dialogue`: from a state a line at a moment is answered by these bytes, and leaves that state
+-- `Dialogue`: in a state, a line at a moment is answered by these bytes, and the new state follows
 pub record Dialogue (t : List PlainProjection) (old : State) (now : ℕ) (line : Option (List ℕ)) (bytes : List ℕ) (new : State)
     : Type 0 where
   pub memory : Allocation
   pub written : bytes ≡ answer_lines (line_transition t old now memory line).answers
   pub left : new ≡ (line_transition t old now memory line).state
 
--- ---- the beginning
+-- ---- the first state
 
 abbrev pub first_state : List ℕ → State
 first_state source =

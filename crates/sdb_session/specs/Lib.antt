@@ -1,10 +1,9 @@
-pub mod BatchLaws
 pub mod Listing
 pub mod Dialogue
 pub mod Responses
-pub mod Laws
 pub mod ProjectionModel
 pub mod PumpModel
 pub mod Sessions
 pub mod View
 pub mod Output
+pub mod laws

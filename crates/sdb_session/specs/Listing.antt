@@ -1,4 +1,4 @@
--- What becomes of a list of operations that is written in batches.
+-- Outcomes of a listing that is written in batches.
 use Rattle.std.specs.Prelude.{◌≡◌, ℕ, List, [], Option, Some, None, Result, Ok, Err}
 use Rattle.sdb_oplog.specs.Plain.{PlainEntry}
 use Rattle.sdb_oplog.specs.Keys.{PlainKey}
@@ -14,22 +14,22 @@ use Rattle.sdb_session.specs.declared.listing.BatchFault.{BatchFault}
 use Rattle.sdb_session.specs.declared.listing.BatchFault.TheVariants.{Refused, OutOfMemory}
 
 module _ {P : Type 0} (acts : CallRelation P) where
-  -- the list is refused, and nothing is said; or it broke off
+  -- the listing is refused and nothing is written, or it was interrupted
   abbrev pub ListFailed : ℕ → (List PlainEntry → Type 0) → P → BatchFault → P → Type 0
   ListFailed v says p (Refused code) q = ListsAll acts v p (Err code) q × says []
   ListFailed v says p (OutOfMemory e) q = ListsPrefix acts v p q
 
-  -- the operations from a version on are listed, and these are said
+  -- the entries from a version on are listed and written
   abbrev pub ListOutcome : {A : Type 0} → ℕ → (List PlainEntry → Type 0) → P → Result A BatchFault → P → Type 0
   ListOutcome v says p (Ok x) q = (es : List PlainEntry) × (ListsAll acts v p (Ok es) q × says es)
   ListOutcome v says p (Err f) q = ListFailed v says p f q
 
-  -- memory was wanting for the first operations of a queue, and nothing is said; or what was taken broke off
+  -- an allocation failed for the first entries of a queue and nothing is written, or the read was interrupted
   abbrev pub TakeFailed : ℕ → (List PlainEntry → Type 0) → P → BatchFault → P → Type 0
   TakeFailed n says p (Refused code) q = (code ≡ E10) × ((i : ℕ) × acts (take_next n i) p None q) × says []
   TakeFailed n says p (OutOfMemory e) q = TakesBatchPrefix acts n p q
 
-  -- so many operations of a queue are taken, and said
+  -- `count` entries of a queue are read and written
   abbrev pub TakeOutcome : {A : Type 0} → ℕ → ℕ → (List PlainEntry → Type 0) → P → Result A BatchFault → P → Type 0
   TakeOutcome n count says p (Ok x) q =
       (xs : List PlainBatch)
@@ -37,24 +37,24 @@ module _ {P : Type 0} (acts : CallRelation P) where
   TakeOutcome n count says p (Err f) q = TakeFailed n says p f q
 
 module _ {P : Type 0} (acts : PlainKey → CallRelation P) where
-  -- memory was wanting for the first operations of a queue, or for the subscription, and nothing is said; or it broke off
+  -- an allocation failed for the subscription or the first entries and nothing is written, or the read was interrupted
   abbrev pub FirstTakeFailed : PlainKey → Option ℕ → PlainSubscribeResult → (List PlainEntry → Type 0) → P → BatchFault → P → Type 0
   FirstTakeFailed b v o says p (Refused code) q = (code ≡ E10) × FirstTakeCalls acts b v o p None q × says []
   FirstTakeFailed b v o says p (OutOfMemory e) q = TakesBatchPrefix (acts b) o.id p q
 
-  -- a queue begins with its first operations, which are said
+  -- the first entries of a new queue are read and written
   abbrev pub FirstTakeOutcome : {A : Type 0} → PlainKey → Option ℕ → PlainSubscribeResult → (List PlainEntry → Type 0) → P
       → Result A BatchFault → P → Type 0
   FirstTakeOutcome b v o says p (Ok x) q =
       (es : List PlainEntry) × (FirstTakeCalls acts b v o p (Some es) q × (v ≡ None → es ≡ []) × says es)
   FirstTakeOutcome b v o says p (Err f) q = FirstTakeFailed b v o says p f q
 
-  -- no queue is opened in the place of this one, and nothing is said; or it broke off
+  -- no queue replaces the old one and nothing is written, or the subscribe was interrupted
   abbrev pub SubscribeFailed : PlainKey → Option ℕ → Option QueueId → (List PlainEntry → Type 0) → P → BatchFault → P → Type 0
   SubscribeFailed b v old says p (Refused code) q = OpenAndTakeCalls acts b v old p (Err code) q × says []
   SubscribeFailed b v old says p (OutOfMemory e) q = SubscribeInterrupted acts b v p q
 
-  -- a queue is opened in the place of this one, and its first operations are said
+  -- a new queue replaces the old one, and its first entries are written
   abbrev pub SubscribeOutcome : PlainKey → Option ℕ → Option QueueId → (List PlainEntry → Type 0) → P → Result SubscribeResult BatchFault
       → P → Type 0
   SubscribeOutcome b v old says p (Ok o) q =

@@ -1,8 +1,8 @@
--- Answers as they are written.
+-- Answers as written to a sink.
 use Rattle.std.specs.Prelude.{ℕ, List, [], ◌∷◌, ◌++◌}
 use Rattle.sdb_wire.specs.Answers.{PlainAnswer, answer_text}
 
--- the pieces of answers, one behind the other
+-- the items of answers, concatenated
 abbrev pub answer_items : {A : Type 0} → (PlainAnswer → List A) → List PlainAnswer → List A
 answer_items f [] = []
 answer_items f (a ∷ more) = f a ++ answer_items f more

@@ -1,4 +1,4 @@
--- What a collection name shows: its own documents, or through a projection those of another collection.
+-- The documents of a collection name: its own, or another collection's through a projection.
 use Rattle.std.specs.Prelude.{List, Bool, true, Option, Some, None}
 use Rattle.sdb_value.specs.Value.{Value}
 use Rattle.sdb_oplog.specs.Plain.{PlainContent, PlainEntry}
@@ -7,7 +7,7 @@ use Rattle.sdb_projection.specs.ProjectionModel.{proj, proj_content, allowed}
 use Rattle.sdb_projection.specs.Table.{PlainProjection, projection_of}
 use Rattle.sdb_wire.specs.Answers.{with_content}
 
--- the document that a client means by a key
+-- the base document of a client's key
 abbrev pub base_of : Option PlainProjection → PlainKey → PlainKey
 base_of None k = k
 base_of (Some p) k = record { collection = p.base; id = k.id }
@@ -20,7 +20,7 @@ abbrev pub projected_content : Option PlainProjection → PlainContent → Plain
 projected_content None m = m
 projected_content (Some p) m = proj_content p.fields m
 
--- an entry whose content is what is shown of it
+-- the entry with its content as seen through the projection
 abbrev pub projected_entry : Option PlainProjection → PlainEntry → PlainEntry
 projected_entry o e = with_content e (projected_content o e.content)
 

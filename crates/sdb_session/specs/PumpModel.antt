@@ -1,4 +1,4 @@
--- What a pump does: one take of each queue, and what is said of the entries that were taken.
+-- Pumps: one read of each queue, and the answers for the entries read.
 use Rattle.std.specs.Prelude.{◌≡◌, ℕ, ◌+◌, ◌⊎◌, List, [], ◌∷◌, ◌++◌, length, map, filter, Bool, not, ◌&&◌, Option, Some, bytes_eq}
 use Rattle.sdb_oplog.specs.Plain.{PlainEntry}
 use Rattle.sdb_oplog.specs.Keys.{PlainKey}
@@ -10,12 +10,12 @@ use Rattle.sdb_session.specs.ProjectionModel.{projection_of_key}
 use Rattle.sdb_session.specs.Sessions.{QueueId, PlainSubscription, PlainSession}
 use Rattle.sdb_session.specs.Responses.{entry_answers}
 
--- a queue, and the entries that were taken of it
+-- a subscription and the entries read from its queue
 pub record PlainTake : Type 0 where
   pub sub : PlainSubscription
   pub entries : List PlainEntry
 
--- an entry of this source that came through this collection name
+-- whether the entry has this source and came through this collection name
 abbrev pub is_own_entry : List ℕ → PlainKey → PlainEntry → Bool
 is_own_entry source k e = bytes_eq e.arrived.src source && bytes_eq e.arrived.via k.collection
 
@@ -37,18 +37,18 @@ module _ {P : Type 0} (acts : PlainKey → CallRelation P) (max : ℕ) where
   abbrev pub TakeCall : QueueId → P → Option (List PlainEntry) → P → Type 0
   TakeCall s p o q = (a : Option (Option (List PlainEntry))) × (acts s.base (take_next s.id max) p a q × (taken_or_empty a ≡ o))
 
-  -- one take of each queue, one after the other
+  -- one read of each queue, in order
   unfoldable pub TakeCalls : List PlainTake → P → P → Type 0
   TakeCalls [] p q = q ≡ p
   TakeCalls (x ∷ xs) p q = (m : P) × (TakeCall x.sub.queue p (Some x.entries) m × TakeCalls xs m q)
 
-  -- each queue is taken from, in the order of subscribing, and what is said is that of the entries taken
+  -- each queue is read, in the order of the subscriptions, and the answers for its entries are written
   abbrev pub PumpRelation : List PlainProjection → PlainSession → P → ℕ → (List PlainAnswer → Type 0) → P → Type 0
   PumpRelation t s p count says q =
       (xs : List PlainTake)
       × ((map (λ x. x.sub) xs ≡ s.subs) × TakeCalls xs p q × (count ≡ pump_count xs) × says (pump_answers t s.source xs))
 
-  -- some of the queues were taken from, in order, and perhaps one more take was made
+  -- some of the queues were read, in order, and perhaps one more read was made
   abbrev pub PumpInterrupted : PlainSession → P → P → Type 0
   PumpInterrupted s p q =
       (xs : List PlainTake)
@@ -56,7 +56,7 @@ module _ {P : Type 0} (acts : PlainKey → CallRelation P) (max : ℕ) where
       × ((q ≡ m) ⊎ ((x : QueueId) × ((o : Option (List PlainEntry)) × TakeCall x m o q))))))
 
 module _ {P : Type 0} (acts : PlainKey → CallRelation P) where
-  -- each queue is closed, one after the other
+  -- each queue is closed, in order
   unfoldable pub CloseAllCalls : List PlainSubscription → P → P → Type 0
   CloseAllCalls [] p q = q ≡ p
   CloseAllCalls (s ∷ subs) p q = (m : P) × (acts s.queue.base (unsubscribe s.queue.id) p tt m × CloseAllCalls subs m q)

@@ -1,4 +1,4 @@
--- How one message of a session is handled: the calls of a desk that it makes, and what is answered by their replies.
+-- The handling of one message: the session's calls of a desk, and the answers to the replies.
 use Rattle.std.specs.Prelude.{◌≡◌, ⊤, ℕ, ◌-◌, ◌⊎◌, List, [], ◌∷◌, ◌++◌, map, if◌then◌else◌, nat_lt, Bool, true, false, Option, Some, None, option_map, unwrap_or, Result, Ok, Err}
 use Rattle.sdb_oplog.specs.declared.codes.Code.{Code}
 use Rattle.sdb_oplog.specs.declared.codes.Code.TheVariants.{E4, E9, E10, E11}
@@ -14,14 +14,14 @@ use Rattle.sdb_wire.specs.Answers.{PlainAnswer, hello_ack, fetched, list_end, su
 use Rattle.sdb_session.specs.ProjectionModel.{projected_entry, projected_value, is_permitted, projection_of_key, base_key}
 use Rattle.sdb_session.specs.Sessions.{QueueId, PlainSession, queue_of, is_subscription_full, with_source, with_subscription, without_subscription}
 
--- ---- what a desk replies to one message
+-- ---- replies of a desk to one message
 
--- a queue that was opened, and its first entries, up to the version that was present then
+-- a new queue and its first entries, up to the version at its opening
 pub record PlainSubscribeReply : Type 0 where
   pub opened : PlainSubscribeResult
   pub first : List PlainEntry
 
--- the present document, or the stored operations from a version on
+-- the current document, or the entries from a version on
 abbrev pub ReadResult : Option ℕ → Type 0
 ReadResult None = Result PlainFetchResult Code
 ReadResult (Some v) = Result (List PlainEntry) Code
@@ -35,59 +35,59 @@ RequestResult (snapshot_at_time k t n) = Result PlainFetchResult Code
 RequestResult (subscribe k v) = Result PlainSubscribeReply Code
 RequestResult (unsubscribe k) = Unit {0}
 
--- a message that names no source has the session's
+-- the submission of a message; without a source it has the session's
 abbrev pub submission_of : PlainSession → PlainKey → Option ℕ → ℕ → Option (List ℕ) → PlainContent → ℕ → PlainSubmission
 submission_of s k v n src m by =
     record { src = unwrap_or src s.source; seq = n; version = v; content = m; via = k.collection; by = by }
 
--- how many entries there are from the version that was asked for up to the present one
+-- the number of entries from the requested version to the current one
 abbrev pub first_batch_len : Option ℕ → ℕ → ℕ
 first_batch_len None last = 0
 first_batch_len (Some v) last = last - v
 
--- why a session without room refuses a pair: the version is above the present one, or the limit is reached
+-- the code with which a full session refuses a key: its version is too new, or the limit is reached
 abbrev pub limit_code : ℕ → ℕ → Code
 limit_code v last = if nat_lt last v then E4 else E11
 
--- the calls at one key
+-- ---- the calls at one key
 module _ {P : Type 0} (acts : CallRelation P) where
   abbrev pub FetchCalls : (v : Option ℕ) → P → ReadResult v → P → Type 0
   FetchCalls None p r q = acts fetch_call p r q
   FetchCalls (Some v) p r q = ListsAll acts v p r q
 
-  -- the submission is made at a moment, unless it isn't permitted
+  -- a submission at a moment, if it is permitted
   abbrev pub SubmitCalls : Bool → PlainSubmission → ℕ → P → PlainReply → P → Type 0
   SubmitCalls true s now p r q = SubmitRelation acts s now p r q
   SubmitCalls false s now p r q = (r ≡ refused E9) × (q ≡ p)
 
-  -- a further pair of a session without room
+  -- the refusal of a new key by a full session
   abbrev pub RefuseCalls : Option ℕ → P → Result PlainSubscribeReply Code → P → Type 0
   RefuseCalls None p r q = (r ≡ Err E11) × (q ≡ p)
   RefuseCalls (Some v) p r q = (last : ℕ) × (acts current_version p last q × (r ≡ Err (limit_code v last)))
 
 module _ {P : Type 0} (acts : PlainKey → CallRelation P) where
-  -- the queue is closed, if there is one
+  -- the given queue, if any, is closed
   abbrev pub CloseCalls : Option QueueId → P → P → Type 0
   CloseCalls None p q = q ≡ p
   CloseCalls (Some s) p q = acts s.base (unsubscribe_call s.id) p tt q
 
-  -- the first entries are taken of a queue that was opened, in batches. None is want of memory, for the first of these
-  -- or, before that, for the subscription
+  -- the first entries of a new queue are read in batches; `None` means that an allocation failed for the first batch
+  -- or, before it, for the subscription
   abbrev pub FirstTakeCalls : PlainKey → Option ℕ → PlainSubscribeResult → P → Option (List PlainEntry) → P → Type 0
   FirstTakeCalls b v o p (Some es) q =
       (xs : List PlainBatch)
       × (TakesBatches (acts b) o.id xs p q × (total_size xs ≡ first_batch_len v o.version) × (es ≡ entries_of xs))
   FirstTakeCalls b v o p None q = (q ≡ p) ⊎ ((n : ℕ) × acts b (take_next o.id n) p None q)
 
-  -- a queue was opened, some of its first entries were taken, and it was closed again
+  -- a queue was opened, some of its first entries were read, and it was closed again
   abbrev pub SubscribeInterrupted : PlainKey → Option ℕ → P → P → Type 0
   SubscribeInterrupted b v p q =
       (o : PlainSubscribeResult)
       × ((m : P) × ((n : P) × (acts b (subscribe_call v) p (Ok o) m × TakesBatchPrefix (acts b) o.id m n
       × acts b (unsubscribe_call o.id) n tt q)))
 
-  -- a queue is opened, its first entries are taken, and the old queue is closed. Where memory is wanting for what it
-  -- begins with the new queue is closed again
+  -- a queue is opened, its first entries are read, and the old queue is closed; if an allocation fails, the new queue
+  -- is closed again
   abbrev pub OpenAndTakeCalls : PlainKey → Option ℕ → Option QueueId → P → Result PlainSubscribeReply Code → P → Type 0
   OpenAndTakeCalls b v old p (Ok j) q =
       (m : P) × ((n : P) × (acts b (subscribe_call v) p (Ok j.opened) m
@@ -101,8 +101,8 @@ module _ {P : Type 0} (acts : PlainKey → CallRelation P) where
   SubscribeCalls true b v old p r q = RefuseCalls (acts b) v p r q
   SubscribeCalls false b v old p r q = OpenAndTakeCalls b v old p r q
 
-  -- the calls of the desk for one message, through the projections of this table; by is the number of the pass, now the
-  -- moment at which the message came
+  -- the calls of the desk for one message, through the projections of a table; `by` is the pass number, `now` the
+  -- moment of the message
   abbrev pub RequestCalls : List PlainProjection → ℕ → ℕ → PlainSession → (r : PlainRequest) → P → RequestResult r → P → Type 0
   RequestCalls t by now s (hello n) p r q = q ≡ p
   RequestCalls t by now s (fetch k v) p r q = FetchCalls (acts (base_key t k)) v p r q
@@ -113,9 +113,9 @@ module _ {P : Type 0} (acts : PlainKey → CallRelation P) where
   RequestCalls t by now s (subscribe k v) p r q = SubscribeCalls (is_subscription_full k s.subs) (base_key t k) v (queue_of k s.subs) p r q
   RequestCalls t by now s (unsubscribe k) p r q = CloseCalls (queue_of k s.subs) p q
 
--- ---- what is answered by the reply
+-- ---- answers to the reply
 
--- what is answered, and the session after it
+-- the answers, and the session after them
 pub record Response : Type 0 where
   pub answers : List PlainAnswer
   pub session : PlainSession
@@ -149,12 +149,12 @@ abbrev pub moment_answers : PlainEcho → Option PlainProjection → ℕ → Res
 moment_answers e o n (Ok f) = at_time_answer n f.version (option_map (projected_value o) f.snapshot) ∷ []
 moment_answers e o n (Err code) = failed e code ∷ []
 
--- what ends the answer to a subscriber: the document, or that the stored operations came before
+-- the last answer to a subscribe request: the document, or the end of the entries
 abbrev pub subscribe_end_answers : Option PlainProjection → PlainKey → Option ℕ → PlainSubscribeResult → List PlainAnswer
 subscribe_end_answers o k None s = subscribed k s.version (option_map (projected_value o) s.snapshot) ∷ []
 subscribe_end_answers o k (Some v) s = caught_up k ∷ []
 
--- the document, or the stored operations from the version that was asked for
+-- the document, or the entries from the requested version on
 abbrev pub subscribe_answers : Option PlainProjection → PlainKey → Option ℕ → PlainSubscribeReply → List PlainAnswer
 subscribe_answers o k None j = subscribed k j.opened.version (option_map (projected_value o) j.opened.snapshot) ∷ []
 subscribe_answers o k (Some v) j = entry_answers o k j.first ++ caught_up k ∷ []
@@ -178,7 +178,7 @@ response_of e t s (snapshot_at_time k m n) r = record { answers = moment_answers
 response_of e t s (subscribe k v) r = subscribe_response e t s k v r
 response_of e t s (unsubscribe k) r = record { answers = unsubscribed k ∷ []; session = without_subscription s k }
 
--- one message at a moment: the desk gives some reply, and the answers and the session are what the session makes of it
+-- ---- one message at a moment: the desk gives a reply, and the session's response follows from it
 module _ {P : Type 0} (acts : PlainKey → CallRelation P) where
   abbrev pub RequestOutcome : PlainEcho → List PlainProjection → ℕ → ℕ → PlainSession → PlainRequest → P
       → (List PlainAnswer → Type 0) → PlainSession → P → Type 0
@@ -187,20 +187,20 @@ module _ {P : Type 0} (acts : PlainKey → CallRelation P) where
       × (RequestCalls acts t by now s r p reply q × (new ≡ (response_of e t s r reply).session)
       × says (response_of e t s r reply).answers)
 
-  -- a text that asks nothing is refused, and nothing has changed
+  -- a message without a request is refused, and nothing changes
   abbrev pub MessageOutcome : PlainEcho → Result PlainRequest Code → List PlainProjection → ℕ → ℕ → PlainSession → P
       → (List PlainAnswer → Type 0) → PlainSession → P → Type 0
   MessageOutcome e (Ok r) t by now s p says new q = RequestOutcome e t by now s r p says new q
   MessageOutcome e (Err code) t by now s p says new q = (q ≡ p) × (new ≡ s) × says (failed e code ∷ [])
 
-  -- one text
+  -- the outcome of one text
   abbrev pub TextOutcome : List ℕ → List PlainProjection → ℕ → ℕ → PlainSession → P → (List PlainAnswer → Type 0) → PlainSession
       → P → Type 0
   TextOutcome text t by now s p says new q =
       MessageOutcome (parse_message text).echo (parse_message text).request t by now s p says new q
 
 module _ {P : Type 0} (acts : PlainKey → CallRelation P) where
-  -- what a request has done that ended half way: it listed some operations, or opened a queue and closed it again
+  -- an interrupted request has listed some entries, or has opened a queue and closed it again
   abbrev pub RequestInterrupted : List PlainProjection → PlainRequest → P → P → Type 0
   RequestInterrupted t (fetch k (Some v)) p q = ListsPrefix (acts (base_key t k)) v p q
   RequestInterrupted t (subscribe k v) p q = SubscribeInterrupted acts (base_key t k) v p q
@@ -213,8 +213,8 @@ module _ {P : Type 0} (acts : PlainKey → CallRelation P) where
   abbrev pub TextInterrupted : List ℕ → List PlainProjection → P → P → Type 0
   TextInterrupted text t p q = MessageInterrupted t (parse_message text).request p q
 
--- what a call did that does so much, or broke off so. After want of memory nothing was done, or it broke off, or all was
--- done but for what is said
+-- the outcome of a call; after an allocation failure nothing was done, or it was interrupted, or all was done except
+-- the answers
 abbrev pub OutcomeOrInterrupted : {R E S P : Type 0} → Result R E → ((List PlainAnswer → Type 0) → S → P → Type 0) → (P → P → Type 0)
     → (List PlainAnswer → Type 0) → S → P → S → P → Type 0
 OutcomeOrInterrupted (Ok x) done breaks says s p new q = done says new q

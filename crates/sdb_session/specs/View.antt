@@ -1,4 +1,4 @@
--- What the code's sessions and answers stand for.
+-- The views of sessions and answers.
 use Rattle.std.specs.Prelude.{◌≡◌, ◌++◌, ⊤, Bool, List, map, Option, Some, None, option_map, Result, Ok, Err, string_bytes, Vec}
 use Rattle.std.specs.Borrow.{Bor}
 use Rattle.std.specs.Option.{is_some}
@@ -31,11 +31,11 @@ plain_subscription e = record { key = plain_key e.0; queue = queue_id_of e.1 }
 abbrev pub plain_session : Session → PlainSession
 plain_session s = record { source = string_bytes s.source; subs = map plain_subscription s.subscriptions.entries }
 
--- whether the session is at its end
+-- whether the session has ended
 abbrev pub has_ended : Session → Bool
 has_ended s = is_some s.ended
 
--- what an error shows of a message
+-- the echo of a message, as an error shows it
 abbrev pub echo_of_message : Option (Bor JsonTree) → PlainEcho
 echo_of_message m = echo_or_empty (option_map (λ v. v.now) m)
 
@@ -45,16 +45,16 @@ plain_projection_option o = option_map (λ p. plain_projection p.now) o
 abbrev pub plain_opened : SubscribeResult → PlainSubscribeResult
 plain_opened s = record { id = s.id; start = s.start; version = s.version; snapshot = option_map value_of s.snapshot }
 
--- what came of a take. None is want of memory
+-- the entries that were read; `None` means that an allocation failed
 abbrev pub taken_entries_view : Result (Vec PlainEntry Global) AllocError → Option (List PlainEntry)
 taken_entries_view (Ok v) = Some v.items
 taken_entries_view (Err e) = None
 
--- these answers were written behind what was there
+-- these answers were appended
 abbrev pub WroteAnswers : {A : Type 0} → (PlainAnswer → List A) → List A → List A → List PlainAnswer → Type 0
 WroteAnswers f old new answers = new ≡ old ++ answer_items f answers
 
--- the answers are said, unless the call failed
+-- the answers are written, unless the call failed
 abbrev pub OutputUnlessFailed : {A E : Type 0} → Result A E → (List PlainAnswer → Type 0) → List PlainAnswer → Type 0
 OutputUnlessFailed (Ok x) said answers = said answers
 OutputUnlessFailed (Err e) said answers = ⊤

@@ -1,4 +1,4 @@
-//! Where answers are written.
+//! The output of a session's answers.
 ghost use Rattle.std.specs.Prelude.{◌≡◌, List, ◌++◌, OnOk, map, string_bytes};
 ghost use Rattle.sdb_session.specs.Output.{answer_line, answer_texts};
 ghost use Rattle.sdb_wire.specs.Answers.{PlainAnswer};
@@ -7,20 +7,22 @@ ghost use Rattle.sdb_wire.specs.View.{plain_answer};
 use sdb_wire::{Answer, append_answer_text, reply_text};
 use std::alloc::{AllocError, Global};
 
-/// Where the answers of a session are written, one behind the other: bytes, in which each is a line, or
-/// texts.
+/// A sink to which a session appends its answers, as lines of bytes or as texts.
 pub trait AnswerSink {
-    // What a page is a list of.
+    // The items of the sink.
     ghost Item: { Type 0 };
 
-    // What is written of one answer.
+    // The items that an answer appends.
     ghost items: { PlainAnswer → List Item };
 
-    // What was written.
+    // The items written so far.
     ghost contents: { Self → List Item };
 
-    /// Writes an answer behind what was written. It fails only for want of memory; nothing is said of the
-    /// page then.
+    /// Appends an answer.
+    ///
+    /// # Errors
+    ///
+    /// [`AllocError`] if an allocation fails. The contents are then unspecified.
     fn write(&mut self, alloc: Global, answer: &Answer<'_>) -> Result<(), AllocError>
         ensures { OnOk result (contents self.new ≡ contents self.old ++ items (plain_answer answer.now)) };
 }
@@ -42,7 +44,7 @@ impl AnswerSink for Vec<u8> {
     }
 }
 
-/// Each answer is a text.
+/// Each answer is one text.
 impl AnswerSink for Vec<String> {
     ghost use Rattle.std.specs.Prelude.{ℕ};
 

@@ -1,4 +1,4 @@
-//! The answers to one message, by what a desk replied.
+//! The answers to one message, from a desk's replies.
 ghost use Rattle.std.specs.Prelude.{◌≡◌, ◌∷◌, [], ◌++◌, map, OnOk, option_map, Ok, Err};
 ghost use Rattle.sdb_desk.specs.ReplyView.{plain_reply};
 ghost use Rattle.sdb_oplog.specs.Keys.{plain_key};
@@ -47,7 +47,7 @@ pub(crate) fn write_refusal<O: AnswerSink>(
     write_answer(alloc, &Answer::Failed { echo: &echo, code }, out)
 }
 
-// Writes a stored operation.
+// Writes the operation message of an entry.
 pub(crate) fn write_entry<O: AnswerSink>(
     alloc: Global,
     projection: Option<&Projection>,
@@ -71,7 +71,7 @@ pub(crate) fn write_entry<O: AnswerSink>(
     write_answer(alloc, &answer, out)
 }
 
-// Writes stored operations.
+// Writes the operation messages of entries.
 pub(crate) fn write_entries<O: AnswerSink>(
     alloc: Global,
     target: &DocumentRef<'_>,
@@ -87,7 +87,7 @@ pub(crate) fn write_entries<O: AnswerSink>(
     Ok(())
 }
 
-// Writes a stored operation that other sessions are told of too.
+// Writes the operation message of an entry, using the shared cache of texts.
 pub(crate) fn write_cached_entry<O: AnswerSink>(
     alloc: Global,
     texts: Option<&OpTextCache>,
@@ -108,7 +108,7 @@ pub(crate) fn write_cached_entry<O: AnswerSink>(
     }
 }
 
-// Writes stored operations that other sessions are told of too.
+// Writes the operation messages of entries, using the shared cache of texts.
 fn write_cached_entries<O: AnswerSink>(
     alloc: Global,
     texts: Option<&OpTextCache>,
@@ -125,7 +125,7 @@ fn write_cached_entries<O: AnswerSink>(
     Ok(())
 }
 
-// Writes stored operations that other sessions are told of too, and the answer that ends them.
+// Writes the operation messages of entries, then the answer that follows them.
 fn write_missed_entries<O: AnswerSink>(
     alloc: Global,
     texts: Option<&OpTextCache>,
@@ -142,7 +142,8 @@ fn write_missed_entries<O: AnswerSink>(
     write_answer(alloc, last, out)
 }
 
-// What was missed comes before the acknowledgement.
+// Writes the reply to a submission. Entries stored since its base version come before the
+// acknowledgement.
 pub(crate) fn write_reply<O: AnswerSink>(
     alloc: Global,
     texts: Option<&OpTextCache>,
@@ -181,7 +182,7 @@ pub(crate) fn write_reply<O: AnswerSink>(
     }
 }
 
-// Writes what ends the answer to a subscriber: the document, or that the stored operations came before.
+// Writes the last answer to a subscribe request: the document, or the end of the entries.
 pub(crate) fn write_subscribe_end<O: AnswerSink>(
     alloc: Global,
     projection: Option<&Projection>,

@@ -1,4 +1,4 @@
-//! The handlers of the requests: the calls of a desk, and the answers.
+//! The request handlers: each calls a desk and writes the answers.
 ghost use Rattle.std.specs.Prelude.{◌≡◌, ℕ, ◌<◌, ◌∷◌, [], IfOk, OnOk, Ok, Err, Option, None, Some, option_map, string_bytes};
 ghost use Rattle.indexmap.specs.IndexMap.{spare};
 ghost use Rattle.sdb_desk.specs.View.{fetch_result_view};
@@ -29,7 +29,7 @@ use sdb_value::Json;
 use sdb_wire::{Answer, Request};
 use std::alloc::{AllocError, Global};
 
-// What a message submits, and when: its version, number, source and content.
+// The arguments of a submission: its time, base version, seq, source and content.
 #[derive(Drop)]
 pub(crate) struct SubmitArgs {
     pub now: Moment,
@@ -39,7 +39,7 @@ pub(crate) struct SubmitArgs {
     pub content: Content,
 }
 
-// Which document a message asks for, at which version, and the number that the answer shows again.
+// A request for a document at a version, with the request number that the answer repeats.
 #[derive(Drop)]
 pub(crate) struct VersionQuery {
     pub key: Key,
@@ -47,7 +47,7 @@ pub(crate) struct VersionQuery {
     pub id: u64,
 }
 
-// Which document a message asks for, at which moment, and the number that the answer shows again.
+// A request for a document at a moment, with the request number that the answer repeats.
 #[derive(Drop)]
 pub(crate) struct MomentQuery {
     pub key: Key,
@@ -56,7 +56,7 @@ pub(crate) struct MomentQuery {
 }
 
 impl Session {
-    // Answers a request.
+    // Handles a request.
     pub(crate) fn answer_request<D: Desk, O: AnswerSink>(
         &mut self,
         desk: &D,
@@ -67,17 +67,17 @@ impl Session {
         now: Moment,
         out: &mut O,
     ) -> Result<(), AllocError>
-        requires takes { D.accepts desk.now pass.old }
-        ensures takes { D.accepts desk.now pass.new }
-        ensures number { D.pass_number desk.now pass.new ≡ D.pass_number desk.now pass.old }
-        ensures handled { OutcomeOrInterrupted result
+        requires accepted { D.accepts desk.now pass.old }
+        ensures accepted { D.accepts desk.now pass.new }
+        ensures number_unchanged { D.pass_number desk.now pass.new ≡ D.pass_number desk.now pass.old }
+        ensures outcome { OutcomeOrInterrupted result
             (RequestOutcome (D.step desk.now) (echo_of_message message.entry) table.now
             (D.pass_number desk.now pass.old) now
             (plain_session self.old) (plain_request request) pass.old)
             (RequestInterrupted (D.step desk.now) table.now (plain_request request))
             (WroteAnswers O.items (O.contents out.old) (O.contents out.new))
             (plain_session self.old) pass.old (plain_session self.new) pass.new }
-        ensures ended { self.new.ended ≡ self.old.ended }
+        ensures ended_unchanged { self.new.ended ≡ self.old.ended }
     {
         match request {
             Request::Hello { id } => self.hello(id, out),
@@ -115,12 +115,12 @@ impl Session {
         }
     }
 
-    // Takes the source that a client named.
+    // Sets the source that a client named, if any, and writes the acknowledgement.
     fn hello<O: AnswerSink>(&mut self, id: Option<String>, out: &mut O) -> Result<(), AllocError>
-        ensures says { OutputUnlessFailed result (WroteAnswers O.items (O.contents out.old) (O.contents out.new))
+        ensures output { OutputUnlessFailed result (WroteAnswers O.items (O.contents out.old) (O.contents out.new))
             (hello_ack (with_source (plain_session self.old) (option_map string_bytes id)).source ∷ []) }
         ensures session { plain_session self.new ≡ with_source (plain_session self.old) (option_map string_bytes id) }
-        ensures ended { self.new.ended ≡ self.old.ended }
+        ensures ended_unchanged { self.new.ended ≡ self.old.ended }
     {
         if let Some(source) = id {
             self.source = source;
@@ -131,7 +131,7 @@ impl Session {
         write_answer(self.alloc, &answer, out)
     }
 
-    // Writes the document, or the stored operations from a version on.
+    // Writes the document, or the entries from a version on.
     fn fetch<D: Desk, O: AnswerSink>(
         &self,
         desk: &D,
@@ -142,10 +142,10 @@ impl Session {
         version: Option<u64>,
         out: &mut O,
     ) -> Result<(), AllocError>
-        requires takes { D.accepts desk.now pass.old }
-        ensures takes { D.accepts desk.now pass.new }
-        ensures number { D.pass_number desk.now pass.new ≡ D.pass_number desk.now pass.old }
-        ensures handled { (t : ℕ) → OutcomeOrInterrupted result
+        requires accepted { D.accepts desk.now pass.old }
+        ensures accepted { D.accepts desk.now pass.new }
+        ensures number_unchanged { D.pass_number desk.now pass.new ≡ D.pass_number desk.now pass.old }
+        ensures outcome { (t : ℕ) → OutcomeOrInterrupted result
             (RequestOutcome (D.step desk.now) (echo_of_message message.entry) table.now
             (D.pass_number desk.now pass.old) t
             (plain_session self.now) (fetch (plain_key key.now) version) pass.old)
@@ -159,7 +159,7 @@ impl Session {
         }
     }
 
-    // Writes the present document.
+    // Writes the current document.
     fn fetch_document<D: Desk, O: AnswerSink>(
         &self,
         desk: &D,
@@ -169,10 +169,10 @@ impl Session {
         key: &Key,
         out: &mut O,
     ) -> Result<(), AllocError>
-        requires takes { D.accepts desk.now pass.old }
-        ensures takes { D.accepts desk.now pass.new }
-        ensures number { D.pass_number desk.now pass.new ≡ D.pass_number desk.now pass.old }
-        ensures handled { (t : ℕ) → OutcomeOrInterrupted result
+        requires accepted { D.accepts desk.now pass.old }
+        ensures accepted { D.accepts desk.now pass.new }
+        ensures number_unchanged { D.pass_number desk.now pass.new ≡ D.pass_number desk.now pass.old }
+        ensures outcome { (t : ℕ) → OutcomeOrInterrupted result
             (RequestOutcome (D.step desk.now) (echo_of_message message.entry) table.now
             (D.pass_number desk.now pass.old) t
             (plain_session self.now) (fetch (plain_key key.now) None) pass.old)
@@ -189,7 +189,7 @@ impl Session {
         }
     }
 
-    // Writes the stored operations from a version on, up to the version that is present.
+    // Writes the entries from a version on, up to the current version.
     fn fetch_operations<D: Desk, O: AnswerSink>(
         &self,
         desk: &D,
@@ -200,10 +200,10 @@ impl Session {
         from: u64,
         out: &mut O,
     ) -> Result<(), AllocError>
-        requires takes { D.accepts desk.now pass.old }
-        ensures takes { D.accepts desk.now pass.new }
-        ensures number { D.pass_number desk.now pass.new ≡ D.pass_number desk.now pass.old }
-        ensures handled { (t : ℕ) → OutcomeOrInterrupted result
+        requires accepted { D.accepts desk.now pass.old }
+        ensures accepted { D.accepts desk.now pass.new }
+        ensures number_unchanged { D.pass_number desk.now pass.new ≡ D.pass_number desk.now pass.old }
+        ensures outcome { (t : ℕ) → OutcomeOrInterrupted result
             (RequestOutcome (D.step desk.now) (echo_of_message message.entry) table.now
             (D.pass_number desk.now pass.old) t
             (plain_session self.now) (fetch (plain_key key.now) (Some from)) pass.old)
@@ -226,7 +226,7 @@ impl Session {
         }
     }
 
-    // Submits, and writes the reply.
+    // Submits an operation and writes the reply.
     fn submit<D: Desk, O: AnswerSink>(
         &mut self,
         desk: &D,
@@ -237,10 +237,10 @@ impl Session {
         sent: SubmitArgs,
         out: &mut O,
     ) -> Result<(), AllocError>
-        requires takes { D.accepts desk.now pass.old }
-        ensures takes { D.accepts desk.now pass.new }
-        ensures number { D.pass_number desk.now pass.new ≡ D.pass_number desk.now pass.old }
-        ensures handled { OutcomeOrInterrupted result
+        requires accepted { D.accepts desk.now pass.old }
+        ensures accepted { D.accepts desk.now pass.new }
+        ensures number_unchanged { D.pass_number desk.now pass.new ≡ D.pass_number desk.now pass.old }
+        ensures outcome { OutcomeOrInterrupted result
             (RequestOutcome (D.step desk.now) (echo_of_message message.entry) table.now
             (D.pass_number desk.now pass.old) sent.now
             (plain_session self.old)
@@ -249,7 +249,7 @@ impl Session {
             (submit (plain_key key.now) sent.version sent.seq (option_map string_bytes sent.src) sent.content))
             (WroteAnswers O.items (O.contents out.old) (O.contents out.new))
             (plain_session self.old) pass.old (plain_session self.new) pass.new }
-        ensures ended { self.new.ended ≡ self.old.ended }
+        ensures ended_unchanged { self.new.ended ≡ self.old.ended }
     {
         let projection = table.find(key.collection.as_str());
         if !permits(projection, &sent.content) {
@@ -276,12 +276,12 @@ impl Session {
         )
     }
 
-    // A message that names no source has the session's.
+    // A message without a source has the session's.
     fn submission(&mut self, key: &Key, sent: SubmitArgs, by: u64) -> Result<Submission, AllocError>
         ensures submission { IfOk result (λ s. s ≡ submission_of (plain_session self.old) (plain_key key.now)
             sent.version sent.seq (option_map string_bytes sent.src) sent.content by) }
         ensures session { plain_session self.new ≡ plain_session self.old }
-        ensures ended { self.new.ended ≡ self.old.ended }
+        ensures ended_unchanged { self.new.ended ≡ self.old.ended }
     {
         let SubmitArgs {
             version,
@@ -310,10 +310,10 @@ impl Session {
         asked: VersionQuery,
         out: &mut O,
     ) -> Result<(), AllocError>
-        requires takes { D.accepts desk.now pass.old }
-        ensures takes { D.accepts desk.now pass.new }
-        ensures number { D.pass_number desk.now pass.new ≡ D.pass_number desk.now pass.old }
-        ensures handled { (t : ℕ) → OutcomeOrInterrupted result
+        requires accepted { D.accepts desk.now pass.old }
+        ensures accepted { D.accepts desk.now pass.new }
+        ensures number_unchanged { D.pass_number desk.now pass.new ≡ D.pass_number desk.now pass.old }
+        ensures outcome { (t : ℕ) → OutcomeOrInterrupted result
             (RequestOutcome (D.step desk.now) (echo_of_message message.entry) table.now
             (D.pass_number desk.now pass.old) t
             (plain_session self.now) (snapshot (plain_key asked.key) asked.version asked.id) pass.old)
@@ -341,10 +341,10 @@ impl Session {
         asked: MomentQuery,
         out: &mut O,
     ) -> Result<(), AllocError>
-        requires takes { D.accepts desk.now pass.old }
-        ensures takes { D.accepts desk.now pass.new }
-        ensures number { D.pass_number desk.now pass.new ≡ D.pass_number desk.now pass.old }
-        ensures handled { (t : ℕ) → OutcomeOrInterrupted result
+        requires accepted { D.accepts desk.now pass.old }
+        ensures accepted { D.accepts desk.now pass.new }
+        ensures number_unchanged { D.pass_number desk.now pass.new ≡ D.pass_number desk.now pass.old }
+        ensures outcome { (t : ℕ) → OutcomeOrInterrupted result
             (RequestOutcome (D.step desk.now) (echo_of_message message.entry) table.now
             (D.pass_number desk.now pass.old) t
             (plain_session self.now) (snapshot_at_time (plain_key asked.key) asked.moment asked.id) pass.old)
@@ -363,7 +363,7 @@ impl Session {
         }
     }
 
-    // Subscribes. The old queue of the pair is closed once the new one is open.
+    // Subscribes. The old queue of the key is closed after the new one is open.
     fn subscribe<D: Desk, O: AnswerSink>(
         &mut self,
         desk: &D,
@@ -374,17 +374,17 @@ impl Session {
         version: Option<u64>,
         out: &mut O,
     ) -> Result<(), AllocError>
-        requires takes { D.accepts desk.now pass.old }
-        ensures takes { D.accepts desk.now pass.new }
-        ensures number { D.pass_number desk.now pass.new ≡ D.pass_number desk.now pass.old }
-        ensures handled { (t : ℕ) → OutcomeOrInterrupted result
+        requires accepted { D.accepts desk.now pass.old }
+        ensures accepted { D.accepts desk.now pass.new }
+        ensures number_unchanged { D.pass_number desk.now pass.new ≡ D.pass_number desk.now pass.old }
+        ensures outcome { (t : ℕ) → OutcomeOrInterrupted result
             (RequestOutcome (D.step desk.now) (echo_of_message message.entry) table.now
             (D.pass_number desk.now pass.old) t
             (plain_session self.old) (subscribe (plain_key key) version) pass.old)
             (RequestInterrupted (D.step desk.now) table.now (subscribe (plain_key key) version))
             (WroteAnswers O.items (O.contents out.old) (O.contents out.new))
             (plain_session self.old) pass.old (plain_session self.new) pass.new }
-        ensures ended { self.new.ended ≡ self.old.ended }
+        ensures ended_unchanged { self.new.ended ≡ self.old.ended }
     {
         let projection = table.find(key.collection.as_str());
         let base = base_key(projection, &key)?;
@@ -404,7 +404,7 @@ impl Session {
         }
     }
 
-    // Keeps the queue that was opened for the pair, and writes what ends the answer. There is room for one more.
+    // Inserts the new queue of the key, and writes the last answer. Space for it is reserved.
     fn subscribe_from<O: AnswerSink>(
         &mut self,
         projection: Option<&Projection>,
@@ -415,12 +415,12 @@ impl Session {
         out: &mut O,
     ) -> Result<(), AllocError>
         requires { 0 < spare self.old.subscriptions }
-        ensures says { OutputUnlessFailed result (WroteAnswers O.items (O.contents out.old) (O.contents out.new))
+        ensures output { OutputUnlessFailed result (WroteAnswers O.items (O.contents out.old) (O.contents out.new))
             (subscribe_end_answers (plain_projection_option projection.entry) (plain_key key) version
             (plain_opened opened)) }
         ensures session { plain_session self.new ≡ with_subscription (plain_session self.old) (plain_key key)
             (record { base = plain_key base; id = opened.id }) }
-        ensures ended { self.new.ended ≡ self.old.ended }
+        ensures ended_unchanged { self.new.ended ≡ self.old.ended }
     {
         let id = opened.id;
         let said = write_subscribe_end(self.alloc, projection, &key, version, opened, out);
@@ -428,8 +428,8 @@ impl Session {
         said
     }
 
-    // Opens a queue for the pair, makes room for it, writes its first entries, up to the present version, and
-    // closes the old queue. Where that ends half way, the new one is closed again.
+    // Opens a queue for the key, reserves space for it, writes its entries up to the current
+    // version, and closes the old queue. If this fails, the new queue is closed again.
     fn open_and_replace<D: Desk, O: AnswerSink>(
         &mut self,
         desk: &D,
@@ -438,17 +438,17 @@ impl Session {
         version: Option<u64>,
         out: &mut O,
     ) -> Result<SubscribeResult, BatchFault>
-        requires takes { D.accepts desk.now pass.old }
-        ensures takes { D.accepts desk.now pass.new }
-        ensures number { D.pass_number desk.now pass.new ≡ D.pass_number desk.now pass.old }
+        requires accepted { D.accepts desk.now pass.old }
+        ensures accepted { D.accepts desk.now pass.new }
+        ensures number_unchanged { D.pass_number desk.now pass.new ≡ D.pass_number desk.now pass.old }
         ensures joins { SubscribeOutcome (D.step desk.now) (plain_key target.now.base.now) version
             (queue_of (plain_key target.now.key.now) (plain_session self.old).subs)
             (λ es. WroteAnswers O.items (O.contents out.old) (O.contents out.new)
             (entry_answers (plain_projection_option target.now.projection) (plain_key target.now.key.now) es))
             pass.old result pass.new }
         ensures session { plain_session self.new ≡ plain_session self.old }
-        ensures room { OnOk result (0 < spare self.new.subscriptions) }
-        ensures ended { self.new.ended ≡ self.old.ended }
+        ensures capacity { OnOk result (0 < spare self.new.subscriptions) }
+        ensures ended_unchanged { self.new.ended ≡ self.old.ended }
     {
         let opened = desk.subscribe(pass, target.base, version)?;
         match self.take_first_entries(desk, pass, target, version, &opened, out) {
@@ -463,7 +463,7 @@ impl Session {
         }
     }
 
-    // Makes room for one more pair, and writes the first entries of the queue that was opened for it.
+    // Reserves space for one more key, and writes the first entries of its new queue.
     fn take_first_entries<D: Desk, O: AnswerSink>(
         &mut self,
         desk: &D,
@@ -473,17 +473,17 @@ impl Session {
         opened: &SubscribeResult,
         out: &mut O,
     ) -> Result<(), BatchFault>
-        requires takes { D.accepts desk.now pass.old }
-        ensures takes { D.accepts desk.now pass.new }
-        ensures number { D.pass_number desk.now pass.new ≡ D.pass_number desk.now pass.old }
+        requires accepted { D.accepts desk.now pass.old }
+        ensures accepted { D.accepts desk.now pass.new }
+        ensures number_unchanged { D.pass_number desk.now pass.new ≡ D.pass_number desk.now pass.old }
         ensures begins { FirstTakeOutcome (D.step desk.now) (plain_key target.now.base.now) version
             (plain_opened opened.now)
             (λ es. WroteAnswers O.items (O.contents out.old) (O.contents out.new)
             (entry_answers (plain_projection_option target.now.projection) (plain_key target.now.key.now) es))
             pass.old result pass.new }
         ensures session { plain_session self.new ≡ plain_session self.old }
-        ensures room { OnOk result (0 < spare self.new.subscriptions) }
-        ensures ended { self.new.ended ≡ self.old.ended }
+        ensures capacity { OnOk result (0 < spare self.new.subscriptions) }
+        ensures ended_unchanged { self.new.ended ≡ self.old.ended }
     {
         if let Err(error) = self.subscriptions.reserve(1) {
             return Err(BatchFault::Refused(Code::from(error)));
@@ -492,25 +492,25 @@ impl Session {
         write_next(self.alloc, desk, pass, target, opened.id, count, out)
     }
 
-    // Whether there is no room for a further pair.
+    // Returns whether the limit excludes a new key.
     fn is_subscription_full(&self, key: &Key) -> bool
         ensures { result ≡ is_subscription_full (plain_key key.now) (plain_session self.now).subs }
     {
         !self.subscriptions.contains_key(key) && self.subscriptions.len() >= SUBSCRIPTION_LIMIT
     }
 
-    // The pair is subscribed to by this queue. There is room for one more.
+    // Sets the queue of the key. Space for it is reserved.
     fn insert_subscription(&mut self, key: Key, queue: Subscription)
         requires { 0 < spare self.old.subscriptions }
         ensures subs { (plain_session self.new).subs
             ≡ insert_subscription (plain_key key) (queue_id_of queue) (plain_session self.old).subs }
         ensures source { (plain_session self.new).source ≡ (plain_session self.old).source }
-        ensures ended { self.new.ended ≡ self.old.ended }
+        ensures ended_unchanged { self.new.ended ≡ self.old.ended }
     {
         let _ = self.subscriptions.insert(key, queue);
     }
 
-    // Closes the queue of the pair, if there is one.
+    // Closes the queue of the key, if there is one.
     fn unsubscribe<D: Desk, O: AnswerSink>(
         &mut self,
         desk: &D,
@@ -518,15 +518,15 @@ impl Session {
         key: &Key,
         out: &mut O,
     ) -> Result<(), AllocError>
-        requires takes { D.accepts desk.now pass.old }
-        ensures takes { D.accepts desk.now pass.new }
-        ensures number { D.pass_number desk.now pass.new ≡ D.pass_number desk.now pass.old }
+        requires accepted { D.accepts desk.now pass.old }
+        ensures accepted { D.accepts desk.now pass.new }
+        ensures number_unchanged { D.pass_number desk.now pass.new ≡ D.pass_number desk.now pass.old }
         ensures closes { CloseCalls (D.step desk.now) (queue_of (plain_key key.now) (plain_session self.old).subs)
             pass.old pass.new }
-        ensures says { OutputUnlessFailed result (WroteAnswers O.items (O.contents out.old) (O.contents out.new))
+        ensures output { OutputUnlessFailed result (WroteAnswers O.items (O.contents out.old) (O.contents out.new))
             (unsubscribed (plain_key key.now) ∷ []) }
         ensures session { plain_session self.new ≡ without_subscription (plain_session self.old) (plain_key key.now) }
-        ensures ended { self.new.ended ≡ self.old.ended }
+        ensures ended_unchanged { self.new.ended ≡ self.old.ended }
     {
         let queue = self.subscriptions.shift_remove(key);
         close_queue(desk, pass, queue.as_ref());
@@ -534,7 +534,7 @@ impl Session {
     }
 }
 
-// Writes the document that was found.
+// Writes the document that the desk returned.
 fn write_fetched<O: AnswerSink>(
     alloc: Global,
     projection: Option<&Projection>,
@@ -632,12 +632,12 @@ fn write_document_at_moment<'a, O: AnswerSink>(
     write_answer(alloc, &answer, out)
 }
 
-// Why a session without room refuses a pair: the version is above the present one, or the limit is
+// Returns the code with which a full session refuses a key: its version is too new, or the limit is
 // reached.
 fn limit_code<D: Desk>(desk: &D, pass: &mut D::Pass, base: &Key, version: Option<u64>) -> Code
-    requires takes { D.accepts desk.now pass.old }
-    ensures takes { D.accepts desk.now pass.new }
-    ensures number { D.pass_number desk.now pass.new ≡ D.pass_number desk.now pass.old }
+    requires accepted { D.accepts desk.now pass.old }
+    ensures accepted { D.accepts desk.now pass.new }
+    ensures number_unchanged { D.pass_number desk.now pass.new ≡ D.pass_number desk.now pass.old }
     ensures refuses { RefuseCalls (D.step desk.now (plain_key base.now)) version pass.old (Err result) pass.new }
 {
     match version {

@@ -1,14 +1,14 @@
-//! Names that the submissions of a session share.
+//! An interner for the names in a session's submissions.
 ghost use Rattle.std.specs.Arc.{arc_value};
 ghost use Rattle.std.specs.Prelude.{◌≡◌, IfOk, IfSome, string_bytes};
 
 use std::alloc::{AllocError, Global};
 use std::sync::Arc;
 
-// The most names that are kept.
+// Maximal number of names.
 const NAME_SLOTS: usize = 16;
 
-// The names that were asked for lately.
+// The names used recently.
 #[derive(Drop)]
 pub(crate) struct NameInterner {
     names: Vec<Arc<String>>,
@@ -21,7 +21,7 @@ impl NameInterner {
         }
     }
 
-    // The name, shared with those that asked for it before, as long as it is kept.
+    // Returns a shared copy of the name, the existing one if it is interned.
     pub(crate) fn intern(&mut self, alloc: Global, name: &str) -> Result<Arc<String>, AllocError>
         ensures { IfOk result (λ n. string_bytes (arc_value n) ≡ name.now) }
     {
@@ -44,7 +44,7 @@ impl NameInterner {
         Ok(None)
     }
 
-    // Keeps a name. Where there are many, the others go.
+    // Adds a name. If the interner is full, all others are removed.
     fn remember(&mut self, name: Arc<String>) -> Result<(), AllocError> {
         if self.names.len() >= NAME_SLOTS {
             self.names.clear();

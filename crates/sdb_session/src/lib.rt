@@ -1,4 +1,4 @@
-//! One session: each message is answered, and what was stored meanwhile is sent.
+//! One session: it answers messages and sends entries of subscribed documents.
 #![tactic(auto)]
 
 mod answer_sink;

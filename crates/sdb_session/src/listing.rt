@@ -1,4 +1,4 @@
-//! Stored operations that are written in batches: what of a list is in memory at once is one batch.
+//! Listings in batches, so that only one batch is in memory at a time.
 ghost use Rattle.std.specs.Prelude.{◌≡◌, if◌then◌else◌};
 ghost use Rattle.sdb_oplog.specs.Keys.{plain_key};
 ghost use Rattle.sdb_oplog.specs.declared.codes.Code.TheVariants.{E10};
@@ -16,15 +16,15 @@ use sdb_submit::Desk;
 use sdb_subscribe::SubId;
 use std::alloc::{AllocError, Global};
 
-// The most operations that are asked of a desk at once.
+// Maximal number of entries read from a desk at once.
 const BATCH_LIMIT: u64 = 1_024;
 
-// Why a list of operations wasn't written.
+// The reason why a listing failed.
 #[derive(Drop)]
 pub(crate) enum BatchFault {
-    // The message is refused: nothing is written.
+    // The message is refused; nothing was written.
     Refused(Code),
-    // Memory was wanting half way.
+    // An allocation failed after a part was written.
     OutOfMemory { error: AllocError },
 }
 
@@ -48,7 +48,7 @@ impl From<AllocError> for BatchFault {
     }
 }
 
-// Want of memory for the first batch refuses the message, for a later one it ends the session.
+// An allocation failure in the first batch refuses the message; a later one ends the session.
 fn out_of_memory(is_first: bool, error: AllocError) -> BatchFault
     ensures { result ≡ (if is_first then Refused E10 else OutOfMemory error) }
 {
@@ -59,7 +59,7 @@ fn out_of_memory(is_first: bool, error: AllocError) -> BatchFault
     }
 }
 
-// Writes the stored operations from a version on, up to the one that is present.
+// Writes the entries from a version on, up to the current version.
 pub(crate) fn write_listing<D: Desk, O: AnswerSink>(
     alloc: Global,
     desk: &D,
@@ -68,9 +68,9 @@ pub(crate) fn write_listing<D: Desk, O: AnswerSink>(
     from: u64,
     out: &mut O,
 ) -> Result<(), BatchFault>
-    requires takes { D.accepts desk.now pass.old }
-    ensures takes { D.accepts desk.now pass.new }
-    ensures number { D.pass_number desk.now pass.new ≡ D.pass_number desk.now pass.old }
+    requires accepted { D.accepts desk.now pass.old }
+    ensures accepted { D.accepts desk.now pass.new }
+    ensures number_unchanged { D.pass_number desk.now pass.new ≡ D.pass_number desk.now pass.old }
     ensures listed { ListOutcome (D.step desk.now (plain_key target.now.base.now)) from
         (λ es. WroteAnswers O.items (O.contents out.old) (O.contents out.new)
         (entry_answers (plain_projection_option target.now.projection)
@@ -92,7 +92,7 @@ pub(crate) fn write_listing<D: Desk, O: AnswerSink>(
     Ok(())
 }
 
-// Writes the next entries of a queue, so many, fewer where the log ends.
+// Writes the next `count` entries of a queue, or fewer if the log ends before.
 pub(crate) fn write_next<D: Desk, O: AnswerSink>(
     alloc: Global,
     desk: &D,
@@ -102,9 +102,9 @@ pub(crate) fn write_next<D: Desk, O: AnswerSink>(
     count: u64,
     out: &mut O,
 ) -> Result<(), BatchFault>
-    requires takes { D.accepts desk.now pass.old }
-    ensures takes { D.accepts desk.now pass.new }
-    ensures number { D.pass_number desk.now pass.new ≡ D.pass_number desk.now pass.old }
+    requires accepted { D.accepts desk.now pass.old }
+    ensures accepted { D.accepts desk.now pass.new }
+    ensures number_unchanged { D.pass_number desk.now pass.new ≡ D.pass_number desk.now pass.old }
     ensures taken { TakeOutcome (D.step desk.now (plain_key target.now.base.now)) id count
         (λ es. WroteAnswers O.items (O.contents out.old) (O.contents out.new)
         (entry_answers (plain_projection_option target.now.projection)

@@ -1,4 +1,4 @@
-//! Texts of op messages that sessions share.
+//! A cache of operation messages that sessions share.
 ghost use Rattle.std.specs.Arc.{arc_value};
 ghost use Rattle.std.specs.Prelude.{◌≡◌, IfOk, IfSome};
 ghost use Rattle.sdb_oplog.specs.Keys.{plain_key};
@@ -8,24 +8,28 @@ use sdb_wire::OpText;
 use std::alloc::{AllocError, Global};
 use std::sync::{Arc, Mutex};
 
-// The documents of one shard share so many texts.
+// Number of texts per shard, and number of shards.
 const SLOT_COUNT: usize = 8;
 
 const SHARD_COUNT: usize = 8;
 
-// The longest text that is kept, in bytes.
+// Maximal length in bytes of a cached text.
 const TEXT_LIMIT: usize = 4_096;
 
-/// The texts of the last operations that sessions were told of, so that each is printed once, and copied for others.
-/// It keeps 64 at most, of at most 4,096 bytes each: of the documents of each of eight shards, one for each remainder
-/// of the version by eight. Whoever finds a text's place taken by another thread prints it, and waits for nobody.
+/// A cache of the messages of recent operations, so that each is rendered once and copied for other
+/// subscribers. It has 64 slots for texts of at most 4,096 bytes: eight shards by the version
+/// modulo eight. A thread that finds a slot locked renders the text itself and doesn't wait.
 #[derive(Drop)]
 pub struct OpTextCache {
     slots: Vec<Mutex<Option<Arc<OpText>>>>,
 }
 
 impl OpTextCache {
-    /// Keeps no text yet. Fails only where an allocation does.
+    /// Creates an empty cache.
+    ///
+    /// # Errors
+    ///
+    /// [`AllocError`] if an allocation fails.
     pub fn new(alloc: Global) -> Result<OpTextCache, AllocError> {
         let mut places = Vec::with_capacity(alloc, SHARD_COUNT * SLOT_COUNT)?;
         for _ in 0..SHARD_COUNT * SLOT_COUNT {
@@ -34,7 +38,7 @@ impl OpTextCache {
         Ok(OpTextCache { slots: places })
     }
 
-    // The text that tells the entry of the document. Another that is printed is kept.
+    // Returns the message of the document's entry. A newly rendered one is cached.
     pub(crate) fn get_or_render(
         &self,
         alloc: Global,
@@ -77,7 +81,7 @@ impl OpTextCache {
         }
     }
 
-    // Where the entry's text is kept.
+    // Returns the slot of the entry's text.
     fn slot_of(&self, key: &Key, entry: &Entry) -> Option<&Mutex<Option<Arc<OpText>>>> {
         let place = entry.version() % SLOT_COUNT as u64;
         self.slots.get(key.shard() * SLOT_COUNT + place as usize)

@@ -1,4 +1,4 @@
-//! What is seen through a projection.
+//! Documents and operations as seen through a projection.
 ghost use Rattle.std.specs.Prelude.{◌≡◌, IfOk, option_map, unwrap_or};
 ghost use Rattle.sdb_oplog.specs.Keys.{plain_key};
 ghost use Rattle.sdb_session.specs.ProjectionModel.{base_of, projected_content, projected_value, is_permitted};
@@ -10,8 +10,8 @@ use sdb_projection::{Projection, allowed, project_content, project_data};
 use sdb_value::Json;
 use std::alloc::{AllocError, Global};
 
-// The document that a client asks for: the key that the client names, the document's own, and the projection between
-// them, if there is one.
+// The document of a request: the key that the client names, the base document's key, and the
+// projection if there is one.
 #[derive(Drop)]
 pub(crate) struct DocumentRef<'a> {
     pub key: &'a Key,
@@ -19,7 +19,7 @@ pub(crate) struct DocumentRef<'a> {
     pub projection: Option<&'a Projection>,
 }
 
-// The key of the document, where it isn't the key itself.
+// Returns the base document's key if it differs from the key.
 pub(crate) fn projected_base_key(
     projection: Option<&Projection>,
     key: &Key,
@@ -37,7 +37,7 @@ pub(crate) fn projected_base_key(
     }
 }
 
-// The key that was moved to, or the key itself.
+// Returns the base document's key, or the key itself.
 pub(crate) fn base_key_or<'a>(moved: &'a Option<Key>, key: &'a Key) -> &'a Key
     ensures { plain_key result.now ≡ unwrap_or (option_map plain_key moved.now) (plain_key key.now) }
 {
@@ -47,7 +47,7 @@ pub(crate) fn base_key_or<'a>(moved: &'a Option<Key>, key: &'a Key) -> &'a Key
     }
 }
 
-// The key of the document.
+// Returns the base document's key.
 pub(crate) fn base_key(projection: Option<&Projection>, key: &Key) -> Result<Key, AllocError>
     ensures { IfOk result (λ base.
         plain_key base ≡ base_of (plain_projection_option projection.entry) (plain_key key.now)) }
@@ -61,7 +61,7 @@ pub(crate) fn base_key(projection: Option<&Projection>, key: &Key) -> Result<Key
     }
 }
 
-// Whether the content may be submitted.
+// Returns whether the projection permits the content.
 pub(crate) fn permits(projection: Option<&Projection>, content: &Content) -> bool
     ensures { result ≡ is_permitted (plain_projection_option projection.entry) content.now }
 {
@@ -71,7 +71,7 @@ pub(crate) fn permits(projection: Option<&Projection>, content: &Content) -> boo
     }
 }
 
-// What is shown of a document.
+// Returns the document as seen through the projection.
 pub(crate) fn projected_document(
     alloc: Global,
     projection: Option<&Projection>,
@@ -90,7 +90,7 @@ pub(crate) fn projected_document(
     }
 }
 
-// What is shown of a content, where it isn't the content itself.
+// Returns the content as seen through the projection, or `None` if it is unchanged.
 pub(crate) fn projected_content(
     alloc: Global,
     projection: Option<&Projection>,

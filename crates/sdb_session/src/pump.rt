@@ -1,4 +1,4 @@
-//! Pumps: what waits in the queues of a session.
+//! Pumps: sending the entries that wait in a session's queues.
 ghost use Rattle.std.specs.Prelude.{◌≡◌, ⊤, ℕ, IfOk, OnOk, OnErr, length, map, string_bytes, true};
 ghost use Rattle.std.specs.Result.{is_err};
 ghost use Rattle.sdb_oplog.specs.Keys.{plain_key};
@@ -17,7 +17,7 @@ use sdb_projection::Table;
 use sdb_submit::Desk;
 use std::alloc::AllocError;
 
-/// How many entries were taken, and the texts that are sent of them.
+/// The number of entries read, and the texts to send.
 #[derive(Drop)]
 pub struct Pumped {
     pub taken: u128,
@@ -25,7 +25,11 @@ pub struct Pumped {
 }
 
 impl Session {
-    /// The texts of what was stored meanwhile; see [`Session::pump_to`].
+    /// Returns the texts of entries that wait in the session's queues; see [`Session::pump_to`].
+    ///
+    /// # Errors
+    ///
+    /// [`Ended`] if an allocation fails or the session had ended.
     pub fn pump<D: Desk>(
         &mut self,
         desk: &D,
@@ -33,18 +37,18 @@ impl Session {
         table: &Table,
         max: u64,
     ) -> Result<Pumped, Ended>
-        requires takes { D.accepts desk.now pass.old }
-        ensures takes { D.accepts desk.now pass.new }
-        ensures number { D.pass_number desk.now pass.new ≡ D.pass_number desk.now pass.old }
+        requires accepted { D.accepts desk.now pass.old }
+        ensures accepted { D.accepts desk.now pass.new }
+        ensures number_unchanged { D.pass_number desk.now pass.new ≡ D.pass_number desk.now pass.old }
         ensures session { plain_session self.new ≡ plain_session self.old }
         ensures ended { has_ended self.new ≡ is_err result }
-        ensures again { has_ended self.old ≡ true → is_err result ≡ true }
-        // An ended session asks nobody.
-        ensures asks { has_ended self.old ≡ true → pass.new ≡ pass.old }
-        ensures pumps { IfOk result (λ r. PumpRelation (D.step desk.now) max table.now
+        ensures stays_ended { has_ended self.old ≡ true → is_err result ≡ true }
+        // An ended session doesn't call the desk.
+        ensures no_call_after_end { has_ended self.old ≡ true → pass.new ≡ pass.old }
+        ensures pumped { IfOk result (λ r. PumpRelation (D.step desk.now) max table.now
             (plain_session self.old) pass.old r.taken
             (λ answers. map string_bytes r.texts.items ≡ map answer_text answers) pass.new) }
-        ensures stops { OnErr result (PumpInterrupted (D.step desk.now) max
+        ensures interrupted { OnErr result (PumpInterrupted (D.step desk.now) max
             (plain_session self.old) pass.old pass.new) }
     {
         let mut texts = Vec::new(self.alloc);
@@ -54,12 +58,16 @@ impl Session {
         }
     }
 
-    /// Takes at most `max` entries of each queue, in the order of subscribing, and writes those that
-    /// aren't the session's own: whose source is not its source, or that came through another collection
-    /// name. It says how many entries were taken.
+    /// Reads at most `max` entries from each queue, in the order of the subscriptions, and writes
+    /// those that aren't the session's own. An entry is its own if it has the session's source and
+    /// came through the subscription's collection name. Returns the number of entries read.
     ///
-    /// Where nothing waits it takes no memory. After want of memory the session is [`Ended`], and nothing
-    /// is said of `out`.
+    /// It doesn't allocate if no entry waits.
+    ///
+    /// # Errors
+    ///
+    /// [`Ended`] if an allocation fails or the session had ended. After a failed allocation some
+    /// queues were read, and `out` is unspecified.
     pub fn pump_to<D: Desk, O: AnswerSink>(
         &mut self,
         desk: &D,
@@ -68,19 +76,19 @@ impl Session {
         max: u64,
         out: &mut O,
     ) -> Result<u128, Ended>
-        requires takes { D.accepts desk.now pass.old }
-        ensures takes { D.accepts desk.now pass.new }
-        ensures number { D.pass_number desk.now pass.new ≡ D.pass_number desk.now pass.old }
+        requires accepted { D.accepts desk.now pass.old }
+        ensures accepted { D.accepts desk.now pass.new }
+        ensures number_unchanged { D.pass_number desk.now pass.new ≡ D.pass_number desk.now pass.old }
         ensures session { plain_session self.new ≡ plain_session self.old }
         ensures ended { has_ended self.new ≡ is_err result }
-        ensures again { has_ended self.old ≡ true → is_err result ≡ true }
-        // An ended session asks nobody.
-        ensures asks { has_ended self.old ≡ true → pass.new ≡ pass.old }
-        ensures pumps { IfOk result (λ taken. PumpRelation (D.step desk.now) max table.now
+        ensures stays_ended { has_ended self.old ≡ true → is_err result ≡ true }
+        // An ended session doesn't call the desk.
+        ensures no_call_after_end { has_ended self.old ≡ true → pass.new ≡ pass.old }
+        ensures pumped { IfOk result (λ taken. PumpRelation (D.step desk.now) max table.now
             (plain_session self.old) pass.old taken
             (WroteAnswers O.items (O.contents out.old) (O.contents out.new)) pass.new) }
-        // After an error the first queues were taken from.
-        ensures stops { OnErr result (PumpInterrupted (D.step desk.now) max
+        // After an error the first queues were read.
+        ensures interrupted { OnErr result (PumpInterrupted (D.step desk.now) max
             (plain_session self.old) pass.old pass.new) }
     {
         if let Some(ended) = self.ended {
@@ -100,13 +108,13 @@ impl Session {
         max: u64,
         out: &mut O,
     ) -> Result<u128, AllocError>
-        requires takes { D.accepts desk.now pass.old }
-        ensures takes { D.accepts desk.now pass.new }
-        ensures number { D.pass_number desk.now pass.new ≡ D.pass_number desk.now pass.old }
-        ensures pumps { IfOk result (λ taken. PumpRelation (D.step desk.now) max table.now
+        requires accepted { D.accepts desk.now pass.old }
+        ensures accepted { D.accepts desk.now pass.new }
+        ensures number_unchanged { D.pass_number desk.now pass.new ≡ D.pass_number desk.now pass.old }
+        ensures pumped { IfOk result (λ taken. PumpRelation (D.step desk.now) max table.now
             (plain_session self.now) pass.old taken
             (WroteAnswers O.items (O.contents out.old) (O.contents out.new)) pass.new) }
-        ensures stops { OnErr result (PumpInterrupted (D.step desk.now) max
+        ensures interrupted { OnErr result (PumpInterrupted (D.step desk.now) max
             (plain_session self.now) pass.old pass.new) }
     {
         let mut taken: u128 = 0;
@@ -139,7 +147,7 @@ impl Session {
         Ok(())
     }
 
-    // Whether the entry is of the session's source and came through this collection name.
+    // Returns whether the entry has the session's source and came through this collection name.
     fn is_own(&self, key: &Key, entry: &Entry) -> bool
         ensures { result ≡ is_own_entry (plain_session self.now).source (plain_key key.now) entry.now }
     {
@@ -147,11 +155,11 @@ impl Session {
         arrived.src() == self.source.as_str() && arrived.via() == key.collection.as_str()
     }
 
-    /// Ends the session: closes its queues. It takes no memory.
+    /// Ends the session by closing its queues. It doesn't allocate.
     pub fn end<D: Desk>(self, desk: &D, pass: &mut D::Pass)
-        requires takes { D.accepts desk.now pass.old }
-        ensures takes { D.accepts desk.now pass.new }
-        ensures number { D.pass_number desk.now pass.new ≡ D.pass_number desk.now pass.old }
+        requires accepted { D.accepts desk.now pass.old }
+        ensures accepted { D.accepts desk.now pass.new }
+        ensures number_unchanged { D.pass_number desk.now pass.new ≡ D.pass_number desk.now pass.old }
         ensures closed { CloseAllCalls (D.step desk.now) (plain_session self).subs pass.old pass.new }
     {
         for (_, queue) in self.subscriptions.iter() {

@@ -21,13 +21,13 @@ use sdb_wire::{Answer, Message, empty_echo, parse_message, reply_text};
 use std::alloc::{AllocError, Global};
 use std::sync::Arc;
 
-/// The most pairs of a collection name and an id that one session subscribes to.
+/// Maximal number of subscriptions of one session.
 pub const SUBSCRIPTION_LIMIT: usize = 64;
 
-// The longest message whose scratch is kept, in bytes: 4,096.
+// Maximal length in bytes of a message whose scratch memory is kept.
 const SCRATCH_LIMIT: usize = 4_096;
 
-/// Why a session is at its end: a message, a name or the text of an answer found no memory.
+/// The state of a session that failed to allocate for a message, a name or an answer.
 #[derive(Clone, Copy, Drop)]
 pub struct Ended {
     error: AllocError,
@@ -39,8 +39,8 @@ impl From<Ended> for AllocError {
     }
 }
 
-/// A session: its source, and what it is subscribed to, in the order of subscribing. It keeps 16 names at most, and a
-/// path, which its submissions share.
+/// A session: its source, and its subscriptions in the order in which they were made. It interns at
+/// most 16 names and one path for its submissions.
 #[derive(Drop)]
 pub struct Session {
     pub(crate) alloc: Global,
@@ -49,14 +49,14 @@ pub struct Session {
     pub(crate) names: NameInterner,
     pub(crate) last_path: PathInterner,
     texts: Option<Arc<OpTextCache>>,
-    // Room for reading, kept from message to message.
+    // Scratch memory of the parser, kept between messages.
     scratch: Option<Box<Scratch>>,
     pub(crate) ended: Option<Ended>,
 }
 
 impl Session {
-    /// A session of this source without subscriptions. The source is what a server names it, 1 to 200
-    /// bytes, until the client says who it is.
+    /// Creates a session with a source and without subscriptions. The source has 1 to 200 bytes; a
+    /// client may replace it.
     pub fn new(alloc: Global, id: String) -> Session
         ensures source { (plain_session result).source ≡ string_bytes id }
         ensures subs { (plain_session result).subs ≡ [] }
@@ -74,20 +74,25 @@ impl Session {
         }
     }
 
-    /// Shares the texts of operations with other sessions from now on. Without them it prints each by itself.
+    /// Shares a cache of operation texts with other sessions. Without it the session renders each
+    /// text.
     pub fn use_text_cache(&mut self, texts: Arc<OpTextCache>)
         ensures session { plain_session self.new ≡ plain_session self.old }
-        ensures ended { has_ended self.new ≡ has_ended self.old }
+        ensures ended_unchanged { has_ended self.new ≡ has_ended self.old }
     {
         self.texts = Some(texts);
     }
 
-    // The texts that it shares.
+    // Returns the shared cache of texts.
     pub(crate) fn texts(&self) -> Option<&OpTextCache> {
         self.texts.as_deref()
     }
 
-    /// The opening text, with the source. It fails only for want of memory.
+    /// Returns the opening message, which contains the source.
+    ///
+    /// # Errors
+    ///
+    /// [`AllocError`] if an allocation fails.
     pub fn opening(&self) -> Result<String, AllocError>
         ensures { IfOk result (λ text. string_bytes text ≡ answer_text (init (plain_session self.now).source)) }
     {
@@ -99,7 +104,11 @@ impl Session {
         )
     }
 
-    /// Writes the opening text.
+    /// Writes the opening message.
+    ///
+    /// # Errors
+    ///
+    /// [`AllocError`] if an allocation fails. `out` is then unspecified.
     pub fn opening_to<O: AnswerSink>(&self, out: &mut O) -> Result<(), AllocError>
         ensures { OnOk result (WroteAnswers O.items (O.contents out.old) (O.contents out.new)
             (init (plain_session self.now).source ∷ [])) }
@@ -113,7 +122,11 @@ impl Session {
         )
     }
 
-    /// The texts that answer one message that came at this moment, in order; see [`Session::handle_to`].
+    /// Returns the answers to one message received at `now`, in order; see [`Session::handle_to`].
+    ///
+    /// # Errors
+    ///
+    /// [`Ended`] if an allocation fails outside the desk or the session had ended.
     pub fn handle<D: Desk>(
         &mut self,
         desk: &D,
@@ -122,15 +135,15 @@ impl Session {
         text: &str,
         now: Moment,
     ) -> Result<Vec<String>, Ended>
-        requires takes { D.accepts desk.now pass.old }
-        ensures takes { D.accepts desk.now pass.new }
-        ensures number { D.pass_number desk.now pass.new ≡ D.pass_number desk.now pass.old }
+        requires accepted { D.accepts desk.now pass.old }
+        ensures accepted { D.accepts desk.now pass.new }
+        ensures number_unchanged { D.pass_number desk.now pass.new ≡ D.pass_number desk.now pass.old }
         ensures ended { has_ended self.new ≡ is_err result }
-        ensures again { has_ended self.old ≡ true → is_err result ≡ true }
-        // An ended session asks nobody.
-        ensures asks { has_ended self.old ≡ true →
+        ensures stays_ended { has_ended self.old ≡ true → is_err result ≡ true }
+        // An ended session doesn't call the desk.
+        ensures no_call_after_end { has_ended self.old ≡ true →
             (pass.new ≡ pass.old) × (plain_session self.new ≡ plain_session self.old) }
-        ensures handled { OutcomeOrInterrupted result
+        ensures outcome { OutcomeOrInterrupted result
             (TextOutcome (D.step desk.now) text.now table.now (D.pass_number desk.now pass.old) now
             (plain_session self.old) pass.old)
             (TextInterrupted (D.step desk.now) text.now table.now)
@@ -144,13 +157,17 @@ impl Session {
         }
     }
 
-    /// Writes the answers to one message, in order, and says whether it is a request. What it submits is stored at
-    /// the moment at which it came.
+    /// Writes the answers to one message, in order, and returns whether it is a request. An
+    /// operation is stored with the time `now`.
     ///
-    /// A message whose call of the desk finds no memory is answered E10 and changes nothing but, where its
-    /// queue was open, the next number of queues. Where memory is wanting to read a message, to copy a
-    /// name or to make the text of an answer, the session is [`Ended`], from then on in every call; what
-    /// was stored stays stored, and nothing is said of `out`.
+    /// If an allocation of a desk call fails, the message is answered E10 and changes nothing,
+    /// except that a queue number may be used up.
+    ///
+    /// # Errors
+    ///
+    /// [`Ended`] if an allocation fails for a parsed message, a name or an answer, or if the
+    /// session had ended. Each later call fails too. What was stored stays stored, and `out` is
+    /// unspecified.
     pub fn handle_to<D: Desk, O: AnswerSink>(
         &mut self,
         desk: &D,
@@ -160,18 +177,18 @@ impl Session {
         now: Moment,
         out: &mut O,
     ) -> Result<bool, Ended>
-        requires takes { D.accepts desk.now pass.old }
-        ensures takes { D.accepts desk.now pass.new }
-        ensures number { D.pass_number desk.now pass.new ≡ D.pass_number desk.now pass.old }
+        requires accepted { D.accepts desk.now pass.old }
+        ensures accepted { D.accepts desk.now pass.new }
+        ensures number_unchanged { D.pass_number desk.now pass.new ≡ D.pass_number desk.now pass.old }
         ensures request { IfOk result (λ b. b ≡ is_ok (parse_message text.now).request) }
         ensures ended { has_ended self.new ≡ is_err result }
-        ensures again { has_ended self.old ≡ true → is_err result ≡ true }
-        // An ended session asks nobody.
-        ensures asks { has_ended self.old ≡ true →
+        ensures stays_ended { has_ended self.old ≡ true → is_err result ≡ true }
+        // An ended session doesn't call the desk.
+        ensures no_call_after_end { has_ended self.old ≡ true →
             (pass.new ≡ pass.old) × (plain_session self.new ≡ plain_session self.old) }
-        // After an error nothing was done, or all that the message does but for its answers, or a list of
-        // operations broke off: a queue that was opened for it is closed again then.
-        ensures handled { OutcomeOrInterrupted result
+        // After an error nothing was done, or all except the answers, or a listing was interrupted.
+        // A queue opened for it is then closed again.
+        ensures outcome { OutcomeOrInterrupted result
             (TextOutcome (D.step desk.now) text.now table.now (D.pass_number desk.now pass.old) now
             (plain_session self.old) pass.old)
             (TextInterrupted (D.step desk.now) text.now table.now)
@@ -196,12 +213,12 @@ impl Session {
         now: Moment,
         out: &mut O,
     ) -> Result<bool, AllocError>
-        requires takes { D.accepts desk.now pass.old }
-        ensures takes { D.accepts desk.now pass.new }
-        ensures number { D.pass_number desk.now pass.new ≡ D.pass_number desk.now pass.old }
+        requires accepted { D.accepts desk.now pass.old }
+        ensures accepted { D.accepts desk.now pass.new }
+        ensures number_unchanged { D.pass_number desk.now pass.new ≡ D.pass_number desk.now pass.old }
         ensures request { IfOk result (λ b. b ≡ is_ok (parse_message text.now).request) }
-        ensures ended { self.new.ended ≡ self.old.ended }
-        ensures handled { OutcomeOrInterrupted result
+        ensures ended_unchanged { self.new.ended ≡ self.old.ended }
+        ensures outcome { OutcomeOrInterrupted result
             (TextOutcome (D.step desk.now) text.now table.now (D.pass_number desk.now pass.old) now
             (plain_session self.old) pass.old)
             (TextInterrupted (D.step desk.now) text.now table.now)
@@ -227,10 +244,10 @@ impl Session {
         Ok(is_request)
     }
 
-    // Room to read a message: what the last one left, or some that is new.
+    // Returns scratch memory: that of the last message, or a new one.
     fn take_scratch(&mut self) -> Result<Box<Scratch>, AllocError>
         ensures session { plain_session self.new ≡ plain_session self.old }
-        ensures ended { self.new.ended ≡ self.old.ended }
+        ensures ended_unchanged { self.new.ended ≡ self.old.ended }
     {
         match self.scratch.take() {
             Some(scratch) => Ok(scratch),
@@ -238,23 +255,27 @@ impl Session {
         }
     }
 
-    // Keeps it for the next message. What a long one took goes with it.
+    // Keeps the scratch memory for the next message, unless the message was long.
     fn put_scratch_back(&mut self, scratch: Box<Scratch>, text: &str)
         ensures session { plain_session self.new ≡ plain_session self.old }
-        ensures ended { self.new.ended ≡ self.old.ended }
+        ensures ended_unchanged { self.new.ended ≡ self.old.ended }
     {
         if text.len() <= SCRATCH_LIMIT {
             self.scratch = Some(scratch);
         }
     }
 
-    /// Writes the answer to a message that has no text: one that is too long, not UTF-8, or binary. It is
-    /// E1 and shows nothing of the message.
+    /// Writes E1, with an empty echo, as the answer to a message that is too long, not UTF-8 or
+    /// binary.
+    ///
+    /// # Errors
+    ///
+    /// [`Ended`] if an allocation fails or the session had ended.
     pub fn refuse_unreadable_to<O: AnswerSink>(&mut self, out: &mut O) -> Result<(), Ended>
         ensures session { plain_session self.new ≡ plain_session self.old }
         ensures ended { has_ended self.new ≡ is_err result }
-        ensures again { has_ended self.old ≡ true → is_err result ≡ true }
-        ensures says { OnOk result (WroteAnswers O.items (O.contents out.old) (O.contents out.new)
+        ensures stays_ended { has_ended self.old ≡ true → is_err result ≡ true }
+        ensures output { OnOk result (WroteAnswers O.items (O.contents out.old) (O.contents out.new)
             (failed empty_echo E1 ∷ [])) }
     {
         if let Some(ended) = self.ended {
@@ -268,7 +289,7 @@ impl Session {
         }
     }
 
-    // Each later call answers so.
+    // Ends the session. Each later call returns this error.
     pub(crate) fn end_with_error(&mut self, error: AllocError) -> Ended
         ensures session { plain_session self.new ≡ plain_session self.old }
         ensures ended { has_ended self.new ≡ true }

@@ -1,4 +1,4 @@
-//! Queues that are opened and closed.
+//! Opening and closing of queues.
 ghost use Rattle.std.specs.Prelude.{◌≡◌, option_map};
 ghost use Rattle.sdb_oplog.specs.Keys.{plain_key};
 ghost use Rattle.sdb_session.specs.PumpModel.{TakeCall};
@@ -10,7 +10,7 @@ use sdb_submit::Desk;
 use sdb_subscribe::SubId;
 use std::alloc::{AllocError, Global};
 
-// A queue: the key of its document, and its number there.
+// A queue: its document's key and its number there.
 #[derive(Drop)]
 pub(crate) struct Subscription {
     pub base: Key,
@@ -19,9 +19,9 @@ pub(crate) struct Subscription {
 
 // Closes the queue, if there is one.
 pub(crate) fn close_queue<D: Desk>(desk: &D, pass: &mut D::Pass, queue: Option<&Subscription>)
-    requires takes { D.accepts desk.now pass.old }
-    ensures takes { D.accepts desk.now pass.new }
-    ensures number { D.pass_number desk.now pass.new ≡ D.pass_number desk.now pass.old }
+    requires accepted { D.accepts desk.now pass.old }
+    ensures accepted { D.accepts desk.now pass.new }
+    ensures number_unchanged { D.pass_number desk.now pass.new ≡ D.pass_number desk.now pass.old }
     ensures closes { CloseCalls (D.step desk.now) (option_map (λ s. queue_id_of s.now) queue.entry) pass.old pass.new }
 {
     if let Some(queue) = queue {
@@ -29,7 +29,7 @@ pub(crate) fn close_queue<D: Desk>(desk: &D, pass: &mut D::Pass, queue: Option<&
     }
 }
 
-// The next entries of a queue, at most `max`; none of one that isn't known.
+// Returns the next entries of a queue, at most `max`; none if the queue is unknown.
 pub(crate) fn take_entries<D: Desk>(
     alloc: Global,
     desk: &D,
@@ -38,9 +38,9 @@ pub(crate) fn take_entries<D: Desk>(
     id: SubId,
     max: u64,
 ) -> Result<Vec<Entry>, AllocError>
-    requires takes { D.accepts desk.now pass.old }
-    ensures takes { D.accepts desk.now pass.new }
-    ensures number { D.pass_number desk.now pass.new ≡ D.pass_number desk.now pass.old }
+    requires accepted { D.accepts desk.now pass.old }
+    ensures accepted { D.accepts desk.now pass.new }
+    ensures number_unchanged { D.pass_number desk.now pass.new ≡ D.pass_number desk.now pass.old }
     ensures takes_one { TakeCall (D.step desk.now) max (record { base = plain_key base.now; id = id })
         pass.old (taken_entries_view result) pass.new }
 {
@@ -51,7 +51,7 @@ pub(crate) fn take_entries<D: Desk>(
     }
 }
 
-// How many entries there are from the version that was asked for up to the present one.
+// Returns the number of entries from the requested version to the current one.
 pub(crate) fn first_batch_len(version: Option<u64>, present: u64) -> u64
     ensures { result ≡ first_batch_len version present }
 {

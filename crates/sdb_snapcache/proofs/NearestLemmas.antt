@@ -7,7 +7,7 @@ use Rattle.sdb_value.specs.View.{value_of}
 use Rattle.sdb_value.specs.Value.{Value}
 use Rattle.sdb_value.specs.declared.value.Json.{Json}
 use Rattle.sdb_snapcache.specs.CacheModel.{Snapshot, nearer_of, nearest, snapshot_at_version, without_version, promote_version, promote_nearest, max_version}
-use Rattle.sdb_snapcache.specs.Laws.{nearest_spec, version_of_snapshot_at}
+use Rattle.sdb_snapcache.specs.laws.CacheLaws.{nearest_spec, version_of_snapshot_at}
 
 abbrev pub version_of_snapshot : Snapshot → ℕ
 version_of_snapshot s = s.version

@@ -1,6 +1,6 @@
 pub mod CacheModel
-pub mod Laws
 pub mod Borrows
 pub mod SnapInvariant
 pub mod View
-pub mod Examples
+pub mod laws
+pub mod worked

@@ -56,8 +56,8 @@ impl Cache {
     /// How many snapshots are kept.
     pub fn len(&self) -> usize
         ensures len { result ≡ length self.now }
-        ensures few { length self.now ≤ CACHE_CAPACITY }
-        ensures apart { IsDistinct nat_eq (map (λ s. s.version) self.now) }
+        ensures bound { length self.now ≤ CACHE_CAPACITY }
+        ensures distinct { IsDistinct nat_eq (map (λ s. s.version) self.now) }
     {
         match &self.snapshots {
             Some(kept) => kept.len(),
@@ -134,7 +134,7 @@ fn insert(kept: &mut LruCache<u64, Json>, version: u64, value: Json) -> Result<(
     ensures ok { OnOk result
         (plain_snapshots kept.new.entries ≡ insert_front version (value_of value) (plain_snapshots kept.old.entries)) }
     ensures err { OnErr result (kept.new ≡ kept.old) }
-    ensures eight { HasCapacityEight kept.new }
+    ensures length { HasCapacityEight kept.new }
 {
     drop(kept.put(version, value)?);
     Ok(())

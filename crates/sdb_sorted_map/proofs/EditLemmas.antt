@@ -13,7 +13,7 @@ use Rattle.sdb_chunks.specs.declared.chunked_vec.Repr.{Repr}
 use Rattle.sdb_chunks.specs.declared.chunked_vec.Repr.TheVariants.{Flat, Chunks, Groups}
 use Rattle.sdb_chunks.specs.declared.chunked_vec.ChunkedVec.{ChunkedVec}
 use Rattle.sdb_sorted_map.specs.MapKey.{key_bytes}
-use Rattle.sdb_sorted_map.specs.Laws.{lookup_of_key_index, lookup_none_of_insert_index, keys_of_vec_models}
+use Rattle.sdb_sorted_map.specs.laws.SortedMapLaws.{lookup_of_key_index, lookup_none_of_insert_index, keys_of_vec_models}
 use Rattle.sdb_sorted_map.specs.MapEntry.{entry_key, entry_model}
 use Rattle.sdb_sorted_map.specs.SortedMap.{entry_keys}
 use Rattle.sdb_sorted_map.specs.KeyOrder.{compare_bytes, IsAscending, IsKeyIndex, IsInsertIndex}

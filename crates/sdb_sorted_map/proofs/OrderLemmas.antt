@@ -9,7 +9,7 @@ use Rattle.std.specs.BTreeMap.{insert_entry, is_at}
 use Rattle.std.specs.Cmp.{IsTotalOrder}
 use Rattle.std.proofs.lemmas.Cmp.{nat_list_cmp_total}
 use Rattle.std.proofs.lemmas.Map.Lookups.{exact_bytes}
-use Rattle.sdb_sorted_map.specs.Laws.{compare_equal}
+use Rattle.sdb_sorted_map.specs.laws.SortedMapLaws.{compare_equal}
 use Rattle.sdb_sorted_map.specs.SortedMap.{entry_keys}
 use Rattle.sdb_sorted_map.specs.KeyOrder.{compare_bytes, IsAscending, IsAboveAll, IsBelowAll, IsInsertIndex, IsKeyIndex}
 

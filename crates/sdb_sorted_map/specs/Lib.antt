@@ -1,9 +1,9 @@
 pub mod formers
 pub mod Iter
 pub mod MapKey
-pub mod Laws
 pub mod MapEntry
 pub mod SortedMap
 pub mod KeyOrder
 pub mod Rows
 pub mod SearchModel
+pub mod laws

@@ -24,9 +24,9 @@ trait SortedRun {
     // The place of a key in it.
     fn find(&self, key: &str) -> Result<usize, usize>
         requires ascending { IsAscending (keys self.now) }
-        requires small { length (keys self.now) < 2 ^ 64 }
+        requires bound { length (keys self.now) < 2 ^ 64 }
         ensures found { IfOk result (λ i. IsKeyIndex (keys self.now) key.now i) }
-        ensures gap { IfErr result (λ i. IsInsertIndex (keys self.now) key.now i) };
+        ensures insert_index { IfErr result (λ i. IsInsertIndex (keys self.now) key.now i) };
 }
 
 impl<V> SortedRun for Chunk<MapEntry<V>> {
@@ -96,8 +96,8 @@ fn is_not_before(key: &str, first: Option<&str>) -> bool
 // The place of a key in one block.
 fn find_in_run<V>(members: &[MapEntry<V>], key: &str) -> Result<usize, usize>
     requires { IsAscending (entry_key_bytes members.now) }
-    ensures found { IfOk result (λ i. IsKeyIndex (entry_key_bytes members.now) key.now i) }
-    ensures gap { IfErr result (λ i. IsInsertIndex (entry_key_bytes members.now) key.now i) }
+    ensures key_index { IfOk result (λ i. IsKeyIndex (entry_key_bytes members.now) key.now i) }
+    ensures insert_index { IfErr result (λ i. IsInsertIndex (entry_key_bytes members.now) key.now i) }
 {
     let mut low = 0;
     let mut high = members.len();
@@ -115,7 +115,7 @@ fn find_in_run<V>(members: &[MapEntry<V>], key: &str) -> Result<usize, usize>
 // The keys in the parts from the answer on are above this one.
 fn first_run_above<P: SortedRun>(parts: &[P], key: &str) -> usize
     requires { IsAscending (flat_map P.keys parts.now) }
-    ensures within { result ≤ length parts.now }
+    ensures in_range { result ≤ length parts.now }
     ensures below { IsBelowAll key.now (keys_of_other_runs P.keys parts.now result) }
 {
     let mut low = 0;
@@ -135,7 +135,7 @@ fn first_run_above<P: SortedRun>(parts: &[P], key: &str) -> usize
 // are below it.
 fn run_end<P: SortedRun>(parts: &[P], key: &str) -> usize
     requires { IsAscending (flat_map P.keys parts.now) }
-    ensures within { result ≤ length parts.now }
+    ensures in_range { result ≤ length parts.now }
     ensures above { IsAboveAll key.now (keys_of_first_runs P.keys parts.now (result - 1)) }
     ensures below { IsBelowAll key.now (keys_of_other_runs P.keys parts.now result) }
 {
@@ -164,9 +164,9 @@ fn count_in<P: SortedRun>(parts: &[P]) -> usize
 // The place of a key among parts.
 fn find_in_runs<P: SortedRun>(parts: &[P], key: &str) -> Result<usize, usize>
     requires ascending { IsAscending (flat_map P.keys parts.now) }
-    requires small { length (flat_map P.keys parts.now) < 2 ^ 64 }
+    requires bound { length (flat_map P.keys parts.now) < 2 ^ 64 }
     ensures found { IfOk result (λ i. IsKeyIndex (flat_map P.keys parts.now) key.now i) }
-    ensures gap { IfErr result (λ i. IsInsertIndex (flat_map P.keys parts.now) key.now i) }
+    ensures insert_index { IfErr result (λ i. IsInsertIndex (flat_map P.keys parts.now) key.now i) }
 {
     let end = run_end(parts, key);
     if end == 0 {
@@ -194,9 +194,9 @@ pub(crate) fn count_keys<V>(entries: &ChunkedVec<MapEntry<V>>) -> usize
 /// The index of the key's member, or the one where it can be put.
 pub(crate) fn find_key<V>(entries: &ChunkedVec<MapEntry<V>>, key: &str) -> Result<usize, usize>
     requires ascending { IsAscending (vec_keys entries.now) }
-    requires small { length (vec_keys entries.now) < 2 ^ 64 }
-    ensures found { IfOk result (λ i. IsKeyIndex (vec_keys entries.now) key.now i) }
-    ensures gap { IfErr result (λ i. IsInsertIndex (vec_keys entries.now) key.now i) }
+    requires bound { length (vec_keys entries.now) < 2 ^ 64 }
+    ensures key_index { IfOk result (λ i. IsKeyIndex (vec_keys entries.now) key.now i) }
+    ensures insert_index { IfErr result (λ i. IsInsertIndex (vec_keys entries.now) key.now i) }
 {
     match entries.repr() {
         Repr::Flat(block) => block.find(key),

@@ -31,7 +31,7 @@ impl<V> SortedMap<V> {
     /// No members.
     pub fn new(alloc: Global) -> SortedMap<V>
         ensures members { map_entries result ≡ [] }
-        ensures own { is_unique_map result ≡ true }
+        ensures unique { is_unique_map result ≡ true }
     {
         SortedMap {
             entries: ChunkedVec::from_vec(Vec::new(alloc)),
@@ -40,7 +40,7 @@ impl<V> SortedMap<V> {
 
     /// The members of a list in which their keys ascend.
     pub fn from_entries(entries: ChunkedVec<MapEntry<V>>) -> SortedMap<V>
-        requires small { length (vec_keys entries) < 2 ^ 64 }
+        requires bound { length (vec_keys entries) < 2 ^ 64 }
         requires ascending { IsAscending (vec_keys entries) }
         ensures { map_chunks result ≡ entries }
     {
@@ -49,8 +49,8 @@ impl<V> SortedMap<V> {
 
     /// The list of the members.
     pub fn into_chunks(self) -> ChunkedVec<MapEntry<V>>
-        ensures same { result ≡ map_chunks self }
-        ensures small { length (vec_keys result) < 2 ^ 64 }
+        ensures equal { result ≡ map_chunks self }
+        ensures bound { length (vec_keys result) < 2 ^ 64 }
         ensures ascending { IsAscending (vec_keys result) }
     {
         let SortedMap { entries } = self;
@@ -59,8 +59,8 @@ impl<V> SortedMap<V> {
 
     /// The list of the members.
     pub fn chunks(&self) -> &ChunkedVec<MapEntry<V>>
-        ensures same { result.now ≡ map_chunks self.now }
-        ensures small { length (vec_keys result.now) < 2 ^ 64 }
+        ensures equal { result.now ≡ map_chunks self.now }
+        ensures bound { length (vec_keys result.now) < 2 ^ 64 }
         ensures ascending { IsAscending (vec_keys result.now) }
     {
         &self.entries
@@ -84,7 +84,7 @@ impl<V> SortedMap<V> {
     /// The index of the key's member, or else the one where it can be put.
     pub fn position_of(&self, key: &str) -> Result<usize, usize>
         ensures found { IfOk result (λ i. IsKeyIndex (map_keys self.now) key.now i) }
-        ensures gap { IfErr result (λ i. IsInsertIndex (map_keys self.now) key.now i) }
+        ensures insert_index { IfErr result (λ i. IsInsertIndex (map_keys self.now) key.now i) }
     {
         find_key(&self.entries, key)
     }
@@ -99,7 +99,7 @@ impl<V> SortedMap<V> {
     /// The same members again, as a pointer to them, where they are shared; `None` where they aren't. Fails only
     /// where no more pointers can be counted.
     pub fn clone_shared(&self) -> Result<Option<SortedMap<V>>, AllocError>
-        ensures same { IfOk result (λ o. IfSome o (λ m. map_entries m ≡ map_entries self.now)) }
+        ensures equal { IfOk result (λ o. IfSome o (λ m. map_entries m ≡ map_entries self.now)) }
         ensures shared { IfOk result (λ o. IfSome o (λ m. is_shared_map m ≡ true)) }
         ensures found { IfOk result (λ o. is_some o ≡ is_shared_map self.now) }
     {
@@ -118,7 +118,7 @@ impl<V: Drop> SortedMap<V> {
     pub fn from_sorted(alloc: Global, entries: Vec<MapEntry<V>>) -> Result<SortedMap<V>, AllocError>
         requires { IsAscending (entry_key_bytes entries.items) }
         ensures members { IfOk result (λ m. map_entries m ≡ map key_value entries.items) }
-        ensures own { IfOk result (λ m. is_unique_map m ≡ true) }
+        ensures unique { IfOk result (λ m. is_unique_map m ≡ true) }
     {
         Ok(SortedMap {
             entries: ChunkedVec::from_vec_chunked(alloc, entries)?,
@@ -129,7 +129,7 @@ impl<V: Drop> SortedMap<V> {
     pub fn from_map(alloc: Global, entries: BTreeMap<String, V>) -> Result<SortedMap<V>, AllocError>
         ensures members { IfOk result (λ m. map_entries m
             ≡ map (λ e. (string_bytes e.0, e.1)) entries.entries) }
-        ensures own { IfOk result (λ m. is_unique_map m ≡ true) }
+        ensures unique { IfOk result (λ m. is_unique_map m ≡ true) }
     {
         let mut members = Vec::with_capacity(alloc, entries.len())?;
         for (key, value) in entries {
@@ -178,7 +178,7 @@ impl<V: TryClone> SortedMap<V> {
         ensures err { OnErr result (map_entry_models V.model self.new ≡ map_entry_models V.model self.old) }
         ensures absent { is_unique_map self.old ≡ true → OnErr result
             (lookup (is_at (compare_bytes (string_bytes key))) (map_entry_models V.model self.old) ≡ None) }
-        ensures own { is_unique_map self.old ≡ true → is_unique_map self.new ≡ true }
+        ensures unique { is_unique_map self.old ≡ true → is_unique_map self.new ≡ true }
     {
         match self.position_of(key.as_str()) {
             Ok(index) => {
@@ -213,8 +213,8 @@ impl<V: TryClone> SortedMap<V> {
         ensures value { IfOk result (λ o. option_map V.model o
             ≡ lookup (is_at (compare_bytes key.now)) (map_entry_models V.model self.old)) }
         ensures err { OnErr result (map_entry_models V.model self.new ≡ map_entry_models V.model self.old) }
-        ensures own { is_unique_map self.old ≡ true → is_unique_map self.new ≡ true }
-        ensures shared { OnErr result (is_unique_map self.old ≡ false) }
+        ensures unique { is_unique_map self.old ≡ true → is_unique_map self.new ≡ true }
+        ensures shared_on_err { OnErr result (is_unique_map self.old ≡ false) }
     {
         match self.position_of(key) {
             Ok(index) => match self.entries.remove(alloc, index)? {

@@ -1,4 +1,4 @@
--- What a commit of the shard is to the attempt.
+-- A commit of the shard as a commit of the attempt.
 use Rattle.std.proofs.Common.{◌≡◌, ℕ, ◌+◌, ◌<◌, List, length, Bool, true, false, ◌||◌, nat_eq, Option, Some, None, inl, inr, refl, sym, ap, ◌∙◌, arith}
 use Rattle.std.specs.Option.{is_some}
 use Rattle.std.proofs.lemmas.Bool.{eq-eqb, eqb-true}
@@ -7,7 +7,7 @@ use Rattle.sdb_oplog.specs.declared.codes.Code.TheVariants.{E10}
 use Rattle.sdb_oplog.specs.Plain.{PlainEntry, PlainSubmission}
 use Rattle.sdb_oplog.specs.Keys.{PlainKey, Logs, with_log}
 use Rattle.sdb_oplog.specs.Decide.{PlainReply, refused, decide, decide_allocates}
-use Rattle.sdb_oplog.specs.Laws.{decide_not_out_of_memory}
+use Rattle.sdb_oplog.specs.laws.LogLaws.{decide_not_out_of_memory}
 use Rattle.sdb_desk.specs.ShardView.{logs_of, queues_of}
 use Rattle.sdb_desk.specs.Machine.{PlainLook, PlainAttempt, decided, moved, CommitAllocates, CommitsOrOutOfMemory, DecidesOrOutOfMemory}
 use Rattle.sdb_desk.specs.declared.shard.Shard.{Shard}
@@ -27,7 +27,7 @@ stored_core m n k s now l q = λ i. record { logs = l i; issued_ids = λ j. (q i
 
 -- ---- tries
 
--- an attempt that a work is of
+-- the attempt of a work
 abbrev pub attempt_of : PlainKey → PlainAttempt → ℕ → Bool → plain.PlainOpenAttempt
 attempt_of k w tries worked = record { key = k; submission = w.submission; looked_version = w.look.version; tries = tries; is_worked = worked }
 
@@ -60,7 +60,7 @@ tries_wanting m n k w now r tries worked o few is h q same =
       (λ d. commit_allocates (logs_of m) (logs_of n) k w now r is h (eqb-true (length (logs_of m k)) w.look.version (or_first (nat_eq (length (logs_of m k)) w.look.version) (nat_eq tries 8) more d))),
     )
 
--- an attempt that wasn't worked, of a log that has moved
+-- an unworked attempt for a log that has grown
 pub unworked_wanting : (m : Shard) (a o : plain.PlainOpenAttempt) (now : ℕ) → a.tries < 8 → (length (logs_of m a.key) ≡ a.looked_version → ⊥) → o ≡ a → AttemptCommits (one_step_of_shard m) a now plain.out_of_memory (one_step_of_shard m) (Some o)
 unworked_wanting m a o now few apart same =
     let more : nat_eq a.tries 8 ≡ false = grind (arith, nat_tests) in (
@@ -69,7 +69,7 @@ unworked_wanting m a o now few apart same =
       (λ d. absurd (apart (eqb-true (length (logs_of m a.key)) a.looked_version (or_first (nat_eq (length (logs_of m a.key)) a.looked_version) (nat_eq a.tries 8) more d)))),
     )
 
--- an attempt must decide on the ninth try, and where the log is as long as looked at
+-- an attempt decides on the ninth try, and if the log hasn't grown since the look
 pub last_decides : (m : Shard) (a : plain.PlainOpenAttempt) → a.tries ≡ 8 → plain.is_deciding (one_step_of_shard m) a ≡ true
 last_decides m a last = let b = nat_eq (length (logs_of m a.key)) a.looked_version in ap (λ t. b || nat_eq t 8) last ∙ or_true b
 
@@ -96,7 +96,7 @@ tries_moved m n k w now l tries worked o few h q is =
       ap Some (is ∙ ap (λ v. record { key = k; submission = w.submission; looked_version = v; tries = tries + 1; is_worked = false }) again),
     )
 
--- ---- the ninth
+-- ---- the ninth try
 
 pub now_wanting : (m n : Shard) (a : plain.PlainOpenAttempt) (now : ℕ) (r : PlainReply) → r ≡ refused E10 → DecidesOrOutOfMemory (logs_of m) a.key a.submission now r (logs_of n) → queues_of n ≡ queues_of m → AttemptCommits (one_step_of_shard m) a now plain.out_of_memory (one_step_of_shard n) (Some a)
 now_wanting m n a now r is (inl h) q = (same_core m n h.1 q, refl, (λ d. h.2))

@@ -1,4 +1,4 @@
--- Takes go on where the last one of that session and key ended.
+-- Takes continue where the last one of that session and key ended.
 use Rattle.std.proofs.Common.{◌≡◌, ℕ, ◌+◌, ◌≤◌, ◌<◌, List, [], ◌∷◌, ◌++◌, length, take, drop, Bool, true, false, cond, nat_eq, nat_lt, Option, Some, None, Result, Ok, Err, option_map, IfSome, refl, sym, ap, ◌∙◌, subst, length-append, length-drop, arith}
 use Rattle.std.proofs.lemmas.List.{take-append-le, drop-append-le, length-take}
 use Rattle.std.proofs.lemmas.Bool.{eqb-true}
@@ -11,7 +11,7 @@ use Rattle.sdb_oplog.specs.declared.codes.Code.{Code}
 use Rattle.sdb_oplog.specs.declared.codes.Code.TheVariants.{E1, E2, E3, E4, E5, E6, E7, E8, E9, E10, E11}
 use Rattle.sdb_subscribe.specs.Queue.{queue}
 use Rattle.sdb_steps.specs.QueuePosition.{QueuePosition, entries_at_position}
-use Rattle.sdb_desk.specs.Laws.{eq_of_keys_equal}
+use Rattle.sdb_desk.specs.laws.KeyLaws.{eq_of_keys_equal}
 use Rattle.sdb_steps.specs.OneStep as machine
 use Rattle.sdb_steps.specs.OneStep.{OneStep, Event, Legal, empty_machine, start_result, subscribed}
 use Rattle.sdb_steps.specs.Picks as plain
@@ -28,7 +28,7 @@ no_length : (l : List PlainEntry) → length l ≡ 0 → l ≡ []
 no_length [] h = refl
 no_length (e ∷ l) h = absurd (omega (arith, h))
 
--- what was taken of a log stands there in a longer one
+-- entries read from a log are at the same positions in an extension of it
 still_by : (b : Bool) (old more : List PlainEntry) (from max : ℕ) → nat_lt (length old) from ≡ b → take (length (queue old from max)) (drop from (old ++ more)) ≡ queue old from max
 still_by true old more from max is =
     let past : length (drop from old) ≡ 0 = let k : length old < from = grind (arith, nat_tests) in omega (arith, k, length-drop from old) in
@@ -48,7 +48,7 @@ next_is old end q max g =
 
 -- ---- one step of a session
 
--- what is followed of a session is what its queues are
+-- the tracked positions of a session are those of its queues
 abbrev TracksQueues : (PlainKey → Option QueuePosition) → SessionState → Type 0
 TracksQueues f x = (j : PlainKey) → f j ≡ x.queues j
 
@@ -59,7 +59,7 @@ record ContinuesAfterStep (f : PlainKey → Option QueuePosition) (act : StepKin
   pub tracks : (j : PlainKey) → position_after_step j act a (f j) ≡ y.queues j
   pub continued : ContinuesFromPosition end f act a
 
--- of what comes of an effect
+-- after an effect
 abbrev EffectContinues : OneStep → (PlainKey → Option QueuePosition) → StepKind → Effect → Logs → Type 0
 EffectContinues m f act (event e y) end = ContinuesAfterStep f act (reply_answer (machine.reply_to_event m e)) y end
 EffectContinues m f act (notice n y) end = ContinuesAfterStep f act (notice_answer n) y end
@@ -94,7 +94,7 @@ keeps_commit : (m : OneStep) (f : PlainKey → Option QueuePosition) (x : Sessio
 keeps_commit m f x now None end t = record { tracks = t; continued = tt }
 keeps_commit m f x now (Some a) end t = keeps_tried m f x now a (plain.is_deciding m a) end t
 
--- of k, or of another key
+-- at k or at another key
 put_same : (b : Bool) (p o u : Option QueuePosition) → o ≡ u → cond b p o ≡ cond b p u
 put_same true p o u e = refl
 put_same false p o u e = e
@@ -103,7 +103,7 @@ kept_refused : (f : PlainKey → Option QueuePosition) (x : SessionState) (k : P
     → ContinuesAfterStep f (plain.subscribe k v) (reply_answer (subscribed r)) x end
 kept_refused f x k v c r end is t = subst (λ (u : Result ℕ Code). ContinuesAfterStep f (plain.subscribe k v) (reply_answer (subscribed u)) x end) (sym is) (record { tracks = t; continued = tt })
 
--- a start is the version that was named
+-- a start is the requested version
 start_is_named_version : (v : Option ℕ) (n start : ℕ) (b c : Bool) → result_and_then (λ s. cond c (Err E11) (Ok s)) (cond b (Err E4) (Ok (unwrap_or v n))) ≡ Ok start → IfSome v (λ w. start ≡ w)
 start_is_named_version None n start b c h = tt
 start_is_named_version (Some w) n start true c h = absurd (cc)
@@ -132,7 +132,7 @@ keeps_subscribe m f x k v (Err E9) end is g t = kept_refused f x k v E9 (start_r
 keeps_subscribe m f x k v (Err E10) end is g t = kept_refused f x k v E10 (start_result m k v) end is t
 keeps_subscribe m f x k v (Err E11) end is g t = record { tracks = t; continued = tt }
 
--- what was read of k goes on, and of another key is as it was
+-- the position of k advances, and those of other keys are unchanged
 read_same : (f : PlainKey → Option QueuePosition) (x : SessionState) (k j : PlainKey) (es : List PlainEntry) (q : QueuePosition) (b : Bool) → keys_equal k j ≡ b → x.queues k ≡ Some q → TracksQueues f x
     → cond b (option_map (position_after_take es) (f j)) (f j) ≡ cond b (Some (position_after_take es q)) (x.queues j)
 read_same f x k j es q true is has t = ap (option_map (position_after_take es)) (t j ∙ ap x.queues (sym (eq_of_keys_equal k j is)) ∙ has)
@@ -165,7 +165,7 @@ keeps_deed m f i x (plain.take k max) end g t = keeps_take m f x k max (x.queues
 keeps_deed m f i x (plain.unsubscribe k) end g t = keeps_close m f x k (x.queues k) end t
 keeps_deed m f i x (plain.forget k) end g t = record { tracks = t; continued = tt }
 
--- where memory is wanting nothing is read
+-- a step that fails to allocate reads nothing
 kept_none : (f : PlainKey → Option QueuePosition) (act : StepKind) (end : Logs) → ((j : PlainKey) → position_after_step j act out_of_memory (f j) ≡ f j) × ContinuesFromPosition end f act out_of_memory
 kept_none f (plain.begin k src seq v content) end = ((λ j. refl), tt)
 kept_none f plain.work end = ((λ j. refl), tt)

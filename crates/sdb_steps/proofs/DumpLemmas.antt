@@ -1,4 +1,4 @@
--- What the dump of the last world is.
+-- The dump of the last world.
 use Rattle.std.proofs.Common.{◌≡◌, ℕ, ◌⊎◌, inl, inr, List, [], ◌∷◌, ◌++◌, map, Option, Result, Ok, Err, OnOk, IfOk, IsErrOf, refl, sym, ap, ◌∙◌, subst}
 use Rattle.std.specs.Io.KnownBytes.{Appends}
 use Rattle.std.proofs.KnownBytes.{Appends-nil, Appends-trans}
@@ -20,16 +20,16 @@ use Rattle.sdb_steps.specs.RunOutput.{StepWithoutAnswer, EndsWithLogs, WroteWorl
 use Rattle.sdb_steps.specs.declared.world_dump.SilentRunner.{SilentRunner}
 use Rattle.sdb_steps.proofs.RunLemmas.{run_none, run_on, legal_run}
 
--- as a world takes a line that it doesn't answer
+-- a line that a world runs without answering
 abbrev pub WorldTakesLine : SilentRunner → Option (List ℕ) → List ℕ → SilentRunner → Type 0
 WorldTakesLine w line answer v =
     StepWithoutAnswer (reading_step line) (one_step_of_world w.world) (sessions_of w.world) answer (one_step_of_world v.world) (sessions_of v.world)
 
--- a step is taken, whatever its answer
+-- a step is run, whatever its answer
 pub step_without_answer : (r : Result PlainSessionStep Code) (s : PlainSessionStep) (m n : OneStep) (w v : SessionStates) (a : PlainStepAnswer) → r ≡ Ok s → IsStep m w s a n v → StepWithoutAnswer r m w [] n v
 step_without_answer r s m n w v a e h = subst (λ (q : Result PlainSessionStep Code). StepWithoutAnswer q m w [] n v) (sym e) (refl, (a, h))
 
--- the steps among these readings, with some answers, of which nothing was written
+-- the steps among these readings, with some answers, and no output
 record RunWithoutAnswers (m : OneStep) (w : SessionStates) (readings : List (Result PlainSessionStep Code)) (text : List ℕ) (n : OneStep) (v : SessionStates) : Type 0 where
   pub answers : List PlainStepAnswer
   pub steps : AreSteps m w (steps_in readings) answers n v
@@ -62,7 +62,7 @@ run_leaves_logs s t input text new fresh h =
     let l = legal_run steps r.answers (one_step_of_world t.world) (sessions_of t.world) all in
     record { answers = r.answers; events = l.0; sessions = sessions_of t.world; picks = l.1; legal = l.2 }
 
--- nothing was written
+-- the output is unchanged
 pub nothing_written : (s t : SilentRunner) (input : List (Option (List ℕ))) (old new : Option (List ℕ)) → AppendsAnswers WorldTakesLine s input t [] old new → Appends old new []
 nothing_written s t input old new h = subst (Appends old new) (run_without_answers s t input h.bytes h.run).nothing h.wrote
 
@@ -75,7 +75,7 @@ unwritten_front s input old new h =
     let (bytes, w, (rest, is)) = h.wrote in
     inl (subst (Appends old new) (front_none bytes rest (sym (run_without_answers s h.last h.taken h.bytes h.run).nothing ∙ is)) w)
 
--- the dump is written behind that
+-- the dump is appended to it
 pub dump_written : (s t : SilentRunner) (input : List (Option (List ℕ))) (old mid new : Option (List ℕ)) (n : ℕ) → one_step_of_world s.world ≡ empty_machine → sessions_of s.world ≡ empty_sessions → AppendsAnswers WorldTakesLine s input t [] old mid
     → WroteDump (one_step_of_world t.world).logs mid new → HasEntryCount (one_step_of_world t.world).logs n → WroteWorldDump input old new n
 dump_written s t input old mid new n first fresh h (text, is, w) counted = record {
@@ -96,7 +96,7 @@ dumped_front s t input old mid new first fresh h (inr (text, is, (bytes, w, fron
 
 -- ---- faults
 
--- what holds but for an error holds where there is none
+-- a statement that holds except for an error holds for a success
 no_error : {A E P : Type 0} {x : A} {e : E} → P ⊎ (◌≡◌ {A = Result A E} (Ok x) (Err e)) → P
 no_error (inl p) = p
 no_error (inr q) = cc

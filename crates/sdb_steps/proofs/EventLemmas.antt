@@ -1,4 +1,4 @@
--- What comes of a step, and runs step by step.
+-- The outcome of a step, and runs step by step.
 use Rattle.std.proofs.Common.{◌≡◌, List, [], ◌∷◌, ◌++◌, refl, sym, ap, ◌∙◌, subst, append_assoc}
 use Rattle.sdb_oplog.specs.Keys.{Logs}
 use Rattle.sdb_steps.specs.OneStep.{OneStep, Event, EventReply, Legal, empty_machine, reply_to_event, machine_after_event, replies_to_events, machine_after_events}
@@ -62,7 +62,7 @@ steps_from m w v (s ∷ steps) (a ∷ answers) events (now, later, mid, split, o
     subst (λ (n : OneStep). AreSteps (machine_after_events m now) mid steps answers n v) (sym (ap (machine_after_events m) split ∙ after_more m now later)) (steps_from (machine_after_events m now) mid v steps answers later rest t.rest) in
     (machine_after_events m now, mid, (now, one, t.told, refl), on)
 
--- a run, step by step, and its logs at the end
+-- a run step by step, and its final logs
 pub legal_steps : (steps : List PlainSessionStep) (answers : List PlainStepAnswer) (events : List Event) (w : SessionStates) (logs : Logs) → Picks steps answers events w → Legal events (replies_in answers) logs
     → (n : OneStep) × AreSteps empty_machine empty_sessions steps answers n w × (n.logs ≡ logs)
 legal_steps steps answers events w logs picked legal =
@@ -70,14 +70,14 @@ legal_steps steps answers events w logs picked legal =
     let told : replies_to_events empty_machine f.later ≡ replies_in answers = ap (replies_to_events empty_machine) (sym f.split) ∙ legal.replies_are in
     (machine_after_events empty_machine f.later, steps_from empty_machine empty_sessions w steps answers f.later f.picks told, ap (λ (es : List Event). (machine_after_events empty_machine es).logs) (sym f.split) ∙ legal.logs_are)
 
--- ---- what comes of a step
+-- ---- the outcome of a step
 
--- what comes of an effect
+-- the answer, the machine and the session that follow from an effect
 abbrev pub EffectRelation : OneStep → Effect → PlainStepAnswer → OneStep → SessionState → Type 0
 EffectRelation m (event e y) answer n x = (answer ≡ reply_answer (reply_to_event m e)) × (n ≡ machine_after_event m e) × (x ≡ y)
 EffectRelation m (notice a y) answer n x = (answer ≡ notice_answer a) × (n ≡ m) × (x ≡ y)
 
--- what comes of a step: where memory is wanting, all is as it was
+-- the outcome of a step; if an allocation fails, all is unchanged
 abbrev pub StepRelation : OneStep → SessionStates → PlainSessionStep → PlainStepAnswer → OneStep → SessionStates → Type 0
 StepRelation m w s out_of_memory n v = (n ≡ m) × (v ≡ w)
 StepRelation m w s answer n v = (x : SessionState) × EffectRelation m (effect m s.session (w s.session) s.act) answer n x × (v ≡ with_session w s.session x)

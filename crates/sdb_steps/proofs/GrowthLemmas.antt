@@ -4,8 +4,8 @@ use Rattle.std.specs.Result.{is_ok}
 use Rattle.sdb_oplog.specs.Plain.{PlainEntry}
 use Rattle.sdb_oplog.specs.Keys.{PlainKey, Logs, keys_equal}
 use Rattle.sdb_oplog.specs.Decide.{decide, IsMade}
-use Rattle.sdb_oplog.specs.Laws.{decide_extends, made_of_decide}
-use Rattle.sdb_desk.specs.Laws.{eq_of_keys_equal}
+use Rattle.sdb_oplog.specs.laws.LogLaws.{decide_extends, made_of_decide}
+use Rattle.sdb_desk.specs.laws.KeyLaws.{eq_of_keys_equal}
 use Rattle.sdb_steps.specs.OneStep as machine
 use Rattle.sdb_steps.specs.OneStep.{OneStep, Event, start_result, machine_after_event, machine_after_events, empty_machine}
 use Rattle.sdb_steps.specs.Picks.{SessionState, SessionStates, PlainSessionStep, PlainStepAnswer, reply_answer, notice_answer, out_of_memory, Effect, event, notice, effect}
@@ -67,7 +67,7 @@ grows_steps m n w v [] (a ∷ answers) k h = absurd h
 grows_steps m n w v (s ∷ steps) [] k h = absurd h
 grows_steps m n w v (s ∷ steps) (a ∷ answers) k (o, mid, one, rest) = grows_then (m.logs k) (o.logs k) (n.logs k) (grows_step m o w mid s a k one) (grows_steps o n mid v steps answers k rest)
 
--- ---- logs that are made
+-- ---- made logs
 
 made_at : (b : Bool) (l old : List PlainEntry) → IsMade l → IsMade old → IsMade (cond b l old)
 made_at true l old h k = h

@@ -1,4 +1,4 @@
--- Looks that stay looks while logs grow.
+-- Looks stay valid while logs grow.
 use Rattle.std.proofs.Common.{◌≡◌, ℕ, zero, suc, ◌<◌, ◌++◌, List, [], ◌∷◌, length, get_or, slice_get, Option, Some, None, inl, inr, refl, sym, ◌∙◌, subst}
 use Rattle.std.specs.List.{slice_set}
 use Rattle.std.proofs.lemmas.Option.{slice_get_read}
@@ -6,10 +6,11 @@ use Rattle.sdb_oplog.specs.declared.codes.Code.TheVariants.{E10}
 use Rattle.sdb_oplog.specs.Plain.{PlainEntry, PlainSubmission}
 use Rattle.sdb_oplog.specs.Keys.{PlainKey, Logs}
 use Rattle.sdb_oplog.specs.Decide.{PlainReply, refused}
-use Rattle.sdb_oplog.specs.Laws.{decide_not_out_of_memory}
-use Rattle.sdb_desk.specs.LookLaws.{IsLook, is_look_now, is_look_extended}
+use Rattle.sdb_oplog.specs.laws.LogLaws.{decide_not_out_of_memory}
+use Rattle.sdb_desk.specs.Looks.{IsLook}
+use Rattle.sdb_desk.specs.laws.LookLaws.{is_look_now, is_look_extended}
 use Rattle.sdb_desk.specs.Machine.{PlainAttempt, PlainLook, look_at, decided, moved, CommitsOrOutOfMemory, DecidesOrOutOfMemory}
-use Rattle.sdb_submit.specs.Laws.{moved_is_look, out_of_memory_unchanged}
+use Rattle.sdb_submit.specs.laws.SubmitLaws.{moved_is_look, out_of_memory_unchanged}
 use Rattle.sdb_steps.specs.OneStep.{OneStep}
 use Rattle.sdb_steps.specs.Picks as plain
 use Rattle.sdb_steps.specs.Picks.{StepKind, PlainStepAnswer, Effect, event, notice, reply_answer, notice_answer, out_of_memory, effect}
@@ -66,7 +67,7 @@ put_in logs (x ∷ xs) zero (suc j) y h all = all (suc j)
 put_in logs (x ∷ xs) (suc i) zero y h all = all zero
 put_in logs (x ∷ xs) (suc i) (suc j) y h all = put_in logs xs i j y h (λ k. all (suc k))
 
--- one session takes a step, and the others stay
+-- one session runs a step, and the others are unchanged
 pub looked_set : (logs new : Logs) (xs : List Session) (i : ℕ) (y : Session) → LogsExtend logs new → AllHaveLookAt logs xs → HasLookAt new y.attempt → AllHaveLookAt new (slice_set xs i y)
 looked_set logs new xs i y g all h j = put_in new xs i j y h (λ k. grown_in logs new (slice_get xs k) g (all k))
 
@@ -82,7 +83,7 @@ looked_more logs [] x h all (suc n) = tt
 looked_more logs (y ∷ xs) x h all zero = all zero
 looked_more logs (y ∷ xs) x h all (suc n) = looked_more logs xs x h (λ m. all (suc m)) n
 
--- ---- a step lets logs grow
+-- ---- a step extends logs
 
 grows_effect : (m n : OneStep) (d : Effect) (a : PlainStepAnswer) (x : plain.SessionState) (k : PlainKey) → FollowsEffect m d a n x → LogExtends (m.logs k) (n.logs k)
 grows_effect m n (event e y) a x k h = subst (λ (o : OneStep). LogExtends (m.logs k) (o.logs k)) (sym h.1) (grows_next m e k)

@@ -1,4 +1,4 @@
--- What holds of a log that is made.
+-- Properties of a made log.
 use Rattle.std.proofs.Common.{◌≡◌, ℕ, zero, suc, ◌+◌, List, [], ◌∷◌, ◌++◌, length, take, Bool, true, false, cond, ◌&&◌, Option, Some, None, Result, Ok, Err, option_map, nat_eq, nat_lt, refl, sym, ap, ◌∙◌, append_assoc, length-append, arith}
 use Rattle.std.proofs.lemmas.Bool.{eq-eqb}
 use Rattle.std.proofs.lemmas.Slice.Eq.{bytes_eq-Decides}
@@ -12,7 +12,7 @@ use Rattle.sdb_oplog.specs.Snap.{apply_content, snap, document_of, stored_at, ha
 use Rattle.sdb_oplog.specs.Decide.{decide, Decision, stored, repeated, rebased_content, append_decided, base_version, missed_entries, new_entry, IsMadeFrom, IsMade}
 use Rattle.sdb_oplog.specs.declared.codes.Code.{Code}
 use Rattle.sdb_oplog.specs.declared.codes.Code.TheVariants.{E4, E11}
-use Rattle.sdb_oplog.specs.Laws.{snap_one, decides_repeat}
+use Rattle.sdb_oplog.specs.laws.LogLaws.{snap_one, decides_repeat}
 use Rattle.sdb_steps.proofs.RunLemmas.{append_nil}
 
 -- ---- stored once
@@ -49,7 +49,7 @@ snap_of_decide_cond true b r m e = cc
 snap_of_decide_cond false true r m e = cc
 snap_of_decide_cond false false r m e = e
 
--- what is settled has an effect
+-- a rebased content that is accepted applies
 applies_of_rebased : (log : List PlainEntry) (s : PlainSubmission) (m : PlainContent) → rebased_content log s ≡ Ok m → is_some (result_ok (apply_content m (document_of log))) ≡ true
 applies_of_rebased log s m e =
     snap_of_decide (rebase s.content (missed_entries log s)) (λ k. apply_content k (document_of log)) m
@@ -59,7 +59,7 @@ is_document : (o : Option (Option Value)) → is_some o ≡ true → o ≡ Some 
 is_document None h = cc
 is_document (Some d) h = refl
 
--- a log lives on with what is stored
+-- a log with a document still has one after an append
 lives_more : (log : List PlainEntry) (s : PlainSubmission) (m : PlainContent) (e : PlainEntry) → rebased_content log s ≡ Ok m → is_some (snap log) ≡ true → e.content ≡ m → is_some (snap (log ++ e ∷ [])) ≡ true
 lives_more log s m e h lives is =
     ap is_some (snap_one log e None (document_of log) (is_document (snap log) lives)) ∙ ap (λ x. is_some (result_ok (apply_content x (document_of log)))) is ∙ applies_of_rebased log s m h
@@ -85,7 +85,7 @@ lives_from before (e ∷ es) (suc v) h lives =
 pub lives_all : (log : List PlainEntry) (v : ℕ) → IsMade log → is_some (snap (take v log)) ≡ true
 lives_all log v h = lives_from [] log v h refl
 
--- ---- resent
+-- ---- resent operations
 
 stored_at_of_tail : (b : Bool) (o p : Option ℕ) (i : ℕ) → cond b (Some 0) (option_map (λ k. k + 1) o) ≡ None → (o ≡ None → p ≡ Some i) → cond b (Some 0) (option_map (λ k. k + 1) p) ≡ Some (suc i)
 stored_at_of_tail true o p i e h = cc
@@ -99,7 +99,7 @@ found_later s n (x ∷ log) more e none is = stored_at_of_tail (has_identifier s
 has_own_identifier : (e : PlainEntry) → has_identifier e.arrived.src e.arrived.seq e ≡ true
 has_own_identifier e = rw (eq-eqb e.arrived.seq e.arrived.seq refl, (bytes_eq-Decides e.arrived.src e.arrived.src).1 refl)
 
--- an entry that is the first of its source and number answers each repeat
+-- the first entry of its source and seq answers each duplicate
 repeat_of : (before later : List PlainEntry) (e : PlainEntry) (again : PlainSubmission) (now : ℕ) → stored_at e.arrived.src e.arrived.seq before ≡ None → again.src ≡ e.arrived.src → again.seq ≡ e.arrived.seq
     → decide (before ++ e ∷ later) again now ≡ record { reply = repeated (length before); log = before ++ e ∷ later }
 repeat_of before later e again now none src seq =
@@ -116,7 +116,7 @@ pub repeats_all : (before later : List PlainEntry) (e : PlainEntry) (again : Pla
     → decide (before ++ e ∷ later) again now ≡ record { reply = repeated (length before); log = before ++ e ∷ later }
 repeats_all before later e again now h src seq = repeat_of before later e again now (not_stored_before before e (made_entry [] before later e h)) src seq
 
--- what was stored, and where
+-- the stored entry and its version
 record IsStoredAt (log : List PlainEntry) (s : PlainSubmission) (v : ℕ) (d : Decision) : Type 0 where
   pub none : stored_at s.src s.seq log ≡ None
   pub place : v ≡ length log

@@ -1,4 +1,4 @@
--- What a run over lines writes.
+-- The output of a run over lines.
 use Rattle.std.proofs.Common.{◌≡◌, ℕ, List, [], ◌∷◌, ◌++◌, map, Option, None, Some, IfSome, Result, Ok, Err, OnOk, OnErr, refl, sym, ap, ◌∙◌, subst, append-nil}
 use Rattle.std.specs.Io.KnownBytes.{Appends}
 use Rattle.sdb_lines.specs.Runs as lines
@@ -13,11 +13,11 @@ use Rattle.sdb_steps.specs.RunOutput.{StepOrRefusal, RunText, WroteRun, WroteRun
 use Rattle.sdb_steps.specs.declared.world.World.{World}
 use Rattle.sdb_steps.proofs.RunLemmas.{run_none, run_on, legal_run}
 
--- as a world takes a line
+-- a line that a world runs
 abbrev pub WorldTakesLine : World → Option (List ℕ) → List ℕ → World → Type 0
 WorldTakesLine w line answer v = StepOrRefusal (reading_step line) (one_step_of_world w) (sessions_of w) answer (one_step_of_world v) (sessions_of v)
 
--- the steps among these readings, with their answers, and what was written
+-- the steps among these readings, with their answers and the output
 record RunOutputSplit (m : OneStep) (w : SessionStates) (readings : List (Result PlainSessionStep Code)) (text : List ℕ) (n : OneStep) (v : SessionStates) : Type 0 where
   pub answers : List PlainStepAnswer
   pub steps : AreSteps m w (steps_in readings) answers n v
@@ -60,7 +60,7 @@ wrote_all s t input old new first fresh h = (h.bytes, run_from_empty s t input h
 pub wrote_front : (s : World) (input : List (Option (List ℕ))) (old new : Option (List ℕ)) → one_step_of_world s ≡ empty_machine → sessions_of s ≡ empty_sessions → AppendsAnswerPrefix WorldTakesLine s input [] old new → WroteRunPrefix input old new
 wrote_front s input old new first fresh h = (h.taken, h.bytes, h.from_first, run_from_empty s h.last h.taken h.bytes first fresh h.run, h.wrote)
 
--- nothing is written where no line was taken
+-- without lines there is no output
 pub wrote_nothing : (input : List (Option (List ℕ))) (old : Option (List ℕ)) → WroteRunPrefix input old old
 wrote_nothing input old =
     let l = legal_run [] [] empty_machine empty_sessions (run_none empty_machine empty_sessions [] refl refl refl) in

@@ -1,4 +1,4 @@
--- What commits were answered are places in the logs at the end.
+-- Answers to commits are versions in the final logs.
 use Rattle.std.proofs.Common.{◌≡◌, ℕ, ◌+◌, List, [], ◌∷◌, ◌++◌, Bool, true, false, cond, Option, Some, None, Result, Ok, Err, option_map, nat_eq, refl, sym, ap, ◌∙◌, subst}
 use Rattle.std.proofs.lemmas.Bool.{eqb-true}
 use Rattle.std.specs.Option.{option_map_or}
@@ -6,11 +6,11 @@ use Rattle.sdb_oplog.specs.Plain.{PlainEntry, PlainContent, PlainSubmission}
 use Rattle.sdb_oplog.specs.Keys.{PlainKey, Logs}
 use Rattle.sdb_oplog.specs.Snap.{stored_at, has_identifier}
 use Rattle.sdb_oplog.specs.Decide.{decide, rebased_content, append_decided, PlainReply, stored, repeated, refused}
-use Rattle.sdb_oplog.specs.Laws.{decides_repeat}
+use Rattle.sdb_oplog.specs.laws.LogLaws.{decides_repeat}
 use Rattle.sdb_oplog.specs.declared.codes.Code.{Code}
 use Rattle.sdb_oplog.specs.declared.codes.Code.TheVariants.{E1, E2, E3, E4, E5, E6, E7, E8, E9, E10, E11}
 use Rattle.sdb_steps.specs.QueuePosition.{QueuePosition}
-use Rattle.sdb_desk.specs.Laws.{keys_equal_refl}
+use Rattle.sdb_desk.specs.laws.KeyLaws.{keys_equal_refl}
 use Rattle.sdb_steps.specs.OneStep as machine
 use Rattle.sdb_steps.specs.OneStep.{OneStep, Event, Legal, empty_machine, decided, start_result, machine_after_event}
 use Rattle.sdb_steps.specs.Picks as plain
@@ -23,7 +23,7 @@ use Rattle.sdb_steps.proofs.MadeLemmas.{resent_all}
 
 -- ---- one decision
 
--- a first place stays the first on a longer log
+-- a first position stays the first in a longer log
 first_stays : (b : Bool) (o p : Option ℕ) (v : ℕ) → ((i : ℕ) → o ≡ Some i → p ≡ Some i) → cond b (Some 0) (option_map (λ i. i + 1) o) ≡ Some v → cond b (Some 0) (option_map (λ i. i + 1) p) ≡ Some v
 first_stays true o p v f h = h
 first_stays false None p v f h = cc
@@ -41,14 +41,14 @@ repeat_by : (log : List PlainEntry) (s : PlainSubmission) (now v : ℕ) (o : Opt
 repeat_by log s now v None h = absurd (never_repeats log s now (rebased_content log s) v h)
 repeat_by log s now v (Some i) h = let same : i ≡ v = cc in ap Some same
 
--- a repeat stands where it says
+-- a duplicate is at its answer's version
 repeat_at : (log : List PlainEntry) (s : PlainSubmission) (now v : ℕ) → (decide log s now).reply ≡ repeated v → stored_at s.src s.seq log ≡ Some v
 repeat_at log s now v h = repeat_by log s now v (stored_at s.src s.seq log) h
 
 abbrev begun_of : PlainOpenAttempt → BegunSubmission
 begun_of a = record { key = a.key; src = a.submission.src; seq = a.submission.seq }
 
--- what was decided on a log, seen in a longer one
+-- a decision on a log, seen in a longer log
 placed_reply : (k : PlainKey) (log more : List PlainEntry) (s : PlainSubmission) (now : ℕ) (end : Logs) (r : PlainReply) → (decide log s now).reply ≡ r → end k ≡ (decide log s now).log ++ more
     → IsPlacedAt end (Some (record { key = k; src = s.src; seq = s.seq })) (plain.commit now) (reply_answer (decided r))
 placed_reply k log more s now end (stored v missed) h is =
@@ -69,7 +69,7 @@ placed_next m now a end g =
 
 -- ---- one step of a session
 
--- what the session has begun is what its attempt is of
+-- the tracked submission of a session is its attempt's
 abbrev TracksBegun : Option BegunSubmission → SessionState → Type 0
 TracksBegun b x = b ≡ option_map begun_of x.attempt
 
@@ -80,7 +80,7 @@ record PlacedAfterStep (b : Option BegunSubmission) (act : StepKind) (a : PlainS
   pub tracks : TracksBegun (begun_after_step act a b) y
   pub placed : IsPlacedAt end b act a
 
--- of what comes of an effect
+-- after an effect
 abbrev EffectPlaces : OneStep → Option BegunSubmission → StepKind → Effect → Logs → Type 0
 EffectPlaces m b act (event e y) end = ExtendsTo (machine_after_event m e) end → PlacedAfterStep b act (reply_answer (machine.reply_to_event m e)) y end
 EffectPlaces m b act (notice n y) end = PlacedAfterStep b act (notice_answer n) y end
@@ -153,7 +153,7 @@ keeps_deed m b i x (plain.take k max) end t = keeps_take m b x k max (x.queues k
 keeps_deed m b i x (plain.unsubscribe k) end t = keeps_close m b x k (x.queues k) end t
 keeps_deed m b i x (plain.forget k) end t = record { tracks = t; placed = tt }
 
--- where memory is wanting nothing is begun or placed
+-- a step that fails to allocate begins and places nothing
 kept_none : (b : Option BegunSubmission) (x : SessionState) (act : StepKind) (end : Logs) → TracksBegun b x → PlacedAfterStep b act out_of_memory x end
 kept_none b x (plain.begin k src seq v content) end t = record { tracks = t; placed = tt }
 kept_none b x plain.work end t = record { tracks = t; placed = tt }
@@ -190,7 +190,7 @@ goes_with : (m n : OneStep) (f : ℕ → Option BegunSubmission) (s : PlainSessi
 goes_with m n f s a w v y end t h put g =
     goes_kept f s a w v y end t put (kept_follows m n (f s.session) s.act (effect m s.session (w s.session) s.act) a y end (keeps_deed m (f s.session) s.session (w s.session) s.act end (t s.session)) h g)
 
--- a session put back where it was
+-- a session replaced by itself
 track_same : (c : Bool) (i n : ℕ) (b : Option BegunSubmission) (f : ℕ → Option BegunSubmission) (w : SessionStates) → nat_eq i n ≡ c → TracksBegun b (w i) → TracksAllBegun f w → TracksBegun (cond c b (f n)) (w n)
 track_same true i n b f w is t all = subst (λ (j : ℕ). TracksBegun b (w j)) (eqb-true i n is) t
 track_same false i n b f w is t all = all n

@@ -1,4 +1,4 @@
--- What a step does to the session's queue of one key, and leaves of the others.
+-- The effect of a step on the session's queue of one key and on other queues.
 use Rattle.std.proofs.Common.{◌≡◌, ℕ, ◌+◌, ◌<◌, ◌≤◌, List, [], ◌∷◌, ◌++◌, length, Bool, true, false, cond, nat_eq, nat_lt, Option, Some, None, Result, Ok, Err, ◌⊎◌, inl, inr, refl, sym, ap, ◌∙◌, subst, unwrap_or, option_map, IfOk, OnErr, arith}
 use Rattle.std.proofs.lemmas.Bool.{eq-eqb}
 use Rattle.std.specs.Option.{option_map_or}
@@ -11,10 +11,10 @@ use Rattle.sdb_oplog.specs.Snap.{document_of}
 use Rattle.sdb_oplog.specs.Refusal.{result_and_then}
 use Rattle.sdb_oplog.specs.Decide.{decide_allocates}
 use Rattle.sdb_subscribe.specs.Queue.{PlainQueue, PlainQueues, queue_at, is_queue_of, is_open_by, pending_entries, advance as moved_by, queues_after_take, take_result, remove_queue}
-use Rattle.sdb_subscribe.specs.Laws.{queue_at_opened_other, queue_at_taken, queue_at_taken_other, queue_at_removed_other}
+use Rattle.sdb_subscribe.specs.laws.QueueLaws.{queue_at_opened_other, queue_at_taken, queue_at_taken_other, queue_at_removed_other}
 use Rattle.sdb_oplog.specs.Keys.{with_value_at_key}
-use Rattle.sdb_desk.specs.MapLaws.{updated_at_same}
-use Rattle.sdb_desk.specs.Laws.{eq_of_keys_equal, with_queues_same}
+use Rattle.sdb_desk.specs.laws.MapLaws.{updated_at_same}
+use Rattle.sdb_desk.specs.laws.KeyLaws.{eq_of_keys_equal, with_queues_same}
 use Rattle.sdb_desk.specs.Machine.{is_nonempty, QueuesByKey, PlainFetchResult, PlainSubscribeResult, queue_start, subscribe_opened, subscribe_from_start, SubscribesOrOutOfMemory, TakesOrOutOfMemory, ReadOrOutOfMemory, read_has_document, read_has_version, snapshot_at, close_queue, with_queues}
 use Rattle.sdb_desk.specs.Machine as desk
 use Rattle.sdb_steps.specs.OneStep as machine
@@ -92,7 +92,7 @@ module _ (i : ℕ) (q r : QueuesByKey) (s t : PlainQueueSlots) (k : PlainKey) (w
   now_if h j n true is at = subst (λ (z : PlainQueues). (n < z.next) × (is_open_by i n z.queues ≡ true)) (sym (at_key_same j is)) (h n (sym (at_key s t k o j ht is) ∙ at))
   now_if h j n false is at = subst (λ (z : PlainQueues). (n < z.next) × (is_open_by i n z.queues ≡ true)) (sym (at_other_key j is)) (open_step j n (sym (past_key s t k o j ht is) ∙ at))
 
-  -- what is left to the others
+  -- the frame of the other sessions
   pub leaves_at : NextNotLower → OtherQueuesSame → OwnQueueOrNew → SlotsOpenAfter → OtherQueuesUnchanged i q s r t
   leaves_at grows others own now = record {
     next_not_lower = λ j. grow_if grows j (keys_equal k j) refl;
@@ -101,7 +101,7 @@ module _ (i : ℕ) (q r : QueuesByKey) (s t : PlainQueueSlots) (k : PlainKey) (w
     now = λ j n. now_if now j n (keys_equal k j) refl;
   }
 
--- where nothing changes
+-- if nothing changes
 pub leaves_all : (i : ℕ) (q r : QueuesByKey) (s t : PlainQueueSlots) → SlotsOpen i q s → r ≡ q → t ≡ s → OtherQueuesUnchanged i q s r t
 leaves_all i q r s t opens hr ht = record {
   next_not_lower = λ k. let x = ap (λ (f : QueuesByKey). (f k).next) hr in omega (arith, x);
@@ -110,13 +110,13 @@ leaves_all i q r s t opens hr ht = record {
   now = λ k n at. subst (λ (f : QueuesByKey). (n < (f k).next) × (is_open_by i n (f k).queues ≡ true)) (sym hr) (opens k n (ap (λ (f : PlainQueueSlots). f k) (sym ht) ∙ at));
 }
 
--- queues that are written at k as they were
+-- an update at k with the old queues changes nothing
 pub kept_queues : (q r : QueuesByKey) (k : PlainKey) → r ≡ with_queues q k (r k) → r k ≡ q k → r ≡ q
 kept_queues q r k others here = others ∙ ap (with_queues q k) here ∙ with_queues_same q k
 
 -- ---- a queue that is opened
 
--- the queue that was opened is the next one, and the machine gives its start
+-- the new queue has the next number, and the machine gives its start
 record OpenStep (log : List PlainEntry) (by : ℕ) (v : Option ℕ) (q : PlainQueues) (o : PlainSubscribeResult) (w : PlainQueues) : Type 0 where
   pub start : queue_start log v ≡ Ok o.start
   pub room : nat_eq q.next 18446744073709551615 ≡ false
@@ -162,7 +162,7 @@ open_refused : (c : Bool) (log : List PlainEntry) (n : ℕ) (q w more : PlainQue
 open_refused true log n q w more code h at = (at, let e : code ≡ E11 = cc in e, refl)
 open_refused false log n q w more code h at = cc
 
--- the code that the machine answers too
+-- the code is the machine's
 record RefusedStep (log : List PlainEntry) (v : Option ℕ) (q : PlainQueues) (code : Code) (w : PlainQueues) : Type 0 where
   pub same : w ≡ q
   pub due : (code ≡ E4) ⊎ (code ≡ E11)
@@ -195,12 +195,12 @@ code_if true c n code h = inl (let e : code ≡ E4 = cc in e)
 code_if false true n code h = inr (let e : code ≡ E11 = cc in e)
 code_if false false n code h = cc
 
--- a start is refused by one of two codes
+-- a subscribe is refused with one of two codes
 pub started_code : (m : OneStep) (k : PlainKey) (v : Option ℕ) (code : Code) → start_result m k v ≡ Err code → (code ≡ E4) ⊎ (code ≡ E11)
 started_code m k v code h =
     code_if (nat_lt (length (m.logs k)) (unwrap_or v (length (m.logs k)))) (nat_eq (m.issued_ids k) 18446744073709551615) (unwrap_or v (length (m.logs k))) code h
 
--- a subscribe that found no memory
+-- a subscribe that failed to allocate
 pub subscribe_wanting : (i : ℕ) (m n : OneStep) (x y : SessionState) (k : PlainKey) (v : Option ℕ) (start : ℕ) → start_result m k v ≡ Ok start → n ≡ m → y ≡ x → DispatchesAct i m x (plain.subscribe k v) out_of_memory n y
 subscribe_wanting i m n x y k v start ok a b = (subscribe_wants m x k v (start_result m k v) refl (ap is_ok ok), a, b)
 
@@ -261,7 +261,7 @@ closed_next : (i : ℕ) (o : Option ℕ) (q : PlainQueues) → (close_in i o q).
 closed_next i None q = refl
 closed_next i (Some n) q = refl
 
--- under a number a call leaves all queues but one
+-- a call for a number changes no other queue
 shut_other : (b : Bool) (k n : ℕ) (qs : List (ℕ × PlainQueue)) → (k ≡ n → ⊥) → queue_at k (cond b (remove_queue n qs) qs) ≡ queue_at k qs
 shut_other true k n qs h = queue_at_removed_other k n qs h
 shut_other false k n qs h = refl
@@ -288,7 +288,7 @@ abbrev pub core_at : (PlainKey → List PlainEntry) → QueuesByKey → OneStep
 core_at l q = record { logs = l; issued_ids = λ j. (q j).next }
 
 module _ (i : ℕ) (q0 q1 q2 : QueuesByKey) (l0 l2 : PlainKey → List PlainEntry) (s0 s2 : PlainQueueSlots) (k : PlainKey) (v : Option ℕ) (o : PlainSubscribeResult) (a : Option plain.PlainOpenAttempt) where
-  -- what the calls of the shard and of the slots say
+  -- the facts from the calls of the shard and of the slots
   pub record SubscribeFacts : Type 0 where
     pub given : SlotsOpen i q0 s0
     pub opened : SubscribesOrOutOfMemory (l0 k) i v (q0 k) (Ok o) (q1 k)
@@ -311,7 +311,7 @@ module _ (i : ℕ) (q0 q1 q2 : QueuesByKey) (l0 l2 : PlainKey → List PlainEntr
     w_next : queues_after.next ≡ (q0 k).next + 1
     w_next = closed_next i (s0 k) (q1 k) ∙ start_is_free.next
 
-    -- a queue of the session is older than the new one
+    -- a queue of the session has a smaller number than the new one
     own_queue_is_older : (n : ℕ) → s0 k ≡ Some n → n < o.id
     own_queue_is_older n at = let below = (h.given k n at).0 in let new = start_is_free.number in omega (arith, below, new)
 
@@ -353,7 +353,7 @@ module _ (i : ℕ) (q0 q1 q2 : QueuesByKey) (l0 l2 : PlainKey → List PlainEntr
         let D : Result ℕ Code → Type 0 = λ r. FollowsEffect m (subscribe_effect x k v r) (reply_answer (machine.subscribed (Ok o.start))) (core_at l2 q2) (seen_by a q2 s2) in
         subst D (sym start_is) (ap (λ (r : Result ℕ Code). reply_answer (machine.subscribed r)) (sym start_is), goes, put)
 
--- ---- a queue that is taken of, and one that is closed
+-- ---- a queue that is read, and one that is closed
 
 pub stands_of : (i : ℕ) (o : Option PlainQueue) → is_queue_of i o ≡ true → (w : PlainQueue) × (o ≡ Some w)
 stands_of i None h = cc
@@ -363,7 +363,7 @@ entries_are : (es fs : List PlainEntry) → ◌≡◌ {A = Option (List PlainEnt
 entries_are es fs h = cc
 
 module _ (i : ℕ) (q0 q1 : QueuesByKey) (l0 l1 : PlainKey → List PlainEntry) (s0 s1 : PlainQueueSlots) (k : PlainKey) (n : ℕ) (w : PlainQueue) (a : Option plain.PlainOpenAttempt) where
-  -- the session's queue of k, and what the others call theirs
+  -- the session's queue of k, and the queues of the others
   pub record TakeFacts : Type 0 where
     pub all : SlotsOpen i q0 s0
     pub at : s0 k ≡ Some n
@@ -532,7 +532,7 @@ begin_turn i m x k src seq v content (notice_answer plain.idle) o none h = absur
 begin_turn i m x k src seq v content (notice_answer plain.full) o none h = absurd h
 begin_turn i m x k src seq v content (reply_answer r) o none h = absurd h
 
--- with a submission that was made, or for which there was no memory
+-- with a submission, or after its allocation failed
 pub begins_with : {E : Type 0} (m : OneStep) (k : PlainKey) (s : PlainSubmission) (r : Result PlainSubmission E) (answer : PlainStepAnswer) (o : Option plain.PlainOpenAttempt) → IfOk r (λ u. u ≡ s) → IfOk r (λ u. AttemptBegins m k u answer o)
     → OnErr r ((answer ≡ out_of_memory) × (o ≡ None)) → AttemptBegins m k s answer o
 begins_with m k s (Ok u) answer o same h wanting = subst (λ z. AttemptBegins m k z answer o) same h

@@ -1,11 +1,11 @@
--- Reads are replays of the logs at the end.
+-- Reads are replays of the final logs.
 use Rattle.std.proofs.Common.{◌≡◌, ℕ, ◌+◌, ◌≤◌, List, [], ◌∷◌, ◌++◌, suc, length, take, Bool, true, false, cond, nat_lt, Option, Some, None, Ok, Err, IfSome, refl, sym, ap, ◌∙◌, subst, length-append, arith}
 use Rattle.std.proofs.lemmas.List.{take-append-le}
 use Rattle.std.proofs.lemmas.Bool.Decides.{nat_tests}
 use Rattle.std.specs.Option.{unwrap_or}
 use Rattle.sdb_oplog.specs.Plain.{PlainEntry}
 use Rattle.sdb_oplog.specs.Keys.{PlainKey, Logs}
-use Rattle.sdb_oplog.specs.Laws.{version_at_within}
+use Rattle.sdb_oplog.specs.laws.LogLaws.{version_at_within}
 use Rattle.sdb_oplog.specs.Moments.{version_at}
 use Rattle.sdb_oplog.specs.Snap.{document_of}
 use Rattle.sdb_oplog.specs.declared.codes.Code.TheVariants.{E4}
@@ -19,7 +19,7 @@ use Rattle.sdb_steps.specs.ReplayLaws.{IsReplayOf, IsReplay, ReadsAreReplays}
 use Rattle.sdb_steps.proofs.EventLemmas.{EffectRelation, StepRelation, step_relation, legal_steps}
 use Rattle.sdb_steps.proofs.GrowthLemmas.{LogExtends, grows_steps}
 
--- the first entries stay the first ones
+-- a prefix of a log is a prefix of each extension
 take_of_extension : (old new : List PlainEntry) (v : ℕ) → LogExtends old new → v ≤ length old → (v ≤ length new) × (document_of (take v old) ≡ document_of (take v new))
 take_of_extension old new v g h =
     let long : length new ≡ length old + length g.more = ap length g.is ∙ length-append old g.more in
@@ -49,7 +49,7 @@ counted_if : (b : Bool) (n k : ℕ) → n ≤ k → cond b n (suc n) ≤ cond b 
 counted_if true n k h = h
 counted_if false n k h = omega (arith, h)
 
--- a longer log has as many entries up to a moment, or more
+-- a longer log has at least as many entries up to a moment
 version_at_mono : (old more : List PlainEntry) (t : ℕ) → version_at old t ≤ version_at (old ++ more) t
 version_at_mono [] more t = omega arith
 version_at_mono (e ∷ es) more t = counted_if (nat_lt t e.moment) (version_at es t) (version_at (es ++ more) t) (version_at_mono es more t)

@@ -1,4 +1,4 @@
--- Runs that go on, by one step or by many.
+-- Runs extended by one step or by many.
 use Rattle.std.proofs.Common.{◌≡◌, List, [], ◌∷◌, ◌++◌, refl, sym, ap, ◌∙◌, subst, append_assoc}
 use Rattle.sdb_steps.specs.OneStep.{OneStep, Event, EventReply, Legal, empty_machine, reply_to_event, machine_after_event, replies_to_events, machine_after_events}
 use Rattle.sdb_steps.specs.Picks.{SessionStates, PlainSessionStep, PlainStepAnswer, reply_in, replies_in, PicksOne, PicksAfter, Picks, empty_sessions}
@@ -33,7 +33,7 @@ picks_more past w u v (t ∷ steps) (b ∷ answers) s a es fs (now, mid, one, re
 pub run_none : (n : OneStep) (w : SessionStates) (answers : List PlainStepAnswer) → answers ≡ [] → n ≡ empty_machine → w ≡ empty_sessions → IsRun [] answers n w
 run_none n w answers none new is = subst (λ (xs : List PlainStepAnswer). IsRun [] xs n w) (sym none) ([], (refl, is), refl, sym new)
 
--- a run and one step more
+-- a run and one more step
 pub run_more : (n o : OneStep) (u v : SessionStates) (steps : List PlainSessionStep) (answers : List PlainStepAnswer) (s : PlainSessionStep) (a : PlainStepAnswer) → IsRun steps answers n u → IsStep n u s a o v → IsRun (steps ++ s ∷ []) (answers ++ a ∷ []) o v
 run_more n o u v steps answers s a (es, picked, told, ends) (fs, one, tells, goes) = (
   es ++ fs,
@@ -42,7 +42,7 @@ run_more n o u v steps answers s a (es, picked, told, ends) (fs, one, tells, goe
   after_more empty_machine es fs ∙ ap (λ (x : OneStep). machine_after_events x fs) ends ∙ goes,
 )
 
--- a run and many steps more
+-- a run and many more steps
 pub run_on : (n o : OneStep) (u v : SessionStates) (steps more : List PlainSessionStep) (answers told : List PlainStepAnswer) → IsRun steps answers n u → AreSteps n u more told o v → IsRun (steps ++ more) (answers ++ told) o v
 run_on n o u v steps [] answers [] r h =
     let ended : IsRun steps answers o v = subst (λ (x : OneStep). IsRun steps answers x v) (sym h.0) (subst (λ (w : SessionStates). IsRun steps answers n w) (sym h.1) r) in
@@ -53,6 +53,6 @@ run_on n o u v steps (s ∷ more) answers (a ∷ told) r (m, w, one, rest) =
     let all : IsRun ((steps ++ s ∷ []) ++ more) ((answers ++ a ∷ []) ++ told) o v = run_on m o w v (steps ++ s ∷ []) more (answers ++ a ∷ []) told (run_more n m u w steps answers s a r one) rest in
     subst (λ (xs : List PlainSessionStep). IsRun xs (answers ++ a ∷ told) o v) (append_assoc steps (s ∷ []) more) (subst (λ (xs : List PlainStepAnswer). IsRun ((steps ++ s ∷ []) ++ more) xs o v) (append_assoc answers (a ∷ []) told) all)
 
--- a run, with the logs alone
+-- a run, with its logs only
 pub legal_run : (steps : List PlainSessionStep) (answers : List PlainStepAnswer) (n : OneStep) (v : SessionStates) → IsRun steps answers n v → (events : List Event) × Picks steps answers events v × Legal events (replies_in answers) n.logs
 legal_run steps answers n v (events, picked, told, ends) = (events, picked, record { replies_are = told; logs_are = ap (λ (x : OneStep). x.logs) ends })

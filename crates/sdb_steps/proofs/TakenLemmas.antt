@@ -1,4 +1,4 @@
--- What open queues took.
+-- The entries that open queues have read.
 use Rattle.std.proofs.Common.{◌≡◌, ℕ, ◌+◌, ◌≤◌, List, [], ◌∷◌, ◌++◌, length, take, drop, Bool, true, false, cond, nat_eq, nat_lt, Option, Some, None, Result, Ok, Err, IfSome, refl, sym, ap, ◌∙◌, subst, length-append, length-drop, arith}
 use Rattle.std.proofs.lemmas.List.{take-append-le, drop-append-le, take-append-drop, length-take-le, drop-drop, length-take}
 use Rattle.std.proofs.Math.Seq.{take-append_seam, take-append-add}
@@ -12,7 +12,7 @@ use Rattle.sdb_oplog.specs.declared.codes.Code.{Code}
 use Rattle.sdb_oplog.specs.declared.codes.Code.TheVariants.{E1, E2, E3, E4, E5, E6, E7, E8, E9, E10, E11}
 use Rattle.sdb_subscribe.specs.Queue.{queue}
 use Rattle.sdb_steps.specs.QueuePosition.{QueuePosition, entries_at_position, advance_position}
-use Rattle.sdb_desk.specs.Laws.{eq_of_keys_equal}
+use Rattle.sdb_desk.specs.laws.KeyLaws.{eq_of_keys_equal}
 use Rattle.sdb_steps.specs.OneStep as machine
 use Rattle.sdb_steps.specs.OneStep.{OneStep, Event, EventReply, subscribed, start_result, reply_to_event, machine_after_event}
 use Rattle.sdb_steps.specs.Picks as plain
@@ -24,7 +24,7 @@ use Rattle.sdb_steps.proofs.GrowthLemmas.{LogExtends, grows_next}
 
 -- ---- lists
 
--- the queue took these entries of the log
+-- the queue has read these entries of the log
 record HasTakenOfLog (log : List PlainEntry) (q : QueuePosition) (es : List PlainEntry) : Type 0 where
   pub within : q.start + q.taken ≤ length log
   pub same : es ≡ queue log q.start q.taken
@@ -62,14 +62,14 @@ on_taken log q es max h =
 
 -- ---- one step of a session
 
--- what was taken of k by the session x, where the machine stands at m
+-- the entries of k that session x has read, for machine m
 abbrev SessionHasTaken : OneStep → SessionState → PlainKey → List PlainEntry → Type 0
 SessionHasTaken m x k es = (q : QueuePosition) → x.queues k ≡ Some q → HasTakenOfLog (m.logs k) q es
 
 taken_of_extension : (m : OneStep) (e : Event) (x : SessionState) (k : PlainKey) (es : List PlainEntry) → SessionHasTaken m x k es → SessionHasTaken (machine_after_event m e) x k es
 taken_of_extension m e x k es h q is = on_grown (m.logs k) ((machine_after_event m e).logs k) q es (grows_next m e k) (h q is)
 
--- an effect that opens and moves no queue
+-- an effect that opens and advances no queue
 abbrev QueuesUnchanged : SessionState → SessionState → Type 0
 QueuesUnchanged x y = (k : PlainKey) (q : QueuePosition) → y.queues k ≡ Some q → x.queues k ≡ Some q
 
@@ -111,12 +111,12 @@ sub_unsubscribe : (x : SessionState) (k : PlainKey) (o : Option QueuePosition) �
 sub_unsubscribe x k None = λ j q is. is
 sub_unsubscribe x k (Some p) = λ j q is. some_of_cond_none (keys_equal k j) (x.queues j) q is
 
--- a queue at k', or the one that stood
+-- the queue at the key of the step, or another one
 set_taken : (b : Bool) (log es new : List PlainEntry) (p q : QueuePosition) (o : Option QueuePosition) → (b ≡ true → HasTakenOfLog log p new) → ((r : QueuePosition) → o ≡ Some r → HasTakenOfLog log r es) → cond b (Some p) o ≡ Some q → HasTakenOfLog log q (cond b new es)
 set_taken true log es new p q o f g h = let e : p ≡ q = cc in subst (λ (r : QueuePosition). HasTakenOfLog log r new) e (f refl)
 set_taken false log es new p q o f g h = g q h
 
--- a start is no later than the present version
+-- a start is at most the current version
 pub start_not_late : (n v start : ℕ) (b c : Bool) → nat_lt n v ≡ b → result_and_then (λ s. cond c (Err E11) (Ok s)) (cond b (Err E4) (Ok v)) ≡ Ok start → start ≤ n
 start_not_late n v start true c is h = absurd (cc)
 start_not_late n v start false true is h = absurd (cc)

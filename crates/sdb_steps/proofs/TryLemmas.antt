@@ -1,4 +1,4 @@
--- Attempts are tried at most eight times before they decide.
+-- Attempts have at most eight tries before they decide.
 use Rattle.std.proofs.Common.{◌≡◌, ℕ, ◌+◌, ◌<◌, List, [], ◌∷◌, ◌++◌, length, Bool, true, false, cond, ◌||◌, nat_eq, Option, Some, None, IfSome, Result, Ok, Err, refl, sym, subst, arith}
 use Rattle.std.proofs.lemmas.Bool.Decides.{nat_tests}
 use Rattle.std.specs.Option.{option_map_or}
@@ -21,7 +21,7 @@ tries_none a is = cc
 tries_some : (b : PlainOpenAttempt) → b.tries < 9 → TriesInRange (Some b)
 tries_some b h a is = let e : b ≡ a = cc in subst (λ (x : PlainOpenAttempt). x.tries < 9) e h
 
--- of the session after an effect
+-- the session's attempt after an effect
 abbrev TriesInRangeAfter : Effect → Type 0
 TriesInRangeAfter (event e y) = TriesInRange y.attempt
 TriesInRangeAfter (notice a y) = TriesInRange y.attempt

@@ -1,4 +1,4 @@
--- One turn of one session is one step of the world.
+-- One step of one session is one step of the world.
 use Rattle.std.proofs.Common.{◌≡◌, ℕ, zero, suc, ◌<◌, ◌≤◌, List, [], ◌∷◌, ◌++◌, length, get_or, Bool, true, false, cond, Option, Some, None, option_map, unwrap_or, nat_eq, ◌⊎◌, inl, inr, refl, sym, ap, ◌∙◌, subst, slice_get, arith}
 use Rattle.std.specs.List.{slice_set}
 use Rattle.std.specs.Option.{option_and_then}
@@ -18,9 +18,9 @@ use Rattle.sdb_steps.specs.QueuePosition.{position_of_queue}
 use Rattle.sdb_steps.specs.Slots.{PlainQueueSlots, SlotsOpen, SlotsDisjoint, OtherQueuesUnchanged}
 use Rattle.sdb_steps.specs.declared.session_data.Session.{Session}
 
--- ---- a turn and its step
+-- ---- a session's step and its world's
 
--- what comes of an effect is its events, by the machine
+-- the outcome of an effect is its events' outcome, by the machine
 record EffectEvents (m : OneStep) (d : Effect) (answer : PlainStepAnswer) (n : OneStep) (x : plain.SessionState) : Type 0 where
   pub events : List Event
   pub done : IsEffectOutcome d answer events x
@@ -35,7 +35,7 @@ session_of_other : (w : SessionStates) (i k : ℕ) (b : Bool) → nat_eq i k ≡
 session_of_other w i k true h = ap w (eqb-true i k h)
 session_of_other w i k false h = refl
 
--- a session put back as it was
+-- a session replaced by itself
 same_session : (w : SessionStates) (i : ℕ) → with_session w i (w i) ≡ w
 same_session w i = λ j k. session_of_other w i k (nat_eq i k) refl j
 
@@ -88,7 +88,7 @@ apart_is : (i j : ℕ) → nat_eq i j ≡ false → i ≡ j → ⊥
 apart_is i j is e = let t : nat_eq i j ≡ true = eq-eqb i j e in let x : true ≡ false = sym t ∙ is in cc
 
 module _ (q r : QueuesByKey) (xs : List Session) (i : ℕ) (y : Session) (within : i < length xs) (open_all : (j : ℕ) → SlotsOpen j q (queue_slots_at xs j)) (apart : SlotsDisjoint (queue_slots_at xs)) (leaves : OtherQueuesUnchanged i q (queue_slots_at xs i) r (queue_slots_of y)) where
-  -- the queue of another session stays
+  -- the queue of another session is unchanged
   other_queue_stays : (j : ℕ) (k : PlainKey) (n : ℕ) → nat_eq i j ≡ false → queue_slots_at xs j k ≡ Some n → queue_at n (r k).queues ≡ queue_at n (q k).queues
   other_queue_stays j k n is at = leaves.others k n (open_all j k n at).0 (λ own. apart_is i j is (apart i j k n own at))
 

@@ -1,5 +1,5 @@
--- One step of one session: what its attempt comes to, and what the machine makes of its effect. The contracts of the
--- crate's own functions speak of these; the steps of a world are `IsStep`.
+-- One step of one session: the attempt after it, and the machine after its effect. Contracts of private functions cite
+-- these; a step of a world is `IsStep`.
 use Rattle.std.specs.Prelude.{◌≡◌, ℕ, true, false, Option, Some, None}
 use Rattle.sdb_oplog.specs.Plain.{PlainSubmission}
 use Rattle.sdb_oplog.specs.Decide.{decide_allocates}
@@ -7,7 +7,7 @@ use Rattle.sdb_oplog.specs.Keys.{PlainKey}
 use Rattle.sdb_steps.specs.OneStep.{OneStep, submission, reply_to_event, machine_after_event}
 use Rattle.sdb_steps.specs.Picks.{SessionState, PlainOpenAttempt, StepKind, began, worked, moved, idle, open_attempt, mark_worked, look_again, is_deciding, PlainStepAnswer, Effect, event, notice, reply_answer, notice_answer, out_of_memory, effect, effect_allocates}
 
--- what comes of an effect
+-- the answer, the machine and the session that follow from an effect
 abbrev pub FollowsEffect : OneStep → Effect → PlainStepAnswer → OneStep → SessionState → Type 0
 FollowsEffect m (event e y) answer n x = (answer ≡ reply_answer (reply_to_event m e)) × (n ≡ machine_after_event m e) × (x ≡ y)
 FollowsEffect m (notice a y) answer n x = (answer ≡ notice_answer a) × (n ≡ m) × (x ≡ y)
@@ -17,21 +17,20 @@ abbrev pub DispatchesAct : ℕ → OneStep → SessionState → StepKind → Pla
 DispatchesAct i m x act out_of_memory n y = (effect_allocates m (effect m i x act) ≡ true) × (n ≡ m) × (y ≡ x)
 DispatchesAct i m x act answer n y = FollowsEffect m (effect m i x act) answer n y
 
--- an attempt is opened, unless memory was wanting
+-- an attempt is opened, unless an allocation failed
 abbrev pub AttemptBegins : OneStep → PlainKey → PlainSubmission → PlainStepAnswer → Option PlainOpenAttempt → Type 0
 AttemptBegins m k s out_of_memory o = o ≡ None
 AttemptBegins m k s (notice_answer began) o = o ≡ Some (open_attempt m k s)
 AttemptBegins m k s answer o = ⊥
 
--- the work on an attempt: once, unless memory was wanting
+-- an attempt is worked, once, unless an allocation failed
 abbrev pub AttemptWorks : PlainOpenAttempt → PlainStepAnswer → PlainOpenAttempt → Type 0
 AttemptWorks a out_of_memory b = (a.is_worked ≡ false) × (b ≡ a)
 AttemptWorks a (notice_answer worked) b = (a.is_worked ≡ false) × (b ≡ mark_worked a)
 AttemptWorks a (notice_answer idle) b = (a.is_worked ≡ true) × (b ≡ a)
 AttemptWorks a answer b = ⊥
 
--- a commit of an attempt at a moment: it decides, or it finds the log moved, or memory was wanting and nothing has
--- changed: to decide, where it must
+-- a commit of an attempt at a moment: it decides, or it finds a longer log, or an allocation failed and nothing changed
 abbrev pub AttemptCommits : OneStep → PlainOpenAttempt → ℕ → PlainStepAnswer → OneStep → Option PlainOpenAttempt → Type 0
 AttemptCommits m a now out_of_memory n o =
     (n ≡ m) × (o ≡ Some a) × (is_deciding m a ≡ true → decide_allocates (m.logs a.key) a.submission ≡ true)

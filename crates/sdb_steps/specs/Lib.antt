@@ -13,6 +13,6 @@ pub mod Slots
 pub mod StateView
 pub mod TakenEntries
 pub mod View
-pub mod Examples
 pub mod WorldView
 pub mod RunOutput
+pub mod worked

@@ -1,11 +1,18 @@
--- The lines of the program of steps: which step a line is, and the line that answers it.
+-- The lines of steps and of their answers. A step is a JSON object (RFC 8259) with the session number `s` and the
+-- step's name `do`.
 --
--- A step is a JSON object with `s`, the number of its session, and `do`, a text that says which step it is. What it
--- needs beside these: `begin` the names `c`, `d` and `src`, the number `seq`, a content, and `v` if it names a version;
--- `commit` the number `ms` if it names a moment; `fetch`, `unsubscribe` and `forget` `c` and `d`; `snapshot` and
--- `subscribe` these, and `v` if they name a version; `at` these, and `ts` if it names a moment; `take` these and the
--- number `max`; `work` nothing. All are read as the members of a message are, and unknown ones are ignored. A line that
--- is no step is answered by its code alone.
+-- The other members are, by step:
+--
+-- - `begin`: the names `c`, `d` and `src`, the number `seq`, a content, and optionally the version `v`
+-- - `commit`: optionally the moment `ms`
+-- - `fetch`, `unsubscribe`, `forget`: `c` and `d`
+-- - `snapshot`, `subscribe`: `c`, `d`, and optionally the version `v`
+-- - `at`: `c`, `d`, and optionally the moment `ts`
+-- - `take`: `c`, `d` and the number `max`
+-- - `work`: none
+--
+-- Members are read as those of a message, and unknown ones are ignored. A line that is no step is answered with its
+-- code alone.
 use Rattle.std.specs.Prelude.{ℕ, List, [], ◌∷◌, ◌++◌, Bool, if◌then◌else◌, nat_lt, bytes_eq, Option, Some, None, Result, Ok, Err, option_and_then, codes}
 use Rattle.std.specs.Option.{option_map_or, ok_or}
 use Rattle.std.specs.Result.{is_ok}
@@ -27,15 +34,15 @@ use Rattle.sdb_steps.specs.Picks.{StepKind, PlainSessionStep, Notice, PlainStepA
 
 -- ---- reading
 
--- the number of a session: a whole number from 0 to 63
+-- the number of a session: an integer from 0 to 63
 abbrev pub session_of : Data → Option ℕ
 session_of d = option_and_then (λ n. if nat_lt n 64 then Some n else None) (count_member (codes "s") d)
 
--- what session n does
+-- the step of session n with this act
 abbrev pub step_of_session : ℕ → StepKind → PlainSessionStep
 step_of_session n a = record { session = n; act = a }
 
--- a submission: the key, the version, the number, the source and the content are read in this order
+-- a submission; key, version, seq, source and content are read in this order
 abbrev pub begin_step_of : ℕ → Data → Result PlainSessionStep Code
 begin_step_of n d =
     result_and_then
@@ -47,47 +54,47 @@ begin_step_of n d =
     (read_optional count_of (present_member (codes "v") d)))
     (key_of d)
 
--- the moment of a commit: the number `ms`, or the first moment where there is no such member
+-- the moment of a commit: the number `ms`, or the first moment if it is absent
 abbrev pub now_of : Data → Result ℕ Code
 now_of d = option_map_or (λ m. ok_or (count_of m) E1) (get (codes "ms") d) (Ok 0)
 
--- a try at that moment
+-- a commit at that moment
 abbrev pub commit_step_of : ℕ → Data → Result PlainSessionStep Code
 commit_step_of n d = result_and_then (λ now. Ok (step_of_session n (plain.commit now))) (now_of d)
 
--- the present document of a key
+-- a fetch of the current document
 abbrev pub fetch_step_of : ℕ → Data → Result PlainSessionStep Code
 fetch_step_of n d = result_and_then (λ k. Ok (step_of_session n (plain.fetch k))) (key_of d)
 
--- the document at `v`, or the present one
+-- the document at version `v`, or the current one
 abbrev pub snapshot_step_of : ℕ → Data → Result PlainSessionStep Code
 snapshot_step_of n d =
     result_and_then (λ k. result_and_then (λ v. Ok (step_of_session n (plain.snapshot k v))) (read_optional count_of (present_member (codes "v") d)))
     (key_of d)
 
--- the document at the moment `ts`, or the present one
+-- the document at moment `ts`, or the current one
 abbrev pub snapshot_at_time_step_of : ℕ → Data → Result PlainSessionStep Code
 snapshot_at_time_step_of n d =
     result_and_then (λ k. result_and_then (λ t. Ok (step_of_session n (plain.snapshot_at_time k t))) (read_optional count_of (present_member (codes "ts") d)))
     (key_of d)
 
--- a queue from `v` on, or from the present version
+-- a queue from version `v` on, or from the current one
 abbrev pub subscribe_step_of : ℕ → Data → Result PlainSessionStep Code
 subscribe_step_of n d =
     result_and_then (λ k. result_and_then (λ v. Ok (step_of_session n (plain.subscribe k v))) (read_optional count_of (present_member (codes "v") d)))
     (key_of d)
 
--- the next entries of the queue, at most `max`, which is needed
+-- a read of at most `max` entries; `max` is required
 abbrev pub take_step_of : ℕ → Data → Result PlainSessionStep Code
 take_step_of n d =
     result_and_then (λ k. result_and_then (λ max. Ok (step_of_session n (plain.take k max))) (ok_or (count_member (codes "max") d) E1))
     (key_of d)
 
--- the end of the queue
+-- the closing of the queue
 abbrev pub unsubscribe_step_of : ℕ → Data → Result PlainSessionStep Code
 unsubscribe_step_of n d = result_and_then (λ k. Ok (step_of_session n (plain.unsubscribe k))) (key_of d)
 
--- the end of the snapshots that are kept of a key
+-- the removal of the key's cached snapshots
 abbrev pub forget_step_of : ℕ → Data → Result PlainSessionStep Code
 forget_step_of n d = result_and_then (λ k. Ok (step_of_session n (plain.forget k))) (key_of d)
 
@@ -107,17 +114,17 @@ act_of n d =
     else (if bytes_eq a (codes "forget") then forget_step_of n d else Err E1))))))))))
     (option_and_then as_str (get (codes "do") d)) (Err E1)
 
--- the step, or the first code in order
+-- the step, or the first code that applies
 abbrev pub step_of : Data → Result PlainSessionStep Code
 step_of d = option_map_or (λ n. act_of n d) (session_of d) (Err E1)
 
--- the same of a line. One that is too long or has no reading is E1
+-- the step of a line; one that is too long or doesn't parse is E1
 abbrev pub read_step : List ℕ → Result PlainSessionStep Code
 read_step line = option_map_or step_of (parse_data line) (Err E1)
 
--- ---- answers. Members stand in the order of their bytes, and the text is compact
+-- ---- answers: compact JSON with members in byte order
 
--- a code by its short name
+-- the short name of a code
 abbrev pub short_name : Code → List ℕ
 short_name E1 = codes "E1"
 short_name E2 = codes "E2"
@@ -131,31 +138,31 @@ short_name E9 = codes "E9"
 short_name E10 = codes "E10"
 short_name E11 = codes "E11"
 
--- of a line that is no step, and of a step that is refused for want of memory
+-- the answer to a line that is no step, and to a step that failed to allocate
 abbrev pub refusal_data : Code → Data
 refusal_data code = object (member (codes "error") (string (short_name code)) no_members)
 
--- what became of session n's step
+-- the answer with the name of session n's step
 abbrev pub notice_data : List ℕ → ℕ → Data
 notice_data a n = object (member (codes "do") (string a) (member (codes "s") (number (unsigned n)) no_members))
 
--- the step is refused
+-- the refusal of a step
 abbrev pub refused_data : List ℕ → ℕ → Code → Data
 refused_data a n code = object (
     member (codes "do") (string a)
     (member (codes "error") (string (short_name code))
     (member (codes "s") (number (unsigned n)) no_members)))
 
--- stored operations, each without a key
+-- entries, each without its key
 abbrev pub entry_items : List PlainEntry → Items
 entry_items [] = no_items
 entry_items (e ∷ es) = item (entry_data e) (entry_items es)
 
--- the same as an array
+-- entries as an array
 abbrev pub entries_data : List PlainEntry → Data
 entries_data es = array (entry_items es)
 
--- stored at version v, after these were missed
+-- an operation stored at version v, with the missed entries
 abbrev pub stored_data : ℕ → ℕ → List PlainEntry → Data
 stored_data n v missed = object (
     member (codes "do") (string (codes "commit"))
@@ -163,13 +170,13 @@ stored_data n v missed = object (
     (member (codes "s") (number (unsigned n))
     (member (codes "v") (number (unsigned v)) no_members))))
 
--- a repeat misses nothing
+-- the answer to a decision; a duplicate has no missed entries
 abbrev pub decided_data : ℕ → PlainReply → Data
 decided_data n (stored v missed) = stored_data n v missed
 decided_data n (repeated v) = stored_data n v []
 decided_data n (refused code) = refused_data (codes "commit") n code
 
--- the document at version v, or that there is none
+-- the document at version v, or its absence
 abbrev pub step_document_data : List ℕ → ℕ → ℕ → Option Value → Data
 step_document_data a n v (Some j) = object (
     member (codes "data") (data_of_value j)
@@ -182,14 +189,14 @@ step_document_data a n v None = object (
     (member (codes "type") null
     (member (codes "v") (number (unsigned v)) no_members))))
 
--- the version that a queue starts at
+-- the version at which a queue starts
 abbrev pub started_data : ℕ → ℕ → Data
 started_data n v = object (
     member (codes "do") (string (codes "subscribe"))
     (member (codes "s") (number (unsigned n))
     (member (codes "v") (number (unsigned v)) no_members)))
 
--- the entries that a take was given
+-- the entries that a take returned
 abbrev pub taken_data : ℕ → List PlainEntry → Data
 taken_data n es = object (
     member (codes "do") (string (codes "take"))
@@ -207,7 +214,7 @@ reply_data n (subscribed (Ok v)) = started_data n v
 reply_data n (subscribed (Err code)) = refused_data (codes "subscribe") n code
 reply_data n (taken es) = taken_data n es
 
--- to a step of session n that is no event
+-- the answer to a step of session n that is no event
 abbrev pub notice_answer_data : ℕ → Notice → Data
 notice_answer_data n plain.began = notice_data (codes "begin") n
 notice_answer_data n plain.worked = notice_data (codes "work") n
@@ -223,17 +230,17 @@ step_answer_data n (plain.reply_answer r) = reply_data n r
 step_answer_data n (plain.notice_answer a) = notice_answer_data n a
 step_answer_data n plain.out_of_memory = refusal_data E10
 
--- the line that answers a step of session n
+-- the answer line of a step of session n
 abbrev pub step_answer_text : ℕ → PlainStepAnswer → List ℕ
 step_answer_text n a = compact_text (step_answer_data n a)
 
--- the line that answers one that is no step
+-- the answer line of a line that is no step
 abbrev pub step_refusal_text : Code → List ℕ
 step_refusal_text code = compact_text (refusal_data code)
 
 -- ---- lines
 
--- the step that a line is, or the code that refuses it. None is a line that is too long or not UTF-8
+-- the step of a line, or the code that refuses it; `None` is a line that is too long or not UTF-8
 abbrev pub reading_step : Option (List ℕ) → Result PlainSessionStep Code
 reading_step None = Err E1
 reading_step (Some line) = read_step line
@@ -244,13 +251,13 @@ is_step line = is_ok (read_step line)
 abbrev pub line_of : List ℕ → List ℕ
 line_of text = text ++ 10 ∷ []
 
--- those that are steps
+-- the readings that are steps
 abbrev pub steps_in : List (Result PlainSessionStep Code) → List PlainSessionStep
 steps_in [] = []
 steps_in (Ok s ∷ readings) = s ∷ steps_in readings
 steps_in (Err code ∷ readings) = steps_in readings
 
--- one line for each reading: the answers in order for the steps, up to the last, and the codes for the others
+-- one line for each reading: the answers to the steps in order, and the codes of the others
 abbrev pub lines_text : List (Result PlainSessionStep Code) → List PlainStepAnswer → List ℕ
 lines_text [] answers = []
 lines_text (Err code ∷ readings) answers = line_of (step_refusal_text code) ++ lines_text readings answers

@@ -1,10 +1,10 @@
--- What is said of looks has one proof.
+-- Statements about looks are propositions: they have at most one proof.
 use Rattle.std.specs.Prelude.{◌≡◌, ℕ, List, Option, Some, None, slice_get}
 use Rattle.std.specs.Coded.{Coded-set, Π_prop, Unit-prop, le_prop}
 use Rattle.sdb_oplog.specs.Keys.{Logs, plain_key}
 use Rattle.sdb_oplog.specs.Plain.{PlainEntry}
 use Rattle.sdb_desk.specs.Coding.{look_code}
-use Rattle.sdb_desk.specs.LookLaws.{IsLook}
+use Rattle.sdb_desk.specs.Looks.{IsLook}
 use Rattle.sdb_desk.specs.Machine.{PlainAttempt}
 use Rattle.sdb_steps.specs.LookInvariant.{attempt_in, HasLookAt, SessionHasLookAt, AllHaveLookAt}
 use Rattle.sdb_steps.specs.declared.session_data.OpenAttempt.{OpenAttempt}

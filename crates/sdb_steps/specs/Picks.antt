@@ -1,4 +1,4 @@
--- Which steps are events of the one-step machine, and what the others are answered: `Picks`.
+-- The events that steps pick for the reference machine, and the answers to the other steps: `Picks`.
 use Rattle.std.specs.Prelude.{◌≡◌, ℕ, ◌+◌, List, [], ◌∷◌, ◌++◌, flat_map, length, if◌then◌else◌, cond, nat_eq, Bool, true, false, ◌||◌, Option, Some, None, Result, Ok, Err}
 use Rattle.std.specs.Option.{option_map_or}
 use Rattle.std.specs.Result.{is_ok, result_ok}
@@ -13,15 +13,15 @@ use Rattle.sdb_desk.specs.Machine.{fetch_result, snapshot_at, fetch_at_moment, r
 use Rattle.sdb_steps.specs.OneStep as machine
 use Rattle.sdb_steps.specs.OneStep.{OneStep, Event, EventReply, start_result, machine_after_events}
 
--- ---- what a session keeps
+-- ---- the state of a session
 
 -- an attempt to store a submission
 pub record PlainOpenAttempt : Type 0 where
   pub key : PlainKey
   pub submission : PlainSubmission
-  -- how long the log was when it was looked at last
+  -- the log's length at the latest look
   pub looked_version : ℕ
-  -- how many commits have found it moved
+  -- the number of commits that found a longer log
   pub tries : ℕ
   pub is_worked : Bool
 
@@ -39,7 +39,7 @@ with_attempt x a = record { attempt = a; queues = x.queues }
 abbrev pub with_queue : SessionState → PlainKey → Option QueuePosition → SessionState
 with_queue x k o = record { attempt = x.attempt; queues = λ q. cond (keys_equal k q) o (x.queues q) }
 
--- by their numbers
+-- the sessions by number
 abbrev pub SessionStates : Type 0
 SessionStates = ℕ → SessionState
 
@@ -52,27 +52,27 @@ with_session w n x k = cond (nat_eq n k) x (w k)
 -- ---- steps and answers
 
 pub data StepKind : Type 0 where
-  -- at a key: a source, a number, a version that may be absent, a content
+  -- at a key: a source, a seq, an optional version and a content
   begin : PlainKey → List ℕ → ℕ → Option ℕ → PlainContent → StepKind
   work : StepKind
   -- at a moment
   commit : ℕ → StepKind
   fetch : PlainKey → StepKind
-  -- at a version, or at the present one
+  -- at a version, or at the current one
   snapshot : PlainKey → Option ℕ → StepKind
-  -- at a moment, or at the present version
+  -- at a moment, or at the current version
   snapshot_at_time : PlainKey → Option ℕ → StepKind
   subscribe : PlainKey → Option ℕ → StepKind
   take : PlainKey → ℕ → StepKind
   unsubscribe : PlainKey → StepKind
   forget : PlainKey → StepKind
 
--- what one session does
+-- a step of one session
 pub record PlainSessionStep : Type 0 where
   pub session : ℕ
   pub act : StepKind
 
--- what a step is answered that is no event
+-- the answer to a step that is no event
 pub data Notice : Type 0 where
   began : Notice
   worked : Notice
@@ -80,15 +80,15 @@ pub data Notice : Type 0 where
   unsubscribed : Notice
   forgotten : Notice
   idle : Notice
-  -- E11 to a subscribe
+  -- E11 for a subscribe
   full : Notice
 
 pub data PlainStepAnswer : Type 0 where
-  -- the machine's reply to the event that the step is
+  -- the machine's reply to the event of the step
   reply_answer : EventReply → PlainStepAnswer
   -- the step is no event
   notice_answer : Notice → PlainStepAnswer
-  -- E10: a growth was refused
+  -- E10: an allocation failed
   out_of_memory : PlainStepAnswer
 
 abbrev pub reply_in : PlainStepAnswer → List EventReply
@@ -99,27 +99,27 @@ reply_in out_of_memory = []
 abbrev pub replies_in : List PlainStepAnswer → List EventReply
 replies_in answers = flat_map reply_in answers
 
--- ---- one step of one session, where the machine stands at m
+-- ---- one step of one session, for the machine m
 
 pub data Effect : Type 0 where
-  -- an event: its reply is the answer. The session after it
+  -- an event, whose reply is the answer, and the session after it
   event : Event → SessionState → Effect
-  -- no event, and this notice. The session after it
+  -- no event, a notice, and the session after it
   notice : Notice → SessionState → Effect
 
--- session n submits through the collection's own name
+-- the submission of session n, through the collection's own name
 abbrev pub submission_of_begin : ℕ → PlainKey → List ℕ → ℕ → Option ℕ → PlainContent → PlainSubmission
 submission_of_begin n k src seq v content =
     record { src = src; seq = seq; version = v; content = content; via = k.collection; by = n }
 
--- the length is that of the key's log now
+-- a new attempt; its look is at the current log
 abbrev pub open_attempt : OneStep → PlainKey → PlainSubmission → PlainOpenAttempt
 open_attempt m k s = record { key = k; submission = s; looked_version = length (m.logs k); tries = 0; is_worked = false }
 
 abbrev pub mark_worked : PlainOpenAttempt → PlainOpenAttempt
 mark_worked a = record { key = a.key; submission = a.submission; looked_version = a.looked_version; tries = a.tries; is_worked = true }
 
--- looked at again, after one try more
+-- the attempt with a new look, after one more try
 abbrev pub look_again : OneStep → PlainOpenAttempt → PlainOpenAttempt
 look_again m a =
     record {
@@ -130,28 +130,28 @@ look_again m a =
       is_worked = false;
     }
 
--- a commit must decide where the log is as long as looked at, and on the ninth try whatever happened
+-- a commit decides if the log hasn't grown since the look, and on the ninth try
 abbrev pub is_deciding : OneStep → PlainOpenAttempt → Bool
 is_deciding m a = nat_eq (length (m.logs a.key)) a.looked_version || nat_eq a.tries 8
 
--- and then the submission is decided at the moment of the commit, and the attempt is at its end
+-- a deciding commit submits at its moment and closes the attempt; any other takes a new look
 abbrev pub commit_effect : OneStep → SessionState → ℕ → PlainOpenAttempt → Effect
 commit_effect m x now a =
     if is_deciding m a then event (machine.submission a.key a.submission now) (with_attempt x None)
     else notice moved (with_attempt x (Some (look_again m a)))
 
--- a start replaces the session's queue of that key
+-- a queue that starts replaces the session's queue of that key
 abbrev pub subscribe_effect : SessionState → PlainKey → Option ℕ → Result ℕ Code → Effect
 subscribe_effect x k v (Ok start) = event (machine.subscribe k v) (with_queue x k (Some (record { start = start; taken = 0 })))
 subscribe_effect x k v (Err E11) = notice full x
 subscribe_effect x k v (Err code) = event (machine.subscribe k v) x
 
--- on from what was taken
+-- a read from the queue's position on
 abbrev pub take_effect : OneStep → SessionState → PlainKey → ℕ → QueuePosition → Effect
 take_effect m x k max q =
     event (machine.take_from k (q.start + q.taken) max) (with_queue x k (Some (moved_by (m.logs k) max q)))
 
--- what session n does by this act
+-- the effect of this act of session n
 abbrev pub effect : OneStep → ℕ → SessionState → StepKind → Effect
 effect m n x (begin k src seq v content) =
     option_map_or (λ a. notice idle x) x.attempt
@@ -168,10 +168,9 @@ effect m n x (take k max) = option_map_or (take_effect m x k max) (x.queues k) (
 effect m n x (unsubscribe k) = option_map_or (λ q. notice unsubscribed (with_queue x k None)) (x.queues k) (notice idle x)
 effect m n x (forget k) = notice forgotten x
 
--- ---- where memory may be wanting
+-- ---- possible allocation failures
 
--- an event where its reply takes memory: not a repeat, E4, E11, a create on a document, a fetch of none, a take of nothing.
--- Of the others those that copy or keep something
+-- whether the effect's reply allocates; a duplicate, E4, E11, a create on an existing document and empty reads don't
 abbrev pub effect_allocates : OneStep → Effect → Bool
 effect_allocates m (event (machine.submission k s now) x) = decide_allocates (m.logs k) s
 effect_allocates m (event (machine.fetch k) x) = read_has_document (fetch_result (m.logs k))
@@ -189,19 +188,19 @@ effect_allocates m (notice full x) = false
 
 -- ---- runs
 
--- what an effect is answered, which events it is, none or one, and the session after it
+-- the answer to an effect, its events (none or one), and the session after it
 abbrev pub IsEffectOutcome : Effect → PlainStepAnswer → List Event → SessionState → Type 0
 IsEffectOutcome (event e y) answer events x = (r : EventReply) × (answer ≡ reply_answer r) × (events ≡ e ∷ []) × (x ≡ y)
 IsEffectOutcome (notice a y) answer events x = (answer ≡ notice_answer a) × (events ≡ []) × (x ≡ y)
 
--- one step. Where memory is wanting it is no event and leaves all as it was
+-- one step; if an allocation fails, it is no event and changes nothing
 abbrev pub PicksOne : OneStep → SessionStates → PlainSessionStep → PlainStepAnswer → List Event → SessionStates → Type 0
 PicksOne m w s out_of_memory events v =
     (effect_allocates m (effect m s.session (w s.session) s.act) ≡ true) × (events ≡ []) × (v ≡ w)
 PicksOne m w s answer events v =
     (x : SessionState) × IsEffectOutcome (effect m s.session (w s.session) s.act) answer events x × (v ≡ with_session w s.session x)
 
--- steps after these past events: each where the machine stands after the events before it
+-- steps that follow these past events, each on the machine after the events before it
 abbrev pub PicksAfter : List Event → SessionStates → List PlainSessionStep → List PlainStepAnswer → List Event → SessionStates → Type 0
 PicksAfter past w [] [] events v = (events ≡ past) × (v ≡ w)
 PicksAfter past w [] (answer ∷ answers) events v = ⊥
@@ -210,6 +209,6 @@ PicksAfter past w (s ∷ steps) (answer ∷ answers) events v =
     (more : List Event) × (mid : SessionStates) × PicksOne (machine_after_events machine.empty_machine past) w s answer more mid
     × PicksAfter (past ++ more) mid steps answers events v
 
--- these steps, so answered, are these events, and leave the sessions so
+-- these steps with these answers pick these events and end with these sessions
 abbrev pub Picks : List PlainSessionStep → List PlainStepAnswer → List Event → SessionStates → Type 0
 Picks = PicksAfter [] empty_sessions

@@ -1,4 +1,4 @@
--- What the code's attempts and sessions stand for, beside the queues of a shard.
+-- The views of attempts and sessions, given the queues of a shard.
 use Rattle.std.specs.Prelude.{ℕ, List, Option, None, option_map, unwrap_or, slice_get, Bool, true, false}
 use Rattle.std.specs.Option.{option_and_then}
 use Rattle.sdb_oplog.specs.Plain.{PlainSubmission}
@@ -18,7 +18,7 @@ use Rattle.sdb_steps.specs.declared.session_data.Phase.TheVariants.{Looked, Move
 use Rattle.sdb_steps.specs.declared.session_data.OpenAttempt.{OpenAttempt}
 use Rattle.sdb_steps.specs.declared.session_data.Session.{Session}
 
--- the one-step machine that a shard stands for
+-- the reference machine of a shard
 abbrev pub one_step_of_shard : Shard → OneStep
 one_step_of_shard s = record { logs = logs_of s; issued_ids = λ k. (queues_of s k).next }
 
@@ -50,7 +50,7 @@ queue_slots_in es = value_at_key None es
 abbrev pub queue_slots_of : Session → PlainQueueSlots
 queue_slots_of x = queue_slots_in x.slots.entries
 
--- what is known of the queue of this number
+-- the position in the queue of this number
 abbrev pub position_in_queues : PlainQueues → Option ℕ → Option QueuePosition
 position_in_queues q o = option_map position_of_queue (option_and_then (λ n. queue_at n q.queues) o)
 

@@ -1,4 +1,4 @@
--- What the code's steps and answers stand for.
+-- The views of steps and answers.
 use Rattle.std.specs.Prelude.{ℕ, Result, Err, option_map, string_bytes}
 use Rattle.sdb_value.specs.View.{value_of}
 use Rattle.sdb_oplog.specs.declared.codes.Code.{Code}
@@ -31,17 +31,17 @@ plain_session_step (Forget n k) = record { session = n.number; act = plain.forge
 abbrev pub plain_fetched : FetchResult → PlainFetchResult
 plain_fetched f = record { version = f.version; snapshot = option_map value_of f.snapshot }
 
--- to a subscribe E11 is a notice, and no reply
+-- for a subscribe, E11 is a notice and no reply
 abbrev pub plain_start : Result ℕ Code → plain.PlainStepAnswer
 plain_start (Err E11) = plain.notice_answer plain.full
 plain_start r = plain.reply_answer (subscribed r)
 
--- what a subscribe is answered that the shard refuses
+-- the answer to a subscribe that the shard refuses
 abbrev pub start_refusal_answer : Code → plain.PlainStepAnswer
 start_refusal_answer E10 = plain.out_of_memory
 start_refusal_answer code = plain_start (Err code)
 
--- what a snapshot is answered that the shard refuses
+-- the answer to a snapshot that the shard refuses
 abbrev pub snapshot_refusal_answer : Code → plain.PlainStepAnswer
 snapshot_refusal_answer E10 = plain.out_of_memory
 snapshot_refusal_answer code = plain.reply_answer (snapshot_fetched (Err code))

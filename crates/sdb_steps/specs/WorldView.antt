@@ -1,4 +1,4 @@
--- The one-step machine and the sessions that a world stands for.
+-- The reference machine and the sessions of a world.
 use Rattle.sdb_desk.specs.ShardView.{queues_of}
 use Rattle.sdb_steps.specs.OneStep.{OneStep}
 use Rattle.sdb_steps.specs.Picks.{SessionStates}

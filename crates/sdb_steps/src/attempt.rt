@@ -1,11 +1,11 @@
-//! Attempts: a submission that is looked at, worked and committed.
+//! Attempts: a submission with its look, worked and committed.
 ghost use Rattle.std.specs.Prelude.{◌≡◌, ◌<◌, ℕ, true, Some, IfOk, IfErr, IsTrue, IsFalse, option_map, false};
 ghost use Rattle.sdb_oplog.specs.Decide.{refused};
 ghost use Rattle.sdb_oplog.specs.declared.codes.Code.TheVariants.{E10};
 ghost use Rattle.sdb_desk.specs.ReplyView.{plain_reply};
 ghost use Rattle.sdb_oplog.specs.Keys.{PlainKey, plain_key};
 ghost use Rattle.sdb_desk.specs.ShardView.{logs_of, queues_of};
-ghost use Rattle.sdb_desk.specs.LookLaws.{IsLook};
+ghost use Rattle.sdb_desk.specs.Looks.{IsLook};
 ghost use Rattle.sdb_desk.specs.View.{plain_look};
 ghost use Rattle.sdb_steps.specs.LookInvariant.{attempt_in, HasLookAt};
 ghost use Rattle.sdb_steps.specs.Picks.{open_attempt, is_deciding};
@@ -20,14 +20,14 @@ use sdb_oplog::{Code, Key, Moment, Submission};
 use sdb_submit::{resume_work, work};
 use std::alloc::{AllocError, Global};
 
-// The tries after which a commit decides, whatever has happened.
+// Number of tries after which a commit decides even if the log has grown.
 const MAX_TRIES: u64 = 8;
 
-// The answer to a commit, and the attempt where it goes on.
+// The answer to a commit, and the attempt if it isn't decided.
 pub(crate) type CommitAnswer = (StepAnswer, Option<OpenAttempt>);
 
 impl OpenAttempt {
-    // Opens an attempt by a look.
+    // Opens an attempt with a look at the log.
     pub(crate) fn open(
         shard: &Shard,
         key: &Key,
@@ -35,7 +35,7 @@ impl OpenAttempt {
     ) -> Result<OpenAttempt, AllocError>
         ensures opened { IfOk result
             (λ t. plain_open_attempt t ≡ open_attempt (one_step_of_shard shard.now) (plain_key key.now) submission) }
-        ensures looked { IfOk result (λ t. HasLookAt (logs_of shard.now) (Some t)) }
+        ensures has_look { IfOk result (λ t. HasLookAt (logs_of shard.now) (Some t)) }
     {
         let look = shard.look(key, &submission)?;
         Ok(OpenAttempt {
@@ -45,11 +45,11 @@ impl OpenAttempt {
         })
     }
 
-    // Commits at a moment: one try, or, after eight, at once.
+    // Commits at a moment. After eight tries it decides without working first.
     pub(crate) fn commit(self, alloc: Global, shard: &mut Shard, now: Moment) -> CommitAnswer
         requires { HasLookAt (logs_of shard.old) (Some self) }
-        ensures looked { HasLookAt (logs_of shard.new) result.1 }
-        ensures tries { AttemptCommits (one_step_of_shard shard.old) (plain_open_attempt self) now
+        ensures has_look { HasLookAt (logs_of shard.new) result.1 }
+        ensures commits { AttemptCommits (one_step_of_shard shard.old) (plain_open_attempt self) now
             (plain_step_answer result.0)
             (one_step_of_shard shard.new) (option_map plain_open_attempt result.1) }
         ensures queues { queues_of shard.new ≡ queues_of shard.old }
@@ -65,16 +65,16 @@ impl OpenAttempt {
         }
     }
 
-    // A try of an attempt that no memory was found to work: it decides where the log is as long as it was
-    // looked at.
+    // Commits an attempt whose work failed to allocate: it decides if the log hasn't grown since
+    // the look.
     fn commit_unworked(self, shard: &mut Shard, now: Moment) -> CommitAnswer
-        requires few { self.tries < 8 }
-        requires looked { HasLookAt (logs_of shard.old) (Some self) }
-        ensures looked { HasLookAt (logs_of shard.new) result.1 }
-        ensures tries { AttemptCommits (one_step_of_shard shard.old) (plain_open_attempt self) now
+        requires bound { self.tries < 8 }
+        requires has_look { HasLookAt (logs_of shard.old) (Some self) }
+        ensures has_look { HasLookAt (logs_of shard.new) result.1 }
+        ensures commits { AttemptCommits (one_step_of_shard shard.old) (plain_open_attempt self) now
             (plain_step_answer result.0)
             (one_step_of_shard shard.new) (option_map plain_open_attempt result.1) }
-        ensures queues { queues_of shard.new ≡ queues_of shard.old }
+        ensures queues_unchanged { queues_of shard.new ≡ queues_of shard.old }
     {
         if shard.version(&self.key) != look_version(&self.phase) {
             return (StepAnswer::OutOfMemory, Some(self));
@@ -82,15 +82,15 @@ impl OpenAttempt {
         self.commit_now(shard, now)
     }
 
-    // Decides the attempt at a moment, whatever the log has come to.
+    // Decides the attempt at a moment on the current log.
     fn commit_now(self, shard: &mut Shard, now: Moment) -> CommitAnswer
         requires due { is_deciding (one_step_of_shard shard.old) (plain_open_attempt self) ≡ true }
-        requires looked { HasLookAt (logs_of shard.old) (Some self) }
-        ensures looked { HasLookAt (logs_of shard.new) result.1 }
-        ensures tries { AttemptCommits (one_step_of_shard shard.old) (plain_open_attempt self) now
+        requires has_look { HasLookAt (logs_of shard.old) (Some self) }
+        ensures has_look { HasLookAt (logs_of shard.new) result.1 }
+        ensures commits { AttemptCommits (one_step_of_shard shard.old) (plain_open_attempt self) now
             (plain_step_answer result.0)
             (one_step_of_shard shard.new) (option_map plain_open_attempt result.1) }
-        ensures queues { queues_of shard.new ≡ queues_of shard.old }
+        ensures queues_unchanged { queues_of shard.new ≡ queues_of shard.old }
     {
         let reply = shard.commit_now(&self.key, submission_of(&self.phase), now);
         if is_out_of_memory(&reply) {
@@ -99,7 +99,7 @@ impl OpenAttempt {
         (StepAnswer::Decided(reply), None)
     }
 
-    // Works the attempt: whether it was worked just now. Where memory is wanting it is as it was.
+    // Works the attempt, once. If an allocation fails, the attempt is unchanged.
     pub(crate) fn work(self, alloc: Global) -> (StepAnswer, OpenAttempt)
         ensures works { AttemptWorks (plain_open_attempt self) (plain_step_answer result.0)
             (plain_open_attempt result.1) }
@@ -122,7 +122,7 @@ fn submission_of(phase: &Phase) -> &Submission
     }
 }
 
-// The version that was looked at.
+// Returns the version of the phase's look.
 fn look_version(phase: &Phase) -> u64
     ensures { result ≡ look_version phase.now }
 {
@@ -142,8 +142,8 @@ fn is_worked(phase: &Phase) -> bool
     }
 }
 
-// The work that a phase comes to. Where memory is wanting it is as it was, but for what was worked by an
-// older look.
+// Works a phase. If an allocation fails, the phase is unchanged, except that a work for an older
+// look is discarded.
 fn worked(alloc: Global, phase: Phase) -> Result<Work, Phase>
     ensures submission { IfOk result (λ w. w.submission ≡ submission_in phase) }
     ensures version { IfOk result (λ w. w.look.version ≡ look_version phase) }
@@ -176,7 +176,7 @@ fn work_phase(alloc: Global, phase: Phase) -> (StepAnswer, Phase)
     }
 }
 
-// One try of a work, at a moment. Where memory is wanting the attempt is as it was, worked or not.
+// Commits a work at a moment. If an allocation fails, the attempt is unchanged.
 fn commit_work(
     shard: &mut Shard,
     key: Key,
@@ -185,10 +185,10 @@ fn commit_work(
     is_worked: bool,
     now: Moment,
 ) -> CommitAnswer
-    requires few { tries < 8 }
+    requires bound { tries < 8 }
     requires looked { IsLook (logs_of shard.old (plain_key key)) work }
     ensures looked { HasLookAt (logs_of shard.new) result.1 }
-    ensures tries { AttemptCommits (one_step_of_shard shard.old)
+    ensures commits { AttemptCommits (one_step_of_shard shard.old)
         (record {
           key = plain_key key;
           submission = work.submission;
@@ -197,7 +197,7 @@ fn commit_work(
           is_worked = is_worked;
         })
         now (plain_step_answer result.0) (one_step_of_shard shard.new) (option_map plain_open_attempt result.1) }
-    ensures queues { queues_of shard.new ≡ queues_of shard.old }
+    ensures queues_unchanged { queues_of shard.new ≡ queues_of shard.old }
 {
     let mut work = work;
     match shard.commit(&key, &mut work, now) {
@@ -219,9 +219,9 @@ fn commit_work(
     }
 }
 
-// Whether memory was wanting.
+// Returns whether an allocation failed.
 fn is_out_of_memory(reply: &Reply) -> bool
-    ensures wanting { IsTrue result → plain_reply reply.now ≡ refused E10 }
+    ensures memory { IsTrue result → plain_reply reply.now ≡ refused E10 }
     ensures enough { IsFalse result → plain_reply reply.now ≡ refused E10 → ⊥ }
 {
     match reply {
@@ -230,7 +230,7 @@ fn is_out_of_memory(reply: &Reply) -> bool
     }
 }
 
-// A work, put back as it was before the commit: worked, or looked at alone.
+// Returns the phase before the commit: worked, or only looked at.
 fn restore_attempt(work: Work, is_worked: bool) -> Phase
     ensures attempt { attempt_in result ≡ work }
     ensures plain { (k : PlainKey) (n : ℕ) → attempt_at k result n ≡ record {
@@ -248,7 +248,7 @@ fn restore_attempt(work: Work, is_worked: bool) -> Phase
     }
 }
 
-// The submission of a work, by a fresh look.
+// Returns the phase of a work with a newer look.
 fn look_again(work: Work, look: Look) -> Phase
     ensures attempt { attempt_in result ≡ record { submission = work.submission; look = plain_look look } }
     ensures plain { (k : PlainKey) (n : ℕ) → attempt_at k result n ≡ record {

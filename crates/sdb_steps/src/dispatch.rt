@@ -1,4 +1,4 @@
-//! Each step goes to its session and to the documents.
+//! Dispatch of a step to its session and the documents.
 ghost use Rattle.std.specs.Prelude.{◌≡◌, ℕ, None, IfOk, OnErr, option_map, string_bytes};
 ghost use Rattle.sdb_oplog.specs.Keys.{plain_key};
 ghost use Rattle.sdb_desk.specs.ShardView.{logs_of, queues_of};
@@ -16,7 +16,7 @@ use sdb_desk::Shard;
 use sdb_oplog::{Code, Content, Key, Moment, Submission};
 use std::alloc::{AllocError, Global};
 
-// One step of this session.
+// Runs one step of this session.
 pub(crate) fn dispatch(
     alloc: Global,
     shard: &mut Shard,
@@ -25,13 +25,13 @@ pub(crate) fn dispatch(
 ) -> StepAnswer
     requires queues { SlotsOpen (plain_session_step step.now).session (queues_of shard.old)
         (queue_slots_of session.old) }
-    requires looked { HasLookAt (logs_of shard.old) session.old.attempt }
-    ensures looked { HasLookAt (logs_of shard.new) session.new.attempt }
+    requires has_look { HasLookAt (logs_of shard.old) session.old.attempt }
+    ensures has_look { HasLookAt (logs_of shard.new) session.new.attempt }
     ensures dispatches { DispatchesAct (plain_session_step step.now).session (one_step_of_shard shard.old)
         (session_state_of (queues_of shard.old) session.old) (plain_session_step step.now).act
         (plain_step_answer result)
         (one_step_of_shard shard.new) (session_state_of (queues_of shard.new) session.new) }
-    ensures leaves { OtherQueuesUnchanged (plain_session_step step.now).session (queues_of shard.old)
+    ensures other_queues_unchanged { OtherQueuesUnchanged (plain_session_step step.now).session (queues_of shard.old)
         (queue_slots_of session.old)
         (queues_of shard.new) (queue_slots_of session.new) }
 {
@@ -76,7 +76,7 @@ pub(crate) fn dispatch(
     }
 }
 
-// The submission of a session, through the collection's own name.
+// Creates a session's submission, through the collection's own name.
 fn submission_of(
     alloc: Global,
     number: SessionNumber,
@@ -96,7 +96,7 @@ fn submission_of(
     Submission::new(alloc, src, seq, version, content, via, number.number)
 }
 
-// Opens an attempt, unless there was no memory for its submission.
+// Opens an attempt, unless the allocation of its submission failed.
 fn begin(
     shard: &Shard,
     session: &mut Session,
@@ -104,11 +104,11 @@ fn begin(
     submission: Result<Submission, AllocError>,
 ) -> StepAnswer
     requires { session.old.attempt ≡ None }
-    ensures slots { queue_slots_of session.new ≡ queue_slots_of session.old }
-    ensures looked { HasLookAt (logs_of shard.now) session.new.attempt }
+    ensures slots_unchanged { queue_slots_of session.new ≡ queue_slots_of session.old }
+    ensures has_look { HasLookAt (logs_of shard.now) session.new.attempt }
     ensures begun { IfOk submission (λ s. AttemptBegins (one_step_of_shard shard.now) (plain_key key.now) s
         (plain_step_answer result) (option_map plain_open_attempt session.new.attempt)) }
-    ensures wanting { OnErr submission
+    ensures memory { OnErr submission
         ((plain_step_answer result ≡ plain.out_of_memory)
         × (option_map plain_open_attempt session.new.attempt ≡ None)) }
 {
@@ -124,11 +124,11 @@ fn begin(
     }
 }
 
-// Reads the present document.
+// Reads the current document.
 fn fetch(shard: &mut Shard, key: &Key) -> StepAnswer
     ensures dispatches { (i : ℕ) (x : plain.SessionState) → DispatchesAct i (one_step_of_shard shard.old) x
         (plain.fetch (plain_key key.now)) (plain_step_answer result) (one_step_of_shard shard.new) x }
-    ensures logs { logs_of shard.new ≡ logs_of shard.old }
+    ensures logs_unchanged { logs_of shard.new ≡ logs_of shard.old }
     ensures queues { queues_of shard.new ≡ queues_of shard.old }
 {
     match shard.fetch(key) {
@@ -137,11 +137,11 @@ fn fetch(shard: &mut Shard, key: &Key) -> StepAnswer
     }
 }
 
-// Reads the document at a version, or the present one.
+// Reads the document at a version, or the current one.
 fn snapshot(shard: &mut Shard, key: &Key, version: Option<u64>) -> StepAnswer
     ensures dispatches { (i : ℕ) (x : plain.SessionState) → DispatchesAct i (one_step_of_shard shard.old) x
         (plain.snapshot (plain_key key.now) version) (plain_step_answer result) (one_step_of_shard shard.new) x }
-    ensures logs { logs_of shard.new ≡ logs_of shard.old }
+    ensures logs_unchanged { logs_of shard.new ≡ logs_of shard.old }
     ensures queues { queues_of shard.new ≡ queues_of shard.old }
 {
     match shard.snapshot_at(key, version) {
@@ -150,11 +150,11 @@ fn snapshot(shard: &mut Shard, key: &Key, version: Option<u64>) -> StepAnswer
     }
 }
 
-// Reads the document at a moment, or the present one.
+// Reads the document at a moment, or the current one.
 fn snapshot_at_time(shard: &mut Shard, key: &Key, moment: Option<Moment>) -> StepAnswer
     ensures dispatches { (i : ℕ) (x : plain.SessionState) → DispatchesAct i (one_step_of_shard shard.old) x
         (plain.snapshot_at_time (plain_key key.now) moment) (plain_step_answer result) (one_step_of_shard shard.new) x }
-    ensures logs { logs_of shard.new ≡ logs_of shard.old }
+    ensures logs_unchanged { logs_of shard.new ≡ logs_of shard.old }
     ensures queues { queues_of shard.new ≡ queues_of shard.old }
 {
     match shard.snapshot_at_time(key, moment) {
@@ -163,7 +163,7 @@ fn snapshot_at_time(shard: &mut Shard, key: &Key, moment: Option<Moment>) -> Ste
     }
 }
 
-// What a snapshot is answered that the shard refuses.
+// Returns the answer for a snapshot that the shard refuses.
 fn refused_snapshot(code: Code) -> StepAnswer
     ensures { plain_step_answer result ≡ snapshot_refusal_answer code }
 {

@@ -1,4 +1,4 @@
-//! Steps of up to 64 sessions on one set of documents, each answered by one machine.
+//! Steps of up to 64 sessions on one set of documents, each step with its answer.
 #![tactic(auto)]
 
 mod attempt;

@@ -1,4 +1,4 @@
-//! Reads the lines of steps.
+//! The parser of step lines.
 ghost use Rattle.std.specs.Prelude.{◌≡◌, Ok, IfOk, IfErr, option_map};
 ghost use Rattle.sdb_json.specs.JsonTree.{view as tree_view};
 ghost use Rattle.sdb_oplog.specs.Refusal.{IsRefusalOrOutOfMemory};
@@ -15,7 +15,11 @@ use sdb_wire::{
 };
 use std::alloc::Global;
 
-/// The step that a line is, or the first code in order, E1 to E3. E10 is want of memory.
+/// Parses a line to a step.
+///
+/// # Errors
+///
+/// The first of [`Code::E1`] to [`Code::E3`] that applies, or [`Code::E10`] if an allocation fails.
 pub fn read_step(alloc: Global, text: &str) -> Result<Step, Code>
     ensures ok { IfOk result (λ s. read_step text.now ≡ Ok (plain_session_step s)) }
     ensures err { IfErr result (λ code. IsRefusalOrOutOfMemory (read_step text.now) code) }
@@ -87,7 +91,7 @@ fn begin_step_of(alloc: Global, session: SessionNumber, value: &JsonTree<'_>) ->
     })
 }
 
-// The moment of a commit: the first one where it is absent.
+// Returns the moment of a commit, or the first moment if the member is absent.
 fn now_of(value: &JsonTree<'_>) -> Result<Moment, Code>
     ensures { result ≡ now_of (tree_view value.now) }
 {

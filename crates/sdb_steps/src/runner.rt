@@ -38,37 +38,43 @@ pub struct Ran {
     pub world: World,
 }
 
-/// Takes the steps one after the other, from a new world on. It fails only for want of memory for the
-/// world or for the list of answers; a step that finds no memory is answered so.
+/// Runs the steps in order on a new world. A step that fails to allocate is answered E10.
+///
+/// # Errors
+///
+/// [`AllocError`] if an allocation for the world or for the list of answers fails.
 pub fn run_steps(alloc: Global, steps: &[Step]) -> Result<Ran, AllocError>
-    // Replies and documents are those of a machine that takes each submission in one step at its deciding commit.
+    // Replies and logs are those of the reference machine, which executes each submission
+    // atomically at its deciding commit.
     ensures headline { IfOk result (λ ran. (events : List Event)
         × Picks (map plain_session_step steps.now) (map plain_step_answer ran.answers.items) events
         (sessions_of ran.world)
         × Legal events (replies_in (map plain_step_answer ran.answers.items)) (one_step_of_world ran.world).logs) }
-    // The same with the machine at the end, so that further steps of the world go on from there.
+    // The machine and the sessions at the end, from which a longer run can continue.
     ensures goes_on { IfOk result (λ ran.
         IsRun (map plain_session_step steps.now) (map plain_step_answer ran.answers.items)
         (one_step_of_world ran.world) (sessions_of ran.world)) }
-    // Each entry of each log is the one that its submission stores on those before it.
+    // Each entry of each log is the one that its submission stores on the entries before it.
     ensures made { IfOk result (λ ran. (k : PlainKey) → IsMade ((one_step_of_world ran.world).logs k)) }
-    // No two entries of a log have one source and number.
+    // No two entries of a log have the same source and seq.
     ensures once { IfOk result (λ ran. (k : PlainKey)
         → are_identifiers_new [] ((one_step_of_world ran.world).logs k) ≡ true) }
-    // What each commit was answered is the place that the log at the end has for its source and number.
+    // Each commit returned the first version in the final log with its source and seq.
     ensures placed { IfOk result (λ ran.
         SubmissionsArePlaced (map plain_session_step steps.now) (map plain_step_answer ran.answers.items)
         (one_step_of_world ran.world).logs) }
-    // What each read was answered is the replay of so many first entries of the log at the end.
+    // Each read returned the replay of a prefix of the final log.
     ensures replays { IfOk result (λ ran.
         ReadsAreReplays (map plain_session_step steps.now) (map plain_step_answer ran.answers.items)
         (one_step_of_world ran.world).logs) }
-    // Each take was answered the entries behind those of the takes before it, from the queue's start on.
+    // Each take returned the entries that follow those of the takes before it, from the queue's
+    // start on.
     ensures continued { IfOk result (λ ran.
         TakesContinue (map plain_session_step steps.now) (map plain_step_answer ran.answers.items)
         (one_step_of_world ran.world).logs) }
-    // Each open queue took the stored entries from its start on, in order, none missing.
-    ensures took { IfOk result (λ ran.
+    // States that each open queue has read the entries from its start on, in order and without
+    // gaps.
+    ensures taken { IfOk result (λ ran.
         QueuesTakeAll (map plain_session_step steps.now) (map plain_step_answer ran.answers.items)
         (sessions_of ran.world)
         (one_step_of_world ran.world).logs) }
@@ -121,7 +127,7 @@ impl LineHandler for World {
     }
 }
 
-// Answers a line that is no step.
+// Writes the answer to a line that is no step.
 fn write_unreadable(alloc: Global, code: Code, out: &mut Vec<u8>) -> Result<(), AllocError>
     ensures { OnOk result (out.new.items ≡ out.old.items ++ line_of (step_refusal_text code)) }
 {
@@ -130,33 +136,42 @@ fn write_unreadable(alloc: Global, code: Code, out: &mut Vec<u8>) -> Result<(), 
     Ok(())
 }
 
-/// Answers the lines of a reader, each a step or refused by its code, from a new world on. An empty line,
-/// one that isn't UTF-8 and one of more than 1,048,576 bytes are E1; a last piece without a line feed is
-/// a line if it isn't empty. The answers to what was read are written and flushed before the next read,
-/// which is read in the code and tested, and no clause. At most 2^40 reads are made. What was written is
-/// told where the reader and the writer know their bytes, as a slice and a vector do.
+/// Runs the lines of a reader on a new world and writes one answer for each. A line is a step, or
+/// it is refused with its code.
 ///
-/// A step that finds no memory is answered E10 and changes nothing, and the run goes on. Where a line
-/// can't be read or its answer not written for want of memory, the run ends with [`RunFault::OutOfMemory`].
-/// `lines` counts the lines, `steps` those that are steps.
+/// - An empty line, a line that isn't UTF-8 and a line of more than 1,048,576 bytes are answered
+///   E1. Trailing bytes without a line feed are a line if there are any.
+/// - The answers to all that was read are written and flushed before the next read. No clause
+///   states this; tests check it.
+/// - At most 2^40 reads are made.
+/// - The clauses state the bytes written if the reader and the writer know their bytes, as a slice
+///   and a vector do.
+/// - A step that fails to allocate is answered E10, changes nothing, and the run continues.
+/// - In the result, `lines` counts the lines and `steps` those that are steps.
+///
+/// # Errors
+///
+/// [`RunFault::OutOfMemory`] if an allocation for a line or an answer fails, or the fault of a read
+/// or write that failed. The bytes written are then a prefix of the whole output.
 pub fn run<R: Source, W: Sink>(
     alloc: Global,
     reader: &mut R,
     writer: &mut W,
 ) -> Result<Counts, RunFault>
-    // One line for each line: the answers of the headline for the steps, and the codes for the others.
-    ensures whole { OnOk result (IfSome (R.remaining_input reader.old) (λ input.
+    // One answer line for each line: the answers of the headline for steps, and the codes for the
+    // others.
+    ensures wrote_all { OnOk result (IfSome (R.remaining_input reader.old) (λ input.
         WroteRun (map readable_text (lines_of input)) (W.bytes_written writer.old) (W.bytes_written writer.new))) }
     ensures counts { IfOk result (λ counts. IfSome (R.remaining_input reader.old)
         (λ input. AreCountsOf is_step input counts)) }
-    // After a fault a front of that was written.
-    ensures front { OnErr result (IfSome (R.remaining_input reader.old) (λ input.
+    // After a fault, a prefix of that was written.
+    ensures prefix_on_err { OnErr result (IfSome (R.remaining_input reader.old) (λ input.
         WroteRunPrefix (map readable_text (lines_of input)) (W.bytes_written writer.old)
         (W.bytes_written writer.new))) }
-    // No read failed, and no write or flush, but for the one that is the fault.
-    ensures reads { ReadFaultIsCounted result (R.calls reader.old) (R.failures reader.old)
+    // No read, write or flush failed, except the one that is the fault.
+    ensures read_failures { ReadFaultIsCounted result (R.calls reader.old) (R.failures reader.old)
         (R.calls reader.new) (R.failures reader.new) }
-    ensures writes { WriteFaultIsCounted result (W.failures writer.old) (W.failures writer.new) }
+    ensures write_failures { WriteFaultIsCounted result (W.failures writer.old) (W.failures writer.new) }
 {
     let mut world = World::new(alloc)?;
     run_lines(alloc, &mut world, reader, writer)

@@ -32,13 +32,13 @@ impl Session {
         }
     }
 
-    // Works on the attempt.
+    // Works the attempt.
     pub(crate) fn work(&mut self, alloc: Global) -> StepAnswer
         ensures dispatches { (i : ℕ) (m : OneStep) (q : QueuesByKey) →
             DispatchesAct i m (session_state_of q self.old) work (plain_step_answer result) m
             (session_state_of q self.new) }
-        ensures slots { queue_slots_of self.new ≡ queue_slots_of self.old }
-        ensures looked { (logs : Logs) → HasLookAt logs self.old.attempt → HasLookAt logs self.new.attempt }
+        ensures slots_unchanged { queue_slots_of self.new ≡ queue_slots_of self.old }
+        ensures has_look { (logs : Logs) → HasLookAt logs self.old.attempt → HasLookAt logs self.new.attempt }
     {
         let Some(attempt) = self.attempt.take() else {
             return StepAnswer::Idle;
@@ -51,11 +51,11 @@ impl Session {
     // Commits the attempt at a moment.
     pub(crate) fn commit(&mut self, alloc: Global, shard: &mut Shard, now: Moment) -> StepAnswer
         requires { HasLookAt (logs_of shard.old) self.old.attempt }
-        ensures looked { HasLookAt (logs_of shard.new) self.new.attempt }
+        ensures has_look { HasLookAt (logs_of shard.new) self.new.attempt }
         ensures dispatches { (i : ℕ) (q : QueuesByKey)
             → DispatchesAct i (one_step_of_shard shard.old) (session_state_of q self.old)
             (commit now) (plain_step_answer result) (one_step_of_shard shard.new) (session_state_of q self.new) }
-        ensures slots { queue_slots_of self.new ≡ queue_slots_of self.old }
+        ensures slots_unchanged { queue_slots_of self.new ≡ queue_slots_of self.old }
         ensures queues { queues_of shard.new ≡ queues_of shard.old }
     {
         let Some(attempt) = self.attempt.take() else {
@@ -66,7 +66,7 @@ impl Session {
         answer
     }
 
-    // Opens a queue of this number, in place of the one of this key.
+    // Opens a queue for the session number, and replaces the key's old queue.
     pub(crate) fn subscribe(
         &mut self,
         by: u64,
@@ -79,10 +79,10 @@ impl Session {
             (queues_of shard.old) self.old)
             (subscribe (plain_key key.now) version)
             (plain_step_answer result) (one_step_of_shard shard.new) (session_state_of (queues_of shard.new) self.new) }
-        ensures leaves { OtherQueuesUnchanged by (queues_of shard.old) (queue_slots_of self.old)
+        ensures other_queues_unchanged { OtherQueuesUnchanged by (queues_of shard.old) (queue_slots_of self.old)
             (queues_of shard.new) (queue_slots_of self.new) }
-        ensures attempt { self.new.attempt ≡ self.old.attempt }
-        ensures logs { logs_of shard.new ≡ logs_of shard.old }
+        ensures attempt_unchanged { self.new.attempt ≡ self.old.attempt }
+        ensures logs_unchanged { logs_of shard.new ≡ logs_of shard.old }
     {
         if let Err(code) = shard.queue_start_or_full(key, version) {
             return refused_start(code);
@@ -103,17 +103,17 @@ impl Session {
         }
     }
 
-    // Takes the next entries of the queue.
+    // Reads the next entries of the queue.
     pub(crate) fn take(&mut self, by: u64, shard: &mut Shard, key: &Key, max: u64) -> StepAnswer
         requires { SlotsOpen by (queues_of shard.old) (queue_slots_of self.old) }
         ensures dispatches { DispatchesAct by (one_step_of_shard shard.old) (session_state_of
             (queues_of shard.old) self.old)
             (take (plain_key key.now) max)
             (plain_step_answer result) (one_step_of_shard shard.new) (session_state_of (queues_of shard.new) self.new) }
-        ensures leaves { OtherQueuesUnchanged by (queues_of shard.old) (queue_slots_of self.old)
+        ensures other_queues_unchanged { OtherQueuesUnchanged by (queues_of shard.old) (queue_slots_of self.old)
             (queues_of shard.new) (queue_slots_of self.new) }
-        ensures attempt { self.new.attempt ≡ self.old.attempt }
-        ensures logs { logs_of shard.new ≡ logs_of shard.old }
+        ensures attempt_unchanged { self.new.attempt ≡ self.old.attempt }
+        ensures logs_unchanged { logs_of shard.new ≡ logs_of shard.old }
     {
         let Some(id) = queue_of(&self.slots, key) else {
             return StepAnswer::Idle;
@@ -132,10 +132,10 @@ impl Session {
             (queues_of shard.old) self.old)
             (unsubscribe (plain_key key.now))
             (plain_step_answer result) (one_step_of_shard shard.new) (session_state_of (queues_of shard.new) self.new) }
-        ensures leaves { OtherQueuesUnchanged by (queues_of shard.old) (queue_slots_of self.old)
+        ensures other_queues_unchanged { OtherQueuesUnchanged by (queues_of shard.old) (queue_slots_of self.old)
             (queues_of shard.new) (queue_slots_of self.new) }
-        ensures attempt { self.new.attempt ≡ self.old.attempt }
-        ensures logs { logs_of shard.new ≡ logs_of shard.old }
+        ensures attempt_unchanged { self.new.attempt ≡ self.old.attempt }
+        ensures logs_unchanged { logs_of shard.new ≡ logs_of shard.old }
     {
         let Some(id) = queue_of(&self.slots, key) else {
             return StepAnswer::Idle;
@@ -151,7 +151,7 @@ fn close_queue(shard: &mut Shard, by: u64, key: &Key, queue: Option<SubId>)
     ensures queues { queues_of shard.new ≡
         with_queues (queues_of shard.old) (plain_key key.now)
         (close_in by queue (queues_of shard.old (plain_key key.now))) }
-    ensures logs { logs_of shard.new ≡ logs_of shard.old }
+    ensures logs_unchanged { logs_of shard.new ≡ logs_of shard.old }
 {
     match queue {
         Some(id) => shard.unsubscribe(key, by, id),
@@ -159,7 +159,7 @@ fn close_queue(shard: &mut Shard, by: u64, key: &Key, queue: Option<SubId>)
     }
 }
 
-// What a subscribe is answered that the shard refuses.
+// Returns the answer for a subscribe that the shard refuses.
 fn refused_start(code: Code) -> StepAnswer
     ensures { plain_step_answer result ≡ start_refusal_answer code }
 {

@@ -1,4 +1,4 @@
-//! What a session keeps.
+//! The state of a session.
 ghost use Rattle.std.specs.Prelude.{◌<◌};
 
 use sdb_desk::{Attempt, Look, Work};
@@ -6,8 +6,7 @@ use sdb_oplog::Key;
 use sdb_subscribe::SubId;
 use std::collections::BTreeMap;
 
-// What an attempt has come to: it was looked at; it was looked at again, after it was worked by an older
-// look; or it is worked.
+// The phase of an attempt: with a look; with a work for an older look and a newer look; or worked.
 #[derive(Drop)]
 pub(crate) enum Phase {
     Looked(Attempt),
@@ -15,8 +14,8 @@ pub(crate) enum Phase {
     Worked(Work),
 }
 
-// An attempt to store a submission: its document, what it has come to, and how many commits have found
-// the log moved.
+// An attempt to store a submission: its document, its phase, and the number of commits that found a
+// longer log.
 #[derive(Drop)]
 pub(crate) struct OpenAttempt {
     pub key: Key,
@@ -25,7 +24,7 @@ pub(crate) struct OpenAttempt {
     ghost few: { tries < 9 },
 }
 
-// At most one attempt, and a slot for the queue of each key. An empty slot is there only while a queue is
+// At most one attempt, and a slot for the queue of each key. A slot is empty only while a queue is
 // being opened.
 #[derive(Drop)]
 pub(crate) struct Session {

@@ -1,7 +1,7 @@
 //! The numbers of sessions.
 ghost use Rattle.std.specs.Prelude.{◌≡◌, ◌<◌, ◌≤◌, IfSome, IfNone};
 
-/// How many sessions there are: 64.
+/// Number of sessions: 64.
 pub const SESSION_LIMIT: u64 = 64;
 
 /// The number of a session, from 0 to 63.
@@ -12,7 +12,7 @@ pub struct SessionNumber {
 }
 
 impl SessionNumber {
-    /// The session of this number; `None` from 64 on.
+    /// Creates a session number, or returns `None` if it is 64 or more.
     pub fn new(number: u64) -> Option<SessionNumber>
         ensures some { IfSome result (λ n. n.number ≡ number) }
         ensures none { IfNone result (64 ≤ number) }

@@ -1,4 +1,4 @@
-//! The slots of a session: the number of its queue of each key.
+//! The slots of a session: the number of its queue for each key.
 ghost use Rattle.std.specs.Prelude.{◌≡◌, true, None, Some, IfOk, OnOk, OnErr, option_map};
 ghost use Rattle.std.specs.Map.{lookup};
 ghost use Rattle.std.specs.BTreeMap.{is_at};
@@ -12,10 +12,10 @@ use sdb_subscribe::SubId;
 use std::alloc::AllocError;
 use std::collections::BTreeMap;
 
-// The slots of one session, by key.
+// The slots of one session by key.
 pub(crate) type QueueSlots = BTreeMap<Key, Option<SubId>>;
 
-// The number of the queue of the key.
+// Returns the number of the key's queue.
 pub(crate) fn queue_of(slots: &QueueSlots, key: &Key) -> Option<SubId>
     ensures { result ≡ queue_slots_in slots.now.entries (plain_key key.now) }
 {
@@ -25,13 +25,12 @@ pub(crate) fn queue_of(slots: &QueueSlots, key: &Key) -> Option<SubId>
     }
 }
 
-// Makes a slot for the key, which may be there already, so that it is filled without memory. The number
-// of the queue that stands there.
+// Ensures a slot for the key, so that filling it can't fail. Returns the number of the queue in it.
 pub(crate) fn reserve_slot(slots: &mut QueueSlots, key: &Key) -> Result<Option<SubId>, AllocError>
     ensures number { IfOk result (λ o. o ≡ queue_slots_in slots.old.entries (plain_key key.now)) }
     ensures made { OnOk result
         (is_some (lookup (is_at (λ k. compare_keys (plain_key key.now) (plain_key k))) slots.new.entries) ≡ true) }
-    ensures same { queue_slots_in slots.new.entries ≡ queue_slots_in slots.old.entries }
+    ensures unchanged { queue_slots_in slots.new.entries ≡ queue_slots_in slots.old.entries }
 {
     match slots.get(key) {
         Some(slot) => Ok(*slot),
@@ -42,7 +41,7 @@ pub(crate) fn reserve_slot(slots: &mut QueueSlots, key: &Key) -> Result<Option<S
     }
 }
 
-// Puts a queue in a slot that is made.
+// Fills a reserved slot.
 pub(crate) fn fill_slot(slots: &mut QueueSlots, key: &Key, id: SubId)
     requires { is_some (lookup (is_at (λ k. compare_keys (plain_key key.now) (plain_key k))) slots.old.entries) ≡ true }
     ensures { queue_slots_in slots.new.entries
@@ -54,7 +53,7 @@ pub(crate) fn fill_slot(slots: &mut QueueSlots, key: &Key, id: SubId)
     }
 }
 
-// Lets the slot of the key go.
+// Removes the slot of the key.
 pub(crate) fn drop_slot(slots: &mut QueueSlots, key: &Key)
     ensures { queue_slots_in slots.new.entries
         ≡ with_value_at_key (queue_slots_in slots.old.entries) (plain_key key.now) None }
@@ -62,7 +61,7 @@ pub(crate) fn drop_slot(slots: &mut QueueSlots, key: &Key)
     let _ = slots.remove(key);
 }
 
-// Lets the slot of the key go if no queue stands there.
+// Removes the slot of the key if it is empty.
 pub(crate) fn drop_empty_slot(slots: &mut QueueSlots, key: &Key)
     ensures { queue_slots_in slots.new.entries ≡ queue_slots_in slots.old.entries }
 {

@@ -6,11 +6,11 @@ use crate::session_number::SessionNumber;
 use sdb_desk::{FetchResult, Reply};
 use sdb_oplog::{Code, Content, Entry, Key, Moment};
 
-/// What one session does.
+/// A step of one session.
 #[derive(Drop)]
 pub enum Step {
-    /// Opens an attempt to store a submission: its source, its number, the version that it was made at
-    /// and its content. Idle where the session has an attempt.
+    /// Opens an attempt to store a submission: its source, its seq, its base version and its
+    /// content. Idle if the session has an attempt.
     Begin {
         session: SessionNumber,
         key: Key,
@@ -19,44 +19,45 @@ pub enum Step {
         version: Option<u64>,
         content: Content,
     },
-    /// Carries the submission along what it missed when it was looked at; no document is asked. Idle
-    /// without an attempt, and on one that is worked.
+    /// Transforms the submission against the entries of its look and applies it, without reading
+    /// the documents. Idle without an attempt, and if the attempt is worked.
     Work {
         session: SessionNumber,
     },
-    /// Decides the attempt, where the log is as long as it was looked at, and on the ninth try; elsewhere
-    /// the log has moved, and is looked at again. An attempt that is not worked is worked first. Idle
-    /// without an attempt. What is stored has this moment, or that of the entry before it where that is
-    /// later.
+    /// Decides the attempt if the log hasn't grown since the look, or on the ninth try; otherwise
+    /// it takes a new look. An attempt that isn't worked is worked first. The stored entry has this
+    /// moment, or that of the entry before it if that is later.
+    ///
+    /// Idle without an attempt.
     Commit {
         session: SessionNumber,
         now: Moment,
     },
-    /// Reads the present document.
+    /// Reads the current document.
     Fetch {
         session: SessionNumber,
         key: Key,
     },
-    /// Reads the document at a version, at the present one without.
+    /// Reads the document at a version, or the current one.
     Snapshot {
         session: SessionNumber,
         key: Key,
         version: Option<u64>,
     },
-    /// Reads the document at a moment, the present one without.
+    /// Reads the document at a moment, or the current one.
     SnapshotAtTime {
         session: SessionNumber,
         key: Key,
         moment: Option<Moment>,
     },
-    /// Opens a queue at a version, at the present one without, in place of the session's queue of this
+    /// Opens a queue at a version or at the current one, and replaces the session's queue of this
     /// document.
     Subscribe {
         session: SessionNumber,
         key: Key,
         version: Option<u64>,
     },
-    /// Takes the next entries of the queue, at most `max`. Idle without a queue.
+    /// Reads the next entries of the queue, at most `max`. Idle without a queue.
     Take {
         session: SessionNumber,
         key: Key,
@@ -67,7 +68,7 @@ pub enum Step {
         session: SessionNumber,
         key: Key,
     },
-    /// Lets the snapshots go that are kept of a document.
+    /// Empties a document's snapshot cache.
     Forget {
         session: SessionNumber,
         key: Key,
@@ -81,32 +82,32 @@ pub enum StepAnswer {
     Began,
     /// The attempt is worked.
     Worked,
-    /// The log is not as long as it was looked at; it was looked at again.
+    /// The log has grown since the look; a new look was taken.
     Moved,
-    /// A commit decided: the attempt is at its end.
+    /// A commit decided, and the attempt is closed.
     Decided(Reply),
-    /// The present version and document.
+    /// The current version and document.
     Fetched(FetchResult),
-    /// A version and the document there, or E4.
+    /// A version and the document at it, or E4.
     SnapshotFetched(Result<FetchResult, Code>),
-    /// The version at a moment, and the document there.
+    /// The version at a moment and the document at it.
     MomentFetched(FetchResult),
-    /// The version that the queue starts at, or E4, or E11.
+    /// The version at which the queue starts, or E4 or E11.
     Subscribed(Result<u64, Code>),
-    /// The entries that came.
+    /// The entries that were read.
     Taken(Vec<Entry>),
     /// The queue is closed.
     Unsubscribed,
-    /// The kept snapshots are gone.
+    /// The document's snapshots were removed from the cache.
     Forgotten,
     /// There was nothing to do.
     Idle,
-    /// A growth was refused (E10): nothing has changed.
+    /// An allocation failed (E10), and nothing changed.
     OutOfMemory,
 }
 
 impl Step {
-    /// Whose step it is.
+    /// Returns the session of the step.
     pub fn session(&self) -> SessionNumber
         ensures { result.number ≡ (plain_session_step self.now).session }
     {

@@ -12,16 +12,18 @@ use sdb_dump::DumpSource;
 use sdb_oplog::{Key, Log};
 use std::alloc::{AllocError, Global};
 
-/// All documents, and what each of the 64 sessions keeps: at most one attempt, and at most one queue of
-/// each document.
+/// All documents and 64 sessions, each with at most one attempt and at most one queue per document.
 #[derive(Drop)]
 pub struct World {
     state: WorldState,
 }
 
 impl World {
-    /// A world without a log, an attempt or a queue. It keeps the allocator; it fails only for want of
-    /// memory.
+    /// Creates a world without logs, attempts and queues.
+    ///
+    /// # Errors
+    ///
+    /// [`AllocError`] if an allocation fails.
     pub fn new(alloc: Global) -> Result<World, AllocError>
         ensures machine { IfOk result (λ w. one_step_of_world w ≡ empty_machine) }
         ensures sessions { IfOk result (λ w. sessions_of w ≡ empty_sessions) }
@@ -31,7 +33,7 @@ impl World {
         })
     }
 
-    /// Takes one step. Where memory is wanting nothing has changed.
+    /// Runs one step. If an allocation fails, nothing changes.
     pub fn step(&mut self, step: Step) -> StepAnswer
         ensures { IsStep (one_step_of_world self.old) (sessions_of self.old) (plain_session_step step)
             (plain_step_answer result)
@@ -40,7 +42,7 @@ impl World {
         self.state.step(&step)
     }
 
-    // The same step, lent.
+    // Runs one borrowed step.
     pub(crate) fn apply_step(&mut self, step: &Step) -> StepAnswer
         ensures { IsStep (one_step_of_world self.old) (sessions_of self.old) (plain_session_step step.now)
             (plain_step_answer result)

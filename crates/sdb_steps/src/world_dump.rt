@@ -14,22 +14,27 @@ use sdb_lines::{LineHandler, RunFault, Sink, Source, run_lines};
 use sdb_wire::refusal_code;
 use std::alloc::{AllocError, Global};
 
-/// Writes the dump of all that is stored in the world, flushes it, and answers how many entries it has.
+/// Writes the dump of the world's logs, flushes it, and returns its number of entries.
+///
+/// # Errors
+///
+/// [`RunFault::OutOfMemory`] if an allocation fails, or the fault of a write or flush that failed.
+/// The bytes written are then a prefix of the dump.
 pub fn dump<W: Sink>(alloc: Global, world: &World, writer: &mut W) -> Result<u128, RunFault>
-    ensures whole { OnOk result
+    ensures wrote_all { OnOk result
         (WroteDump (one_step_of_world world.now).logs (W.bytes_written writer.old) (W.bytes_written writer.new)) }
     ensures entries { IfOk result (λ n. HasEntryCount (one_step_of_world world.now).logs n) }
-    // After a fault nothing was written, or a front of the dump.
-    ensures front { OnErr result
+    // After a fault, a prefix of the dump was written, possibly empty.
+    ensures prefix_on_err { OnErr result
         (WroteDumpPrefix (one_step_of_world world.now).logs (W.bytes_written writer.old) (W.bytes_written writer.new)) }
-    // No write or flush failed, but for the one that is the fault.
-    ensures writes { WriteFaultIsCounted result (W.failures writer.old) (W.failures writer.new) }
-    ensures read { IsErrOf result RunFault.ReadFailed → ⊥ }
+    // No write or flush failed, except the one that is the fault.
+    ensures write_failures { WriteFaultIsCounted result (W.failures writer.old) (W.failures writer.new) }
+    ensures never_read_failed { IsErrOf result RunFault.ReadFailed → ⊥ }
 {
     write_dump(alloc, world, writer)
 }
 
-// A world that takes lines and answers none.
+// A world that runs lines without writing answers.
 #[derive(Drop)]
 struct SilentRunner {
     world: World,
@@ -70,24 +75,28 @@ impl LineHandler for SilentRunner {
     }
 }
 
-/// Takes the lines of a reader as [`run`](crate::run) does, and writes no answer, but at the end the dump of what is
-/// stored then. It answers how many entries the dump has.
+/// Runs the lines of a reader as [`run`](crate::run) does, without writing answers, and then writes
+/// the dump of the logs. Returns the dump's number of entries.
+///
+/// # Errors
+///
+/// As [`run`](crate::run). The bytes written are a prefix of the dump, possibly empty.
 pub fn run_dump<R: Source, W: Sink>(
     alloc: Global,
     reader: &mut R,
     writer: &mut W,
 ) -> Result<u128, RunFault>
-    ensures whole { IfOk result (λ n. IfSome (R.remaining_input reader.old) (λ input.
+    ensures wrote_all { IfOk result (λ n. IfSome (R.remaining_input reader.old) (λ input.
         WroteWorldDump (map readable_text (lines_of input)) (W.bytes_written writer.old)
         (W.bytes_written writer.new) n)) }
-    // After a fault nothing was written, or a front of the dump.
-    ensures front { OnErr result (IfSome (R.remaining_input reader.old) (λ input.
+    // After a fault, a prefix of the dump was written, possibly empty.
+    ensures prefix_on_err { OnErr result (IfSome (R.remaining_input reader.old) (λ input.
         WroteWorldDumpPrefix (map readable_text (lines_of input)) (W.bytes_written writer.old)
         (W.bytes_written writer.new))) }
-    // No read failed, and no write or flush, but for the one that is the fault.
-    ensures reads { ReadFaultIsCounted result (R.calls reader.old) (R.failures reader.old)
+    // No read, write or flush failed, except the one that is the fault.
+    ensures read_failures { ReadFaultIsCounted result (R.calls reader.old) (R.failures reader.old)
         (R.calls reader.new) (R.failures reader.new) }
-    ensures writes { WriteFaultIsCounted result (W.failures writer.old) (W.failures writer.new) }
+    ensures write_failures { WriteFaultIsCounted result (W.failures writer.old) (W.failures writer.new) }
 {
     let mut machine = SilentRunner {
         world: World::new(alloc)?,

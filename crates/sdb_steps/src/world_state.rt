@@ -1,4 +1,4 @@
-//! The parts of a world.
+//! The state of a world.
 ghost use Rattle.std.specs.Prelude.{◌≡◌, ℕ, length, IfOk};
 ghost use Rattle.sdb_oplog.specs.Keys.{no_logs};
 ghost use Rattle.sdb_desk.specs.ShardView.{logs_of, queues_of};
@@ -18,8 +18,8 @@ use crate::step::{Step, StepAnswer};
 use sdb_desk::Shard;
 use std::alloc::{AllocError, Global};
 
-// All documents, and what each session keeps. Each queue in a slot is open under the number of its session,
-// no two sessions have one queue, and each attempt rests on a look at the log of its key.
+// All documents and sessions. Each queue in a slot is open under its session's number, no two
+// sessions share a queue, and each attempt rests on a look at its key's log.
 #[derive(Drop)]
 pub(crate) struct WorldState {
     alloc: Global,

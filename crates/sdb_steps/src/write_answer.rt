@@ -1,4 +1,4 @@
-//! Writes the lines that answer steps.
+//! The writer of answer lines.
 ghost use Rattle.std.specs.Prelude.{◌≡◌, ◌++◌, Some, None, OnOk, OnErr, option_map};
 ghost use Rattle.sdb_value.specs.ToJson.{data_tokens};
 ghost use Rattle.sdb_value.specs.View.{value_of};
@@ -18,9 +18,12 @@ use sdb_wire::{write_count, write_entry, write_text};
 use std::alloc::{AllocError, Global};
 use std::mem;
 
-/// Writes the answer to a step of a session behind what `out` holds, compact, with the members of each
-/// object in the order of their bytes. A repeat reads as a submission that is stored at that version and
-/// missed nothing. After want of memory `out` holds what it held.
+/// Appends the answer to a session's step to `out`: compact JSON with members in byte order. A
+/// duplicate is written as a stored submission without missed entries.
+///
+/// # Errors
+///
+/// [`AllocError`] if an allocation fails. `out` is then unchanged.
 pub fn write_step_answer(
     alloc: Global,
     session: SessionNumber,
@@ -41,7 +44,11 @@ pub fn write_step_answer(
     written
 }
 
-/// Writes the answer to a line that is no step, as [`write_step_answer`] does.
+/// Appends the answer to a line that is no step.
+///
+/// # Errors
+///
+/// [`AllocError`] if an allocation fails. `out` is then unchanged.
 pub fn write_refusal(alloc: Global, code: Code, out: &mut Vec<u8>) -> Result<(), AllocError>
     ensures ok { OnOk result (out.new.items ≡ out.old.items ++ step_refusal_text code) }
     ensures err { OnErr result (out.new.items ≡ out.old.items) }
@@ -59,7 +66,7 @@ pub fn write_refusal(alloc: Global, code: Code, out: &mut Vec<u8>) -> Result<(),
 fn write_answer(session: u64, answer: &StepAnswer, out: &mut Writer) -> Result<(), AllocError>
     ensures tokens { OnOk result (out.new.tokens
         ≡ out.old.tokens ++ data_tokens (step_answer_data session (plain_step_answer answer.now))) }
-    ensures before { out.new.before ≡ out.old.before }
+    ensures before_unchanged { out.new.before ≡ out.old.before }
 {
     match answer {
         StepAnswer::Began => write_notice("begin", session, out),
@@ -81,7 +88,7 @@ fn write_answer(session: u64, answer: &StepAnswer, out: &mut Writer) -> Result<(
 fn write_decided(session: u64, reply: &Reply, out: &mut Writer) -> Result<(), AllocError>
     ensures tokens { OnOk result (out.new.tokens
         ≡ out.old.tokens ++ data_tokens (decided_data session (plain_reply reply.now))) }
-    ensures before { out.new.before ≡ out.old.before }
+    ensures before_unchanged { out.new.before ≡ out.old.before }
 {
     match reply {
         Reply::Stored { v, missed } => write_stored(session, *v, missed.as_slice(), out),
@@ -97,7 +104,7 @@ fn write_snapshot_answer(
 ) -> Result<(), AllocError>
     ensures tokens { OnOk result (out.new.tokens
         ≡ out.old.tokens ++ data_tokens (reply_data session (snapshot_fetched (fetch_result_view read.now)))) }
-    ensures before { out.new.before ≡ out.old.before }
+    ensures before_unchanged { out.new.before ≡ out.old.before }
 {
     match read {
         Ok(fetched) => write_document("snapshot", session, fetched, out),
@@ -112,7 +119,7 @@ fn write_subscribed(
 ) -> Result<(), AllocError>
     ensures tokens { OnOk result (out.new.tokens
         ≡ out.old.tokens ++ data_tokens (step_answer_data session (plain_start start.now))) }
-    ensures before { out.new.before ≡ out.old.before }
+    ensures before_unchanged { out.new.before ≡ out.old.before }
 {
     match start {
         Ok(version) => write_start(session, *version, out),
@@ -120,10 +127,10 @@ fn write_subscribed(
     }
 }
 
-// What became of the step, and no more.
+// Writes an answer with the step's name and session only.
 fn write_notice(kind: &str, session: u64, out: &mut Writer) -> Result<(), AllocError>
     ensures tokens { OnOk result (out.new.tokens ≡ out.old.tokens ++ data_tokens (notice_data kind.now session)) }
-    ensures before { out.new.before ≡ out.old.before }
+    ensures before_unchanged { out.new.before ≡ out.old.before }
 {
     out.begin_object()?;
     write_text("do", kind, out)?;
@@ -134,7 +141,7 @@ fn write_notice(kind: &str, session: u64, out: &mut Writer) -> Result<(), AllocE
 fn write_refused(kind: &str, session: u64, code: Code, out: &mut Writer) -> Result<(), AllocError>
     ensures tokens { OnOk result (out.new.tokens
         ≡ out.old.tokens ++ data_tokens (refused_data kind.now session code)) }
-    ensures before { out.new.before ≡ out.old.before }
+    ensures before_unchanged { out.new.before ≡ out.old.before }
 {
     out.begin_object()?;
     write_text("do", kind, out)?;
@@ -145,7 +152,7 @@ fn write_refused(kind: &str, session: u64, code: Code, out: &mut Writer) -> Resu
 
 fn write_error(code: Code, out: &mut Writer) -> Result<(), AllocError>
     ensures tokens { OnOk result (out.new.tokens ≡ out.old.tokens ++ data_tokens (refusal_data code)) }
-    ensures before { out.new.before ≡ out.old.before }
+    ensures before_unchanged { out.new.before ≡ out.old.before }
 {
     out.begin_object()?;
     write_text("error", short_name(code), out)?;
@@ -160,7 +167,7 @@ fn write_stored(
 ) -> Result<(), AllocError>
     ensures tokens { OnOk result (out.new.tokens
         ≡ out.old.tokens ++ data_tokens (stored_data session version missed.now)) }
-    ensures before { out.new.before ≡ out.old.before }
+    ensures before_unchanged { out.new.before ≡ out.old.before }
 {
     out.begin_object()?;
     write_text("do", "commit", out)?;
@@ -174,7 +181,7 @@ fn write_stored(
 fn write_taken(session: u64, entries: &[Entry], out: &mut Writer) -> Result<(), AllocError>
     ensures tokens { OnOk result (out.new.tokens
         ≡ out.old.tokens ++ data_tokens (taken_data session entries.now)) }
-    ensures before { out.new.before ≡ out.old.before }
+    ensures before_unchanged { out.new.before ≡ out.old.before }
 {
     out.begin_object()?;
     write_text("do", "take", out)?;
@@ -186,7 +193,7 @@ fn write_taken(session: u64, entries: &[Entry], out: &mut Writer) -> Result<(), 
 
 fn write_entries(entries: &[Entry], out: &mut Writer) -> Result<(), AllocError>
     ensures tokens { OnOk result (out.new.tokens ≡ out.old.tokens ++ data_tokens (entries_data entries.now)) }
-    ensures before { out.new.before ≡ out.old.before }
+    ensures before_unchanged { out.new.before ≡ out.old.before }
 {
     out.begin_array()?;
     for entry in entries {
@@ -197,7 +204,7 @@ fn write_entries(entries: &[Entry], out: &mut Writer) -> Result<(), AllocError>
 
 fn write_start(session: u64, version: u64, out: &mut Writer) -> Result<(), AllocError>
     ensures tokens { OnOk result (out.new.tokens ≡ out.old.tokens ++ data_tokens (started_data session version)) }
-    ensures before { out.new.before ≡ out.old.before }
+    ensures before_unchanged { out.new.before ≡ out.old.before }
 {
     out.begin_object()?;
     write_text("do", "subscribe", out)?;
@@ -206,7 +213,7 @@ fn write_start(session: u64, version: u64, out: &mut Writer) -> Result<(), Alloc
     out.end_object()
 }
 
-// The document at a version, or that there is none.
+// Writes the document at a version, or that it is absent.
 fn write_document(
     kind: &str,
     session: u64,
@@ -215,7 +222,7 @@ fn write_document(
 ) -> Result<(), AllocError>
     ensures tokens { OnOk result (out.new.tokens ≡ out.old.tokens ++ data_tokens
         (step_document_data kind.now session (fetched.now).version (option_map value_of (fetched.now).snapshot))) }
-    ensures before { out.new.before ≡ out.old.before }
+    ensures before_unchanged { out.new.before ≡ out.old.before }
 {
     match &fetched.snapshot {
         Some(json) => write_present(kind, session, fetched.version, json, out),
@@ -232,7 +239,7 @@ fn write_present(
 ) -> Result<(), AllocError>
     ensures tokens { OnOk result (out.new.tokens
         ≡ out.old.tokens ++ data_tokens (step_document_data kind.now session version (Some (value_of document.now)))) }
-    ensures before { out.new.before ≡ out.old.before }
+    ensures before_unchanged { out.new.before ≡ out.old.before }
 {
     out.begin_object()?;
     out.key("data")?;
@@ -246,7 +253,7 @@ fn write_present(
 fn write_absent(kind: &str, session: u64, version: u64, out: &mut Writer) -> Result<(), AllocError>
     ensures tokens { OnOk result (out.new.tokens
         ≡ out.old.tokens ++ data_tokens (step_document_data kind.now session version None)) }
-    ensures before { out.new.before ≡ out.old.before }
+    ensures before_unchanged { out.new.before ≡ out.old.before }
 {
     out.begin_object()?;
     write_text("do", kind, out)?;
@@ -257,7 +264,7 @@ fn write_absent(kind: &str, session: u64, version: u64, out: &mut Writer) -> Res
     out.end_object()
 }
 
-// A code by its short name.
+// Returns the short name of a code.
 fn short_name(code: Code) -> &'static str
     ensures { result.now ≡ short_name code }
 {

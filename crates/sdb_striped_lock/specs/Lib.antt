@@ -1,5 +1,5 @@
 pub mod CloseModel
 pub mod AtIndex
-pub mod Laws
 pub mod Capacity
 pub mod SeatSetModel
+pub mod laws

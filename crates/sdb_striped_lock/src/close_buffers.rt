@@ -41,10 +41,10 @@ impl<T> CloseBuffers<T> {
 
 // Puts each seat behind those of its lock.
 pub(crate) fn gather_stripe<T>(columns: &mut Vec<Vec<Seat<T>>>, mut seats: Vec<Seat<T>>)
-    requires eight { (length columns.old.items ≡ 8) × (length seats.items ≡ 8) }
+    requires length { (length columns.old.items ≡ 8) × (length seats.items ≡ 8) }
     requires room { (i : ℕ) (d : Vec (One T) Global) → i < 8 → vec_len (slice_index_or columns.old.items i d) <
         vec_capacity (slice_index_or columns.old.items i d) }
-    ensures eight { length columns.new.items ≡ 8 }
+    ensures length { length columns.new.items ≡ 8 }
     ensures capacity { (i : ℕ) (d : Vec (One T) Global) → i < 8 → vec_capacity (slice_index_or columns.new.items i d) ≡
         vec_capacity (slice_index_or columns.old.items i d) }
     ensures each { (i : ℕ) (d : Vec (One T) Global) (s : One T) → i < 8 → (slice_index_or columns.new.items i d).items ≡
@@ -63,7 +63,7 @@ pub(crate) fn gather_stripes<T>(
     callers: Vec<SeatSet<T>>,
 )
     requires room { ColumnsHaveCapacity (length callers.items) columns.old.items }
-    ensures eight { length columns.new.items ≡ 8 }
+    ensures length { length columns.new.items ≡ 8 }
     ensures each { (i : ℕ) (d : Vec (One T) Global) (s : One T) → i < 8 → (slice_index_or columns.new.items i d).items ≡
         slice_index_or first.seats.items i s ∷ map (λ c. slice_index_or c.seats.items i s) callers.items }
 {

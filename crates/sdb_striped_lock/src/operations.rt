@@ -35,7 +35,7 @@ pub enum SplitFault {
 impl<T: Empty + Drop> StripedLock<T> {
     /// Eight locks, each round a fresh value, and their first seats.
     pub fn new(alloc: Global) -> Result<(StripedLock<T>, RootSeats<T>), AllocError>
-        ensures own { IfOk result (λ made. AreRootSeatsOf made.1 made.0 × (next_seat_set_number made.1 ≡ 1)) }
+        ensures belongs { IfOk result (λ made. AreRootSeatsOf made.1 made.0 × (next_seat_set_number made.1 ≡ 1)) }
         ensures seen { IfOk result (λ made. (i : ℕ) → i < 8 → (x : T) × RootSeatsHaveSeen made.1 i x
             × ((k : ℕ) → T.blank k x)) }
     {
@@ -66,14 +66,14 @@ impl<T: Grows> StripedLock<T> {
         job: J,
     ) -> J::Answer
         requires place { place < 8 }
-        requires own { SeatSetBelongsTo seats.old self.now }
+        requires belongs { SeatSetBelongsTo seats.old self.now }
         requires ready { (x v : T) → SeatSetHasSeen seats.old place x → T.extends v x
             → T.same (seat_set_number seats.old) x v
             → J.precondition job (seat_set_number seats.old) v }
-        ensures own { SeatSetBelongsTo seats.new self.now }
-        ensures number { seat_set_number seats.new ≡ seat_set_number seats.old }
-        ensures others { ChangedOnlyAt place seats.old seats.new }
-        ensures done { (x v w : T) × SeatSetHasSeen seats.old place x × T.extends v x
+        ensures belongs { SeatSetBelongsTo seats.new self.now }
+        ensures number_unchanged { seat_set_number seats.new ≡ seat_set_number seats.old }
+        ensures others_unchanged { ChangedOnlyAt place seats.old seats.new }
+        ensures ran { (x v w : T) × SeatSetHasSeen seats.old place x × T.extends v x
             × T.same (seat_set_number seats.old) x v
             × J.postcondition job (seat_set_number seats.old) v w result × T.extends w v
             × ((k : ℕ) → k ≢ seat_set_number seats.old → T.same k v w) × SeatSetHasSeen seats.new place w }
@@ -85,14 +85,14 @@ impl<T: Grows> StripedLock<T> {
     /// seen, which holds nothing under the new number. Where there are none, nothing has changed.
     pub fn split(&self, alloc: Global, first: &mut RootSeats<T>) -> Result<SeatSet<T>, SplitFault>
         requires { AreRootSeatsOf first.old self.now }
-        ensures own { AreRootSeatsOf first.new self.now }
-        ensures given { IfOk result (λ s. SeatSetBelongsTo s self.now
+        ensures belongs { AreRootSeatsOf first.new self.now }
+        ensures split_seat { IfOk result (λ s. SeatSetBelongsTo s self.now
             × (seat_set_number s ≡ next_seat_set_number first.old)) }
         ensures next { IfOk result (λ s. next_seat_set_number first.new ≡ next_seat_set_number first.old + 1) }
-        ensures few { IfOk result (λ s. next_seat_set_number first.old < u64.MAX) }
+        ensures bound { IfOk result (λ s. next_seat_set_number first.old < u64.MAX) }
         ensures seen { IfOk result (λ s. (i : ℕ) → i < 8 → (x : T) × RootSeatsHaveSeen first.old i x
             × RootSeatsHaveSeen first.new i x × SeatSetHasSeen s i x × T.blank (seat_set_number s) x) }
-        ensures same { OnErr result (first.new ≡ first.old) }
+        ensures unchanged_on_err { OnErr result (first.new ≡ first.old) }
         ensures last { IfErr result (λ e. e ≡ OutOfNumbers → next_seat_set_number first.old ≡ u64.MAX) }
         ensures memory { IfErr result (λ e. e ≡ OutOfMemory → next_seat_set_number first.old ≢ u64.MAX) }
     {
@@ -115,13 +115,13 @@ impl<T: Grows> StripedLock<T> {
         firsts: &mut Vec<Seat<T>>,
         mut seats: Vec<Seat<T>>,
     ) -> Vec<Seat<T>>
-        requires eight { length firsts.old.items ≡ 8 }
-        requires room { (vec_len seats ≡ 0) × (8 ≤ vec_capacity seats) }
+        requires length { length firsts.old.items ≡ 8 }
+        requires capacity { (vec_len seats ≡ 0) × (8 ≤ vec_capacity seats) }
         requires number { (0 < number) × (number < u64.MAX) }
         requires first { AtEachIndex (IsRootSeat number) firsts.old.items self.now.locks.items 0 8 }
-        ensures eight { (length firsts.new.items ≡ 8) × (length result.items ≡ 8) }
+        ensures length { (length firsts.new.items ≡ 8) × (length result.items ≡ 8) }
         ensures first { AtEachIndex (IsRootSeat (number + 1)) firsts.new.items self.now.locks.items 0 8 }
-        ensures given { AtEachIndex (IsSeatNumbered number) result.items self.now.locks.items 0 8 }
+        ensures split_seat { AtEachIndex (IsSeatNumbered number) result.items self.now.locks.items 0 8 }
         ensures seen { (i : ℕ) (s : One T) → i < 8 → SeeSameBlankValue T.blank (slice_index_or firsts.old.items i s)
             (slice_index_or firsts.new.items i s) (slice_index_or result.items i s) }
     {
@@ -146,8 +146,8 @@ impl<T: Grows> StripedLock<T> {
         requires first { AreRootSeatsOf first self }
         requires callers { ForEach (λ c. SeatSetBelongsTo c self) callers.items }
         requires all { (k : ℕ) → 0 < k → k < next_seat_set_number first → HasNumber k callers.items }
-        requires room { HasCapacity (length callers.items) places }
-        ensures eight { length result.items ≡ 8 }
+        requires bound { HasCapacity (length callers.items) places }
+        ensures length { length result.items ≡ 8 }
         ensures closed { (i : ℕ) (d : T) → i < 8
             → IsCloseResult T.extends T.same T.blank first callers.items i (slice_index_or result.items i d) }
     {
@@ -167,11 +167,11 @@ fn close_stripes<T: Grows>(
     mut columns: Vec<Vec<Seat<T>>>,
     mut values: Vec<T>,
 ) -> Vec<T>
-    requires eight { (length locks.items ≡ 8) × (length columns.items ≡ 8) }
-    requires room { (vec_len values ≡ 0) × (8 ≤ vec_capacity values) }
-    requires own { AtEachIndex (λ l c. ForEach (λ s. BelongsTo s l) c.items) locks.items columns.items 0 8 }
+    requires length { (length locks.items ≡ 8) × (length columns.items ≡ 8) }
+    requires capacity { (vec_len values ≡ 0) × (8 ≤ vec_capacity values) }
+    requires belongs { AtEachIndex (λ l c. ForEach (λ s. BelongsTo s l) c.items) locks.items columns.items 0 8 }
     requires all { (i : ℕ) (c : Vec (One T) Global) → i < 8 → HasEverySeat (slice_index_or columns.items i c).items }
-    ensures eight { length result.items ≡ 8 }
+    ensures length { length result.items ≡ 8 }
     ensures gives { AtEachIndex (λ c v. IsValueAfterClose T.extends T.same T.blank c.items v) columns.items result.items 0 8 }
 {
     while let Some(lock) = locks.pop() {

@@ -8,7 +8,7 @@ use Rattle.sdb_submit.specs.Calls.{commit, commit_now}
 use Rattle.sdb_submit.specs.SubmitLoop.{CallRelation, SubmitRetries}
 
 module _ {P : Type 0} (acts : CallRelation P) (s : PlainSubmission) (now : ℕ) where
-  -- the tries that are left lead to this reply
+  -- the remaining tries lead to this reply
   abbrev pub RetriesLeft : ℕ → PlainLook → P → PlainReply → P → Type 0
   RetriesLeft = SubmitRetries acts s now
 
@@ -16,7 +16,7 @@ module _ {P : Type 0} (acts : CallRelation P) (s : PlainSubmission) (now : ℕ) 
   unfolding SubmitRetries
   by_none n l p q r e h = subst (λ (m : ℕ). SubmitRetries acts s now m l p r q) (sym e) h
 
-  -- the same of a submission that is this one
+  -- for an equal submission
   pub by_last : (n : ℕ) (l : PlainLook) (p q : P) (r : PlainReply) (x : PlainSubmission) → n ≡ 0 → x ≡ s → acts (commit_now x now) p r q → RetriesLeft n l p r q
   by_last n l p q r x e is h = by_none n l p q r e (subst (λ (y : PlainSubmission). acts (commit_now y now) p r q) is h)
 

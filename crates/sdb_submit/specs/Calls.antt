@@ -1,4 +1,4 @@
--- The calls of a desk and what they answer, as plain data.
+-- The calls of a desk and their answers, as plain data.
 use Rattle.std.specs.Prelude.{◌≡◌, ℕ, true, List, length, Option, Some, None, Result, Ok, Err, Vec}
 use Rattle.std.specs.declared.alloc.AllocError.{AllocError}
 use Rattle.std.specs.declared.alloc.Global.{Global}
@@ -16,27 +16,28 @@ pub data PlainCall : Type 0 where
   -- at a moment
   commit : PlainAttempt → ℕ → PlainCall
   commit_now : PlainSubmission → ℕ → PlainCall
-  -- the present version
+  -- the current version
   current_version : PlainCall
   fetch : PlainCall
-  -- from a version on
+  -- the entries from a version on
   ops_from : ℕ → PlainCall
-  -- from a version on, before another one
+  -- the entries from a version on, before another one
   ops_between : ℕ → ℕ → PlainCall
-  -- at a version, or at the present one
+  -- at a version, or at the current one
   snapshot : Option ℕ → PlainCall
-  -- at a moment, or at the present version
+  -- at a moment, or at the current version
   snapshot_at_time : Option ℕ → PlainCall
-  -- the kept snapshots go
+  -- the snapshot cache is emptied
   forget : PlainCall
-  -- a queue from a version on, or from the present one
+  -- a queue from a version on, or from the current one
   subscribe : Option ℕ → PlainCall
-  -- the next entries of the queue of this number, at most so many
+  -- the next entries of the queue of this number, up to a limit
   take_next : ℕ → ℕ → PlainCall
   -- the queue of this number is closed
   unsubscribe : ℕ → PlainCall
 
--- what each call answers. A look, a take and operations between two versions are none where memory is wanting
+-- the answer type of each call; `None` for a look, a take and a listing between versions means that an allocation
+-- failed
 abbrev pub CallAnswer : PlainCall → Type 0
 CallAnswer (look s) = Option PlainLook
 CallAnswer (commit a now) = PlainOutcome
@@ -60,23 +61,23 @@ abbrev pub copied_entries_view : Result (Vec PlainEntry Global) AllocError → O
 copied_entries_view (Ok v) = Some v.items
 copied_entries_view (Err e) = None
 
--- the look that is answered where the log has moved
+-- the new look of a commit that found a longer log
 abbrev pub OnMoved : PlainOutcome → (PlainLook → Type 0) → Type 0
 OnMoved (decided r) P = Unit {0}
 OnMoved (moved l) P = P l
 
--- a look shows the log as it is, or memory was wanting for what it shows
+-- a look is one at the current log, or its allocation failed
 abbrev pub LooksOrOutOfMemory : List PlainEntry → PlainSubmission → Option PlainLook → Type 0
 LooksOrOutOfMemory log s None = look_allocates log s ≡ true
 LooksOrOutOfMemory log s (Some l) = l ≡ look_at log s
 
--- entries are copied, or memory was wanting for that
+-- entries are copied, or the allocation failed
 abbrev pub CopiesOrOutOfMemory : List PlainEntry → Option (List PlainEntry) → Type 0
 CopiesOrOutOfMemory es None = is_nonempty es ≡ true
 CopiesOrOutOfMemory es (Some r) = r ≡ es
 
--- one call of the machine, under the number of who calls. Only what is decided changes a log, and only a call of queues
--- changes those of its key
+-- one call of the machine under the caller's number; only a decision changes a log, and only a queue call changes the
+-- key's queues
 abbrev pub MachineStep : ℕ → Machine → PlainKey → (c : PlainCall) → CallAnswer c → Machine → Type 0
 MachineStep by m k (look s) o new = LooksOrOutOfMemory (m.logs k) s o × IsUnchanged m new
 MachineStep by m k (commit a now) o new = CommitsOrOutOfMemory m.logs k a now o new.logs × (new.queues ≡ m.queues)

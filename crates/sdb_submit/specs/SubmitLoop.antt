@@ -1,4 +1,4 @@
--- What a submission, a list of operations and the first takes of a queue do at a desk: chains of calls of that desk.
+-- Submissions, listings and first reads of a queue as chains of calls of a desk.
 use Rattle.std.specs.Prelude.{◌≡◌, ◌≢◌, ℕ, zero, suc, ◌+◌, ◌<◌, ◌≤◌, ◌⊎◌, List, [], ◌∷◌, ◌++◌, Option, Some, None, Result, Ok, Err}
 use Rattle.sdb_oplog.specs.Plain.{PlainEntry, PlainSubmission}
 use Rattle.sdb_oplog.specs.declared.codes.Code.{Code}
@@ -7,13 +7,12 @@ use Rattle.sdb_oplog.specs.declared.codes.Code.TheVariants.{E4, E10}
 use Rattle.sdb_desk.specs.Machine.{PlainLook, decided, moved}
 use Rattle.sdb_submit.specs.Calls.{PlainCall, look, commit, commit_now, current_version, ops_between, take_next, CallAnswer}
 
--- how each call relates what is before it, its answer and what is after it
+-- how each call relates the state before it, its answer and the state after it
 abbrev pub CallRelation : Type 0 → Type 1
 CallRelation P = (c : PlainCall) → P → CallAnswer c → P → Type 0
 
--- n tries are left, by this look. Each works and commits: the reply is that of the first that decides. A try that finds
--- the log moved goes on by the look that it is answered. With none left, and where memory is wanting to work or to
--- commit, the reply is that of `commit_now`
+-- n tries from this look: each works and commits, and a try that finds a longer log continues with its new look; with
+-- no try left, or if an allocation fails, `commit_now` decides
 unfoldable pub SubmitRetries : {P : Type 0} → CallRelation P → PlainSubmission → ℕ → ℕ → PlainLook → P → PlainReply → P → Type 0
 SubmitRetries acts s now zero l p r q = acts (commit_now s now) p r q
 SubmitRetries acts s now (suc n) l p r q =
@@ -24,15 +23,15 @@ SubmitRetries acts s now (suc n) l p r q =
     ⊎ ((m : PlainLook)
     × ((o : _) × (acts (commit (record { submission = s; look = l }) now) p (moved m) o × SubmitRetries acts s now n m o r q)))))
 
--- at one moment: a look, and eight tries by it; or, where memory is wanting for the look, a commit that decides
+-- a submission at one moment: a look and eight tries from it, or `commit_now` if the look fails to allocate
 abbrev pub SubmitRelation : {P : Type 0} → CallRelation P → PlainSubmission → ℕ → P → PlainReply → P → Type 0
 SubmitRelation acts s now p r q =
     ((o : _) × (acts (look s) p None o × acts (commit_now s now) o r q))
     ⊎ ((l : PlainLook) × ((o : _) × (acts (look s) p (Some l) o × SubmitRetries acts s now 8 l o r q)))
 
--- ---- operations in batches
+-- ---- entries in batches
 
--- so many operations were asked for together, and these came
+-- a batch: the number of entries requested, and the entries returned
 pub record PlainBatch : Type 0 where
   pub size : ℕ
   pub entries : List PlainEntry
@@ -45,33 +44,33 @@ abbrev pub entries_of : List PlainBatch → List PlainEntry
 entries_of [] = []
 entries_of (x ∷ xs) = x.entries ++ entries_of xs
 
--- the operations from a version on are read in these batches, one behind the other
+-- the entries from a version on are read in these consecutive batches
 unfoldable pub ReadsBatches : {P : Type 0} → CallRelation P → ℕ → List PlainBatch → P → P → Type 0
 ReadsBatches acts v [] p q = q ≡ p
 ReadsBatches acts v (x ∷ xs) p q =
     (o : _) × (acts (ops_between v (v + x.size)) p (Some x.entries) o × ReadsBatches acts (v + x.size) xs o q)
 
--- what came of a take: nothing of a queue that isn't known. None is want of memory
+-- the entries of a take, none if the queue is unknown; `None` means that an allocation failed
 abbrev pub taken_or_empty : Option (Option (List PlainEntry)) → Option (List PlainEntry)
 taken_or_empty (Some (Some es)) = Some es
 taken_or_empty (Some None) = Some []
 taken_or_empty None = None
 
--- the next operations of a queue are taken in these batches
+-- the next entries of a queue are read in these consecutive batches
 unfoldable pub TakesBatches : {P : Type 0} → CallRelation P → ℕ → List PlainBatch → P → P → Type 0
 TakesBatches acts n [] p q = q ≡ p
 TakesBatches acts n (x ∷ xs) p q =
     (a : Option (Option (List PlainEntry)))
     × ((o : _) × (acts (take_next n x.size) p a o × (taken_or_empty a ≡ Some x.entries) × TakesBatches acts n xs o q))
 
--- some of them were taken, and perhaps memory was wanting for the next ones
+-- some of the batches were read, and perhaps the next one failed to allocate
 abbrev pub TakesBatchPrefix : {P : Type 0} → CallRelation P → ℕ → P → P → Type 0
 TakesBatchPrefix acts n p q =
     (xs : List PlainBatch)
     × ((o : _) × (TakesBatches acts n xs p o × ((q ≡ o) ⊎ ((i : ℕ) × acts (take_next n i) o None q))))
 
--- the operations from a version on are listed up to the one that was present first. It is E4 where that is below the
--- version, and E10 where memory is wanting for the first batch
+-- the entries from a version on are listed up to the first current version; E4 if that is below the version, E10 if the
+-- first batch fails to allocate
 abbrev pub ListsAll : {P : Type 0} → CallRelation P → ℕ → P → Result (List PlainEntry) Code → P → Type 0
 ListsAll acts v p (Ok es) q =
     (xs : List PlainBatch)
@@ -82,7 +81,7 @@ ListsAll acts v p (Err code) q =
     × ((n : ℕ)
     × ((o : _) × (acts current_version p last o × acts (ops_between v n) o None q × (n ≤ last) × (code ≡ E10)))))
 
--- some of them were read, and perhaps memory was wanting for the next ones
+-- some of the batches were read, and perhaps the next one failed to allocate
 abbrev pub ListsPrefix : {P : Type 0} → CallRelation P → ℕ → P → P → Type 0
 ListsPrefix acts v p q =
     (last : ℕ)

@@ -1,4 +1,4 @@
-//! Desks: where documents are looked at, submissions committed, documents read and queues taken.
+//! The interface of a document store.
 ghost use Rattle.std.specs.Prelude.{◌≡◌, ℕ, IfOk};
 ghost use Rattle.sdb_oplog.specs.Keys.{PlainKey, plain_key};
 ghost use Rattle.sdb_desk.specs.Machine.{WorkAfterCommit, PlainAttempt};
@@ -11,52 +11,55 @@ use sdb_oplog::{Code, Entry, Key, Moment, Submission};
 use sdb_subscribe::SubId;
 use std::alloc::AllocError;
 
-/// Where documents are looked at, submissions committed, documents read and queues taken. An
-/// implementation names how each of its calls relates the pass before it, what it answers and the pass
-/// after it.
+/// The interface of a document store: looks, commits, reads and queues. An implementation defines
+/// how each call relates the pass before it, its answer and the pass after it.
 pub trait Desk {
-    /// What a caller holds to call the desk.
+    /// The caller's handle.
     type Pass;
 
-    // Whether a pass may be used here.
+    // Whether a pass belongs to this desk.
     ghost accepts: { Self → Self.Pass → Type 0 };
 
     // The number of a pass.
     ghost pass_number: { Self → Self.Pass → ℕ };
 
-    // How a call at a key relates the pass before, what is answered and the pass after.
+    // How a call at a key relates the pass before, the answer and the pass after.
     ghost step: { Self → PlainKey → (c : PlainCall) → Self.Pass → CallAnswer c → Self.Pass → Type 0 };
 
-    // The look of an attempt at a key is one that the pass has seen.
+    // The attempt's look at a key is one that the pass has observed.
     ghost has_seen: { Self → PlainKey → PlainAttempt → Self.Pass → Type 0 };
 
-    /// What a look at the document shows for a submission. It fails only for want of memory.
+    /// Reads what a submission needs: version, duplicate, missed entries and snapshot.
+    ///
+    /// # Errors
+    ///
+    /// [`AllocError`] if an allocation fails.
     fn look(
         &self,
         pass: &mut Self::Pass,
         key: &Key,
         submission: &Submission,
     ) -> Result<Look, AllocError>
-        requires takes { accepts self.now pass.old }
+        requires accepted { accepts self.now pass.old }
         requires by { submission.now.by ≡ pass_number self.now pass.old }
-        ensures takes { accepts self.now pass.new }
-        ensures number { pass_number self.now pass.new ≡ pass_number self.now pass.old }
-        ensures looked { IfOk result (λ l. has_seen self.now (plain_key key.now)
+        ensures accepted { accepts self.now pass.new }
+        ensures number_unchanged { pass_number self.now pass.new ≡ pass_number self.now pass.old }
+        ensures seen { IfOk result (λ l. has_seen self.now (plain_key key.now)
             (record { submission = submission.now; look = plain_look l }) pass.new) }
-        ensures acts { step self.now (plain_key key.now) (look submission.now) pass.old (look_view result) pass.new };
+        ensures step { step self.now (plain_key key.now) (look submission.now) pass.old (look_view result) pass.new };
 
-    /// Decides the submission of the work at a moment, if the log stands as it was looked at. The look is one that the
-    /// pass has seen, as is the one that is shown where the log has moved.
+    /// Decides the work's submission at a moment if the log hasn't grown since its look. Otherwise
+    /// returns a new look.
     fn commit(&self, pass: &mut Self::Pass, key: &Key, work: &mut Work, now: Moment) -> Outcome
-        requires takes { accepts self.now pass.old }
+        requires accepted { accepts self.now pass.old }
         requires by { work.old.submission.by ≡ pass_number self.now pass.old }
-        requires looked { has_seen self.now (plain_key key.now) work.old pass.old }
-        ensures takes { accepts self.now pass.new }
-        ensures number { pass_number self.now pass.new ≡ pass_number self.now pass.old }
-        ensures keeps { WorkAfterCommit (plain_outcome result) work.old work.new }
-        ensures looked { OnMoved (plain_outcome result) (λ l. has_seen self.now (plain_key key.now)
+        requires seen { has_seen self.now (plain_key key.now) work.old pass.old }
+        ensures accepted { accepts self.now pass.new }
+        ensures number_unchanged { pass_number self.now pass.new ≡ pass_number self.now pass.old }
+        ensures work { WorkAfterCommit (plain_outcome result) work.old work.new }
+        ensures seen { OnMoved (plain_outcome result) (λ l. has_seen self.now (plain_key key.now)
             (record { submission = work.old.submission; look = l }) pass.new) }
-        ensures acts { step self.now (plain_key key.now) (commit work.old now) pass.old
+        ensures step { step self.now (plain_key key.now) (commit work.old now) pass.old
             (plain_outcome result) pass.new };
 
     /// Decides a submission at a moment.
@@ -67,46 +70,58 @@ pub trait Desk {
         submission: &Submission,
         now: Moment,
     ) -> Reply
-        requires takes { accepts self.now pass.old }
+        requires accepted { accepts self.now pass.old }
         requires by { submission.now.by ≡ pass_number self.now pass.old }
-        ensures takes { accepts self.now pass.new }
-        ensures number { pass_number self.now pass.new ≡ pass_number self.now pass.old }
-        ensures acts { step self.now (plain_key key.now) (commit_now submission.now now) pass.old
+        ensures accepted { accepts self.now pass.new }
+        ensures number_unchanged { pass_number self.now pass.new ≡ pass_number self.now pass.old }
+        ensures step { step self.now (plain_key key.now) (commit_now submission.now now) pass.old
             (plain_reply result) pass.new };
 
-    /// Decides the submission of a work at a moment, whatever has been stored since its look: only that is
-    /// carried over.
+    /// Decides a work's submission at a moment, even if the log has grown since its look. Only the
+    /// newer entries are transformed against.
     fn commit_last(&self, pass: &mut Self::Pass, key: &Key, work: Work, now: Moment) -> Reply
-        requires takes { accepts self.now pass.old }
+        requires accepted { accepts self.now pass.old }
         requires by { work.submission.by ≡ pass_number self.now pass.old }
-        ensures takes { accepts self.now pass.new }
-        ensures number { pass_number self.now pass.new ≡ pass_number self.now pass.old }
-        ensures acts { step self.now (plain_key key.now) (commit_now work.submission now) pass.old
+        ensures accepted { accepts self.now pass.new }
+        ensures number_unchanged { pass_number self.now pass.new ≡ pass_number self.now pass.old }
+        ensures step { step self.now (plain_key key.now) (commit_now work.submission now) pass.old
             (plain_reply result) pass.new };
 
-    /// The present version; 0 where there is no document yet. It takes no memory.
+    /// Returns the current version, 0 for a document without entries. It doesn't allocate.
     fn version(&self, pass: &mut Self::Pass, key: &Key) -> u64
         requires { accepts self.now pass.old }
-        ensures takes { accepts self.now pass.new }
+        ensures accepted { accepts self.now pass.new }
         ensures number { pass_number self.now pass.new ≡ pass_number self.now pass.old }
-        ensures acts { step self.now (plain_key key.now) current_version pass.old result pass.new };
+        ensures step { step self.now (plain_key key.now) current_version pass.old result pass.new };
 
-    /// The present version and the document there, or E10.
+    /// Returns the current version and document.
+    ///
+    /// # Errors
+    ///
+    /// [`Code::E10`] if an allocation fails.
     fn fetch(&self, pass: &mut Self::Pass, key: &Key) -> Result<FetchResult, Code>
         requires { accepts self.now pass.old }
-        ensures takes { accepts self.now pass.new }
-        ensures number { pass_number self.now pass.new ≡ pass_number self.now pass.old }
-        ensures acts { step self.now (plain_key key.now) fetch pass.old (fetch_result_view result) pass.new };
+        ensures accepted { accepts self.now pass.new }
+        ensures number_unchanged { pass_number self.now pass.new ≡ pass_number self.now pass.old }
+        ensures step { step self.now (plain_key key.now) fetch pass.old (fetch_result_view result) pass.new };
 
-    /// The stored operations from a version on; E4 where it is above the present one; or E10.
+    /// Returns the entries from a version on.
+    ///
+    /// # Errors
+    ///
+    /// [`Code::E4`] if the version is above the current one, [`Code::E10`] if an allocation fails.
     fn ops_from(&self, pass: &mut Self::Pass, key: &Key, version: u64) -> Result<Vec<Entry>, Code>
         requires { accepts self.now pass.old }
-        ensures takes { accepts self.now pass.new }
-        ensures number { pass_number self.now pass.new ≡ pass_number self.now pass.old }
-        ensures acts { step self.now (plain_key key.now) (ops_from version) pass.old (entries_view result) pass.new };
+        ensures accepted { accepts self.now pass.new }
+        ensures number_unchanged { pass_number self.now pass.new ≡ pass_number self.now pass.old }
+        ensures step { step self.now (plain_key key.now) (ops_from version) pass.old (entries_view result) pass.new };
 
-    /// The stored operations from a version on, before the version `to`, as far as there are any. It fails only
-    /// for want of memory.
+    /// Returns the entries from version `from` up to, and without, version `to`; fewer if the log
+    /// ends before.
+    ///
+    /// # Errors
+    ///
+    /// [`AllocError`] if an allocation fails.
     fn ops_between(
         &self,
         pass: &mut Self::Pass,
@@ -115,13 +130,16 @@ pub trait Desk {
         to: u64,
     ) -> Result<Vec<Entry>, AllocError>
         requires { accepts self.now pass.old }
-        ensures takes { accepts self.now pass.new }
+        ensures accepted { accepts self.now pass.new }
         ensures number { pass_number self.now pass.new ≡ pass_number self.now pass.old }
-        ensures acts { step self.now (plain_key key.now) (ops_between from to) pass.old
+        ensures step { step self.now (plain_key key.now) (ops_between from to) pass.old
             (copied_entries_view result) pass.new };
 
-    /// The version, or the present one where none is named, and the document there; E4 where the version
-    /// is above the present one; or E10.
+    /// Returns the document at a version, or the current one if it is `None`, with its version.
+    ///
+    /// # Errors
+    ///
+    /// [`Code::E4`] if the version is above the current one, [`Code::E10`] if an allocation fails.
     fn snapshot_at(
         &self,
         pass: &mut Self::Pass,
@@ -129,12 +147,16 @@ pub trait Desk {
         version: Option<u64>,
     ) -> Result<FetchResult, Code>
         requires { accepts self.now pass.old }
-        ensures takes { accepts self.now pass.new }
-        ensures number { pass_number self.now pass.new ≡ pass_number self.now pass.old }
-        ensures acts { step self.now (plain_key key.now) (snapshot version) pass.old
+        ensures accepted { accepts self.now pass.new }
+        ensures number_unchanged { pass_number self.now pass.new ≡ pass_number self.now pass.old }
+        ensures step { step self.now (plain_key key.now) (snapshot version) pass.old
             (fetch_result_view result) pass.new };
 
-    /// The version at a moment, or the present one where none is named, and the document there; or E10.
+    /// Returns the document at a moment, or the current one if it is `None`, with its version.
+    ///
+    /// # Errors
+    ///
+    /// [`Code::E10`] if an allocation fails.
     fn snapshot_at_time(
         &self,
         pass: &mut Self::Pass,
@@ -142,21 +164,25 @@ pub trait Desk {
         moment: Option<Moment>,
     ) -> Result<FetchResult, Code>
         requires { accepts self.now pass.old }
-        ensures takes { accepts self.now pass.new }
-        ensures number { pass_number self.now pass.new ≡ pass_number self.now pass.old }
-        ensures acts { step self.now (plain_key key.now) (snapshot_at_time moment) pass.old
+        ensures accepted { accepts self.now pass.new }
+        ensures number_unchanged { pass_number self.now pass.new ≡ pass_number self.now pass.old }
+        ensures step { step self.now (plain_key key.now) (snapshot_at_time moment) pass.old
             (fetch_result_view result) pass.new };
 
-    /// Lets the snapshots go that are kept of the document. It takes no memory.
+    /// Empties the document's snapshot cache. It doesn't allocate.
     fn forget(&self, pass: &mut Self::Pass, key: &Key)
         requires { accepts self.now pass.old }
-        ensures takes { accepts self.now pass.new }
-        ensures number { pass_number self.now pass.new ≡ pass_number self.now pass.old }
-        ensures acts { step self.now (plain_key key.now) forget pass.old tt pass.new };
+        ensures accepted { accepts self.now pass.new }
+        ensures number_unchanged { pass_number self.now pass.new ≡ pass_number self.now pass.old }
+        ensures step { step self.now (plain_key key.now) forget pass.old tt pass.new };
 
-    /// Opens a queue that takes all stored operations from the version on, or from the present one, and
-    /// shows the document there; E4 where the version is above the present one; E11 where the numbers of
-    /// the key are used up; or E10. The queue is known under the number of the pass alone.
+    /// Opens a queue of all entries from a version on, or from the current one if it is `None`, and
+    /// returns the document at it. The queue belongs to the pass's number.
+    ///
+    /// # Errors
+    ///
+    /// [`Code::E4`] if the version is above the current one, [`Code::E11`] if the queue numbers of
+    /// the key are used up, [`Code::E10`] if an allocation fails.
     fn subscribe(
         &self,
         pass: &mut Self::Pass,
@@ -164,13 +190,17 @@ pub trait Desk {
         version: Option<u64>,
     ) -> Result<SubscribeResult, Code>
         requires { accepts self.now pass.old }
-        ensures takes { accepts self.now pass.new }
+        ensures accepted { accepts self.now pass.new }
         ensures number { pass_number self.now pass.new ≡ pass_number self.now pass.old }
-        ensures acts { step self.now (plain_key key.now) (subscribe version) pass.old
+        ensures step { step self.now (plain_key key.now) (subscribe version) pass.old
             (subscribe_result_view result) pass.new };
 
-    /// The next entries of a queue, at most `max`; `None` where no open queue of the key has the number
-    /// `id`, or where a pass of another number opened it. It fails only for want of memory.
+    /// Returns the next entries of a queue, at most `max`. Returns `None` if the key has no open
+    /// queue with this number, or if it belongs to another pass number.
+    ///
+    /// # Errors
+    ///
+    /// [`AllocError`] if an allocation fails.
     fn take(
         &self,
         pass: &mut Self::Pass,
@@ -180,29 +210,29 @@ pub trait Desk {
     ) -> Result<Option<Vec<Entry>>, AllocError>
         requires { accepts self.now pass.old }
         ensures takes { accepts self.now pass.new }
-        ensures number { pass_number self.now pass.new ≡ pass_number self.now pass.old }
-        ensures acts { step self.now (plain_key key.now) (take_next id max) pass.old (taken_view result) pass.new };
+        ensures number_unchanged { pass_number self.now pass.new ≡ pass_number self.now pass.old }
+        ensures step { step self.now (plain_key key.now) (take_next id max) pass.old (taken_view result) pass.new };
 
-    /// Closes a queue of the key. It takes no memory. A number that no open queue has, or one that a pass
-    /// of another number opened, does nothing.
+    /// Closes a queue of the key. It has no effect if no open queue has this number, or if it
+    /// belongs to another pass number. It doesn't allocate.
     fn unsubscribe(&self, pass: &mut Self::Pass, key: &Key, id: SubId)
         requires { accepts self.now pass.old }
-        ensures takes { accepts self.now pass.new }
-        ensures number { pass_number self.now pass.new ≡ pass_number self.now pass.old }
-        ensures acts { step self.now (plain_key key.now) (unsubscribe id) pass.old tt pass.new };
+        ensures accepted { accepts self.now pass.new }
+        ensures number_unchanged { pass_number self.now pass.new ≡ pass_number self.now pass.old }
+        ensures step { step self.now (plain_key key.now) (unsubscribe id) pass.old tt pass.new };
 
-    /// The number of a pass: each submission through it has it as its `by`.
+    /// Returns the number of a pass, which each of its submissions has as `by`.
     fn by(&self, pass: &Self::Pass) -> u64
         ensures { result ≡ pass_number self.now pass.now };
 }
 
-/// Is told before each commit of a submission.
+/// A hook before each commit of a submission, for tests.
 pub trait Gate {
-    /// The commit of this try, 1 to 8, comes next.
+    /// Runs before the commit of this try, 1 to 8.
     fn before_commit(&self, try_no: u64);
 }
 
-/// A gate that does nothing.
+/// A gate without effect.
 #[derive(Clone, Copy, Drop)]
 pub struct NoGate;
 

@@ -1,4 +1,4 @@
-//! Submissions: a look, then tries of work and commit until one decides.
+//! Submissions with optimistic retry: a look, then tries of work and commit until one decides.
 #![tactic(auto)]
 
 mod desk;

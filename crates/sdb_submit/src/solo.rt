@@ -1,8 +1,8 @@
-//! A desk for one caller, who holds the documents.
+//! The desk of one caller that owns the documents.
 ghost use Rattle.std.specs.Prelude.{◌≡◌, ℕ, [], ⊤};
 ghost use Rattle.sdb_oplog.specs.Keys.{plain_key};
 ghost use Rattle.sdb_desk.specs.ShardView.{machine_of, logs_of, caches_of, with_cache};
-ghost use Rattle.sdb_desk.specs.LookLaws.{IsLook};
+ghost use Rattle.sdb_desk.specs.Looks.{IsLook};
 ghost use Rattle.sdb_submit.specs.Calls.{MachineStep, forget};
 
 use crate::desk::Desk;
@@ -11,7 +11,7 @@ use sdb_oplog::{Code, Entry, Key, Moment, Submission};
 use sdb_subscribe::SubId;
 use std::alloc::AllocError;
 
-/// A desk whose pass is the shard itself. The number of the pass is 0, and no call waits.
+/// A desk whose pass is the shard itself. The pass number is 0, and no call acquires a lock.
 #[derive(Clone, Copy, Drop)]
 pub struct Solo;
 
@@ -94,10 +94,10 @@ impl Desk for Solo {
     }
 
     fn forget(&self, pass: &mut Shard, key: &Key)
-        ensures takes { ⊤ }
-        ensures number { ◌≡◌ {A = ℕ} 0 0 }
-        ensures acts { MachineStep 0 (machine_of pass.old) (plain_key key.now) forget tt (machine_of pass.new) }
-        ensures kept { caches_of pass.new ≡ with_cache (caches_of pass.old) (plain_key key.now) [] }
+        ensures accepted { ⊤ }
+        ensures number_unchanged { ◌≡◌ {A = ℕ} 0 0 }
+        ensures step { MachineStep 0 (machine_of pass.old) (plain_key key.now) forget tt (machine_of pass.new) }
+        ensures caches { caches_of pass.new ≡ with_cache (caches_of pass.old) (plain_key key.now) [] }
     {
         pass.forget(key)
     }

@@ -1,4 +1,4 @@
-//! Submissions.
+//! The loop of a submission.
 ghost use Rattle.std.specs.Prelude.{◌≡◌, IsTrue, IsFalse};
 ghost use Rattle.sdb_oplog.specs.Decide.{refused};
 ghost use Rattle.sdb_oplog.specs.declared.codes.Code.TheVariants.{E10};
@@ -12,13 +12,12 @@ use sdb_desk::{Outcome, Reply};
 use sdb_oplog::{Code, Key, Moment, Submission};
 use std::alloc::Global;
 
-/// Submits at a moment, one for all its tries: a look, then up to eight tries of work and commit, and at
-/// last a commit that decides. A try that found the log moved goes on from there, and the last commit from
-/// what was worked till then. Refusals and repeats are decided at a commit too.
+/// Submits an operation at a moment: one look, up to eight tries of work and commit, and a last
+/// commit that decides. A try that finds a longer log continues from its new look, as does the last
+/// commit. Refusals and duplicates are decided at a commit too.
 ///
-/// The reply is that of the call that decided. Where memory is wanting for a look, for work or for a
-/// commit, a commit decides at once, which answers E10 only where a decision takes memory itself: nothing
-/// has changed then.
+/// If an allocation fails for a look, a work or a commit, `commit_now` decides at once. It replies
+/// E10 only if the decision itself fails to allocate, and nothing changes then.
 pub fn submit<D: Desk, G: Gate>(
     alloc: Global,
     desk: &D,
@@ -28,10 +27,10 @@ pub fn submit<D: Desk, G: Gate>(
     now: Moment,
     gate: &G,
 ) -> Reply
-    requires takes { D.accepts desk.now pass.old }
+    requires accepted { D.accepts desk.now pass.old }
     requires by { submission.now.by ≡ D.pass_number desk.now pass.old }
-    ensures takes { D.accepts desk.now pass.new }
-    ensures number { D.pass_number desk.now pass.new ≡ D.pass_number desk.now pass.old }
+    ensures accepted { D.accepts desk.now pass.new }
+    ensures number_unchanged { D.pass_number desk.now pass.new ≡ D.pass_number desk.now pass.old }
     ensures chain { let k = plain_key key.now in
         SubmitRelation (D.step desk.now k) submission.now now pass.old (plain_reply result) pass.new }
 {
@@ -63,10 +62,10 @@ pub fn submit<D: Desk, G: Gate>(
     }
 }
 
-// Whether memory was wanting.
+// Returns whether an allocation failed.
 fn is_out_of_memory(reply: &Reply) -> bool
-    ensures wanting { IsTrue result → plain_reply reply.now ≡ refused E10 }
-    ensures other { IsFalse result → plain_reply reply.now ≡ refused E10 → ⊥ }
+    ensures memory { IsTrue result → plain_reply reply.now ≡ refused E10 }
+    ensures on_false { IsFalse result → plain_reply reply.now ≡ refused E10 → ⊥ }
 {
     matches!(reply, Reply::Refused(Code::E10))
 }

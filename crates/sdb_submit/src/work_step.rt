@@ -1,4 +1,4 @@
-//! The work on an attempt: its content, carried along the entries that it missed.
+//! The work on an attempt: its content transformed against the entries of its look, and applied.
 ghost use Rattle.std.specs.Prelude.{◌≡◌, true, IfOk, IfErr, OnErr, IfSome};
 ghost use Rattle.sdb_desk.specs.Machine.{work_allocates};
 ghost use Rattle.sdb_desk.specs.View.{plain_attempt, plain_look};
@@ -7,8 +7,12 @@ use sdb_desk::{Attempt, Look, Work};
 use sdb_oplog::Submission;
 use std::alloc::Global;
 
-/// Works an attempt: it takes no lock and waits for nobody. The attempt is handed back, as it was, for
-/// want of memory alone, where an edit was to be carried over an edit, or a document to be changed.
+/// Works an attempt without a lock.
+///
+/// # Errors
+///
+/// The attempt, unchanged, if an allocation fails. This needs an edit to transform against an edit,
+/// or a document to change.
 pub fn work(alloc: Global, attempt: Attempt) -> Result<Work, Attempt>
     ensures ok { IfOk result (λ w. w ≡ plain_attempt attempt) }
     ensures err { IfErr result (λ a. plain_attempt a ≡ plain_attempt attempt) }
@@ -17,8 +21,8 @@ pub fn work(alloc: Global, attempt: Attempt) -> Result<Work, Attempt>
     Work::compute(alloc, attempt)
 }
 
-// The work for the look: the first work, or, where the log moved, what goes on from the last one.
-// None where memory is wanting.
+// Returns the work for the look: the first one, or the last one resumed. `None` if an allocation
+// fails.
 pub(crate) fn next_work(
     alloc: Global,
     submission: &Submission,
@@ -38,8 +42,11 @@ pub(crate) fn next_work(
     made.ok()
 }
 
-/// Works a submission on by a fresh look, as [`Work::resume`] does. For want of memory alone the attempt comes
-/// back, by the fresh look; what was worked before is gone then.
+/// Works a submission for a newer look, from its last work, as [`Work::resume`] does.
+///
+/// # Errors
+///
+/// The attempt with the newer look if an allocation fails. The last work is then lost.
 pub fn resume_work(alloc: Global, last: Work, look: Look) -> Result<Work, Attempt>
     ensures ok { IfOk result (λ w. w ≡ record { submission = last.submission; look = plain_look look }) }
     ensures err { IfErr result

@@ -1,5 +1,5 @@
 pub mod Coding
-pub mod Laws
 pub mod Queue
 pub mod Ring
-pub mod Examples
+pub mod laws
+pub mod worked

@@ -96,7 +96,7 @@ impl Queue {
         ensures entries { IfOk result (λ v. v.items ≡ pending_entries log.now max self.old.queue) }
         ensures moved { OnOk result (self.new ≡ advance_ringed_queue log.now max self.old) }
         ensures err { OnErr result (self.new ≡ self.old) }
-        ensures some { OnErr result (0 < length (pending_entries log.now max self.old.queue)) }
+        ensures memory { OnErr result (0 < length (pending_entries log.now max self.old.queue)) }
     {
         let position = self.start + self.taken;
         let waiting = entries_from_log(log, position, max);
@@ -116,8 +116,8 @@ impl Queue {
 // The first `max` entries from this one on.
 fn entries_from_log(log: &Log, from: u64, max: u64) -> &[Entry]
     ensures entries { result.now ≡ queue log.now from max }
-    ensures within { 0 < length result.now → from + length result.now ≤ length log.now }
-    ensures room { length log.now ≤ MAX }
+    ensures in_range { 0 < length result.now → from + length result.now ≤ length log.now }
+    ensures bound { length log.now ≤ MAX }
 {
     let entries = log.entries_from(from.min(log.len()));
     let count = max.min(entries.len() as u64);
@@ -128,7 +128,7 @@ fn entries_from_log(log: &Log, from: u64, max: u64) -> &[Entry]
 fn clone_entries(alloc: Global, entries: &[Entry], room: usize) -> Result<Vec<Entry>, AllocError>
     requires { length entries.now ≤ room }
     ensures copies { IfOk result (λ v. v.items ≡ entries.now) }
-    ensures room { IfOk result (λ v. room ≤ vec_capacity v) }
+    ensures capacity { IfOk result (λ v. room ≤ vec_capacity v) }
 {
     let mut copies = Vec::with_capacity(alloc, room)?;
     for entry in entries {
@@ -140,7 +140,7 @@ fn clone_entries(alloc: Global, entries: &[Entry], room: usize) -> Result<Vec<En
 // Moves the first `count` entries of the ring behind those that were taken. There is room for them.
 fn drain_ring(ring: &mut HeapCircularBuffer<Entry>, entries: &mut Vec<Entry>, count: usize)
     requires held { count ≤ length ring.old.items }
-    requires room { vec_len entries.old + count ≤ vec_capacity entries.old }
+    requires capacity { vec_len entries.old + count ≤ vec_capacity entries.old }
     ensures entries { entries.new.items ≡ entries.old.items ++ take count ring.old.items }
     ensures ring { ring.new ≡ buffer (drop count ring.old.items) ring.old.capacity }
 {

@@ -77,7 +77,7 @@ impl Queues {
     /// How many queues are open. It takes no memory.
     pub fn count(&self) -> u64
         ensures count { result ≡ length (without_rings self.now).queues }
-        ensures apart { IsDistinct nat_eq (queue_ids (without_rings self.now).queues) }
+        ensures distinct { IsDistinct nat_eq (queue_ids (without_rings self.now).queues) }
     {
         self.queues.len() as u64
     }
@@ -103,10 +103,11 @@ impl Queues {
             (λ id. queue_at id (without_rings self.new).queues ≡ Some (record { start = from; taken = 0; by = by })) }
         ensures full { (without_rings self.old).next ≡ 18446744073709551615 → result ≡ Err E11 }
         ensures err { IfErr result (λ code. IsRefusalOrOutOfMemory (open_queue by from (without_rings self.old)) code) }
-        ensures same { OnErr result (self.new ≡ self.old) }
+        ensures unchanged_on_err { OnErr result (self.new ≡ self.old) }
         ensures rings { OnOk result (self.new.queues ≡ self.old.queues ++
             (self.old.next, record { queue = record { start = from; taken = 0; by = by }; ring = [] }) ∷ []) }
-        ensures fit { (log : List PlainEntry) → AreRingsOfLog log self.old.queues → AreRingsOfLog log self.new.queues }
+        ensures rings_of_log { (log : List PlainEntry) → AreRingsOfLog log self.old.queues
+            → AreRingsOfLog log self.new.queues }
     {
         let number = self.next;
         if number == u64::MAX {
@@ -127,7 +128,8 @@ impl Queues {
     pub fn push_entry(&mut self, entry: &Entry)
         ensures noted { ArePushed entry.now self.old.queues self.new.queues }
         ensures bare { without_rings self.new ≡ without_rings self.old }
-        ensures fit { (log : List PlainEntry) → AreRingsOfLog log self.old.queues → entry.now.version ≡ length log
+        ensures rings_of_log { (log : List PlainEntry) → AreRingsOfLog log self.old.queues
+            → entry.now.version ≡ length log
             → AreRingsOfLog (log ++ entry.now ∷ []) self.new.queues }
     {
         self.queues.retain(
@@ -158,11 +160,11 @@ impl Queues {
         ensures moved { OnOk result
             ((without_rings self.new).queues ≡ queues_after_take_by log.now by id max (without_rings self.old).queues) }
         ensures err { OnErr result (self.new.queues ≡ self.old.queues) }
-        ensures some { OnErr result
+        ensures memory { OnErr result
             (0 < length (unwrap_or (take_result_by log.now by id max (without_rings self.old).queues) [])) }
-        ensures next { self.new.next ≡ self.old.next }
+        ensures next_unchanged { self.new.next ≡ self.old.next }
         ensures rings { OnOk result (self.new.queues ≡ ringed_queues_after_take_by log.now by id max self.old.queues) }
-        ensures fit { AreRingsOfLog log.now self.new.queues }
+        ensures rings_of_log { AreRingsOfLog log.now self.new.queues }
     {
         if !self.owns(by, id) {
             return Ok(None);
@@ -180,14 +182,14 @@ impl Queues {
         requires { AreRingsOfLog log.now self.old.queues }
         ensures entries { IfOk result
             (λ v. option_map (λ es. es.items) v ≡ take_result log.now id max (without_rings self.old).queues) }
-        ensures moved { OnOk result ((without_rings self.new).queues
+        ensures queues_after { OnOk result ((without_rings self.new).queues
             ≡ queues_after_take log.now id max (without_rings self.old).queues) }
         ensures err { OnErr result (self.new.queues ≡ self.old.queues) }
-        ensures some { OnErr result (0 < length (unwrap_or (take_result log.now id max
+        ensures memory { OnErr result (0 < length (unwrap_or (take_result log.now id max
             (without_rings self.old).queues) [])) }
-        ensures next { self.new.next ≡ self.old.next }
+        ensures next_unchanged { self.new.next ≡ self.old.next }
         ensures rings { OnOk result (self.new.queues ≡ ringed_queues_after_take log.now id max self.old.queues) }
-        ensures fit { AreRingsOfLog log.now self.new.queues }
+        ensures rings_of_log { AreRingsOfLog log.now self.new.queues }
     {
         take_from_queue(&mut self.queues, self.alloc, log, id.number, max)
     }
@@ -196,11 +198,12 @@ impl Queues {
     /// held. A number that no open queue has, or one that was opened under another number, does nothing.
     pub fn close(&mut self, by: u64, id: SubId)
         ensures queues { (without_rings self.new).queues ≡ remove_queue_by by id (without_rings self.old).queues }
-        ensures gone { is_open_by by id (without_rings self.old).queues ≡ true
+        ensures removed { is_open_by by id (without_rings self.old).queues ≡ true
             → queue_at id (without_rings self.new).queues ≡ None }
-        ensures next { self.new.next ≡ self.old.next }
+        ensures next_unchanged { self.new.next ≡ self.old.next }
         ensures rings { self.new.queues ≡ remove_ringed_queue_by by id self.old.queues }
-        ensures fit { (log : List PlainEntry) → AreRingsOfLog log self.old.queues → AreRingsOfLog log self.new.queues }
+        ensures rings_of_log { (log : List PlainEntry) → AreRingsOfLog log self.old.queues
+            → AreRingsOfLog log self.new.queues }
     {
         if self.owns(by, id) {
             self.remove(id);
@@ -230,11 +233,12 @@ impl Queues {
 
     // Closes a queue, whoever opened it.
     fn remove(&mut self, id: SubId)
-        ensures gone { queue_at id (without_rings self.new).queues ≡ None }
+        ensures removed { queue_at id (without_rings self.new).queues ≡ None }
         ensures queues { (without_rings self.new).queues ≡ remove_queue id (without_rings self.old).queues }
-        ensures next { self.new.next ≡ self.old.next }
+        ensures next_unchanged { self.new.next ≡ self.old.next }
         ensures rings { self.new.queues ≡ remove_entry (nat_eq id) self.old.queues }
-        ensures fit { (log : List PlainEntry) → AreRingsOfLog log self.old.queues → AreRingsOfLog log self.new.queues }
+        ensures rings_of_log { (log : List PlainEntry) → AreRingsOfLog log self.old.queues
+            → AreRingsOfLog log self.new.queues }
     {
         drop(self.queues.remove(&id.number));
         release_if_empty(&mut self.queues);
@@ -264,7 +268,7 @@ fn take_from_queue(
         ≡ take_result log.now number max (queues_without_rings queues.old.entries)) }
     ensures rings { OnOk result (queues.new.entries ≡ ringed_queues_after_take log.now number max queues.old.entries) }
     ensures err { OnErr result (queues.new.entries ≡ queues.old.entries) }
-    ensures some { OnErr result
+    ensures memory { OnErr result
         (0 < length (unwrap_or (take_result log.now number max (queues_without_rings queues.old.entries)) [])) }
     ensures numbers { keys_of queues.new.entries ≡ keys_of queues.old.entries }
 {

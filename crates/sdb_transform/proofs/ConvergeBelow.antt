@@ -6,7 +6,7 @@ use Rattle.sdb_component.specs.Plain.{PlainAct, na, si, sd, li, ld, lr, oi, od, 
 use Rattle.sdb_apply.specs.Apply.{apply_act}
 use Rattle.sdb_transform.specs.Transform.{strip_prefix, transform_step, removed_step, map_removed}
 use Rattle.sdb_transform.specs.Convergence.{HasExpectedKey, StepStaysInRange, IsSafeInteger}
-use Rattle.sdb_value.specs.PathLaws.{set_item_set_item}
+use Rattle.sdb_value.specs.laws.PathLaws.{set_item_set_item}
 use Rattle.sdb_value.proofs.DisjointLemmas.{item_other, item_exchange, equal_texts, same_itself, not_both}
 use Rattle.sdb_transform.proofs.ConvergeLists.{inserted_at, deleted_at, ins_set, set_ins, del_set, set_del, del_same, li_does, ld_does, lr_does, li_fits, ld_fits, lr_fits, count_set, le_true, lt_true, le_false, lt_false, eq_true, eq_false, le_or_lt, trichotomy, one_more, less_one}
 use Rattle.sdb_transform.proofs.ConvergeObjects.{compare_keys, order_same, below_all, same_turned}

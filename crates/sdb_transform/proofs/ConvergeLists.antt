@@ -3,7 +3,7 @@ use Rattle.std.proofs.Common.{◌≡◌, ℕ, zero, suc, ◌+◌, ◌-◌, ◌<�
 use Rattle.std.specs.Prelude.{if◌then◌else◌}
 use Rattle.std.proofs.lemmas.Bool.Decides.{nat_tests}
 use Rattle.sdb_value.specs.Value.{Value, list, Items, no_items, item, item_count, take_items, drop_items, append_items, set_item}
-use Rattle.sdb_value.specs.PathLaws.{set_item_set_item}
+use Rattle.sdb_value.specs.laws.PathLaws.{set_item_set_item}
 use Rattle.sdb_value.proofs.DisjointLemmas.{item_exchange}
 use Rattle.sdb_component.specs.Plain.{PlainAct, na, si, sd, li, ld, lr, oi, od, or}
 use Rattle.sdb_apply.specs.Apply.{apply_act}

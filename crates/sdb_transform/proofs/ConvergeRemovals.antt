@@ -2,7 +2,7 @@
 use Rattle.std.proofs.Common.{◌≡◌, List, [], ◌∷◌, ◌++◌, Option, Some, None, option_map, option_and_then, refl, sym, ap, ◌∙◌, append_assoc}
 use Rattle.std.specs.Option.{option_map_or}
 use Rattle.sdb_value.specs.Value.{Value, PlainStep, value_at, with_value_at}
-use Rattle.sdb_value.specs.PathLaws.{at_with}
+use Rattle.sdb_value.specs.laws.PathLaws.{at_with}
 use Rattle.sdb_component.specs.Plain.{PlainAct, na, si, sd, li, ld, lr, oi, od, or, PlainComponent}
 use Rattle.sdb_apply.specs.Apply.{apply_one}
 use Rattle.sdb_apply.proofs.BelowLemmas.{does_path}

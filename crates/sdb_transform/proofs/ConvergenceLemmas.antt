@@ -3,7 +3,7 @@ use Rattle.std.proofs.Common.{◌≡◌, ℕ, zero, suc, ℤ, ◌+ℤ◌, List, 
 use Rattle.std.specs.Prelude.{if◌then◌else◌}
 use Rattle.std.specs.Option.{option_map_or}
 use Rattle.sdb_value.specs.Value.{Value, null, truth, whole, text, list, object, Items, no_items, item, Members, no_members, member, PlainStep, key, index, item_at, member_at, texts_equal, steps_equal, child, with_child, value_at, with_value_at}
-use Rattle.sdb_value.specs.PathLaws.{at_append}
+use Rattle.sdb_value.specs.laws.PathLaws.{at_append}
 use Rattle.sdb_value.specs.Disjoint.{AreDisjointPaths}
 use Rattle.sdb_value.specs.FromJson.{checked_whole}
 use Rattle.sdb_value.specs.WellFormed.{IsWellFormed, AreWellFormed, MembersWellFormed}

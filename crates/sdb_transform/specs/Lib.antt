@@ -3,9 +3,8 @@ pub mod Cross
 pub mod CrossLaws
 pub mod Convergence
 pub mod ConvergenceLaws
-pub mod ConvergenceExamples
 pub mod Classification
 pub mod CrossStack
 pub mod Transform
 pub mod CrossMachine
-pub mod Examples
+pub mod worked

@@ -26,7 +26,7 @@ pub fn cross_equations()
 /// A crossing meets at most as many pairs as the product of both weights, and neither side weighs
 /// more after it.
 pub fn pairs_within_product()
-    ensures few { PairsWithinProduct }
+    ensures bound { PairsWithinProduct }
     ensures weights { NoSideHeavier }
 {}
 

@@ -42,7 +42,7 @@ pub struct Crossed {
 pub fn cross(alloc: Global, left: &Op, right: &Op) -> Result<Crossed, Fault>
     ensures ok { IfOk result (λ c. IsResultOfCross c (cross_ops left.now right.now)) }
     ensures err { IfErr result (λ f. IsTransformFault f (cross_ops left.now right.now)) }
-    ensures few { IfOk result (λ c. c.pairs ≤ weight left.now * weight right.now) }
+    ensures bound { IfOk result (λ c. c.pairs ≤ weight left.now * weight right.now) }
 {
     match (left.components(), right.components()) {
         ([left], [right]) => cross_one(alloc, left, right),
@@ -59,7 +59,7 @@ pub fn cross(alloc: Global, left: &Op, right: &Op) -> Result<Crossed, Fault>
 fn cross_one(alloc: Global, left: &Component, right: &Component) -> Result<Crossed, Fault>
     ensures ok { IfOk result (λ c. IsResultOfCross c (cross_ops (left.now ∷ []) (right.now ∷ []))) }
     ensures err { IfErr result (λ f. IsTransformFault f (cross_ops (left.now ∷ []) (right.now ∷ []))) }
-    ensures few { IfOk result (λ c. c.pairs ≤ weight (left.now ∷ []) * weight (right.now ∷ [])) }
+    ensures bound { IfOk result (λ c. c.pairs ≤ weight (left.now ∷ []) * weight (right.now ∷ [])) }
 {
     let pieces = transform_borrowed(alloc, left, right, Side::Left)?;
     let run = transform_borrowed(alloc, right, left, Side::Right)?;
@@ -87,7 +87,7 @@ fn transform_borrowed(
 fn cross_many(alloc: Global, left: Vec<Component>, right: Vec<Component>) -> Result<Crossed, Fault>
     ensures ok { IfOk result (λ c. IsResultOfCross c (cross_ops left.items right.items)) }
     ensures err { IfErr result (λ f. IsTransformFault f (cross_ops left.items right.items)) }
-    ensures few { IfOk result (λ c. c.pairs ≤ weight left.items * weight right.items) }
+    ensures bound { IfOk result (λ c. c.pairs ≤ weight left.items * weight right.items) }
 {
     let mut progress = CrossState {
         left: Vec::new(alloc),

@@ -4,7 +4,7 @@ use Rattle.std.specs.List.{flat_map}
 use Rattle.std.specs.Option.{is_some, IfSome, IfNone}
 use Rattle.sdb_chunks.specs.Chunk.{items_of as block_items, is_chunk_unique as block_own, is_chunk_shared as block_shared}
 use Rattle.sdb_chunks.specs.ChunkedVec.{all_unique, all_shared, vec_chunks, vec_items, vec_chunk_items, is_grouped, is_unique_repr, is_unique_vec, is_shared_repr, is_shared_vec}
-use Rattle.sdb_chunks.specs.Laws.{vec_models_of_items}
+use Rattle.sdb_chunks.specs.laws.ChunkLaws.{vec_models_of_items}
 use Rattle.sdb_sorted_map.specs.MapEntry.{entry_key}
 use Rattle.sdb_sorted_map.specs.SortedMap.{map_entries, is_shared_map as members_shared}
 use Rattle.sdb_sorted_map.specs.KeyOrder.{IsAscending}

@@ -6,7 +6,7 @@ use Rattle.std.proofs.lemmas.Cmp.{nat_list_cmp_total, tied_itself}
 use Rattle.std.proofs.lemmas.Map.Text.{is_eq-slice_cmp}
 use Rattle.std.proofs.lemmas.Slice.Eq.{bytes_eq-Decides}
 use Rattle.sdb_value.specs.Value.{Value, null, truth, whole, text, list, object, Items, no_items, item, Members, no_members, member, PlainStep, key, index, item_at, member_at, set_item, set_member, texts_equal, steps_equal, child, with_child, value_at, with_value_at}
-use Rattle.sdb_value.specs.PathLaws.{child_with_child, with_child_with_child}
+use Rattle.sdb_value.specs.laws.PathLaws.{child_with_child, with_child_with_child}
 use Rattle.sdb_value.specs.Disjoint.{AreDisjointPaths}
 
 -- ---- steps

@@ -2,14 +2,14 @@
 use Rattle.std.proofs.Common.{◌≡◌, ℕ, zero, suc, List, [], ◌∷◌, map, take, drop, Option, Some, None, refl, sym, ap, ◌∙◌, subst, slice_get, cond, Bool, true, false, Result, Ok, Err, IfOk}
 use Rattle.std.specs.Option.{option_and_then, option_map_or, MatchOption}
 use Rattle.std.specs.Ordering.{is_eq}
-use Rattle.sdb_chunks.specs.Laws.{vec_models_of_items}
+use Rattle.sdb_chunks.specs.laws.ChunkLaws.{vec_models_of_items}
 use Rattle.sdb_chunks.specs.ChunkedVec.{vec_items}
 use Rattle.sdb_sorted_map.specs.MapEntry.{entry_key}
 use Rattle.sdb_sorted_map.specs.SortedMap.{map_keys, map_chunks}
 use Rattle.sdb_sorted_map.specs.SearchModel.{entry_key_bytes, vec_keys}
 use Rattle.sdb_sorted_map.specs.declared.map_entry.MapEntry.{MapEntry}
 use Rattle.sdb_chunks.specs.declared.chunked_vec.ChunkedVec.{ChunkedVec}
-use Rattle.sdb_sorted_map.specs.Laws.{compare_equal}
+use Rattle.sdb_sorted_map.specs.laws.SortedMapLaws.{compare_equal}
 use Rattle.sdb_sorted_map.specs.KeyOrder.{IsAboveAll, IsBelowAll, IsKeyIndex, IsInsertIndex}
 use Rattle.sdb_sorted_map.specs.declared.sorted_map.SortedMap.{SortedMap as Held}
 use Rattle.sdb_value.specs.Change.{ReplacedAt, AbsentAt}

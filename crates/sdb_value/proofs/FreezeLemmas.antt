@@ -4,7 +4,7 @@ use Rattle.std.proofs.lemmas.List.{get_or-map, map-set, set-get_or}
 use Rattle.std.specs.List.{flat_map}
 use Rattle.sdb_chunks.specs.Chunk.{items_of as block_items}
 use Rattle.sdb_chunks.specs.ChunkGroup.{group_chunks}
-use Rattle.sdb_chunks.specs.Laws.{vec_models_of_items}
+use Rattle.sdb_chunks.specs.laws.ChunkLaws.{vec_models_of_items}
 use Rattle.sdb_chunks.specs.ChunkedVec.{vec_items, repr_models}
 use Rattle.sdb_chunks.specs.declared.chunk.Chunk.{Chunk}
 use Rattle.sdb_chunks.specs.declared.chunk_group.ChunkGroup.{ChunkGroup}

@@ -3,7 +3,7 @@ use Rattle.std.proofs.Common.{◌≡◌, ℕ, zero, suc, ◌<◌, List, [], ◌�
 use Rattle.std.specs.List.{insert, remove}
 use Rattle.std.specs.Option.{is_some, IfSome, IfNone}
 use Rattle.std.proofs.lemmas.Bool.Decides.{nat_tests}
-use Rattle.sdb_chunks.specs.Laws.{vec_models_of_items, unique_vec_at_of_all}
+use Rattle.sdb_chunks.specs.laws.ChunkLaws.{vec_models_of_items, unique_vec_at_of_all}
 use Rattle.sdb_chunks.specs.ChunkedVec.{vec_models, vec_items, is_grouped, is_unique_vec_at, is_unique_repr, is_unique_vec}
 use Rattle.sdb_chunks.specs.declared.chunked_vec.Repr.{Repr}
 use Rattle.sdb_chunks.specs.declared.chunked_vec.Repr.TheVariants.{Flat, Chunks, Groups}

@@ -1,12 +1,12 @@
 -- A member that is taken out of a list and put back.
 use Rattle.std.proofs.Common.{◌≡◌, ℕ, zero, suc, List, [], ◌∷◌, map, Option, Some, None, option_map, Bool, true, false, cond, slice_get, slice_set, Result, Ok, Err, IfOk, OnOk, OnErr, refl, sym, ap, ◌∙◌}
 use Rattle.std.specs.Option.{IfSome, IfNone}
-use Rattle.sdb_sorted_map.specs.Laws.{keys_of_vec_models}
+use Rattle.sdb_sorted_map.specs.laws.SortedMapLaws.{keys_of_vec_models}
 use Rattle.sdb_sorted_map.specs.MapEntry.{entry_key, entry_model}
 use Rattle.sdb_sorted_map.specs.SortedMap.{entry_keys}
 use Rattle.sdb_sorted_map.specs.SearchModel.{vec_keys}
 use Rattle.sdb_sorted_map.specs.declared.map_entry.MapEntry.{MapEntry}
-use Rattle.sdb_chunks.specs.Laws.{unique_vec_at_of_all, vec_models_of_items}
+use Rattle.sdb_chunks.specs.laws.ChunkLaws.{unique_vec_at_of_all, vec_models_of_items}
 use Rattle.sdb_chunks.specs.ChunkedVec.{vec_items, is_unique_vec_at, is_unique_vec, vec_models}
 use Rattle.sdb_chunks.specs.declared.chunked_vec.ChunkedVec.{ChunkedVec}
 use Rattle.sdb_value.specs.Uniqueness.{all_true, entries_unique, is_unique, value_model}

@@ -4,10 +4,10 @@ use Rattle.std.specs.Option.{IfSome}
 use Rattle.std.specs.Map.{lookup, remove_entry}
 use Rattle.std.specs.BTreeMap.{insert_entry, is_at}
 use Rattle.std.specs.Ordering.{match_ordering}
-use Rattle.sdb_chunks.specs.Laws.{vec_models_of_items}
+use Rattle.sdb_chunks.specs.laws.ChunkLaws.{vec_models_of_items}
 use Rattle.sdb_chunks.specs.ChunkedVec.{vec_models, is_unique_vec, vec_items}
 use Rattle.sdb_chunks.specs.declared.chunked_vec.ChunkedVec.{ChunkedVec}
-use Rattle.sdb_sorted_map.specs.Laws.{map_models_of_entries}
+use Rattle.sdb_sorted_map.specs.laws.SortedMapLaws.{map_models_of_entries}
 use Rattle.sdb_sorted_map.specs.MapEntry.{entry_model}
 use Rattle.sdb_sorted_map.specs.SortedMap.{map_entries, map_entry_models, is_unique_map as members_own, map_chunks}
 use Rattle.sdb_sorted_map.specs.declared.map_entry.MapEntry.{MapEntry}

@@ -2,7 +2,7 @@
 use Rattle.std.proofs.Common.{◌≡◌, ℕ, zero, suc, List, ◌∷◌, Option, Some, None, MatchOption, Result, Ok, Err, IfOk, Bool, true, false, true≢false, refl, sym, ap, ◌∙◌}
 use Rattle.sdb_value.specs.Value.{Value, null, no_items, item, list, Items, PlainStep, index, item_at, set_item, as_list, child, with_child}
 use Rattle.sdb_value.specs.Change.{ReplacedAt, AbsentAt}
-use Rattle.sdb_value.specs.ValueLaws.{eq_list_of_as_list, set_item_same}
+use Rattle.sdb_value.specs.laws.ValueLaws.{eq_list_of_as_list, set_item_same}
 
 -- a change below a step is a change
 step_down : {O : Type 0} (r : Option O) (R : O → Value → Value → Type 0) (d e : Value) (w : PlainStep) (p q : List PlainStep) (c c2 : Value)

@@ -6,7 +6,7 @@ use Rattle.std.specs.List.{AllByRecursion, flat_map}
 use Rattle.sdb_chunks.specs.Chunk.{items_of as block_items}
 use mathlib.Core.Former.{this}
 use Rattle.sdb_chunks.specs.formers.chunk_group.ChunkGroup.{the_former}
-use Rattle.sdb_chunks.specs.Laws.{vec_models_of_items}
+use Rattle.sdb_chunks.specs.laws.ChunkLaws.{vec_models_of_items}
 use Rattle.sdb_chunks.specs.ChunkGroup.{flatten_group_models, group_models}
 use Rattle.sdb_chunks.specs.ChunkedVec.{flatten_models, repr_models, vec_models}
 use Rattle.sdb_chunks.specs.declared.chunk.Chunk.{Chunk}
@@ -16,7 +16,7 @@ use Rattle.sdb_chunks.specs.declared.chunked_vec.Repr.{Repr}
 use Rattle.sdb_chunks.specs.declared.chunked_vec.Repr.TheVariants.{Flat, Chunks, Groups}
 use Rattle.sdb_chunks.specs.declared.chunked_vec.ChunkedVec.{ChunkedVec}
 use Rattle.sdb_sorted_map.specs.formers.sorted_map.SortedMap.{member_former, pieces_former}
-use Rattle.sdb_sorted_map.specs.Laws.{map_models_of_entries}
+use Rattle.sdb_sorted_map.specs.laws.SortedMapLaws.{map_models_of_entries}
 use Rattle.sdb_sorted_map.specs.MapEntry.{entry_model}
 use Rattle.sdb_sorted_map.specs.SortedMap.{map_entry_models, map_chunks}
 use Rattle.sdb_sorted_map.specs.declared.map_entry.MapEntry.{MapEntry}

@@ -3,7 +3,7 @@ use Rattle.std.proofs.Common.{◌≡◌, ℕ, zero, suc, ◌+◌, ◌≤◌, ◌
 use Rattle.std.specs.List.{flat_map}
 use Rattle.sdb_chunks.specs.Chunk.{items_of as block_items}
 use Rattle.sdb_chunks.specs.declared.chunk.Chunk.{Chunk}
-use Rattle.sdb_chunks.specs.Laws.{vec_models_of_items}
+use Rattle.sdb_chunks.specs.laws.ChunkLaws.{vec_models_of_items}
 use Rattle.sdb_chunks.specs.ChunkedVec.{vec_models, vec_items}
 use Rattle.sdb_sorted_map.specs.MapEntry.{key_value, entry_model}
 use Rattle.sdb_sorted_map.specs.SortedMap.{map_entries, map_entry_models, map_chunks}

@@ -14,7 +14,7 @@ use Rattle.sdb_chunks.specs.declared.chunked_vec.ChunkedVec.{ChunkedVec}
 use Rattle.sdb_sorted_map.specs.SortedMap.{entry_keys}
 use Rattle.sdb_sorted_map.specs.KeyOrder.{compare_bytes, IsAscending}
 use Rattle.sdb_sorted_map.specs.declared.sorted_map.SortedMap.{SortedMap as Held}
-use Rattle.sdb_value.specs.PrefixLaws.{writes_prefix_after}
+use Rattle.sdb_value.specs.laws.PrefixLaws.{writes_prefix_after}
 use Rattle.sdb_value.specs.ToJson.{array_tail_tokens, data_tokens, object_tail_tokens}
 use Rattle.sdb_value.specs.declared.value.Json as json
 use Rattle.sdb_value.proofs.KeyOrderLemmas.{NamedEntry, IsBelowAllNames, first_is_least}

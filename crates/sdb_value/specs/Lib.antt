@@ -2,10 +2,7 @@ pub mod Disjoint
 pub mod Change
 pub mod Coding
 pub mod CloneModes
-pub mod PrefixLaws
-pub mod ValueLaws
 pub mod Uniqueness
-pub mod PathLaws
 pub mod ToJson
 pub mod FromJson
 pub mod Rows
@@ -13,4 +10,5 @@ pub mod Size
 pub mod Value
 pub mod View
 pub mod WellFormed
-pub mod Examples
+pub mod laws
+pub mod worked

@@ -35,8 +35,8 @@ pub(crate) enum CloneMode {
 #[inline(always)]
 fn clone_shared_object(value: &Json) -> Result<Option<Json>, AllocError>
     ensures value { IfOk result (λ o. IfSome o (λ v. value_of v ≡ value_of value.now)) }
-    ensures own { IfOk result (λ o. IfSome o (λ v. is_unique v ≡ is_unique value.now)) }
-    ensures pointer { IfOk result (λ o. IfSome o (λ v. is_frozen v ≡ true)) }
+    ensures unique { IfOk result (λ o. IfSome o (λ v. is_unique v ≡ is_unique value.now)) }
+    ensures frozen { IfOk result (λ o. IfSome o (λ v. is_frozen v ≡ true)) }
 {
     match value {
         Json::Object(members) => match members.clone_shared()? {
@@ -51,7 +51,7 @@ fn clone_shared_object(value: &Json) -> Result<Option<Json>, AllocError>
 #[inline(always)]
 pub(crate) fn clone_preserving(alloc: Global, value: &Json) -> Result<Json, AllocError>
     ensures value { IfOk result (λ v. value_of v ≡ value_of value.now) }
-    ensures own { IfOk result (λ v. is_unique v ≡ is_unique value.now) }
+    ensures unique { IfOk result (λ v. is_unique v ≡ is_unique value.now) }
 {
     match clone_shared_object(value)? {
         Some(copy) => Ok(copy),
@@ -63,7 +63,7 @@ pub(crate) fn clone_preserving(alloc: Global, value: &Json) -> Result<Json, Allo
 #[inline(always)]
 pub(crate) fn clone_frozen(alloc: Global, value: &Json) -> Result<Json, AllocError>
     ensures value { IfOk result (λ v. value_of v ≡ value_of value.now) }
-    ensures pointer { IfOk result (λ v. is_frozen v ≡ true) }
+    ensures frozen { IfOk result (λ v. is_frozen v ≡ true) }
 {
     match clone_shared_object(value)? {
         Some(copy) => Ok(copy),
@@ -74,7 +74,7 @@ pub(crate) fn clone_frozen(alloc: Global, value: &Json) -> Result<Json, AllocErr
 #[cycle(copy)]
 pub(crate) fn copy(alloc: Global, value: &Json, manner: CloneMode) -> Result<Json, AllocError>
     ensures value { IfOk result (λ v. value_of v ≡ value_of value.now) }
-    ensures own { IfOk result (λ v. HasUniquenessOfMode manner (is_unique value.now) (is_unique v) (is_frozen v)) }
+    ensures unique { IfOk result (λ v. HasUniquenessOfMode manner (is_unique value.now) (is_unique v) (is_frozen v)) }
 {
     match value {
         Json::Null => Ok(Json::Null),
@@ -88,7 +88,7 @@ pub(crate) fn copy(alloc: Global, value: &Json, manner: CloneMode) -> Result<Jso
 
 fn clone_text(alloc: Global, text: &Rope, manner: CloneMode) -> Result<Rope, AllocError>
     ensures bytes { IfOk result (λ t. rope_bytes t ≡ rope_bytes text.now) }
-    ensures own { IfOk result (λ t. HasUniquenessOfMode manner (text_own text.now) (text_own t) (text_shared t)) }
+    ensures unique { IfOk result (λ t. HasUniquenessOfMode manner (text_own text.now) (text_own t) (text_shared t)) }
 {
     match manner {
         CloneMode::Preserve => text.try_clone(alloc),
@@ -100,7 +100,7 @@ fn clone_text(alloc: Global, text: &Rope, manner: CloneMode) -> Result<Rope, All
 #[cycle(copy)]
 fn clone_list(alloc: Global, items: &List, manner: CloneMode) -> Result<List, AllocError>
     ensures items { IfOk result (λ l. list_value l ≡ list_value items.now) }
-    ensures own { IfOk result (λ l. HasUniquenessOfMode manner (list_unique items.now) (list_unique l)
+    ensures unique { IfOk result (λ l. HasUniquenessOfMode manner (list_unique items.now) (list_unique l)
         (is_shared_vec l)) }
 {
     if let Some(list) = clone_list_pointer(items, manner)? {
@@ -117,7 +117,7 @@ fn clone_list(alloc: Global, items: &List, manner: CloneMode) -> Result<List, Al
 // A pointer to the list, where it is shared and a copy may be one.
 fn clone_list_pointer(items: &List, manner: CloneMode) -> Result<Option<List>, AllocError>
     ensures items { IfOk result (λ o. IfSome o (λ l. list_value l ≡ list_value items.now)) }
-    ensures own { IfOk result (λ o. IfSome o
+    ensures unique { IfOk result (λ o. IfSome o
         (λ l. HasUniquenessOfMode manner (list_unique items.now) (list_unique l) (is_shared_vec l))) }
     ensures none { IfOk result (λ o. IfNone o (manner ≡ Preserve → is_shared_vec items.now ≡ false)) }
 {
@@ -132,7 +132,7 @@ fn chunk_clone_mode<T>(items: &ChunkedVec<T>, manner: CloneMode) -> CloneMode
     ensures copied { (was now pointer : Bool) → (is_grouped items.now.repr ≡ true → was ≡ false)
         → (pointer ≡ true → now ≡ false) → HasUniquenessOfMode result was now pointer
         → HasUniquenessOfMode manner was now pointer }
-    ensures same { result ≡ Preserve → manner ≡ Preserve }
+    ensures equal { result ≡ Preserve → manner ≡ Preserve }
     ensures in_blocks { result ≡ Preserve → is_grouped items.now.repr ≡ false }
 {
     if items.is_grouped() && matches!(manner, CloneMode::Preserve) {
@@ -148,7 +148,7 @@ fn clone_chunks(
     manner: CloneMode,
 ) -> Result<Vec<Chunk<Json>>, AllocError>
     ensures items { IfOk result (λ v. items_value (flat_map items_of v.items) ≡ list_value items.now) }
-    ensures own { IfOk result (λ v. HasUniquenessOfMode manner
+    ensures unique { IfOk result (λ v. HasUniquenessOfMode manner
         (are_deep_unique_chunks (vec_chunks items.now)) (are_deep_unique_chunks v.items) (all_shared v.items)) }
 {
     let mut copies = Vec::new(alloc);
@@ -165,7 +165,7 @@ fn clone_chunk(
     manner: CloneMode,
 ) -> Result<Chunk<Json>, AllocError>
     ensures items { IfOk result (λ b. items_value (items_of b) ≡ items_value (items_of block.now)) }
-    ensures own { IfOk result (λ b. HasUniquenessOfMode manner
+    ensures unique { IfOk result (λ b. HasUniquenessOfMode manner
         (is_deep_unique_chunk block.now) (is_deep_unique_chunk b) (block_shared b)) }
 {
     if let Some(block) = clone_chunk_pointer(block, manner)? {
@@ -183,7 +183,7 @@ fn clone_chunk_pointer<T>(
     block: &Chunk<T>,
     manner: CloneMode,
 ) -> Result<Option<Chunk<T>>, AllocError>
-    ensures same { IfOk result (λ o. IfSome o (λ b. items_of b ≡ items_of block.now)) }
+    ensures equal { IfOk result (λ o. IfSome o (λ b. items_of b ≡ items_of block.now)) }
     ensures shared { IfOk result (λ o. IfSome o (λ b. block_shared b ≡ true)) }
     ensures was { IfOk result (λ o. IfSome o (λ _. block_shared block.now ≡ true)) }
     ensures other { IfOk result (λ o. IfSome o (λ _. manner ≡ Unique → ⊥)) }
@@ -198,7 +198,8 @@ fn clone_chunk_pointer<T>(
 #[cycle(copy)]
 fn clone_items(alloc: Global, items: &[Json], manner: CloneMode) -> Result<Vec<Json>, AllocError>
     ensures items { IfOk result (λ v. items_value v.items ≡ items_value items.now) }
-    ensures own { IfOk result (λ v. HasUniquenessOfMode manner (items_unique items.now) (items_unique v.items) true) }
+    ensures unique { IfOk result (λ v. HasUniquenessOfMode manner (items_unique items.now)
+        (items_unique v.items) true) }
 {
     let mut copies = Vec::with_capacity(alloc, items.len())?;
     for item in items {
@@ -210,7 +211,7 @@ fn clone_items(alloc: Global, items: &[Json], manner: CloneMode) -> Result<Vec<J
 #[cycle(copy)]
 fn clone_members(alloc: Global, members: &Members, manner: CloneMode) -> Result<Members, AllocError>
     ensures members { IfOk result (λ m. object_value m ≡ object_value members.now) }
-    ensures own { IfOk result (λ m. HasUniquenessOfMode manner (object_unique members.now) (object_unique m)
+    ensures unique { IfOk result (λ m. HasUniquenessOfMode manner (object_unique members.now) (object_unique m)
         (members_shared m)) }
 {
     if let Some(copy) = clone_members_pointer(members, manner)? {
@@ -233,7 +234,7 @@ fn clone_members_pointer(
     manner: CloneMode,
 ) -> Result<Option<Members>, AllocError>
     ensures members { IfOk result (λ o. IfSome o (λ m. object_value m ≡ object_value members.now)) }
-    ensures own { IfOk result (λ o. IfSome o
+    ensures unique { IfOk result (λ o. IfSome o
         (λ m. HasUniquenessOfMode manner (object_unique members.now) (object_unique m) (members_shared m))) }
     ensures none { IfOk result (λ o. IfNone o (manner ≡ Preserve → members_shared members.now ≡ false)) }
 {
@@ -251,7 +252,7 @@ fn clone_member_chunks(
 ) -> Result<Vec<Chunk<MapEntry<Json>>>, AllocError>
     ensures members { IfOk result (λ v. entries_value (flat_map items_of v.items)
         ≡ entries_value (flat_map items_of (vec_chunks entries.now))) }
-    ensures own { IfOk result (λ v. HasUniquenessOfMode manner
+    ensures unique { IfOk result (λ v. HasUniquenessOfMode manner
         (are_deep_unique_member_chunks (vec_chunks entries.now)) (are_deep_unique_member_chunks v.items)
         (all_shared v.items)) }
 {
@@ -269,7 +270,7 @@ fn clone_member_chunk(
     manner: CloneMode,
 ) -> Result<Chunk<MapEntry<Json>>, AllocError>
     ensures members { IfOk result (λ b. entries_value (items_of b) ≡ entries_value (items_of block.now)) }
-    ensures own { IfOk result (λ b. HasUniquenessOfMode manner (is_deep_unique_member_chunk block.now)
+    ensures unique { IfOk result (λ b. HasUniquenessOfMode manner (is_deep_unique_member_chunk block.now)
         (is_deep_unique_member_chunk b) (block_shared b)) }
 {
     if let Some(block) = clone_chunk_pointer(block, manner)? {
@@ -289,7 +290,7 @@ fn clone_each_member(
     manner: CloneMode,
 ) -> Result<Vec<MapEntry<Json>>, AllocError>
     ensures members { IfOk result (λ v. entries_value v.items ≡ entries_value members.now) }
-    ensures own { IfOk result (λ v. HasUniquenessOfMode manner (members_unique members.now)
+    ensures unique { IfOk result (λ v. HasUniquenessOfMode manner (members_unique members.now)
         (members_unique v.items) true) }
 {
     let mut copies = Vec::with_capacity(alloc, members.len())?;

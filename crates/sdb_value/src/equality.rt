@@ -8,8 +8,8 @@ use crate::value::{Json, List, Members};
 /// Whether the values are the same: of one kind, with the same parts, and the members of objects under the
 /// same keys. It walks both as far as they are the same, and takes no memory.
 pub fn values_equal(a: &Json, b: &Json) -> bool
-    ensures same { IsTrue result → value_of a.now ≡ value_of b.now }
-    ensures other { IsFalse result → value_of a.now ≡ value_of b.now → ⊥ }
+    ensures on_true { IsTrue result → value_of a.now ≡ value_of b.now }
+    ensures on_false { IsFalse result → value_of a.now ≡ value_of b.now → ⊥ }
 {
     equal(a, b)
 }
@@ -17,8 +17,8 @@ pub fn values_equal(a: &Json, b: &Json) -> bool
 #[cycle(equal)]
 #[tactic(auto, using(crate::proofs::WeightLemmas::levels))]
 fn equal(a: &Json, b: &Json) -> bool
-    ensures same { IsTrue result → value_of a.now ≡ value_of b.now }
-    ensures other { IsFalse result → value_of a.now ≡ value_of b.now → ⊥ }
+    ensures on_true { IsTrue result → value_of a.now ≡ value_of b.now }
+    ensures on_false { IsFalse result → value_of a.now ≡ value_of b.now → ⊥ }
 {
     match a {
         Json::Null => match b {
@@ -50,8 +50,8 @@ fn equal(a: &Json, b: &Json) -> bool
 
 #[cycle(equal)]
 fn items_equal(a: &List, b: &List) -> bool
-    ensures same { IsTrue result → list_value a.now ≡ list_value b.now }
-    ensures other { IsFalse result → list_value a.now ≡ list_value b.now → ⊥ }
+    ensures on_true { IsTrue result → list_value a.now ≡ list_value b.now }
+    ensures on_false { IsFalse result → list_value a.now ≡ list_value b.now → ⊥ }
 {
     let mut others = b.iter();
     for item in a.iter() {
@@ -69,8 +69,8 @@ fn items_equal(a: &List, b: &List) -> bool
 
 #[cycle(equal)]
 fn members_equal(a: &Members, b: &Members) -> bool
-    ensures same { IsTrue result → object_value a.now ≡ object_value b.now }
-    ensures other { IsFalse result → object_value a.now ≡ object_value b.now → ⊥ }
+    ensures on_true { IsTrue result → object_value a.now ≡ object_value b.now }
+    ensures on_false { IsFalse result → object_value a.now ≡ object_value b.now → ⊥ }
 {
     let mut others = b.iter();
     for (key, member) in a.iter() {
@@ -88,8 +88,8 @@ fn members_equal(a: &Members, b: &Members) -> bool
 
 /// Whether the paths are the same, step by step. It takes no memory.
 pub fn paths_equal(a: &[Step], b: &[Step]) -> bool
-    ensures same { IsTrue result → plain_path a.now ≡ plain_path b.now }
-    ensures other { IsFalse result → plain_path a.now ≡ plain_path b.now → ⊥ }
+    ensures on_true { IsTrue result → plain_path a.now ≡ plain_path b.now }
+    ensures on_false { IsFalse result → plain_path a.now ≡ plain_path b.now → ⊥ }
 {
     if a.len() != b.len() {
         return false;
@@ -103,8 +103,8 @@ pub fn paths_equal(a: &[Step], b: &[Step]) -> bool
 }
 
 fn steps_equal(a: &Step, b: &Step) -> bool
-    ensures same { IsTrue result → plain_step a.now ≡ plain_step b.now }
-    ensures other { IsFalse result → plain_step a.now ≡ plain_step b.now → ⊥ }
+    ensures on_true { IsTrue result → plain_step a.now ≡ plain_step b.now }
+    ensures on_false { IsFalse result → plain_step a.now ≡ plain_step b.now → ⊥ }
 {
     match a {
         Step::Key(key) => match b {

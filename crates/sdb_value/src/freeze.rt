@@ -19,7 +19,7 @@ use std::mem::replace;
 #[inline(always)]
 pub(crate) fn freeze_value(alloc: Global, value: &mut Json) -> Result<(), AllocError>
     ensures value { value_of value.new ≡ value_of value.old }
-    ensures pointer { OnOk result (is_frozen value.new ≡ true) }
+    ensures frozen { OnOk result (is_frozen value.new ≡ true) }
 {
     if is_frozen(value) {
         return Ok(());
@@ -32,7 +32,7 @@ pub(crate) fn freeze_value(alloc: Global, value: &mut Json) -> Result<(), AllocE
 #[tactic(auto, using(crate::proofs::FreezeLemmas::levels))]
 fn freeze_list_parts(alloc: Global, value: &mut Json) -> Result<(), AllocError>
     ensures value { value_of value.new ≡ value_of value.old }
-    ensures pointer { OnOk result (is_frozen value.new ≡ true) }
+    ensures frozen { OnOk result (is_frozen value.new ≡ true) }
 {
     match value {
         Json::Null => Ok(()),
@@ -187,7 +187,7 @@ fn freeze_each_item(alloc: Global, items: &mut Vec<Json>) -> Result<(), AllocErr
 
 #[cycle(freeze_value)]
 fn freeze_members(alloc: Global, members: &mut Members) -> Result<(), AllocError>
-    ensures members { object_value members.new ≡ object_value members.old }
+    ensures members_unchanged { object_value members.new ≡ object_value members.old }
     ensures shared { OnOk result (members_shared members.new ≡ true) }
 {
     let mut form = replace(members, Members::new(alloc))

@@ -51,7 +51,7 @@ pub fn from_value<D: JsonData>(alloc: Global, value: &D) -> Result<Json, ValueFa
     ensures ok { IfOk result (λ j. bounded_value_of_data (D.json value.now) ≡ Some (value_of j)) }
     ensures err { IfErr result (λ f. FaultMeansNone (bounded_value_of_data (D.json value.now)) f) }
     ensures cause { IfErr result (λ f. IsReadFault 50 (D.json value.now) f) }
-    ensures own { IfOk result (λ j. is_unique j ≡ true) }
+    ensures unique { IfOk result (λ j. is_unique j ≡ true) }
 {
     read_value(alloc, value, 50)
 }
@@ -59,8 +59,8 @@ pub fn from_value<D: JsonData>(alloc: Global, value: &D) -> Result<Json, ValueFa
 #[cycle(read_value)]
 fn read_value<D: JsonData>(alloc: Global, value: &D, left: u64) -> Result<Json, ValueFault>
     ensures ok { IfOk result (λ j. value_of_data (D.json value.now) ≡ Some (value_of j)) }
-    ensures low { IfOk result (λ j. depth (value_of j) ≤ left) }
-    ensures own { IfOk result (λ j. is_unique j ≡ true) }
+    ensures depth { IfOk result (λ j. depth (value_of j) ≤ left) }
+    ensures unique { IfOk result (λ j. is_unique j ≡ true) }
     ensures err { IfErr result (λ f. IsReadFault left (D.json value.now) f) }
 {
     if let Some(items) = value.as_array() {
@@ -83,8 +83,8 @@ fn read_leaf<D: JsonData>(alloc: Global, value: &D) -> Result<Json, ValueFault>
     requires no_list { as_array (D.json value.now) ≡ None }
     requires no_object { as_object (D.json value.now) ≡ None }
     ensures ok { IfOk result (λ j. value_of_data (D.json value.now) ≡ Some (value_of j)) }
-    ensures low { IfOk result (λ j. depth (value_of j) ≡ 0) }
-    ensures own { IfOk result (λ j. is_unique j ≡ true) }
+    ensures depth { IfOk result (λ j. depth (value_of j) ≡ 0) }
+    ensures unique { IfOk result (λ j. is_unique j ≡ true) }
     ensures err { IfErr result (λ f. IsReadFault 0 (D.json value.now) f) }
 {
     if let Some(text) = value.as_str() {
@@ -105,8 +105,8 @@ fn read_leaf<D: JsonData>(alloc: Global, value: &D) -> Result<Json, ValueFault>
 #[cycle(read_value)]
 fn read_items<D: JsonData>(alloc: Global, items: &[D], left: u64) -> Result<Vec<Json>, ValueFault>
     ensures ok { IfOk result (λ v. items_of_data (raw.items_of (map D.json items.now)) ≡ Some (items_value v.items)) }
-    ensures low { IfOk result (λ v. items_depth (items_value v.items) ≤ left) }
-    ensures own { IfOk result (λ v. items_unique v.items ≡ true) }
+    ensures depth { IfOk result (λ v. items_depth (items_value v.items) ≤ left) }
+    ensures unique { IfOk result (λ v. items_unique v.items ≡ true) }
     ensures err { IfErr result (λ f. IsItemsReadFault left (raw.items_of (map D.json items.now)) f) }
 {
     let mut done = Vec::with_capacity(alloc, items.len())?;
@@ -125,8 +125,8 @@ fn read_members<D: JsonData>(
 ) -> Result<Members, ValueFault>
     ensures ok { IfOk result (λ m. members_of_data (sorted_members D.json members.now.entries)
         ≡ Some (object_value m)) }
-    ensures low { IfOk result (λ m. members_depth (object_value m) ≤ left) }
-    ensures own { IfOk result (λ m. object_unique m ≡ true) }
+    ensures depth { IfOk result (λ m. members_depth (object_value m) ≤ left) }
+    ensures unique { IfOk result (λ m. object_unique m ≡ true) }
     ensures err { IfErr result (λ f. IsMembersReadFault left (sorted_members D.json members.now.entries) f) }
 {
     let mut entries = Vec::with_capacity(alloc, members.len())?;

@@ -18,7 +18,7 @@ pub fn text_mut(value: &mut Json) -> Option<&mut Rope>
         (λ n w. OnSome result ((value_of n ≡ text (rope_bytes w)) × (is_unique n ≡ text_own w)))
         (λ n. (value_of n ≡ value_of value.old) × (is_unique n ≡ is_unique value.old))) }
     ensures value { option_map (λ v. rope_bytes v.now) result ≡ as_text (value_of value.old) }
-    ensures own { IfSome result (λ v. text_own v.now ≡ is_unique value.old) }
+    ensures unique { IfSome result (λ v. text_own v.now ≡ is_unique value.old) }
 {
     if let Json::Text(text) = value {
         Some(text)
@@ -34,7 +34,7 @@ pub fn list_mut(value: &mut Json) -> Option<&mut List>
         (λ n w. OnSome result ((value_of n ≡ list (list_value w)) × (is_unique n ≡ list_unique w)))
         (λ n. (value_of n ≡ value_of value.old) × (is_unique n ≡ is_unique value.old))) }
     ensures value { option_map (λ v. list_value v.now) result ≡ as_list (value_of value.old) }
-    ensures own { IfSome result (λ v. list_unique v.now ≡ is_unique value.old) }
+    ensures unique { IfSome result (λ v. list_unique v.now ≡ is_unique value.old) }
 {
     if let Json::List(items) = value {
         Some(items)
@@ -50,7 +50,7 @@ pub fn object_mut(value: &mut Json) -> Option<&mut Members>
         (λ n w. OnSome result ((value_of n ≡ object (object_value w)) × (is_unique n ≡ object_unique w)))
         (λ n. (value_of n ≡ value_of value.old) × (is_unique n ≡ is_unique value.old))) }
     ensures value { option_map (λ v. object_value v.now) result ≡ as_object (value_of value.old) }
-    ensures own { IfSome result (λ v. object_unique v.now ≡ is_unique value.old) }
+    ensures unique { IfSome result (λ v. object_unique v.now ≡ is_unique value.old) }
 {
     if let Json::Object(members) = value {
         Some(members)

@@ -30,7 +30,7 @@ pub fn insert_item(
     ensures ok { IfOk result (λ done. EditOutcome done
         (insert_item index (value_of new) (list_value items.old)) (list_value items.old) (list_value items.new)) }
     ensures err { OnErr result (list_value items.new ≡ list_value items.old) }
-    ensures own { list_unique items.old ≡ true → is_unique new ≡ true → list_unique items.new ≡ true }
+    ensures unique { list_unique items.old ≡ true → is_unique new ≡ true → list_unique items.new ≡ true }
 {
     items.insert(alloc, index as usize, new)
 }
@@ -42,8 +42,8 @@ pub fn remove_item(alloc: Global, items: &mut List, index: u64) -> Result<bool, 
     ensures ok { IfOk result (λ done. EditOutcome done
         (remove_item index (list_value items.old)) (list_value items.old) (list_value items.new)) }
     ensures err { OnErr result (list_value items.new ≡ list_value items.old) }
-    ensures own { list_unique items.old ≡ true → list_unique items.new ≡ true }
-    ensures shared { OnErr result (is_unique_vec items.old ≡ false) }
+    ensures unique { list_unique items.old ≡ true → list_unique items.new ≡ true }
+    ensures shared_on_err { OnErr result (is_unique_vec items.old ≡ false) }
 {
     Ok(is_some(items.remove(alloc, index as usize)?))
 }
@@ -67,8 +67,8 @@ pub fn replace_item(
     ensures ok { IfOk result (λ done. EditOutcome done
         (replace_item index (value_of new) (list_value items.old)) (list_value items.old) (list_value items.new)) }
     ensures err { OnErr result (list_value items.new ≡ list_value items.old) }
-    ensures own { list_unique items.old ≡ true → is_unique new ≡ true → list_unique items.new ≡ true }
-    ensures shared { OnErr result (is_unique_vec_at items.old index ≡ false) }
+    ensures unique { list_unique items.old ≡ true → is_unique new ≡ true → list_unique items.new ≡ true }
+    ensures shared_on_err { OnErr result (is_unique_vec_at items.old index ≡ false) }
 {
     Ok(is_some(items.replace(alloc, index as usize, new)?))
 }
@@ -84,10 +84,10 @@ pub(crate) fn take_list_item(
     ensures none { IfOk result (λ o. IfNone o (list_value items.new ≡ list_value items.old)) }
     ensures left { OnOk result (list_value items.new ≡ set_item index (list_value items.old) null) }
     ensures err { OnErr result (list_value items.new ≡ list_value items.old) }
-    ensures own { list_unique items.old ≡ true → list_unique items.new ≡ true }
+    ensures unique { list_unique items.old ≡ true → list_unique items.new ≡ true }
     ensures item_own { list_unique items.old ≡ true → IfOk result (λ o. IfSome o (λ v. is_unique v ≡ true)) }
-    ensures shared { OnErr result (is_unique_vec_at items.old index ≡ false) }
-    ensures now_own { IfOk result (λ o. IfSome o (λ _. is_unique_vec_at items.new index ≡ true)) }
+    ensures shared_on_err { OnErr result (is_unique_vec_at items.old index ≡ false) }
+    ensures unique_after { IfOk result (λ o. IfSome o (λ _. is_unique_vec_at items.new index ≡ true)) }
 {
     items.replace(alloc, index as usize, Json::Null)
 }
@@ -97,7 +97,7 @@ pub(crate) fn take_list_item(
 pub(crate) fn put_item_back(alloc: Global, items: &mut List, index: u64, item: Json)
     requires { is_unique_vec_at items.old index ≡ true }
     ensures items { list_value items.new ≡ set_item index (list_value items.old) (value_of item) }
-    ensures own { list_unique items.old ≡ true → is_unique item ≡ true → list_unique items.new ≡ true }
+    ensures unique { list_unique items.old ≡ true → is_unique item ≡ true → list_unique items.new ≡ true }
 {
     discard_item(items.replace(alloc, index as usize, item));
 }

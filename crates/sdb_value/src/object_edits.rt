@@ -26,7 +26,7 @@ pub fn put_at_key(
     ensures err { OnErr result (object_value members.new ≡ object_value members.old) }
     ensures absent { members_own members.old ≡ true
         → OnErr result (member_at (string_bytes key) (object_value members.old) ≡ None) }
-    ensures own { object_unique members.old ≡ true → is_unique new ≡ true → object_unique members.new ≡ true }
+    ensures unique { object_unique members.old ≡ true → is_unique new ≡ true → object_unique members.new ≡ true }
 {
     drop(members.insert(alloc, key, new)?);
     Ok(())
@@ -37,9 +37,9 @@ pub fn put_at_key(
 pub fn remove_at_key(alloc: Global, members: &mut Members, key: &str) -> Result<(), AllocError>
     ensures ok { OnOk result (object_value members.new ≡ without_member key.now (object_value members.old)) }
     ensures err { OnErr result (object_value members.new ≡ object_value members.old) }
-    ensures own { object_unique members.old ≡ true → object_unique members.new ≡ true }
+    ensures unique { object_unique members.old ≡ true → object_unique members.new ≡ true }
     ensures memory { OnErr result (members_own members.old ≡ false) }
-    ensures shared { OnErr result (object_unique members.old ≡ false) }
+    ensures shared_on_err { OnErr result (object_unique members.old ≡ false) }
 {
     drop(members.remove(alloc, key)?);
     Ok(())
@@ -60,11 +60,11 @@ pub(crate) fn take_member(
     ensures names { OnOk result (vec_keys entries.new ≡ slice_set (vec_keys entries.old) index []) }
     ensures err { OnErr result (values_of_entries entries.new ≡ values_of_entries entries.old) }
     ensures err_names { OnErr result (vec_keys entries.new ≡ vec_keys entries.old) }
-    ensures own { entries_unique entries.old ≡ true → entries_unique entries.new ≡ true }
+    ensures unique { entries_unique entries.old ≡ true → entries_unique entries.new ≡ true }
     ensures value_own { entries_unique entries.old ≡ true
         → IfOk result (λ o. IfSome o (λ m. is_unique m.value ≡ true)) }
-    ensures shared { OnErr result (is_unique_vec_at entries.old index ≡ false) }
-    ensures now_own { IfOk result (λ o. IfSome o (λ _. is_unique_vec_at entries.new index ≡ true)) }
+    ensures shared_on_err { OnErr result (is_unique_vec_at entries.old index ≡ false) }
+    ensures unique_after { IfOk result (λ o. IfSome o (λ _. is_unique_vec_at entries.new index ≡ true)) }
 {
     let spare = MapEntry {
         key: MapKey::new(String::new(alloc)),
@@ -84,7 +84,7 @@ pub(crate) fn put_member_back(
     ensures values { values_of_entries entries.new
         ≡ set_item index (values_of_entries entries.old) (value_of member.value) }
     ensures names { vec_keys entries.new ≡ slice_set (vec_keys entries.old) index (entry_key member) }
-    ensures own { entries_unique entries.old ≡ true → is_unique member.value ≡ true
+    ensures unique { entries_unique entries.old ≡ true → is_unique member.value ≡ true
         → entries_unique entries.new ≡ true }
 {
     discard_member(entries.replace(alloc, index, member));

@@ -88,7 +88,7 @@ fn member<'v>(members: &'v Members, name: &str) -> Option<&'v Json>
 fn item_mut(items: &mut List, number: u64) -> Option<&mut Json>
     ensures value { list_unique items.old ≡ true
         → option_map (λ v. value_of v.now) result ≡ item_at number (list_value items.old) }
-    ensures own { list_unique items.old ≡ true → IfSome result (λ v. is_unique v.now ≡ true) }
+    ensures unique { list_unique items.old ≡ true → IfSome result (λ v. is_unique v.now ≡ true) }
 {
     items.get_mut(number as usize)
 }
@@ -97,7 +97,7 @@ fn item_mut(items: &mut List, number: u64) -> Option<&mut Json>
 fn member_mut<'v>(members: &'v mut Members, name: &str) -> Option<&'v mut Json>
     ensures value { object_unique members.old ≡ true
         → option_map (λ v. value_of v.now) result ≡ member_at name.now (object_value members.old) }
-    ensures own { object_unique members.old ≡ true → IfSome result (λ v. is_unique v.now ≡ true) }
+    ensures unique { object_unique members.old ≡ true → IfSome result (λ v. is_unique v.now ≡ true) }
 {
     members.get_mut(name)
 }
@@ -119,8 +119,8 @@ pub trait Change {
     /// Changes the value in place.
     fn change(self, place: &mut Json) -> Self::Output
         ensures made { relation self (value_of place.old) (value_of place.new) result }
-        ensures own { keeps_unique self → is_unique place.old ≡ true → is_unique place.new ≡ true }
-        ensures answer { is_unique place.old ≡ true → result_unique self result };
+        ensures unique { keeps_unique self → is_unique place.old ≡ true → is_unique place.new ≡ true }
+        ensures result_unique { is_unique place.old ≡ true → result_unique self result };
 }
 
 /// Does the change at the path's place, and leaves all else as it is. What is shared on the way becomes the
@@ -140,9 +140,9 @@ pub fn change_at<C: Change + Drop>(
         (λ r. ReplacedAt (λ u v. C.Change.relation change u v r)
         (value_of value.old) (plain_path path.now) (value_of value.new))) }
     ensures err { OnErr result (value_of value.new ≡ value_of value.old) }
-    ensures own { C.Change.keeps_unique change → is_unique value.old ≡ true → is_unique value.new ≡ true }
-    ensures shared { OnErr result (is_unique value.old ≡ false) }
-    ensures answer { is_unique value.old ≡ true
+    ensures unique { C.Change.keeps_unique change → is_unique value.old ≡ true → is_unique value.new ≡ true }
+    ensures shared_on_err { OnErr result (is_unique value.old ≡ false) }
+    ensures result_unique { is_unique value.old ≡ true
         → IfOk result (λ o. IfSome o (λ r. C.Change.result_unique change r)) }
 {
     let Some((first, rest)) = path.split_first() else {
@@ -175,9 +175,9 @@ fn change_item<C: Change + Drop>(
         (λ r. ReplacedAt (λ u v. C.Change.relation change u v r)
         (list (list_value items.old)) (index number ∷ plain_path rest.now) (list (list_value items.new)))) }
     ensures err { OnErr result (list_value items.new ≡ list_value items.old) }
-    ensures own { C.Change.keeps_unique change → list_unique items.old ≡ true → list_unique items.new ≡ true }
-    ensures shared { OnErr result (list_unique items.old ≡ false) }
-    ensures answer { list_unique items.old ≡ true
+    ensures unique { C.Change.keeps_unique change → list_unique items.old ≡ true → list_unique items.new ≡ true }
+    ensures shared_on_err { OnErr result (list_unique items.old ≡ false) }
+    ensures result_unique { list_unique items.old ≡ true
         → IfOk result (λ o. IfSome o (λ r. C.Change.result_unique change r)) }
 {
     let Some(mut item) = take_list_item(alloc, items, number)? else {
@@ -204,9 +204,10 @@ fn change_member<C: Change + Drop>(
         (object (object_value members.old)) (key name.now ∷ plain_path rest.now)
         (object (object_value members.new)))) }
     ensures err { OnErr result (object_value members.new ≡ object_value members.old) }
-    ensures own { C.Change.keeps_unique change → object_unique members.old ≡ true → object_unique members.new ≡ true }
-    ensures shared { OnErr result (object_unique members.old ≡ false) }
-    ensures answer { object_unique members.old ≡ true
+    ensures unique { C.Change.keeps_unique change → object_unique members.old ≡ true
+        → object_unique members.new ≡ true }
+    ensures shared_on_err { OnErr result (object_unique members.old ≡ false) }
+    ensures result_unique { object_unique members.old ≡ true
         → IfOk result (λ o. IfSome o (λ r. C.Change.result_unique change r)) }
 {
     match members.position_of(name) {
@@ -237,9 +238,10 @@ fn change_value<C: Change + Drop>(
         (list (values_of_entries entries.new)))) }
     ensures names { vec_keys entries.new ≡ vec_keys entries.old }
     ensures err { OnErr result (values_of_entries entries.new ≡ values_of_entries entries.old) }
-    ensures own { C.Change.keeps_unique change → entries_unique entries.old ≡ true → entries_unique entries.new ≡ true }
-    ensures shared { OnErr result (entries_unique entries.old ≡ false) }
-    ensures answer { entries_unique entries.old ≡ true
+    ensures unique { C.Change.keeps_unique change → entries_unique entries.old ≡ true
+        → entries_unique entries.new ≡ true }
+    ensures shared_on_err { OnErr result (entries_unique entries.old ≡ false) }
+    ensures result_unique { entries_unique entries.old ≡ true
         → IfOk result (λ o. IfSome o (λ r. C.Change.result_unique change r)) }
 {
     let Some(mut member) = take_member(alloc, entries, number)? else {

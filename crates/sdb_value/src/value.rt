@@ -104,7 +104,7 @@ impl Json {
     /// A list of these items, in the vector's own memory.
     pub fn list(items: Vec<Json>) -> Json
         ensures value { value_of result ≡ list (items_value items.items) }
-        ensures own { all_true (map is_unique items.items) ≡ true → is_unique result ≡ true }
+        ensures unique { all_true (map is_unique items.items) ≡ true → is_unique result ≡ true }
     {
         Json::List(ChunkedVec::from_vec(items))
     }
@@ -113,7 +113,7 @@ impl Json {
     /// wanting.
     pub fn from_items(alloc: Global, items: Vec<Json>) -> Result<Json, AllocError>
         ensures value { IfOk result (λ v. value_of v ≡ list (items_value items.items)) }
-        ensures own { all_true (map is_unique items.items) ≡ true → IfOk result (λ v. is_unique v ≡ true) }
+        ensures unique { all_true (map is_unique items.items) ≡ true → IfOk result (λ v. is_unique v ≡ true) }
     {
         Ok(Json::List(ChunkedVec::from_vec_chunked(alloc, items)?))
     }
@@ -121,7 +121,7 @@ impl Json {
     /// An object of the members of a map. Fails only where memory is wanting.
     pub fn object(alloc: Global, members: BTreeMap<String, Json>) -> Result<Json, AllocError>
         ensures value { IfOk result (λ v. value_of v ≡ object (map_value members.entries)) }
-        ensures own { map_unique members.entries ≡ true → IfOk result (λ v. is_unique v ≡ true) }
+        ensures unique { map_unique members.entries ≡ true → IfOk result (λ v. is_unique v ≡ true) }
     {
         Ok(Json::from_members(Members::from_map(alloc, members)?))
     }
@@ -129,7 +129,7 @@ impl Json {
     /// An object of these members, as they are.
     pub fn from_members(members: Members) -> Json
         ensures value { value_of result ≡ object (object_value members) }
-        ensures own { is_unique result ≡ object_unique members }
+        ensures unique { is_unique result ≡ object_unique members }
     {
         Json::Object(members)
     }
@@ -137,7 +137,7 @@ impl Json {
     /// Whether it is `null`.
     pub fn is_null(&self) -> bool
         ensures null { IsTrue result → value_of self.now ≡ null }
-        ensures other { IsFalse result → value_of self.now ≡ null → ⊥ }
+        ensures on_false { IsFalse result → value_of self.now ≡ null → ⊥ }
     {
         match self {
             Json::Null => true,
@@ -172,7 +172,7 @@ impl Json {
     /// only where memory is wanting.
     pub fn try_clone(&self, alloc: Global) -> Result<Json, AllocError>
         ensures value { IfOk result (λ v. value_of v ≡ value_of self.now) }
-        ensures own { IfOk result (λ v. is_unique v ≡ is_unique self.now) }
+        ensures unique { IfOk result (λ v. is_unique v ≡ is_unique self.now) }
     {
         clone_preserving(alloc, self)
     }
@@ -180,7 +180,7 @@ impl Json {
     /// The same value again, all of it in memory of its own. Fails only where memory is wanting.
     pub fn deep_clone(&self, alloc: Global) -> Result<Json, AllocError>
         ensures value { IfOk result (λ v. value_of v ≡ value_of self.now) }
-        ensures own { IfOk result (λ v. is_unique v ≡ true) }
+        ensures unique { IfOk result (λ v. is_unique v ≡ true) }
     {
         copy(alloc, self, CloneMode::Unique)
     }
@@ -189,7 +189,7 @@ impl Json {
     /// shared yet. Fails only where memory is wanting.
     pub fn frozen_clone(&self, alloc: Global) -> Result<Json, AllocError>
         ensures value { IfOk result (λ v. value_of v ≡ value_of self.now) }
-        ensures pointer { IfOk result (λ v. is_frozen v ≡ true) }
+        ensures frozen { IfOk result (λ v. is_frozen v ≡ true) }
     {
         clone_frozen(alloc, self)
     }
@@ -199,7 +199,7 @@ impl Json {
     /// isn't looked into. Fails only where memory is wanting; the value is the same then.
     pub fn freeze(&mut self, alloc: Global) -> Result<(), AllocError>
         ensures value { value_of self.new ≡ value_of self.old }
-        ensures pointer { OnOk result (is_frozen self.new ≡ true) }
+        ensures frozen { OnOk result (is_frozen self.new ≡ true) }
     {
         freeze_value(alloc, self)
     }

@@ -16,7 +16,7 @@ use std::alloc::AllocError;
 /// only where memory is wanting, and a part of it may then be written.
 pub fn write_value(value: &Json, out: &mut Writer) -> Result<(), AllocError>
     ensures tokens { OnOk result (out.new.tokens ≡ out.old.tokens ++ data_tokens (data_of_value (value_of value.now))) }
-    ensures before { out.new.before ≡ out.old.before }
+    ensures before_unchanged { out.new.before ≡ out.old.before }
     ensures err { OnErr result (WritesFront out.old.tokens out.new.tokens (data_tokens (data_of_value
         (value_of value.now)))) }
 {
@@ -27,7 +27,7 @@ pub fn write_value(value: &Json, out: &mut Writer) -> Result<(), AllocError>
 #[tactic(auto, using(crate::proofs::WeightLemmas::levels))]
 fn write_json(value: &Json, out: &mut Writer) -> Result<(), AllocError>
     ensures tokens { OnOk result (out.new.tokens ≡ out.old.tokens ++ data_tokens (data_of_value (value_of value.now))) }
-    ensures before { out.new.before ≡ out.old.before }
+    ensures before_unchanged { out.new.before ≡ out.old.before }
     ensures err { OnErr result (WritesFront out.old.tokens out.new.tokens (data_tokens (data_of_value
         (value_of value.now)))) }
 {
@@ -50,7 +50,7 @@ fn write_json(value: &Json, out: &mut Writer) -> Result<(), AllocError>
 // One of several pieces is put together first.
 fn write_text(text: &Rope, out: &mut Writer) -> Result<(), AllocError>
     ensures tokens { OnOk result (out.new.tokens ≡ out.old.tokens ++ string (rope_bytes text.now) ∷ []) }
-    ensures before { out.new.before ≡ out.old.before }
+    ensures before_unchanged { out.new.before ≡ out.old.before }
     ensures err { OnErr result (out.new.tokens ≡ out.old.tokens) }
 {
     match text.as_str() {
@@ -66,7 +66,7 @@ fn write_text(text: &Rope, out: &mut Writer) -> Result<(), AllocError>
 fn write_items(items: &List, out: &mut Writer) -> Result<(), AllocError>
     ensures tokens { OnOk result (out.new.tokens
         ≡ out.old.tokens ++ array_tail_tokens (data_of_items (list_value items.now))) }
-    ensures before { out.new.before ≡ out.old.before }
+    ensures before_unchanged { out.new.before ≡ out.old.before }
     ensures err { OnErr result (WritesFront out.old.tokens out.new.tokens
         (array_tail_tokens (data_of_items (list_value items.now)))) }
 {
@@ -80,7 +80,7 @@ fn write_items(items: &List, out: &mut Writer) -> Result<(), AllocError>
 fn write_members(members: &Members, out: &mut Writer) -> Result<(), AllocError>
     ensures tokens { OnOk result (out.new.tokens
         ≡ out.old.tokens ++ object_tail_tokens (data_of_members (object_value members.now))) }
-    ensures before { out.new.before ≡ out.old.before }
+    ensures before_unchanged { out.new.before ≡ out.old.before }
     ensures err { OnErr result (WritesFront out.old.tokens out.new.tokens
         (object_tail_tokens (data_of_members (object_value members.now)))) }
 {

@@ -60,7 +60,7 @@ fn push_ack_parts(
 ) -> Result<(), AllocError>
     ensures ok { OnOk result (out.new.items
         ≡ out.old.items ++ ack_text (plain_key key.now) src.now seq version) }
-    ensures behind { IsAppendedTo out.old.items out.new.items }
+    ensures appended { IsAppendedTo out.old.items out.new.items }
 {
     out.reserve(TEXT_LEN)?;
     push_key(key, out)?;
@@ -129,7 +129,7 @@ fn text_of(bytes: Vec<u8>) -> String
 #[inline(always)]
 fn push_key(key: &Key, out: &mut Vec<u8>) -> Result<(), AllocError>
     ensures ok { OnOk result (out.new.items ≡ out.old.items ++ key_start (plain_key key.now) []) }
-    ensures behind { IsAppendedTo out.old.items out.new.items }
+    ensures appended { IsAppendedTo out.old.items out.new.items }
 {
     push_name("{\"a\":\"op\",\"c\":\"", key.collection.as_str(), out)?;
     push_name("\",\"d\":\"", key.id.as_str(), out)
@@ -139,7 +139,7 @@ fn push_key(key: &Key, out: &mut Vec<u8>) -> Result<(), AllocError>
 #[inline(always)]
 fn push_source(src: &str, version: u64, out: &mut Vec<u8>) -> Result<(), AllocError>
     ensures ok { OnOk result (out.new.items ≡ out.old.items ++ source_end src.now version) }
-    ensures behind { IsAppendedTo out.old.items out.new.items }
+    ensures appended { IsAppendedTo out.old.items out.new.items }
 {
     push_name(",\"src\":\"", src, out)?;
     push_count("\",\"v\":", version, out)?;
@@ -150,7 +150,7 @@ fn push_source(src: &str, version: u64, out: &mut Vec<u8>) -> Result<(), AllocEr
 #[inline(always)]
 fn push_name(before: &str, name: &str, out: &mut Vec<u8>) -> Result<(), AllocError>
     ensures ok { OnOk result (out.new.items ≡ out.old.items ++ (before.now ++ name.now)) }
-    ensures behind { IsAppendedTo out.old.items out.new.items }
+    ensures appended { IsAppendedTo out.old.items out.new.items }
 {
     out.extend_from_slice(before.as_bytes())?;
     out.extend_from_slice(name.as_bytes())
@@ -160,7 +160,7 @@ fn push_name(before: &str, name: &str, out: &mut Vec<u8>) -> Result<(), AllocErr
 #[inline(always)]
 fn push_count(before: &str, count: u64, out: &mut Vec<u8>) -> Result<(), AllocError>
     ensures ok { OnOk result (out.new.items ≡ out.old.items ++ (before.now ++ decimal count)) }
-    ensures behind { IsAppendedTo out.old.items out.new.items }
+    ensures appended { IsAppendedTo out.old.items out.new.items }
 {
     let mut digits = itoa::Buffer::new();
     push_name(before, digits.format(count), out)

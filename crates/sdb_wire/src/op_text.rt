@@ -54,8 +54,8 @@ impl OpText {
 
     /// Whether it tells this entry of this document. It takes no memory.
     pub fn is_text_of(&self, key: &Key, entry: &Entry) -> bool
-        ensures same { IsTrue result → self.now ≡ (plain_key key.now, entry.now) }
-        ensures other { IsFalse result → self.now ≡ (plain_key key.now, entry.now) → ⊥ }
+        ensures on_true { IsTrue result → self.now ≡ (plain_key key.now, entry.now) }
+        ensures on_false { IsFalse result → self.now ≡ (plain_key key.now, entry.now) → ⊥ }
     {
         self.key.id == key.id
             && self.key.collection == key.collection

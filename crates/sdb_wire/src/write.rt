@@ -116,7 +116,7 @@ fn text_of(out: Writer) -> String
 
 fn write_answer(answer: &Answer<'_>, out: &mut Writer) -> Result<(), AllocError>
     ensures tokens { OnOk result (out.new.tokens ≡ out.old.tokens ++ answer_tokens (plain_answer answer.now)) }
-    ensures before { out.new.before ≡ out.old.before }
+    ensures before_unchanged { out.new.before ≡ out.old.before }
 {
     match answer {
         Answer::Init { src } => write_hello_answer("init", src, out),
@@ -165,7 +165,7 @@ fn write_answer(answer: &Answer<'_>, out: &mut Writer) -> Result<(), AllocError>
 /// Writes a member of an object: its name and this text.
 pub fn write_text(name: &str, text: &str, out: &mut Writer) -> Result<(), AllocError>
     ensures tokens { OnOk result (out.new.tokens ≡ out.old.tokens ++ key_token name.now ∷ string text.now ∷ []) }
-    ensures before { out.new.before ≡ out.old.before }
+    ensures before_unchanged { out.new.before ≡ out.old.before }
     ensures err { OnErr result (WritesFront out.old.tokens out.new.tokens (key_token name.now ∷ string text.now ∷ [])) }
 {
     out.key(name)?;
@@ -175,7 +175,7 @@ pub fn write_text(name: &str, text: &str, out: &mut Writer) -> Result<(), AllocE
 /// Writes a member of an object: its name and this number.
 pub fn write_count(name: &str, count: u64, out: &mut Writer) -> Result<(), AllocError>
     ensures tokens { OnOk result (out.new.tokens ≡ out.old.tokens ++ key_token name.now ∷ number (decimal count) ∷ []) }
-    ensures before { out.new.before ≡ out.old.before }
+    ensures before_unchanged { out.new.before ≡ out.old.before }
     ensures err { OnErr result (WritesFront out.old.tokens out.new.tokens
         (key_token name.now ∷ number (decimal count) ∷ [])) }
 {
@@ -189,7 +189,7 @@ fn write_head(kind: &str, key: &Key, out: &mut Writer) -> Result<(), AllocError>
         ≡ out.old.tokens ++ begin_object ∷ key_token (codes "a") ∷ string kind.now
         ∷ key_token (codes "c") ∷ string (plain_key key.now).collection
         ∷ key_token (codes "d") ∷ string (plain_key key.now).id ∷ []) }
-    ensures before { out.new.before ≡ out.old.before }
+    ensures before_unchanged { out.new.before ≡ out.old.before }
 {
     out.begin_object()?;
     write_text("a", kind, out)?;
@@ -200,7 +200,7 @@ fn write_head(kind: &str, key: &Key, out: &mut Writer) -> Result<(), AllocError>
 // The session's source.
 fn write_hello_answer(kind: &str, src: &str, out: &mut Writer) -> Result<(), AllocError>
     ensures tokens { OnOk result (out.new.tokens ≡ out.old.tokens ++ data_tokens (hello_data kind.now src.now)) }
-    ensures before { out.new.before ≡ out.old.before }
+    ensures before_unchanged { out.new.before ≡ out.old.before }
 {
     out.begin_object()?;
     write_text("a", kind, out)?;
@@ -215,7 +215,7 @@ fn write_snapshot(version: u64, document: Option<&Json>, out: &mut Writer) -> Re
     ensures tokens { OnOk result (out.new.tokens
         ≡ out.old.tokens ++ data_tokens
         (snapshot_data version (option_map (λ d. value_of d.now) document.entry))) }
-    ensures before { out.new.before ≡ out.old.before }
+    ensures before_unchanged { out.new.before ≡ out.old.before }
 {
     out.begin_object()?;
     match document {
@@ -243,7 +243,7 @@ fn write_document(
     ensures tokens { OnOk result (out.new.tokens
         ≡ out.old.tokens ++ data_tokens
         (document_data kind.now (plain_key key.now) version (option_map (λ d. value_of d.now) document.entry))) }
-    ensures before { out.new.before ≡ out.old.before }
+    ensures before_unchanged { out.new.before ≡ out.old.before }
 {
     write_head(kind, key, out)?;
     out.key("data")?;
@@ -255,7 +255,7 @@ fn write_document(
 fn write_key(kind: &str, key: &Key, out: &mut Writer) -> Result<(), AllocError>
     ensures tokens { OnOk result (out.new.tokens
         ≡ out.old.tokens ++ data_tokens (key_data kind.now (plain_key key.now))) }
-    ensures before { out.new.before ≡ out.old.before }
+    ensures before_unchanged { out.new.before ≡ out.old.before }
 {
     write_head(kind, key, out)?;
     out.end_object()
@@ -272,7 +272,7 @@ fn write_snapshot_at(
     ensures tokens { OnOk result (out.new.tokens
         ≡ out.old.tokens ++ data_tokens
         (version_data word.now id version (option_map (λ d. value_of d.now) document.entry))) }
-    ensures before { out.new.before ≡ out.old.before }
+    ensures before_unchanged { out.new.before ≡ out.old.before }
 {
     match document {
         Some(json) => write_document_at(word, id, version, json, out),
@@ -289,7 +289,7 @@ fn write_document_at(
 ) -> Result<(), AllocError>
     ensures tokens { OnOk result (out.new.tokens
         ≡ out.old.tokens ++ data_tokens (version_data word.now id version (Some (value_of document.now)))) }
-    ensures before { out.new.before ≡ out.old.before }
+    ensures before_unchanged { out.new.before ≡ out.old.before }
 {
     out.begin_object()?;
     write_text("a", word, out)?;
@@ -304,7 +304,7 @@ fn write_document_at(
 fn write_absent_at(word: &str, id: u64, version: u64, out: &mut Writer) -> Result<(), AllocError>
     ensures tokens { OnOk result (out.new.tokens ≡
         out.old.tokens ++ data_tokens (version_data word.now id version None)) }
-    ensures before { out.new.before ≡ out.old.before }
+    ensures before_unchanged { out.new.before ≡ out.old.before }
 {
     out.begin_object()?;
     write_text("a", word, out)?;
@@ -325,7 +325,7 @@ fn write_op_message(
     ensures tokens { OnOk result (out.new.tokens
         ≡ out.old.tokens ++ answer_tokens
         (op_message (plain_key key.now) (with_content entry.now content.now))) }
-    ensures before { out.new.before ≡ out.old.before }
+    ensures before_unchanged { out.new.before ≡ out.old.before }
 {
     out.begin_object()?;
     write_text("a", "op", out)?;
@@ -336,7 +336,7 @@ fn write_op_message(
 /// Writes a stored operation, as [`entry_value`](crate::entry_value) spells it, behind what is written.
 pub fn write_entry(entry: &Entry, out: &mut Writer) -> Result<(), AllocError>
     ensures tokens { OnOk result (out.new.tokens ≡ out.old.tokens ++ data_tokens (entry_data entry.now)) }
-    ensures before { out.new.before ≡ out.old.before }
+    ensures before_unchanged { out.new.before ≡ out.old.before }
     ensures err { OnErr result (WritesFront out.old.tokens out.new.tokens (data_tokens (entry_data entry.now))) }
 {
     out.begin_object()?;
@@ -348,7 +348,7 @@ pub fn write_entry(entry: &Entry, out: &mut Writer) -> Result<(), AllocError>
 fn write_entry_content(entry: &Entry, out: &mut Writer) -> Result<(), AllocError>
     ensures tokens { OnOk result (out.new.tokens ++ object_tail_tokens (op_tail entry.now)
         ≡ out.old.tokens ++ object_tail_tokens (entry_members entry.now (entry.now).content)) }
-    ensures before { out.new.before ≡ out.old.before }
+    ensures before_unchanged { out.new.before ≡ out.old.before }
     ensures err { OnErr result (WritesFront out.old.tokens out.new.tokens
         (object_tail_tokens (entry_members entry.now (entry.now).content))) }
 {
@@ -371,7 +371,7 @@ fn write_entry_content(entry: &Entry, out: &mut Writer) -> Result<(), AllocError
 // What follows the content, and the end.
 fn write_tail(entry: &Entry, out: &mut Writer) -> Result<(), AllocError>
     ensures tokens { OnOk result (out.new.tokens ≡ out.old.tokens ++ object_tail_tokens (op_tail entry.now)) }
-    ensures before { out.new.before ≡ out.old.before }
+    ensures before_unchanged { out.new.before ≡ out.old.before }
     ensures err { OnErr result (WritesFront out.old.tokens out.new.tokens (object_tail_tokens (op_tail entry.now))) }
 {
     write_count("seq", entry.arrived().seq(), out)?;
@@ -384,7 +384,7 @@ fn write_tail(entry: &Entry, out: &mut Writer) -> Result<(), AllocError>
 fn write_content(key: &Key, content: &Content, out: &mut Writer) -> Result<(), AllocError>
     ensures tokens { OnOk result ((rest : Members) → out.new.tokens ++ object_tail_tokens rest
         ≡ out.old.tokens ++ object_tail_tokens (content_members (plain_key key.now) content.now rest)) }
-    ensures before { out.new.before ≡ out.old.before }
+    ensures before_unchanged { out.new.before ≡ out.old.before }
 {
     write_text("c", key.collection.as_str(), out)?;
     match content.kind() {
@@ -409,7 +409,7 @@ fn write_content(key: &Key, content: &Content, out: &mut Writer) -> Result<(), A
 /// Writes the data of a create, and the type, behind what is written.
 pub fn write_create(value: &Json, out: &mut Writer) -> Result<(), AllocError>
     ensures tokens { OnOk result (out.new.tokens ≡ out.old.tokens ++ data_tokens (create_data (value_of value.now))) }
-    ensures before { out.new.before ≡ out.old.before }
+    ensures before_unchanged { out.new.before ≡ out.old.before }
     ensures err { OnErr result (WritesFront out.old.tokens out.new.tokens
         (data_tokens (create_data (value_of value.now)))) }
 {
@@ -429,7 +429,7 @@ fn write_ack(
 ) -> Result<(), AllocError>
     ensures tokens { OnOk result (out.new.tokens
         ≡ out.old.tokens ++ answer_tokens (acknowledged (plain_key key.now) src.now seq version)) }
-    ensures before { out.new.before ≡ out.old.before }
+    ensures before_unchanged { out.new.before ≡ out.old.before }
 {
     write_head("op", key, out)?;
     write_count("seq", seq, out)?;
@@ -441,7 +441,7 @@ fn write_ack(
 fn write_error_answer(echo: &Echo, code: Code, out: &mut Writer) -> Result<(), AllocError>
     ensures tokens { OnOk result (out.new.tokens
         ≡ out.old.tokens ++ answer_tokens (failed (plain_echo echo.now) code)) }
-    ensures before { out.new.before ≡ out.old.before }
+    ensures before_unchanged { out.new.before ≡ out.old.before }
 {
     out.begin_object()?;
     write_echo_value("a", &echo.a, out)?;
@@ -463,7 +463,7 @@ fn write_echo_value(
 ) -> Result<(), AllocError>
     ensures tokens { OnOk result ((rest : Members) → out.new.tokens ++ object_tail_tokens rest
         ≡ out.old.tokens ++ object_tail_tokens (push_member name.now (option_map plain_echo_value word.now) rest)) }
-    ensures before { out.new.before ≡ out.old.before }
+    ensures before_unchanged { out.new.before ≡ out.old.before }
 {
     match word {
         None => Ok(()),
@@ -474,7 +474,7 @@ fn write_echo_value(
 
 fn write_error(code: Code, out: &mut Writer) -> Result<(), AllocError>
     ensures tokens { OnOk result (out.new.tokens ≡ out.old.tokens ++ data_tokens (error_data code)) }
-    ensures before { out.new.before ≡ out.old.before }
+    ensures before_unchanged { out.new.before ≡ out.old.before }
 {
     out.begin_object()?;
     write_text("code", code_name(code), out)?;

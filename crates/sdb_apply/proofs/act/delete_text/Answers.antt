@@ -3,7 +3,7 @@ use Rattle.std.proofs.lemmas.Result.{err_from_is_err_and}
 use Rattle.sdb_rope.specs.EditOutcome.{EditOutcome}
 use Rattle.sdb_rope.specs.Rope.{rope_bytes}
 use Rattle.sdb_rope.specs.Utf16.{remove_text}
-use Rattle.sdb_value.specs.ValueLaws.{of_some}
+use Rattle.sdb_value.specs.laws.ValueLaws.{of_some}
 use Rattle.sdb_value.specs.Uniqueness.{is_unique}
 use Rattle.sdb_apply.proofs.OutcomeLemmas.{needs_shared, text_edited, text_stays}
 use Rattle.sdb_apply.proofs.act.delete_text.Goals as goal
@@ -11,7 +11,7 @@ use Rattle.sdb_apply.proofs.act.delete_text.Goals as goal
 pub returns-in_err-remove-in-Some-clause-outcome : goal.returns-in_err-remove-in-Some-clause-outcome
 returns-in_err-remove-in-Some-clause-outcome c =
     let p = err_from_is_err_and c.from_residual.result c.from_residual.ensures.1 in
-    rw (p.1, p.2) (needs_shared false (is_unique c.args.place.now) (sym c.in-Some.ensures.own ∙ c.in_err-remove-in-Some.ensures.shared), text_stays _ _ _ _ c.in-Some.ensures.value (of_some _ _ c.in-Some.is (c.text_mut.follows.holds _)).0 c.in_err-remove-in-Some.ensures.err)
+    rw (p.1, p.2) (needs_shared false (is_unique c.args.place.now) (sym c.in-Some.ensures.unique ∙ c.in_err-remove-in-Some.ensures.shared_on_err), text_stays _ _ _ _ c.in-Some.ensures.value (of_some _ _ c.in-Some.is (c.text_mut.follows.holds _)).0 c.in_err-remove-in-Some.ensures.err)
 
 pub returns-in_ok-remove-in-Some-clause-outcome : goal.returns-in_ok-remove-in-Some-clause-outcome
 returns-in_ok-remove-in-Some-clause-outcome c =
@@ -22,5 +22,5 @@ returns-in_ok-remove-in-Some-clause-outcome c =
     text_edited _ done _ (remove_text c.args.offset c.args.piece.now) old new _ _ c.in-Some.ensures.value (of_some _ _ c.in-Some.is (c.text_mut.follows.holds _)).0 c.applied_if.ensures
     (subst Done c.as_str.ensures.value c.in_ok-remove-in-Some.ensures.ok)
 
-pub returns-in_ok-remove-in-Some-clause-own : goal.returns-in_ok-remove-in-Some-clause-own
-returns-in_ok-remove-in-Some-clause-own c own = (of_some _ _ c.in-Some.is (c.text_mut.follows.holds _)).1 ∙ c.remove.ensures.own (c.in-Some.ensures.own ∙ own)
+pub returns-in_ok-remove-in-Some-clause-unique : goal.returns-in_ok-remove-in-Some-clause-unique
+returns-in_ok-remove-in-Some-clause-unique c own = (of_some _ _ c.in-Some.is (c.text_mut.follows.holds _)).1 ∙ c.remove.ensures.unique (c.in-Some.ensures.unique ∙ own)

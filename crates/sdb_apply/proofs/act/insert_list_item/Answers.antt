@@ -1,7 +1,7 @@
 use Rattle.std.proofs.Common.{◌∙◌, subst}
 use Rattle.std.proofs.lemmas.Result.{err_from_is_err_and}
 use Rattle.sdb_rope.specs.EditOutcome.{EditOutcome}
-use Rattle.sdb_value.specs.ValueLaws.{of_some}
+use Rattle.sdb_value.specs.laws.ValueLaws.{of_some}
 use Rattle.sdb_value.specs.Uniqueness.{is_unique}
 use Rattle.sdb_value.specs.Value.{Value, insert_item}
 use Rattle.sdb_value.specs.View.{value_of, list_value}
@@ -22,8 +22,8 @@ returns-in_ok-insert_item-in-Some-clause-outcome c =
     list_edited _ done _ (insert_item c.args.index (value_of c.args.value.now)) old new _ _ c.in-Some.ensures.value (of_some _ _ c.in-Some.is (c.list_mut.follows.holds _)).0 c.applied_if.ensures
     (subst Done c.in_ok-copy.ensures.value c.in_ok-insert_item-in-Some.ensures.ok)
 
-pub returns-in_ok-insert_item-in-Some-clause-own : goal.returns-in_ok-insert_item-in-Some-clause-own
-returns-in_ok-insert_item-in-Some-clause-own c own = (of_some _ _ c.in-Some.is (c.list_mut.follows.holds _)).1 ∙ c.insert_item.ensures.own (c.in-Some.ensures.own ∙ own) (c.in_ok-copy.ensures.own own)
+pub returns-in_ok-insert_item-in-Some-clause-unique : goal.returns-in_ok-insert_item-in-Some-clause-unique
+returns-in_ok-insert_item-in-Some-clause-unique c own = (of_some _ _ c.in-Some.is (c.list_mut.follows.holds _)).1 ∙ c.insert_item.ensures.unique (c.in-Some.ensures.unique ∙ own) (c.in_ok-copy.ensures.unique own)
 
-pub returns-in_err-insert_item-in-Some-clause-own : goal.returns-in_err-insert_item-in-Some-clause-own
-returns-in_err-insert_item-in-Some-clause-own c own = (of_some _ _ c.in-Some.is (c.list_mut.follows.holds _)).1 ∙ c.insert_item.ensures.own (c.in-Some.ensures.own ∙ own) (c.in_ok-copy.ensures.own own)
+pub returns-in_err-insert_item-in-Some-clause-unique : goal.returns-in_err-insert_item-in-Some-clause-unique
+returns-in_err-insert_item-in-Some-clause-unique c own = (of_some _ _ c.in-Some.is (c.list_mut.follows.holds _)).1 ∙ c.insert_item.ensures.unique (c.in-Some.ensures.unique ∙ own) (c.in_ok-copy.ensures.unique own)

@@ -3,7 +3,7 @@ use Rattle.std.proofs.lemmas.Result.{err_from_is_err_and}
 use Rattle.sdb_rope.specs.EditOutcome.{EditOutcome}
 use Rattle.sdb_rope.specs.Rope.{rope_bytes}
 use Rattle.sdb_rope.specs.Utf16.{insert_text}
-use Rattle.sdb_value.specs.ValueLaws.{of_some}
+use Rattle.sdb_value.specs.laws.ValueLaws.{of_some}
 use Rattle.sdb_value.specs.Uniqueness.{is_unique}
 use Rattle.sdb_apply.proofs.OutcomeLemmas.{needs_put, text_edited, text_stays}
 use Rattle.sdb_apply.proofs.act.insert_text.Goals as goal
@@ -22,8 +22,8 @@ returns-in_ok-insert-in-Some-clause-outcome c =
     text_edited _ done _ (insert_text c.args.offset c.args.piece.now) old new _ _ c.in-Some.ensures.value (of_some _ _ c.in-Some.is (c.text_mut.follows.holds _)).0 c.applied_if.ensures
     (subst Done c.as_str.ensures.value c.in_ok-insert-in-Some.ensures.ok)
 
-pub returns-in_ok-insert-in-Some-clause-own : goal.returns-in_ok-insert-in-Some-clause-own
-returns-in_ok-insert-in-Some-clause-own c own = (of_some _ _ c.in-Some.is (c.text_mut.follows.holds _)).1 ∙ c.insert.ensures.own (c.in-Some.ensures.own ∙ own)
+pub returns-in_ok-insert-in-Some-clause-unique : goal.returns-in_ok-insert-in-Some-clause-unique
+returns-in_ok-insert-in-Some-clause-unique c own = (of_some _ _ c.in-Some.is (c.text_mut.follows.holds _)).1 ∙ c.insert.ensures.unique (c.in-Some.ensures.unique ∙ own)
 
-pub returns-in_err-insert-in-Some-clause-own : goal.returns-in_err-insert-in-Some-clause-own
-returns-in_err-insert-in-Some-clause-own c own = (of_some _ _ c.in-Some.is (c.text_mut.follows.holds _)).1 ∙ c.insert.ensures.own (c.in-Some.ensures.own ∙ own)
+pub returns-in_err-insert-in-Some-clause-unique : goal.returns-in_err-insert-in-Some-clause-unique
+returns-in_err-insert-in-Some-clause-unique c own = (of_some _ _ c.in-Some.is (c.text_mut.follows.holds _)).1 ∙ c.insert.ensures.unique (c.in-Some.ensures.unique ∙ own)

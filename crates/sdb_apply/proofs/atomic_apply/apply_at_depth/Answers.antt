@@ -15,8 +15,8 @@ loop-component-preserved c =
     c.loop-component-test.true c.component-item.is (c.path_tail.ensures ∙ ap (drop c.args.depth) c.path.ensures) c.act.ensures c.loop-component.invariant
     ∙ c.in-Ok.ensures.outcome
 
-pub returns-in-Err-clause-refused : goal.returns-in-Err-clause-refused
-returns-in-Err-clause-refused c =
+pub returns-in-Err-clause-not_applied : goal.returns-in-Err-clause-not_applied
+returns-in-Err-clause-not_applied c =
     let act = plain_act c.act.result.now in
     let Says : ApplyFault → Type 0 = λ f. IsApplyOutcome (may_allocate (act_allocates act) (is_unique c.loop-component.value)) (Err f) (apply_one (record { path = plain_path c.path_tail.result.now; act = act }) (value_of c.loop-component.value)) (value_of c.loop-component.value) (value_of c.apply_at.new.value) in
     λ no. let same : c.in-Err.fault ≡ NotApplied = cc in below_none c.args.depth (c.loop-component.component-index + 1) c.args.components.now (value_of c.args.value.now)

@@ -23,7 +23,7 @@ pub loop-at-preserved : goal.loop-at-preserved
 loop-at-preserved c = record {
   applied = next_is _ c.args.op.now c.loop-at.at c.component-item.result (value_of c.args.value.now) (value_of c.loop-at.value) c.components-component-items.ensures c.loop-at-test.true c.component-item.is c.loop-at.invariant.applied
       ∙ c.in-Ok.ensures.outcome;
-  own = λ own. c.apply_component.ensures.own (c.loop-at.invariant.own own);
+  own = λ own. c.apply_component.ensures.unique (c.loop-at.invariant.own own);
 }
 
 pub returns-in-Err-clause-refused : goal.returns-in-Err-clause-refused

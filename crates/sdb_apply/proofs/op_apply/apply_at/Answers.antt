@@ -21,4 +21,4 @@ returns-in-Some-clause-outcome c =
     let Spares : Result ⊤ ApplyFault → Type 0 = λ r. IsErrOf r OutOfMemory → act_allocates act ≡ true in
     outcome_needs_less c.in-Some.done (act_allocates act) (is_unique c.args.value.now) (apply_one (record { path = path; act = act }) old) old new
     (outcome_at c.in-Some.done true (apply_act act) old new path (outcome_at_some (AbsentAt old path new) Changed c.in_ok-done.field-0 c.in-Some.done c.in-Some.is c.in_ok-done.ensures.done))
-    (λ own. if_some Spares c.in_ok-done.field-0 c.in-Some.done c.in-Some.is (c.in_ok-done.ensures.answer own))
+    (λ own. if_some Spares c.in_ok-done.field-0 c.in-Some.done c.in-Some.is (c.in_ok-done.ensures.result_unique own))

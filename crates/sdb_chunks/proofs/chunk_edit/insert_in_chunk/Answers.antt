@@ -19,14 +19,14 @@ returns-in_err-chunk_insert-in-Some-clause-err g c =
     let at = subst (λ l. IsInsertPosition (chunk_models f) l c.args.index k c.in-Some.inside) c.deref.ensures.value c.in-Some.ensures.place in
     on_err c.from_residual.result (joined_same (chunk_models f) bs k c.chunk_insert.new.block d at.index_in_range (c.in_err-chunk_insert-in-Some.ensures.err ∙ ap (chunk_models f) c.index_mut.ensures.value))
 
-pub returns-in_err-chunk_insert-in-Some-clause-own : goal.returns-in_err-chunk_insert-in-Some-clause-own
-returns-in_err-chunk_insert-in-Some-clause-own g c =
+pub returns-in_err-chunk_insert-in-Some-clause-unique : goal.returns-in_err-chunk_insert-in-Some-clause-unique
+returns-in_err-chunk_insert-in-Some-clause-unique g c =
     let f = g.T.TryClone.model in
     let bs = c.args.blocks.now.items in
     let k = c.in-Some.at in
     let d = c.index_mut.result.now in
     let at = subst (λ l. IsInsertPosition (chunk_models f) l c.args.index k c.in-Some.inside) c.deref.ensures.value c.in-Some.ensures.place in
-    own_changed bs k c.chunk_insert.new.block d at.index_in_range c.index_mut.ensures.value c.in_err-chunk_insert-in-Some.ensures.own
+    own_changed bs k c.chunk_insert.new.block d at.index_in_range c.index_mut.ensures.value c.in_err-chunk_insert-in-Some.ensures.unique
 
 pub returns-in_ok-chunk_insert-in-Some-clause-ok : goal.returns-in_ok-chunk_insert-in-Some-clause-ok
 returns-in_ok-chunk_insert-in-Some-clause-ok g c =
@@ -38,8 +38,8 @@ returns-in_ok-chunk_insert-in-Some-clause-ok g c =
     joined_insert (chunk_models f) bs c.args.index k c.in-Some.inside (f c.args.item) c.chunk_insert.new.block d at
     (c.in_ok-chunk_insert-in-Some.ensures.ok ∙ ap (λ b. insert (chunk_models f b) c.in-Some.inside (f c.args.item)) c.index_mut.ensures.value)
 
-pub returns-in_ok-chunk_insert-in-Some-clause-within : goal.returns-in_ok-chunk_insert-in-Some-clause-within
-returns-in_ok-chunk_insert-in-Some-clause-within g c =
+pub returns-in_ok-chunk_insert-in-Some-clause-in_range : goal.returns-in_ok-chunk_insert-in-Some-clause-in_range
+returns-in_ok-chunk_insert-in-Some-clause-in_range g c =
     let f = g.T.TryClone.model in
     let bs = c.args.blocks.now.items in
     let k = c.in-Some.at in
@@ -47,17 +47,17 @@ returns-in_ok-chunk_insert-in-Some-clause-within g c =
     let at = subst (λ l. IsInsertPosition (chunk_models f) l c.args.index k c.in-Some.inside) c.deref.ensures.value c.in-Some.ensures.place in
     sym (le-leb c.args.index (length (flatten_models f bs)) (place_within (chunk_models f) bs c.args.index k c.in-Some.inside d at))
 
-pub returns-in_ok-chunk_insert-in-Some-clause-own : goal.returns-in_ok-chunk_insert-in-Some-clause-own
-returns-in_ok-chunk_insert-in-Some-clause-own g c =
+pub returns-in_ok-chunk_insert-in-Some-clause-unique : goal.returns-in_ok-chunk_insert-in-Some-clause-unique
+returns-in_ok-chunk_insert-in-Some-clause-unique g c =
     let f = g.T.TryClone.model in
     let bs = c.args.blocks.now.items in
     let k = c.in-Some.at in
     let d = c.index_mut.result.now in
     let at = subst (λ l. IsInsertPosition (chunk_models f) l c.args.index k c.in-Some.inside) c.deref.ensures.value c.in-Some.ensures.place in
-    own_changed bs k c.chunk_insert.new.block d at.index_in_range c.index_mut.ensures.value c.in_ok-chunk_insert-in-Some.ensures.own
+    own_changed bs k c.chunk_insert.new.block d at.index_in_range c.index_mut.ensures.value c.in_ok-chunk_insert-in-Some.ensures.unique
 
-pub returns-in_ok-chunk_insert-in-Some-clause-now_own : goal.returns-in_ok-chunk_insert-in-Some-clause-now_own
-returns-in_ok-chunk_insert-in-Some-clause-now_own g c =
+pub returns-in_ok-chunk_insert-in-Some-clause-unique_after : goal.returns-in_ok-chunk_insert-in-Some-clause-unique_after
+returns-in_ok-chunk_insert-in-Some-clause-unique_after g c =
     let f = g.T.TryClone.model in
     let bs = c.args.blocks.now.items in
     let k = c.in-Some.at in
@@ -70,7 +70,7 @@ returns-in_ok-chunk_insert-in-Some-clause-now_own g c =
     c.in_ok-chunk_insert-in-Some.ensures.ok ∙ ap (λ b. insert (map f (items_of b)) i (f c.args.item)) was in
     let more = put_inside (map f (items_of (get_or bs k d))) i (f c.args.item) (at.within d) in
     let within : i < length (items_of a) = omega (arith, more, ap length put, length-map (items_of a) f) in
-    λ _. among_set f bs c.args.index k i a at.index_in_range at.offset_is_sum within ∙ c.in_ok-chunk_insert-in-Some.ensures.now_own
+    λ _. among_set f bs c.args.index k i a at.index_in_range at.offset_is_sum within ∙ c.in_ok-chunk_insert-in-Some.ensures.unique_after
 
 pub returns-in_err-chunk_insert-in-Some-clause-bound : goal.returns-in_err-chunk_insert-in-Some-clause-bound
 returns-in_err-chunk_insert-in-Some-clause-bound g c =

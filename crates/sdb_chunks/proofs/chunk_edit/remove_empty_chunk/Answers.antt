@@ -6,16 +6,16 @@ use Rattle.sdb_chunks.specs.Chunks.{max_chunk_length}
 use Rattle.sdb_chunks.proofs.ChunkBounds.{longest_remove}
 use Rattle.sdb_chunks.proofs.chunk_edit.remove_empty_chunk.Goals as goal
 
-pub returns-then-len-eq0-clause-same : goal.returns-then-len-eq0-clause-same
-returns-then-len-eq0-clause-same g c =
+pub returns-then-len-eq0-clause-unchanged : goal.returns-then-len-eq0-clause-unchanged
+returns-then-len-eq0-clause-unchanged g c =
     let f = g.T.TryClone.model in
     let d = c.index.result.now in
     let none : length (items_of d) ≡ 0 = sym c.len.ensures ∙ c.if-len-eq0.true in
     ap (flatten_models f) c.remove.ensures.items
     ∙ joined_without (chunk_models f) c.args.blocks.now.items c.args.at d c.requires (ap (chunk_models f) (sym c.index.ensures) ∙ map_none f (items_of d) none)
 
-pub returns-then-len-eq0-clause-own : goal.returns-then-len-eq0-clause-own
-returns-then-len-eq0-clause-own g c = λ all. ap all_unique c.remove.ensures.items ∙ own_remove c.args.blocks.now.items c.args.at all
+pub returns-then-len-eq0-clause-unique : goal.returns-then-len-eq0-clause-unique
+returns-then-len-eq0-clause-unique g c = λ all. ap all_unique c.remove.ensures.items ∙ own_remove c.args.blocks.now.items c.args.at all
 
 pub returns-then-len-eq0-clause-bound : goal.returns-then-len-eq0-clause-bound
 returns-then-len-eq0-clause-bound g c =

@@ -17,23 +17,23 @@ returns-in_err-item-clause-err g c =
     let at = subst (λ l. IsItemPosition (chunk_models f) l c.args.index k c.in-Some.inside) c.deref.ensures.value c.in-Some.ensures.item in
     on_err c.from_residual.result (joined_same (chunk_models f) bs k c.chunk_remove.new.block d at.index_in_range (c.in_err-item.ensures.err ∙ ap (chunk_models f) c.index_mut.ensures.value))
 
-pub returns-in_err-item-clause-own : goal.returns-in_err-item-clause-own
-returns-in_err-item-clause-own g c =
+pub returns-in_err-item-clause-unique : goal.returns-in_err-item-clause-unique
+returns-in_err-item-clause-unique g c =
     let f = g.T.TryClone.model in
     let bs = c.args.blocks.now.items in
     let k = c.in-Some.at in
     let d = c.index_mut.result.now in
     let at = subst (λ l. IsItemPosition (chunk_models f) l c.args.index k c.in-Some.inside) c.deref.ensures.value c.in-Some.ensures.item in
-    own_changed bs k c.chunk_remove.new.block d at.index_in_range c.index_mut.ensures.value c.in_err-item.ensures.own
+    own_changed bs k c.chunk_remove.new.block d at.index_in_range c.index_mut.ensures.value c.in_err-item.ensures.unique
 
-pub returns-in_err-item-clause-shared : goal.returns-in_err-item-clause-shared
-returns-in_err-item-clause-shared g c =
+pub returns-in_err-item-clause-shared_on_err : goal.returns-in_err-item-clause-shared_on_err
+returns-in_err-item-clause-shared_on_err g c =
     let f = g.T.TryClone.model in
     let bs = c.args.blocks.now.items in
     let k = c.in-Some.at in
     let d = c.index_mut.result.now in
     let at = subst (λ l. IsItemPosition (chunk_models f) l c.args.index k c.in-Some.inside) c.deref.ensures.value c.in-Some.ensures.item in
-    on_err c.from_residual.result (shared_at bs k d at.index_in_range (sym (ap is_chunk_unique c.index_mut.ensures.value) ∙ c.in_err-item.ensures.shared))
+    on_err c.from_residual.result (shared_at bs k d at.index_in_range (sym (ap is_chunk_unique c.index_mut.ensures.value) ∙ c.in_err-item.ensures.shared_on_err))
 
 pub returns-clause-item : goal.returns-clause-item
 returns-clause-item g c =
@@ -51,17 +51,17 @@ returns-clause-ok g c =
     let k = c.in-Some.at in
     let d = c.index_mut.result.now in
     let at = subst (λ l. IsItemPosition (chunk_models f) l c.args.index k c.in-Some.inside) c.deref.ensures.value c.in-Some.ensures.item in
-    c.remove_empty_chunk.ensures.same ∙ joined_remove (chunk_models f) bs c.args.index k c.in-Some.inside c.chunk_remove.new.block d at
+    c.remove_empty_chunk.ensures.unchanged ∙ joined_remove (chunk_models f) bs c.args.index k c.in-Some.inside c.chunk_remove.new.block d at
     (c.in_ok-item.ensures.ok ∙ ap (λ b. remove (chunk_models f b) c.in-Some.inside) c.index_mut.ensures.value)
 
-pub returns-clause-own : goal.returns-clause-own
-returns-clause-own g c =
+pub returns-clause-unique : goal.returns-clause-unique
+returns-clause-unique g c =
     let f = g.T.TryClone.model in
     let bs = c.args.blocks.now.items in
     let k = c.in-Some.at in
     let d = c.index_mut.result.now in
     let at = subst (λ l. IsItemPosition (chunk_models f) l c.args.index k c.in-Some.inside) c.deref.ensures.value c.in-Some.ensures.item in
-    λ all. c.remove_empty_chunk.ensures.own (own_changed bs k c.chunk_remove.new.block d at.index_in_range c.index_mut.ensures.value c.in_ok-item.ensures.own all)
+    λ all. c.remove_empty_chunk.ensures.unique (own_changed bs k c.chunk_remove.new.block d at.index_in_range c.index_mut.ensures.value c.in_ok-item.ensures.unique all)
 
 pub returns-in_err-item-clause-shared_there : goal.returns-in_err-item-clause-shared_there
 returns-in_err-item-clause-shared_there g c =
@@ -71,7 +71,7 @@ returns-in_err-item-clause-shared_there g c =
     let d = c.index_mut.result.now in
     let at = subst (λ l. IsItemPosition (chunk_models f) l c.args.index k c.in-Some.inside) c.deref.ensures.value c.in-Some.ensures.item in
     let within : c.in-Some.inside < length (items_of (get_or bs k d)) = omega (arith, at.within d, length-map (items_of (get_or bs k d)) f) in
-    on_err c.from_residual.result (among_here f bs c.args.index k c.in-Some.inside d at.index_in_range at.offset_is_sum within ∙ sym (ap is_chunk_unique c.index_mut.ensures.value) ∙ c.in_err-item.ensures.shared)
+    on_err c.from_residual.result (among_here f bs c.args.index k c.in-Some.inside d at.index_in_range at.offset_is_sum within ∙ sym (ap is_chunk_unique c.index_mut.ensures.value) ∙ c.in_err-item.ensures.shared_on_err)
 
 pub returns-in_err-item-clause-bound : goal.returns-in_err-item-clause-bound
 returns-in_err-item-clause-bound g c =

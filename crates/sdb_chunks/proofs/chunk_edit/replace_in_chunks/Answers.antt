@@ -16,24 +16,24 @@ returns-in_err-old-clause-err g c =
     let at = subst (λ l. IsItemPosition (chunk_models f) l c.args.index k c.in-Some.inside) c.deref.ensures.value c.in-Some.ensures.item in
     on_err c.from_residual.result (joined_same (chunk_models f) bs k c.chunk_replace.new.block d at.index_in_range (c.in_err-old.ensures.err ∙ ap (chunk_models f) c.index_mut.ensures.value))
 
-pub returns-in_err-old-clause-own : goal.returns-in_err-old-clause-own
-returns-in_err-old-clause-own g c =
+pub returns-in_err-old-clause-unique : goal.returns-in_err-old-clause-unique
+returns-in_err-old-clause-unique g c =
     let f = g.T.TryClone.model in
     let bs = c.args.blocks.now.items in
     let k = c.in-Some.at in
     let d = c.index_mut.result.now in
     let at = subst (λ l. IsItemPosition (chunk_models f) l c.args.index k c.in-Some.inside) c.deref.ensures.value c.in-Some.ensures.item in
-    own_changed bs k c.chunk_replace.new.block d at.index_in_range c.index_mut.ensures.value c.in_err-old.ensures.own
+    own_changed bs k c.chunk_replace.new.block d at.index_in_range c.index_mut.ensures.value c.in_err-old.ensures.unique
 
-pub returns-in_err-old-clause-shared : goal.returns-in_err-old-clause-shared
-returns-in_err-old-clause-shared g c =
+pub returns-in_err-old-clause-shared_on_err : goal.returns-in_err-old-clause-shared_on_err
+returns-in_err-old-clause-shared_on_err g c =
     let f = g.T.TryClone.model in
     let bs = c.args.blocks.now.items in
     let k = c.in-Some.at in
     let d = c.index_mut.result.now in
     let at = subst (λ l. IsItemPosition (chunk_models f) l c.args.index k c.in-Some.inside) c.deref.ensures.value c.in-Some.ensures.item in
     let within : c.in-Some.inside < length (items_of (get_or bs k d)) = omega (arith, at.within d, length-map (items_of (get_or bs k d)) f) in
-    on_err c.from_residual.result (among_here f bs c.args.index k c.in-Some.inside d at.index_in_range at.offset_is_sum within ∙ sym (ap is_chunk_unique c.index_mut.ensures.value) ∙ c.in_err-old.ensures.shared)
+    on_err c.from_residual.result (among_here f bs c.args.index k c.in-Some.inside d at.index_in_range at.offset_is_sum within ∙ sym (ap is_chunk_unique c.index_mut.ensures.value) ∙ c.in_err-old.ensures.shared_on_err)
 
 pub returns-clause-item : goal.returns-clause-item
 returns-clause-item g c =
@@ -54,17 +54,17 @@ returns-clause-ok g c =
     joined_replace (chunk_models f) bs c.args.index k c.in-Some.inside (f c.args.item) c.chunk_replace.new.block d at
     (c.in_ok-old.ensures.ok ∙ ap (λ b. set (chunk_models f b) c.in-Some.inside (f c.args.item)) c.index_mut.ensures.value)
 
-pub returns-clause-own : goal.returns-clause-own
-returns-clause-own g c =
+pub returns-clause-unique : goal.returns-clause-unique
+returns-clause-unique g c =
     let f = g.T.TryClone.model in
     let bs = c.args.blocks.now.items in
     let k = c.in-Some.at in
     let d = c.index_mut.result.now in
     let at = subst (λ l. IsItemPosition (chunk_models f) l c.args.index k c.in-Some.inside) c.deref.ensures.value c.in-Some.ensures.item in
-    own_changed bs k c.chunk_replace.new.block d at.index_in_range c.index_mut.ensures.value c.in_ok-old.ensures.own
+    own_changed bs k c.chunk_replace.new.block d at.index_in_range c.index_mut.ensures.value c.in_ok-old.ensures.unique
 
-pub returns-clause-now_own : goal.returns-clause-now_own
-returns-clause-now_own g c =
+pub returns-clause-unique_after : goal.returns-clause-unique_after
+returns-clause-unique_after g c =
     let f = g.T.TryClone.model in
     let bs = c.args.blocks.now.items in
     let k = c.in-Some.at in
@@ -74,7 +74,7 @@ returns-clause-now_own g c =
     let was : d ≡ get_or bs k d = c.index_mut.ensures.value in
     let m = ap length c.in_ok-old.ensures.ok ∙ length-set (map f (items_of d)) c.in-Some.inside (f c.args.item) ∙ ap (λ b. length (map f (items_of b))) was in
     let within : c.in-Some.inside < length (items_of a) = omega (arith, at.within d, m, length-map (items_of a) f) in
-    if_some c.in_ok-old.old (among_set f bs c.args.index k c.in-Some.inside a at.index_in_range at.offset_is_sum within ∙ c.in_ok-old.ensures.now_own)
+    if_some c.in_ok-old.old (among_set f bs c.args.index k c.in-Some.inside a at.index_in_range at.offset_is_sum within ∙ c.in_ok-old.ensures.unique_after)
 
 pub returns-in_err-old-clause-bound : goal.returns-in_err-old-clause-bound
 returns-in_err-old-clause-bound g c =

@@ -8,8 +8,8 @@ use Rattle.sdb_chunks.specs.Chunks.{max_chunk_length, chunk_length_at}
 use Rattle.sdb_chunks.proofs.ChunkBounds.{same_count, halves_count, items_here, half_at, longest_at, longest_set, longest_insert, longest_halves}
 use Rattle.sdb_chunks.proofs.chunk_edit.split_chunk.Goals as goal
 
-pub returns-in_err-high-clause-same : goal.returns-in_err-high-clause-same
-returns-in_err-high-clause-same g c =
+pub returns-in_err-high-clause-unchanged : goal.returns-in_err-high-clause-unchanged
+returns-in_err-high-clause-unchanged g c =
     let f = g.T.TryClone.model in
     let bs = c.args.blocks.now.items in
     let k = c.args.at in
@@ -20,8 +20,8 @@ returns-in_err-high-clause-same g c =
     let a = c.split_off_half.new.block in
     ap (λ l. flatten_models f (set l k a)) put ∙ joined_spare (chunk_models f) bs k a d e c.requires (ap (map f) c.new.ensures.items) (c.in_err-high.ensures.err ∙ ap (chunk_models f) is)
 
-pub returns-in_err-high-clause-own : goal.returns-in_err-high-clause-own
-returns-in_err-high-clause-own g c =
+pub returns-in_err-high-clause-unique : goal.returns-in_err-high-clause-unique
+returns-in_err-high-clause-unique g c =
     let f = g.T.TryClone.model in
     let bs = c.args.blocks.now.items in
     let k = c.args.at in
@@ -30,10 +30,10 @@ returns-in_err-high-clause-own g c =
     let put : c.insert.new.self.items ≡ insert bs (k + 1) e = c.in_ok-insert.ensures.items in
     let is : d ≡ get_or bs k d = c.index_mut.ensures.value ∙ ap (λ l. get_or l k d) put ∙ get_before bs k e d c.requires in
     let a = c.split_off_half.new.block in
-    λ all. ap (λ l. all_unique (set l k a)) put ∙ own_inserted bs k a e d c.requires refl is c.in_err-high.ensures.own all
+    λ all. ap (λ l. all_unique (set l k a)) put ∙ own_inserted bs k a e d c.requires refl is c.in_err-high.ensures.unique all
 
-pub returns-clause-same : goal.returns-clause-same
-returns-clause-same g c =
+pub returns-clause-unchanged : goal.returns-clause-unchanged
+returns-clause-unchanged g c =
     let f = g.T.TryClone.model in
     let bs = c.args.blocks.now.items in
     let k = c.args.at in
@@ -45,10 +45,10 @@ returns-clause-same g c =
     let b = c.in_ok-high.high in
     let m = length (items_of d) / 2 in
     ap (λ l. flatten_models f (set (set l k a) (k + 1) b)) put
-    ∙ joined_split (chunk_models f) bs k m a b d e c.requires (c.in_ok-high.ensures.low ∙ ap (λ x. take m (chunk_models f x)) is) (c.in_ok-high.ensures.high ∙ ap (λ x. drop m (chunk_models f x)) is)
+    ∙ joined_split (chunk_models f) bs k m a b d e c.requires (c.in_ok-high.ensures.lower_half ∙ ap (λ x. take m (chunk_models f x)) is) (c.in_ok-high.ensures.high ∙ ap (λ x. drop m (chunk_models f x)) is)
 
-pub returns-clause-own : goal.returns-clause-own
-returns-clause-own g c =
+pub returns-clause-unique : goal.returns-clause-unique
+returns-clause-unique g c =
     let f = g.T.TryClone.model in
     let bs = c.args.blocks.now.items in
     let k = c.args.at in
@@ -59,7 +59,7 @@ returns-clause-own g c =
     let a = c.split_off_half.new.block in
     let b = c.in_ok-high.high in
     λ all. ap (λ l. all_unique (set (set l k a) (k + 1) b)) put
-    ∙ own_set (set (insert bs (k + 1) e) k a) (k + 1) b c.in_ok-high.ensures.other (own_inserted bs k a e d c.requires refl is c.in_ok-high.ensures.own all)
+    ∙ own_set (set (insert bs (k + 1) e) k a) (k + 1) b c.in_ok-high.ensures.other (own_inserted bs k a e d c.requires refl is c.in_ok-high.ensures.unique all)
 
 pub returns-in_err-high-clause-bound : goal.returns-in_err-high-clause-bound
 returns-in_err-high-clause-bound g c =
@@ -94,7 +94,7 @@ returns-clause-bound g c =
     let n = max_chunk_length bs in
     let m = ap (λ l. max_chunk_length (set (set l k a) (k + 1) b)) put in
     let none = ap length c.new.ensures.items in
-    let both = halves_count f (items_of a) (items_of b) (items_of d) c.in_ok-high.ensures.low c.in_ok-high.ensures.high in
+    let both = halves_count f (items_of a) (items_of b) (items_of d) c.in_ok-high.ensures.lower_half c.in_ok-high.ensures.high in
     let was = ap (λ b. length (items_of b)) is in
     let w = longest_at bs k d c.requires in
     let l = longest_halves bs k a b e n (omega arith) (omega (arith, both.0, was, w)) (omega (arith, both.0, was, w)) (omega (arith, none)) in
@@ -111,7 +111,7 @@ returns-clause-half g c =
     let is : d ≡ get_or bs k d = c.index_mut.ensures.value ∙ ap (λ l. get_or l k d) put ∙ get_before bs k e d c.requires in
     let a = c.split_off_half.new.block in
     let b = c.in_ok-high.high in
-    let both = halves_count f (items_of a) (items_of b) (items_of d) c.in_ok-high.ensures.low c.in_ok-high.ensures.high in
+    let both = halves_count f (items_of a) (items_of b) (items_of d) c.in_ok-high.ensures.lower_half c.in_ok-high.ensures.high in
     let was = ap (λ b. length (items_of b)) is in
     λ i w.
     let m = ap (λ l. chunk_length_at (set (set l k a) (k + 1) b) i) put in

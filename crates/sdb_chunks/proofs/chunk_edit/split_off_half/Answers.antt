@@ -3,8 +3,8 @@ use Rattle.sdb_chunks.specs.Chunk.{items_of}
 use Rattle.sdb_chunks.proofs.FlattenLemmas.{map_take, map_drop}
 use Rattle.sdb_chunks.proofs.chunk_edit.split_off_half.Goals as goal
 
-pub returns-in_ok-split_off-in-Unique-clause-low : goal.returns-in_ok-split_off-in-Unique-clause-low
-returns-in_ok-split_off-in-Unique-clause-low g c =
+pub returns-in_ok-split_off-in-Unique-clause-lower_half : goal.returns-in_ok-split_off-in-Unique-clause-lower_half
+returns-in_ok-split_off-in-Unique-clause-lower_half g c =
     let f = g.T.TryClone.model in
     let new = c.in-Unique.items.items in
     let m = c.len-middle.result / 2 in

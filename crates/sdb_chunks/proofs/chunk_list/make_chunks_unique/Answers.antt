@@ -5,14 +5,14 @@ use Rattle.sdb_chunks.proofs.chunk_list.make_chunks_unique.Goals as goal
 pub returns-in_err-make_unique-clause-same : goal.returns-in_err-make_unique-clause-same
 returns-in_err-make_unique-clause-same g c = joined_alike g.T.TryClone.model _ _ c.make_unique.ensures.same
 
-pub returns-in_err-make_unique-clause-kept : goal.returns-in_err-make_unique-clause-kept
-returns-in_err-make_unique-clause-kept g c = own_alike g.T.TryClone.model _ _ c.make_unique.ensures.same
+pub returns-in_err-make_unique-clause-unchanged : goal.returns-in_err-make_unique-clause-unchanged
+returns-in_err-make_unique-clause-unchanged g c = own_alike g.T.TryClone.model _ _ c.make_unique.ensures.same
 
 pub returns-clause-same : goal.returns-clause-same
 returns-clause-same g c = joined_alike g.T.TryClone.model _ _ c.make_unique.ensures.same
 
-pub returns-clause-kept : goal.returns-clause-kept
-returns-clause-kept g c = own_alike g.T.TryClone.model _ _ c.make_unique.ensures.same
+pub returns-clause-unchanged : goal.returns-clause-unchanged
+returns-clause-unchanged g c = own_alike g.T.TryClone.model _ _ c.make_unique.ensures.same
 
 pub returns-in_err-make_unique-clause-among : goal.returns-in_err-make_unique-clause-among
 returns-in_err-make_unique-clause-among g c = among_alike g.T.TryClone.model _ _ c.make_unique.ensures.same

@@ -4,8 +4,8 @@ use Rattle.sdb_chunks.specs.ChunkedVec.{is_unique_at}
 use Rattle.sdb_chunks.proofs.FlattenLemmas.{false_cond, on_err}
 use Rattle.sdb_chunks.proofs.chunk_list.replace_in_chunk_list.Goals as goal
 
-pub returns-in_err-old-in-Unique-clause-shared : goal.returns-in_err-old-in-Unique-clause-shared
-returns-in_err-old-in-Unique-clause-shared g c =
+pub returns-in_err-old-in-Unique-clause-shared_on_err : goal.returns-in_err-old-in-Unique-clause-shared_on_err
+returns-in_err-old-in-Unique-clause-shared_on_err g c =
     let i = c.args.index in
     on_err c.from_residual-in_err-old-in-Unique.result (false_cond (is_chunk_unique c.args.blocks.now) (is_unique_at (items_of c.args.blocks.now) i)
-    (sym (c.in_ok-make_chunks_unique.ensures.among i) ∙ ap (λ b. is_unique_at (items_of b) i) c.in-Unique.is ∙ c.in_err-old-in-Unique.ensures.shared))
+    (sym (c.in_ok-make_chunks_unique.ensures.among i) ∙ ap (λ b. is_unique_at (items_of b) i) c.in-Unique.is ∙ c.in_err-old-in-Unique.ensures.shared_on_err))

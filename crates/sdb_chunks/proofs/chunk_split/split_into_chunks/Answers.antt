@@ -18,8 +18,8 @@ loop-left-preserved g c =
           (omega (arith, c.len-in-loop-left.ensures, c.loop-left-test.true));
     }
 
-pub returns-clause-own : goal.returns-clause-own
-returns-clause-own g c =
+pub returns-clause-unique : goal.returns-clause-unique
+returns-clause-unique g c =
     let bs = c.loop-left.blocks.items in
     ap all_unique c.reverse.ensures.items ∙ own_reverse c.push-2.new.self.items (ap all_unique c.in_ok-push-2.ensures.items ∙ own_more bs _ c.loop-left.invariant.own refl)
 

@@ -1,5 +1,5 @@
 use Rattle.std.proofs.Common.{◌++◌, map, ap, sym, ◌∙◌}
-use Rattle.sdb_chunks.specs.Laws.{vec_models_of_items}
+use Rattle.sdb_chunks.specs.laws.ChunkLaws.{vec_models_of_items}
 use Rattle.sdb_chunks.proofs.FlattenLemmas.{append_none}
 use Rattle.sdb_chunks.proofs.chunked_vec.clone_flat.Goals as goal
 

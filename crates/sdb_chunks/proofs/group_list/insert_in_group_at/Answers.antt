@@ -32,8 +32,8 @@ returns-in_ok-insert-in-Some-clause-ok g c =
     let at = subst (λ l. IsInsertPosition s l c.args.index k i) c.deref.ensures.value c.in-Some.ensures.place in
     joined_insert s gs c.args.index k i (f c.args.item) c.insert.new.self d at (c.in_ok-insert-in-Some.ensures.ok ∙ ap (λ b. insert (s b) i (f c.args.item)) was)
 
-pub returns-in_ok-insert-in-Some-clause-within : goal.returns-in_ok-insert-in-Some-clause-within
-returns-in_ok-insert-in-Some-clause-within g c =
+pub returns-in_ok-insert-in-Some-clause-in_range : goal.returns-in_ok-insert-in-Some-clause-in_range
+returns-in_ok-insert-in-Some-clause-in_range g c =
     let f = g.T.TryClone.model in
     let s = group_models f in
     let gs = c.args.groups.now.items in
@@ -44,8 +44,8 @@ returns-in_ok-insert-in-Some-clause-within g c =
     let at = subst (λ l. IsInsertPosition s l c.args.index k i) c.deref.ensures.value c.in-Some.ensures.place in
     sym (le-leb c.args.index (length (flatten_group_models f gs)) (place_within s gs c.args.index k i d at))
 
-pub returns-in_ok-insert-in-Some-clause-now_own : goal.returns-in_ok-insert-in-Some-clause-now_own
-returns-in_ok-insert-in-Some-clause-now_own g c =
+pub returns-in_ok-insert-in-Some-clause-unique_after : goal.returns-in_ok-insert-in-Some-clause-unique_after
+returns-in_ok-insert-in-Some-clause-unique_after g c =
     let f = g.T.TryClone.model in
     let s = group_models f in
     let gs = c.args.groups.now.items in
@@ -58,7 +58,7 @@ returns-in_ok-insert-in-Some-clause-now_own g c =
     let put : s a ≡ insert (s (get_or gs k d)) i (f c.args.item) = c.in_ok-insert-in-Some.ensures.ok ∙ ap (λ b. insert (s b) i (f c.args.item)) was in
     let more = put_inside (s (get_or gs k d)) i (f c.args.item) (at.within d) in
     let within : i < length (s a) = omega (arith, more, ap length put) in
-    λ _. grouped_set f gs c.args.index k i a at.index_in_range at.offset_is_sum within ∙ c.in_ok-insert-in-Some.ensures.now_own
+    λ _. grouped_set f gs c.args.index k i a at.index_in_range at.offset_is_sum within ∙ c.in_ok-insert-in-Some.ensures.unique_after
 
 pub returns-in_err-insert-in-Some-clause-bound : goal.returns-in_err-insert-in-Some-clause-bound
 returns-in_err-insert-in-Some-clause-bound g c =

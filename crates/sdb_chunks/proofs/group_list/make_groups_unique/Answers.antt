@@ -2,14 +2,14 @@ use Rattle.sdb_chunks.proofs.GroupLemmas.{groups_alike, in_groups_alike}
 use Rattle.sdb_chunks.proofs.ChunkBounds.{longest_grouped_alike}
 use Rattle.sdb_chunks.proofs.group_list.make_groups_unique.Goals as goal
 
-pub returns-in_err-make_unique-clause-same : goal.returns-in_err-make_unique-clause-same
-returns-in_err-make_unique-clause-same g c = groups_alike g.T.TryClone.model _ _ c.make_unique.ensures.same
+pub returns-in_err-make_unique-clause-unchanged : goal.returns-in_err-make_unique-clause-unchanged
+returns-in_err-make_unique-clause-unchanged g c = groups_alike g.T.TryClone.model _ _ c.make_unique.ensures.same
 
 pub returns-in_err-make_unique-clause-among : goal.returns-in_err-make_unique-clause-among
 returns-in_err-make_unique-clause-among g c = in_groups_alike g.T.TryClone.model _ _ c.make_unique.ensures.same
 
-pub returns-clause-same : goal.returns-clause-same
-returns-clause-same g c = groups_alike g.T.TryClone.model _ _ c.make_unique.ensures.same
+pub returns-clause-unchanged : goal.returns-clause-unchanged
+returns-clause-unchanged g c = groups_alike g.T.TryClone.model _ _ c.make_unique.ensures.same
 
 pub returns-clause-among : goal.returns-clause-among
 returns-clause-among g c = in_groups_alike g.T.TryClone.model _ _ c.make_unique.ensures.same

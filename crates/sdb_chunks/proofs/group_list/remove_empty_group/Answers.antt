@@ -6,8 +6,8 @@ use Rattle.sdb_chunks.proofs.GroupLemmas.{no_items}
 use Rattle.sdb_chunks.proofs.ChunkBounds.{grouped_remove}
 use Rattle.sdb_chunks.proofs.group_list.remove_empty_group.Goals as goal
 
-pub returns-then-chunks-eq0-clause-same : goal.returns-then-chunks-eq0-clause-same
-returns-then-chunks-eq0-clause-same g c =
+pub returns-then-chunks-eq0-clause-unchanged : goal.returns-then-chunks-eq0-clause-unchanged
+returns-then-chunks-eq0-clause-unchanged g c =
     let f = g.T.TryClone.model in
     let d = c.index.result.now in
     let none : group_chunks d ≡ [] = sym c.chunks.ensures ∙ no_items c.chunks.result.now (c.if-chunks-eq0.true) in

@@ -19,8 +19,8 @@ returns-in_err-item-clause-err g c =
     let at = subst (λ l. IsItemPosition s l c.args.index k i) c.deref.ensures.value c.in-Some.ensures.item in
     on_err c.from_residual.result (joined_same s gs k c.remove.new.self d at.index_in_range (c.in_err-item.ensures.err ∙ ap s was))
 
-pub returns-in_err-item-clause-shared : goal.returns-in_err-item-clause-shared
-returns-in_err-item-clause-shared g c =
+pub returns-in_err-item-clause-shared_on_err : goal.returns-in_err-item-clause-shared_on_err
+returns-in_err-item-clause-shared_on_err g c =
     let f = g.T.TryClone.model in
     let s = group_models f in
     let gs = c.args.groups.now.items in
@@ -29,7 +29,7 @@ returns-in_err-item-clause-shared g c =
     let d = c.index_mut.result.now in
     let was : d ≡ get_or gs k d = c.index_mut.ensures.value in
     let at = subst (λ l. IsItemPosition s l c.args.index k i) c.deref.ensures.value c.in-Some.ensures.item in
-    on_err c.from_residual.result (grouped_here f gs c.args.index k i d at.index_in_range at.offset_is_sum (at.within d) ∙ sym (ap (λ x. is_unique_group_at x i) was) ∙ c.in_err-item.ensures.shared)
+    on_err c.from_residual.result (grouped_here f gs c.args.index k i d at.index_in_range at.offset_is_sum (at.within d) ∙ sym (ap (λ x. is_unique_group_at x i) was) ∙ c.in_err-item.ensures.shared_on_err)
 
 pub returns-clause-item : goal.returns-clause-item
 returns-clause-item g c =
@@ -53,7 +53,7 @@ returns-clause-ok g c =
     let d = c.index_mut.result.now in
     let was : d ≡ get_or gs k d = c.index_mut.ensures.value in
     let at = subst (λ l. IsItemPosition s l c.args.index k i) c.deref.ensures.value c.in-Some.ensures.item in
-    c.remove_empty_group.ensures.same ∙ joined_remove s gs c.args.index k i c.remove.new.self d at (c.in_ok-item.ensures.ok ∙ ap (λ b. remove (s b) i) was)
+    c.remove_empty_group.ensures.unchanged ∙ joined_remove s gs c.args.index k i c.remove.new.self d at (c.in_ok-item.ensures.ok ∙ ap (λ b. remove (s b) i) was)
 
 pub returns-in_err-item-clause-bound : goal.returns-in_err-item-clause-bound
 returns-in_err-item-clause-bound g c =

@@ -18,8 +18,8 @@ returns-in_err-old-clause-err g c =
     let at = subst (λ l. IsItemPosition s l c.args.index k i) c.deref.ensures.value c.in-Some.ensures.item in
     on_err c.from_residual.result (joined_same s gs k c.replace.new.self d at.index_in_range (c.in_err-old.ensures.err ∙ ap s was))
 
-pub returns-in_err-old-clause-shared : goal.returns-in_err-old-clause-shared
-returns-in_err-old-clause-shared g c =
+pub returns-in_err-old-clause-shared_on_err : goal.returns-in_err-old-clause-shared_on_err
+returns-in_err-old-clause-shared_on_err g c =
     let f = g.T.TryClone.model in
     let s = group_models f in
     let gs = c.args.groups.now.items in
@@ -28,7 +28,7 @@ returns-in_err-old-clause-shared g c =
     let d = c.index_mut.result.now in
     let was : d ≡ get_or gs k d = c.index_mut.ensures.value in
     let at = subst (λ l. IsItemPosition s l c.args.index k i) c.deref.ensures.value c.in-Some.ensures.item in
-    on_err c.from_residual.result (grouped_here f gs c.args.index k i d at.index_in_range at.offset_is_sum (at.within d) ∙ sym (ap (λ x. is_unique_group_at x i) was) ∙ c.in_err-old.ensures.shared)
+    on_err c.from_residual.result (grouped_here f gs c.args.index k i d at.index_in_range at.offset_is_sum (at.within d) ∙ sym (ap (λ x. is_unique_group_at x i) was) ∙ c.in_err-old.ensures.shared_on_err)
 
 pub returns-clause-item : goal.returns-clause-item
 returns-clause-item g c =
@@ -54,8 +54,8 @@ returns-clause-ok g c =
     let at = subst (λ l. IsItemPosition s l c.args.index k i) c.deref.ensures.value c.in-Some.ensures.item in
     joined_replace s gs c.args.index k i (f c.args.item) c.replace.new.self d at (c.in_ok-old.ensures.ok ∙ ap (λ b. set (s b) i (f c.args.item)) was)
 
-pub returns-clause-now_own : goal.returns-clause-now_own
-returns-clause-now_own g c =
+pub returns-clause-unique_after : goal.returns-clause-unique_after
+returns-clause-unique_after g c =
     let f = g.T.TryClone.model in
     let s = group_models f in
     let gs = c.args.groups.now.items in
@@ -67,7 +67,7 @@ returns-clause-now_own g c =
     let a = c.replace.new.self in
     let n = ap length c.in_ok-old.ensures.ok ∙ length-set (s d) i (f c.args.item) ∙ ap (λ b. length (s b)) was in
     let within : i < length (s a) = omega (arith, at.within d, n) in
-    if_some_also c.in_ok-old.old c.in_ok-old.ensures.now_own (λ own. grouped_set f gs c.args.index k i a at.index_in_range at.offset_is_sum within ∙ own)
+    if_some_also c.in_ok-old.old c.in_ok-old.ensures.unique_after (λ own. grouped_set f gs c.args.index k i a at.index_in_range at.offset_is_sum within ∙ own)
 
 pub returns-in_err-old-clause-bound : goal.returns-in_err-old-clause-bound
 returns-in_err-old-clause-bound g c =

@@ -8,8 +8,8 @@ use Rattle.sdb_chunks.specs.Chunks.{max_chunk_length}
 use Rattle.sdb_chunks.proofs.ChunkBounds.{grouped_at, grouped_set, grouped_insert, grouped_halves}
 use Rattle.sdb_chunks.proofs.group_list.split_group.Goals as goal
 
-pub returns-in_err-high-clause-same : goal.returns-in_err-high-clause-same
-returns-in_err-high-clause-same g c =
+pub returns-in_err-high-clause-unchanged : goal.returns-in_err-high-clause-unchanged
+returns-in_err-high-clause-unchanged g c =
     let f = g.T.TryClone.model in
     let s = group_models f in
     let gs = c.args.groups.now.items in
@@ -22,8 +22,8 @@ returns-in_err-high-clause-same g c =
     let none : s e ≡ [] = ap (λ b. flatten_models f (items_of b)) c.new-2.ensures ∙ ap (flatten_models f) c.new.ensures.items in
     ap (λ l. flatten_group_models f (set l k a)) put ∙ joined_spare s gs k a d e c.requires none (c.in_err-high.ensures.err ∙ ap s is)
 
-pub returns-clause-same : goal.returns-clause-same
-returns-clause-same g c =
+pub returns-clause-unchanged : goal.returns-clause-unchanged
+returns-clause-unchanged g c =
     let f = g.T.TryClone.model in
     let s = group_models f in
     let gs = c.args.groups.now.items in

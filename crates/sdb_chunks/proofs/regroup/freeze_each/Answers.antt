@@ -5,8 +5,8 @@ use Rattle.sdb_chunks.proofs.FlattenLemmas.{joined_same}
 use Rattle.sdb_chunks.specs.Chunks.{max_chunk_length}
 use Rattle.sdb_chunks.proofs.regroup.freeze_each.Goals as goal
 
-pub returns-in_err-freeze-clause-same : goal.returns-in_err-freeze-clause-same
-returns-in_err-freeze-clause-same g c =
+pub returns-in_err-freeze-clause-unchanged : goal.returns-in_err-freeze-clause-unchanged
+returns-in_err-freeze-clause-unchanged g c =
     let f = g.T.TryClone.model in
     let s = group_models f in
     let gs = c.loop-at.groups.items in

@@ -4,7 +4,7 @@ use Rattle.json.specs.Token.{begin_object, key}
 use Rattle.sdb_component.specs.ToJson.{path_data, full_path}
 use Rattle.sdb_component.specs.Write.{members_before_path, members_after_path}
 use Rattle.sdb_value.specs.ToJson.{data_tokens, object_tail_tokens}
-use Rattle.sdb_value.specs.PrefixLaws.{on_any_err, writes_prefix_refl, writes_prefix_after_append, writes_prefix_after, writes_prefix_of_rest}
+use Rattle.sdb_value.specs.laws.PrefixLaws.{on_any_err, writes_prefix_refl, writes_prefix_after_append, writes_prefix_after, writes_prefix_of_rest}
 use Rattle.serde_json.specs.Data.{Members, no_members}
 use Rattle.sdb_component.proofs.WriteLemmas.{behind_path_ends, front_behind_values, front_of_values, put_together}
 use Rattle.sdb_component.proofs.write.write_component.Goals as goal

@@ -2,7 +2,7 @@ use Rattle.std.proofs.Common.{◌≡◌, ◌+◌, ◌∷◌, ◌++◌, drop, sym
 use Rattle.std.proofs.lemmas.List.{drop_more}
 use Rattle.json.specs.Token.{begin_array}
 use Rattle.sdb_value.specs.ToJson.{array_tail_tokens, data_tokens}
-use Rattle.sdb_value.specs.PrefixLaws.{on_any_err, writes_prefix_after_append}
+use Rattle.sdb_value.specs.laws.PrefixLaws.{on_any_err, writes_prefix_after_append}
 use Rattle.sdb_component.specs.ToJson.{component_data, component_items}
 use Rattle.sdb_component.proofs.write.write_op.Goals as goal
 

@@ -5,7 +5,7 @@ use Rattle.json.specs.Token.{begin_array}
 use Rattle.serde_json.specs.Data.{no_items}
 use Rattle.sdb_value.specs.ToJson.{array_tail_tokens, data_tokens}
 use Rattle.sdb_value.specs.View.{plain_path, plain_step}
-use Rattle.sdb_value.specs.PrefixLaws.{on_any_err, writes_prefix_refl, writes_prefix_after_append, writes_prefix_after, writes_prefix_of_rest}
+use Rattle.sdb_value.specs.laws.PrefixLaws.{on_any_err, writes_prefix_refl, writes_prefix_after_append, writes_prefix_after, writes_prefix_of_rest}
 use Rattle.sdb_component.specs.ToJson.{last_step, path_items, step_data}
 use Rattle.sdb_component.proofs.WriteLemmas.{steps_add}
 use Rattle.sdb_component.proofs.write.write_path.Goals as goal

@@ -1,6 +1,6 @@
 use Rattle.std.proofs.Common.{◌∷◌, [], codes}
 use Rattle.json.specs.Token.{key}
-use Rattle.sdb_value.specs.PrefixLaws.{token_refused_prefix}
+use Rattle.sdb_value.specs.laws.PrefixLaws.{token_refused_prefix}
 use Rattle.sdb_component.proofs.write.write_text.Goals as goal
 
 pub returns-in_ok-key-in-Si-clause-err : goal.returns-in_ok-key-in-Si-clause-err

@@ -7,7 +7,7 @@ use Rattle.serde_json.specs.Find.{of_integer}
 use Rattle.sdb_value.specs.ToJson.{data_tokens, object_tail_tokens}
 use Rattle.sdb_value.specs.FromJson.{data_of_value}
 use Rattle.sdb_value.specs.View.{value_of}
-use Rattle.sdb_value.specs.PrefixLaws.{on_any_err, writes_prefix_refl, writes_prefix_append, member_prefix, member_value_prefix, next_member_prefix}
+use Rattle.sdb_value.specs.laws.PrefixLaws.{on_any_err, writes_prefix_refl, writes_prefix_append, member_prefix, member_value_prefix, next_member_prefix}
 use Rattle.sdb_component.proofs.write.write_values.Goals as goal
 
 pub returns-in-Li-clause-err : goal.returns-in-Li-clause-err

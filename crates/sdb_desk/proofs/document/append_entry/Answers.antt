@@ -4,8 +4,8 @@ use Rattle.std.specs.Prelude.{option_map}
 use Rattle.sdb_desk.proofs.StoreLemmas.{prepared_of, lives_stored, decided_stored, keeps_stored}
 use Rattle.sdb_desk.proofs.document.append_entry.Goals as goal
 
-pub commit-requires-clause-lives : goal.commit-requires-clause-lives
-commit-requires-clause-lives c =
+pub commit-requires-clause-alive : goal.commit-requires-clause-alive
+commit-requires-clause-alive c =
     let of : c.in-Ok.prepared ≡ prepared_of c.args.log.now c.args.submission = c.in-Ok.ensures.ok ∙ ap (λ l. prepared_of l c.args.submission) c.replace.ensures.value in
     lives_stored c.in-Ok.prepared c.args.log.now c.args.submission c.args.now c.args.content c.args.present.now (option_map value_of c.args.made) of c.requires.document c.requires.settles
 

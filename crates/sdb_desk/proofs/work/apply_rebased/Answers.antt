@@ -1,6 +1,6 @@
 use Rattle.std.proofs.Common.{◌≡◌, Err, sym, ap, ◌∙◌}
 use Rattle.sdb_oplog.specs.declared.codes.Code.TheVariants.{E10}
-use Rattle.sdb_oplog.specs.Laws.{rebase_not_out_of_memory}
+use Rattle.sdb_oplog.specs.laws.LogLaws.{rebase_not_out_of_memory}
 use Rattle.sdb_desk.specs.View.{rebased_content_of}
 use Rattle.sdb_desk.proofs.work.apply_rebased.Goals as goal
 

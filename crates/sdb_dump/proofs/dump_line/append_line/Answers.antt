@@ -10,6 +10,6 @@ pub returns : goal.returns
 returns c =
     let e = c.args.entry.now in
     let d = line_data (plain_key c.args.key.now) e (written_moment c.args.version e.moment) in
-    let before : c.write_line.new.out.before ≡ c.args.out.now.items = c.in_ok-write_line.ensures.before ∙ c.new-writer.ensures.before ∙ ap (λ v. v.items) c.replace.ensures.value in
+    let before : c.write_line.new.out.before ≡ c.args.out.now.items = c.in_ok-write_line.ensures.before_unchanged ∙ c.new-writer.ensures.before ∙ ap (λ v. v.items) c.replace.ensures.value in
     c.into_inner.ensures.items ∙ ap (λ b. b ++ print c.write_line.new.out.tokens) before
     ∙ ap (λ text. c.args.out.now.items ++ text) (ap print (c.in_ok-write_line.ensures.tokens ∙ ap (λ ts. ts ++ data_tokens d) c.new-writer.ensures.tokens) ∙ print-outline d)

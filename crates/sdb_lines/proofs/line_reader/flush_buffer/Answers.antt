@@ -4,8 +4,8 @@ use Rattle.sdb_lines.proofs.WriteLemmas.{put-more, front-taken}
 use Rattle.sdb_lines.proofs.Runs.{Appends-kept}
 use Rattle.sdb_lines.proofs.line_reader.flush_buffer.Goals as goal
 
-pub returns-in-Ok-eq0-clause-front : goal.returns-in-Ok-eq0-clause-front
-returns-in-Ok-eq0-clause-front g c =
+pub returns-in-Ok-eq0-clause-prefix_on_err : goal.returns-in-Ok-eq0-clause-prefix_on_err
+returns-in-Ok-eq0-clause-prefix_on_err g c =
     front-taken _ _ c.args.out.now.items _ (put-more _ _ _ c.args.out.now.items c.deref.result.now c.loop-at.at c.in-Ok-eq0.field-0 c.deref.ensures.value c.loop-at.invariant.wrote c.in-Ok-eq0.ensures.bytes)
 
 pub loop-at-preserved : goal.loop-at-preserved
@@ -15,6 +15,6 @@ loop-at-preserved g c = record {
   wrote = put-more _ _ _ c.args.out.now.items c.deref.result.now c.loop-at.at c.in-Ok.n c.deref.ensures.value c.loop-at.invariant.wrote c.in-Ok.ensures.bytes;
 }
 
-pub returns-in-Err-clause-front : goal.returns-in-Err-clause-front
-returns-in-Err-clause-front g c =
+pub returns-in-Err-clause-prefix_on_err : goal.returns-in-Err-clause-prefix_on_err
+returns-in-Err-clause-prefix_on_err g c =
     front-taken _ _ c.args.out.now.items c.loop-at.at (Appends-kept _ _ _ _ c.loop-at.invariant.wrote c.in-Err.ensures.bytes)

@@ -8,8 +8,8 @@ use Rattle.sdb_lines.proofs.Runs.{lines-pending, lines-front, front-lines}
 use Rattle.sdb_lines.proofs.WriteLemmas.{but-no_error, on_any_err}
 use Rattle.sdb_lines.proofs.line_reader.handle_chunk_lines.Goals as goal
 
-pub returns-in_err-handle_partial-clause-front : goal.returns-in_err-handle_partial-clause-front
-returns-in_err-handle_partial-clause-front g c =
+pub returns-in_err-handle_partial-clause-prefix_on_err : goal.returns-in_err-handle_partial-clause-prefix_on_err
+returns-in_err-handle_partial-clause-prefix_on_err g c =
     let takes = g.M.LineHandler.handles in
     let at = c.in-Some.at in
     let rest = c.loop-at.rest.now in
@@ -17,7 +17,7 @@ returns-in_err-handle_partial-clause-front g c =
     let line = readable_text (c.loop-at.pending.partial_line.items ++ take at rest) in
     let tail = lines_ended_by (take (length rest - (at + 1)) (drop (at + 1) rest)) [] in
     let e = ended-at rest c.loop-at.pending.partial_line.items [] at c.in-Some.ensures.found.1 c.in-Some.ensures.found.2 refl in
-    let front = front-lines takes tail (lines-front takes answers c.in_err-handle_partial.ensures.front) in
+    let front = front-lines takes tail (lines-front takes answers c.in_err-handle_partial.ensures.prefix_on_err) in
     on_any_err _ (rw (append_assoc lines (line ∷ []) tail, ← e, ← all) at front)
 
 pub loop-at-preserved : goal.loop-at-preserved
@@ -30,32 +30,32 @@ loop-at-preserved g c =
     let rest = c.loop-at.rest.now in
     let (lines, all, counts, answers) = c.loop-at.invariant.taken in
     let line = readable_text (old.partial_line.items ++ take at rest) in
-    let e = ended-at rest old.partial_line.items new.partial_line.items at c.in-Some.ensures.found.1 c.in-Some.ensures.found.2 c.in_ok-handle_partial.ensures.held in
-    let u = unended-at rest old.partial_line.items new.partial_line.items at c.in-Some.ensures.found.1 c.in-Some.ensures.found.2 c.in_ok-handle_partial.ensures.held in
+    let e = ended-at rest old.partial_line.items new.partial_line.items at c.in-Some.ensures.found.1 c.in-Some.ensures.found.2 c.in_ok-handle_partial.ensures.partial_line in
+    let u = unended-at rest old.partial_line.items new.partial_line.items at c.in-Some.ensures.found.1 c.in-Some.ensures.found.2 c.in_ok-handle_partial.ensures.partial_line in
     record {
-      room = omega (arith, ap (λ k. k.lines) c.in_ok-handle_partial.ensures.counted, c.loop-at.invariant.room, c.in-Some.ensures.found.0, length-take (length rest - (at + 1)) (drop (at + 1) rest), length-drop (at + 1) rest);
-      unfailed = but-no_error _ _ c.in_ok-handle_partial.ensures.writes ∙ c.loop-at.invariant.unfailed;
+      room = omega (arith, ap (λ k. k.lines) c.in_ok-handle_partial.ensures.count, c.loop-at.invariant.room, c.in-Some.ensures.found.0, length-take (length rest - (at + 1)) (drop (at + 1) rest), length-drop (at + 1) rest);
+      unfailed = but-no_error _ _ c.in_ok-handle_partial.ensures.write_failures ∙ c.loop-at.invariant.unfailed;
       unended = c.loop-at.invariant.unended ∙ u;
       taken = (
         lines ++ line ∷ [],
         all ∙ ap (λ l. lines ++ l) e ∙ sym (append_assoc lines (line ∷ []) _),
-        c.in_ok-handle_partial.ensures.counted ∙ ap (λ k. counts_after s k (line ∷ [])) counts ∙ counted-append s c.args.pending.now.counts lines (line ∷ []),
-        lines-pending takes answers c.in_ok-handle_partial.ensures.all,
+        c.in_ok-handle_partial.ensures.count ∙ ap (λ k. counts_after s k (line ∷ [])) counts ∙ counted-append s c.args.pending.now.counts lines (line ∷ []),
+        lines-pending takes answers c.in_ok-handle_partial.ensures.wrote_answers,
       );
     }
 
-pub returns-clause-held : goal.returns-clause-held
-returns-clause-held g c =
+pub returns-clause-partial_line : goal.returns-clause-partial_line
+returns-clause-partial_line g c =
     c.in_ok-append_partial.ensures.items ∙ ap kept_prefix (sym (c.loop-at.invariant.unended ∙ unended-plain c.loop-at.rest.now c.loop-at.pending.partial_line.items c.in_default.ensures.none))
 
-pub returns-clause-counted : goal.returns-clause-counted
-returns-clause-counted g c =
+pub returns-clause-count : goal.returns-clause-count
+returns-clause-count g c =
     let (lines, all, counts, answers) = c.loop-at.invariant.taken in
     let e = ended-plain c.loop-at.rest.now c.loop-at.pending.partial_line.items c.in_default.ensures.none in
     counts ∙ ap (counts_after g.M.LineHandler.counts_as_step c.args.pending.now.counts) (sym (all ∙ ap (λ l. lines ++ l) e ∙ append-nil lines))
 
-pub returns-clause-all : goal.returns-clause-all
-returns-clause-all g c =
+pub returns-clause-wrote_answers : goal.returns-clause-wrote_answers
+returns-clause-wrote_answers g c =
     let (lines, all, counts, answers) = c.loop-at.invariant.taken in
     let e = ended-plain c.loop-at.rest.now c.loop-at.pending.partial_line.items c.in_default.ensures.none in
     rw (← (all ∙ ap (λ l. lines ++ l) e ∙ append-nil lines)) at answers

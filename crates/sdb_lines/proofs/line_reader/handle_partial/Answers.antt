@@ -8,8 +8,8 @@ use Rattle.sdb_lines.proofs.Runs.{line-pending, pending-written, pending-front, 
 use Rattle.sdb_lines.proofs.WriteLemmas.{on_any_err, on_ok_both}
 use Rattle.sdb_lines.proofs.line_reader.handle_partial.Goals as goal
 
-pub returns-then-len-lt-OUTPUT_LIMIT-clause-counted : goal.returns-then-len-lt-OUTPUT_LIMIT-clause-counted
-returns-then-len-lt-OUTPUT_LIMIT-clause-counted g c =
+pub returns-then-len-lt-OUTPUT_LIMIT-clause-count : goal.returns-then-len-lt-OUTPUT_LIMIT-clause-count
+returns-then-len-lt-OUTPUT_LIMIT-clause-count g c =
     let s = g.M.LineHandler.counts_as_step in
     let old = c.args.pending.now in
     let read = ap readable_text (c.as_slice.ensures.value ∙ c.in_ok-append_partial.ensures.items) ∙ reading-held (old.partial_line.items ++ c.args.piece.now) in
@@ -17,16 +17,16 @@ returns-then-len-lt-OUTPUT_LIMIT-clause-counted g c =
     counted-one s old.counts c.count_line.new.self (readable_text c.as_slice.result.now) c.count_line.ensures.lines steps
     ∙ ap (λ r. counts_after s old.counts (r ∷ [])) read
 
-pub returns-then-len-lt-OUTPUT_LIMIT-clause-all : goal.returns-then-len-lt-OUTPUT_LIMIT-clause-all
-returns-then-len-lt-OUTPUT_LIMIT-clause-all g c =
+pub returns-then-len-lt-OUTPUT_LIMIT-clause-wrote_answers : goal.returns-then-len-lt-OUTPUT_LIMIT-clause-wrote_answers
+returns-then-len-lt-OUTPUT_LIMIT-clause-wrote_answers g c =
     let takes = g.M.LineHandler.handles in
     let old = c.args.pending.now in
     let read = ap readable_text (c.as_slice.ensures.value ∙ c.in_ok-append_partial.ensures.items) ∙ reading-held (old.partial_line.items ++ c.args.piece.now) in
     let pending = line-pending takes old.out.items c.handle_line.new.out.items (g.W.Sink.bytes_written c.args.writer.now) c.in_ok-is_step.ensures.answer in
     rw read at pending
 
-pub returns-clause-counted : goal.returns-clause-counted
-returns-clause-counted g c =
+pub returns-clause-count : goal.returns-clause-count
+returns-clause-count g c =
     let s = g.M.LineHandler.counts_as_step in
     let old = c.args.pending.now in
     let read = ap readable_text (c.as_slice.ensures.value ∙ c.in_ok-append_partial.ensures.items) ∙ reading-held (old.partial_line.items ++ c.args.piece.now) in
@@ -34,8 +34,8 @@ returns-clause-counted g c =
     on_ok_weaker c.flush_buffer.result (λ _. counted-one s old.counts c.count_line.new.self (readable_text c.as_slice.result.now) c.count_line.ensures.lines steps
     ∙ ap (λ r. counts_after s old.counts (r ∷ [])) read) c.flush_buffer.ensures.empty
 
-pub returns-clause-all : goal.returns-clause-all
-returns-clause-all g c =
+pub returns-clause-wrote_answers : goal.returns-clause-wrote_answers
+returns-clause-wrote_answers g c =
     let takes = g.M.LineHandler.handles in
     let old = c.args.pending.now in
     let read = ap readable_text (c.as_slice.ensures.value ∙ c.in_ok-append_partial.ensures.items) ∙ reading-held (old.partial_line.items ++ c.args.piece.now) in
@@ -43,17 +43,17 @@ returns-clause-all g c =
     let whole = rw read at pending in
     on_ok_both c.flush_buffer.result (λ e w. none-pending takes _ e (pending-written takes _ whole w)) c.flush_buffer.ensures.empty c.flush_buffer.ensures.wrote
 
-pub returns-clause-front : goal.returns-clause-front
-returns-clause-front g c =
+pub returns-clause-prefix_on_err : goal.returns-clause-prefix_on_err
+returns-clause-prefix_on_err g c =
     let takes = g.M.LineHandler.handles in
     let old = c.args.pending.now in
     let read = ap readable_text (c.as_slice.ensures.value ∙ c.in_ok-append_partial.ensures.items) ∙ reading-held (old.partial_line.items ++ c.args.piece.now) in
     let pending = line-pending takes old.out.items c.handle_line.new.out.items (g.W.Sink.bytes_written c.args.writer.now) c.in_ok-is_step.ensures.answer in
     let whole = rw read at pending in
-    on_err_weaker c.flush_buffer.result (λ f. pending-front takes _ whole f) c.flush_buffer.ensures.front
+    on_err_weaker c.flush_buffer.result (λ f. pending-front takes _ whole f) c.flush_buffer.ensures.prefix_on_err
 
-pub returns-in_err-append_partial-clause-front : goal.returns-in_err-append_partial-clause-front
-returns-in_err-append_partial-clause-front g c = on_any_err _ (nothing-written g.M.LineHandler.handles _ _ _ _)
+pub returns-in_err-append_partial-clause-prefix_on_err : goal.returns-in_err-append_partial-clause-prefix_on_err
+returns-in_err-append_partial-clause-prefix_on_err g c = on_any_err _ (nothing-written g.M.LineHandler.handles _ _ _ _)
 
-pub returns-in_err-is_step-clause-front : goal.returns-in_err-is_step-clause-front
-returns-in_err-is_step-clause-front g c = on_any_err _ (nothing-written g.M.LineHandler.handles _ _ _ _)
+pub returns-in_err-is_step-clause-prefix_on_err : goal.returns-in_err-is_step-clause-prefix_on_err
+returns-in_err-is_step-clause-prefix_on_err g c = on_any_err _ (nothing-written g.M.LineHandler.handles _ _ _ _)

@@ -24,16 +24,16 @@ returns-in_err-remove_span-in-Unique-clause-err c =
     let s = same_seen (items_of c.make_unique.new.self) (items_of c.args.block.now) c.make_unique.ensures.same in
     on_err c.from_residual-in_err-remove_span-in-Unique.result (c.in_err-remove_span-in-Unique.ensures.err ∙ ap concat (sym (ap chunk_texts c.in-Unique.is) ∙ s.0))
 
-pub returns-in_err-remove_span-in-Unique-clause-own : goal.returns-in_err-remove_span-in-Unique-clause-own
-returns-in_err-remove_span-in-Unique-clause-own c =
+pub returns-in_err-remove_span-in-Unique-clause-unique : goal.returns-in_err-remove_span-in-Unique-clause-unique
+returns-in_err-remove_span-in-Unique-clause-unique c =
     let s = same_seen (items_of c.make_unique.new.self) (items_of c.args.block.now) c.make_unique.ensures.same in
-    λ own. all_own_is c.remove_span.new.parts.items (c.remove_span.ensures.own (own_all c.in-Unique.parts.items (sym (ap (λ b. all_rope_chunks_unique (items_of b)) c.in-Unique.is) ∙ s.1 ∙ both_true (is_chunk_unique c.args.block.now) (all_rope_chunks_unique (items_of c.args.block.now)) own)))
+    λ own. all_own_is c.remove_span.new.parts.items (c.remove_span.ensures.unique (own_all c.in-Unique.parts.items (sym (ap (λ b. all_rope_chunks_unique (items_of b)) c.in-Unique.is) ∙ s.1 ∙ both_true (is_chunk_unique c.args.block.now) (all_rope_chunks_unique (items_of c.args.block.now)) own)))
 
-pub returns-in_err-remove_span-in-Unique-clause-shared : goal.returns-in_err-remove_span-in-Unique-clause-shared
-returns-in_err-remove_span-in-Unique-clause-shared c =
+pub returns-in_err-remove_span-in-Unique-clause-shared_on_err : goal.returns-in_err-remove_span-in-Unique-clause-shared_on_err
+returns-in_err-remove_span-in-Unique-clause-shared_on_err c =
     let s = same_seen (items_of c.make_unique.new.self) (items_of c.args.block.now) c.make_unique.ensures.same in
     on_err c.from_residual-in_err-remove_span-in-Unique.result (one_false (is_chunk_unique c.args.block.now) (all_rope_chunks_unique (items_of c.args.block.now))
-    (sym s.1 ∙ ap (λ b. all_rope_chunks_unique (items_of b)) c.in-Unique.is ∙ none_own c.in-Unique.parts.items c.in_err-remove_span-in-Unique.ensures.shared))
+    (sym s.1 ∙ ap (λ b. all_rope_chunks_unique (items_of b)) c.in-Unique.is ∙ none_own c.in-Unique.parts.items c.in_err-remove_span-in-Unique.ensures.shared_on_err))
 
 pub returns-clause-ok : goal.returns-clause-ok
 returns-clause-ok c =
@@ -47,20 +47,20 @@ returns-clause-ok c =
     (concat_before_after ts span.first span.from cut.index_in_range) cut.offset_is_length_before text
     (c.in_ok-remove_span-in-Unique.ensures.ok ∙ ap (λ x. bytes_before x span.first span.from ++ bytes_after x span.last span.to) (sym (ap chunk_texts c.in-Unique.is) ∙ s.0))
 
-pub returns-clause-own : goal.returns-clause-own
-returns-clause-own c =
+pub returns-clause-unique : goal.returns-clause-unique
+returns-clause-unique c =
     let s = same_seen (items_of c.make_unique.new.self) (items_of c.args.block.now) c.make_unique.ensures.same in
-    λ own. all_own_is c.remove_span.new.parts.items (c.remove_span.ensures.own (own_all c.in-Unique.parts.items (sym (ap (λ b. all_rope_chunks_unique (items_of b)) c.in-Unique.is) ∙ s.1 ∙ both_true (is_chunk_unique c.args.block.now) (all_rope_chunks_unique (items_of c.args.block.now)) own)))
+    λ own. all_own_is c.remove_span.new.parts.items (c.remove_span.ensures.unique (own_all c.in-Unique.parts.items (sym (ap (λ b. all_rope_chunks_unique (items_of b)) c.in-Unique.is) ∙ s.1 ∙ both_true (is_chunk_unique c.args.block.now) (all_rope_chunks_unique (items_of c.args.block.now)) own)))
 
-pub returns-in_err-make_unique-clause-short : goal.returns-in_err-make_unique-clause-short
-returns-in_err-make_unique-clause-short c = λ a. subst AreBounded (sym (same_seen (items_of c.make_unique.new.self) (items_of c.args.block.now) c.make_unique.ensures.same).0) a
+pub returns-in_err-make_unique-clause-chunks_bounded : goal.returns-in_err-make_unique-clause-chunks_bounded
+returns-in_err-make_unique-clause-chunks_bounded c = λ a. subst AreBounded (sym (same_seen (items_of c.make_unique.new.self) (items_of c.args.block.now) c.make_unique.ensures.same).0) a
 
-pub returns-in_err-remove_span-in-Unique-clause-short : goal.returns-in_err-remove_span-in-Unique-clause-short
-returns-in_err-remove_span-in-Unique-clause-short c =
+pub returns-in_err-remove_span-in-Unique-clause-chunks_bounded : goal.returns-in_err-remove_span-in-Unique-clause-chunks_bounded
+returns-in_err-remove_span-in-Unique-clause-chunks_bounded c =
     let s = same_seen (items_of c.make_unique.new.self) (items_of c.args.block.now) c.make_unique.ensures.same in
-    λ a. c.remove_span.ensures.short (subst AreBounded (sym (sym (ap chunk_texts c.in-Unique.is) ∙ s.0)) a)
+    λ a. c.remove_span.ensures.chunks_bounded (subst AreBounded (sym (sym (ap chunk_texts c.in-Unique.is) ∙ s.0)) a)
 
-pub returns-clause-short : goal.returns-clause-short
-returns-clause-short c =
+pub returns-clause-chunks_bounded : goal.returns-clause-chunks_bounded
+returns-clause-chunks_bounded c =
     let s = same_seen (items_of c.make_unique.new.self) (items_of c.args.block.now) c.make_unique.ensures.same in
-    λ a. c.remove_span.ensures.short (subst AreBounded (sym (sym (ap chunk_texts c.in-Unique.is) ∙ s.0)) a)
+    λ a. c.remove_span.ensures.chunks_bounded (subst AreBounded (sym (sym (ap chunk_texts c.in-Unique.is) ∙ s.0)) a)

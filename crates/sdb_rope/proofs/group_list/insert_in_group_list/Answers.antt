@@ -15,7 +15,7 @@ returns-in_err-done-in-Some-clause-err c =
     let at = c.in-Some.at in
     let p = subst (λ (l : List (Chunk RopeChunk)). IsGroupAtOffset (group_texts l) c.args.offset at c.in-Some.left) c.deref.ensures.value c.in-Some.ensures.some in
     let inside : at < length gs = omega (arith, p.index_in_range, count_groups gs) in
-    let same = c.ensure_group.ensures.same ∙ c.split_long_chunk.ensures in
+    let same = c.ensure_group.ensures.unchanged ∙ c.split_long_chunk.ensures in
     on_err c.from_residual-in_err-done-in-Some.result (keep_group gs at c.insert_into_chunks.new.block c.index_mut.result.now inside c.index_mut.ensures.value c.in_err-done-in-Some.ensures.err ∙ ap concat same)
 
 pub returns-in_err-done-in-Some-clause-short : goal.returns-in_err-done-in-Some-clause-short
@@ -24,7 +24,7 @@ returns-in_err-done-in-Some-clause-short c =
     let at = c.in-Some.at in
     let p = subst (λ (l : List (Chunk RopeChunk)). IsGroupAtOffset (group_texts l) c.args.offset at c.in-Some.left) c.deref.ensures.value c.in-Some.ensures.some in
     let inside : at < length gs = omega (arith, p.index_in_range, count_groups gs) in
-    let same : texts_of_groups gs ≡ texts_of_groups c.args.groups.now.items = c.ensure_group.ensures.same ∙ c.split_long_chunk.ensures in
+    let same : texts_of_groups gs ≡ texts_of_groups c.args.groups.now.items = c.ensure_group.ensures.unchanged ∙ c.split_long_chunk.ensures in
     λ a. short_changed gs at c.insert_into_chunks.new.block c.index_mut.result.now inside c.index_mut.ensures.value c.insert_into_chunks.ensures.short (rw same a)
 
 pub returns-clause-ok : goal.returns-clause-ok
@@ -34,7 +34,7 @@ returns-clause-ok c =
     let g = c.insert_into_chunks.new.block in
     let p = subst (λ (l : List (Chunk RopeChunk)). IsGroupAtOffset (group_texts l) c.args.offset at c.in-Some.left) c.deref.ensures.value c.in-Some.ensures.some in
     let inside : at < length gs = omega (arith, p.index_in_range, count_groups gs) in
-    let same = c.ensure_group.ensures.same ∙ c.split_long_chunk.ensures in
+    let same = c.ensure_group.ensures.unchanged ∙ c.split_long_chunk.ensures in
     subst (λ (x : List (List ℕ)). EditOutcome c.in_ok-done-in-Some.done (insert_text c.args.offset c.args.new.now (concat x)) (concat x) (concat (texts_of_groups (set gs at g)))) same
     (put_group gs at g c.index_mut.result.now inside c.index_mut.ensures.value c.args.offset c.in-Some.left c.args.new.now c.in_ok-done-in-Some.done p c.in_ok-done-in-Some.ensures.ok)
 
@@ -44,5 +44,5 @@ returns-clause-short c =
     let at = c.in-Some.at in
     let p = subst (λ (l : List (Chunk RopeChunk)). IsGroupAtOffset (group_texts l) c.args.offset at c.in-Some.left) c.deref.ensures.value c.in-Some.ensures.some in
     let inside : at < length gs = omega (arith, p.index_in_range, count_groups gs) in
-    let same : texts_of_groups gs ≡ texts_of_groups c.args.groups.now.items = c.ensure_group.ensures.same ∙ c.split_long_chunk.ensures in
+    let same : texts_of_groups gs ≡ texts_of_groups c.args.groups.now.items = c.ensure_group.ensures.unchanged ∙ c.split_long_chunk.ensures in
     λ a. short_changed gs at c.insert_into_chunks.new.block c.index_mut.result.now inside c.index_mut.ensures.value c.insert_into_chunks.ensures.short (rw same a)

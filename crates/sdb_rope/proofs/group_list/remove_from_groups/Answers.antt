@@ -11,30 +11,30 @@ use Rattle.sdb_rope.proofs.group_list.remove_from_groups.Goals as goal
 pub returns-in_err-make_unique-clause-err : goal.returns-in_err-make_unique-clause-err
 returns-in_err-make_unique-clause-err c = on_err c.from_residual.result (ap concat (same_groups (items_of c.make_unique.new.self) (items_of c.args.groups.now) c.make_unique.ensures.same))
 
-pub returns-in_err-make_unique-clause-short : goal.returns-in_err-make_unique-clause-short
-returns-in_err-make_unique-clause-short c = λ a. subst AreBounded (sym (same_groups (items_of c.make_unique.new.self) (items_of c.args.groups.now) c.make_unique.ensures.same)) a
+pub returns-in_err-make_unique-clause-chunks_bounded : goal.returns-in_err-make_unique-clause-chunks_bounded
+returns-in_err-make_unique-clause-chunks_bounded c = λ a. subst AreBounded (sym (same_groups (items_of c.make_unique.new.self) (items_of c.args.groups.now) c.make_unique.ensures.same)) a
 
 pub returns-in_err-done-in-Unique-clause-err : goal.returns-in_err-done-in-Unique-clause-err
 returns-in_err-done-in-Unique-clause-err c =
     let here = sym (ap (λ b. texts_of_groups (items_of b)) c.in-Unique.is) ∙ same_groups (items_of c.make_unique.new.self) (items_of c.args.groups.now) c.make_unique.ensures.same in
     on_err c.from_residual-in_err-done-in-Unique.result (c.in_err-done-in-Unique.ensures.err ∙ ap concat here)
 
-pub returns-in_err-done-in-Unique-clause-short : goal.returns-in_err-done-in-Unique-clause-short
-returns-in_err-done-in-Unique-clause-short c =
+pub returns-in_err-done-in-Unique-clause-chunks_bounded : goal.returns-in_err-done-in-Unique-clause-chunks_bounded
+returns-in_err-done-in-Unique-clause-chunks_bounded c =
     let here = sym (ap (λ b. texts_of_groups (items_of b)) c.in-Unique.is) ∙ same_groups (items_of c.make_unique.new.self) (items_of c.args.groups.now) c.make_unique.ensures.same in
-    λ a. c.remove_in_group_list.ensures.short (subst AreBounded (sym here) a)
+    λ a. c.remove_in_group_list.ensures.chunks_bounded (subst AreBounded (sym here) a)
 
-pub returns-clause-done : goal.returns-clause-done
-returns-clause-done c =
+pub returns-clause-removed : goal.returns-clause-removed
+returns-clause-removed c =
     let here = sym (ap (λ b. texts_of_groups (items_of b)) c.in-Unique.is) ∙ same_groups (items_of c.make_unique.new.self) (items_of c.args.groups.now) c.make_unique.ensures.same in
-    λ e. ap (λ l. remove_text c.args.offset c.args.old.now (concat l)) (sym here) ∙ c.in_ok-done-in-Unique.ensures.done e
+    λ e. ap (λ l. remove_text c.args.offset c.args.old.now (concat l)) (sym here) ∙ c.in_ok-done-in-Unique.ensures.removed e
 
 pub returns-clause-same : goal.returns-clause-same
 returns-clause-same c =
     let here = sym (ap (λ b. texts_of_groups (items_of b)) c.in-Unique.is) ∙ same_groups (items_of c.make_unique.new.self) (items_of c.args.groups.now) c.make_unique.ensures.same in
     λ e. c.in_ok-done-in-Unique.ensures.same e ∙ ap concat here
 
-pub returns-clause-short : goal.returns-clause-short
-returns-clause-short c =
+pub returns-clause-chunks_bounded : goal.returns-clause-chunks_bounded
+returns-clause-chunks_bounded c =
     let here = sym (ap (λ b. texts_of_groups (items_of b)) c.in-Unique.is) ∙ same_groups (items_of c.make_unique.new.self) (items_of c.args.groups.now) c.make_unique.ensures.same in
-    λ a. c.remove_in_group_list.ensures.short (subst AreBounded (sym here) a)
+    λ a. c.remove_in_group_list.ensures.chunks_bounded (subst AreBounded (sym here) a)

@@ -18,16 +18,16 @@ returns-in_err-done-clause-err c =
     let inside : at < length gs = omega (arith, p.index_in_range, count_groups gs) in
     on_err c.from_residual.result (keep_group gs at c.remove_from_chunks.new.block c.index_mut.result.now inside c.index_mut.ensures.value c.in_err-done.ensures.err)
 
-pub returns-in_err-done-clause-short : goal.returns-in_err-done-clause-short
-returns-in_err-done-clause-short c =
+pub returns-in_err-done-clause-chunks_bounded : goal.returns-in_err-done-clause-chunks_bounded
+returns-in_err-done-clause-chunks_bounded c =
     let gs = c.args.groups.now.items in
     let at = c.in-Some.at in
     let p = subst (λ (l : List (Chunk RopeChunk)). IsGroupAtOffset (group_texts l) c.args.offset at c.in-Some.left) c.deref.ensures.value c.in-Some.ensures.some in
     let inside : at < length gs = omega (arith, p.index_in_range, count_groups gs) in
-    λ a. short_changed gs at c.remove_from_chunks.new.block c.index_mut.result.now inside c.index_mut.ensures.value c.remove_from_chunks.ensures.short a
+    λ a. short_changed gs at c.remove_from_chunks.new.block c.index_mut.result.now inside c.index_mut.ensures.value c.remove_from_chunks.ensures.chunks_bounded a
 
-pub returns-clause-done : goal.returns-clause-done
-returns-clause-done c =
+pub returns-clause-removed : goal.returns-clause-removed
+returns-clause-removed c =
     let gs = c.args.groups.now.items in
     let at = c.in-Some.at in
     let g = c.remove_from_chunks.new.block in
@@ -51,10 +51,10 @@ returns-clause-same c =
     ap concat c.remove_empty_group.ensures ∙ keep_group gs at g h inside c.index_mut.ensures.value
     (done_false c.in_ok-done.done (remove_text c.in-Some.left c.args.old.now (concat (chunk_texts h))) (concat (chunk_texts h)) (concat (chunk_texts g)) e c.in_ok-done.ensures.ok)
 
-pub returns-clause-short : goal.returns-clause-short
-returns-clause-short c =
+pub returns-clause-chunks_bounded : goal.returns-clause-chunks_bounded
+returns-clause-chunks_bounded c =
     let gs = c.args.groups.now.items in
     let at = c.in-Some.at in
     let p = subst (λ (l : List (Chunk RopeChunk)). IsGroupAtOffset (group_texts l) c.args.offset at c.in-Some.left) c.deref.ensures.value c.in-Some.ensures.some in
     let inside : at < length gs = omega (arith, p.index_in_range, count_groups gs) in
-    λ a. subst AreBounded (sym c.remove_empty_group.ensures) (short_changed gs at c.remove_from_chunks.new.block c.index_mut.result.now inside c.index_mut.ensures.value c.remove_from_chunks.ensures.short a)
+    λ a. subst AreBounded (sym c.remove_empty_group.ensures) (short_changed gs at c.remove_from_chunks.new.block c.index_mut.result.now inside c.index_mut.ensures.value c.remove_from_chunks.ensures.chunks_bounded a)

@@ -14,5 +14,5 @@ returns-clause-ok c =
     let at = c.in-Some.at in
     let byte = c.in-Some.byte in
     let cut = subst (λ (l : List RopeChunk). IsBytePosition (chunk_list_texts l) c.args.offset at byte) c.deref.ensures.value c.in-Some.ensures.some in
-    ap (insert_text c.args.offset c.args.new.now) (sym c.in_ok-ensure_chunk.ensures.same)
+    ap (insert_text c.args.offset c.args.new.now) (sym c.in_ok-ensure_chunk.ensures.unchanged)
     ∙ insert_text_is (concat ts) (bytes_before ts at byte) (bytes_after ts at byte) c.args.new.now _ c.args.offset (concat_before_after ts at byte cut.index_in_range) cut.offset_is_length_before c.in_ok-insert_in_chunk.ensures.ok

@@ -43,15 +43,15 @@ returns-clause-ok c =
     ∙ put_pieces ps fresh.items c.args.new.now c.args.at c.args.byte c.requires.inside
     (whole ∙ ap (λ l. insert_slice l c.args.byte c.args.new.now) (sym (text_at ps c.args.at c.index-2.result.now c.requires.inside c.index-2.ensures)))
 
-pub returns-clause-own : goal.returns-clause-own
-returns-clause-own c =
+pub returns-clause-unique : goal.returns-clause-unique
+returns-clause-unique c =
     let ps = c.args.parts.now.items in
     let it = c.in_ok-_gone.ensures.items in
     let fresh = c.in_ok-fresh.fresh in
     let all : it.1 ≡ fresh.items = sym (map-id it.1) ∙ items_from_drains it.1 (if_drains (into_iter_steps {X = RopeChunk} {Z = Global}) it.0 it.1 it.3) (YieldsList-from_vec {s = it.0} fresh.items it.2.0 (it.2.1 ∙ fresh.ok.0)) in
     let new = it.4 ∙ ap (splice ps c.args.at (c.args.at + 1)) all in
     λ own. rw new (All-append IsUniqueChunk (take c.args.at ps) (fresh.items ++ drop (c.args.at + 1) ps) (All-take IsUniqueChunk c.args.at ps own)
-    (All-append IsUniqueChunk fresh.items (drop (c.args.at + 1) ps) c.in_ok-fresh.ensures.own (All-drop IsUniqueChunk (c.args.at + 1) ps own)))
+    (All-append IsUniqueChunk fresh.items (drop (c.args.at + 1) ps) c.in_ok-fresh.ensures.unique (All-drop IsUniqueChunk (c.args.at + 1) ps own)))
 
 pub returns-in_err-done-clause-short : goal.returns-in_err-done-clause-short
 returns-in_err-done-clause-short c =

@@ -44,7 +44,7 @@ loop-start-preserved c =
     record {
       boundary = c.floor_char_boundary-end.ensures.boundary;
       same = ap (λ l. concat (chunk_list_texts l)) c.in_ok-push.ensures.items ∙ push_piece c.loop-start.parts.items c.new.result ∙ ap (λ l. l ++ chunk_bytes c.new.result) c.loop-start.invariant.same ∙ ap (λ l. take start text ++ l) part ∙ sym (take_part text start end less);
-      own = rw c.in_ok-push.ensures.items (All-push IsUniqueChunk c.loop-start.parts.items c.new.result c.loop-start.invariant.own c.new.ensures.own);
+      own = rw c.in_ok-push.ensures.items (All-push IsUniqueChunk c.loop-start.parts.items c.new.result c.loop-start.invariant.own c.new.ensures.unique);
       short = rw c.in_ok-push.ensures.items (short_push c.loop-start.parts.items c.new.result size c.loop-start.invariant.short);
     }
 
@@ -55,8 +55,8 @@ returns-clause-ok c =
     let part : chunk_bytes c.new-2.result ≡ drop start text = c.new-2.ensures.bytes ∙ c.in_ok-from_str-2.ensures.ok ∙ c.range_from.ensures.value in
     ap (λ l. concat (chunk_list_texts l)) c.in_ok-push-2.ensures.items ∙ push_piece c.loop-start.parts.items c.new-2.result ∙ ap (λ l. l ++ chunk_bytes c.new-2.result) c.loop-start.invariant.same ∙ ap (λ l. take start text ++ l) part ∙ take-append-drop start text
 
-pub returns-clause-short : goal.returns-clause-short
-returns-clause-short c =
+pub returns-clause-chunks_bounded : goal.returns-clause-chunks_bounded
+returns-clause-chunks_bounded c =
     let text = c.args.text.now in
     let start = c.loop-start.start in
     let part : chunk_bytes c.new-2.result ≡ drop start text = c.new-2.ensures.bytes ∙ c.in_ok-from_str-2.ensures.ok ∙ c.range_from.ensures.value in

@@ -26,21 +26,21 @@ returns-clause-bytes c =
     c.remove.ensures.bytes ∙ ap (λ l. remove_range l c.args.span.from (length c.as_str-len.result.now)) (sym (text_at ps k c.index_mut.result.now first c.index_mut.ensures.value))
     ∙ front (chunk_text (chunk_list_texts ps) k) c.args.span.from (length c.as_str-len.result.now) (ap length (c.as_str-len.ensures ∙ sym (text_at ps k c.index.result.now first c.index.ensures))) in
     let b : chunk_bytes c.remove-2.new.self ≡ drop c.args.span.to (chunk_text (chunk_list_texts ps) m) = c.remove-2.ensures.bytes ∙ ap (drop c.args.span.to) (sym (read_later ps c.remove.new.self c.index_mut-2.result.now k m c.requires.apart last c.index_mut-2.ensures.value)) in
-    c.remove_empty_chunk-2.ensures.same ∙ c.remove_empty_chunk.ensures.same ∙ ap (λ l. concat (chunk_list_texts l)) c.remove_chunks_between.ensures
+    c.remove_empty_chunk-2.ensures.unchanged ∙ c.remove_empty_chunk.ensures.unchanged ∙ ap (λ l. concat (chunk_list_texts l)) c.remove_chunks_between.ensures
     ∙ cut_pieces_out ps c.remove.new.self c.remove-2.new.self k m (k + 1) c.args.span.from c.args.span.to c.requires.apart last (add-one k) a b
 
-pub returns-clause-own : goal.returns-clause-own
-returns-clause-own c =
+pub returns-clause-unique : goal.returns-clause-unique
+returns-clause-unique c =
     let ps = c.args.parts.now.items in
     let k = c.args.span.first in
     let m = c.args.span.last in
     let all = set (set ps k c.remove.new.self) m c.remove-2.new.self in
     λ own.
-    let set_own : All IsUniqueChunk all = All-set IsUniqueChunk (set ps k c.remove.new.self) m c.remove-2.new.self c.remove-2.ensures.own (All-set IsUniqueChunk ps k c.remove.new.self c.remove.ensures.own own) in
-    c.remove_empty_chunk-2.ensures.own (c.remove_empty_chunk.ensures.own (rw c.remove_chunks_between.ensures (All-append IsUniqueChunk (take (k + 1) all) (drop m all) (All-take IsUniqueChunk (k + 1) all set_own) (All-drop IsUniqueChunk m all set_own))))
+    let set_own : All IsUniqueChunk all = All-set IsUniqueChunk (set ps k c.remove.new.self) m c.remove-2.new.self c.remove-2.ensures.unique (All-set IsUniqueChunk ps k c.remove.new.self c.remove.ensures.unique own) in
+    c.remove_empty_chunk-2.ensures.unique (c.remove_empty_chunk.ensures.unique (rw c.remove_chunks_between.ensures (All-append IsUniqueChunk (take (k + 1) all) (drop m all) (All-take IsUniqueChunk (k + 1) all set_own) (All-drop IsUniqueChunk m all set_own))))
 
-pub returns-clause-short : goal.returns-clause-short
-returns-clause-short c =
+pub returns-clause-chunks_bounded : goal.returns-clause-chunks_bounded
+returns-clause-chunks_bounded c =
     let ps = c.args.parts.now.items in
     let k = c.args.span.first in
     let m = c.args.span.last in
@@ -55,4 +55,4 @@ returns-clause-short c =
     let one : length (chunk_bytes c.remove.new.self) ≤ 4096 = omega (arith, ap length a, length-take c.args.span.from (chunk_text (chunk_list_texts ps) k), own k [] (omega (arith, first, length_of_texts ps))) in
     let two : length (chunk_bytes c.remove-2.new.self) ≤ 4096 = omega (arith, ap length b, length-drop c.args.span.to (chunk_text (chunk_list_texts ps) m), own m [] (omega (arith, last, length_of_texts ps))) in
     let short : AreBounded (chunk_list_texts all) = short_set (set ps k c.remove.new.self) m c.remove-2.new.self two (short_set ps k c.remove.new.self one own) in
-    c.remove_empty_chunk-2.ensures.short (c.remove_empty_chunk.ensures.short (rw c.remove_chunks_between.ensures (short_append (take (k + 1) all) (drop m all) (short_take all (k + 1) short) (short_drop all m short))))
+    c.remove_empty_chunk-2.ensures.chunks_bounded (c.remove_empty_chunk.ensures.chunks_bounded (rw c.remove_chunks_between.ensures (short_append (take (k + 1) all) (drop m all) (short_take all (k + 1) short) (short_drop all m short))))

@@ -14,7 +14,7 @@ loop-start-preserved c =
     record {
       within = omega (arith, c.loop-start-test.true, c.loop-start.invariant.within);
       counted = omega (arith, more, c.loop-start.invariant.counted, c.units_in-chunk.ensures.value);
-      few = omega (arith, size, c.loop-start.invariant.few, c.units_in-chunk.ensures.few);
+      few = omega (arith, size, c.loop-start.invariant.few, c.units_in-chunk.ensures.bound);
     }
 
 pub returns : goal.returns

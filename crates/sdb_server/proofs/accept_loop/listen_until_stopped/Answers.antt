@@ -3,7 +3,7 @@ use Rattle.sdb_server.proofs.accept_loop.listen_until_stopped.Goals as goal
 
 pub loop-init : goal.loop-init
 loop-init g c =
-    let none = c.in_ok-reception.ensures.entered in
+    let none = c.in_ok-reception.ensures.pass_count in
     let sessions = c.in_ok-reception.ensures.sessions c.args.state.now.value.backend in
     (tt, tt, omega (arith, none), c.requires, sessions)
 

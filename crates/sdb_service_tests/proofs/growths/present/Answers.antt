@@ -5,4 +5,4 @@ use Rattle.sdb_service_tests.proofs.growths.present.Goals as goal
 
 pub returns : goal.returns
 returns g c =
-    λ a h. same_stays (logs_of c.args.board.now.shard) (logs_of c.fetch.new.self) (plain_key c.args.board.now.key) a c.fetch.ensures.logs h
+    λ a h. same_stays (logs_of c.args.board.now.shard) (logs_of c.fetch.new.self) (plain_key c.args.board.now.key) a c.fetch.ensures.logs_unchanged h

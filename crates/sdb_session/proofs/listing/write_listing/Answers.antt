@@ -19,10 +19,10 @@ loop-next-init g c =
     let now = c.version-present.new.pass in
     let old = g.O.AnswerSink.contents c.args.out.now in
     record {
-      takes = c.version-present.ensures.takes;
+      takes = c.version-present.ensures.accepted;
       number = c.version-present.ensures.number;
       within = grind (arith, nat_tests, c.if-present-from.false);
-      so_far = ([], (now, (c.version-present.ensures.acts, reads_none acts c.args.from now, omega arith, inl refl, sym (append-nil old))));
+      so_far = ([], (now, (c.version-present.ensures.step, reads_none acts c.args.from now, omega arith, inl refl, sym (append-nil old))));
     }
 
 pub returns-in_err-write_entries-in-Ok-clause-listed : goal.returns-in_err-write_entries-in-Ok-clause-listed
@@ -41,7 +41,7 @@ returns-in_err-write_entries-in-Ok-clause-listed g c =
       c.version-present.result,
       (
         far.0 ++ record { size = size; entries = es } ∷ [],
-        (far.1.0, (now, (far.1.1.0, reads_up_to acts c.args.from c.loop-next.next end far.0 size es far.1.0 c.loop-next.pass now far.1.1.1 far.1.1.2 on c.in-Ok.ensures.acts, inl refl))),
+        (far.1.0, (now, (far.1.1.0, reads_up_to acts c.args.from c.loop-next.next end far.0 size es far.1.0 c.loop-next.pass now far.1.1.1 far.1.1.2 on c.in-Ok.ensures.step, inl refl))),
       ),
     )
 
@@ -55,7 +55,7 @@ returns-in-Err-clause-listed g c =
     let new = g.O.AnswerSink.contents c.loop-next.out in
     let says : List PlainEntry → Type 0 = λ l. WroteAnswers g.O.AnswerSink.items old new (entry_answers o k l) in
     listing_wants acts says c.args.from c.loop-next.next c.min-end.result c.version-present.result far.0 c.args.pass.now far.1.0 c.loop-next.pass c.ops_between.new.pass c.out_of_memory.result c.in-Err.error
-    c.out_of_memory.ensures far.1.1.0 far.1.1.1 far.1.1.2 far.1.1.3 (omega (arith, c.min-end.ensures)) c.in-Err.ensures.acts (none_said g.O.AnswerSink.items o k old new far.0 far.1.1.4)
+    c.out_of_memory.ensures far.1.1.0 far.1.1.1 far.1.1.2 far.1.1.3 (omega (arith, c.min-end.ensures)) c.in-Err.ensures.step (none_said g.O.AnswerSink.items o k old new far.0 far.1.1.4)
 
 pub loop-next-preserved : goal.loop-next-preserved
 loop-next-preserved g c =
@@ -77,7 +77,7 @@ loop-next-preserved g c =
     let on : end ≡ c.loop-next.next + size = omega (arith, above) in
     let at = far.1.1.2 in
     record {
-      takes = c.ops_between.ensures.takes;
+      takes = c.ops_between.ensures.accepted;
       number = c.ops_between.ensures.number ∙ c.loop-next.invariant.number;
       within = omega (arith, c.min-end.ensures);
       so_far = (
@@ -86,7 +86,7 @@ loop-next-preserved g c =
           far.1.0,
           (
             far.1.1.0,
-            reads_up_to acts c.args.from c.loop-next.next end far.0 size es far.1.0 c.loop-next.pass now far.1.1.1 at on c.in-Ok.ensures.acts,
+            reads_up_to acts c.args.from c.loop-next.next end far.0 size es far.1.0 c.loop-next.pass now far.1.1.1 at on c.in-Ok.ensures.step,
             omega (arith, on, at, sizes_more far.0 x),
             inr (omega (arith, above, at)),
             messages_more f o k old mid new far.0 x far.1.1.4 (c.in_ok-write_entries-in-Ok.ensures ∙ ap (λ l. mid ++ answer_items f (entry_answers o k l)) c.as_slice.ensures.value),

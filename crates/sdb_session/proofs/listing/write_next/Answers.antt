@@ -17,7 +17,7 @@ loop-left-init g c =
     let acts = g.D.Desk.step c.args.desk.now (plain_key c.args.target.now.base.now) in
     let old = g.O.AnswerSink.contents c.args.out.now in
     record {
-      takes = c.requires.takes;
+      takes = c.requires.accepted;
       number = refl;
       so_far = ([], (takes_in_none acts c.args.id c.args.pass.now, omega arith, inl refl, sym (append-nil old)));
     }
@@ -63,8 +63,8 @@ loop-left-preserved g c =
     let some : 0 < c.loop-left.left = grind (arith, nat_tests, c.loop-left-test.true) in
     let sum = far.1.1 in
     record {
-      takes = c.take_entries.ensures.takes;
-      number = c.take_entries.ensures.number ∙ c.loop-left.invariant.number;
+      takes = c.take_entries.ensures.accepted;
+      number = c.take_entries.ensures.number_unchanged ∙ c.loop-left.invariant.number;
       so_far = (
         far.0 ++ x ∷ [],
         (

@@ -26,8 +26,8 @@ loop-low-preserved g c =
       below = c.loop-low.invariant.below;
     }
 
-pub returns-in-Equal-clause-found : goal.returns-in-Equal-clause-found
-returns-in-Equal-clause-found g c =
+pub returns-in-Equal-clause-key_index : goal.returns-in-Equal-clause-key_index
+returns-in-Equal-clause-key_index g c =
     let m = c.loop-low.low + (c.loop-low.high - c.loop-low.low) / 2 in
     let h : m < length c.args.members.now = omega arith in
     found_middle c.args.key.now c.args.members.now m c.index-members-middle.result c.cmp.result c.as_str.result.now c.requires h

@@ -10,35 +10,35 @@ use Rattle.sdb_steps.proofs.CommitLemmas.{attempt_of, tries_wanting, tries_decid
 use Rattle.sdb_steps.proofs.LookLemmas.{looked_wanting, looked_moved}
 use Rattle.sdb_steps.proofs.attempt.commit_work.Goals as goal
 
-pub returns-then-is_out_of_memory-clause-tries : goal.returns-then-is_out_of_memory-clause-tries
-returns-then-is_out_of_memory-clause-tries c =
+pub returns-then-is_out_of_memory-clause-commits : goal.returns-then-is_out_of_memory-clause-commits
+returns-then-is_out_of_memory-clause-commits c =
     let k = plain_key c.args.key in
     let said = c.in-Decided.ensures in
-    let wanting = c.if-is_out_of_memory.ensures.wanting refl in
-    tries_wanting c.args.shard.now c.commit.new.self k c.args.work c.args.now (plain_reply c.in-Decided.reply) c.args.tries c.args.is_worked _ c.requires.few wanting said.commits said.queues
+    let wanting = c.if-is_out_of_memory.ensures.memory refl in
+    tries_wanting c.args.shard.now c.commit.new.self k c.args.work c.args.now (plain_reply c.in-Decided.reply) c.args.tries c.args.is_worked _ c.requires.bound wanting said.commits said.queues
     (c.restore_attempt-phase.ensures.plain k c.args.tries ∙ ap (λ (w : PlainAttempt). attempt_of k w c.args.tries c.args.is_worked) (subst (λ r. WorkAfterCommit (decided r) c.args.work c.commit.new.work) wanting said.is_made))
 
-pub returns-else-is_out_of_memory-clause-tries : goal.returns-else-is_out_of_memory-clause-tries
-returns-else-is_out_of_memory-clause-tries c =
+pub returns-else-is_out_of_memory-clause-commits : goal.returns-else-is_out_of_memory-clause-commits
+returns-else-is_out_of_memory-clause-commits c =
     let k = plain_key c.args.key in
     let said = c.in-Decided.ensures in
     tries_decided c.args.shard.now c.commit.new.self k c.args.work c.args.now (plain_reply c.in-Decided.reply) c.args.tries c.args.is_worked (c.if-is_out_of_memory.ensures.enough refl) said.commits said.queues
 
-pub returns-in-Moved-clause-tries : goal.returns-in-Moved-clause-tries
-returns-in-Moved-clause-tries c =
+pub returns-in-Moved-clause-commits : goal.returns-in-Moved-clause-commits
+returns-in-Moved-clause-commits c =
     let k = plain_key c.args.key in
     let said = c.in-Moved.ensures in
     let n = c.args.tries + 1 in
     let v = c.in-Moved.look.version in
     let again : PlainAttempt → plain.PlainOpenAttempt = λ w. record { key = k; submission = w.submission; looked_version = v; tries = n; is_worked = false } in
-    tries_moved c.args.shard.now c.commit.new.self k c.args.work c.args.now (plain_look c.in-Moved.look) c.args.tries c.args.is_worked _ c.requires.few said.commits said.queues (c.look_again-phase.ensures.plain k n ∙ ap again said.is_made)
+    tries_moved c.args.shard.now c.commit.new.self k c.args.work c.args.now (plain_look c.in-Moved.look) c.args.tries c.args.is_worked _ c.requires.bound said.commits said.queues (c.look_again-phase.ensures.plain k n ∙ ap again said.is_made)
 
 pub returns-then-is_out_of_memory-clause-looked : goal.returns-then-is_out_of_memory-clause-looked
 returns-then-is_out_of_memory-clause-looked c =
     let k = plain_key c.args.key in
     let said = c.in-Decided.ensures in
     let r = plain_reply c.in-Decided.reply in
-    let wanting = c.if-is_out_of_memory.ensures.wanting refl in
+    let wanting = c.if-is_out_of_memory.ensures.memory refl in
     looked_wanting (logs_of c.args.shard.now) (logs_of c.commit.new.self) k (attempt_in c.restore_attempt-phase.result) c.args.work c.args.now r wanting said.commits
     (c.restore_attempt-phase.ensures.attempt ∙ subst (λ r. WorkAfterCommit (decided r) c.args.work c.commit.new.work) wanting said.is_made) c.requires.looked
 

@@ -23,28 +23,28 @@ returns-else-is_some-clause-dispatches c =
     let a = plain_step_answer c.begin.result in
     let o = option_map plain_open_attempt c.begin.new.session.attempt in
     let none : x.attempt ≡ None = ap (option_map plain_open_attempt) (sym (none_of c.args.session.now.attempt (sym c.if-is_some.ensures))) in
-    let h = begins_with m k s c.submission_of-submission.result a o c.submission_of-submission.ensures c.begin.ensures.begun c.begin.ensures.wanting in
-    let put : plain.with_attempt x o ≡ y = session_kept o q q (queue_slots_of c.begin.new.session) (queue_slots_of c.args.session.now) refl (sym c.begin.ensures.slots) in
+    let h = begins_with m k s c.submission_of-submission.result a o c.submission_of-submission.ensures c.begin.ensures.begun c.begin.ensures.memory in
+    let put : plain.with_attempt x o ≡ y = session_kept o q q (queue_slots_of c.begin.new.session) (queue_slots_of c.args.session.now) refl (sym c.begin.ensures.slots_unchanged) in
     subst (λ (z : Step). DispatchesAct (plain_session_step z).session m x (plain_session_step z).act a m y) (sym b.is)
     (subst (λ w. DispatchesAct b.number.number m x (plain.begin k (string_bytes b.src) b.seq b.version b.content) a m w) put (begin_turn b.number.number m x k (string_bytes b.src) b.seq b.version b.content a o none h))
 
-pub returns-else-is_some-clause-leaves : goal.returns-else-is_some-clause-leaves
-returns-else-is_some-clause-leaves c = let q = queues_of c.args.shard.now in leaves_all (plain_session_step c.args.step.now).session q q (queue_slots_of c.args.session.now) _ c.requires.queues refl c.begin.ensures.slots
+pub returns-else-is_some-clause-other_queues_unchanged : goal.returns-else-is_some-clause-other_queues_unchanged
+returns-else-is_some-clause-other_queues_unchanged c = let q = queues_of c.args.shard.now in leaves_all (plain_session_step c.args.step.now).session q q (queue_slots_of c.args.session.now) _ c.requires.queues refl c.begin.ensures.slots_unchanged
 
-pub returns-in-Work-clause-leaves : goal.returns-in-Work-clause-leaves
-returns-in-Work-clause-leaves c = let q = queues_of c.args.shard.now in leaves_all (plain_session_step c.args.step.now).session q q (queue_slots_of c.args.session.now) _ c.requires.queues refl c.work.ensures.slots
+pub returns-in-Work-clause-other_queues_unchanged : goal.returns-in-Work-clause-other_queues_unchanged
+returns-in-Work-clause-other_queues_unchanged c = let q = queues_of c.args.shard.now in leaves_all (plain_session_step c.args.step.now).session q q (queue_slots_of c.args.session.now) _ c.requires.queues refl c.work.ensures.slots_unchanged
 
-pub returns-in-Commit-clause-leaves : goal.returns-in-Commit-clause-leaves
-returns-in-Commit-clause-leaves c = leaves_all (plain_session_step c.args.step.now).session (queues_of c.args.shard.now) _ (queue_slots_of c.args.session.now) _ c.requires.queues c.commit.ensures.queues c.commit.ensures.slots
+pub returns-in-Commit-clause-other_queues_unchanged : goal.returns-in-Commit-clause-other_queues_unchanged
+returns-in-Commit-clause-other_queues_unchanged c = leaves_all (plain_session_step c.args.step.now).session (queues_of c.args.shard.now) _ (queue_slots_of c.args.session.now) _ c.requires.queues c.commit.ensures.queues c.commit.ensures.slots_unchanged
 
-pub returns-in-Fetch-clause-leaves : goal.returns-in-Fetch-clause-leaves
-returns-in-Fetch-clause-leaves c = let s = queue_slots_of c.args.session.now in leaves_all (plain_session_step c.args.step.now).session (queues_of c.args.shard.now) _ s s c.requires.queues c.fetch.ensures.queues refl
+pub returns-in-Fetch-clause-other_queues_unchanged : goal.returns-in-Fetch-clause-other_queues_unchanged
+returns-in-Fetch-clause-other_queues_unchanged c = let s = queue_slots_of c.args.session.now in leaves_all (plain_session_step c.args.step.now).session (queues_of c.args.shard.now) _ s s c.requires.queues c.fetch.ensures.queues refl
 
-pub returns-in-Snapshot-clause-leaves : goal.returns-in-Snapshot-clause-leaves
-returns-in-Snapshot-clause-leaves c = let s = queue_slots_of c.args.session.now in leaves_all (plain_session_step c.args.step.now).session (queues_of c.args.shard.now) _ s s c.requires.queues c.snapshot.ensures.queues refl
+pub returns-in-Snapshot-clause-other_queues_unchanged : goal.returns-in-Snapshot-clause-other_queues_unchanged
+returns-in-Snapshot-clause-other_queues_unchanged c = let s = queue_slots_of c.args.session.now in leaves_all (plain_session_step c.args.step.now).session (queues_of c.args.shard.now) _ s s c.requires.queues c.snapshot.ensures.queues refl
 
-pub returns-in-SnapshotAtTime-clause-leaves : goal.returns-in-SnapshotAtTime-clause-leaves
-returns-in-SnapshotAtTime-clause-leaves c = let s = queue_slots_of c.args.session.now in leaves_all (plain_session_step c.args.step.now).session (queues_of c.args.shard.now) _ s s c.requires.queues c.snapshot_at_time.ensures.queues refl
+pub returns-in-SnapshotAtTime-clause-other_queues_unchanged : goal.returns-in-SnapshotAtTime-clause-other_queues_unchanged
+returns-in-SnapshotAtTime-clause-other_queues_unchanged c = let s = queue_slots_of c.args.session.now in leaves_all (plain_session_step c.args.step.now).session (queues_of c.args.shard.now) _ s s c.requires.queues c.snapshot_at_time.ensures.queues refl
 
 pub returns-in-Forget-clause-dispatches : goal.returns-in-Forget-clause-dispatches
 returns-in-Forget-clause-dispatches c =
@@ -56,10 +56,10 @@ returns-in-Forget-clause-dispatches c =
     let x = session_state_of q c.args.session.now in
     let y = session_state_of r c.args.session.now in
     subst (λ (z : Step). FollowsEffect m (plain.effect m (plain_session_step z).session x (plain_session_step z).act) (plain.notice_answer plain.forgotten) n y) (sym c.in-Forget.is)
-    (refl, same_core c.args.shard.now c.forget.new.self c.forget.ensures.logs c.forget.ensures.queues, session_kept (option_map plain_open_attempt c.args.session.now.attempt) q r s s c.forget.ensures.queues refl)
+    (refl, same_core c.args.shard.now c.forget.new.self c.forget.ensures.logs_unchanged c.forget.ensures.queues, session_kept (option_map plain_open_attempt c.args.session.now.attempt) q r s s c.forget.ensures.queues refl)
 
-pub returns-in-Forget-clause-leaves : goal.returns-in-Forget-clause-leaves
-returns-in-Forget-clause-leaves c = let s = queue_slots_of c.args.session.now in leaves_all (plain_session_step c.args.step.now).session (queues_of c.args.shard.now) _ s s c.requires.queues c.forget.ensures.queues refl
+pub returns-in-Forget-clause-other_queues_unchanged : goal.returns-in-Forget-clause-other_queues_unchanged
+returns-in-Forget-clause-other_queues_unchanged c = let s = queue_slots_of c.args.session.now in leaves_all (plain_session_step c.args.step.now).session (queues_of c.args.shard.now) _ s s c.requires.queues c.forget.ensures.queues refl
 
 pub subscribe-requires : goal.subscribe-requires
 subscribe-requires c = subst (λ (z : Step). SlotsOpen (plain_session_step z).session (queues_of c.args.shard.now) (queue_slots_of c.args.session.now)) c.in-Subscribe.is c.requires.queues
@@ -70,5 +70,5 @@ take-requires c = subst (λ (z : Step). SlotsOpen (plain_session_step z).session
 pub unsubscribe-requires : goal.unsubscribe-requires
 unsubscribe-requires c = subst (λ (z : Step). SlotsOpen (plain_session_step z).session (queues_of c.args.shard.now) (queue_slots_of c.args.session.now)) c.in-Unsubscribe.is c.requires.queues
 
-pub returns-in-Work-clause-looked : goal.returns-in-Work-clause-looked
-returns-in-Work-clause-looked c = c.work.ensures.looked (logs_of c.args.shard.now) c.requires.looked
+pub returns-in-Work-clause-has_look : goal.returns-in-Work-clause-has_look
+returns-in-Work-clause-has_look c = c.work.ensures.has_look (logs_of c.args.shard.now) c.requires.has_look

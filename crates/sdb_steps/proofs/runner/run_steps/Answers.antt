@@ -62,8 +62,8 @@ returns-clause-replays c =
     let h = legal_run _ told n v (subst (λ xs. IsRun (map plain_session_step xs) told n v) whole c.loop-step.invariant) in
     c.reads_are_replays.ensures (map plain_session_step c.args.steps.now) told h.0 v n.logs h.1 h.2
 
-pub returns-clause-took : goal.returns-clause-took
-returns-clause-took c =
+pub returns-clause-taken : goal.returns-clause-taken
+returns-clause-taken c =
     let n = one_step_of_world c.loop-step.world in
     let v = sessions_of c.loop-step.world in
     let told = map plain_step_answer c.loop-step.answers.items in

@@ -1,7 +1,7 @@
 use Rattle.std.proofs.Common.{ap, sym, ◌∙◌}
 use Rattle.sdb_oplog.specs.Keys.{plain_key}
 use Rattle.sdb_desk.specs.ShardView.{queues_of}
-use Rattle.sdb_desk.specs.Laws.{with_queues_same}
+use Rattle.sdb_desk.specs.laws.KeyLaws.{with_queues_same}
 use Rattle.sdb_desk.specs.Machine.{with_queues}
 use Rattle.sdb_steps.specs.Slots.{close_in}
 use Rattle.sdb_steps.proofs.session.close_queue.Goals as goal

@@ -1,6 +1,6 @@
 use Rattle.std.proofs.Common.{None, sym, ◌∙◌}
 use Rattle.sdb_oplog.specs.Keys.{plain_key}
-use Rattle.sdb_desk.specs.MapLaws.{updated_at_same}
+use Rattle.sdb_desk.specs.laws.MapLaws.{updated_at_same}
 use Rattle.sdb_steps.specs.StateView.{queue_slots_in}
 use Rattle.sdb_steps.proofs.CommitLemmas.{none_of}
 use Rattle.sdb_steps.proofs.slots.drop_empty_slot.Goals as goal

@@ -1,5 +1,5 @@
 use Rattle.std.proofs.Common.{None}
-use Rattle.sdb_desk.specs.MapLaws.{updated_of_remove}
+use Rattle.sdb_desk.specs.laws.MapLaws.{updated_of_remove}
 use Rattle.sdb_steps.proofs.slots.drop_slot.Goals as goal
 
 pub returns : goal.returns

@@ -1,5 +1,5 @@
 use Rattle.std.proofs.Common.{None, Some}
-use Rattle.sdb_desk.specs.MapLaws.{updated_of_write}
+use Rattle.sdb_desk.specs.laws.MapLaws.{updated_of_write}
 use Rattle.sdb_steps.proofs.slots.fill_slot.Goals as goal
 
 pub returns : goal.returns

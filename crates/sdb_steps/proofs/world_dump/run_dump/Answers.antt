@@ -7,23 +7,23 @@ use Rattle.sdb_steps.proofs.DumpLemmas.{unwritten_front, dump_written, dumped_fr
 use Rattle.sdb_steps.proofs.OutputLemmas.{if_any_some, on_any_err, on_err}
 use Rattle.sdb_steps.proofs.world_dump.run_dump.Goals as goal
 
-pub returns-in_err-run_lines-clause-front : goal.returns-in_err-run_lines-clause-front
-returns-in_err-run_lines-clause-front g c =
-    on_any_err _ (IfSome_then (g.R.Source.remaining_input c.args.reader.now) c.in_err-run_lines.ensures.front
+pub returns-in_err-run_lines-clause-prefix_on_err : goal.returns-in_err-run_lines-clause-prefix_on_err
+returns-in_err-run_lines-clause-prefix_on_err g c =
+    on_any_err _ (IfSome_then (g.R.Source.remaining_input c.args.reader.now) c.in_err-run_lines.ensures.prefix_on_err
     (λ input a. unwritten_front _ (map readable_text (lines_of input)) _ _ a))
 
-pub returns-clause-whole : goal.returns-clause-whole
-returns-clause-whole g c =
-    if_ok_both c.dump.result _ _ (λ wrote n counted. IfSome_then (g.R.Source.remaining_input c.args.reader.now) c.in_ok-run_lines.ensures.whole
-    (λ input a. dump_written _ c.run_lines.new.machine (map readable_text (lines_of input)) _ _ _ n c.in_ok-new.ensures.machine c.in_ok-new.ensures.sessions a wrote counted)) c.dump.ensures.whole c.dump.ensures.entries
+pub returns-clause-wrote_all : goal.returns-clause-wrote_all
+returns-clause-wrote_all g c =
+    if_ok_both c.dump.result _ _ (λ wrote n counted. IfSome_then (g.R.Source.remaining_input c.args.reader.now) c.in_ok-run_lines.ensures.wrote_all
+    (λ input a. dump_written _ c.run_lines.new.machine (map readable_text (lines_of input)) _ _ _ n c.in_ok-new.ensures.machine c.in_ok-new.ensures.sessions a wrote counted)) c.dump.ensures.wrote_all c.dump.ensures.entries
 
-pub returns-clause-front : goal.returns-clause-front
-returns-clause-front g c =
-    on_err c.dump.result (λ wrote. IfSome_then (g.R.Source.remaining_input c.args.reader.now) c.in_ok-run_lines.ensures.whole
-    (λ input a. dumped_front _ c.run_lines.new.machine (map readable_text (lines_of input)) _ _ _ c.in_ok-new.ensures.machine c.in_ok-new.ensures.sessions a wrote)) c.dump.ensures.front
+pub returns-clause-prefix_on_err : goal.returns-clause-prefix_on_err
+returns-clause-prefix_on_err g c =
+    on_err c.dump.result (λ wrote. IfSome_then (g.R.Source.remaining_input c.args.reader.now) c.in_ok-run_lines.ensures.wrote_all
+    (λ input a. dumped_front _ c.run_lines.new.machine (map readable_text (lines_of input)) _ _ _ c.in_ok-new.ensures.machine c.in_ok-new.ensures.sessions a wrote)) c.dump.ensures.prefix_on_err
 
-pub returns-clause-reads : goal.returns-clause-reads
-returns-clause-reads g c = reads_on c.dump.result _ _ _ _ c.in_ok-run_lines.ensures.reads c.dump.ensures.read
+pub returns-clause-read_failures : goal.returns-clause-read_failures
+returns-clause-read_failures g c = reads_on c.dump.result _ _ _ _ c.in_ok-run_lines.ensures.read_failures c.dump.ensures.never_read_failed
 
-pub returns-clause-writes : goal.returns-clause-writes
-returns-clause-writes g c = writes_on c.dump.result _ _ _ c.in_ok-run_lines.ensures.writes c.dump.ensures.writes
+pub returns-clause-write_failures : goal.returns-clause-write_failures
+returns-clause-write_failures g c = writes_on c.dump.result _ _ _ c.in_ok-run_lines.ensures.write_failures c.dump.ensures.write_failures

@@ -1,4 +1,4 @@
--- In each arm the two texts are the same numbers.
+-- In each arm both texts are the same bytes.
 use Rattle.std.proofs.Common.{ap, sym}
 use Rattle.sdb_steps.specs.Lines.{short_name}
 use Rattle.sdb_steps.proofs.write_answer.short_name.Goals as goal

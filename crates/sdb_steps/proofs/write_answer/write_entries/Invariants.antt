@@ -4,7 +4,7 @@ use Rattle.sdb_value.specs.ToJson.{array_tail_tokens}
 use Rattle.sdb_steps.specs.Lines.{entry_items}
 use Rattle.sdb_steps.proofs.write_answer.write_entries.Given as goal
 
--- what is written and what is left are the whole
+-- the written entries and the rest are all entries
 abbrev pub invariant-loop-entry : goal.invariant-loop-entry
 invariant-loop-entry l = record {
   before : l.out.before ≡ l.fn.out.before;

@@ -9,6 +9,6 @@ use Rattle.sdb_steps.proofs.write_answer.write_refusal.Goals as goal
 pub returns-else-is_err-clause-ok : goal.returns-else-is_err-clause-ok
 returns-else-is_err-clause-ok c =
     let d = refusal_data c.args.code in
-    let before : c.write_error-written.new.out.before ≡ c.args.out.now.items = c.write_error-written.ensures.before ∙ c.new-writer.ensures.before ∙ ap (λ v. v.items) c.replace.ensures.value in
+    let before : c.write_error-written.new.out.before ≡ c.args.out.now.items = c.write_error-written.ensures.before_unchanged ∙ c.new-writer.ensures.before ∙ ap (λ v. v.items) c.replace.ensures.value in
     on_ok_weaker c.write_error-written.result (λ h. c.into_inner.ensures.items ∙ ap (λ b. b ++ print c.write_error-written.new.out.tokens) before
     ∙ ap (λ text. c.args.out.now.items ++ text) (ap print (h ∙ ap (λ ts. ts ++ data_tokens d) c.new-writer.ensures.tokens) ∙ print-outline d)) c.write_error-written.ensures.tokens

@@ -3,7 +3,7 @@ use Rattle.std.specs.Global.{Global}
 use Rattle.std.proofs.lemmas.List.{nil_from_length, map-append}
 use Rattle.sdb_growlock.specs.declared.grow_lock.Seat.{Seat}
 use Rattle.sdb_striped_lock.specs.declared.striped_lock.SeatSet.{SeatSet}
-use Rattle.sdb_striped_lock.specs.Laws.{element_at}
+use Rattle.sdb_striped_lock.specs.laws.SeatLaws.{element_at}
 use Rattle.sdb_striped_lock.proofs.close_buffers.gather_stripes.Goals as goal
 
 pub loop-caller-init : goal.loop-caller-init
@@ -16,7 +16,7 @@ loop-caller-init g c =
     c.gather_stripe.ensures.each i d s lt ∙ ap (λ (l : List (Seat g.row.T.Denot)). l ++ slice_index_or c.into_seats.result.items i s ∷ []) (nil_from_length (slice_index_or old i d).items (sym (slice_index_or old i d).ok.0 ∙ (c.requires.room.1 i d lt).0))
     ∙ ap (λ (v : Vec (Seat g.row.T.Denot) Global). slice_index_or v.items i s ∷ []) c.into_seats.ensures in
     record {
-      eight = c.gather_stripe.ensures.eight;
+      eight = c.gather_stripe.ensures.length;
       room = λ i d lt.
           let long : vec_len (slice_index_or new i d) ≡ 1 = (slice_index_or new i d).ok.0 ∙ ap length (one i d s lt) in
           let some = (c.requires.room.1 i d lt).1 in
@@ -36,7 +36,7 @@ loop-caller-preserved g c =
     let more : (i : ℕ) (d : Vec (Seat g.row.T.Denot) Global) (s : Seat g.row.T.Denot) → i < 8 → (slice_index_or new i d).items ≡ (slice_index_or old i d).items ++ slice_index_or seats i s ∷ [] = λ i d s lt.
     c.gather_stripe-in-loop-caller.ensures.each i d s lt ∙ ap (λ (v : Vec (Seat g.row.T.Denot) Global). (slice_index_or old i d).items ++ slice_index_or v.items i s ∷ []) c.into_seats-in-loop-caller.ensures in
     record {
-      eight = c.gather_stripe-in-loop-caller.ensures.eight;
+      eight = c.gather_stripe-in-loop-caller.ensures.length;
       room = λ i d lt.
           let long : vec_len (slice_index_or new i d) ≡ vec_len (slice_index_or old i d) + 1 =
           (slice_index_or new i d).ok.0 ∙ ap length (more i d s lt) ∙ length-append (slice_index_or old i d).items (slice_index_or seats i s ∷ []) ∙ ap (λ (n : ℕ). n + 1) (sym (slice_index_or old i d).ok.0) in

@@ -8,8 +8,8 @@ use Rattle.sdb_striped_lock.specs.CloseModel.{HasEverySeat, IsValueAfterClose}
 use Rattle.sdb_striped_lock.proofs.IndexLemmas.{each_item_of_push, length_of_pop, last_of_pop, get_or_pop}
 use Rattle.sdb_striped_lock.proofs.operations.close_stripes.Goals as goal
 
-pub close-requires-clause-own : goal.close-requires-clause-own
-close-requires-clause-own g c =
+pub close-requires-clause-belongs : goal.close-requires-clause-belongs
+close-requires-clause-belongs g c =
     let inv = c.loop-lock.invariant in
     let n = length_of_pop c.loop-lock.locks.items c.pop.new.self.items c.args.locks.items c.in-Some.lock c.in-Some.ensures.items inv.locks in
     let k = length_of_pop c.loop-lock.columns.items c.pop-in-Some.new.self.items c.args.columns.items c.in-Some-pop.column c.in-Some-pop.ensures.items inv.columns in
@@ -21,7 +21,7 @@ close-requires-clause-own g c =
     let column = ap (λ (j : ℕ). slice_index_or c.args.columns.items j c.in-Some-pop.column) (sym at) ∙ last_of_pop c.loop-lock.columns.items c.pop-in-Some.new.self.items c.args.columns.items c.in-Some-pop.column c.in-Some-pop.ensures.items inv.columns c.in-Some-pop.column in
     subst (λ (l : GrowLock g.row.T.Denot). ForEach (λ s. BelongsTo s l) c.in-Some-pop.column.items) lock
     (subst (λ (v : Vec (Seat g.row.T.Denot) Global). ForEach (λ s. BelongsTo s (slice_index_or c.args.locks.items m c.in-Some.lock)) v.items) column
-    (c.requires.own m c.in-Some.lock c.in-Some-pop.column (omega arith) (omega (arith, n, a))))
+    (c.requires.belongs m c.in-Some.lock c.in-Some-pop.column (omega arith) (omega (arith, n, a))))
 
 pub close-requires-clause-first : goal.close-requires-clause-first
 close-requires-clause-first g c =

@@ -18,8 +18,8 @@ returns-in-Err-clause-err c =
     let new = c.take.new.self in
     queues_kept c.args.log.now c.args.number c.args.max c.args.queues.now.entries c.in-Some.queue.now new _ c.in-Some.ensures.value (c.get_mut.follows.holds new).0 c.in-Err.ensures.err
 
-pub returns-in-Err-clause-some : goal.returns-in-Err-clause-some
-returns-in-Err-clause-some c = some_waiting c.args.log.now c.args.number c.args.max c.args.queues.now.entries c.in-Some.queue.now c.in-Some.ensures.value c.in-Err.ensures.some
+pub returns-in-Err-clause-memory : goal.returns-in-Err-clause-memory
+returns-in-Err-clause-memory c = some_waiting c.args.log.now c.args.number c.args.max c.args.queues.now.entries c.in-Some.queue.now c.in-Some.ensures.value c.in-Err.ensures.memory
 
 pub returns-in-None-clause-entries : goal.returns-in-None-clause-entries
 returns-in-None-clause-entries c = none_taken c.args.log.now c.args.number c.args.max c.args.queues.now.entries c.in-None.ensures.value

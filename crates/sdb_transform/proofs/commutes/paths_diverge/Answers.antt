@@ -15,7 +15,7 @@ returns-clause-front c parts =
     let within : k < length b = omega (arith, c.in-Some.ensures, c.min.ensures) in
     paths_diverge_at (plain_path a) (plain_path b) k (plain_step x) (plain_step y) (omega (arith, inside, length-map a plain_step)) (omega (arith, within, length-map b plain_step))
     (step_at a k x inside c.index-path-last.is) (step_at b k y within c.index-other-last.is)
-    (λ same. c.paths_equal.ensures.other (false_of_not c.paths_equal.result parts)
+    (λ same. c.paths_equal.ensures.on_false (false_of_not c.paths_equal.result parts)
     (ap plain_path c.from_ref.ensures.value ∙ ap (λ s. s ∷ []) same ∙ sym (ap plain_path c.from_ref-2.ensures.value)))
 
 pub returns-clause-back : goal.returns-clause-back
@@ -29,5 +29,5 @@ returns-clause-back c parts =
     let within : k < length b = omega (arith, c.in-Some.ensures, c.min.ensures) in
     paths_diverge_at (plain_path b) (plain_path a) k (plain_step y) (plain_step x) (omega (arith, within, length-map b plain_step)) (omega (arith, inside, length-map a plain_step))
     (step_at b k y within c.index-other-last.is) (step_at a k x inside c.index-path-last.is)
-    (λ same. c.paths_equal.ensures.other (false_of_not c.paths_equal.result parts)
+    (λ same. c.paths_equal.ensures.on_false (false_of_not c.paths_equal.result parts)
     (ap plain_path c.from_ref.ensures.value ∙ ap (λ s. s ∷ []) (sym same) ∙ sym (ap plain_path c.from_ref-2.ensures.value)))

@@ -8,5 +8,5 @@ pub loop-next-init : goal.loop-next-init
 loop-next-init c =
     invariant_at_start _ _ _ _ _ _ _ _ _ (ap from_top c.new.ensures.items ∙ top_none) c.in_ok-push_split.ensures.ok refl (ap work_from_top c.new-2.ensures.items ∙ stack_none) c.in_ok-push_right.ensures.ok refl c.new-3.ensures.items
 
-pub returns-clause-few : goal.returns-clause-few
-returns-clause-few c = ends_few _ _ _ _ _ _ c.in_default.ensures c.loop-next.invariant
+pub returns-clause-bound : goal.returns-clause-bound
+returns-clause-bound c = ends_few _ _ _ _ _ _ c.in_default.ensures c.loop-next.invariant

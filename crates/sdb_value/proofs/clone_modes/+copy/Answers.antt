@@ -20,17 +20,17 @@ pub copy-returns-in_ok-clone_list-in-List-clause-value : goal.copy-returns-in_ok
 copy-returns-in_ok-clone_list-in-List-clause-value t c =
     value_list c.args.value.now c.in-List.items c.in_ok-clone_list-in-List.field-0 c.in-List.is c.in_ok-clone_list-in-List.ensures.items
 
-pub copy-returns-in_ok-clone_list-in-List-clause-own : goal.copy-returns-in_ok-clone_list-in-List-clause-own
-copy-returns-in_ok-clone_list-in-List-clause-own t c =
-    copied_list c.args.manner c.args.value.now c.in-List.items c.in_ok-clone_list-in-List.field-0 c.in-List.is c.in_ok-clone_list-in-List.ensures.own
+pub copy-returns-in_ok-clone_list-in-List-clause-unique : goal.copy-returns-in_ok-clone_list-in-List-clause-unique
+copy-returns-in_ok-clone_list-in-List-clause-unique t c =
+    copied_list c.args.manner c.args.value.now c.in-List.items c.in_ok-clone_list-in-List.field-0 c.in-List.is c.in_ok-clone_list-in-List.ensures.unique
 
 pub copy-returns-in_ok-clone_members-in-Object-clause-value : goal.copy-returns-in_ok-clone_members-in-Object-clause-value
 copy-returns-in_ok-clone_members-in-Object-clause-value t c =
     value_object c.args.value.now c.in-Object.members c.in_ok-clone_members-in-Object.field-0 c.in-Object.is c.in_ok-clone_members-in-Object.ensures.members
 
-pub copy-returns-in_ok-clone_members-in-Object-clause-own : goal.copy-returns-in_ok-clone_members-in-Object-clause-own
-copy-returns-in_ok-clone_members-in-Object-clause-own t c =
-    copied_object c.args.manner c.args.value.now c.in-Object.members c.in_ok-clone_members-in-Object.field-0 c.in-Object.is c.in_ok-clone_members-in-Object.ensures.own
+pub copy-returns-in_ok-clone_members-in-Object-clause-unique : goal.copy-returns-in_ok-clone_members-in-Object-clause-unique
+copy-returns-in_ok-clone_members-in-Object-clause-unique t c =
+    copied_object c.args.manner c.args.value.now c.in-Object.members c.in_ok-clone_members-in-Object.field-0 c.in-Object.is c.in_ok-clone_members-in-Object.ensures.unique
 
 -- ---- how much there is still to copy
 
@@ -71,7 +71,7 @@ clone_list-returns-in_default-inner t c =
       items = made_view l new bs c.from_chunks.ensures.blocks c.in_ok-copies.ensures.items;
       own = by_manner c.chunk_clone_mode-inner.result c.args.manner (is_grouped l.repr) (list_unique l) (list_unique new) (is_shared_vec new) inner.copied (in_groups_own is_unique l) (shared_list_own is_unique new) (made_of_blocks is_unique c.chunk_clone_mode-inner.result l new bs c.in_default-inner.not-Frozen inner.in_blocks
           (λ same. not_found c.in_ok-list.field-0 c.in_default.not-Some c.in_ok-list.ensures.none (inner.same same)) c.from_chunks.ensures.blocks
-          c.from_chunks.ensures.own c.in_ok-copies.ensures.own);
+          c.from_chunks.ensures.unique c.in_ok-copies.ensures.unique);
     }
 
 pub clone_chunks-loop-block-preserved : goal.clone_chunks-loop-block-preserved
@@ -89,7 +89,7 @@ clone_chunks-loop-block-preserved t c =
       done = done ++ b ∷ [];
       split = l.invariant.split ∙ ap (λ bs. done ++ bs) steps ∙ sym (append_assoc done (b ∷ []) left);
       values = ap (λ l. items_value (flat_map block_items l)) pushed ∙ items_more done cs b new l.invariant.values c.in_ok-clone_chunk.ensures.items;
-      own = subst Q {x = cs ++ new ∷ []} (sym pushed) (blocks_copied_more is_unique c.args.manner done cs b new l.invariant.own c.in_ok-clone_chunk.ensures.own);
+      own = subst Q {x = cs ++ new ∷ []} (sym pushed) (blocks_copied_more is_unique c.args.manner done cs b new l.invariant.own c.in_ok-clone_chunk.ensures.unique);
       below = blocks_below _ left b (term_weights (vec_items c.args.items.now)) steps l.invariant.below;
     }
 
@@ -99,8 +99,8 @@ clone_chunks-returns-clause-items t c =
     let all : vec_chunks c.args.items.now ≡ l.invariant.done = l.invariant.split ∙ ap (λ bs. l.invariant.done ++ bs) c.in-None.ensures.steps.0 ∙ append-nil l.invariant.done in
     l.invariant.values ∙ ap (λ bs. items_value (flat_map block_items bs)) (sym all)
 
-pub clone_chunks-returns-clause-own : goal.clone_chunks-returns-clause-own
-clone_chunks-returns-clause-own t c =
+pub clone_chunks-returns-clause-unique : goal.clone_chunks-returns-clause-unique
+clone_chunks-returns-clause-unique t c =
     let l = c.loop-block in
     let all : vec_chunks c.args.items.now ≡ l.invariant.done = l.invariant.split ∙ ap (λ bs. l.invariant.done ++ bs) c.in-None.ensures.steps.0 ∙ append-nil l.invariant.done in
     subst (λ bs. HasUniquenessOfMode c.args.manner (are_deep_unique_chunks bs) (are_deep_unique_chunks l.copies.items) (all_shared l.copies.items)) (sym all) l.invariant.own
@@ -118,11 +118,11 @@ clone_items-loop-item-preserved t c =
     let Q : List Json → Type 0 = λ l. HasUniquenessOfMode c.args.manner (items_unique l) (items_unique (cs ++ new ∷ [])) true in
     record {
       values = ap (map value_of) pushed ∙ view_more cs (take k vs) new v c.loop-item.invariant.values c.in_ok-copy.ensures.value ∙ ap (map value_of) (sym more);
-      own = subst P (sym pushed) (subst Q (sym more) (items_copied_more is_unique c.args.manner (take k vs) cs v new (is_frozen new) c.loop-item.invariant.own c.in_ok-copy.ensures.own));
+      own = subst P (sym pushed) (subst Q (sym more) (items_copied_more is_unique c.args.manner (take k vs) cs v new (is_frozen new) c.loop-item.invariant.own c.in_ok-copy.ensures.unique));
     }
 
-pub clone_items-returns-clause-own : goal.clone_items-returns-clause-own
-clone_items-returns-clause-own t c =
+pub clone_items-returns-clause-unique : goal.clone_items-returns-clause-unique
+clone_items-returns-clause-unique t c =
     let P : List Json → Type 0 = λ l. HasUniquenessOfMode c.args.manner (items_unique l) (items_unique c.loop-item.copies.items) true in
     subst P (take_all c.loop-item.item-index c.args.items.now c.loop-item-test.false) c.loop-item.invariant.own
 
@@ -133,13 +133,13 @@ clone_members-from_entries-requires-in_default-inner t c =
     let q = c.chunks-2.result.now in
     let new = c.from_chunks.result in
     let viewed : entries_value (vec_items new) ≡ entries_value (vec_items q) = ap (λ b. entries_value (flat_map block_items b)) c.from_chunks.ensures.blocks ∙ c.in_ok-copies.ensures.members in
-    record { small = small_viewed q new viewed c.chunks-2.ensures.small; ascending = ascending_viewed q new viewed c.chunks-2.ensures.ascending }
+    record { small = small_viewed q new viewed c.chunks-2.ensures.bound; ascending = ascending_viewed q new viewed c.chunks-2.ensures.ascending }
 
-pub clone_members-from_entries-requires-clause-small : goal.clone_members-from_entries-requires-clause-small
-clone_members-from_entries-requires-clause-small t c =
+pub clone_members-from_entries-requires-clause-bound : goal.clone_members-from_entries-requires-clause-bound
+clone_members-from_entries-requires-clause-bound t c =
     let q = c.chunks-2.result.now in
     let new = c.in_ok-entries-in-Frozen.entries in
-    small_viewed q new (ap (λ b. entries_value (flat_map block_items b)) c.in_ok-entries-in-Frozen.ensures.blocks ∙ c.in_ok-copies.ensures.members) c.chunks-2.ensures.small
+    small_viewed q new (ap (λ b. entries_value (flat_map block_items b)) c.in_ok-entries-in-Frozen.ensures.blocks ∙ c.in_ok-copies.ensures.members) c.chunks-2.ensures.bound
 
 pub clone_members-from_entries-requires-clause-ascending : goal.clone_members-from_entries-requires-clause-ascending
 clone_members-from_entries-requires-clause-ascending t c =
@@ -155,16 +155,16 @@ clone_members-returns-in_default-inner t c =
     let bs = c.in_ok-copies.copies.items in
     let inner = c.chunk_clone_mode-inner.ensures in
     let kind = c.chunk_clone_mode-inner.result in
-    let same = c.chunks.ensures.same in
+    let same = c.chunks.ensures.equal in
     let P : ChunkedVec (MapEntry Json) → Type 0 = λ q. HasUniquenessOfMode kind (are_deep_unique_member_chunks (vec_chunks q)) (are_deep_unique_member_chunks bs) (all_shared bs) in
     let Q : ChunkedVec (MapEntry Json) → Type 0 = λ q. HasUniquenessOfMode c.args.manner (object_unique m) (entries_unique q) (is_shared_vec q) in
     let made = made_of_blocks value_own kind l new bs c.in_default-inner.not-Frozen (λ e. ap (λ (q : ChunkedVec (MapEntry Json)). is_grouped q.repr) (sym same) ∙ inner.in_blocks e)
     (λ e. not_found c.in_ok-copy.field-0 c.in_default.not-Some c.in_ok-copy.ensures.none (inner.same e)) c.from_chunks.ensures.blocks
-    c.from_chunks.ensures.own (subst P c.chunks-2.ensures.same c.in_ok-copies.ensures.own) in
+    c.from_chunks.ensures.unique (subst P c.chunks-2.ensures.equal c.in_ok-copies.ensures.unique) in
     record {
       members = ap (λ (q : ChunkedVec (MapEntry Json)). entries_value (vec_items q)) c.from_entries-in_default-inner.ensures
           ∙ ap (λ b. entries_value (flat_map block_items b)) c.from_chunks.ensures.blocks ∙ c.in_ok-copies.ensures.members
-          ∙ ap (λ (q : ChunkedVec (MapEntry Json)). entries_value (vec_items q)) c.chunks-2.ensures.same;
+          ∙ ap (λ (q : ChunkedVec (MapEntry Json)). entries_value (vec_items q)) c.chunks-2.ensures.equal;
       own = subst Q (sym c.from_entries-in_default-inner.ensures)
           (by_manner kind c.args.manner (is_grouped c.chunks.result.now.repr) (object_unique m) (entries_unique new) (is_shared_vec new) inner.copied
           (λ h. in_groups_own value_own l (ap (λ (q : ChunkedVec (MapEntry Json)). is_grouped q.repr) (sym same) ∙ h)) (shared_list_own value_own new) made);
@@ -195,7 +195,7 @@ clone_member_chunks-loop-block-preserved t c =
       done = done ++ b ∷ [];
       split = l.invariant.split ∙ ap (λ bs. done ++ bs) steps ∙ sym (append_assoc done (b ∷ []) left);
       members = ap (λ l. entries_value (flat_map block_items l)) pushed ∙ entries_more done cs b new l.invariant.members c.in_ok-clone_member_chunk.ensures.members;
-      own = subst Q {x = cs ++ new ∷ []} (sym pushed) (blocks_copied_more value_own c.args.manner done cs b new l.invariant.own c.in_ok-clone_member_chunk.ensures.own);
+      own = subst Q {x = cs ++ new ∷ []} (sym pushed) (blocks_copied_more value_own c.args.manner done cs b new l.invariant.own c.in_ok-clone_member_chunk.ensures.unique);
       below = parts_below _ left b (entries_weight (vec_items c.args.entries.now)) steps l.invariant.below;
     }
 
@@ -205,8 +205,8 @@ clone_member_chunks-returns-clause-members t c =
     let all : vec_chunks c.args.entries.now ≡ l.invariant.done = l.invariant.split ∙ ap (λ bs. l.invariant.done ++ bs) c.in-None.ensures.steps.0 ∙ append-nil l.invariant.done in
     l.invariant.members ∙ ap (λ bs. entries_value (flat_map block_items bs)) (sym all)
 
-pub clone_member_chunks-returns-clause-own : goal.clone_member_chunks-returns-clause-own
-clone_member_chunks-returns-clause-own t c =
+pub clone_member_chunks-returns-clause-unique : goal.clone_member_chunks-returns-clause-unique
+clone_member_chunks-returns-clause-unique t c =
     let l = c.loop-block in
     let all : vec_chunks c.args.entries.now ≡ l.invariant.done = l.invariant.split ∙ ap (λ bs. l.invariant.done ++ bs) c.in-None.ensures.steps.0 ∙ append-nil l.invariant.done in
     subst (λ bs. HasUniquenessOfMode c.args.manner (are_deep_unique_member_chunks bs) (are_deep_unique_member_chunks l.copies.items) (all_shared l.copies.items)) (sym all) l.invariant.own
@@ -229,10 +229,10 @@ clone_each_member-loop-member-preserved t c =
           ∙ entry_more (take k ms) cs m new c.loop-member.invariant.members (same_member m new (ap (λ e. e.0) c.in_ok-clone_entry.ensures) (ap value_of made ∙ c.in_ok-value.ensures.value))
           ∙ ap entries_value (sym more);
       own = subst P (sym pushed) (subst Q (sym more) (items_copied_more value_own c.args.manner (take k ms) cs m new (is_frozen new.value) c.loop-member.invariant.own
-          (subst R (sym made) c.in_ok-value.ensures.own)));
+          (subst R (sym made) c.in_ok-value.ensures.unique)));
     }
 
-pub clone_each_member-returns-clause-own : goal.clone_each_member-returns-clause-own
-clone_each_member-returns-clause-own t c =
+pub clone_each_member-returns-clause-unique : goal.clone_each_member-returns-clause-unique
+clone_each_member-returns-clause-unique t c =
     let P : List (MapEntry Json) → Type 0 = λ l. HasUniquenessOfMode c.args.manner (members_unique l) (members_unique c.loop-member.copies.items) true in
     subst P (take_all c.loop-member.member-index c.args.members.now c.loop-member-test.false) c.loop-member.invariant.own

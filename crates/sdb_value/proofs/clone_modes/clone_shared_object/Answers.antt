@@ -11,10 +11,10 @@ returns-in-Some-clause-value c =
     let m = c.in-Object.members in
     let new = c.in-Some.members in
     let o = c.in_ok-members-in-Object.field-0 in
-    value_object c.args.value.now m new c.in-Object.is (members_again m new (if_some_at (λ n. map_entries n ≡ map_entries m) o new c.in-Some.is c.in_ok-members-in-Object.ensures.same))
+    value_object c.args.value.now m new c.in-Object.is (members_again m new (if_some_at (λ n. map_entries n ≡ map_entries m) o new c.in-Some.is c.in_ok-members-in-Object.ensures.equal))
 
-pub returns-in-Some-clause-own : goal.returns-in-Some-clause-own
-returns-in-Some-clause-own c =
+pub returns-in-Some-clause-unique : goal.returns-in-Some-clause-unique
+returns-in-Some-clause-unique c =
     let m = c.in-Object.members in
     let new = c.in-Some.members in
     let o = c.in_ok-members-in-Object.field-0 in
@@ -22,7 +22,7 @@ returns-in-Some-clause-own c =
     let was : is_shared_map m ≡ true = sym c.in_ok-members-in-Object.ensures.found ∙ ap is_some c.in-Some.is in
     owned_object new ∙ shared_list_own value_own (map_chunks new) now ∙ sym (ap is_unique c.in-Object.is ∙ owned_object m ∙ shared_list_own value_own (map_chunks m) was)
 
-pub returns-in-Some-clause-pointer : goal.returns-in-Some-clause-pointer
-returns-in-Some-clause-pointer c =
+pub returns-in-Some-clause-frozen : goal.returns-in-Some-clause-frozen
+returns-in-Some-clause-frozen c =
     pointer_object c.in-Some.members
     ∙ if_some_at (λ n. is_shared_map n ≡ true) c.in_ok-members-in-Object.field-0 c.in-Some.members c.in-Some.is c.in_ok-members-in-Object.ensures.shared

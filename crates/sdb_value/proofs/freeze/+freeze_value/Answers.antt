@@ -17,7 +17,7 @@ use Rattle.sdb_value.proofs.freeze.+freeze_value.Goals as goal
 -- ---- the list of them
 
 pub freeze_list_repr-returns-clause-items : goal.freeze_list_repr-returns-clause-items
-freeze_list_repr-returns-clause-items t c = same_form c.freeze_unique_chunks.new.form c.freeze.new.self c.freeze.ensures.same ∙ c.freeze_unique_chunks.ensures
+freeze_list_repr-returns-clause-items t c = same_form c.freeze_unique_chunks.new.form c.freeze.new.self c.freeze.ensures.unchanged ∙ c.freeze_unique_chunks.ensures
 
 pub freeze_unique_chunks-freeze_unique_groups-requires : goal.freeze_unique_chunks-freeze_unique_groups-requires
 freeze_unique_chunks-freeze_unique_groups-requires t c =
@@ -109,7 +109,7 @@ freeze_each_item-loop-at-preserved t c =
 -- ---- the members of an object
 
 pub freeze_member_repr-returns-clause-members : goal.freeze_member_repr-returns-clause-members
-freeze_member_repr-returns-clause-members t c = same_member_form c.freeze_unique_member_chunks.new.form c.freeze.new.self c.freeze.ensures.same ∙ c.freeze_unique_member_chunks.ensures
+freeze_member_repr-returns-clause-members t c = same_member_form c.freeze_unique_member_chunks.new.form c.freeze.new.self c.freeze.ensures.unchanged ∙ c.freeze_unique_member_chunks.ensures
 
 pub freeze_unique_member_chunks-freeze_unique_member_groups-requires : goal.freeze_unique_member_chunks-freeze_unique_member_groups-requires
 freeze_unique_member_chunks-freeze_unique_member_groups-requires t c =
@@ -200,20 +200,20 @@ freeze_each_value-loop-at-preserved t c =
 
 -- ---- put back
 
-pub freeze_members-from_entries-requires-clause-small : goal.freeze_members-from_entries-requires-clause-small
-freeze_members-from_entries-requires-clause-small t c =
+pub freeze_members-from_entries-requires-clause-bound : goal.freeze_members-from_entries-requires-clause-bound
+freeze_members-from_entries-requires-clause-bound t c =
     small_viewed c.into_chunks.result c.from_repr.result
-    (ap member_repr_value c.from_repr.ensures ∙ c.freeze_member_repr-done.ensures.members ∙ ap member_repr_value c.into_repr-form.ensures) c.into_chunks.ensures.small
+    (ap member_repr_value c.from_repr.ensures ∙ c.freeze_member_repr-done.ensures.members ∙ ap member_repr_value c.into_repr-form.ensures) c.into_chunks.ensures.bound
 
 pub freeze_members-from_entries-requires-clause-ascending : goal.freeze_members-from_entries-requires-clause-ascending
 freeze_members-from_entries-requires-clause-ascending t c =
     ascending_viewed c.into_chunks.result c.from_repr.result
     (ap member_repr_value c.from_repr.ensures ∙ c.freeze_member_repr-done.ensures.members ∙ ap member_repr_value c.into_repr-form.ensures) c.into_chunks.ensures.ascending
 
-pub freeze_members-returns-clause-members : goal.freeze_members-returns-clause-members
-freeze_members-returns-clause-members t c =
+pub freeze_members-returns-clause-members_unchanged : goal.freeze_members-returns-clause-members_unchanged
+freeze_members-returns-clause-members_unchanged t c =
     ap (λ (q : ChunkedVec (MapEntry Json)). entries_value (vec_items q)) c.from_entries.ensures ∙ ap member_repr_value c.from_repr.ensures ∙ c.freeze_member_repr-done.ensures.members
-    ∙ ap member_repr_value c.into_repr-form.ensures ∙ ap (λ (q : ChunkedVec (MapEntry Json)). entries_value (vec_items q)) (c.into_chunks.ensures.same ∙ ap map_chunks c.replace.ensures.value)
+    ∙ ap member_repr_value c.into_repr-form.ensures ∙ ap (λ (q : ChunkedVec (MapEntry Json)). entries_value (vec_items q)) (c.into_chunks.ensures.equal ∙ ap map_chunks c.replace.ensures.value)
 
 pub freeze_members-returns-clause-shared : goal.freeze_members-returns-clause-shared
 freeze_members-returns-clause-shared t c =

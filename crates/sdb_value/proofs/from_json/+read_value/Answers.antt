@@ -30,9 +30,9 @@ read_items-loop-item-preserved g t c =
     let before = c.loop-item.invariant in
     record {
       reads = rw pushed (read_more c.loop-item.done.items c.in_ok-new.new (data-view.items_of (map f s)) (data-view.items_of (map f (drop (i + 1) s))) (f x) c.in_ok-new.ensures.ok (before.reads ∙ ap (λ ds. option_map (append_items (items_value c.loop-item.done.items)) (items_of_data ds)) cut));
-      low = rw pushed (low_push c.loop-item.done.items c.in_ok-new.new c.args.left before.low c.in_ok-new.ensures.low);
+      low = rw pushed (low_push c.loop-item.done.items c.in_ok-new.new c.args.left before.low c.in_ok-new.ensures.depth);
       rest = omega (arith, ap raw.items_depth cut, before.rest);
-      own = ap items_unique pushed ∙ own_push c.loop-item.done.items c.in_ok-new.new before.own c.in_ok-new.ensures.own;
+      own = ap items_unique pushed ∙ own_push c.loop-item.done.items c.in_ok-new.new before.own c.in_ok-new.ensures.unique;
     }
 
 pub read_items-returns-clause-ok : goal.read_items-returns-clause-ok
@@ -69,8 +69,8 @@ read_members-loop-key-preserved g t c =
       done = done ++ e ∷ [];
       split = l.invariant.split ∙ ap (λ es. done ++ es) c.in-Some.ensures.steps ∙ sym (append_assoc done (e ∷ []) left);
       reads = rw pushed (member_more g.D.JsonData.json done ms e c.in_ok-value.value l.invariant.reads c.in_ok-value.ensures.ok);
-      low = rw pushed (member_low ms (e.0.now, c.in_ok-value.value) c.args.left l.invariant.low c.in_ok-value.ensures.low);
-      own = ap entries_own pushed ∙ member_own ms (e.0.now, c.in_ok-value.value) l.invariant.own c.in_ok-value.ensures.own;
+      low = rw pushed (member_low ms (e.0.now, c.in_ok-value.value) c.args.left l.invariant.low c.in_ok-value.ensures.depth);
+      own = ap entries_own pushed ∙ member_own ms (e.0.now, c.in_ok-value.value) l.invariant.own c.in_ok-value.ensures.unique;
     }
 
 pub read_members-loop-key-init : goal.read_members-loop-key-init
@@ -97,12 +97,12 @@ read_members-returns-clause-ok g t c =
     object_made g.D.JsonData.json c.args.members.now.entries l.invariant.done l.key-iterator (map key_value l.entries.items) (map_entries made.field-0)
     l.invariant.split c.in-None.ensures.steps.0 l.invariant.reads made.ensures.members
 
-pub read_members-returns-clause-low : goal.read_members-returns-clause-low
-read_members-returns-clause-low g t c =
+pub read_members-returns-clause-depth : goal.read_members-returns-clause-depth
+read_members-returns-clause-depth g t c =
     subst (λ es. members_depth (members_value es) ≤ c.args.left) (sym c.in_ok-from_sorted.ensures.members) c.loop-key.invariant.low
 
-pub read_members-returns-clause-own : goal.read_members-returns-clause-own
-read_members-returns-clause-own g t c =
+pub read_members-returns-clause-unique : goal.read_members-returns-clause-unique
+read_members-returns-clause-unique g t c =
     let m = c.in_ok-from_sorted.field-0 in
-    and_intro (members_own m) (members_unique (vec_items (map_chunks m))) c.in_ok-from_sorted.ensures.own
+    and_intro (members_own m) (members_unique (vec_items (map_chunks m))) c.in_ok-from_sorted.ensures.unique
     (owns_of (vec_items (map_chunks m)) ∙ ap entries_own c.in_ok-from_sorted.ensures.members ∙ c.loop-key.invariant.own)

@@ -3,8 +3,8 @@ use Rattle.sdb_value.proofs.list_edits.put_item_back.Goals as goal
 
 pub returns-clause-items : goal.returns-clause-items
 returns-clause-items c =
-    surely_set c.replace.result c.args.items.now c.replace.new.self c.args.index c.args.item c.replace.ensures.ok c.replace.ensures.shared c.requires
+    surely_set c.replace.result c.args.items.now c.replace.new.self c.args.index c.args.item c.replace.ensures.ok c.replace.ensures.shared_on_err c.requires
 
-pub returns-clause-own : goal.returns-clause-own
-returns-clause-own c =
-    own_result c.replace.result c.args.items.now c.replace.new.self c.args.index c.args.item c.replace.ensures.ok c.replace.ensures.err c.replace.ensures.own
+pub returns-clause-unique : goal.returns-clause-unique
+returns-clause-unique c =
+    own_result c.replace.result c.args.items.now c.replace.new.self c.args.index c.args.item c.replace.ensures.ok c.replace.ensures.err c.replace.ensures.unique

@@ -1,4 +1,4 @@
-use Rattle.sdb_value.specs.PrefixLaws.{on_any_err}
+use Rattle.sdb_value.specs.laws.PrefixLaws.{on_any_err}
 use Rattle.sdb_value.proofs.ListLemmas.{list_removed, list_same, own_removed}
 use Rattle.sdb_value.proofs.list_edits.remove_item.Goals as goal
 
@@ -10,5 +10,5 @@ returns-clause-ok c =
     list_removed c.in_ok-remove.field-0 c.is_some.result c.args.items.now c.remove.new.self c.args.index c.in_ok-remove.ensures.item c.in_ok-remove.ensures.ok
     c.is_some.ensures
 
-pub returns-clause-own : goal.returns-clause-own
-returns-clause-own c = own_removed c.args.items.now c.remove.new.self c.args.index c.in_ok-remove.ensures.ok c.remove.ensures.own
+pub returns-clause-unique : goal.returns-clause-unique
+returns-clause-unique c = own_removed c.args.items.now c.remove.new.self c.args.index c.in_ok-remove.ensures.ok c.remove.ensures.unique

@@ -1,17 +1,17 @@
-use Rattle.sdb_value.specs.PrefixLaws.{on_any_err}
+use Rattle.sdb_value.specs.laws.PrefixLaws.{on_any_err}
 use Rattle.sdb_value.proofs.ListLemmas.{list_replaced, list_same, own_replaced, own_same}
 use Rattle.sdb_value.proofs.list_edits.replace_item.Goals as goal
 
 pub returns-in_err-replace-clause-err : goal.returns-in_err-replace-clause-err
 returns-in_err-replace-clause-err c = on_any_err c.from_residual.result (list_same c.args.items.now c.replace.new.self c.in_err-replace.ensures.err)
 
-pub returns-in_err-replace-clause-own : goal.returns-in_err-replace-clause-own
-returns-in_err-replace-clause-own c own fresh = own_same c.args.items.now c.replace.new.self c.in_err-replace.ensures.err c.replace.ensures.own own
+pub returns-in_err-replace-clause-unique : goal.returns-in_err-replace-clause-unique
+returns-in_err-replace-clause-unique c own fresh = own_same c.args.items.now c.replace.new.self c.in_err-replace.ensures.err c.replace.ensures.unique own
 
 pub returns-clause-ok : goal.returns-clause-ok
 returns-clause-ok c =
     list_replaced c.in_ok-replace.field-0 c.is_some.result c.args.items.now c.replace.new.self c.args.index c.args.new c.in_ok-replace.ensures.item
     c.in_ok-replace.ensures.ok c.is_some.ensures
 
-pub returns-clause-own : goal.returns-clause-own
-returns-clause-own c = own_replaced c.args.items.now c.replace.new.self c.args.index c.args.new c.in_ok-replace.ensures.ok c.replace.ensures.own
+pub returns-clause-unique : goal.returns-clause-unique
+returns-clause-unique c = own_replaced c.args.items.now c.replace.new.self c.args.index c.args.new c.in_ok-replace.ensures.ok c.replace.ensures.unique

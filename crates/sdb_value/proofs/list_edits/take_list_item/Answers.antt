@@ -15,9 +15,9 @@ returns-clause-left c = null_left c.replace.result c.args.items.now c.replace.ne
 pub returns-clause-err : goal.returns-clause-err
 returns-clause-err c = kept_result c.replace.result c.args.items.now c.replace.new.self c.replace.ensures.err
 
-pub returns-clause-own : goal.returns-clause-own
-returns-clause-own c own =
-    own_result c.replace.result c.args.items.now c.replace.new.self c.args.index json.Null c.replace.ensures.ok c.replace.ensures.err c.replace.ensures.own own owned_null
+pub returns-clause-unique : goal.returns-clause-unique
+returns-clause-unique c own =
+    own_result c.replace.result c.args.items.now c.replace.new.self c.args.index json.Null c.replace.ensures.ok c.replace.ensures.err c.replace.ensures.unique own owned_null
 
 pub returns-clause-item_own : goal.returns-clause-item_own
 returns-clause-item_own c = taken_own c.replace.result c.args.items.now c.args.index c.replace.ensures.item

@@ -1,5 +1,5 @@
 use Rattle.std.proofs.Common.{string_bytes}
-use Rattle.sdb_value.specs.PrefixLaws.{on_any_err}
+use Rattle.sdb_value.specs.laws.PrefixLaws.{on_any_err}
 use Rattle.sdb_value.proofs.PutLemmas.{object_put, object_kept, object_absent, own_inserted}
 use Rattle.sdb_value.proofs.object_edits.put_at_key.Goals as goal
 
@@ -10,13 +10,13 @@ pub returns-in_err-insert-clause-absent : goal.returns-in_err-insert-clause-abse
 returns-in_err-insert-clause-absent c own =
     on_any_err c.from_residual.result (object_absent c.args.members.now (string_bytes c.args.key) (c.in_err-insert.ensures.absent own))
 
-pub returns-in_err-insert-clause-own : goal.returns-in_err-insert-clause-own
-returns-in_err-insert-clause-own c own new =
-    own_inserted c.insert.result c.args.members.now c.insert.new.self (string_bytes c.args.key) c.args.new c.insert.ensures.ok c.insert.ensures.err c.insert.ensures.own own new
+pub returns-in_err-insert-clause-unique : goal.returns-in_err-insert-clause-unique
+returns-in_err-insert-clause-unique c own new =
+    own_inserted c.insert.result c.args.members.now c.insert.new.self (string_bytes c.args.key) c.args.new c.insert.ensures.ok c.insert.ensures.err c.insert.ensures.unique own new
 
 pub returns-clause-ok : goal.returns-clause-ok
 returns-clause-ok c = object_put c.args.members.now c.insert.new.self (string_bytes c.args.key) c.args.new c.in_ok-insert.ensures.ok
 
-pub returns-clause-own : goal.returns-clause-own
-returns-clause-own c own new =
-    own_inserted c.insert.result c.args.members.now c.insert.new.self (string_bytes c.args.key) c.args.new c.insert.ensures.ok c.insert.ensures.err c.insert.ensures.own own new
+pub returns-clause-unique : goal.returns-clause-unique
+returns-clause-unique c own new =
+    own_inserted c.insert.result c.args.members.now c.insert.new.self (string_bytes c.args.key) c.args.new c.insert.ensures.ok c.insert.ensures.err c.insert.ensures.unique own new

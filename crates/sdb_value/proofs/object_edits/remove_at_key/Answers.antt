@@ -1,20 +1,20 @@
-use Rattle.sdb_value.specs.PrefixLaws.{on_any_err}
+use Rattle.sdb_value.specs.laws.PrefixLaws.{on_any_err}
 use Rattle.sdb_value.proofs.PutLemmas.{object_without, object_kept, not_held, own_removed}
 use Rattle.sdb_value.proofs.object_edits.remove_at_key.Goals as goal
 
 pub returns-in_err-remove-clause-err : goal.returns-in_err-remove-clause-err
 returns-in_err-remove-clause-err c = on_any_err c.from_residual.result (object_kept c.args.members.now c.remove.new.self c.in_err-remove.ensures.err)
 
-pub returns-in_err-remove-clause-own : goal.returns-in_err-remove-clause-own
-returns-in_err-remove-clause-own c own =
-    own_removed c.remove.result c.args.members.now c.remove.new.self c.args.key.now c.remove.ensures.ok c.remove.ensures.err c.remove.ensures.own own
+pub returns-in_err-remove-clause-unique : goal.returns-in_err-remove-clause-unique
+returns-in_err-remove-clause-unique c own =
+    own_removed c.remove.result c.args.members.now c.remove.new.self c.args.key.now c.remove.ensures.ok c.remove.ensures.err c.remove.ensures.unique own
 
-pub returns-in_err-remove-clause-shared : goal.returns-in_err-remove-clause-shared
-returns-in_err-remove-clause-shared c = on_any_err c.from_residual.result (not_held c.args.members.now c.in_err-remove.ensures.shared)
+pub returns-in_err-remove-clause-shared_on_err : goal.returns-in_err-remove-clause-shared_on_err
+returns-in_err-remove-clause-shared_on_err c = on_any_err c.from_residual.result (not_held c.args.members.now c.in_err-remove.ensures.shared_on_err)
 
 pub returns-clause-ok : goal.returns-clause-ok
 returns-clause-ok c = object_without c.args.members.now c.remove.new.self c.args.key.now c.in_ok-remove.ensures.ok
 
-pub returns-clause-own : goal.returns-clause-own
-returns-clause-own c own =
-    own_removed c.remove.result c.args.members.now c.remove.new.self c.args.key.now c.remove.ensures.ok c.remove.ensures.err c.remove.ensures.own own
+pub returns-clause-unique : goal.returns-clause-unique
+returns-clause-unique c own =
+    own_removed c.remove.result c.args.members.now c.remove.new.self c.args.key.now c.remove.ensures.ok c.remove.ensures.err c.remove.ensures.unique own

@@ -28,9 +28,9 @@ returns-clause-err c = kept_values c.replace.result c.args.entries.now c.replace
 pub returns-clause-err_names : goal.returns-clause-err_names
 returns-clause-err_names c = kept_names c.replace.result c.args.entries.now c.replace.new.self c.replace.ensures.err
 
-pub returns-clause-own : goal.returns-clause-own
-returns-clause-own c own =
-    own_replaced c.replace.result c.args.entries.now c.replace.new.self c.args.index (record { key = c.new-2.result; value = json.Null }) c.replace.ensures.ok c.replace.ensures.err c.replace.ensures.own own owned_null
+pub returns-clause-unique : goal.returns-clause-unique
+returns-clause-unique c own =
+    own_replaced c.replace.result c.args.entries.now c.replace.new.self c.args.index (record { key = c.new-2.result; value = json.Null }) c.replace.ensures.ok c.replace.ensures.err c.replace.ensures.unique own owned_null
 
 pub returns-clause-value_own : goal.returns-clause-value_own
 returns-clause-value_own c = own_taken c.replace.result c.args.entries.now c.args.index c.replace.ensures.item

@@ -1,7 +1,7 @@
 use Rattle.std.proofs.Common.{◌<◌, ◌^◌, ◌∷◌, [], length, option_map, slice_set, subst, ap, sym, ◌∙◌}
 use Rattle.std.proofs.lemmas.Result.{on_err_weaker}
-use Rattle.sdb_value.specs.PrefixLaws.{on_any_err}
-use Rattle.sdb_value.specs.ValueLaws.{of_some, eq_list_of_as_list, eq_object_of_as_object}
+use Rattle.sdb_value.specs.laws.PrefixLaws.{on_any_err}
+use Rattle.sdb_value.specs.laws.ValueLaws.{of_some, eq_list_of_as_list, eq_object_of_as_object}
 use Rattle.sdb_sorted_map.specs.MapEntry.{entry_key}
 use Rattle.sdb_sorted_map.specs.SortedMap.{map_chunks}
 use Rattle.sdb_sorted_map.specs.KeyOrder.{IsAscending}
@@ -32,9 +32,9 @@ change_at-returns-in-Some-list_mut-clause-err g t c =
     ∙ sym (eq_list_of_as_list (value_of c.args.value.now) (list_value c.in-Some-list_mut.items.now) c.in-Some-list_mut.ensures.value))
     c.change_item.ensures.err
 
-pub change_at-returns-in-Some-list_mut-clause-own : goal.change_at-returns-in-Some-list_mut-clause-own
-change_at-returns-in-Some-list_mut-clause-own g t c keeps own =
-    (of_some _ _ c.in-Some-list_mut.is (c.list_mut.follows.holds _)).1 ∙ c.change_item.ensures.own keeps (c.in-Some-list_mut.ensures.own ∙ own)
+pub change_at-returns-in-Some-list_mut-clause-unique : goal.change_at-returns-in-Some-list_mut-clause-unique
+change_at-returns-in-Some-list_mut-clause-unique g t c keeps own =
+    (of_some _ _ c.in-Some-list_mut.is (c.list_mut.follows.holds _)).1 ∙ c.change_item.ensures.unique keeps (c.in-Some-list_mut.ensures.unique ∙ own)
 
 -- ---- at a member
 
@@ -54,15 +54,15 @@ change_at-returns-in-Some-object_mut-clause-err g t c =
     ∙ sym (eq_object_of_as_object (value_of c.args.value.now) (object_value c.in-Some-object_mut.members.now) c.in-Some-object_mut.ensures.value))
     c.change_member.ensures.err
 
-pub change_at-returns-in-Some-object_mut-clause-own : goal.change_at-returns-in-Some-object_mut-clause-own
-change_at-returns-in-Some-object_mut-clause-own g t c keeps own =
-    (of_some _ _ c.in-Some-object_mut.is (c.object_mut.follows.holds _)).1 ∙ c.change_member.ensures.own keeps (c.in-Some-object_mut.ensures.own ∙ own)
+pub change_at-returns-in-Some-object_mut-clause-unique : goal.change_at-returns-in-Some-object_mut-clause-unique
+change_at-returns-in-Some-object_mut-clause-unique g t c keeps own =
+    (of_some _ _ c.in-Some-object_mut.is (c.object_mut.follows.holds _)).1 ∙ c.change_member.ensures.unique keeps (c.in-Some-object_mut.ensures.unique ∙ own)
 
 -- ---- an item, taken out and put back
 
-pub change_item-returns-in_err-item-clause-shared : goal.change_item-returns-in_err-item-clause-shared
-change_item-returns-in_err-item-clause-shared g t c =
-    on_any_err c.from_residual.result (shared_place c.args.items.now c.args.number c.in_err-item.ensures.shared)
+pub change_item-returns-in_err-item-clause-shared_on_err : goal.change_item-returns-in_err-item-clause-shared_on_err
+change_item-returns-in_err-item-clause-shared_on_err g t c =
+    on_any_err c.from_residual.result (shared_place c.args.items.now c.args.number c.in_err-item.ensures.shared_on_err)
 
 pub change_item-returns-clause-done : goal.change_item-returns-clause-done
 change_item-returns-clause-done g t c =
@@ -84,9 +84,9 @@ change_item-returns-clause-err g t c =
 
 -- ---- a member, taken out and put back
 
-pub change_value-returns-in_err-member-clause-shared : goal.change_value-returns-in_err-member-clause-shared
-change_value-returns-in_err-member-clause-shared g t c =
-    on_any_err c.from_residual.result (shared_member c.args.entries.now c.args.number c.in_err-member.ensures.shared)
+pub change_value-returns-in_err-member-clause-shared_on_err : goal.change_value-returns-in_err-member-clause-shared_on_err
+change_value-returns-in_err-member-clause-shared_on_err g t c =
+    on_any_err c.from_residual.result (shared_member c.args.entries.now c.args.number c.in_err-member.ensures.shared_on_err)
 
 pub change_value-returns-clause-done : goal.change_value-returns-clause-done
 change_value-returns-clause-done g t c =
@@ -114,8 +114,8 @@ change_value-returns-clause-err g t c =
 
 -- ---- a member of an object
 
-pub change_member-from_entries-requires-clause-small : goal.change_member-from_entries-requires-clause-small
-change_member-from_entries-requires-clause-small g t c = subst (λ ts. length ts < 2 ^ 64) (sym c.change_value-done.ensures.names) c.into_chunks-entries.ensures.small
+pub change_member-from_entries-requires-clause-bound : goal.change_member-from_entries-requires-clause-bound
+change_member-from_entries-requires-clause-bound g t c = subst (λ ts. length ts < 2 ^ 64) (sym c.change_value-done.ensures.names) c.into_chunks-entries.ensures.bound
 
 pub change_member-from_entries-requires-clause-ascending : goal.change_member-from_entries-requires-clause-ascending
 change_member-from_entries-requires-clause-ascending g t c = subst IsAscending (sym c.change_value-done.ensures.names) c.into_chunks-entries.ensures.ascending
@@ -123,30 +123,30 @@ change_member-from_entries-requires-clause-ascending g t c = subst IsAscending (
 pub change_member-returns-in-Ok-clause-done : goal.change_member-returns-in-Ok-clause-done
 change_member-returns-in-Ok-clause-done g t c =
     told_members c.change_value-done.result (λ r u v. g.C.Change.relation c.args.change u v r) c.args.name.now c.in-Ok.index (plain_path c.args.rest.now) c.args.members.now c.from_entries.result
-    c.into_chunks-entries.result c.change_value-done.new.entries (c.into_chunks-entries.ensures.same ∙ ap map_chunks c.replace.ensures.value) c.from_entries.ensures
+    c.into_chunks-entries.result c.change_value-done.new.entries (c.into_chunks-entries.ensures.equal ∙ ap map_chunks c.replace.ensures.value) c.from_entries.ensures
     c.change_value-done.ensures.names c.in-Ok.ensures.found c.change_value-done.ensures.done
 
 pub change_member-returns-in-Ok-clause-err : goal.change_member-returns-in-Ok-clause-err
 change_member-returns-in-Ok-clause-err g t c =
-    let same = c.into_chunks-entries.ensures.same ∙ ap map_chunks c.replace.ensures.value in
+    let same = c.into_chunks-entries.ensures.equal ∙ ap map_chunks c.replace.ensures.value in
     on_err_weaker c.change_value-done.result
     (λ h. same_object c.args.members.now c.from_entries.result (ap vec_keys c.from_entries.ensures ∙ c.change_value-done.ensures.names ∙ ap vec_keys same)
     (ap values_of_entries c.from_entries.ensures ∙ h ∙ ap values_of_entries same)) c.change_value-done.ensures.err
 
-pub change_member-returns-in-Ok-clause-own : goal.change_member-returns-in-Ok-clause-own
-change_member-returns-in-Ok-clause-own g t c keeps own =
-    let same = c.into_chunks-entries.ensures.same ∙ ap map_chunks c.replace.ensures.value in
-    ap entries_unique c.from_entries.ensures ∙ c.change_value-done.ensures.own keeps (ap entries_unique same ∙ own)
+pub change_member-returns-in-Ok-clause-unique : goal.change_member-returns-in-Ok-clause-unique
+change_member-returns-in-Ok-clause-unique g t c keeps own =
+    let same = c.into_chunks-entries.ensures.equal ∙ ap map_chunks c.replace.ensures.value in
+    ap entries_unique c.from_entries.ensures ∙ c.change_value-done.ensures.unique keeps (ap entries_unique same ∙ own)
 
-pub change_member-returns-in-Ok-clause-shared : goal.change_member-returns-in-Ok-clause-shared
-change_member-returns-in-Ok-clause-shared g t c =
-    let same = c.into_chunks-entries.ensures.same ∙ ap map_chunks c.replace.ensures.value in
-    on_err_weaker c.change_value-done.result (λ h. sym (ap entries_unique same) ∙ h) c.change_value-done.ensures.shared
+pub change_member-returns-in-Ok-clause-shared_on_err : goal.change_member-returns-in-Ok-clause-shared_on_err
+change_member-returns-in-Ok-clause-shared_on_err g t c =
+    let same = c.into_chunks-entries.ensures.equal ∙ ap map_chunks c.replace.ensures.value in
+    on_err_weaker c.change_value-done.result (λ h. sym (ap entries_unique same) ∙ h) c.change_value-done.ensures.shared_on_err
 
-pub change_member-returns-in-Ok-clause-answer : goal.change_member-returns-in-Ok-clause-answer
-change_member-returns-in-Ok-clause-answer g t c own =
-    let same = c.into_chunks-entries.ensures.same ∙ ap map_chunks c.replace.ensures.value in
-    c.change_value-done.ensures.answer (ap entries_unique same ∙ own)
+pub change_member-returns-in-Ok-clause-result_unique : goal.change_member-returns-in-Ok-clause-result_unique
+change_member-returns-in-Ok-clause-result_unique g t c own =
+    let same = c.into_chunks-entries.ensures.equal ∙ ap map_chunks c.replace.ensures.value in
+    c.change_value-done.ensures.result_unique (ap entries_unique same ∙ own)
 
 pub change_member-returns-in-Err-clause-done : goal.change_member-returns-in-Err-clause-done
-change_member-returns-in-Err-clause-done g t c = key_missing c.args.members.now c.args.name.now c.in-Err.field-0 (plain_path c.args.rest.now) c.in-Err.ensures.gap
+change_member-returns-in-Err-clause-done g t c = key_missing c.args.members.now c.args.name.now c.in-Err.field-0 (plain_path c.args.rest.now) c.in-Err.ensures.insert_index

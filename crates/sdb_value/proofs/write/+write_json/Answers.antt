@@ -6,7 +6,7 @@ use Rattle.json.specs.Written.{WritesFront}
 use Rattle.sdb_value.specs.ToJson.{array_tail_tokens, data_tokens, object_tail_tokens}
 use Rattle.sdb_value.specs.FromJson.{data_of_value, data_of_items, data_of_members}
 use Rattle.sdb_value.specs.View.{value_of, items_value, members_value, object_value}
-use Rattle.sdb_value.specs.PrefixLaws.{on_any_err, writes_prefix_after_append}
+use Rattle.sdb_value.specs.laws.PrefixLaws.{on_any_err, writes_prefix_after_append}
 use Rattle.sdb_value.proofs.WriteLemmas.{array_written, array_front, object_written, object_front}
 use Rattle.sdb_value.proofs.WeightLemmas.{members_rest_below}
 use Rattle.sdb_value.proofs.write.+write_json.Goals as goal

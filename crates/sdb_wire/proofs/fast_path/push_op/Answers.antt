@@ -13,7 +13,7 @@ returns-clause-items c =
     ap print (c.in_ok-write_op.ensures.tokens ∙ ap (λ ts. ts ++ data_tokens d) c.new-out.ensures.tokens)
     ∙ print-outline d in
     c.into_inner.ensures.items
-    ∙ rw (printed, c.in_ok-write_op.ensures.before) (ap (λ xs. xs ++ compact_text d) c.new-out.ensures.before)
+    ∙ rw (printed, c.in_ok-write_op.ensures.before_unchanged) (ap (λ xs. xs ++ compact_text d) c.new-out.ensures.before)
 
 pub returns-clause-utf8 : goal.returns-clause-utf8
 returns-clause-utf8 c =

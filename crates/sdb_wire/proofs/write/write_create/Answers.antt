@@ -5,7 +5,7 @@ use Rattle.serde_json.specs.Data.{member, no_members}
 use Rattle.sdb_value.specs.ToJson.{data_tokens, object_tail_tokens}
 use Rattle.sdb_value.specs.FromJson.{data_of_value}
 use Rattle.sdb_value.specs.View.{value_of}
-use Rattle.sdb_value.specs.PrefixLaws.{on_any_err, writes_prefix_after_append, writes_prefix_after}
+use Rattle.sdb_value.specs.laws.PrefixLaws.{on_any_err, writes_prefix_after_append, writes_prefix_after}
 use Rattle.sdb_wire.specs.Answers.{type_data}
 use Rattle.sdb_wire.proofs.write.write_create.Goals as goal
 

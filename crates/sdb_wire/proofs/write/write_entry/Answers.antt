@@ -5,7 +5,7 @@ use Rattle.json.specs.Token.{begin_object}
 use Rattle.sdb_component.specs.ToJson.{op_data}
 use Rattle.sdb_oplog.specs.Plain.{PlainContent, PlainEntry, create, delete, edit}
 use Rattle.sdb_value.specs.ToJson.{data_tokens, object_tail_tokens}
-use Rattle.sdb_value.specs.PrefixLaws.{writes_prefix_of_rest}
+use Rattle.sdb_value.specs.laws.PrefixLaws.{writes_prefix_of_rest}
 use Rattle.sdb_wire.specs.Answers.{create_data, entry_members, op_tail}
 use Rattle.sdb_wire.proofs.write.write_entry.Goals as goal
 

@@ -6,7 +6,7 @@ use Rattle.sdb_oplog.specs.Plain.{create, delete, edit}
 use Rattle.sdb_oplog.specs.View.{plain_kind}
 use Rattle.sdb_value.specs.ToJson.{data_tokens, object_tail_tokens}
 use Rattle.sdb_value.specs.View.{value_of}
-use Rattle.sdb_value.specs.PrefixLaws.{token_refused_prefix, writes_prefix_after_append}
+use Rattle.sdb_value.specs.laws.PrefixLaws.{token_refused_prefix, writes_prefix_after_append}
 use Rattle.sdb_wire.specs.Answers.{create_data, op_tail}
 use Rattle.sdb_wire.proofs.write.write_entry_content.Goals as goal
 

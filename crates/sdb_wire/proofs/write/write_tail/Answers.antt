@@ -2,7 +2,7 @@ use Rattle.std.proofs.Common.{◌≡◌, ◌∷◌, [], ◌++◌, codes, decimal
 use Rattle.json.specs.Token.{key, number, string}
 use Rattle.serde_json.specs.Data.{member, no_members, unsigned, number as number_data}
 use Rattle.sdb_value.specs.ToJson.{object_tail_tokens}
-use Rattle.sdb_value.specs.PrefixLaws.{on_any_err, writes_prefix_append, writes_prefix_after_append}
+use Rattle.sdb_value.specs.laws.PrefixLaws.{on_any_err, writes_prefix_append, writes_prefix_after_append}
 use Rattle.sdb_wire.proofs.write.write_tail.Goals as goal
 
 pub returns-in_err-write_count-clause-err : goal.returns-in_err-write_count-clause-err

@@ -19,17 +19,17 @@ close-shards-requires-clause-callers g c =
     let ps = c.args.passes.items in
     let qs = c.has_every_pass.new.passes.items in
     subst (λ (cs : List (SeatSet Held)). ForEach (λ s. SeatSetBelongsTo s l) cs) (sym c.seat_sets_of.ensures)
-    (all_of l qs (each_permuted (λ p. HasSeatsOf p l) ps qs c.has_every_pass.ensures.same c.requires.passes))
+    (all_of l qs (each_permuted (λ p. HasSeatsOf p l) ps qs c.has_every_pass.ensures.equal c.requires.passes))
 
 pub close-shards-requires-clause-all : goal.close-shards-requires-clause-all
 close-shards-requires-clause-all g c =
     λ k some lt.
     subst (λ (cs : List (SeatSet Held)). HasNumber k cs) (sym c.seat_sets_of.ensures)
-    (numbers_there (next_pass_number c.args.host) c.args.passes.items c.has_every_pass.new.passes.items c.has_every_pass.ensures.same (c.if-not-has_every_pass.ensures.all refl) k some
+    (numbers_there (next_pass_number c.args.host) c.args.passes.items c.has_every_pass.new.passes.items c.has_every_pass.ensures.equal (c.if-not-has_every_pass.ensures.all refl) k some
     (subst (λ (f : RootSeats Held). k < f.next) c.into_seats.ensures lt))
 
-pub close-shards-requires-clause-room : goal.close-shards-requires-clause-room
-close-shards-requires-clause-room g c =
+pub close-shards-requires-clause-bound : goal.close-shards-requires-clause-bound
+close-shards-requires-clause-bound g c =
     let qs = c.has_every_pass.new.passes in
     subst (λ (n : ℕ). HasCapacity n c.in-Ok.places) (c.len.ensures ∙ qs.ok.0 ∙ sym (ap length c.seat_sets_of.ensures ∙ length_seats qs.items)) c.in-Ok.ensures.places
 
@@ -39,12 +39,12 @@ returns-in-Ok-clause-ended g c =
     let host = c.args.host in
     let ps = c.args.passes.items in
     let qs = c.has_every_pass.new.passes.items in
-    let perm = c.has_every_pass.ensures.same in
+    let perm = c.has_every_pass.ensures.equal in
     let all = c.if-not-has_every_pass.ensures.all refl in
     let shards = c.close-shards.result.items in
     let there : c.new.result.shards.items ≡ shards = ap (λ v. v.items) c.new.ensures in
     let closed : AreAllClosed host qs shards = (
-      c.close-shards.ensures.eight,
+      c.close-shards.ensures.length,
       λ i d lt.
           subst (λ (f : RootSeats Held). IsCloseResult ExtendsHeld SameHeld BlankHeld f (seats_of qs) i (slice_index_or shards i d)) c.into_seats.ensures
           (subst (λ (cs : List (SeatSet Held)). IsCloseResult ExtendsHeld SameHeld BlankHeld c.into_seats.result cs i (slice_index_or shards i d)) c.seat_sets_of.ensures

@@ -1,6 +1,6 @@
 use Rattle.std.proofs.Common.{◌≡◌, sym, subst}
 use Rattle.sdb_desk.specs.ShardView.{machine_of}
-use Rattle.sdb_striped_lock.specs.Laws.{root_has_seen_unique}
+use Rattle.sdb_striped_lock.specs.laws.SeatLaws.{root_has_seen_unique}
 use Rattle.sdb_striped_lock.specs.declared.striped_lock.RootSeats.{RootSeats}
 use Rattle.sdb_backend.specs.HistoryOrder.{share_of, empty_share}
 use Rattle.sdb_backend.specs.PassModel.{HasRootSeatsOf}
@@ -9,7 +9,7 @@ use Rattle.sdb_backend.proofs.backend.Backend.enter.Goals as goal
 
 pub returns-in-Ok-clause-host : goal.returns-in-Ok-clause-host
 returns-in-Ok-clause-host g c = (
-  c.in-Ok.ensures.own,
+  c.in-Ok.ensures.belongs,
   λ i lt.
       let s = c.in-Ok.ensures.seen i lt in
       let y = c.requires.1 i lt in
@@ -21,7 +21,7 @@ pub returns-in-Ok-clause-new : goal.returns-in-Ok-clause-new
 returns-in-Ok-clause-new g c = λ i lt. let s = c.in-Ok.ensures.seen i lt in (s.0, s.3, s.4)
 
 pub returns-in-Err-OutOfNumbers-clause-host : goal.returns-in-Err-OutOfNumbers-clause-host
-returns-in-Err-OutOfNumbers-clause-host g c = subst (λ (f : RootSeats Held). HasRootSeatsOf (record { seats = f }) c.args.self.now.locks) (sym c.in-Err-OutOfNumbers.ensures.same) c.requires
+returns-in-Err-OutOfNumbers-clause-host g c = subst (λ (f : RootSeats Held). HasRootSeatsOf (record { seats = f }) c.args.self.now.locks) (sym c.in-Err-OutOfNumbers.ensures.unchanged_on_err) c.requires
 
 pub returns-in-Err-OutOfMemory-clause-host : goal.returns-in-Err-OutOfMemory-clause-host
-returns-in-Err-OutOfMemory-clause-host g c = subst (λ (f : RootSeats Held). HasRootSeatsOf (record { seats = f }) c.args.self.now.locks) (sym c.in-Err-OutOfMemory.ensures.same) c.requires
+returns-in-Err-OutOfMemory-clause-host g c = subst (λ (f : RootSeats Held). HasRootSeatsOf (record { seats = f }) c.args.self.now.locks) (sym c.in-Err-OutOfMemory.ensures.unchanged_on_err) c.requires

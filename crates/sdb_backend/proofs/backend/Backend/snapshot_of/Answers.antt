@@ -4,7 +4,7 @@ use Rattle.sdb_oplog.specs.Keys.{Logs, plain_key, shard_of}
 use Rattle.sdb_desk.specs.ShardView.{machine_of, logs_of}
 use Rattle.sdb_desk.specs.View.{plain_replay_base}
 use Rattle.sdb_submit.specs.Calls.{forget, snapshot}
-use Rattle.sdb_striped_lock.specs.Laws.{have_seen_unique}
+use Rattle.sdb_striped_lock.specs.laws.SeatLaws.{have_seen_unique}
 use Rattle.sdb_backend.specs.CallAnswers.{AnsweredAtExtension}
 use Rattle.sdb_backend.specs.ReplayBases.{IsDocumentAt}
 use Rattle.sdb_backend.specs.PassModel.{pass_number}
@@ -16,7 +16,7 @@ use Rattle.sdb_backend.proofs.backend.Backend.snapshot_of.Goals as goal
 pub run-requires-2-clause-ready : goal.run-requires-2-clause-ready
 run-requires-2-clause-ready g c =
     λ x w saw ext same.
-    let d = c.in_ok-lent.ensures.done in
+    let d = c.in_ok-lent.ensures.ran in
     let k = plain_key c.args.key.now in
     let v = c.args.version in
     let s = option_map value_of c.in_ok-snapshot.snapshot in
@@ -28,13 +28,13 @@ run-requires-2-clause-ready g c =
 
 pub returns-clause-answered : goal.returns-clause-answered
 returns-clause-answered g c =
-    let d = c.in_ok-lent.ensures.done in
-    let e = c.run-2.ensures.done in
+    let d = c.in_ok-lent.ensures.ran in
+    let e = c.run-2.ensures.ran in
     let k = plain_key c.args.key.now in
     let v = c.args.version in
     let s = option_map value_of c.in_ok-snapshot.snapshot in
     let first : AnsweredAtExtension k forget c.args.pass.now tt c.run.new.pass =
-    (d.0, d.1, d.2, d.3, d.4, d.5, d.6.1, d.7, c.run.ensures.number, c.run.ensures.others) in
+    (d.0, d.1, d.2, d.3, d.4, d.5, d.6.1, d.7, c.run.ensures.number, c.run.ensures.others_unchanged) in
     let second : AnsweredAtExtension k (snapshot (Some v)) c.run.new.pass (Ok (record { version = v; snapshot = s })) c.run-2.new.pass =
-    (e.0, e.1, e.2, e.3, e.4, e.5, read_at (pass_number c.run.new.pass) (machine_of e.1.shard) (machine_of e.2.shard) k v s e.6.0 e.6.2, e.7, c.run-2.ensures.number, c.run-2.ensures.others) in
+    (e.0, e.1, e.2, e.3, e.4, e.5, read_at (pass_number c.run.new.pass) (machine_of e.1.shard) (machine_of e.2.shard) k v s e.6.0 e.6.2, e.7, c.run-2.ensures.number, c.run-2.ensures.others_unchanged) in
     answered_after_unchanged k forget (snapshot (Some v)) tt (Ok (record { version = v; snapshot = s })) c.args.pass.now c.run.new.pass c.run-2.new.pass first d.6.1 second

@@ -1,12 +1,12 @@
 use Rattle.std.proofs.Common.{◌≡◌, sym, subst, ap, ◌∙◌}
 use Rattle.sdb_oplog.specs.Keys.{plain_key, shard_of}
 use Rattle.sdb_desk.specs.ShardView.{machine_of, logs_of}
-use Rattle.sdb_desk.specs.LookLaws.{IsLook}
+use Rattle.sdb_desk.specs.Looks.{IsLook}
 use Rattle.sdb_desk.specs.Machine.{PlainOutcome}
 use Rattle.sdb_desk.specs.View.{plain_outcome, outcome_of_decision}
 use Rattle.sdb_submit.specs.Calls.{commit, MachineStep, OnMoved}
-use Rattle.sdb_submit.specs.Laws.{moved_is_look}
-use Rattle.sdb_striped_lock.specs.Laws.{have_seen_unique}
+use Rattle.sdb_submit.specs.laws.SubmitLaws.{moved_is_look}
+use Rattle.sdb_striped_lock.specs.laws.SeatLaws.{have_seen_unique}
 use Rattle.sdb_backend.specs.CallAnswers.{IsLookSeenBy}
 use Rattle.sdb_backend.specs.PassModel.{pass_number}
 use Rattle.sdb_backend.specs.declared.shard_value.Held.{Held}
@@ -17,14 +17,14 @@ pub run-decision-requires-clause-ready : goal.run-decision-requires-clause-ready
 run-decision-requires-clause-ready g c =
     λ x v saw ext same.
     let k = plain_key c.args.key.now in
-    let l = c.requires.looked in
+    let l = c.requires.seen in
     let one : l.0 ≡ x = have_seen_unique c.args.pass.now.seats (shard_of k) l.0 x l.1 saw in
     let look : IsLook (logs_of x.shard k) c.args.work.now = subst (λ (y : Held). IsLook (logs_of y.shard k) c.args.work.now) one l.2 in
     (c.requires.by, is_look_of_extension (logs_of x.shard k) (logs_of v.shard k) c.args.work.now (ext.logs k) look)
 
-pub returns-clause-looked : goal.returns-clause-looked
-returns-clause-looked g c =
-    let d = c.run-decision.ensures.done in
+pub returns-clause-seen : goal.returns-clause-seen
+returns-clause-seen g c =
+    let d = c.run-decision.ensures.ran in
     let k = plain_key c.args.key.now in
     let a = c.args.work.now in
     let o = outcome_of_decision a c.run-decision.result in

@@ -4,8 +4,8 @@ use Rattle.sdb_desk.specs.ShardView.{logs_of}
 use Rattle.sdb_backend.proofs.SeenLemmas.{look_result_is_look, map_ok}
 use Rattle.sdb_backend.proofs.desk.BackendDesk.look.Goals as goal
 
-pub returns-clause-looked : goal.returns-clause-looked
-returns-clause-looked g c =
-    let d = c.run.ensures.done in
+pub returns-clause-seen : goal.returns-clause-seen
+returns-clause-seen g c =
+    let d = c.run.ensures.ran in
     let k = plain_key c.args.key.now in
     map_ok c.run.result (λ l h. (d.2, d.7, h)) (look_result_is_look (logs_of d.1.shard k) (logs_of d.2.shard k) c.args.submission.now c.run.result d.6.0 (ap (λ f. f k) d.6.1.0))

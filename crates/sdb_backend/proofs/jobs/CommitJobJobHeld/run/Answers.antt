@@ -7,8 +7,8 @@ use Rattle.sdb_backend.proofs.jobs.CommitJobJobHeld.run.Goals as goal
 
 pub returns-clause-extends : goal.returns-clause-extends
 returns-clause-extends c =
-    (acts_grown c.args._number (machine_of c.args.held.now.shard) (plain_key c.args.self.key.now) (call.commit c.args.self.work.now c.args.self.now) (outcome_of_decision c.args.self.work.now c.decide.result) (machine_of c.decide.new.self) c.requires.0 (c.decide.ensures.commits, c.decide.ensures.queues)).extends
+    (acts_grown c.args._number (machine_of c.args.held.now.shard) (plain_key c.args.self.key.now) (call.commit c.args.self.work.now c.args.self.now) (outcome_of_decision c.args.self.work.now c.decide.result) (machine_of c.decide.new.self) c.requires.0 (c.decide.ensures.commits, c.decide.ensures.queues_unchanged)).extends
 
-pub returns-clause-others : goal.returns-clause-others
-returns-clause-others c =
-    (acts_grown c.args._number (machine_of c.args.held.now.shard) (plain_key c.args.self.key.now) (call.commit c.args.self.work.now c.args.self.now) (outcome_of_decision c.args.self.work.now c.decide.result) (machine_of c.decide.new.self) c.requires.0 (c.decide.ensures.commits, c.decide.ensures.queues)).others
+pub returns-clause-others_unchanged : goal.returns-clause-others_unchanged
+returns-clause-others_unchanged c =
+    (acts_grown c.args._number (machine_of c.args.held.now.shard) (plain_key c.args.self.key.now) (call.commit c.args.self.work.now c.args.self.now) (outcome_of_decision c.args.self.work.now c.decide.result) (machine_of c.decide.new.self) c.requires.0 (c.decide.ensures.commits, c.decide.ensures.queues_unchanged)).others

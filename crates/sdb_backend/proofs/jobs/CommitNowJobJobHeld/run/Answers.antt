@@ -7,8 +7,8 @@ use Rattle.sdb_backend.proofs.jobs.CommitNowJobJobHeld.run.Goals as goal
 
 pub returns-clause-extends : goal.returns-clause-extends
 returns-clause-extends c =
-    (acts_grown c.args._number (machine_of c.args.held.now.shard) (plain_key c.args.self.key.now) (call.commit_now c.args.self.submission.now c.args.self.now) (plain_reply c.commit_now.result) (machine_of c.commit_now.new.self) c.requires (c.commit_now.ensures.decides, c.commit_now.ensures.queues)).extends
+    (acts_grown c.args._number (machine_of c.args.held.now.shard) (plain_key c.args.self.key.now) (call.commit_now c.args.self.submission.now c.args.self.now) (plain_reply c.commit_now.result) (machine_of c.commit_now.new.self) c.requires (c.commit_now.ensures.decides, c.commit_now.ensures.queues_unchanged)).extends
 
-pub returns-clause-others : goal.returns-clause-others
-returns-clause-others c =
-    (acts_grown c.args._number (machine_of c.args.held.now.shard) (plain_key c.args.self.key.now) (call.commit_now c.args.self.submission.now c.args.self.now) (plain_reply c.commit_now.result) (machine_of c.commit_now.new.self) c.requires (c.commit_now.ensures.decides, c.commit_now.ensures.queues)).others
+pub returns-clause-others_unchanged : goal.returns-clause-others_unchanged
+returns-clause-others_unchanged c =
+    (acts_grown c.args._number (machine_of c.args.held.now.shard) (plain_key c.args.self.key.now) (call.commit_now c.args.self.submission.now c.args.self.now) (plain_reply c.commit_now.result) (machine_of c.commit_now.new.self) c.requires (c.commit_now.ensures.decides, c.commit_now.ensures.queues_unchanged)).others

@@ -7,18 +7,18 @@ use Rattle.sdb_backend.proofs.jobs.ReplayBaseAtMomentJobJobHeld.run.Goals as goa
 
 pub returns-in_err-lent-clause-extends : goal.returns-in_err-lent-clause-extends
 returns-in_err-lent-clause-extends c =
-    (same_grown c.args._number (machine_of c.args.held.now.shard) (machine_of c.replay_base.new.self) (c.replay_base.ensures.logs, c.replay_base.ensures.queues)).extends
+    (same_grown c.args._number (machine_of c.args.held.now.shard) (machine_of c.replay_base.new.self) (c.replay_base.ensures.logs_unchanged, c.replay_base.ensures.queues_unchanged)).extends
 
 pub returns-in_err-lent-clause-does : goal.returns-in_err-lent-clause-does
 returns-in_err-lent-clause-does c =
     let log = logs_of c.args.held.now.shard (plain_key c.args.self.key.now) in
     let p = err_from_is_err_and c.from_residual.result c.from_residual.ensures.1 in
-    rw (p.1, p.2) (wanting_lent log c.version_at-version.result c.args.self.moment c.in_err-lent.field-0.0 c.version_at-version.ensures c.in_err-lent.ensures.err, (c.replay_base.ensures.logs, c.replay_base.ensures.queues))
+    rw (p.1, p.2) (wanting_lent log c.version_at-version.result c.args.self.moment c.in_err-lent.field-0.0 c.version_at-version.ensures c.in_err-lent.ensures.err, (c.replay_base.ensures.logs_unchanged, c.replay_base.ensures.queues_unchanged))
 
 pub returns-clause-extends : goal.returns-clause-extends
 returns-clause-extends c =
-    (same_grown c.args._number (machine_of c.args.held.now.shard) (machine_of c.replay_base.new.self) (c.replay_base.ensures.logs, c.replay_base.ensures.queues)).extends
+    (same_grown c.args._number (machine_of c.args.held.now.shard) (machine_of c.replay_base.new.self) (c.replay_base.ensures.logs_unchanged, c.replay_base.ensures.queues_unchanged)).extends
 
-pub returns-clause-others : goal.returns-clause-others
-returns-clause-others c =
-    (same_grown c.args._number (machine_of c.args.held.now.shard) (machine_of c.replay_base.new.self) (c.replay_base.ensures.logs, c.replay_base.ensures.queues)).others
+pub returns-clause-others_unchanged : goal.returns-clause-others_unchanged
+returns-clause-others_unchanged c =
+    (same_grown c.args._number (machine_of c.args.held.now.shard) (machine_of c.replay_base.new.self) (c.replay_base.ensures.logs_unchanged, c.replay_base.ensures.queues_unchanged)).others

@@ -4,8 +4,8 @@ use Rattle.sdb_backend.proofs.jobs.ReplayBaseJobJobHeld.run.Goals as goal
 
 pub returns-clause-extends : goal.returns-clause-extends
 returns-clause-extends c =
-    (same_grown c.args._number (machine_of c.args.held.now.shard) (machine_of c.replay_base.new.self) (c.replay_base.ensures.logs, c.replay_base.ensures.queues)).extends
+    (same_grown c.args._number (machine_of c.args.held.now.shard) (machine_of c.replay_base.new.self) (c.replay_base.ensures.logs_unchanged, c.replay_base.ensures.queues_unchanged)).extends
 
-pub returns-clause-others : goal.returns-clause-others
-returns-clause-others c =
-    (same_grown c.args._number (machine_of c.args.held.now.shard) (machine_of c.replay_base.new.self) (c.replay_base.ensures.logs, c.replay_base.ensures.queues)).others
+pub returns-clause-others_unchanged : goal.returns-clause-others_unchanged
+returns-clause-others_unchanged c =
+    (same_grown c.args._number (machine_of c.args.held.now.shard) (machine_of c.replay_base.new.self) (c.replay_base.ensures.logs_unchanged, c.replay_base.ensures.queues_unchanged)).others

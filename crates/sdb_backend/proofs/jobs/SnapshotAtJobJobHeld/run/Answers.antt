@@ -7,8 +7,8 @@ use Rattle.sdb_backend.proofs.jobs.SnapshotAtJobJobHeld.run.Goals as goal
 
 pub returns-clause-extends : goal.returns-clause-extends
 returns-clause-extends c =
-    (acts_grown c.args._number (machine_of c.args.held.now.shard) (plain_key c.args.self.key.now) (call.snapshot c.args.self.version) (fetch_result_view c.snapshot_at.result) (machine_of c.snapshot_at.new.self) tt (c.snapshot_at.ensures.snapshot, (c.snapshot_at.ensures.logs, c.snapshot_at.ensures.queues))).extends
+    (acts_grown c.args._number (machine_of c.args.held.now.shard) (plain_key c.args.self.key.now) (call.snapshot c.args.self.version) (fetch_result_view c.snapshot_at.result) (machine_of c.snapshot_at.new.self) tt (c.snapshot_at.ensures.snapshot, (c.snapshot_at.ensures.logs_unchanged, c.snapshot_at.ensures.queues_unchanged))).extends
 
-pub returns-clause-others : goal.returns-clause-others
-returns-clause-others c =
-    (acts_grown c.args._number (machine_of c.args.held.now.shard) (plain_key c.args.self.key.now) (call.snapshot c.args.self.version) (fetch_result_view c.snapshot_at.result) (machine_of c.snapshot_at.new.self) tt (c.snapshot_at.ensures.snapshot, (c.snapshot_at.ensures.logs, c.snapshot_at.ensures.queues))).others
+pub returns-clause-others_unchanged : goal.returns-clause-others_unchanged
+returns-clause-others_unchanged c =
+    (acts_grown c.args._number (machine_of c.args.held.now.shard) (plain_key c.args.self.key.now) (call.snapshot c.args.self.version) (fetch_result_view c.snapshot_at.result) (machine_of c.snapshot_at.new.self) tt (c.snapshot_at.ensures.snapshot, (c.snapshot_at.ensures.logs_unchanged, c.snapshot_at.ensures.queues_unchanged))).others

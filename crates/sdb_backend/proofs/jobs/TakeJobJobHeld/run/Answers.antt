@@ -7,8 +7,8 @@ use Rattle.sdb_backend.proofs.jobs.TakeJobJobHeld.run.Goals as goal
 
 pub returns-clause-extends : goal.returns-clause-extends
 returns-clause-extends c =
-    (acts_grown c.args.number (machine_of c.args.held.now.shard) (plain_key c.args.self.key.now) (call.take_next c.args.self.id c.args.self.max) (taken_view c.take.result) (machine_of c.take.new.self) tt (c.take.ensures.takes, c.take.ensures.others, c.take.ensures.logs)).extends
+    (acts_grown c.args.number (machine_of c.args.held.now.shard) (plain_key c.args.self.key.now) (call.take_next c.args.self.id c.args.self.max) (taken_view c.take.result) (machine_of c.take.new.self) tt (c.take.ensures.takes, c.take.ensures.others_unchanged, c.take.ensures.logs_unchanged)).extends
 
-pub returns-clause-others : goal.returns-clause-others
-returns-clause-others c =
-    (acts_grown c.args.number (machine_of c.args.held.now.shard) (plain_key c.args.self.key.now) (call.take_next c.args.self.id c.args.self.max) (taken_view c.take.result) (machine_of c.take.new.self) tt (c.take.ensures.takes, c.take.ensures.others, c.take.ensures.logs)).others
+pub returns-clause-others_unchanged : goal.returns-clause-others_unchanged
+returns-clause-others_unchanged c =
+    (acts_grown c.args.number (machine_of c.args.held.now.shard) (plain_key c.args.self.key.now) (call.take_next c.args.self.id c.args.self.max) (taken_view c.take.result) (machine_of c.take.new.self) tt (c.take.ensures.takes, c.take.ensures.others_unchanged, c.take.ensures.logs_unchanged)).others

@@ -6,8 +6,8 @@ use Rattle.sdb_backend.proofs.jobs.UnsubscribeJobJobHeld.run.Goals as goal
 
 pub returns-clause-extends : goal.returns-clause-extends
 returns-clause-extends c =
-    (acts_grown c.args.number (machine_of c.args.held.now.shard) (plain_key c.args.self.key.now) (call.unsubscribe c.args.self.id) tt (machine_of c.unsubscribe.new.self) tt (c.unsubscribe.ensures.queues, c.unsubscribe.ensures.gone, c.unsubscribe.ensures.logs)).extends
+    (acts_grown c.args.number (machine_of c.args.held.now.shard) (plain_key c.args.self.key.now) (call.unsubscribe c.args.self.id) tt (machine_of c.unsubscribe.new.self) tt (c.unsubscribe.ensures.queues, c.unsubscribe.ensures.removed, c.unsubscribe.ensures.logs_unchanged)).extends
 
-pub returns-clause-others : goal.returns-clause-others
-returns-clause-others c =
-    (acts_grown c.args.number (machine_of c.args.held.now.shard) (plain_key c.args.self.key.now) (call.unsubscribe c.args.self.id) tt (machine_of c.unsubscribe.new.self) tt (c.unsubscribe.ensures.queues, c.unsubscribe.ensures.gone, c.unsubscribe.ensures.logs)).others
+pub returns-clause-others_unchanged : goal.returns-clause-others_unchanged
+returns-clause-others_unchanged c =
+    (acts_grown c.args.number (machine_of c.args.held.now.shard) (plain_key c.args.self.key.now) (call.unsubscribe c.args.self.id) tt (machine_of c.unsubscribe.new.self) tt (c.unsubscribe.ensures.queues, c.unsubscribe.ensures.removed, c.unsubscribe.ensures.logs_unchanged)).others

@@ -23,7 +23,7 @@ invariant_of-self-2 g c =
     let f = g.T.TryClone.model in
     let old = group_chunks c.args.self.now in
     let new = items_of c.insert_in_chunk_list.new.blocks in
-    let done : c.in_ok-insert_in_chunk_list.field-0 ≡ true = c.in_ok-insert_in_chunk_list.ensures.within ∙ le-leb c.args.index (length (flatten_models f old)) c.requires in
+    let done : c.in_ok-insert_in_chunk_list.field-0 ≡ true = c.in_ok-insert_in_chunk_list.ensures.in_range ∙ le-leb c.args.index (length (flatten_models f old)) c.requires in
     let put : flatten_models f new ≡ insert (flatten_models f old) c.args.index (f c.args.item) =
     c.in_ok-insert_in_chunk_list.ensures.ok ∙ if_same c.in_ok-insert_in_chunk_list.field-0 (insert (flatten_models f old) c.args.index (f c.args.item)) (flatten_models f old) done in
     let n = one_more_number f new old c.args.index (f c.args.item) c.requires put in

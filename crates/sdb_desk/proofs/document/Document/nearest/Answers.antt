@@ -6,10 +6,10 @@ use Rattle.sdb_desk.proofs.LookLemmas.{on_err_all}
 use Rattle.sdb_desk.proofs.document.Document.nearest.Goals as goal
 
 pub invariant_of-self : goal.invariant_of-self
-invariant_of-self c = with_used _ _ c.self.inside.cache _ c.args.version c.clone_nearest.ensures.used c.self.invariant
+invariant_of-self c = with_used _ _ c.self.inside.cache _ c.args.version c.clone_nearest.ensures.cache c.self.invariant
 
 pub invariant_of-self-2 : goal.invariant_of-self-2
-invariant_of-self-2 c = with_used _ _ c.self.inside.cache _ c.args.version c.clone_nearest.ensures.used c.self.invariant
+invariant_of-self-2 c = with_used _ _ c.self.inside.cache _ c.args.version c.clone_nearest.ensures.cache c.self.invariant
 
 pub returns-clause-up_to : goal.returns-clause-up_to
 returns-clause-up_to c = begins_up_to c.args.version c.replay_start.result.0 _ c.self.inside.cache _ (sym c.in_ok-found.ensures.found) c.replay_start.ensures
@@ -22,4 +22,4 @@ returns-clause-snap c =
 
 pub returns-in_err-found-clause-memory : goal.returns-in_err-found-clause-memory
 returns-in_err-found-clause-memory c =
-    on_err_all c.from_residual.result (above_zero c.self.inside.log c.args.version c.self.inside.cache (nearest c.args.version c.self.inside.cache) c.self.invariant.cache_is_snaps refl c.in_err-found.ensures.some)
+    on_err_all c.from_residual.result (above_zero c.self.inside.log c.args.version c.self.inside.cache (nearest c.args.version c.self.inside.cache) c.self.invariant.cache_is_snaps refl c.in_err-found.ensures.memory)

@@ -12,7 +12,7 @@ invariant_of-self c =
     let log = c.self.inside.log in
     let v = c.args.version in
     let is : IsSnapOf log (record { version = v; value = value_of c.in-Ok-Some.copy }) = record {
-      within = subst (λ d. v ≤ length d.log) (sym c.self.view_is) c.requires.reached;
+      within = subst (λ d. v ≤ length d.log) (sym c.self.view_is) c.requires.bound;
       is = document_at log v (ap is_some c.self.invariant.is_made.makes)
           ∙ ap Some (ap (λ d. document_of (take v d.log)) c.self.view_is ∙ c.requires.snapshot ∙ sym c.in-Ok-Some.ensures.copy ∙ ap (option_map value_of) c.in-Ok-Some.field-0-is);
     } in

@@ -5,12 +5,12 @@ use Rattle.sdb_oplog.specs.Snap.{snap}
 use Rattle.sdb_desk.proofs.ReplayLemmas.{lends_from}
 use Rattle.sdb_desk.proofs.document.Document.replay_base.Goals as goal
 
-pub returns-clause-lends : goal.returns-clause-lends
-returns-clause-lends c =
+pub returns-clause-replay_base : goal.returns-clause-replay_base
+returns-clause-replay_base c =
     let log = c.args.self.now.log in
     let v = c.args.version in
     let w = c.in_ok-from.from in
-    let lives : is_some (snap log) ≡ true = ap (λ d. is_some (snap d.log)) (sym c.self.view_is) ∙ c.len.ensures.lives in
+    let lives : is_some (snap log) ≡ true = ap (λ d. is_some (snap d.log)) (sym c.self.view_is) ∙ c.len.ensures.alive in
     let behind : c.entries_from.result.now ≡ drop w log =
     c.entries_from.ensures ∙ ap (λ d. drop w d.log) c.self-2.view_is ∙ ap (drop w) c.nearest.ensures.log in
     lends_from log v w (option_map value_of c.in_ok-from.snapshot) c.in_ok-entries.entries.items lives c.requires c.in_ok-from.ensures.up_to

@@ -4,7 +4,7 @@ use Rattle.sdb_oplog.specs.Keys.{plain_key, with_log}
 use Rattle.sdb_subscribe.specs.Ring.{without_rings}
 use Rattle.sdb_desk.specs.SlotModel.{empty_slot}
 use Rattle.sdb_desk.specs.MapModel.{value_at_key}
-use Rattle.sdb_desk.specs.MapLaws.{updated_of_write, value_at_lookup_some}
+use Rattle.sdb_desk.specs.laws.MapLaws.{updated_of_write, value_at_lookup_some}
 use Rattle.sdb_desk.specs.ShardView.{slots_of, logs_of}
 use Rattle.sdb_desk.proofs.LookLemmas.{on_ok, on_err}
 use Rattle.sdb_desk.proofs.MapWriteLemmas.{map_of_updated, map_of_updated_same, queues_unchanged, rings_noted}
@@ -23,8 +23,8 @@ returns-in-Some-clause-logs c =
     on_ok c.append.result (λ e. map_of_updated (λ t. t.document.log) f g k new wrote
     ∙ ap (with_log (logs_of c.args.self.now) k) (e ∙ ap (λ t. (decide t.document.log c.in_ok-submission.submission c.args.now).log) found ∙ ap (λ s. (decide (logs_of c.args.self.now k) s c.args.now).log) c.in_ok-submission.ensures)) c.append.ensures.log
 
-pub returns-in-Some-clause-same : goal.returns-in-Some-clause-same
-returns-in-Some-clause-same c =
+pub returns-in-Some-clause-unchanged_on_err : goal.returns-in-Some-clause-unchanged_on_err
+returns-in-Some-clause-unchanged_on_err c =
     let es = c.args.self.now.slots.entries in
     let old = c.in-Some.topic.now in
     let new = c.append.new.self in
@@ -33,7 +33,7 @@ returns-in-Some-clause-same c =
     let g = value_at_key empty_slot (c.get_mut.follows.lender new).entries in
     let found = value_at_lookup_some empty_slot es c.args.key.now old c.in-Some.ensures.value in
     let wrote = updated_of_write empty_slot es _ c.args.key.now old new c.in-Some.ensures.value (c.get_mut.follows.holds new).0 in
-    on_err c.append.result (λ e. map_of_updated_same (λ t. t.document.log) f g k new wrote (e ∙ ap (λ t. t.document.log) found)) c.append.ensures.same
+    on_err c.append.result (λ e. map_of_updated_same (λ t. t.document.log) f g k new wrote (e ∙ ap (λ t. t.document.log) found)) c.append.ensures.unchanged_on_err
 
 pub returns-in-Some-clause-kept : goal.returns-in-Some-clause-kept
 returns-in-Some-clause-kept c =

@@ -7,8 +7,8 @@ use Rattle.sdb_desk.proofs.LookLemmas.{on_err_all}
 use Rattle.sdb_desk.proofs.MapWriteLemmas.{map_of_updated, map_of_updated_same, map_of_unchanged, rings_noted, not_noted}
 use Rattle.sdb_desk.proofs.shard.Shard.append_first.Goals as goal
 
-pub returns-in_err-insert_slot-clause-same : goal.returns-in_err-insert_slot-clause-same
-returns-in_err-insert_slot-clause-same c =
+pub returns-in_err-insert_slot-clause-unchanged_on_err : goal.returns-in_err-insert_slot-clause-unchanged_on_err
+returns-in_err-insert_slot-clause-unchanged_on_err c =
     on_err_all c.from_residual-in_err-insert_slot.result (map_of_unchanged (λ t. t.document.log) (slots_of c.args.self.now) (slots_of c.insert_slot.new.self) (plain_key c.args.key.now) c.append.new.self c.in_err-insert_slot.ensures.err)
 
 pub returns-in_err-insert_slot-clause-kept : goal.returns-in_err-insert_slot-clause-kept

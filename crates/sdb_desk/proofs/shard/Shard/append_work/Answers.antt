@@ -2,7 +2,7 @@ use Rattle.std.proofs.Common.{◌≡◌, Result, Ok, Err, sym, ap, ◌∙◌}
 use Rattle.std.specs.Result.{IsErrAnd}
 use Rattle.sdb_oplog.specs.declared.codes.Code.{Code}
 use Rattle.sdb_oplog.specs.declared.codes.Code.TheVariants.{E10}
-use Rattle.sdb_oplog.specs.Laws.{rebase_not_out_of_memory}
+use Rattle.sdb_oplog.specs.laws.LogLaws.{rebase_not_out_of_memory}
 use Rattle.sdb_desk.proofs.shard.Shard.append_work.Goals as goal
 
 code_is : {T : Type 0} (r : Result T Code) (code : Code) → IsErrAnd r (λ y. y ≡ code) → r ≡ Err E10 → code ≡ E10

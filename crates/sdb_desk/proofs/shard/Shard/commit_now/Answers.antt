@@ -11,4 +11,4 @@ returns-in-Some-clause-decides c =
 
 pub returns-in-Err-clause-decides : goal.returns-in-Err-clause-decides
 returns-in-Err-clause-decides c =
-    decides_refused_as (logs_of c.args.self.now) (logs_of c.append_now.new.self) (plain_key c.args.key.now) c.args.submission.now c.args.now c.in-Err.code c.in-Err.ensures.err (λ e. c.in-Err.ensures.memory (ap Err e)) c.in-Err.ensures.same
+    decides_refused_as (logs_of c.args.self.now) (logs_of c.append_now.new.self) (plain_key c.args.key.now) c.args.submission.now c.args.now c.in-Err.code c.in-Err.ensures.err (λ e. c.in-Err.ensures.memory (ap Err e)) c.in-Err.ensures.unchanged_on_err

@@ -21,4 +21,4 @@ pub returns-in-Err-append_work-clause-commits : goal.returns-in-Err-append_work-
 returns-in-Err-append_work-clause-commits c =
     commits_refused_as (logs_of c.args.self.now) (logs_of c.append_work.new.self) (plain_key c.args.key.now) c.args.work.now c.args.now c.in-Err-append_work.code
     (sym c.version.ensures ∙ c.if-version.false ∙ c.version-2.ensures) c.in-Err-append_work.ensures.err
-    (λ e. c.in-Err-append_work.ensures.memory (ap Err e)) (λ e. c.in-Err-append_work.ensures.found (ap Err e)) c.in-Err-append_work.ensures.same
+    (λ e. c.in-Err-append_work.ensures.memory (ap Err e)) (λ e. c.in-Err-append_work.ensures.found (ap Err e)) c.in-Err-append_work.ensures.unchanged_on_err

@@ -2,14 +2,14 @@ use Rattle.std.proofs.Common.{[], ap, ◌∙◌}
 use Rattle.sdb_oplog.specs.Keys.{plain_key}
 use Rattle.sdb_desk.specs.SlotModel.{empty_slot}
 use Rattle.sdb_desk.specs.MapModel.{value_at_key}
-use Rattle.sdb_desk.specs.MapLaws.{updated_of_write, value_at_lookup_some, value_at_lookup_none, updated_at_same}
+use Rattle.sdb_desk.specs.laws.MapLaws.{updated_of_write, value_at_lookup_some, value_at_lookup_none, updated_at_same}
 use Rattle.sdb_desk.specs.ShardView.{slots_of, caches_of, with_cache}
 use Rattle.sdb_desk.proofs.MapWriteLemmas.{map_of_updated, map_of_updated_same, queues_unchanged, rings_unchanged}
 use Rattle.sdb_subscribe.specs.Ring.{without_rings}
 use Rattle.sdb_desk.proofs.shard.Shard.forget.Goals as goal
 
-pub returns-in-Some-clause-logs : goal.returns-in-Some-clause-logs
-returns-in-Some-clause-logs c =
+pub returns-in-Some-clause-logs_unchanged : goal.returns-in-Some-clause-logs_unchanged
+returns-in-Some-clause-logs_unchanged c =
     let es = c.args.self.now.slots.entries in
     let old = c.in-Some.topic.now in
     let new = c.forget.new.self in
@@ -51,8 +51,8 @@ returns-in-Some-clause-queues c =
     let wrote = updated_of_write empty_slot es _ c.args.key.now old new c.in-Some.ensures.value (c.get_mut.follows.holds new).0 in
     queues_unchanged f g k old new found wrote (ap without_rings c.forget.ensures.queues)
 
-pub returns-in-Some-clause-rings : goal.returns-in-Some-clause-rings
-returns-in-Some-clause-rings c =
+pub returns-in-Some-clause-rings_unchanged : goal.returns-in-Some-clause-rings_unchanged
+returns-in-Some-clause-rings_unchanged c =
     let es = c.args.self.now.slots.entries in
     let old = c.in-Some.topic.now in
     let new = c.forget.new.self in

@@ -1,7 +1,7 @@
 use Rattle.std.proofs.Common.{ap, ◌∙◌}
 use Rattle.sdb_oplog.specs.Keys.{with_value_at_key}
 use Rattle.sdb_desk.specs.MapModel.{value_at_key}
-use Rattle.sdb_desk.specs.MapLaws.{updated_of_insert}
+use Rattle.sdb_desk.specs.laws.MapLaws.{updated_of_insert}
 use Rattle.sdb_desk.specs.SlotModel.{empty_slot}
 use Rattle.sdb_desk.proofs.shard.Shard.insert_slot.Goals as goal
 

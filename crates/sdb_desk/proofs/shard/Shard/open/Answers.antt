@@ -4,7 +4,7 @@ use Rattle.sdb_oplog.specs.Keys.{plain_key, with_value_at_key}
 use Rattle.sdb_subscribe.specs.Queue.{open_queue, queue_at}
 use Rattle.sdb_subscribe.specs.Ring.{without_rings}
 use Rattle.sdb_desk.specs.MapModel.{value_at_key}
-use Rattle.sdb_desk.specs.MapLaws.{updated_of_write, value_at_lookup_some, value_at_lookup_none, updated_at_unchanged}
+use Rattle.sdb_desk.specs.laws.MapLaws.{updated_of_write, value_at_lookup_some, value_at_lookup_none, updated_at_unchanged}
 use Rattle.sdb_desk.specs.ShardView.{slots_of, queues_of, ringed_queues_of}
 use Rattle.sdb_desk.specs.SlotModel.{empty_slot}
 use Rattle.sdb_desk.proofs.LookLemmas.{on_ok, on_err, on_err_all, if_ok}
@@ -23,8 +23,8 @@ returns-in-Some-clause-opened c =
     let wrote = updated_of_write empty_slot es _ c.args.key.now old new c.in-Some.ensures.value (c.get_mut.follows.holds new).0 in
     on_ok c.open.result (λ e. ap (λ t. open_queue c.args.by c.args.start (without_rings t.queues)) (sym found) ∙ e ∙ ap Ok (sym (queues_at_key f g k old new found wrote))) c.open.ensures.ok
 
-pub returns-in-Some-clause-same : goal.returns-in-Some-clause-same
-returns-in-Some-clause-same c =
+pub returns-in-Some-clause-unchanged_on_err : goal.returns-in-Some-clause-unchanged_on_err
+returns-in-Some-clause-unchanged_on_err c =
     let es = c.args.self.now.slots.entries in
     let old = c.in-Some.topic.now in
     let new = c.open.new.self in
@@ -33,10 +33,10 @@ returns-in-Some-clause-same c =
     let g = value_at_key empty_slot (c.get_mut.follows.lender new).entries in
     let found = value_at_lookup_some empty_slot es c.args.key.now old c.in-Some.ensures.value in
     let wrote = updated_of_write empty_slot es _ c.args.key.now old new c.in-Some.ensures.value (c.get_mut.follows.holds new).0 in
-    on_err c.open.result (λ e. queues_unchanged f g k old new found wrote (ap (λ t. without_rings t.queues) e)) c.open.ensures.same
+    on_err c.open.result (λ e. queues_unchanged f g k old new found wrote (ap (λ t. without_rings t.queues) e)) c.open.ensures.unchanged_on_err
 
-pub returns-in-Some-clause-others : goal.returns-in-Some-clause-others
-returns-in-Some-clause-others c =
+pub returns-in-Some-clause-others_unchanged : goal.returns-in-Some-clause-others_unchanged
+returns-in-Some-clause-others_unchanged c =
     let es = c.args.self.now.slots.entries in
     let old = c.in-Some.topic.now in
     let new = c.open.new.self in
@@ -47,8 +47,8 @@ returns-in-Some-clause-others c =
     let wrote = updated_of_write empty_slot es _ c.args.key.now old new c.in-Some.ensures.value (c.get_mut.follows.holds new).0 in
     queues_others f g k old new found wrote
 
-pub returns-in-Some-clause-logs : goal.returns-in-Some-clause-logs
-returns-in-Some-clause-logs c =
+pub returns-in-Some-clause-logs_unchanged : goal.returns-in-Some-clause-logs_unchanged
+returns-in-Some-clause-logs_unchanged c =
     let es = c.args.self.now.slots.entries in
     let old = c.in-Some.topic.now in
     let new = c.open.new.self in
@@ -59,8 +59,8 @@ returns-in-Some-clause-logs c =
     let wrote = updated_of_write empty_slot es _ c.args.key.now old new c.in-Some.ensures.value (c.get_mut.follows.holds new).0 in
     logs_unchanged f g k old new found wrote c.open.ensures.document
 
-pub returns-in-Some-clause-kept : goal.returns-in-Some-clause-kept
-returns-in-Some-clause-kept c =
+pub returns-in-Some-clause-caches_unchanged : goal.returns-in-Some-clause-caches_unchanged
+returns-in-Some-clause-caches_unchanged c =
     let es = c.args.self.now.slots.entries in
     let old = c.in-Some.topic.now in
     let new = c.open.new.self in
@@ -71,32 +71,32 @@ returns-in-Some-clause-kept c =
     let wrote = updated_of_write empty_slot es _ c.args.key.now old new c.in-Some.ensures.value (c.get_mut.follows.holds new).0 in
     caches_unchanged f g k old new found wrote c.open.ensures.document
 
-pub returns-in_err-id-clause-others : goal.returns-in_err-id-clause-others
-returns-in_err-id-clause-others c = updated_at_unchanged (queues_of c.args.self.now) _ (plain_key c.args.key.now) (ap (λ m. (λ q. without_rings (value_at_key empty_slot m.entries q).queues)) c.get_mut.follows.holds-at-none)
+pub returns-in_err-id-clause-others_unchanged : goal.returns-in_err-id-clause-others_unchanged
+returns-in_err-id-clause-others_unchanged c = updated_at_unchanged (queues_of c.args.self.now) _ (plain_key c.args.key.now) (ap (λ m. (λ q. without_rings (value_at_key empty_slot m.entries q).queues)) c.get_mut.follows.holds-at-none)
 
-pub returns-in_err-insert_slot-clause-others : goal.returns-in_err-insert_slot-clause-others
-returns-in_err-insert_slot-clause-others c =
+pub returns-in_err-insert_slot-clause-others_unchanged : goal.returns-in_err-insert_slot-clause-others_unchanged
+returns-in_err-insert_slot-clause-others_unchanged c =
     let f = slots_of c.args.self.now in
     let g = slots_of c.insert_slot.new.self in
     let base = ap (λ m. value_at_key empty_slot m.entries) c.get_mut.follows.holds-at-none in
     updated_at_unchanged (queues_of c.args.self.now) _ (plain_key c.args.key.now) (map_of_unchanged (λ t. without_rings t.queues) f g (plain_key c.args.key.now) empty_slot (c.in_err-insert_slot.ensures.err ∙ base))
 
-pub returns-in_err-insert_slot-clause-same : goal.returns-in_err-insert_slot-clause-same
-returns-in_err-insert_slot-clause-same c =
+pub returns-in_err-insert_slot-clause-unchanged_on_err : goal.returns-in_err-insert_slot-clause-unchanged_on_err
+returns-in_err-insert_slot-clause-unchanged_on_err c =
     let f = slots_of c.args.self.now in
     let g = slots_of c.insert_slot.new.self in
     let base = ap (λ m. value_at_key empty_slot m.entries) c.get_mut.follows.holds-at-none in
     on_err_all c.from_residual-in_err-insert_slot.result (map_of_unchanged (λ t. without_rings t.queues) f g (plain_key c.args.key.now) empty_slot (c.in_err-insert_slot.ensures.err ∙ base))
 
-pub returns-in_err-insert_slot-clause-logs : goal.returns-in_err-insert_slot-clause-logs
-returns-in_err-insert_slot-clause-logs c =
+pub returns-in_err-insert_slot-clause-logs_unchanged : goal.returns-in_err-insert_slot-clause-logs_unchanged
+returns-in_err-insert_slot-clause-logs_unchanged c =
     let f = slots_of c.args.self.now in
     let g = slots_of c.insert_slot.new.self in
     let base = ap (λ m. value_at_key empty_slot m.entries) c.get_mut.follows.holds-at-none in
     map_of_unchanged (λ t. t.document.log) f g (plain_key c.args.key.now) empty_slot (c.in_err-insert_slot.ensures.err ∙ base)
 
-pub returns-in_err-insert_slot-clause-kept : goal.returns-in_err-insert_slot-clause-kept
-returns-in_err-insert_slot-clause-kept c =
+pub returns-in_err-insert_slot-clause-caches_unchanged : goal.returns-in_err-insert_slot-clause-caches_unchanged
+returns-in_err-insert_slot-clause-caches_unchanged c =
     let f = slots_of c.args.self.now in
     let g = slots_of c.insert_slot.new.self in
     let base = ap (λ m. value_at_key empty_slot m.entries) c.get_mut.follows.holds-at-none in
@@ -124,8 +124,8 @@ returns-clause-open c =
     let wrote : g ≡ with_value_at_key f k w = c.in_ok-insert_slot.ensures.ok ∙ ap (λ m. with_value_at_key (value_at_key empty_slot m.entries) k w) c.get_mut.follows.holds-at-none in
     ap (λ q. queue_at c.in_ok-id.id q.queues) (queues_at_key f g k c.new-topic.result w found wrote) ∙ c.in_ok-id.ensures.open
 
-pub returns-clause-others : goal.returns-clause-others
-returns-clause-others c =
+pub returns-clause-others_unchanged : goal.returns-clause-others_unchanged
+returns-clause-others_unchanged c =
     let es = c.args.self.now.slots.entries in
     let w = c.open-2.new.self in
     let k = plain_key c.args.key.now in
@@ -135,8 +135,8 @@ returns-clause-others c =
     let wrote : g ≡ with_value_at_key f k w = c.in_ok-insert_slot.ensures.ok ∙ ap (λ m. with_value_at_key (value_at_key empty_slot m.entries) k w) c.get_mut.follows.holds-at-none in
     queues_others f g k c.new-topic.result w found wrote
 
-pub returns-clause-logs : goal.returns-clause-logs
-returns-clause-logs c =
+pub returns-clause-logs_unchanged : goal.returns-clause-logs_unchanged
+returns-clause-logs_unchanged c =
     let es = c.args.self.now.slots.entries in
     let w = c.open-2.new.self in
     let k = plain_key c.args.key.now in
@@ -146,8 +146,8 @@ returns-clause-logs c =
     let wrote : g ≡ with_value_at_key f k w = c.in_ok-insert_slot.ensures.ok ∙ ap (λ m. with_value_at_key (value_at_key empty_slot m.entries) k w) c.get_mut.follows.holds-at-none in
     logs_unchanged f g k c.new-topic.result w found wrote c.open-2.ensures.document
 
-pub returns-clause-kept : goal.returns-clause-kept
-returns-clause-kept c =
+pub returns-clause-caches_unchanged : goal.returns-clause-caches_unchanged
+returns-clause-caches_unchanged c =
     let es = c.args.self.now.slots.entries in
     let w = c.open-2.new.self in
     let k = plain_key c.args.key.now in
@@ -179,7 +179,7 @@ returns-in-Some-clause-rings_left c =
     let g = value_at_key empty_slot (c.get_mut.follows.lender new).entries in
     let found = value_at_lookup_some empty_slot es c.args.key.now old c.in-Some.ensures.value in
     let wrote = updated_of_write empty_slot es _ c.args.key.now old new c.in-Some.ensures.value (c.get_mut.follows.holds new).0 in
-    on_err c.open.result (λ e. rings_unchanged f g k old new found wrote (ap (λ t. t.queues) e)) c.open.ensures.same
+    on_err c.open.result (λ e. rings_unchanged f g k old new found wrote (ap (λ t. t.queues) e)) c.open.ensures.unchanged_on_err
 
 pub returns-in_err-insert_slot-clause-rings_left : goal.returns-in_err-insert_slot-clause-rings_left
 returns-in_err-insert_slot-clause-rings_left c =

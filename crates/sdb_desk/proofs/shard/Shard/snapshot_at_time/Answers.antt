@@ -1,6 +1,6 @@
 use Rattle.std.proofs.Common.{ℕ, ◌≤◌, List, length, Option, Some, None, arith}
 use Rattle.sdb_oplog.specs.Keys.{plain_key}
-use Rattle.sdb_oplog.specs.Laws.{version_at_within}
+use Rattle.sdb_oplog.specs.laws.LogLaws.{version_at_within}
 use Rattle.sdb_oplog.specs.Plain.{PlainEntry}
 use Rattle.sdb_desk.specs.Machine.{version_at_moment}
 use Rattle.sdb_desk.specs.ShardView.{logs_of}

@@ -8,18 +8,18 @@ use Rattle.sdb_desk.specs.Machine.{SubscribesOrOutOfMemory, fetch_result, read_h
 use Rattle.sdb_desk.specs.View.{subscribe_result_view}
 use Rattle.sdb_desk.specs.Rings.{append_ringed_queue}
 use Rattle.sdb_desk.specs.ShardView.{logs_of, queues_of, ringed_queues_of, with_ringed_queues}
-use Rattle.sdb_desk.specs.MapLaws.{updated_at_unchanged}
+use Rattle.sdb_desk.specs.laws.MapLaws.{updated_at_unchanged}
 use Rattle.sdb_desk.proofs.SubscribeLemmas.{read_wanting, subscribe_done, subscribe_refused, subscribe_wanting}
 use Rattle.sdb_desk.proofs.shard.Shard.subscribe.Goals as goal
 
-pub returns-in_err-start-clause-others : goal.returns-in_err-start-clause-others
-returns-in_err-start-clause-others c = updated_at_unchanged (queues_of c.args.self.now) _ (plain_key c.args.key.now) refl
+pub returns-in_err-start-clause-others_unchanged : goal.returns-in_err-start-clause-others_unchanged
+returns-in_err-start-clause-others_unchanged c = updated_at_unchanged (queues_of c.args.self.now) _ (plain_key c.args.key.now) refl
 
-pub returns-then-ids_exhausted-clause-others : goal.returns-then-ids_exhausted-clause-others
-returns-then-ids_exhausted-clause-others c = updated_at_unchanged (queues_of c.args.self.now) _ (plain_key c.args.key.now) refl
+pub returns-then-ids_exhausted-clause-others_unchanged : goal.returns-then-ids_exhausted-clause-others_unchanged
+returns-then-ids_exhausted-clause-others_unchanged c = updated_at_unchanged (queues_of c.args.self.now) _ (plain_key c.args.key.now) refl
 
-pub returns-in_err-version-clause-others : goal.returns-in_err-version-clause-others
-returns-in_err-version-clause-others c = updated_at_unchanged (queues_of c.args.self.now) _ (plain_key c.args.key.now) c.fetch.ensures.queues
+pub returns-in_err-version-clause-others_unchanged : goal.returns-in_err-version-clause-others_unchanged
+returns-in_err-version-clause-others_unchanged c = updated_at_unchanged (queues_of c.args.self.now) _ (plain_key c.args.key.now) c.fetch.ensures.queues
 
 pub returns-in_err-version-clause-subscribes : goal.returns-in_err-version-clause-subscribes
 returns-in_err-version-clause-subscribes c =
@@ -42,7 +42,7 @@ returns-in_err-id-clause-subscribes c =
     let p = err_from_is_err_and c.from_residual-in_err-id.result c.from_residual-in_err-id.ensures.1 in
     subst (λ r. SubscribesOrOutOfMemory log c.args.by c.args.version q (subscribe_result_view r) new) (sym (p.1 ∙ ap Err p.2))
     (subscribe_refused log c.args.by c.args.version c.in_ok-start.start q new c.in_err-id.field-0.0 (sym c.in_ok-start.ensures) (sym c.ids_exhausted.ensures ∙ c.if-ids_exhausted.false)
-    (subst (λ w. IsRefusalOrOutOfMemory (open_queue c.args.by c.in_ok-start.start w) c.in_err-id.field-0.0) is c.in_err-id.ensures.err) (ap (λ f. f k) c.in_err-id.ensures.same ∙ is))
+    (subst (λ w. IsRefusalOrOutOfMemory (open_queue c.args.by c.in_ok-start.start w) c.in_err-id.field-0.0) is c.in_err-id.ensures.err) (ap (λ f. f k) c.in_err-id.ensures.unchanged_on_err ∙ is))
 
 pub returns-clause-subscribes : goal.returns-clause-subscribes
 returns-clause-subscribes c =

@@ -3,14 +3,14 @@ use Rattle.std.proofs.Common.{ap, ◌∙◌, sym}
 use Rattle.sdb_oplog.specs.Keys.{plain_key, with_value_at_key}
 use Rattle.sdb_subscribe.specs.Ring.{without_rings, ringed_queues_after_take_by}
 use Rattle.sdb_desk.specs.MapModel.{value_at_key}
-use Rattle.sdb_desk.specs.MapLaws.{updated_of_write, value_at_lookup_some, updated_at_unchanged, value_at_lookup_none, updated_at_same}
+use Rattle.sdb_desk.specs.laws.MapLaws.{updated_of_write, value_at_lookup_some, updated_at_unchanged, value_at_lookup_none, updated_at_same}
 use Rattle.sdb_desk.specs.ShardView.{slots_of, queues_of, ringed_queues_of}
 use Rattle.sdb_desk.specs.SlotModel.{empty_slot}
 use Rattle.sdb_desk.proofs.MapWriteLemmas.{logs_unchanged, caches_unchanged, queues_others, rings_unchanged, rings_written}
 use Rattle.sdb_desk.proofs.shard.Shard.take.Goals as goal
 
-pub returns-in-Some-clause-others : goal.returns-in-Some-clause-others
-returns-in-Some-clause-others c =
+pub returns-in-Some-clause-others_unchanged : goal.returns-in-Some-clause-others_unchanged
+returns-in-Some-clause-others_unchanged c =
     let es = c.args.self.now.slots.entries in
     let old = c.in-Some.topic.now in
     let new = c.take.new.self in
@@ -21,8 +21,8 @@ returns-in-Some-clause-others c =
     let wrote = updated_of_write empty_slot es _ c.args.key.now old new c.in-Some.ensures.value (c.get_mut.follows.holds new).0 in
     queues_others f g k old new found wrote
 
-pub returns-in-Some-clause-logs : goal.returns-in-Some-clause-logs
-returns-in-Some-clause-logs c =
+pub returns-in-Some-clause-logs_unchanged : goal.returns-in-Some-clause-logs_unchanged
+returns-in-Some-clause-logs_unchanged c =
     let es = c.args.self.now.slots.entries in
     let old = c.in-Some.topic.now in
     let new = c.take.new.self in
@@ -45,8 +45,8 @@ returns-in-Some-clause-kept c =
     let wrote = updated_of_write empty_slot es _ c.args.key.now old new c.in-Some.ensures.value (c.get_mut.follows.holds new).0 in
     caches_unchanged f g k old new found wrote c.take.ensures.document
 
-pub returns-in-None-clause-others : goal.returns-in-None-clause-others
-returns-in-None-clause-others c = updated_at_unchanged (queues_of c.args.self.now) _ (plain_key c.args.key.now) (ap (λ m. (λ q. without_rings (value_at_key empty_slot m.entries q).queues)) c.get_mut.follows.holds-at-none)
+pub returns-in-None-clause-others_unchanged : goal.returns-in-None-clause-others_unchanged
+returns-in-None-clause-others_unchanged c = updated_at_unchanged (queues_of c.args.self.now) _ (plain_key c.args.key.now) (ap (λ m. (λ q. without_rings (value_at_key empty_slot m.entries q).queues)) c.get_mut.follows.holds-at-none)
 
 pub returns-in-Some-clause-rings : goal.returns-in-Some-clause-rings
 returns-in-Some-clause-rings c =

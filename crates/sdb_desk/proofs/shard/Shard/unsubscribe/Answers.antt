@@ -3,7 +3,7 @@ use Rattle.sdb_oplog.specs.Keys.{plain_key, with_value_at_key}
 use Rattle.sdb_subscribe.specs.Queue.{queue_at, is_open_by}
 use Rattle.sdb_subscribe.specs.Ring.{without_rings, remove_ringed_queue_by}
 use Rattle.sdb_desk.specs.MapModel.{value_at_key}
-use Rattle.sdb_desk.specs.MapLaws.{updated_of_write, value_at_lookup_some, value_at_lookup_none, updated_at_same}
+use Rattle.sdb_desk.specs.laws.MapLaws.{updated_of_write, value_at_lookup_some, value_at_lookup_none, updated_at_same}
 use Rattle.sdb_desk.specs.ShardView.{slots_of, queues_of, ringed_queues_of}
 use Rattle.sdb_desk.specs.SlotModel.{empty_slot}
 use Rattle.sdb_desk.proofs.MapWriteLemmas.{logs_unchanged, caches_unchanged, queues_written, queues_at_key, rings_written}
@@ -20,11 +20,11 @@ returns-in-Some-clause-queues c =
     let g = value_at_key empty_slot (c.get_mut.follows.lender new).entries in
     let found = value_at_lookup_some empty_slot es c.args.key.now old c.in-Some.ensures.value in
     let wrote = updated_of_write empty_slot es _ c.args.key.now old new c.in-Some.ensures.value (c.get_mut.follows.holds new).0 in
-    (let shut : without_rings new.queues ≡ close_queue c.args.by c.args.id (without_rings old.queues) = λ i. record { next = c.close.ensures.next i; queues = c.close.ensures.queues i } in
+    (let shut : without_rings new.queues ≡ close_queue c.args.by c.args.id (without_rings old.queues) = λ i. record { next = c.close.ensures.next_unchanged i; queues = c.close.ensures.queues i } in
     queues_written f g k old new found wrote ∙ ap (with_value_at_key (queues_of c.args.self.now) k) (shut ∙ ap (λ t. close_queue c.args.by c.args.id (without_rings t.queues)) found))
 
-pub returns-in-Some-clause-logs : goal.returns-in-Some-clause-logs
-returns-in-Some-clause-logs c =
+pub returns-in-Some-clause-logs_unchanged : goal.returns-in-Some-clause-logs_unchanged
+returns-in-Some-clause-logs_unchanged c =
     let es = c.args.self.now.slots.entries in
     let old = c.in-Some.topic.now in
     let new = c.close.new.self in
@@ -35,8 +35,8 @@ returns-in-Some-clause-logs c =
     let wrote = updated_of_write empty_slot es _ c.args.key.now old new c.in-Some.ensures.value (c.get_mut.follows.holds new).0 in
     logs_unchanged f g k old new found wrote c.close.ensures.document
 
-pub returns-in-Some-clause-kept : goal.returns-in-Some-clause-kept
-returns-in-Some-clause-kept c =
+pub returns-in-Some-clause-caches_unchanged : goal.returns-in-Some-clause-caches_unchanged
+returns-in-Some-clause-caches_unchanged c =
     let es = c.args.self.now.slots.entries in
     let old = c.in-Some.topic.now in
     let new = c.close.new.self in
@@ -73,8 +73,8 @@ returns-in_default-clause-rings c =
     let none = value_at_lookup_none empty_slot es c.args.key.now c.in_default.ensures.value in
     ap (λ m. (λ q. (value_at_key empty_slot m.entries q).queues.queues)) c.get_mut.follows.holds-at-none ∙ updated_at_same (ringed_queues_of c.args.self.now) k _ (ap (λ t. remove_ringed_queue_by c.args.by c.args.id t.queues.queues) (sym none) ∙ ap (λ t. t.queues.queues) none)
 
-pub returns-in-Some-clause-gone : goal.returns-in-Some-clause-gone
-returns-in-Some-clause-gone c =
+pub returns-in-Some-clause-removed : goal.returns-in-Some-clause-removed
+returns-in-Some-clause-removed c =
     let es = c.args.self.now.slots.entries in
     let old = c.in-Some.topic.now in
     let new = c.close.new.self in
@@ -84,10 +84,10 @@ returns-in-Some-clause-gone c =
     let found = value_at_lookup_some empty_slot es c.args.key.now old c.in-Some.ensures.value in
     let wrote = updated_of_write empty_slot es _ c.args.key.now old new c.in-Some.ensures.value (c.get_mut.follows.holds new).0 in
     λ owned. ap (λ q. queue_at c.args.id q.queues) (queues_at_key f g k old new found wrote)
-    ∙ c.close.ensures.gone (ap (λ t. is_open_by c.args.by c.args.id (without_rings t.queues).queues) found ∙ owned)
+    ∙ c.close.ensures.removed (ap (λ t. is_open_by c.args.by c.args.id (without_rings t.queues).queues) found ∙ owned)
 
-pub returns-in_default-clause-gone : goal.returns-in_default-clause-gone
-returns-in_default-clause-gone c =
+pub returns-in_default-clause-removed : goal.returns-in_default-clause-removed
+returns-in_default-clause-removed c =
     let es = c.args.self.now.slots.entries in
     let k = plain_key c.args.key.now in
     let none = value_at_lookup_none empty_slot es c.args.key.now c.in_default.ensures.value in

@@ -6,8 +6,8 @@ use Rattle.std.specs.declared.option.Option.{Option}
 use Rattle.sdb_dump.proofs.StoreLemmas.{made_of, lives_stored, keeps_stored}
 use Rattle.sdb_dump.proofs.document.DecidedLog.append_decided.Goals as goal
 
-pub commit-requires-clause-lives : goal.commit-requires-clause-lives
-commit-requires-clause-lives c =
+pub commit-requires-clause-alive : goal.commit-requires-clause-alive
+commit-requires-clause-alive c =
     let log = c.self.inside.log in
     let s = c.args.submission in
     let made = option_map value_of c.decide_content.new.present in

@@ -7,11 +7,11 @@ pub acquire-requires-clause-one : goal.acquire-requires-clause-one
 acquire-requires-clause-one g c = let s = c.args.seat.now in let h = s.is_idle in let t = idle_view_of_fields s.inner.me s.number s.next h.0 h.1 h.2 h.3 in (s.number, t.0, ap (λ (m : M g.row.T.Denot). m.0.seen) t.1)
 
 pub exchange-requires : goal.exchange-requires
-exchange-requires g c = let s = c.args.seat.now in let h = s.is_idle in let t = idle_view_of_fields s.inner.me s.number s.next h.0 h.1 h.2 h.3 in let k = c.acquire.ensures.took in
+exchange-requires g c = let s = c.args.seat.now in let h = s.is_idle in let t = idle_view_of_fields s.inner.me s.number s.next h.0 h.1 h.2 h.3 in let k = c.acquire.ensures.taken in
     (search rules, slot_of_acquire s.inner.me c.acquire.new.place.me s.number s.next t.0 k.0 t.1 k.1)
 
 pub run-answer-requires : goal.run-answer-requires
-run-answer-requires g c = let s = c.args.seat.now in let h = s.is_idle in let t = idle_view_of_fields s.inner.me s.number s.next h.0 h.1 h.2 h.3 in let k = c.acquire.ensures.took in
+run-answer-requires g c = let s = c.args.seat.now in let h = s.is_idle in let t = idle_view_of_fields s.inner.me s.number s.next h.0 h.1 h.2 h.3 in let k = c.acquire.ensures.taken in
     let r = g.T.Grows in
     let e = same_value k.0 c.in-Some.value t.0 _ _ _ _ (ap (λ (m : M g.row.T.Denot). m.1) k.1) c.exchange.ensures.2 c.in-Some.is in
     let one = ap (λ (m : M g.row.T.Denot). m.0.seen) t.1 in
@@ -19,7 +19,7 @@ run-answer-requires g c = let s = c.args.seat.now in let h = s.is_idle in let t 
     subst (g.J.Job.precondition c.args.job s.number) e (c.requires.ready t.0 k.0 one p.0 p.1)
 
 pub release-requires-clause-grown : goal.release-requires-clause-grown
-release-requires-clause-grown g c = let s = c.args.seat.now in let h = s.is_idle in let t = idle_view_of_fields s.inner.me s.number s.next h.0 h.1 h.2 h.3 in let k = c.acquire.ensures.took in
+release-requires-clause-grown g c = let s = c.args.seat.now in let h = s.is_idle in let t = idle_view_of_fields s.inner.me s.number s.next h.0 h.1 h.2 h.3 in let k = c.acquire.ensures.taken in
     let r = g.T.Grows in
     let e = same_value k.0 c.in-Some.value t.0 _ _ _ _ (ap (λ (m : M g.row.T.Denot). m.1) k.1) c.exchange.ensures.2 c.in-Some.is in
     let m1 = holder_view_of_acquire s.inner.me c.acquire.new.place.me s.number s.next t.0 k.0 t.1 k.1 in
@@ -31,19 +31,19 @@ release-requires-clause-grown g c = let s = c.args.seat.now in let h = s.is_idle
       c.run-answer.new.value,
       m3,
       subst (λ (v : g.row.T.Denot). r.extends c.run-answer.new.value v) (sym e) c.run-answer.ensures.extends,
-      λ j ne. subst (λ (v : g.row.T.Denot). r.same j v c.run-answer.new.value) (sym e) (c.run-answer.ensures.others j ne),
+      λ j ne. subst (λ (v : g.row.T.Denot). r.same j v c.run-answer.new.value) (sym e) (c.run-answer.ensures.others_unchanged j ne),
     )
 
 pub invariant_of-seat : goal.invariant_of-seat
-invariant_of-seat g c = let s = c.args.seat.now in let h = s.is_idle in let t = idle_view_of_fields s.inner.me s.number s.next h.0 h.1 h.2 h.3 in let k = c.acquire.ensures.took in
+invariant_of-seat g c = let s = c.args.seat.now in let h = s.is_idle in let t = idle_view_of_fields s.inner.me s.number s.next h.0 h.1 h.2 h.3 in let k = c.acquire.ensures.taken in
     let m1 = holder_view_of_acquire s.inner.me c.acquire.new.place.me s.number s.next t.0 k.0 t.1 k.1 in
     let m2 = slot_after_exchange _ _ (holder_view s.number k.0 s.next) _ None m1 c.exchange.ensures.3 in
     let m3 = slot_after_exchange _ _ (holder_view s.number k.0 s.next) _ (Some c.run-answer.new.value) m2 c.exchange-left.ensures.3 in
     let m4 = idle_view_of_release _ _ s.number s.next k.0 c.run-answer.new.value m3 c.release.ensures.freed in
     record { is_idle = fields_of_idle_view c.release.new.place.me s.number s.next c.run-answer.new.value m4 }
 
-pub returns-clause-done : goal.returns-clause-done
-returns-clause-done g c = let s = c.args.seat.now in let h = s.is_idle in let t = idle_view_of_fields s.inner.me s.number s.next h.0 h.1 h.2 h.3 in let k = c.acquire.ensures.took in
+pub returns-clause-ran : goal.returns-clause-ran
+returns-clause-ran g c = let s = c.args.seat.now in let h = s.is_idle in let t = idle_view_of_fields s.inner.me s.number s.next h.0 h.1 h.2 h.3 in let k = c.acquire.ensures.taken in
     let r = g.T.Grows in
     let e = same_value k.0 c.in-Some.value t.0 _ _ _ _ (ap (λ (m : M g.row.T.Denot). m.1) k.1) c.exchange.ensures.2 c.in-Some.is in
     let one = ap (λ (m : M g.row.T.Denot). m.0.seen) t.1 in
@@ -60,6 +60,6 @@ returns-clause-done g c = let s = c.args.seat.now in let h = s.is_idle in let t 
       subst (λ (v : g.row.T.Denot). r.same s.number t.0 v) e p.1,
       c.run-answer.ensures.does,
       subst (λ (v : g.row.T.Denot). r.extends c.run-answer.new.value v) refl c.run-answer.ensures.extends,
-      c.run-answer.ensures.others,
+      c.run-answer.ensures.others_unchanged,
       ap (λ (m : M g.row.T.Denot). m.0.seen) m4,
     )

@@ -5,8 +5,8 @@ use Rattle.sdb_oplog.proofs.NumberMapLemmas.{changed_same, number_in, none_in, n
 use Rattle.sdb_oplog.proofs.IndexUseLemmas.{out_used, other_used, some_used}
 use Rattle.sdb_oplog.proofs.index.Index.remove_unused.Goals as goal
 
-pub returns-then-is_empty-clause-same : goal.returns-then-is_empty-clause-same
-returns-then-is_empty-clause-same c =
+pub returns-then-is_empty-clause-equal : goal.returns-then-is_empty-clause-equal
+returns-then-is_empty-clause-equal c =
     let src = c.args.src.now in
     let old = c.args.self.now.by_source in
     let new = c.remove.new.self in
@@ -21,8 +21,8 @@ returns-then-is_empty-clause-unused c =
     let new = c.remove.new.self in
     out_used (get_by_text old) (get_by_text new) src (hash_map_updates_text src old new None c.remove.ensures.updates)
 
-pub returns-then-is_empty-clause-used : goal.returns-then-is_empty-clause-used
-returns-then-is_empty-clause-used c =
+pub returns-then-is_empty-clause-has_entries : goal.returns-then-is_empty-clause-has_entries
+returns-then-is_empty-clause-has_entries c =
     let src = c.args.src.now in
     let old = c.args.self.now.by_source in
     let new = c.remove.new.self in

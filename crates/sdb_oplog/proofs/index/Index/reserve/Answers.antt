@@ -6,8 +6,8 @@ use Rattle.std.specs.Option.{is_some}
 use Rattle.sdb_oplog.proofs.IndexUseLemmas.{other_used, placed_used, entry_existed}
 use Rattle.sdb_oplog.proofs.index.Index.reserve.Goals as goal
 
-pub returns-in-Some-clause-same : goal.returns-in-Some-clause-same
-returns-in-Some-clause-same c =
+pub returns-in-Some-clause-equal : goal.returns-in-Some-clause-equal
+returns-in-Some-clause-equal c =
     let src = c.args.src.now in
     let old = c.args.self.now.by_source in
     let numbers = c.reserve.new.self in
@@ -20,8 +20,8 @@ returns-in-Some-clause-room c =
     let numbers = c.reserve.new.self in
     on_ok c.reserve.result (λ h. (numbers, ((c.get_mut.follows.holds numbers).3 (search rules)).1, omega (arith, h))) c.reserve.ensures.ok
 
-pub returns-in-Some-clause-used : goal.returns-in-Some-clause-used
-returns-in-Some-clause-used c =
+pub returns-in-Some-clause-has_entries : goal.returns-in-Some-clause-has_entries
+returns-in-Some-clause-has_entries c =
     let src = c.args.src.now in
     let old = c.args.self.now.by_source in
     let numbers = c.reserve.new.self in
@@ -39,5 +39,5 @@ returns-in-Some-clause-err c =
     let numbers = c.reserve.new.self in
     let new = c.get_mut.follows.lender numbers in
     let found : is_some (get_by_text old src) ≡ true = ap is_some (sym c.in-Some.ensures.value) in
-    on_err c.reserve.result (λ s used. placed_used (get_by_text old) (get_by_text new) s (returns-in-Some-clause-same c s)
+    on_err c.reserve.result (λ s used. placed_used (get_by_text old) (get_by_text new) s (returns-in-Some-clause-equal c s)
     (entry_existed (get_by_text old) (get_by_text new) src s (Some numbers) (hash_map_updates_text src old new (Some numbers) ((c.get_mut.follows.holds numbers).3 (search rules))) found) used)

@@ -3,7 +3,7 @@ use Rattle.std.specs.Option.{is_some}
 use Rattle.std.specs.Result.{result_ok, IsErrAnd, IfErr}
 use Rattle.sdb_value.specs.View.{value_of}
 use Rattle.sdb_oplog.specs.Snap.{apply_content, snap}
-use Rattle.sdb_oplog.specs.Laws.{out_of_memory_or_refusal}
+use Rattle.sdb_oplog.specs.laws.LogLaws.{out_of_memory_or_refusal}
 use Rattle.sdb_oplog.specs.declared.codes.Code.{Code}
 use Rattle.sdb_oplog.specs.declared.codes.Code.TheVariants.{E10}
 use Rattle.sdb_oplog.proofs.LogGrowth.{no_refusal, snap_taken}

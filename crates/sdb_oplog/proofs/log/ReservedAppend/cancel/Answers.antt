@@ -6,7 +6,7 @@ pub invariant_of-result : goal.invariant_of-result
 invariant_of-result c =
     let es = c.self.inside.entries.items in
     let new = c.remove_unused.new.self in (
-      same_places es es c.self.inside.index new refl c.remove_unused.ensures.same c.self.invariant.0,
+      same_places es es c.self.inside.index new refl c.remove_unused.ensures.equal c.self.invariant.0,
       all_used new c.src.result.now c.remove_unused.ensures.unused
-          (λ s n. c.remove_unused.ensures.used s n (c.self.invariant.3 s (λ e. n (e ∙ sym c.src.ensures)))),
+          (λ s n. c.remove_unused.ensures.has_entries s n (c.self.invariant.3 s (λ e. n (e ∙ sym c.src.ensures)))),
     )

@@ -26,9 +26,9 @@ invariant_of-result c =
     ∙ ap (λ p. appended_entry p c.args.now c.args.content) c.self.view_is in (
       one_more es c.append.new.entries.items e c.self.inside.index c.append.new.index c.append.ensures.entries c.self.invariant.0
           (ap (λ (x : PlainEntry). stored_at x.arrived.src x.arrived.seq es) is ∙ ap (stored_at c.args.self.submission.src c.args.self.submission.seq) same ∙ c.requires.first)
-          (ap (λ l. is_some (snap (l ++ e ∷ []))) same ∙ ap (λ x. is_some (snap (c.args.self.log ++ x ∷ []))) is ∙ c.requires.lives)
+          (ap (λ l. is_some (snap (l ++ e ∷ []))) same ∙ ap (λ x. is_some (snap (c.args.self.log ++ x ∷ []))) is ∙ c.requires.alive)
           (let m : e.moment ≡ max c.args.now (last_moment es) = ap (λ (x : PlainEntry). x.moment) c.new-entry.ensures ∙ moment in omega (arith, m))
-          (let n : length es ≡ length c.args.self.log = ap length same in omega (arith, n, c.requires.room))
+          (let n : length es ≡ length c.args.self.log = ap length same in omega (arith, n, c.requires.bound))
           c.append.ensures.places,
-      put_used c.self.inside.index c.append.new.index e.arrived.src e.arrived.seq (length es) (λ s n. c.self.invariant.3 s (λ k. n (k ∙ ap (λ (x : PlainEntry). x.arrived.src) (sym c.new-entry.ensures)))) c.append.ensures.used c.append.ensures.places,
+      put_used c.self.inside.index c.append.new.index e.arrived.src e.arrived.seq (length es) (λ s n. c.self.invariant.3 s (λ k. n (k ∙ ap (λ (x : PlainEntry). x.arrived.src) (sym c.new-entry.ensures)))) c.append.ensures.has_entries c.append.ensures.places,
     )

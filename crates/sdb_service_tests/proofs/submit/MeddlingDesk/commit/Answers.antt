@@ -1,7 +1,7 @@
 use Rattle.sdb_oplog.specs.Keys.{plain_key}
 use Rattle.sdb_desk.specs.ShardView.{logs_of}
 use Rattle.sdb_desk.specs.View.{plain_outcome}
-use Rattle.sdb_submit.specs.Laws.{moved_is_look}
+use Rattle.sdb_submit.specs.laws.SubmitLaws.{moved_is_look}
 use Rattle.sdb_service_tests.proofs.submit.MeddlingDesk.commit.Goals as goal
 
 pub returns-clause-looked : goal.returns-clause-looked

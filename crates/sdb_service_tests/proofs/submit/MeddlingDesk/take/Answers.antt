@@ -1,7 +1,7 @@
 use Rattle.sdb_desk.specs.ShardView.{logs_of, queues_of}
 use Rattle.sdb_service_tests.proofs.submit.MeddlingDesk.take.Goals as goal
 
-pub returns-clause-acts : goal.returns-clause-acts
-returns-clause-acts c =
+pub returns-clause-step : goal.returns-clause-step
+returns-clause-step c =
     let s = c.args.pass.now.shard in
-    (logs_of s, (queues_of s, (c.take.ensures.takes, c.take.ensures.others, c.take.ensures.logs)))
+    (logs_of s, (queues_of s, (c.take.ensures.takes, c.take.ensures.others_unchanged, c.take.ensures.logs_unchanged)))

@@ -7,7 +7,7 @@ use Rattle.sdb_session.proofs.session.Session.end.Goals as goal
 
 pub loop-queue-init : goal.loop-queue-init
 loop-queue-init g c = record {
-  takes = c.requires.takes;
+  takes = c.requires.accepted;
   number = refl;
   so_far = ([], (ap (map plain_subscription) (c.into_iter-queue-iterator.ensures.into_iter_gives ∙ c.iter-queue-items.ensures.rest), closed_none (g.D.Desk.step c.args.desk.now) c.args.pass.now));
 }
@@ -18,13 +18,13 @@ loop-queue-preserved g c =
     let e : Key × Subscription = (c.in-Some.field-0-0.now, c.in-Some.queue.now) in
     let rest = c.next.new.self in
     record {
-      takes = c.unsubscribe.ensures.takes;
-      number = c.unsubscribe.ensures.number ∙ c.loop-queue.invariant.number;
+      takes = c.unsubscribe.ensures.accepted;
+      number = c.unsubscribe.ensures.number_unchanged ∙ c.loop-queue.invariant.number;
       so_far = (
         far.0 ++ plain_subscription e ∷ [],
         (
           append_assoc far.0 (plain_subscription e ∷ []) (map plain_subscription rest) ∙ ap (λ es. far.0 ++ map plain_subscription es) (sym c.in-Some.ensures.steps) ∙ far.1.0,
-          closed_more (g.D.Desk.step c.args.desk.now) far.0 (plain_subscription e) c.args.pass.now c.loop-queue.pass c.unsubscribe.new.pass far.1.1 c.unsubscribe.ensures.acts,
+          closed_more (g.D.Desk.step c.args.desk.now) far.0 (plain_subscription e) c.args.pass.now c.loop-queue.pass c.unsubscribe.new.pass far.1.1 c.unsubscribe.ensures.step,
         ),
       );
     }

@@ -9,8 +9,8 @@ use Rattle.sdb_session.proofs.ResponseLemmas.{found_handles, handled_by, on_says
 use Rattle.sdb_wire.specs.Wire.{fetch}
 use Rattle.sdb_session.proofs.session.Session.fetch_document.Goals as goal
 
-pub returns-in-Ok-clause-handled : goal.returns-in-Ok-clause-handled
-returns-in-Ok-clause-handled g c = λ now.
+pub returns-in-Ok-clause-outcome : goal.returns-in-Ok-clause-outcome
+returns-in-Ok-clause-outcome g c = λ now.
     let k = plain_key c.args.key.now in
     let t = c.args.table.now in
     let e = echo_of_message c.args.message in
@@ -22,4 +22,4 @@ returns-in-Ok-clause-handled g c = λ now.
     let r = fetch_result_view (Ok c.in-Ok.found) in
     handled_by _ (g.D.Desk.step c.args.desk.now) e t by now s (fetch k None) c.args.pass.now c.write_fetched.result wrote s c.fetch.new.pass
     (found_handles (g.D.Desk.step c.args.desk.now) e t by now s c.args.pass.now c.fetch.new.pass (OutputUnlessFailed c.write_fetched.result wrote) k o seen
-    (plain_key c.base_key_or-base.result.now) r (c.base_key_or-base.ensures ∙ c.in_ok-moved.ensures) c.in-Ok.ensures.acts (on_says c.write_fetched.result wrote (fetch_answers e o k r) (c.write_fetched.ensures e)))
+    (plain_key c.base_key_or-base.result.now) r (c.base_key_or-base.ensures ∙ c.in_ok-moved.ensures) c.in-Ok.ensures.step (on_says c.write_fetched.result wrote (fetch_answers e o k r) (c.write_fetched.ensures e)))

@@ -13,8 +13,8 @@ use Rattle.sdb_wire.specs.Answers.{failed, list_end}
 use Rattle.sdb_wire.specs.Wire.{fetch}
 use Rattle.sdb_session.proofs.session.Session.fetch_operations.Goals as goal
 
-pub returns-in-Ok-clause-handled : goal.returns-in-Ok-clause-handled
-returns-in-Ok-clause-handled g c = λ now.
+pub returns-in-Ok-clause-outcome : goal.returns-in-Ok-clause-outcome
+returns-in-Ok-clause-outcome g c = λ now.
     let acts = g.D.Desk.step c.args.desk.now in
     let k = plain_key c.args.key.now in
     let t = c.args.table.now in
@@ -34,8 +34,8 @@ returns-in-Ok-clause-handled g c = λ now.
     handled_by _ acts e t by now s (fetch k (Some v)) c.args.pass.now r (WroteAnswers f old new) s c.write_listing.new.pass
     (listed_handles acts e t by now s c.args.pass.now c.write_listing.new.pass (OutputUnlessFailed r (WroteAnswers f old new)) k o seen v (plain_key c.base_key_or-base.result.now) (Ok all.0) (c.base_key_or-base.ensures ∙ c.in_ok-moved.ensures) all.1.0 said)
 
-pub returns-in-Err-Refused-clause-handled : goal.returns-in-Err-Refused-clause-handled
-returns-in-Err-Refused-clause-handled g c = λ now.
+pub returns-in-Err-Refused-clause-outcome : goal.returns-in-Err-Refused-clause-outcome
+returns-in-Err-Refused-clause-outcome g c = λ now.
     let acts = g.D.Desk.step c.args.desk.now in
     let k = plain_key c.args.key.now in
     let t = c.args.table.now in
@@ -58,8 +58,8 @@ returns-in-Err-Refused-clause-handled g c = λ now.
     handled_by _ acts e t by now s (fetch k (Some v)) c.args.pass.now r (WroteAnswers f old new) s c.write_listing.new.pass
     (listed_handles acts e t by now s c.args.pass.now c.write_listing.new.pass (OutputUnlessFailed r (WroteAnswers f old new)) k o seen v (plain_key c.base_key_or-base.result.now) (Err code) (c.base_key_or-base.ensures ∙ c.in_ok-moved.ensures) none.0 said)
 
-pub returns-clause-handled : goal.returns-clause-handled
-returns-clause-handled g c = λ now.
+pub returns-clause-outcome : goal.returns-clause-outcome
+returns-clause-outcome g c = λ now.
     let k = plain_key c.args.key.now in
     let t = c.args.table.now in
     let o = plain_projection_option c.find-projection.result in

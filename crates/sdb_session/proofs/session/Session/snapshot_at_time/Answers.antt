@@ -9,8 +9,8 @@ use Rattle.sdb_session.proofs.ResponseLemmas.{handled_by, on_says, moment_handle
 use Rattle.sdb_wire.specs.Wire.{snapshot_at_time}
 use Rattle.sdb_session.proofs.session.Session.snapshot_at_time.Goals as goal
 
-pub returns-in-Ok-clause-handled : goal.returns-in-Ok-clause-handled
-returns-in-Ok-clause-handled g c = λ now.
+pub returns-in-Ok-clause-outcome : goal.returns-in-Ok-clause-outcome
+returns-in-Ok-clause-outcome g c = λ now.
     let k = plain_key c.args.asked.key in
     let t = c.args.table.now in
     let e = echo_of_message c.args.message in
@@ -24,4 +24,4 @@ returns-in-Ok-clause-handled g c = λ now.
     let r = fetch_result_view (Ok c.in-Ok.found) in
     handled_by _ (g.D.Desk.step c.args.desk.now) e t by now s (snapshot_at_time k m id) c.args.pass.now c.write_at_moment.result wrote s c.snapshot_at_time.new.pass
     (moment_handles (g.D.Desk.step c.args.desk.now) e t by now s c.args.pass.now c.snapshot_at_time.new.pass (OutputUnlessFailed c.write_at_moment.result wrote) k o seen
-    m id (plain_key c.base_key_or-base.result.now) r (c.base_key_or-base.ensures ∙ c.in_ok-moved.ensures) c.in-Ok.ensures.acts (on_says c.write_at_moment.result wrote (moment_answers e o id r) (c.write_at_moment.ensures e)))
+    m id (plain_key c.base_key_or-base.result.now) r (c.base_key_or-base.ensures ∙ c.in_ok-moved.ensures) c.in-Ok.ensures.step (on_says c.write_at_moment.result wrote (moment_answers e o id r) (c.write_at_moment.ensures e)))

@@ -12,8 +12,8 @@ use Rattle.sdb_wire.specs.Answers.{failed}
 use Rattle.sdb_wire.specs.Wire.{submit}
 use Rattle.sdb_session.proofs.session.Session.submit.Goals as goal
 
-pub returns-then-not-permits-clause-handled : goal.returns-then-not-permits-clause-handled
-returns-then-not-permits-clause-handled g c =
+pub returns-then-not-permits-clause-outcome : goal.returns-then-not-permits-clause-outcome
+returns-then-not-permits-clause-outcome g c =
     let k = plain_key c.args.key.now in
     let t = c.args.table.now in
     let e = echo_of_message c.args.message in
@@ -31,8 +31,8 @@ returns-then-not-permits-clause-handled g c =
     (refused_handles (g.D.Desk.step c.args.desk.now) e t by now s c.args.pass.now c.args.pass.now (OutputUnlessFailed c.write_refusal.result wrote) k o seen
     v n src m (sym c.permits.ensures ∙ c.if-not-permits.true) refl (on_says c.write_refusal.result wrote (failed e E9 ∷ []) c.write_refusal.ensures))
 
-pub returns-clause-handled : goal.returns-clause-handled
-returns-clause-handled g c =
+pub returns-clause-outcome : goal.returns-clause-outcome
+returns-clause-outcome g c =
     let k = plain_key c.args.key.now in
     let t = c.args.table.now in
     let e = echo_of_message c.args.message in

@@ -15,8 +15,8 @@ use Rattle.sdb_wire.specs.Answers.{failed}
 use Rattle.sdb_wire.specs.Wire.{subscribe}
 use Rattle.sdb_session.proofs.session.Session.subscribe.Goals as goal
 
-pub returns-then-is_subscription_full-clause-handled : goal.returns-then-is_subscription_full-clause-handled
-returns-then-is_subscription_full-clause-handled g c = λ now.
+pub returns-then-is_subscription_full-clause-outcome : goal.returns-then-is_subscription_full-clause-outcome
+returns-then-is_subscription_full-clause-outcome g c = λ now.
     let k = plain_key c.args.key in
     let t = c.args.table.now in
     let e = echo_of_message c.args.message in
@@ -32,8 +32,8 @@ returns-then-is_subscription_full-clause-handled g c = λ now.
     (full_handles (g.D.Desk.step c.args.desk.now) e t by now s c.args.pass.now c.limit_code-code.new.pass (OutputUnlessFailed c.write_refusal.result wrote) k o seen
     v b code (sym c.is_subscription_full.ensures ∙ c.if-is_subscription_full.true) c.in_ok-base.ensures c.limit_code-code.ensures.refuses (on_says c.write_refusal.result wrote (failed e code ∷ []) c.write_refusal.ensures))
 
-pub returns-in-Err-Refused-clause-handled : goal.returns-in-Err-Refused-clause-handled
-returns-in-Err-Refused-clause-handled g c = λ now.
+pub returns-in-Err-Refused-clause-outcome : goal.returns-in-Err-Refused-clause-outcome
+returns-in-Err-Refused-clause-outcome g c = λ now.
     let acts = g.D.Desk.step c.args.desk.now in
     let k = plain_key c.args.key in
     let t = c.args.table.now in
@@ -61,8 +61,8 @@ returns-in-Err-Refused-clause-handled g c = λ now.
     (not_joined_handles acts e t by now s c.args.pass.now c.open_and_replace.new.pass (OutputUnlessFailed r (WroteAnswers f before after)) k o seen
     v b new (sym c.is_subscription_full.ensures ∙ c.if-is_subscription_full.false) c.in_ok-base.ensures code c.in-Err-Refused.ensures.session none.0 said)
 
-pub returns-in-Ok-clause-handled : goal.returns-in-Ok-clause-handled
-returns-in-Ok-clause-handled g c = λ now.
+pub returns-in-Ok-clause-outcome : goal.returns-in-Ok-clause-outcome
+returns-in-Ok-clause-outcome g c = λ now.
     let acts = g.D.Desk.step c.args.desk.now in
     let k = plain_key c.args.key in
     let t = c.args.table.now in
@@ -82,14 +82,14 @@ returns-in-Ok-clause-handled g c = λ now.
     let seen : o ≡ projection_of_key t k = c.find-projection.ensures ∙ ap (λ n. projection_of n t) c.as_str.ensures.value in
     let all = c.in-Ok.ensures.joins in
     let j : PlainSubscribeReply = record { opened = opened; first = all.0 } in
-    let said = opened_behind f before mid after r o k v opened all.0 all.1.1 all.1.2 c.subscribe_from.ensures.says in
+    let said = opened_behind f before mid after r o k v opened all.0 all.1.1 all.1.2 c.subscribe_from.ensures.output in
     let is = c.subscribe_from.ensures.session ∙ ap (λ x. with_subscription x k (record { base = b; id = opened.id })) c.in-Ok.ensures.session in
     handled_by _ acts e t by now s (subscribe k v) c.args.pass.now r (WroteAnswers f before after) new c.open_and_replace.new.pass
     (joined_handles acts e t by now s c.args.pass.now c.open_and_replace.new.pass (OutputUnlessFailed r (WroteAnswers f before after)) k o seen
     v b new (sym c.is_subscription_full.ensures ∙ c.if-is_subscription_full.false) c.in_ok-base.ensures j is all.1.0 said)
 
-pub returns-clause-handled : goal.returns-clause-handled
-returns-clause-handled g c = λ now.
+pub returns-clause-outcome : goal.returns-clause-outcome
+returns-clause-outcome g c = λ now.
     let k = plain_key c.args.key in
     let t = c.args.table.now in
     let o = plain_projection_option c.find-projection.result in

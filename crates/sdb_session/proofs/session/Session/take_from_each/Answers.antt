@@ -13,20 +13,20 @@ use Rattle.sdb_session.proofs.session.Session.take_from_each.Goals as goal
 
 pub loop-key-init : goal.loop-key-init
 loop-key-init g c = record {
-  takes = c.requires.takes;
+  takes = c.requires.accepted;
   number = refl;
   small = omega (arith, ap length c.into_iter-key-iterator.ensures.into_iter_gives, ap length c.iter-key-items.ensures.rest);
   so_far = ([], (ap (map plain_subscription) (c.into_iter-key-iterator.ensures.into_iter_gives ∙ c.iter-key-items.ensures.rest), takes_none (g.D.Desk.step c.args.desk.now) c.args.max c.args.pass.now, refl, sym (append-nil (g.O.AnswerSink.contents c.args.out.now))));
 }
 
-pub returns-in_err-entries-clause-stops : goal.returns-in_err-entries-clause-stops
-returns-in_err-entries-clause-stops g c =
+pub returns-in_err-entries-clause-interrupted : goal.returns-in_err-entries-clause-interrupted
+returns-in_err-entries-clause-interrupted g c =
     let far = c.loop-key.invariant.so_far in
     on_err_any c.from_residual.result
     (far.0, (map plain_subscription c.loop-key.key-iterator, (c.loop-key.pass, (far.1.0, far.1.1, inr (queue_id_of c.in-Some.queue.now, (None, c.in_err-entries.ensures.takes_one))))))
 
-pub returns-in_err-write_entries_of_others-clause-stops : goal.returns-in_err-write_entries_of_others-clause-stops
-returns-in_err-write_entries_of_others-clause-stops g c =
+pub returns-in_err-write_entries_of_others-clause-interrupted : goal.returns-in_err-write_entries_of_others-clause-interrupted
+returns-in_err-write_entries_of_others-clause-interrupted g c =
     let far = c.loop-key.invariant.so_far in
     let e : Key × Subscription = (c.in-Some.key.now, c.in-Some.queue.now) in
     let x : PlainTake = record { sub = plain_subscription e; entries = c.in_ok-entries.entries.items } in
@@ -56,8 +56,8 @@ loop-key-preserved g c =
     let t = c.args.table.now in
     let k = plain_key c.in-Some.key.now in
     record {
-      takes = c.take_entries.ensures.takes;
-      number = c.take_entries.ensures.number ∙ c.loop-key.invariant.number;
+      takes = c.take_entries.ensures.accepted;
+      number = c.take_entries.ensures.number_unchanged ∙ c.loop-key.invariant.number;
       small = omega (arith, c.loop-key.invariant.small, ap length c.in-Some.ensures.steps, c.len.type_inv);
       so_far = (
         far.0 ++ x ∷ [],

@@ -7,8 +7,8 @@ use Rattle.sdb_sorted_map.proofs.sorted_map.SortedMap.clone_shared.Goals as goal
 pub invariant_of-result : goal.invariant_of-result
 invariant_of-result g c =
     let old = c.args.self.now in
-    let e = same_texts old.entries c.in-Some.entries (items_of_shared c.in_ok-entries.field-0 c.args.self.now.entries c.in-Some.entries c.in-Some.is c.in_ok-entries.ensures.same) in
+    let e = same_texts old.entries c.in-Some.entries (items_of_shared c.in_ok-entries.field-0 c.args.self.now.entries c.in-Some.entries c.in-Some.is c.in_ok-entries.ensures.equal) in
     record { small = length_kept (λ v. v) old.entries c.in-Some.entries [] 0 e old.small; keys_ascending = ascending_kept (λ v. v) old.entries c.in-Some.entries [] 0 e old.keys_ascending }
 
-pub returns-in-Some-clause-same : goal.returns-in-Some-clause-same
-returns-in-Some-clause-same g c = ap (map key_value) (same_items c.args.self.now.entries c.in-Some.entries (items_of_shared c.in_ok-entries.field-0 c.args.self.now.entries c.in-Some.entries c.in-Some.is c.in_ok-entries.ensures.same))
+pub returns-in-Some-clause-equal : goal.returns-in-Some-clause-equal
+returns-in-Some-clause-equal g c = ap (map key_value) (same_items c.args.self.now.entries c.in-Some.entries (items_of_shared c.in_ok-entries.field-0 c.args.self.now.entries c.in-Some.entries c.in-Some.is c.in_ok-entries.ensures.equal))

@@ -1,6 +1,6 @@
 use Rattle.std.proofs.Common.{◌<◌, ◌^◌, length, sym, ap, ◌∙◌, subst, arith}
 use Rattle.std.proofs.Math.ListN.{length-map}
-use Rattle.sdb_chunks.specs.Laws.{vec_models_of_items}
+use Rattle.sdb_chunks.specs.laws.ChunkLaws.{vec_models_of_items}
 use Rattle.sdb_sorted_map.specs.MapEntry.{entry_key}
 use Rattle.sdb_sorted_map.specs.KeyOrder.{IsAscending}
 use Rattle.sdb_sorted_map.specs.SearchModel.{entry_key_bytes}

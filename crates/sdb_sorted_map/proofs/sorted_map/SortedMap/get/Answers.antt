@@ -1,5 +1,5 @@
 use Rattle.std.proofs.Common.{◌∙◌, sym, ap, option_map, Bor}
-use Rattle.sdb_sorted_map.specs.Laws.{lookup_none_of_insert_index}
+use Rattle.sdb_sorted_map.specs.laws.SortedMapLaws.{lookup_none_of_insert_index}
 use Rattle.sdb_sorted_map.specs.SortedMap.{map_entry_models}
 use Rattle.sdb_sorted_map.specs.declared.map_entry.MapEntry.{MapEntry}
 use Rattle.sdb_sorted_map.proofs.EditLemmas.{gap_seen, value_found}
@@ -25,4 +25,4 @@ returns-in_ok-get-in-Ok g c =
 pub returns-in-Err : goal.returns-in-Err
 returns-in-Err g c =
     let m = c.args.self.now in
-    sym (lookup_none_of_insert_index c.args.key.now (map_entry_models g.V.TryClone.model m) c.in-Err.field-0 (gap_seen g.V.TryClone.model m.entries m.entries c.args.key.now c.in-Err.field-0 c.in-Err.ensures.gap))
+    sym (lookup_none_of_insert_index c.args.key.now (map_entry_models g.V.TryClone.model m) c.in-Err.field-0 (gap_seen g.V.TryClone.model m.entries m.entries c.args.key.now c.in-Err.field-0 c.in-Err.ensures.insert_index))

@@ -1,6 +1,6 @@
 use Rattle.std.proofs.Common.{option_map, ap, sym, ◌∙◌}
-use Rattle.sdb_chunks.specs.Laws.{unique_vec_at_of_all}
-use Rattle.sdb_sorted_map.specs.Laws.{lookup_of_key_index, lookup_none_of_insert_index}
+use Rattle.sdb_chunks.specs.laws.ChunkLaws.{unique_vec_at_of_all}
+use Rattle.sdb_sorted_map.specs.laws.SortedMapLaws.{lookup_of_key_index, lookup_none_of_insert_index}
 use Rattle.sdb_sorted_map.specs.SortedMap.{map_entry_models}
 use Rattle.sdb_sorted_map.proofs.EditLemmas.{ascending_kept, length_kept, found_seen, gap_seen, own_flat}
 use Rattle.sdb_sorted_map.proofs.sorted_map.SortedMap.get_mut.Goals as goal
@@ -27,4 +27,4 @@ returns-in-Ok g c own =
 pub returns-in-Err : goal.returns-in-Err
 returns-in-Err g c own =
     let m = c.args.self.now in
-    sym (lookup_none_of_insert_index c.args.key.now (map_entry_models g.V.TryClone.model m) c.in-Err.field-0 (gap_seen g.V.TryClone.model m.entries m.entries c.args.key.now c.in-Err.field-0 c.in-Err.ensures.gap))
+    sym (lookup_none_of_insert_index c.args.key.now (map_entry_models g.V.TryClone.model m) c.in-Err.field-0 (gap_seen g.V.TryClone.model m.entries m.entries c.args.key.now c.in-Err.field-0 c.in-Err.ensures.insert_index))

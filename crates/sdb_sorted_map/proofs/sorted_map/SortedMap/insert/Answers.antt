@@ -1,7 +1,7 @@
 use Rattle.std.proofs.Common.{◌≡◌, ◌+◌, ◌<◌, ◌^◌, ◌∙◌, sym, ap, subst, length, option_map, string_bytes, arith}
-use Rattle.sdb_chunks.specs.Laws.{unique_vec_at_of_all}
+use Rattle.sdb_chunks.specs.laws.ChunkLaws.{unique_vec_at_of_all}
 use Rattle.sdb_chunks.specs.ChunkedVec.{is_unique_vec_at}
-use Rattle.sdb_sorted_map.specs.Laws.{lookup_none_of_insert_index}
+use Rattle.sdb_sorted_map.specs.laws.SortedMapLaws.{lookup_none_of_insert_index}
 use Rattle.sdb_sorted_map.specs.SortedMap.{map_entry_models}
 use Rattle.sdb_sorted_map.specs.KeyOrder.{IsKeyIndex, IsInsertIndex}
 use Rattle.sdb_sorted_map.specs.SearchModel.{vec_keys}
@@ -42,7 +42,7 @@ unreachable-requires g c =
 pub returns-in_err-old-in-Ok-clause-absent : goal.returns-in_err-old-in-Ok-clause-absent
 returns-in_err-old-in-Ok-clause-absent g c own =
     let l = c.args.self.now.entries in
-    on_err c.from_residual.result (absurd (not_both (is_unique_vec_at l c.in-Ok.index) (unique_vec_at_of_all l c.in-Ok.index own) c.in_err-old-in-Ok.ensures.shared))
+    on_err c.from_residual.result (absurd (not_both (is_unique_vec_at l c.in-Ok.index) (unique_vec_at_of_all l c.in-Ok.index own) c.in_err-old-in-Ok.ensures.shared_on_err))
 
 -- ---- the key is new
 
@@ -52,38 +52,38 @@ invariant_of-self-in-Err g c =
     let l = c.args.self.now.entries in
     let i = c.in-Err.index in
     let k = string_bytes c.args.key in
-    let at = subst (λ t. IsInsertIndex (vec_keys l) t i) c.as_str.ensures.value c.in-Err.ensures.gap in
+    let at = subst (λ t. IsInsertIndex (vec_keys l) t i) c.as_str.ensures.value c.in-Err.ensures.insert_index in
     let room : length (vec_keys l) + 1 < 2 ^ 64 = omega (arith, c.args.self.now.small, c.len.ensures, c.if-len-eq18446744073709551615.false) in
     record {
-      small = put_small f l c.insert.new.self k _ i _ c.new-in-Err.ensures c.insert.result at c.insert.ensures.ok c.insert.ensures.within c.insert.ensures.err room;
-      keys_ascending = put_ascending f l c.insert.new.self k _ i _ c.new-in-Err.ensures c.insert.result at c.insert.ensures.ok c.insert.ensures.within c.insert.ensures.err c.args.self.now.keys_ascending;
+      small = put_small f l c.insert.new.self k _ i _ c.new-in-Err.ensures c.insert.result at c.insert.ensures.ok c.insert.ensures.in_range c.insert.ensures.err room;
+      keys_ascending = put_ascending f l c.insert.new.self k _ i _ c.new-in-Err.ensures c.insert.result at c.insert.ensures.ok c.insert.ensures.in_range c.insert.ensures.err c.args.self.now.keys_ascending;
     }
 
 pub returns-in_ok-insert-in-Err-clause-ok : goal.returns-in_ok-insert-in-Err-clause-ok
 returns-in_ok-insert-in-Err-clause-ok g c =
     let l = c.args.self.now.entries in
     let i = c.in-Err.index in
-    let at = subst (λ t. IsInsertIndex (vec_keys l) t i) c.as_str.ensures.value c.in-Err.ensures.gap in
-    put_entries g.V.TryClone.model l c.insert.new.self (string_bytes c.args.key) _ i _ c.new-in-Err.ensures c.in_ok-insert-in-Err.field-0 at c.in_ok-insert-in-Err.ensures.ok c.in_ok-insert-in-Err.ensures.within
+    let at = subst (λ t. IsInsertIndex (vec_keys l) t i) c.as_str.ensures.value c.in-Err.ensures.insert_index in
+    put_entries g.V.TryClone.model l c.insert.new.self (string_bytes c.args.key) _ i _ c.new-in-Err.ensures c.in_ok-insert-in-Err.field-0 at c.in_ok-insert-in-Err.ensures.ok c.in_ok-insert-in-Err.ensures.in_range
 
 pub returns-in_ok-insert-in-Err-clause-value : goal.returns-in_ok-insert-in-Err-clause-value
 returns-in_ok-insert-in-Err-clause-value g c =
     let l = c.args.self.now.entries in
     let i = c.in-Err.index in
-    let at = subst (λ t. IsInsertIndex (vec_keys l) t i) c.as_str.ensures.value c.in-Err.ensures.gap in
+    let at = subst (λ t. IsInsertIndex (vec_keys l) t i) c.as_str.ensures.value c.in-Err.ensures.insert_index in
     sym (lookup_none_of_insert_index (string_bytes c.args.key) (map_entry_models g.V.TryClone.model c.args.self.now) i (gap_seen g.V.TryClone.model l l (string_bytes c.args.key) i at))
 
 pub returns-then-len-eq18446744073709551615-clause-absent : goal.returns-then-len-eq18446744073709551615-clause-absent
 returns-then-len-eq18446744073709551615-clause-absent g c own =
     let l = c.args.self.now.entries in
     let i = c.in-Err.index in
-    let at = subst (λ t. IsInsertIndex (vec_keys l) t i) c.as_str.ensures.value c.in-Err.ensures.gap in
+    let at = subst (λ t. IsInsertIndex (vec_keys l) t i) c.as_str.ensures.value c.in-Err.ensures.insert_index in
     lookup_none_of_insert_index (string_bytes c.args.key) (map_entry_models g.V.TryClone.model c.args.self.now) i (gap_seen g.V.TryClone.model l l (string_bytes c.args.key) i at)
 
 pub returns-in_err-insert-in-Err-clause-absent : goal.returns-in_err-insert-in-Err-clause-absent
 returns-in_err-insert-in-Err-clause-absent g c own =
     let l = c.args.self.now.entries in
     let i = c.in-Err.index in
-    let at = subst (λ t. IsInsertIndex (vec_keys l) t i) c.as_str.ensures.value c.in-Err.ensures.gap in
+    let at = subst (λ t. IsInsertIndex (vec_keys l) t i) c.as_str.ensures.value c.in-Err.ensures.insert_index in
     on_err c.from_residual-in_err-insert-in-Err.result
     (lookup_none_of_insert_index (string_bytes c.args.key) (map_entry_models g.V.TryClone.model c.args.self.now) i (gap_seen g.V.TryClone.model l l (string_bytes c.args.key) i at))

@@ -1,5 +1,5 @@
 use Rattle.std.proofs.Common.{sym, subst}
-use Rattle.sdb_sorted_map.specs.Laws.{keys_of_vec_entries}
+use Rattle.sdb_sorted_map.specs.laws.SortedMapLaws.{keys_of_vec_entries}
 use Rattle.sdb_sorted_map.specs.KeyOrder.{IsAscending}
 use Rattle.sdb_sorted_map.proofs.sorted_map.SortedMap.iter.Goals as goal
 

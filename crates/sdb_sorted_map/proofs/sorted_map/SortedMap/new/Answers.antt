@@ -1,6 +1,6 @@
 use Rattle.std.proofs.Common.{◌≡◌, ◌<◌, ◌^◌, [], ◌∷◌, length, map, ap, sym, ◌∙◌, subst, arith}
 use Rattle.std.specs.List.{flat_map}
-use Rattle.sdb_chunks.specs.Laws.{vec_models_of_chunk_items}
+use Rattle.sdb_chunks.specs.laws.ChunkLaws.{vec_models_of_chunk_items}
 use Rattle.sdb_chunks.specs.ChunkedVec.{vec_items}
 use Rattle.sdb_sorted_map.specs.MapEntry.{key_value, entry_key}
 use Rattle.sdb_sorted_map.specs.KeyOrder.{IsAscending}

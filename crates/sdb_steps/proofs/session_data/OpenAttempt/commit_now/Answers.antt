@@ -9,20 +9,20 @@ use Rattle.sdb_steps.specs.LookInvariant.{attempt_in}
 use Rattle.sdb_steps.proofs.LookLemmas.{looked_now_wanting}
 use Rattle.sdb_steps.proofs.session_data.OpenAttempt.commit_now.Goals as goal
 
-pub returns-then-is_out_of_memory-clause-tries : goal.returns-then-is_out_of_memory-clause-tries
-returns-then-is_out_of_memory-clause-tries c =
+pub returns-then-is_out_of_memory-clause-commits : goal.returns-then-is_out_of_memory-clause-commits
+returns-then-is_out_of_memory-clause-commits c =
     let t = plain_open_attempt c.args.self in
     let decided : (s : PlainSubmission) → s ≡ t.submission → DecidesOrOutOfMemory (logs_of c.args.shard.now) t.key s c.args.now (plain_reply c.commit_now-reply.result) (logs_of c.commit_now-reply.new.self) → DecidesOrOutOfMemory (logs_of c.args.shard.now) t.key t.submission c.args.now (plain_reply c.commit_now-reply.result) (logs_of c.commit_now-reply.new.self) =
     λ s e h. subst (λ x. DecidesOrOutOfMemory (logs_of c.args.shard.now) t.key x c.args.now (plain_reply c.commit_now-reply.result) (logs_of c.commit_now-reply.new.self)) e h in
-    now_wanting c.args.shard.now c.commit_now-reply.new.self t c.args.now (plain_reply c.commit_now-reply.result) (c.if-is_out_of_memory.ensures.wanting refl) (decided c.submission_of.result.now c.submission_of.ensures c.commit_now-reply.ensures.decides) c.commit_now-reply.ensures.queues
+    now_wanting c.args.shard.now c.commit_now-reply.new.self t c.args.now (plain_reply c.commit_now-reply.result) (c.if-is_out_of_memory.ensures.memory refl) (decided c.submission_of.result.now c.submission_of.ensures c.commit_now-reply.ensures.decides) c.commit_now-reply.ensures.queues_unchanged
 
-pub returns-clause-tries : goal.returns-clause-tries
-returns-clause-tries c =
+pub returns-clause-commits : goal.returns-clause-commits
+returns-clause-commits c =
     let t = plain_open_attempt c.args.self in
     let decided : (s : PlainSubmission) → s ≡ t.submission → DecidesOrOutOfMemory (logs_of c.args.shard.now) t.key s c.args.now (plain_reply c.commit_now-reply.result) (logs_of c.commit_now-reply.new.self) → DecidesOrOutOfMemory (logs_of c.args.shard.now) t.key t.submission c.args.now (plain_reply c.commit_now-reply.result) (logs_of c.commit_now-reply.new.self) =
     λ s e h. subst (λ x. DecidesOrOutOfMemory (logs_of c.args.shard.now) t.key x c.args.now (plain_reply c.commit_now-reply.result) (logs_of c.commit_now-reply.new.self)) e h in
-    now_decided c.args.shard.now c.commit_now-reply.new.self t c.args.now (plain_reply c.commit_now-reply.result) c.requires.due (c.if-is_out_of_memory.ensures.enough refl) (decided c.submission_of.result.now c.submission_of.ensures c.commit_now-reply.ensures.decides) c.commit_now-reply.ensures.queues
+    now_decided c.args.shard.now c.commit_now-reply.new.self t c.args.now (plain_reply c.commit_now-reply.result) c.requires.due (c.if-is_out_of_memory.ensures.enough refl) (decided c.submission_of.result.now c.submission_of.ensures c.commit_now-reply.ensures.decides) c.commit_now-reply.ensures.queues_unchanged
 
-pub returns-then-is_out_of_memory-clause-looked : goal.returns-then-is_out_of_memory-clause-looked
-returns-then-is_out_of_memory-clause-looked c =
-    looked_now_wanting (logs_of c.args.shard.now) (logs_of c.commit_now-reply.new.self) (plain_open_attempt c.args.self).key (attempt_in c.args.self.phase) c.submission_of.result.now c.args.now (plain_reply c.commit_now-reply.result) (c.if-is_out_of_memory.ensures.wanting refl) c.commit_now-reply.ensures.decides c.requires.looked
+pub returns-then-is_out_of_memory-clause-has_look : goal.returns-then-is_out_of_memory-clause-has_look
+returns-then-is_out_of_memory-clause-has_look c =
+    looked_now_wanting (logs_of c.args.shard.now) (logs_of c.commit_now-reply.new.self) (plain_open_attempt c.args.self).key (attempt_in c.args.self.phase) c.submission_of.result.now c.args.now (plain_reply c.commit_now-reply.result) (c.if-is_out_of_memory.ensures.memory refl) c.commit_now-reply.ensures.decides c.requires.has_look

@@ -21,8 +21,8 @@ returns-in-Err-clause-dispatches c =
     subst (λ (z : PlainStepAnswer). DispatchesAct c.args.by m x (subscribe k c.args.version) z m x) (sym c.refused_start.ensures)
     (told_turn c.args.by m m x x k c.args.version c.in-Err.code e (started_code m k c.args.version c.in-Err.code e) refl refl)
 
-pub returns-in-Err-clause-leaves : goal.returns-in-Err-clause-leaves
-returns-in-Err-clause-leaves c =
+pub returns-in-Err-clause-other_queues_unchanged : goal.returns-in-Err-clause-other_queues_unchanged
+returns-in-Err-clause-other_queues_unchanged c =
     let q = queues_of c.args.shard.now in
     let s = queue_slots_of c.args.self.now in
     leaves_all c.args.by q q s s c.requires refl refl
@@ -31,10 +31,10 @@ pub returns-in_default-reserve_slot-clause-dispatches : goal.returns-in_default-
 returns-in_default-reserve_slot-clause-dispatches c =
     let q = queues_of c.args.shard.now in
     let m = one_step_of_shard c.args.shard.now in
-    subscribe_wanting c.args.by m m (session_state_of q c.args.self.now) _ (plain_key c.args.key.now) c.args.version c.in_default.field-0 (sym c.in_default.ensures) refl (session_kept (option_map plain_open_attempt c.args.self.now.attempt) q q _ _ refl c.in_default-reserve_slot.ensures.same)
+    subscribe_wanting c.args.by m m (session_state_of q c.args.self.now) _ (plain_key c.args.key.now) c.args.version c.in_default.field-0 (sym c.in_default.ensures) refl (session_kept (option_map plain_open_attempt c.args.self.now.attempt) q q _ _ refl c.in_default-reserve_slot.ensures.unchanged)
 
-pub returns-in_default-reserve_slot-clause-leaves : goal.returns-in_default-reserve_slot-clause-leaves
-returns-in_default-reserve_slot-clause-leaves c = let q = queues_of c.args.shard.now in leaves_all c.args.by q q (queue_slots_of c.args.self.now) _ c.requires refl c.in_default-reserve_slot.ensures.same
+pub returns-in_default-reserve_slot-clause-other_queues_unchanged : goal.returns-in_default-reserve_slot-clause-other_queues_unchanged
+returns-in_default-reserve_slot-clause-other_queues_unchanged c = let q = queues_of c.args.shard.now in leaves_all c.args.by q q (queue_slots_of c.args.self.now) _ c.requires refl c.in_default-reserve_slot.ensures.unchanged
 
 pub returns-in-Ok-subscribe-clause-dispatches : goal.returns-in-Ok-subscribe-clause-dispatches
 returns-in-Ok-subscribe-clause-dispatches c =
@@ -55,14 +55,14 @@ returns-in-Ok-subscribe-clause-dispatches c =
       opened = told.subscribes;
       stands = told.open;
       others = told.others;
-      slots = c.fill_slot.ensures ∙ ap (λ (g : PlainQueueSlots). with_value_at_key g k (Some f.id)) c.in-Ok.ensures.same;
+      slots = c.fill_slot.ensures ∙ ap (λ (g : PlainQueueSlots). with_value_at_key g k (Some f.id)) c.in-Ok.ensures.unchanged;
       closed = c.close_queue.ensures.queues ∙ ap (λ p. with_queues q1 k (close_in c.args.by p (q1 k))) c.in-Ok.ensures.number;
-      logs = c.close_queue.ensures.logs ∙ told.logs;
+      logs = c.close_queue.ensures.logs_unchanged ∙ told.logs;
     } in
     joined_turn c.args.by q0 q1 q2 l0 l2 s0 s2 k c.args.version o a h
 
-pub returns-in-Ok-subscribe-clause-leaves : goal.returns-in-Ok-subscribe-clause-leaves
-returns-in-Ok-subscribe-clause-leaves c =
+pub returns-in-Ok-subscribe-clause-other_queues_unchanged : goal.returns-in-Ok-subscribe-clause-other_queues_unchanged
+returns-in-Ok-subscribe-clause-other_queues_unchanged c =
     let q0 = queues_of c.args.shard.now in
     let q1 = queues_of c.subscribe.new.self in
     let q2 = queues_of c.close_queue.new.shard in
@@ -80,9 +80,9 @@ returns-in-Ok-subscribe-clause-leaves c =
       opened = told.subscribes;
       stands = told.open;
       others = told.others;
-      slots = c.fill_slot.ensures ∙ ap (λ (g : PlainQueueSlots). with_value_at_key g k (Some f.id)) c.in-Ok.ensures.same;
+      slots = c.fill_slot.ensures ∙ ap (λ (g : PlainQueueSlots). with_value_at_key g k (Some f.id)) c.in-Ok.ensures.unchanged;
       closed = c.close_queue.ensures.queues ∙ ap (λ p. with_queues q1 k (close_in c.args.by p (q1 k))) c.in-Ok.ensures.number;
-      logs = c.close_queue.ensures.logs ∙ told.logs;
+      logs = c.close_queue.ensures.logs_unchanged ∙ told.logs;
     } in
     joined_leaves c.args.by q0 q1 q2 l0 l2 s0 s2 k c.args.version o a h
 
@@ -96,7 +96,7 @@ returns-in-Err-subscribe-clause-dispatches c =
     let m = one_step_of_shard c.args.shard.now in
     let n = one_step_of_shard c.subscribe.new.self in
     let x = session_state_of q0 c.args.self.now in
-    let slots = c.drop_empty_slot.ensures ∙ c.in-Ok.ensures.same in
+    let slots = c.drop_empty_slot.ensures ∙ c.in-Ok.ensures.unchanged in
     let a = option_map plain_open_attempt c.args.self.now.attempt in
     let t = queue_slots_in c.drop_empty_slot.new.slots.entries in
     let y : SessionState = record { attempt = a; queues = λ j. position_in_queues (q1 j) (t j) } in
@@ -104,11 +104,11 @@ returns-in-Err-subscribe-clause-dispatches c =
     (subscribe_refused c.args.by m n (q0 k) (q1 k) x y k v c.in-Err-subscribe.code c.in_default.field-0 (sym c.in_default.ensures) refl told.subscribes told.logs
     (λ e. (same_core c.args.shard.now c.subscribe.new.self told.logs (kept_queues q0 q1 k told.others e), session_kept a q0 q1 (queue_slots_of c.args.self.now) t (kept_queues q0 q1 k told.others e) slots))).1
 
-pub returns-in-Err-subscribe-clause-leaves : goal.returns-in-Err-subscribe-clause-leaves
-returns-in-Err-subscribe-clause-leaves c =
+pub returns-in-Err-subscribe-clause-other_queues_unchanged : goal.returns-in-Err-subscribe-clause-other_queues_unchanged
+returns-in-Err-subscribe-clause-other_queues_unchanged c =
     let q0 = queues_of c.args.shard.now in
     let q1 = queues_of c.subscribe.new.self in
     let k = plain_key c.args.key.now in
     let told = c.in-Err-subscribe.ensures in
-    let slots = c.drop_empty_slot.ensures ∙ c.in-Ok.ensures.same in
+    let slots = c.drop_empty_slot.ensures ∙ c.in-Ok.ensures.unchanged in
     leaves_all c.args.by q0 q1 (queue_slots_of c.args.self.now) _ c.requires (kept_queues q0 q1 k told.others (refused_same (logs_of c.args.shard.now k) c.args.by c.args.version (q0 k) (q1 k) c.in-Err-subscribe.code told.subscribes)) slots

@@ -24,8 +24,8 @@ returns-in-Ok-Some-clause-dispatches c =
     let h : TakeFacts c.args.by q0 q1 l0 l1 s s k n w.0 a = record { all = c.requires; at = at; stands = w.1; others = told.others; next = ap (λ z. z.next) told.takes.1; logs = told.logs } in
     taken_turn c.args.by q0 q1 l0 l1 s s k n w.0 a h c.args.max c.in-Ok-Some.entries.items takes refl
 
-pub returns-in-Ok-Some-clause-leaves : goal.returns-in-Ok-Some-clause-leaves
-returns-in-Ok-Some-clause-leaves c =
+pub returns-in-Ok-Some-clause-other_queues_unchanged : goal.returns-in-Ok-Some-clause-other_queues_unchanged
+returns-in-Ok-Some-clause-other_queues_unchanged c =
     let q0 = queues_of c.args.shard.now in
     let q1 = queues_of c.take.new.self in
     let l0 = logs_of c.args.shard.now in
@@ -60,8 +60,8 @@ returns-in-Err-clause-dispatches c =
     ∙ told.takes.1 in
     take_wanting c.args.by q0 q1 l0 l1 s s k n w.0 a h c.args.max some refl (kept_queues q0 q1 k told.others told.takes.0)
 
-pub returns-in-Err-clause-leaves : goal.returns-in-Err-clause-leaves
-returns-in-Err-clause-leaves c =
+pub returns-in-Err-clause-other_queues_unchanged : goal.returns-in-Err-clause-other_queues_unchanged
+returns-in-Err-clause-other_queues_unchanged c =
     let q0 = queues_of c.args.shard.now in
     let q1 = queues_of c.take.new.self in
     let k = plain_key c.args.key.now in

@@ -1,6 +1,6 @@
 use Rattle.std.proofs.Common.{◌≡◌, Some, option_map, ap, sym, ◌∙◌}
 use Rattle.sdb_oplog.specs.Keys.{plain_key}
-use Rattle.sdb_desk.specs.MapLaws.{value_of_updated, updated_of_write_at}
+use Rattle.sdb_desk.specs.laws.MapLaws.{value_of_updated, updated_of_write_at}
 use Rattle.sdb_desk.specs.ShardView.{logs_of, queues_of}
 use Rattle.sdb_desk.specs.Machine.{close_queue}
 use Rattle.sdb_steps.specs.StateView.{plain_open_attempt, queue_slots_of, queue_slots_in}
@@ -25,8 +25,8 @@ returns-clause-dispatches c =
     let h : TakeFacts c.args.by q0 q1 l0 l1 s t k n w.0 a = record { all = c.requires; at = at; stands = w.1; others = updated_of_write_at q0 q1 k (close_queue c.args.by n (q0 k)) told.queues; next = ap (λ z. z.next) shut; logs = told.logs } in
     closed_turn c.args.by q0 q1 l0 l1 s t k n w.0 a h shut c.drop_slot.ensures
 
-pub returns-clause-leaves : goal.returns-clause-leaves
-returns-clause-leaves c =
+pub returns-clause-other_queues_unchanged : goal.returns-clause-other_queues_unchanged
+returns-clause-other_queues_unchanged c =
     let q0 = queues_of c.args.shard.now in
     let q1 = queues_of c.unsubscribe.new.self in
     let l0 = logs_of c.args.shard.now in

@@ -19,8 +19,8 @@ dispatch-requires-clause-queues c =
     subst (λ (n : ℕ). SlotsOpen n q (queue_slots_of c.index_mut.result.now)) c.session-number.ensures
     (subst (λ (s : PlainQueueSlots). SlotsOpen i q s) (sym (slots_read xs i _ within c.index_mut.ensures.value)) (c.args.self.now.slots_open i))
 
-pub dispatch-requires-clause-looked : goal.dispatch-requires-clause-looked
-dispatch-requires-clause-looked c =
+pub dispatch-requires-clause-has_look : goal.dispatch-requires-clause-has_look
+dispatch-requires-clause-has_look c =
     let xs = c.args.self.now.sessions.items in
     let i = c.session-number.result.number in
     let within : i < length xs = omega (arith, c.session-number.result.small, c.args.self.now.all) in
@@ -37,12 +37,12 @@ invariant_of-self c =
     let within : i < length xs = omega (arith, c.session-number.result.small, c.args.self.now.all) in
     let leaves =
     subst (λ (s : PlainQueueSlots). OtherQueuesUnchanged i q s r (queue_slots_of y)) (slots_read xs i _ within c.index_mut.ensures.value)
-    (subst (λ (n : ℕ). OtherQueuesUnchanged n q (queue_slots_of c.index_mut.result.now) r (queue_slots_of y)) (sym c.session-number.ensures) c.dispatch.ensures.leaves) in
+    (subst (λ (n : ℕ). OtherQueuesUnchanged n q (queue_slots_of c.index_mut.result.now) r (queue_slots_of y)) (sym c.session-number.ensures) c.dispatch.ensures.other_queues_unchanged) in
     record {
       all = length-set xs i y ∙ c.args.self.now.all;
       slots_open = open_set q r xs i y within c.args.self.now.slots_open c.args.self.now.apart leaves;
       apart = apart_set q r xs i y within c.args.self.now.slots_open c.args.self.now.apart leaves;
-      looked = looked_set (logs_of c.args.self.now.shard) (logs_of c.dispatch.new.shard) xs i y (grows_dispatched s.session (one_step_of_shard c.args.self.now.shard) (one_step_of_shard c.dispatch.new.shard) (session_state_of q c.index_mut.result.now) (session_state_of r y) s.act (plain_step_answer c.dispatch.result) c.dispatch.ensures.dispatches) c.args.self.now.looked c.dispatch.ensures.looked;
+      looked = looked_set (logs_of c.args.self.now.shard) (logs_of c.dispatch.new.shard) xs i y (grows_dispatched s.session (one_step_of_shard c.args.self.now.shard) (one_step_of_shard c.dispatch.new.shard) (session_state_of q c.index_mut.result.now) (session_state_of r y) s.act (plain_step_answer c.dispatch.result) c.dispatch.ensures.dispatches) c.args.self.now.looked c.dispatch.ensures.has_look;
     }
 
 pub returns : goal.returns
@@ -59,7 +59,7 @@ returns c =
     let within : i < length xs = omega (arith, c.session-number.result.small, c.args.self.now.all) in
     let leaves =
     subst (λ (t : PlainQueueSlots). OtherQueuesUnchanged i q t r (queue_slots_of y)) (slots_read xs i _ within c.index_mut.ensures.value)
-    (subst (λ (n : ℕ). OtherQueuesUnchanged n q (queue_slots_of c.index_mut.result.now) r (queue_slots_of y)) (sym c.session-number.ensures) c.dispatch.ensures.leaves) in
+    (subst (λ (n : ℕ). OtherQueuesUnchanged n q (queue_slots_of c.index_mut.result.now) r (queue_slots_of y)) (sym c.session-number.ensures) c.dispatch.ensures.other_queues_unchanged) in
     let is : session_state_of q c.index_mut.result.now ≡ session_states_of q xs s.session = session_read q xs i _ within c.index_mut.ensures.value ∙ ap (session_states_of q xs) c.session-number.ensures in
     let put = sessions_set q r xs i y within c.args.self.now.slots_open c.args.self.now.apart leaves ∙ ap (λ k. plain.with_session (session_states_of q xs) k (session_state_of r y)) c.session-number.ensures in
     turn_step m n (session_states_of q xs) _ s a (session_state_of r y) put (subst (λ (x : plain.SessionState). DispatchesAct s.session m x s.act a n (session_state_of r y)) is c.dispatch.ensures.dispatches)

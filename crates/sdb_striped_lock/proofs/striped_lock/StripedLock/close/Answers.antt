@@ -3,12 +3,12 @@ use Rattle.sdb_growlock.specs.LockRule.{ForEach}
 use Rattle.sdb_growlock.specs.SeatModel.{BelongsTo}
 use Rattle.sdb_growlock.specs.declared.grow_lock.Seat.{Seat}
 use Rattle.sdb_striped_lock.specs.CloseModel.{HasEverySeat, IsValueAfterClose}
-use Rattle.sdb_striped_lock.specs.Laws.{element_at}
+use Rattle.sdb_striped_lock.specs.laws.SeatLaws.{element_at}
 use Rattle.sdb_striped_lock.proofs.CloseLemmas.{belongs_all, every_seat_present, for_each_at_index, close_relation}
 use Rattle.sdb_striped_lock.proofs.striped_lock.StripedLock.close.Goals as goal
 
-pub close_stripes-requires-clause-own : goal.close_stripes-requires-clause-own
-close_stripes-requires-clause-own g c =
+pub close_stripes-requires-clause-belongs : goal.close_stripes-requires-clause-belongs
+close_stripes-requires-clause-belongs g c =
     λ i x y from lt.
     let cs = c.args.callers.items in
     let s = element_at c.args.first.seats.items 8 c.args.first.has_every_stripe (omega arith) in
@@ -36,7 +36,7 @@ returns-clause-closed g c =
     let s = element_at first 8 c.args.first.has_every_stripe (omega arith) in
     let x = element_at c.args.self.locks.items 8 c.args.self.has_every_stripe (omega arith) in
     let l = slice_index_or c.args.self.locks.items i x in
-    let y = element_at c.gather_stripes.new.columns.items 8 c.gather_stripes.ensures.eight (omega arith) in
+    let y = element_at c.gather_stripes.new.columns.items 8 c.gather_stripes.ensures.length (omega arith) in
     let value = slice_index_or c.close_stripes.result.items i v in
     close_relation r.extends r.same r.blank l i s c.args.first cs value (c.requires.first.1 i s x (omega arith) lt) (for_each_at_index c.args.self cs i s x lt c.requires.callers)
     (subst (λ (ss : List (Seat g.row.T.Denot)). IsValueAfterClose r.extends r.same r.blank ss value) (c.gather_stripes.ensures.each i y s lt) (c.close_stripes.ensures.gives i y v (omega arith) lt))

@@ -3,7 +3,7 @@ use Rattle.sdb_growlock.specs.declared.grow_lock.Seat.{Seat}
 use Rattle.sdb_growlock.specs.declared.grow_lock.GrowLock.{GrowLock}
 use Rattle.sdb_growlock.specs.SeatModel.{HasSeen}
 use Rattle.sdb_striped_lock.specs.AtIndex.{AtEachIndex}
-use Rattle.sdb_striped_lock.specs.Laws.{element_at, seen_at_index}
+use Rattle.sdb_striped_lock.specs.laws.SeatLaws.{element_at, seen_at_index}
 use Rattle.sdb_striped_lock.specs.SeatSetModel.{IsRootSeat}
 use Rattle.sdb_striped_lock.proofs.IndexLemmas.{AtEachItem, each_item_of_push, at_each_of_push}
 use Rattle.sdb_striped_lock.proofs.striped_lock.StripedLock.new.Goals as goal
@@ -17,7 +17,7 @@ loop-place-preserved g c =
     let lock = c.in-Ok.lock in
     let seat = c.in-Ok.seat in
     let P : ℕ → Seat g.row.T.Denot → Type 0 = λ i s. (x : g.row.T.Denot) × HasSeen s x × ((k : ℕ) → g.T.Grows.blank k x) in
-    let one : IsRootSeat 1 seat lock = (c.in-Ok.ensures.own, c.in-Ok.ensures.first.0, c.in-Ok.ensures.first.1) in
+    let one : IsRootSeat 1 seat lock = (c.in-Ok.ensures.belongs, c.in-Ok.ensures.first.0, c.in-Ok.ensures.first.1) in
     record {
       locks = let n = inv.locks in let l = ap length c.push_reserved.ensures.items in let a = length-append locks (lock ∷ []) in omega (arith, n, l, a);
       seats = let n = inv.seats in let l = ap length c.push_reserved-in-Ok.ensures.items in let a = length-append seats (seat ∷ []) in omega (arith, n, l, a);
@@ -29,8 +29,8 @@ loop-place-preserved g c =
           (each_item_of_push P seats m seat inv.seats inv.seen (c.empty.result, c.in-Ok.ensures.seen, c.empty.ensures));
     }
 
-pub returns-clause-own : goal.returns-clause-own
-returns-clause-own g c =
+pub returns-clause-belongs : goal.returns-clause-belongs
+returns-clause-belongs g c =
     let end = c.loop-place-test.false in
     ((lit, λ i x y from lt. c.loop-place.invariant.own i x y from (omega (arith, lt, end))), refl) where
       lit : 0 < 1

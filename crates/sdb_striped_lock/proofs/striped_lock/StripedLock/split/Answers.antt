@@ -1,5 +1,5 @@
 use Rattle.std.proofs.Common.{◌≡◌, ℕ, ◌<◌, length, slice_index_or, subst, arith}
-use Rattle.sdb_striped_lock.specs.Laws.{element_at, seen_at_index}
+use Rattle.sdb_striped_lock.specs.laws.SeatLaws.{element_at, seen_at_index}
 use Rattle.sdb_striped_lock.proofs.striped_lock.StripedLock.split.Goals as goal
 
 pub returns-clause-seen : goal.returns-clause-seen
@@ -9,11 +9,11 @@ returns-clause-seen g c =
     let new = c.split_stripes-seats.new.firsts.items in
     let made = c.split_stripes-seats.result.items in
     let e0 = c.args.first.now.has_every_stripe in
-    let e = c.split_stripes-seats.ensures.eight in
+    let e = c.split_stripes-seats.ensures.length in
     let s = element_at old 8 e0 (omega arith) in
     let l = element_at c.args.self.now.locks.items 8 c.args.self.now.has_every_stripe (omega arith) in
     let f = c.split_stripes-seats.ensures.seen i s lt in
-    let number = (c.split_stripes-seats.ensures.given i s l (omega arith) lt).1 in
+    let number = (c.split_stripes-seats.ensures.split_seat i s l (omega arith) lt).1 in
     let e1 = e.0 in
     let e2 = e.1 in (
       f.0,

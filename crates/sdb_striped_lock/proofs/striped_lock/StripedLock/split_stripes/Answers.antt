@@ -24,7 +24,7 @@ loop-place-preserved g c =
     let t = c.split.new.seat in
     let seat = c.in-Ok.seat in
     let e = inv.eight in
-    let e0 = c.requires.eight in
+    let e0 = c.requires.length in
     let e1 = c.args.self.now.has_every_stripe in
     let within : m < length firsts = omega (arith, lt, e) in
     let o_is : slice_index_or olds m o ≡ o = sym (inv.left m o (omega arith) lt) ∙ sym c.index_mut.ensures.value in
@@ -35,8 +35,8 @@ loop-place-preserved g c =
     let P : ℕ → Seat g.row.T.Denot → Type 0 = λ i s. (d : GrowLock g.row.T.Denot) → IsRootSeat (n + 1) s (slice_index_or locks i d) in
     let Q : ℕ → Seat g.row.T.Denot → Type 0 = λ i s. (d : GrowLock g.row.T.Denot) → IsSeatNumbered n s (slice_index_or locks i d) in
     let F : ℕ → Seat g.row.T.Denot → Type 0 = λ i z. (s : Seat g.row.T.Denot) → SeeSameBlankValue blank (slice_index_or olds i s) (slice_index_or (slice_set firsts m t) i s) z in
-    let own = c.in-Ok.ensures.own in
-    let given = c.in-Ok.ensures.given in
+    let own = c.in-Ok.ensures.belongs in
+    let given = c.in-Ok.ensures.split_seat in
     let fresh : SeeSameBlankValue blank o t seat = c.in-Ok.ensures.seen in
     let firsts_are = each_item_of_set P firsts 0 (m + 1) m t within (λ j s from below ne d. inv.before j s d from (omega (arith, below, ne)))
     (λ d. subst (λ (x : GrowLock g.row.T.Denot). IsRootSeat (n + 1) t x) (sym (lock_there d)) (own.0, own.1 ∙ first.1, c.in-Ok.ensures.next ∙ ap (λ (k : ℕ). k + 1) first.2)) in
@@ -67,6 +67,6 @@ pub returns-clause-first : goal.returns-clause-first
 returns-clause-first g c =
     λ i x y from lt. let end = c.loop-place-test.false in c.loop-place.invariant.before i x y from (omega (arith, lt, end))
 
-pub returns-clause-given : goal.returns-clause-given
-returns-clause-given g c =
+pub returns-clause-split_seat : goal.returns-clause-split_seat
+returns-clause-split_seat g c =
     λ i x y from lt. let end = c.loop-place-test.false in c.loop-place.invariant.given i x y from (omega (arith, lt, end))

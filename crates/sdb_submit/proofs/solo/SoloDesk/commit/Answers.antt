@@ -1,9 +1,9 @@
 use Rattle.sdb_oplog.specs.Keys.{plain_key}
 use Rattle.sdb_desk.specs.ShardView.{logs_of}
 use Rattle.sdb_desk.specs.View.{plain_outcome}
-use Rattle.sdb_submit.specs.Laws.{moved_is_look}
+use Rattle.sdb_submit.specs.laws.SubmitLaws.{moved_is_look}
 use Rattle.sdb_submit.proofs.solo.SoloDesk.commit.Goals as goal
 
-pub returns-clause-looked : goal.returns-clause-looked
-returns-clause-looked c =
+pub returns-clause-seen : goal.returns-clause-seen
+returns-clause-seen c =
     moved_is_look (logs_of c.args.pass.now) (logs_of c.commit.new.self) (plain_key c.args.key.now) c.args.work.now c.args.now (plain_outcome c.commit.result) c.commit.ensures.commits

@@ -2,7 +2,7 @@ use Rattle.std.proofs.Common.{◌+◌, ◌++◌, ◌∷◌, [], Ok, Err, Some, s
 use Rattle.sdb_oplog.specs.declared.codes.Code.TheVariants.{E11}
 use Rattle.sdb_subscribe.specs.Queue.{open_queue, queue_at}
 use Rattle.sdb_subscribe.specs.Ring.{without_rings, queues_without_rings, AreRingsOfLog}
-use Rattle.sdb_subscribe.specs.Laws.{queue_at_opened}
+use Rattle.sdb_subscribe.specs.laws.QueueLaws.{queue_at_opened}
 use Rattle.sdb_subscribe.proofs.QueueMapLemmas.{insert_new_last, added_bare, given_added, given_bare, other_than}
 use Rattle.sdb_subscribe.proofs.RingLemmas.{fit_added, fits_empty}
 use Rattle.sdb_subscribe.proofs.queues.Queues.open.Goals as goal
@@ -40,8 +40,8 @@ returns-clause-rings c =
     c.in-Ok.ensures.entries ∙ insert_new_last n w es c.self.invariant ∙ ap (λ v. es ++ (n, v) ∷ []) c.in_ok-queue.ensures
     ∙ ap (λ q. q.queues ++ (q.next, record { queue = record { start = c.args.from; taken = 0; by = c.args.by }; ring = [] }) ∷ []) c.self.view_is
 
-pub returns-clause-fit : goal.returns-clause-fit
-returns-clause-fit c =
+pub returns-clause-rings_of_log : goal.returns-clause-rings_of_log
+returns-clause-rings_of_log c =
     let es = c.self.inside.queues.entries in
     let n = c.self.inside.next in
     let w = c.in_ok-queue.queue in

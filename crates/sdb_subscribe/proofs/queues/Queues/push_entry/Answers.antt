@@ -28,8 +28,8 @@ returns-clause-bare c =
     let noted : ArePushed e es ns = noted_pairs _ e _ (λ k v b w g t. search rules) es ns c.retain.ensures.filtered in
     (λ i. record { next = c.self.inside.next; queues = noted_bare e es ns noted i }) ∙ ap without_rings c.self.view_is
 
-pub returns-clause-fit : goal.returns-clause-fit
-returns-clause-fit c =
+pub returns-clause-rings_of_log : goal.returns-clause-rings_of_log
+returns-clause-rings_of_log c =
     let e = c.args.entry.now in
     let es = c.self.inside.queues.entries in
     let ns = c.retain.new.self.entries in

@@ -17,14 +17,14 @@ returns-clause-queues c =
     let n = c.id.inside.number in
     ap queues_without_rings (c.release_if_empty.ensures ∙ c.remove.ensures.entries ∙ remove_by_cmp n es) ∙ removed_bare n es ∙ ap (λ k. remove_queue k (queues_without_rings es)) c.id.view_is ∙ ap (λ q. remove_queue c.args.id (queues_without_rings q.queues)) c.self.view_is
 
-pub returns-clause-fit : goal.returns-clause-fit
-returns-clause-fit c =
+pub returns-clause-rings_of_log : goal.returns-clause-rings_of_log
+returns-clause-rings_of_log c =
     let es = c.self.inside.queues.entries in
     let n = c.id.inside.number in
     λ log f. subst (AreRingsOfLog log) (sym (c.release_if_empty.ensures ∙ c.remove.ensures.entries ∙ remove_by_cmp n es)) (fit_without log n es (subst (λ q. AreRingsOfLog log q.queues) (sym c.self.view_is) f))
 
-pub returns-clause-gone : goal.returns-clause-gone
-returns-clause-gone c =
+pub returns-clause-removed : goal.returns-clause-removed
+returns-clause-removed c =
     let es = c.remove.new.self.entries in
     let n = c.id.inside.number in
     ap (λ l. queue_at c.args.id (queues_without_rings l)) c.release_if_empty.ensures ∙ ap (λ k. queue_at k (queues_without_rings es)) (sym c.id.view_is)

@@ -13,7 +13,7 @@ returns-clause-value c =
     let l = c.in_ok-from_vec_chunked.field-0 in
     seen_list l ∙ ap (λ vs. list (items_value vs)) c.in_ok-from_vec_chunked.ensures.items
 
-pub returns-clause-own : goal.returns-clause-own
-returns-clause-own c =
+pub returns-clause-unique : goal.returns-clause-unique
+returns-clause-unique c =
     let l = c.in_ok-from_vec_chunked.field-0 in
-    λ h. owned_list l ∙ both_own (is_unique_vec l) (items_unique (vec_items l)) c.in_ok-from_vec_chunked.ensures.own (ap items_unique c.in_ok-from_vec_chunked.ensures.items ∙ h)
+    λ h. owned_list l ∙ both_own (is_unique_vec l) (items_unique (vec_items l)) c.in_ok-from_vec_chunked.ensures.unique (ap items_unique c.in_ok-from_vec_chunked.ensures.items ∙ h)

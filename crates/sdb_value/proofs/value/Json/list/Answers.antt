@@ -10,7 +10,7 @@ use Rattle.sdb_value.proofs.value.Json.list.Goals as goal
 pub returns-clause-value : goal.returns-clause-value
 returns-clause-value c = seen_list c.from_vec.result ∙ ap (λ vs. list (items_value vs)) (of_one c.from_vec.result c.args.items.items c.from_vec.ensures.items)
 
-pub returns-clause-own : goal.returns-clause-own
-returns-clause-own c h =
-    owned_list c.from_vec.result ∙ ap (λ b. cond b (items_unique (vec_items c.from_vec.result)) false) c.from_vec.ensures.own
+pub returns-clause-unique : goal.returns-clause-unique
+returns-clause-unique c h =
+    owned_list c.from_vec.result ∙ ap (λ b. cond b (items_unique (vec_items c.from_vec.result)) false) c.from_vec.ensures.unique
     ∙ ap items_unique (of_one c.from_vec.result c.args.items.items c.from_vec.ensures.items) ∙ h

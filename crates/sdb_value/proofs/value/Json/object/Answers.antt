@@ -16,8 +16,8 @@ seconds (e ∷ es) = ap (λ b. cond (is_unique e.1) b false) (seconds es)
 pub returns-clause-value : goal.returns-clause-value
 returns-clause-value c = c.from_members.ensures.value ∙ ap (λ es. object (members_value es)) c.in_ok-from_map.ensures.members
 
-pub returns-clause-own : goal.returns-clause-own
-returns-clause-own c own =
+pub returns-clause-unique : goal.returns-clause-unique
+returns-clause-unique c own =
     let m = c.in_ok-from_map.field-0 in
-    c.from_members.ensures.own ∙ and_intro (members_own m) (members_unique (vec_items (map_chunks m))) c.in_ok-from_map.ensures.own
+    c.from_members.ensures.unique ∙ and_intro (members_own m) (members_unique (vec_items (map_chunks m))) c.in_ok-from_map.ensures.unique
     (owns_of (vec_items (map_chunks m)) ∙ ap (λ (es : List (List ℕ × Json)). all_true (map (λ (e : List ℕ × Json). is_unique e.1) es)) c.in_ok-from_map.ensures.members ∙ seconds c.args.members.entries ∙ own)

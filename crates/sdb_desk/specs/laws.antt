@@ -1,0 +1,3 @@
+pub mod KeyLaws
+pub mod LookLaws
+pub mod MapLaws

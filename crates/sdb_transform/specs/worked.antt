@@ -1,0 +1,2 @@
+pub mod ConvergenceExamples
+pub mod Examples

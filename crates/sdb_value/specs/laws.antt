@@ -1,0 +1,3 @@
+pub mod PrefixLaws
+pub mod ValueLaws
+pub mod PathLaws
