@@ -10,7 +10,7 @@ ghost use Rattle.sdb_desk.specs.ShardView.{machine_of};
 ghost use Rattle.sdb_backend.specs.AuditModel.{ExtendsEveryPass};
 ghost use Rattle.sdb_backend.specs.HistoryOrder.{Extends, share_of};
 ghost use Rattle.sdb_backend.specs.PassModel.{pass_number, next_pass_number, IsPassOfBackend, IsHostOfBackend, HasEmptyShare, PassHasSeen, HasEveryPass};
-ghost use Rattle.sdb_backend.specs.declared.shard_value.Held.{Held as Documents};
+ghost use Rattle.sdb_backend.specs.declared.shard_value.Held.{Held as HeldShard};
 ghost use Rattle.sdb_backend.specs.declared.backend.CloseError.TheVariants.{OutOfMemory, MissingPass};
 
 use crate::audit::Audit;
@@ -143,7 +143,7 @@ impl<R: Wait + Drop> Backend<R> {
     // Runs the job on the documents of the key's shard, with the lock acquired.
     pub(crate) fn run<J: Job<Held>>(&self, pass: &mut Pass, key: &Key, job: J) -> J::Answer
         requires pass { IsPassOfBackend pass.old self.now }
-        requires ready { (x v : Documents) → PassHasSeen pass.old (plain_key key.now) x
+        requires ready { (x v : HeldShard) → PassHasSeen pass.old (plain_key key.now) x
             → Extends (machine_of v.shard) (machine_of x.shard)
             → share_of (pass_number pass.old) (machine_of x.shard)
             ≡ share_of (pass_number pass.old) (machine_of v.shard)
@@ -151,7 +151,7 @@ impl<R: Wait + Drop> Backend<R> {
         ensures pass { IsPassOfBackend pass.new self.now }
         ensures number { pass_number pass.new ≡ pass_number pass.old }
         ensures others_unchanged { ChangedOnlyAt (shard_of (plain_key key.now)) pass.old.seats pass.new.seats }
-        ensures ran { (x v w : Documents) × PassHasSeen pass.old (plain_key key.now) x
+        ensures ran { (x v w : HeldShard) × PassHasSeen pass.old (plain_key key.now) x
             × Extends (machine_of v.shard) (machine_of x.shard)
             × (share_of (pass_number pass.old) (machine_of x.shard)
             ≡ share_of (pass_number pass.old) (machine_of v.shard))

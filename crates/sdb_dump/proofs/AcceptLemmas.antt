@@ -1,4 +1,4 @@
--- A checker accepts the dumps of made logs within the limits, and no other lines.
+-- States that the check accepts the dumps of made logs within the limits, and no other lines.
 use Rattle.std.proofs.Common.{◌≡◌, ℕ, ◌<◌, ◌≤◌, List, [], ◌∷◌, ◌++◌, length, Bool, true, false, cond, Ok, Err, Ordering, Less, Equal, Greater, nat_cmp, is_eq, refl, sym, ap, ap₂, ◌∙◌, subst, arith, append-nil, length-append}
 use Rattle.std.specs.Prelude.{⊤, if◌then◌else◌, nat_eq, nat_lt, Result}
 use Rattle.std.specs.Ordering.{ordering_then}
@@ -42,7 +42,7 @@ equal_keys a b e =
 pub same_as_itself : (k : PlainKey) → keys_equal k k ≡ true
 same_as_itself k = rw (tied_itself nat_list_cmp_total k.collection, tied_itself nat_list_cmp_total k.id) refl
 
--- ---- the log of a key, a line longer
+-- ---- the log of a key with one more line
 
 either_more : (b : Bool) (y : PlainLine) (es fs more : List PlainEntry) → fs ≡ es ++ more → cond b (y.entry ∷ fs) fs ≡ cond b (y.entry ∷ es) es ++ more
 either_more true y es fs more e = ap (λ l. y.entry ∷ l) e
@@ -52,7 +52,7 @@ pub log_more : (before : List PlainLine) (x : PlainLine) (k : PlainKey) → log_
 log_more [] x k = refl
 log_more (y ∷ before) x k = either_more (keys_equal k y.key) y (log_of_lines before k) (log_of_lines (before ++ x ∷ []) k) (cond (keys_equal k x.key) (x.entry ∷ []) []) (log_more before x k)
 
--- ---- what `decide` stores fits
+-- ---- stored entries are within the limits
 
 not_full : (b c : Bool) (r : Result PlainContent Code) (m : PlainContent) → (if b then Err E11 else (if c then Err E4 else r)) ≡ Ok m → b ≡ false
 not_full true c r m e = cc
@@ -120,7 +120,7 @@ abbrev pub AllLinesInLimits : DumpVersion → List PlainLine → Type 0
 AllLinesInLimits v [] = ⊤
 AllLinesInLimits v (x ∷ xs) = KeyInLimits x.key × EntryInLimits v x.entry × AllLinesInLimits v xs
 
--- so all entries fit
+-- all entries are within the limits
 fit_from : (v : DumpVersion) (before xs : List PlainLine) → ((k : PlainKey) → IsMadeFrom (log_of_lines before k) (log_of_lines xs k)) → AllInLimits v xs
     → ((k : PlainKey) → LogInLimits (log_of_lines before k)) → AllLinesInLimits v xs
 fit_from v before [] m f h = tt
@@ -139,7 +139,7 @@ all_fit v xs d f = fit_from v [] xs d.made f (λ k. (tt, omega arith))
 pub dumps_accepted : (v : DumpVersion) (xs : List PlainLine) → IsDumpOfLogs xs → AllInLimits v xs → check (dump_lines v xs) [] ≡ Ok xs
 dumps_accepted v xs d f = check_complete v xs (next_all v [] xs d.ascends d.made f (λ k. (tt, omega arith)))
 
--- ---- and no others
+-- ---- no other lines are accepted
 
 made_first : (b : Bool) (log more : List PlainEntry) (x : PlainLine) → (b ≡ true → (decide log x.entry.arrived x.entry.moment).log ≡ log ++ x.entry ∷ []) → IsMadeFrom (log ++ cond b (x.entry ∷ []) []) more
     → IsMadeFrom log (cond b (x.entry ∷ more) more)

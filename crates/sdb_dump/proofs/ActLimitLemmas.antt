@@ -1,4 +1,4 @@
--- What stands for a component that fits, fits.
+-- Transforming preserves the limits of components.
 use Rattle.std.proofs.Common.{◌≡◌, ℕ, suc, ◌+◌, ◌-◌, ◌<◌, ◌≤◌, min, List, [], ◌∷◌, ◌++◌, length, map, take, drop, Bool, true, false, Option, Some, None, IsUtf8, refl, ap, ◌∙◌, subst, arith, length-append}
 use Rattle.std.specs.Prelude.{⊤, if◌then◌else◌, nat_lt, nat_le, nat_eq, option_map, option_and_then}
 use Rattle.std.specs.Option.{option_map_or}
@@ -17,7 +17,7 @@ use Rattle.sdb_dump.proofs.OffsetLemmas.{cut_is, units_split, behind_is}
 use Rattle.sdb_dump.proofs.PathLimits.{IfSomeHolds, opt_then, opt_map, opt_at}
 use Rattle.sdb_dump.proofs.EffectLimits.{cut_boundary, does_fits}
 
--- each act fits, and has a last step only where n says so
+-- each act is within the limits, and has a last step only if n allows it
 abbrev AllActsInLimits : ℕ → List PlainAct → Type 0
 AllActsInLimits n [] = ⊤
 AllActsInLimits n (a ∷ xs) = ActInLimits 100 a × (length (last_step a) ≤ n) × AllActsInLimits n xs
@@ -97,7 +97,7 @@ sd_over_sd_fits p r d t h =
     (if_both 1 (nat_le (p + units d) r) (one_act (sd p d)) rest (one_fits 1 (sd p d) h (omega arith))
     (without_fits (min p r) (r - p) after d (cut_at d (r - p)) (cut_at d after) refl refl h.1.0 (omega (arith, h.0))))
 
--- ---- the table
+-- ---- the table of transforms
 
 put_fits : (side : Side) (l k : List ℕ) (z y : Value) (c : PlainAct) → ActInLimits 100 c → length (last_step c) ≤ 1 → IsUtf8 l → ValueInLimits 50 z → ValueInLimits 50 y → ActsInLimits 1 (put_after_put side l z c k y)
 put_fits side l k z y c h s u g f =

@@ -1,4 +1,4 @@
--- A checker's entries are exactly those whose dump the lines are.
+-- States that the check accepts exactly the dumps of its entries.
 use Rattle.std.proofs.Common.{◌≡◌, ℕ, ◌+◌, List, [], ◌∷◌, ◌++◌, length, map, Bool, true, false, Option, Some, None, Ok, Err, bytes_eq, refl, sym, ap, ap₂, ◌∙◌, subst, arith, append_assoc, append-nil}
 use Rattle.std.specs.Prelude.{if◌then◌else◌, ◌&&◌, nat_eq}
 use Rattle.std.proofs.lemmas.Bool.{and_parts}
@@ -30,7 +30,7 @@ abbrev third_or_zero : List ℕ → ℕ
 third_or_zero (x ∷ y ∷ z ∷ xs) = z
 third_or_zero _ = 0
 
--- an entry's line is no count
+-- the line of an entry isn't a count
 no_count : (v : DumpVersion) (x : PlainLine) (n : ℕ) → entry_line v x ≡ count_line n → ⊥
 unfolding escape_byte
 no_count v x n e = let h : 97 ≡ 101 = ap third_or_zero e in absurd (omega (arith, h))
@@ -142,7 +142,7 @@ from_complete v before (x ∷ more) n h =
     ∙ ap (λ y. check_from v (before ++ x ∷ []) (n + 1) (map (entry_line v) more ++ count_line (length y) ∷ []) []) (sym all)
     ∙ from_complete v (before ++ x ∷ []) more (n + 1) h.1 ∙ ap Ok all
 
--- ---- the head
+-- ---- the header
 
 check_after_header : (v : DumpVersion) (l : List ℕ) (ls : List (List ℕ)) (rest : List ℕ) (xs : List PlainLine) → bytes_eq l (header_line v) ≡ true
     → check_from v [] 2 ls rest ≡ Ok xs → AreLinesOf v xs (l ∷ ls) rest

@@ -1,4 +1,4 @@
--- How the check of a text goes on at a piece of it, and how it ends.
+-- The check of a text, continued with a part of it, and its end.
 use Rattle.std.proofs.Common.{◌≡◌, ◌≢◌, ℕ, ◌+◌, ◌-◌, List, [], ◌∷◌, ◌++◌, Some, None, take, drop, length, All, refl, ap, sym, ◌∙◌, subst, append_assoc, append-nil, ne_eqb, IfSome}
 use Rattle.std.specs.declared.option.Option.{Option}
 use Rattle.std.specs.Prelude.{Result, Ok, Err, IfOk, IfErr}
@@ -22,13 +22,13 @@ use Rattle.sdb_dump.specs.declared.checker.DumpFault.TheVariants.{ReadFailed, Ou
 use Rattle.sdb_dump.proofs.ListingLemmas.{dumped_lines}
 use Rattle.sdb_dump.proofs.CheckStageLemmas.{wrong_stays, staged_is}
 
--- once a line isn't right, its number is the answer
+-- the number of a wrong line is the result
 pub wrong_line_is_answer : (f : DumpFault) (s : PlainStage) (l : List ℕ) (ls : List (List ℕ)) (rest : List ℕ) → IsStageFault f (stage_after_line s l) → IsDumpFault f (stages_result s (l ∷ ls) rest)
 wrong_line_is_answer ReadFailed s l ls rest h = tt
 wrong_line_is_answer OutOfMemory s l ls rest h = tt
 wrong_line_is_answer (WrongLine n) s l ls rest h = ap (λ t. stages_result t ls rest) h ∙ wrong_stays n ls rest
 
--- bytes without a line feed join what is pending
+-- bytes without a line feed extend the pending line
 cut_plain : (piece rest pending : List ℕ) → All (λ x. x ≢ 10) piece → split_lines pending (piece ++ rest) ≡ split_lines (pending ++ piece) rest
 cut_plain [] rest pending h = ap (λ p. split_lines p rest) (sym (append-nil pending))
 cut_plain (x ∷ xs) rest pending h =
@@ -37,11 +37,11 @@ cut_plain (x ∷ xs) rest pending h =
 cut_line : (piece rest pending : List ℕ) → All (λ x. x ≢ 10) piece → split_lines pending (piece ++ 10 ∷ rest) ≡ cons_line (pending ++ piece) (split_lines [] rest)
 cut_line piece rest pending h = cut_plain piece (10 ∷ rest) pending h
 
--- a piece without a line feed
+-- a part without a line feed
 pub answer_plain : (s : PlainStage) (piece rest pending : List ℕ) → All (λ x. x ≢ 10) piece → check_result_from s pending (piece ++ rest) ≡ check_result_from s (pending ++ piece) rest
 answer_plain s piece rest pending h = ap (λ c. stages_result s c.ended c.rest) (cut_plain piece rest pending h)
 
--- a piece, and its first line feed at an index
+-- a part with its first line feed at an index
 module _ (piece held : List ℕ) (at : ℕ) (plain : All (λ x. x ≢ 10) (take at piece)) (e : piece ≡ take at piece ++ 10 ∷ drop (at + 1) piece) where
   cut_at : (more : List ℕ) → split_lines held (piece ++ more) ≡ cons_line (held ++ take at piece) (split_lines [] (drop (at + 1) piece ++ more))
   cut_at more =
@@ -60,7 +60,7 @@ module _ (piece held : List ℕ) (at : ℕ) (plain : All (λ x. x ≢ 10) (take 
       let c = split_lines [] (drop (at + 1) piece ++ more) in
       subst (IsDumpFault f) (sym (ap (λ c. stages_result s c.ended c.rest) (cut_at more))) (wrong_line_is_answer f s (held ++ take at piece) c.ended c.rest h)
 
--- ---- what is accepted
+-- ---- the accepted dump
 
 accepts_of_check : (d : CheckedDump) (text : List ℕ) (xs : List PlainLine) → check_text text ≡ Ok xs → AcceptedHasAll d xs → AcceptsText d text
 accepts_of_check d text xs e h =
@@ -74,13 +74,13 @@ accepts_of_check d text xs e h =
       entries = subst (λ f. HasEntryCount f d.entries) same (subst (HasEntryCount (log_of_lines xs)) (sym h.counted) w.3);
     }
 
--- ---- how far a run is
+-- ---- the progress of a run
 
 Consumes-none : (a : Option (List ℕ)) → Consumes a a []
 Consumes-none None = tt
 Consumes-none (Some x) = refl
 
--- what was read, and the stage behind it
+-- the input read, and the stage after it
 pub record CheckRun (left left' : Option (List ℕ)) (c : Checker) (held : List ℕ) : Type 0 where
   pub read : List ℕ
   pub consumed : Consumes left left' read
@@ -109,7 +109,7 @@ check_run_step {left} {left'} {c} {d} {held} {held'} left'' piece w more on =
       goes_on = λ rest. ap (check_result_from head []) (append_assoc w.read piece rest) ∙ w.goes_on (piece ++ rest) ∙ next.2 rest;
     }
 
--- whatever of the input is still to be read
+-- for any remaining input
 rest_arbitrary : (left left' : Option (List ℕ)) (read : List ℕ) (P : List ℕ → Type 0) → Consumes left left' read → ((rest : List ℕ) → P (read ++ rest)) → IfSome left P
 rest_arbitrary None left' read P c h = tt
 rest_arbitrary (Some xs) None read P c h = absurd c
@@ -118,7 +118,7 @@ rest_arbitrary (Some xs) (Some ys) read P c h = subst P (sym c) (h ys)
 checked_text : (text : List ℕ) → check_result_from head [] text ≡ check_text text
 checked_text text = staged_is (split_lines [] text).ended (split_lines [] text).rest
 
--- a fault in the middle of a piece
+-- a fault within a part
 pub check_run_wrong : {left left' : Option (List ℕ)} {c : Checker} {held : List ℕ} (left'' : Option (List ℕ)) (piece : List ℕ) (f : DumpFault)
     → CheckRun left left' c held → Consumes left' left'' piece
     → ((s : PlainStage) → CheckerAtStage c s → (rest : List ℕ) → IsDumpFault f (check_result_from s held (piece ++ rest)))

@@ -7,7 +7,7 @@ use Rattle.sdb_dump.specs.declared.version.DumpVersion.TheVariants.{One, Two}
 use Rattle.sdb_dump.specs.DumpText.{PlainLine, header_line, count_line, accepted_line, check_end, check_from, check}
 use Rattle.sdb_dump.specs.CheckStages.{head, body, done, wrong, stage_after_entry, stages_result}
 
--- once a line isn't right, its number is the answer
+-- the number of a wrong line is the result
 pub wrong_stays : (n : ℕ) (ls : List (List ℕ)) (rest : List ℕ) → stages_result (wrong n) ls rest ≡ Err n
 wrong_stays n [] rest = refl
 wrong_stays n (l ∷ ls) rest = wrong_stays n ls rest
@@ -39,7 +39,7 @@ head_from true b ls rest = staged_from One ls rest []
 head_from false true ls rest = staged_from Two ls rest []
 head_from false false ls rest = wrong_stays 1 ls rest
 
--- line by line, the answer is the same
+-- checking line by line has the result of checking all lines
 pub staged_is : (ls : List (List ℕ)) (rest : List ℕ) → stages_result head ls rest ≡ check ls rest
 staged_is [] rest = refl
 staged_is (l ∷ ls) rest = head_from (bytes_eq l (header_line One)) (bytes_eq l (header_line Two)) ls rest

@@ -1,4 +1,4 @@
--- Operations that fit, carried past one another, fit; so does what becomes of a content.
+-- Crossing preserves the limits of operations, and rebasing those of contents.
 use Rattle.std.proofs.Common.{ℕ, zero, suc, List, [], ◌∷◌, ◌++◌, length, drop, Bool, true, false, Option, Some, None, Ok, Err, refl, arith}
 use Rattle.std.specs.Prelude.{⊤, if◌then◌else◌, nat_eq, nat_lt, Result}
 use Rattle.std.specs.Option.{option_map_or}
@@ -90,7 +90,7 @@ either_ok : {A : Type 0} (P : A → Type 0) (b : Bool) (e : Code) (r : Result A 
 either_ok P true e r h = tt
 either_ok P false e r h = h
 
--- a value that was within 50 is within 100
+-- a value within depth 50 is within depth 100
 act_more : (a : PlainAct) → ActInLimits 50 a → ActInLimits 100 a
 act_more (na x) h = h
 act_more (si i s) h = h
@@ -115,7 +115,7 @@ any_ok : {A : Type 0} (r : Result A Code) → OkInLimits (λ _. ⊤) r
 any_ok (Ok x) = tt
 any_ok (Err e) = tt
 
--- what a submission becomes fits
+-- the rebased content is within the limits
 pub settled_fits : (log : List PlainEntry) (s : PlainSubmission) → AllContentsInLimits log → ContentInLimits 50 s.content → OkInLimits (ContentInLimits 100) (rebased_content log s)
 settled_fits log s h k =
     let P : PlainContent → Type 0 = ContentInLimits 100 in

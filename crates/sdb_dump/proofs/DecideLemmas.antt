@@ -24,7 +24,7 @@ by_parts (Some i) log s now r e h = absurd (not_longer log e h)
 by_parts None log s now (Err c) e h = absurd (not_longer log e h)
 by_parts None log s now (Ok m) e h = ap Some (same_end log (new_entry log s now m) e h)
 
--- a log that is one longer got this entry
+-- a log with one more entry got this one
 pub stored_from : (log : List PlainEntry) (s : PlainSubmission) (now : ℕ) (e : PlainEntry)
     → (decide log s now).log ≡ log ++ e ∷ [] → decided_entry log s now ≡ Some e
 stored_from log s now e h = by_parts (stored_at s.src s.seq log) log s now (rebased_content log s) e h

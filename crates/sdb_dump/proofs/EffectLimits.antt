@@ -1,4 +1,4 @@
--- What an act makes of a value is well formed, and not too deep.
+-- The result of an act is well formed and within the depth.
 use Rattle.std.proofs.Common.{◌≡◌, ℕ, suc, ◌+◌, ◌≤◌, max, ℤ, pos, negsuc, List, ◌++◌, length, take, drop, Bool, true, false, Option, Some, None, IsUtf8, refl, arith}
 use Rattle.std.specs.Prelude.{if◌then◌else◌, nat_lt, nat_le, nat_eq, int_lt, ◌+ℤ◌, option_map, option_and_then}
 use Rattle.std.specs.List.{insert_slice, remove_range, starts_with}
@@ -30,7 +30,7 @@ range_fits z = range_tested z (int_lt z (negsuc 9007199254740990)) (int_lt (pos 
 
 -- ---- texts
 
--- where a text is cut
+-- a cut position of a text is a character boundary
 pub cut_boundary : (d : List ℕ) (p i : ℕ) → IsUtf8 d → cut_at d p ≡ Some i → IsCharBoundary d i
 cut_boundary d p i u e = char_boundary d i u (cut_split d p i e)
 
@@ -103,7 +103,7 @@ effect_fits (od l x) u h k = tt
 effect_fits (or l x y) (object ms) h k = (put_well l y ms h.0 h.2.0 k, omega (arith, put_deep l y ms, h.2.1))
 effect_fits (or l x y) u h k = tt
 
--- a value that was 100 deep at most stays so
+-- a value of depth 100 at most stays one
 pub does_fits : (c : PlainComponent) (d : Value) → ActInLimits 100 c.act → length c.path + length (last_step c.act) ≤ 50 → ValueInLimits 100 d → IfSomeHolds (ValueInLimits 100) (apply_one c d)
 does_fits c d h short k =
     opt_then (λ u. IsWellFormed u × (length c.path + depth u ≤ depth d)) (ValueInLimits 100) (λ u. option_map (with_value_at d c.path) (apply_act c.act u)) (value_at d c.path) (at_below c.path d k.0) (λ u b.

@@ -1,4 +1,4 @@
--- A line that is entered.
+-- A line that is accepted.
 use Rattle.std.proofs.Common.{◌≡◌, ◌≢◌, ℕ, ◌+◌, ◌<◌, List, [], ◌∷◌, ◌++◌, length, Bool, true, false, cond, Option, Some, None, Less, Equal, Greater, is_eq, IfSome, inl, inr, refl, sym, ap, ap₂, ◌∙◌, subst, arith, append-nil, length-append}
 use Rattle.std.specs.Prelude.{if◌then◌else◌, option_map}
 use Rattle.std.specs.BTreeMap.{insert_entry}
@@ -25,7 +25,7 @@ use Rattle.sdb_dump.proofs.StageLemmas.{follows_is, last_more}
 use Rattle.sdb_dump.proofs.LogMapLemmas.{filled_insert}
 use Rattle.sdb_dump.proofs.ListingLemmas.{compare_keys_reverse, keys_total}
 
--- ---- the document that a line goes on with
+-- ---- the document that a line extends
 
 other_way : (a b : PlainKey) → keys_equal a b ≡ false → keys_equal b a ≡ false
 other_way a b e = elim (cases_Bool (keys_equal b a)) [
@@ -99,7 +99,7 @@ module _ (old mid : Checker) (l : LastDocument) (xs : List PlainLine) (k : Plain
     rest = λ q g. above_last q (key_above_trans q e g);
   }
 
--- ---- what is held then
+-- ---- the state after it
 
 pub last_entry : (log : List PlainEntry) (e : PlainEntry) → slice_get (log ++ e ∷ []) (length log) ≡ Some e
 last_entry log e =
@@ -171,7 +171,7 @@ module _ (v : DumpVersion) (xs : List PlainLine) (line : List ℕ) (r : PlainLin
       (line_of_entry e, entered_is (Some e) by ∙ ap (λ b. if b then Some (line_of_entry e) else None) (sym is), holds_more old new e l h k s by same last here grown counted)
   enter_holds old new e l false h k s by same last here grown counted is = entered_is (Some e) by ∙ ap (λ b. if b then Some (line_of_entry e) else None) (sym is)
 
--- ---- what is accepted
+-- ---- the accepted dump
 
 pub accepted_none : (old : Checker) (es : List (Key × List PlainEntry)) (xs : List PlainLine) → old.last ≡ None → es ≡ old.logs.entries → CheckerHolds old xs
     → ((q : PlainKey) → logs_of_map es q ≡ log_of_lines xs q) × AreNotEmpty es

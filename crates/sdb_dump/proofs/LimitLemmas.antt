@@ -1,4 +1,4 @@
--- What is read of a line keeps the limits.
+-- Parsed lines are within the limits.
 use Rattle.std.proofs.Common.{◌≡◌, ℕ, ◌<◌, ◌≤◌, List, [], ◌∷◌, ◌++◌, length, Option, Some, None, Ok, Err, Bool, true, false, refl, subst, arith}
 use Rattle.std.specs.Prelude.{⊤, ◌&&◌, if◌then◌else◌, nat_lt, codes, option_and_then, unwrap_or, Result, IfSome}
 use Rattle.std.specs.Option.{option_map_or, ok_or}
@@ -28,7 +28,7 @@ use Rattle.sdb_dump.specs.DumpLaws.{AllInLimits}
 use Rattle.sdb_dump.specs.declared.version.DumpVersion.{DumpVersion}
 use Rattle.sdb_dump.specs.declared.version.DumpVersion.TheVariants.{One, Two}
 
--- ---- what there is, if anything, has a property
+-- ---- a property of an optional value
 
 some_then : {A B : Type 0} (P : A → Type 0) (Q : B → Type 0) (f : A → Option B) (o : Option A) → IfSome o P → ((x : A) → P x → IfSome (f x) Q) → IfSome (option_and_then f o) Q
 some_then P Q f None h k = tt
@@ -166,7 +166,7 @@ module _ (reads : ReadStaysInRange) where
       needs_has IsSafeInteger SubmissionWithin _ (count_member (codes "by") d) (number_keeps (codes "by") d) (λ b l.
       record { src = j; seq = i; version = h.1; content = h.0; via = k; by = l })))))
 
--- ---- texts and limits together
+-- ---- UTF-8 and limits together
 
 steps_fit : (p : List PlainStep) → StepsInRange p → AreTextSteps p → StepsInLimits p
 steps_fit [] m h = tt
@@ -200,14 +200,14 @@ content_fits (edit cs) m h = (components_fit cs m.0 h, m.1)
 keeps_at : {A : Type 0} (P : A → Type 0) (o : Option A) (x : A) → o ≡ Some x → IfSome o P → P x
 keeps_at P o x e h = subst (λ p. IfSome p P) e h
 
--- a submission that was read, and whose texts are texts
+-- a parsed submission whose texts are UTF-8
 pub submission_fits : (reads : ReadStaysInRange) (d : Data) (s : PlainSubmission) → submission_of_data d ≡ Some s → IsTextSubmission s → SubmissionInLimits s
 submission_fits reads d s e h =
     let m = keeps_at SubmissionWithin (submission_of_data d) s e (submission_keeps reads d) in
     let c = content_fits s.content m.content h.content in
     record { src = name_fits s.src m.src h.src; seq = m.seq; version = m.version; content = c.0; few = c.1; via = name_fits s.via m.via h.via; by = m.by }
 
--- and a key
+-- a parsed key whose texts are UTF-8
 pub key_fits : (d : Data) (k : PlainKey) → key_of d ≡ Ok k → IsTextKey k → KeyInLimits k
 key_fits d k e h =
     let m = subst (λ r. IfOkInLimits r KeyWithin) e (key_keeps d) in
@@ -229,7 +229,7 @@ line_moment : (v : DumpVersion) (l : List ℕ) → IfSome (read_line v l) (λ r.
 line_moment v l =
     if_then v (is_utf8 l) (and_then_some (line_of_data v) (read l)) (needs_has (λ _. ⊤) (λ (r : PlainLineContent). MomentInLimits v r.moment) (line_of_data v) (read l) (some_any (read l)) (λ d _. read_moment v d))
 
--- lines that are next, whose keys and submissions fit, are within the limits
+-- accepted lines whose keys and submissions are within the limits
 pub all_within : (v : DumpVersion) (before xs : List PlainLine) → AreNextLines v before xs → AllKeysInLimits xs → AllInLimits v xs
 all_within v before [] n h = tt
 all_within v before (x ∷ xs) n h =

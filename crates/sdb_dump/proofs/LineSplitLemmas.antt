@@ -1,4 +1,4 @@
--- A text is accepted exactly where it is a dump.
+-- States that a text is accepted if and only if it is a dump.
 use Rattle.std.proofs.Common.{◌≡◌, ℕ, ◌<◌, List, [], ◌∷◌, ◌++◌, length, map, Bool, true, false, ◌==◌, Ok, refl, sym, ap, ap₂, ◌∙◌, arith, append_assoc, append-nil, ne_eqb}
 use Rattle.std.specs.Prelude.{⊤, ◌^◌, codes, if◌then◌else◌}
 use Rattle.std.proofs.lemmas.Bool.Decides.{nat_tests}
@@ -17,7 +17,7 @@ use Rattle.sdb_dump.specs.EntryLimits.{AllKeysInLimits}
 use Rattle.sdb_dump.proofs.LineFeedLemmas.{compact_line}
 use Rattle.sdb_dump.proofs.LimitLemmas.{all_within}
 
--- ---- the lines, put together again, are the text
+-- ---- the lines concatenated are the text
 
 joined_if : (b : Bool) (x : ℕ) (xs pending : List ℕ) → (x == 10) ≡ b
     → ((p : List ℕ) → ended_lines (split_lines p xs).ended ++ (split_lines p xs).rest ≡ p ++ xs)
@@ -31,7 +31,7 @@ split_joins_back : (xs pending : List ℕ) → ended_lines (split_lines pending 
 split_joins_back [] pending = sym (append-nil pending)
 split_joins_back (x ∷ xs) pending = joined_if (x == 10) x xs pending refl (split_joins_back xs)
 
--- ---- and a text of lines is cut into them
+-- ---- the text of lines splits into them
 
 split_of_line : (l rest pending : List ℕ) → HasNoLineFeed l → split_lines pending (l ++ 10 ∷ rest) ≡ cons_line (pending ++ l) (split_lines [] rest)
 split_of_line [] rest pending h = ap (λ p. cons_line p (split_lines [] rest)) (sym (append-nil pending))
@@ -69,7 +69,7 @@ dump_are_lines v xs d f few = (
 pub text_accepted : (v : DumpVersion) (xs : List PlainLine) → IsDumpOfLogs xs → AllInLimits v xs → length xs < 2 ^ 64 → check_text (dump_text v xs) ≡ Ok xs
 text_accepted v xs d f few = ap (λ c. check c.ended c.rest) (cut_lines (dump_lines v xs) (dump_are_lines v xs d f few)) ∙ dumps_accepted v xs d f
 
--- the text is a dump, whose lines are next, and keep the limits if its keys and submissions do
+-- an accepted text is a dump, and within the limits if its keys and submissions are
 pub text_next : (t : List ℕ) (xs : List PlainLine) → check_text t ≡ Ok xs
     → (v : DumpVersion) × (t ≡ dump_text v xs) × IsDumpOfLogs xs × (AllKeysInLimits xs → AllInLimits v xs)
 text_next t xs e =

@@ -1,4 +1,4 @@
--- The lines of made logs, key by key, are a dump that has these logs.
+-- States that the lines of made logs, key by key, are a dump of these logs.
 use Rattle.std.proofs.Common.{◌≡◌, ℕ, List, [], ◌∷◌, ◌++◌, Bool, true, false, cond, Ordering, Less, Equal, Greater, nat_cmp, is_eq, length, Ok, refl, sym, ap, ap₂, ◌∙◌, subst, append-nil}
 use Rattle.std.specs.Prelude.{⊤, ◌||◌, if◌then◌else◌}
 use Rattle.std.specs.Ordering.{ordering_then, ordering_reverse, is_lt}
@@ -39,7 +39,7 @@ compare_keys_reverse a b =
 compare_keys_refl : (a : PlainKey) → compare_keys a a ≡ Equal
 compare_keys_refl a = rw (tied_itself nat_list_cmp_total a.collection, tied_itself nat_list_cmp_total a.id) refl
 
--- the key is below each of these
+-- the key is less than each of these
 abbrev IsKeyBelowEach : PlainKey → List PlainKey → Type 0
 IsKeyBelowEach k ks = AllByRecursion (λ j. compare_keys k j ≡ Less) ks
 
@@ -92,7 +92,7 @@ whole_log (x ∷ es) false e = cc
 logs_are : (f : Logs) (ks : List PlainKey) → IsKeyList f ks → (k : PlainKey) → log_of_lines (lines_of_logs f ks) k ≡ f k
 logs_are f ks h k = log_all f ks k h.in_order ∙ whole_log (f k) (is_listed ks k) (h.whole k)
 
--- ---- in order
+-- ---- order
 
 follows_last : (before : List PlainLine) (x : PlainLine) (k : PlainKey) → key_not_below (before ++ x ∷ []) k ≡ (if is_lt (compare_keys k x.key) then false else true)
 follows_last [] x k = refl
@@ -132,12 +132,12 @@ logs_are_dumped f ks h m = (
   logs_are f ks h,
 )
 
--- ---- a dump is that of its logs
+-- ---- a dump is the dump of its logs
 
 pub keys_total : IsTotalOrder compare_keys
 keys_total = then_total (on_total (λ (k : PlainKey). k.collection) nat_list_cmp_total) (on_total (λ (k : PlainKey). k.id) nat_list_cmp_total)
 
--- no key is below that of the line before
+-- no key is less than that of the line before
 abbrev LinesRise : List PlainLine → Type 0
 LinesRise [] = ⊤
 LinesRise (x ∷ []) = ⊤
@@ -166,7 +166,7 @@ same_logs f g j (k ∷ ks) h e =
     let other : keys_equal k j ≡ false = ap is_eq (compare_keys_reverse k j ∙ ap ordering_reverse h.0) in
     ap₂ (λ es l. lines_of_log k es ++ l) (e k other) (same_logs f g j ks h.1 e)
 
--- these keys are those of the entries, and the entries are those of their logs
+-- the keys are those of the entries, and the entries are those of their logs
 record SortedLines (xs : List PlainLine) (ks : List PlainKey) : Type 0 where
   pub order : KeysAscend ks
   pub whole : (k : PlainKey) → is_listed ks k ≡ is_nonempty (log_of_lines xs k)
@@ -184,7 +184,7 @@ empty_log : (es : List PlainEntry) → false ≡ is_nonempty es → es ≡ []
 empty_log [] e = refl
 empty_log (x ∷ es) e = cc
 
--- the log of the first entry's key, and those of the others
+-- the log of the first entry's key, and the logs of other keys
 log_here : (x : PlainLine) (xs : List PlainLine) → log_of_lines (x ∷ xs) x.key ≡ x.entry ∷ log_of_lines xs x.key
 log_here x xs = ap (λ b. cond b (x.entry ∷ log_of_lines xs x.key) (log_of_lines xs x.key)) (same_as_itself x.key)
 
@@ -240,7 +240,7 @@ within_logs : (v : DumpVersion) (f : Logs) (ks : List PlainKey) → ((k : PlainK
 within_logs v f [] h = tt
 within_logs v f (k ∷ ks) h = within_append v (lines_of_log k (f k)) (lines_of_logs f ks) (h k) (within_logs v f ks h)
 
--- so is the log of each key
+-- the log of each key is within the limits
 within_or : (v : DumpVersion) (b : Bool) (k : PlainKey) (x : PlainLine) (es : List PlainEntry) → keys_equal k x.key ≡ b
     → KeyInLimits x.key → MomentInLimits v x.entry.moment → SubmissionInLimits x.entry.arrived → AllInLimits v (lines_of_log k es) → AllInLimits v (lines_of_log k (cond b (x.entry ∷ es) es))
 within_or v true k x es e key moment sent h = (subst KeyInLimits (sym (equal_keys k x.key e)) key, moment, sent, h)
@@ -250,7 +250,7 @@ within_log : (v : DumpVersion) (xs : List PlainLine) (k : PlainKey) → AllInLim
 within_log v [] k h = tt
 within_log v (x ∷ xs) k h = within_or v (keys_equal k x.key) k x (log_of_lines xs k) refl h.0 h.1 h.2 (within_log v xs k h.3)
 
--- the entries of the logs are as many as the lines
+-- the number of entries is the number of lines
 pub entries_of_lines : (xs : List PlainLine) → IsDumpOfLogs xs → HasEntryCount (log_of_lines xs) (length xs)
 entries_of_lines [] d = ([], record { in_order = sorted_none.order; whole = sorted_none.whole }, refl)
 entries_of_lines (x ∷ xs) d =

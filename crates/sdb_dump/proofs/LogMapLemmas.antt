@@ -1,4 +1,4 @@
--- The logs that a checker keeps in a map.
+-- The logs in a checker's map.
 use Rattle.std.proofs.Common.{◌≡◌, ◌≢◌, ℕ, List, [], ◌∷◌, Bool, true, false, ◌||◌, cond, map, length, Option, Some, Ordering, Less, Equal, Greater, unwrap_or, refl, sym, ap, ◌∙◌}
 use Rattle.std.specs.BTreeMap.{insert_entry, is_at}
 use Rattle.std.specs.List.{AllByRecursion, list_any}
@@ -28,7 +28,7 @@ pub filled_insert : (es : LogEntries) (k : Key) (v : List PlainEntry) → AreNot
 filled_insert [] k v h n = (n, tt)
 filled_insert (e ∷ es) k v h n = insert_or (compare_keys_of k e.0) e es (insert_entry compare_keys_of es k v) k v h n (filled_insert es k v h.1 n)
 
--- ---- the keys of what is stored
+-- ---- the keys with entries
 
 all_below_key : (a : PlainKey) (es : LogEntries) → AllByRecursion (λ y. compare_keys a (plain_key y) ≡ Less) (keys_of es) → AllByRecursion (λ y. compare_keys a y ≡ Less) (map plain_key (keys_of es))
 all_below_key a [] h = tt

@@ -1,4 +1,4 @@
--- Where a text is cut, and what a path that lies behind another is.
+-- Cut positions of texts, and the rest of a path after a prefix.
 use Rattle.std.proofs.Common.{◌≡◌, ℕ, zero, suc, ◌+◌, ◌-◌, ◌<◌, ◌≤◌, List, [], ◌∷◌, ◌++◌, length, take, drop, Option, Some, None, option_map, Bool, true, false, nat_eq, IsUtf8, refl, sym, ap, ◌∙◌, subst, arith, length-take}
 use Rattle.std.specs.Prelude.{if◌then◌else◌, nat_le, slice_index}
 use Rattle.std.specs.List.{starts_with}
@@ -12,9 +12,9 @@ use Rattle.sdb_rope.specs.Utf16.{utf16_width, units, cut_at}
 use Rattle.sdb_value.specs.Value.{PlainStep, key, index, texts_equal, steps_equal}
 use Rattle.sdb_transform.specs.Transform.{strip_prefix}
 
--- ---- places in texts
+-- ---- positions in texts
 
--- a place where a text is cut begins a character, and so many units lie before it
+-- a cut position begins a character, and this number of UTF-16 code units is before it
 pub record CutPosition (bs : List ℕ) (p i : ℕ) : Type 0 where
   pub within : i ≤ length bs
   pub wide : i < length bs → 0 < utf16_width (slice_index bs i)
@@ -53,7 +53,7 @@ cut_is (b ∷ bs) p i h = cut_or (nat_le (utf16_width b) p) (nat_eq p 0) b p bs 
 wide_begins : (b : ℕ) → 0 < utf16_width b → 128 ≤ b → 192 ≤ b
 wide_begins b w h = grind (arith, nat_tests)
 
--- where a text is cut, it may be split
+-- a text can be split at a cut position
 pub cut_split : (bs : List ℕ) (p i : ℕ) → cut_at bs p ≡ Some i → IsSplitPoint bs i
 cut_split bs p i h = let g = cut_is bs p i h in (g.within, λ _ l. wide_begins (slice_index bs i) (g.wide l))
 
@@ -66,7 +66,7 @@ pub char_boundary : (bs : List ℕ) (i : ℕ) → IsUtf8 bs → IsSplitPoint bs 
 char_boundary bs zero u s = IsCharBoundary-start bs u
 char_boundary bs (suc i) u s = (s.0, s.1 (omega arith))
 
--- where a text ends that stands in another
+-- the end of a text that is contained in another
 pub other_end : (bs old : List ℕ) (i : ℕ) → IsUtf8 bs → IsUtf8 old → IsSplitPoint bs i → starts_with nat_eq (drop i bs) old ≡ true → IsCharBoundary bs (i + length old)
 other_end bs old i u v s h =
     let b : IsCharBoundary bs i = char_boundary bs i u s in
@@ -91,7 +91,7 @@ behind_or : (b : Bool) (s t : PlainStep) (front path rest : List PlainStep) → 
 behind_or true s t front path rest same e below = let p : path ≡ front ++ rest = below e in let q : s ≡ t = equal_steps s t same in rw (p, q) refl
 behind_or false s t front path rest same e below = cc
 
--- a path is the front and what lies behind it
+-- a path is its prefix and the rest
 pub behind_is : (front path rest : List PlainStep) → strip_prefix front path ≡ Some rest → path ≡ front ++ rest
 behind_is [] path rest e = let p : path ≡ rest = cc in p
 behind_is (s ∷ front) [] rest e = cc

@@ -1,4 +1,4 @@
--- A dump that is written piece by piece.
+-- A dump that is written in blocks.
 use Rattle.std.proofs.Common.{◌≡◌, ℕ, ◌+◌, List, [], ◌∷◌, ◌++◌, length, map, drop, get_or, ◌<◌, Option, Result, Ok, Err, OnOk, OnErr, ◌⊎◌, inl, inr, codes, refl, sym, ap, ◌∙◌, subst, arith, append_assoc, append-nil, length-append}
 use Rattle.std.specs.Fmt.{digits}
 use Rattle.std.specs.Io.KnownBytes.{Appends}
@@ -15,13 +15,13 @@ use Rattle.sdb_dump.specs.LogListing.{lines_of_log, lines_of_logs}
 use Rattle.sdb_dump.specs.WriteModel.{WroteUpTo, WroteDump, WroteDumpPrefix, log_text, logs_text}
 use Rattle.sdb_desk.specs.StoredKeys.{IsKeyList}
 
--- ---- what was written, and what is left
+-- ---- the bytes written, and the rest
 
 -- nothing is written yet
 pub but_all : (old : Option (List ℕ)) (all left : List ℕ) → all ≡ left → WroteUpTo old old all left
 but_all old all left e = record { written = []; wrote = Appends-nil old; parts = e }
 
--- of what was left the first part was written too
+-- the first part of the rest is written too
 pub but_then : {old mid new : Option (List ℕ)} {all left : List ℕ} (s t left' : List ℕ) → WroteUpTo old mid all left → left ≡ s ++ t → WroteUpTo mid new s left' → WroteUpTo old new all (left' ++ t)
 but_then {old} {mid} {new} s t left' a is b = record {
   written = a.written ++ b.written;
@@ -36,11 +36,11 @@ but_written old new all w = record { written = all; wrote = w; parts = sym (appe
 pub but_none : {old new : Option (List ℕ)} {all : List ℕ} → WroteUpTo old new all [] → Appends old new all
 but_none {old} {new} a = subst (Appends old new) (sym (a.parts ∙ append-nil a.written)) a.wrote
 
--- what was written is a front
+-- the bytes written are a prefix
 pub but_some : {old new : Option (List ℕ)} {all left : List ℕ} → WroteUpTo old new all left → AppendsPrefix old new all
 but_some {left = left} a = (a.written, a.wrote, (left, a.parts))
 
--- and with a front of the first part of what was left too
+-- a prefix of the first part of the rest is written too
 pub but_front : {old mid : Option (List ℕ)} {all left : List ℕ} (new : Option (List ℕ)) (s t : List ℕ) → WroteUpTo old mid all left → left ≡ s ++ t → AppendsPrefix mid new s → AppendsPrefix old new all
 but_front {old} {mid} new s t a is (bytes, w, (rest, e)) = (
   a.written ++ bytes,
@@ -54,7 +54,7 @@ ended_more : (ls ms : List (List ℕ)) → ended_lines (ls ++ ms) ≡ ended_line
 ended_more [] ms = refl
 ended_more (l ∷ ls) ms = ap (λ r. l ++ 10 ∷ r) (ended_more ls ms) ∙ sym (append_assoc l (10 ∷ ended_lines ls) (ended_lines ms))
 
--- the lines of the entries from the i-th on, once that of this one is pending too
+-- the lines of the entries from the i-th on, after this one's line is pending
 pub entry_left : (k : PlainKey) (es : List PlainEntry) (i : ℕ) (e : PlainEntry) (out line pending : List ℕ) → i < length es → e ≡ get_or es i e
     → line ≡ out ++ entry_line Two (record { key = k; entry = e }) → pending ≡ line ++ 10 ∷ [] → out ++ log_text k (drop i es) ≡ pending ++ log_text k (drop (i + 1) es)
 entry_left k es i e out line pending lt at more end =
@@ -71,7 +71,7 @@ logs_first f k ks =
 keys_first : (keys : List Key) (i : ℕ) (key : Key) → i < length keys → key ≡ get_or keys i key → map plain_key (drop i keys) ≡ plain_key key ∷ map plain_key (drop (i + 1) keys)
 keys_first keys i key lt at = ap (map plain_key) (drop_more keys i key lt ∙ ap (λ y. y ∷ drop (i + 1) keys) (sym at))
 
--- the lines of the logs of the keys from the i-th on, and how many they are
+-- the lines of the logs of the keys from the i-th on, and their number
 pub log_left : (f : Logs) (keys : List Key) (i : ℕ) (key : Key) (es : List PlainEntry) (out : List ℕ) → i < length keys → key ≡ get_or keys i key → es ≡ f (plain_key key)
     → out ++ logs_text f (map plain_key (drop i keys)) ≡ (out ++ log_text (plain_key key) es) ++ logs_text f (map plain_key (drop (i + 1) keys))
 log_left f keys i key es out lt at is =
@@ -93,7 +93,7 @@ count_left f keys i key es count all lt at is h =
     let n : length es ≡ length (f k) = ap length is in
     omega (arith, h, e, n, length-append (lines_of_log k (f k)) (lines_of_logs f rest), of_log_len k (f k))
 
--- ---- the whole
+-- ---- the whole dump
 
 pub head_is : codes "{\"dump\":2}\n" ≡ header_line Two ++ 10 ∷ []
 unfolding escape_byte digits
@@ -143,7 +143,7 @@ module _ (f : Logs) (ks : List PlainKey) (stored : IsKeyList f ks) (head : List 
 
 -- ---- results
 
--- what holds but for an error holds where there is none
+-- a statement that holds except for an error holds for a success
 pub no_error : {A E P : Type 0} {x : A} {e : E} → P ⊎ (◌≡◌ {A = Result A E} (Ok x) (Err e)) → P
 no_error (inl p) = p
 no_error (inr q) = cc

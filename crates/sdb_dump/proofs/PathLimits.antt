@@ -1,4 +1,4 @@
--- A change of one place keeps a value well formed, and no deeper than the place and what is put there.
+-- A change at one path keeps a value well formed, and no deeper than the path and the new value.
 use Rattle.std.proofs.Common.{◌≡◌, ℕ, zero, suc, ◌+◌, ◌≤◌, max, List, [], ◌∷◌, length, Bool, true, false, cond, Option, Some, None, IsUtf8, Ordering, Less, Equal, Greater, nat_cmp, refl, ap, ◌∙◌, subst, arith}
 use Rattle.std.specs.Prelude.{⊤, if◌then◌else◌, option_map, option_and_then}
 use Rattle.std.specs.Option.{option_map_or}
@@ -8,7 +8,7 @@ use Rattle.std.proofs.lemmas.Cmp.{nat_list_cmp_total}
 use Rattle.sdb_value.specs.Value.{Value, null, truth, whole, text, list, object, Items, no_items, item, Members, no_members, member, PlainStep, key, index, item_at, member_at, set_item, set_member, texts_equal, put_member, without_member, take_items, drop_items, append_items, depth, items_depth, members_depth, child, with_child, value_at, with_value_at}
 use Rattle.sdb_value.specs.WellFormed.{IsKeyBelowAll, IsWellFormed, AreWellFormed, MembersWellFormed}
 
--- ---- what there is, if anything, has the property
+-- ---- a property of an optional value
 
 abbrev pub IfSomeHolds : {A : Type 0} → (A → Type 0) → Option A → Type 0
 IfSomeHolds P None = ⊤
@@ -126,7 +126,7 @@ below_less : (k l : List ℕ) (ms : Members) → slice_cmp nat_cmp k l ≡ Less 
 below_less k l no_members e h = tt
 below_less k l (member j d ms) e h = (less_trans k l j e h.0, below_less k l ms e h.1)
 
--- a key goes to its place
+-- a key is inserted in order
 below_ordering : (o : Ordering) (k : List ℕ) (x y z : Members) → IsKeyBelowAll k x → IsKeyBelowAll k y → IsKeyBelowAll k z → IsKeyBelowAll k (match_ordering o x y z)
 below_ordering Less k x y z h g f = h
 below_ordering Equal k x y z h g f = g
@@ -171,7 +171,7 @@ pub without_deep : (k : List ℕ) (ms : Members) → members_depth (without_memb
 without_deep k no_members = omega arith
 without_deep k (member l d ms) = deep_cond (texts_equal k l) ms (member l d (without_member k ms)) (members_depth (member l d ms)) (omega arith) (omega (arith, without_deep k ms))
 
--- ---- places
+-- ---- paths
 
 abbrev pub DepthLess : Value → Value → Type 0
 DepthLess d u = IsWellFormed u × (suc (depth u) ≤ depth d)
@@ -199,7 +199,7 @@ step_below (key k) (whole n) h = tt
 step_below (key k) (text s) h = tt
 step_below (key k) (list ds) h = tt
 
--- what is found at a place
+-- the value found at a path
 pub at_below : (p : List PlainStep) (d : Value) → IsWellFormed d → IfSomeHolds (λ u. IsWellFormed u × (length p + depth u ≤ depth d)) (value_at d p)
 at_below [] d h = (h, omega arith)
 at_below (w ∷ p) d h =
@@ -242,7 +242,7 @@ with_step : (o : Option Value) (w : PlainStep) (n : ℕ) (d u : Value) (f : Valu
 with_step None w n d u f h b k = (h, omega arith)
 with_step (Some c) w n d u f h b k = let r = k c b.0 in (with_one_well w d (f c) h r.0, omega (arith, with_one_deep w d (f c), r.1, b.1))
 
--- what is put at a place
+-- the value put at a path
 pub with_fills : (p : List PlainStep) (d u : Value) → IsWellFormed d → IsWellFormed u → FitsDepth (length p) d u (with_value_at d p u)
 with_fills [] d u h k = (k, omega arith)
 with_fills (w ∷ p) d u h k = with_step (child w d) w (length p) d u (λ c. with_value_at c p u) h (step_below w d h) (λ c g. with_fills p c u g k)

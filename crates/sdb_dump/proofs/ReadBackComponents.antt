@@ -1,4 +1,4 @@
--- The data of an operation are sound, and read as the operation.
+-- The data of an operation are sound and parse to the operation.
 use Rattle.std.proofs.Common.{◌≡◌, ℕ, suc, ◌<◌, ◌≤◌, List, [], ◌∷◌, ◌++◌, length, Some, None, true, false, IsUtf8, refl, ap, ◌∙◌, arith, append-nil}
 use Rattle.std.specs.Prelude.{if◌then◌else◌, nat_lt, codes}
 use Rattle.std.specs.Option.{option_map}

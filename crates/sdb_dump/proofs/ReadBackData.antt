@@ -1,4 +1,4 @@
--- The compact text of sound data reads back as those data.
+-- The compact text of sound data parses to those data.
 use Rattle.std.proofs.Common.{◌≡◌, ℕ, suc, ◌≤◌, pos, negsuc, List, [], Some, option_and_then, option_map, Less, Greater, nat_cmp, refl, sym, ap, ◌∙◌, arith, append-nil}
 use Rattle.std.specs.Prelude.{⊤}
 use Rattle.std.specs.Ordering.{ordering_reverse}
@@ -18,7 +18,7 @@ use Rattle.serde_json.proofs.Numbers.{number_of-decimal, number_of-negative}
 use Rattle.serde_json.proofs.Texts.{print-outline}
 use Rattle.sdb_dump.specs.laws.SoundData.{IsSafeNumber, IsKeyBelowAll, IsSoundData, AreSound, MembersSound}
 
--- ---- the outline has numbers, and is as deep
+-- ---- the outline has numbers and the depth of the data
 
 number_is : (n : Num) → IsSafeNumber n → IsNumber (number_text n)
 number_is (unsigned n) h = IsNumber-decimal n h
@@ -60,7 +60,7 @@ mutual
   members_as_deep no_members = refl
   members_as_deep (member k d ms) = rw (as_deep d, members_as_deep ms) refl
 
--- ---- and is read as the data
+-- ---- it parses to the data
 
 abbrev append_members : Members → Members → Members
 append_members no_members ns = ns
@@ -74,12 +74,12 @@ join_one : (ms : Members) (k : List ℕ) (d : Data) (ns : Members) → append_me
 join_one no_members k d ns = refl
 join_one (member l e ms) k d ns = ap (member l e) (join_one ms k d ns)
 
--- each key of the members is below this one
+-- each key of the members is less than this one
 abbrev AllKeysBelow : Members → List ℕ → Type 0
 AllKeysBelow no_members l = ⊤
 AllKeysBelow (member k d ms) l = (slice_cmp nat_cmp k l ≡ Less) × AllKeysBelow ms l
 
--- each key of the first is below each of the second
+-- each key of the first members is less than each of the second
 abbrev AllKeysBefore : Members → Members → Type 0
 AllKeysBefore ms no_members = ⊤
 AllKeysBefore ms (member l d ns) = AllKeysBelow ms l × AllKeysBefore ms ns

@@ -1,4 +1,4 @@
--- The line of an entry is read as the submission that came.
+-- The line of an entry parses to its submission.
 use Rattle.std.proofs.Common.{◌≡◌, ℕ, ◌+◌, ◌<◌, ◌≤◌, List, length, Option, Some, None, true, IsUtf8, Ok, refl, sym, ap, ◌∙◌, arith}
 use Rattle.std.specs.Prelude.{◌^◌, if◌then◌else◌, nat_lt, codes}
 use Rattle.std.proofs.lemmas.Bool.Decides.{nat_tests}
@@ -28,7 +28,7 @@ use Rattle.sdb_dump.specs.declared.version.DumpVersion.TheVariants.{One, Two}
 use Rattle.sdb_dump.specs.DumpLine.{written_moment, optional_version_data, arrived_members, arrived_data, content_members_with_moment, line_tail, line_data, and_then_some, arrived_of_data, moment_of_data, line_of_data, read_line}
 use Rattle.sdb_dump.specs.EntryLimits.{NameInLimits, KeyInLimits, MomentInLimits, OptionalCountInLimits, ContentInLimits, OpLengthInLimits, SubmissionInLimits, EntryInLimits}
 
--- ---- sound
+-- ---- soundness
 
 count_sound : (n : ℕ) → IsSafeInteger n → n < 2 ^ 64
 count_sound n h = omega (arith, h)
@@ -94,7 +94,7 @@ line_sound v k e o f h g =
       (utf8_of_ascii _ refl, count_sound e.arrived.by s.by, by_first k e.content o e, mid_sound v k e.content o e f h.content g h),
     )
 
--- ---- deep
+-- ---- depth
 
 create_deep : (v : value.Value) → ValueInLimits 50 v → raw.depth (create_data v) ≤ 51
 create_deep v h = omega (arith, value_deep v, h.1)
@@ -125,7 +125,7 @@ line_deep v k e o h =
     let b = mid_deep k e.content o e h.content in
     omega (arith, a, b)
 
--- ---- read
+-- ---- parsing
 
 name_back : (s : List ℕ) → NameInLimits s → name_value (string s) ≡ Some s
 name_back s h =
@@ -151,7 +151,7 @@ arrived_back s h =
     let w = optional_version_data s.version in
     rw (content_back s.content w h.content h.few, version_back s.content s.version h.version) refl
 
--- the members, by their names
+-- the members by name
 abbrev HasMembersOf : Data → PlainKey → PlainEntry → Type 0
 HasMembersOf d k e =
     (get (codes "arrived") d ≡ Some (arrived_data e.arrived)) × (get (codes "by") d ≡ Some (number (unsigned e.arrived.by)))

@@ -1,4 +1,4 @@
--- The data of a value are sound, as deep, and read as the value.
+-- The data of a value are sound, have its depth, and parse to it.
 use Rattle.std.proofs.Common.{◌≡◌, ℕ, suc, ℤ, pos, negsuc, ◌≤◌, List, Some, None, false, refl, ap, ◌∙◌, arith}
 use Rattle.std.specs.Prelude.{◌≤ℤ◌, if◌then◌else◌, nat_lt}
 use Rattle.std.specs.Option.{option_map, option_and_then}

@@ -1,4 +1,4 @@
--- What a checker answers by what it holds.
+-- The result of a checker from its state.
 use Rattle.std.proofs.Common.{◌≡◌, ℕ, ◌+◌, List, [], ◌∷◌, ◌++◌, Bool, true, false, not, bytes_eq, codes, Some, None, refl, sym, ap, ◌∙◌, subst}
 use Rattle.std.specs.Prelude.{if◌then◌else◌}
 use Rattle.std.specs.Fmt.{digits}
@@ -30,7 +30,7 @@ last_more [] x = refl
 last_more (y ∷ []) x = refl
 last_more (y ∷ z ∷ xs) x = last_more (z ∷ xs) x
 
--- ---- the head
+-- ---- the header
 
 pub one_is : header_line One ≡ codes "{\"dump\":1}"
 unfolding escape_byte digits

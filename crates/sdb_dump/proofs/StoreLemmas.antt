@@ -1,4 +1,4 @@
--- What comes of a submission on the log of one document.
+-- The decision of a submission on the log of one document.
 use Rattle.std.proofs.Common.{◌≡◌, List, [], ◌∷◌, ◌++◌, length, true, Option, Some, None, Ok, Err, option_map, unwrap_or, refl, sym, ap, ◌∙◌, subst, IfOk}
 use Rattle.std.specs.Prelude.{ℕ, Result}
 use Rattle.std.specs.Option.{is_some}
@@ -16,7 +16,7 @@ use Rattle.sdb_oplog.specs.declared.codes.Code.{Code}
 use Rattle.sdb_dump.specs.DecideModel.{LogAfterStore}
 use Rattle.sdb_dump.specs.View.{IsNoneIfRefused}
 
--- what was made, and handed on as no refusal, is as it was promised
+-- the value of a call that didn't refuse has its property
 pub made_of : {A : Type 0} (P : A → Type 0) (r : Result A Code) (q : Result (Option A) AllocError) (o : Option A) (x : A)
     → IsNoneIfRefused r q → q ≡ Ok o → o ≡ Some x → IfOk r P → P x
 made_of P (Ok y) (Ok p) o x m e f h = let g : y ≡ x = cc in subst P g h
@@ -51,7 +51,7 @@ module _ (p : PlainReservedAppend) (log : List PlainEntry) (s : PlainSubmission)
     made = subst (λ l. IsMade l) (sym (e ∙ sym (ap (λ d. d.log) (decided_stored (option_map value_of made) settles)))) (made_of_decide log s now keeps.made);
   }
 
--- ---- the entry that was stored
+-- ---- the stored entry
 
 pub log_after_append : (log : List PlainEntry) (o : Option PlainEntry) (d : Option (List PlainEntry)) (new : List PlainEntry) → LogAfterStore log o d → d ≡ Some new
     → (e : PlainEntry) × (o ≡ Some e) × (new ≡ log ++ e ∷ [])

@@ -5,17 +5,17 @@ use Rattle.sdb_dump.specs.declared.version.DumpVersion.{DumpVersion}
 use Rattle.sdb_dump.specs.DumpLine.{read_line}
 use Rattle.sdb_dump.specs.EntryLimits.{KeyInLimits, EntryInLimits}
 
--- the line of an entry is read as what it was made of
+-- the line of an entry parses to the content that it was made of
 abbrev pub LineReadsBack : Type 0
 LineReadsBack =
     (v : DumpVersion) (x : PlainLine) → KeyInLimits x.key → EntryInLimits v x.entry
     → read_line v (entry_line v x) ≡ Some (line_content x)
 
--- these lines are those of these entries, each of which is stored behind those before it
+-- these lines are a dump of these entries, each of which may follow those before it
 abbrev pub AreLinesOf : DumpVersion → List PlainLine → List (List ℕ) → List ℕ → Type 0
 AreLinesOf v xs ls rest = (ls ≡ dump_lines v xs) × (rest ≡ []) × AreNextLines v [] xs
 
--- what a checker answers by these lines is exactly these entries
+-- the check accepts exactly the dumps of its entries
 pub record CheckIsExact : Type 0 where
   pub sound : (ls : List (List ℕ)) (rest : List ℕ) (xs : List PlainLine) → check ls rest ≡ Ok xs
       → (v : DumpVersion) × AreLinesOf v xs ls rest

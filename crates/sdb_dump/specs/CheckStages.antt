@@ -1,10 +1,10 @@
--- A checker of lines that come one after the other.
+-- A checker that gets lines one by one.
 use Rattle.std.specs.Prelude.{◌≡◌, ℕ, ◌+◌, List, [], ◌∷◌, ◌++◌, length, if◌then◌else◌, bytes_eq, Option, Some, None, Result, Ok, Err}
 use Rattle.sdb_dump.specs.declared.version.DumpVersion.{DumpVersion}
 use Rattle.sdb_dump.specs.declared.version.DumpVersion.TheVariants.{One, Two}
 use Rattle.sdb_dump.specs.DumpText.{PlainLine, header_line, count_line, accepted_line, check}
 
--- before the head, before the count, behind it; or the number of the first line that isn't right
+-- the stage of a checker: before the header, before the count, after the count, or the number of the first wrong line
 pub data PlainStage : Type 0 where
   head : PlainStage
   body : DumpVersion → List PlainLine → PlainStage
@@ -15,7 +15,7 @@ abbrev pub stage_after_entry : DumpVersion → List PlainLine → Option PlainLi
 stage_after_entry v xs None = wrong (length xs + 2)
 stage_after_entry v xs (Some x) = body v (xs ++ x ∷ [])
 
--- after one more line
+-- the stage after one more line
 abbrev pub stage_after_line : PlainStage → List ℕ → PlainStage
 stage_after_line head l =
     if bytes_eq l (header_line One) then body One [] else (if bytes_eq l (header_line Two) then body Two [] else wrong 1)
@@ -24,7 +24,7 @@ stage_after_line (body v xs) l =
 stage_after_line (done xs) l = wrong (length xs + 3)
 stage_after_line (wrong n) l = wrong n
 
--- once nothing comes but these bytes without a line feed
+-- the result at the end, given the bytes after the last line feed
 abbrev pub stage_result : PlainStage → List ℕ → Result (List PlainLine) ℕ
 stage_result head rest = Err 1
 stage_result (body v xs) rest = Err (length xs + 2)

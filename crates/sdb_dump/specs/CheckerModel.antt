@@ -1,4 +1,4 @@
--- What a checker of lines holds, and how far it is.
+-- The state and the progress of a checker of lines.
 use Rattle.std.specs.Prelude.{◌≡◌, ◌≢◌, ℕ, List, [], ◌∷◌, ◌++◌, length, Bool, true, false, Option, Some, None, option_map, IfSome, ⊤}
 use Rattle.std.specs.declared.cmp.Ordering.TheVariants.{Greater}
 use Rattle.sdb_desk.specs.MapModel.{value_at_key}
@@ -25,7 +25,7 @@ last_key (x ∷ y ∷ xs) = last_key (y ∷ xs)
 abbrev pub logs_of_map : List (Key × List PlainEntry) → Logs
 logs_of_map = value_at_key []
 
--- those of a map, and that of the last document
+-- the logs of a map, and the log of the last document
 abbrev pub logs_with_last : Option LastDocument → Logs → Logs
 logs_with_last None f = f
 logs_with_last (Some l) f = with_log f (plain_key l.key) l.document
@@ -34,22 +34,22 @@ abbrev pub AreNotEmpty : List (Key × List PlainEntry) → Type 0
 AreNotEmpty [] = ⊤
 AreNotEmpty (e ∷ es) = (e.1 ≢ []) × AreNotEmpty es
 
--- the second key comes behind the first one, if there is a first one
+-- the second key is greater than the first, if there is a first
 abbrev pub IsKeyAbove : Option PlainKey → PlainKey → Type 0
 IsKeyAbove None k = ⊤
 IsKeyAbove (Some l) k = compare_keys k l ≡ Greater
 
--- these lines were entered
+-- the checker has accepted these lines
 pub record CheckerHolds (c : Checker) (xs : List PlainLine) : Type 0 where
   pub logs : (k : PlainKey) → logs_with_last c.last (logs_of_map c.logs.entries) k ≡ log_of_lines xs k
   pub last : option_map (λ l. plain_key l.key) c.last ≡ last_key xs
   pub filled : AreNotEmpty c.logs.entries × IfSome c.last (λ l. l.document ≢ [])
-  -- nothing is stored of a key above the last one
+  -- a key greater than the last one has no entries
   pub rest : (k : PlainKey) → IsKeyAbove (last_key xs) k → log_of_lines xs k ≡ []
   pub fits : AllKeysInLimits xs
   pub counted : c.entries ≡ length xs
 
--- a line of this key may follow, and the document that it goes on with was taken out of the checker
+-- a line of this key may follow, and its document was taken out of the checker
 pub record CheckerContinues (xs : List PlainLine) (k : PlainKey) (log : List PlainEntry) (c : Checker) : Type 0 where
   pub follows : key_not_below xs k ≡ true
   pub begins : log ≡ log_of_lines xs k
@@ -79,20 +79,20 @@ IsAtStage End (wrong n) c = ⊥
 abbrev pub CheckerAtStage : Checker → PlainStage → Type 0
 CheckerAtStage c s = IsAtStage c.stage s c
 
--- the line was entered, or it isn't right
+-- the line was accepted, or it is wrong
 abbrev pub AcceptsOrRejects : Bool → Option PlainLine → Checker → List PlainLine → Type 0
 AcceptsOrRejects true o c xs = (x : PlainLine) × (o ≡ Some x) × CheckerHolds c (xs ++ x ∷ [])
 AcceptsOrRejects false o c xs = o ≡ None
 
--- the logs of what was accepted
+-- the accepted logs
 abbrev pub accepted_logs : CheckedDump → Logs
 accepted_logs c = logs_of_map c.logs.entries
 
--- so many documents are stored
+-- the number of documents with entries
 abbrev pub HasDocumentCount : Logs → ℕ → Type 0
 HasDocumentCount f n = (ks : List PlainKey) × IsKeyList f ks × (n ≡ length ks)
 
--- what was accepted has these entries
+-- the accepted dump has these entries
 pub record AcceptedHasAll (c : CheckedDump) (xs : List PlainLine) : Type 0 where
   pub logs : (k : PlainKey) → accepted_logs c k ≡ log_of_lines xs k
   pub documents : HasDocumentCount (accepted_logs c) c.documents

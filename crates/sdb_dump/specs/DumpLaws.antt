@@ -1,4 +1,4 @@
--- What is stored stays within limits that a reader takes, so each dump of made logs is accepted.
+-- Stored contents stay within limits that the parser accepts, so each dump of made logs is accepted.
 use Rattle.std.specs.Prelude.{◌≡◌, ℕ, List, [], ◌∷◌, ◌++◌, true, Some, Ok, ⊤}
 use Rattle.sdb_component.specs.Plain.{PlainComponent}
 use Rattle.sdb_transform.specs.declared.side.Side.{Side}
@@ -15,12 +15,12 @@ TransformKeepsLimits =
     (side : Side) (c o : PlainComponent) (cs : List PlainComponent) → ComponentInLimits 100 c → ComponentInLimits 100 o
     → transform side c o ≡ Some cs → ComponentsInLimits 100 cs
 
--- no key is below that of the line before
+-- no key is less than that of the line before
 abbrev pub KeysAscendFrom : List PlainLine → List PlainLine → Type 0
 KeysAscendFrom before [] = ⊤
 KeysAscendFrom before (x ∷ xs) = (key_not_below before x.key ≡ true) × KeysAscendFrom (before ++ x ∷ []) xs
 
--- the keys, the moments and what arrived are within the limits
+-- keys, moments and submissions are within the limits
 abbrev pub AllInLimits : DumpVersion → List PlainLine → Type 0
 AllInLimits v [] = ⊤
 AllInLimits v (x ∷ xs) =
@@ -31,12 +31,12 @@ pub record IsDumpOfLogs (xs : List PlainLine) : Type 0 where
   pub ascends : KeysAscendFrom [] xs
   pub made : (k : PlainKey) → IsMade (log_of_lines xs k)
 
--- the lines of made logs within the limits are accepted, and give those logs
+-- the lines of made logs within the limits are accepted and give those logs
 abbrev pub DumpsOfLogsAccepted : Type 0
 DumpsOfLogsAccepted =
     (v : DumpVersion) (xs : List PlainLine) → IsDumpOfLogs xs → AllInLimits v xs → check (dump_lines v xs) [] ≡ Ok xs
 
--- what is accepted is the lines of made logs
+-- accepted lines are those of made logs
 abbrev pub AcceptedAreDumpsOfLogs : Type 0
 AcceptedAreDumpsOfLogs =
     (ls : List (List ℕ)) (rest : List ℕ) (xs : List PlainLine) → check ls rest ≡ Ok xs

@@ -1,4 +1,4 @@
--- The line of a stored entry, and which submission a line is read as.
+-- The line of an entry, and the submission to which a line parses. A line is compact JSON (RFC 8259).
 use Rattle.std.specs.Prelude.{ℕ, List, true, if◌then◌else◌, Option, Some, None, codes}
 use Rattle.std.specs.Result.{result_ok}
 use Rattle.std.specs.Str.{is_utf8}
@@ -15,23 +15,23 @@ use Rattle.sdb_dump.specs.declared.version.DumpVersion.{DumpVersion}
 use Rattle.sdb_dump.specs.declared.version.DumpVersion.TheVariants.{One, Two}
 use Rattle.sdb_wire.specs.Wire.{key_of, name_member, count_member, read_optional, present_member, content_of}
 
--- the first version of a dump shows no moments, and they are 0; the second one shows them
+-- version 1 has no moments, and they are 0; version 2 has them
 abbrev pub dump_version_number : DumpVersion → ℕ
 dump_version_number One = 1
 dump_version_number Two = 2
 
--- the moment, where the dump shows it
+-- the moment, if the version of the dump contains it
 abbrev pub written_moment : DumpVersion → ℕ → Option ℕ
 written_moment One m = None
 written_moment Two m = Some m
 
--- ---- what is printed. Members stand in the order of their bytes
+-- ---- writing: members in byte order
 
 abbrev pub optional_version_data : Option ℕ → Data
 optional_version_data None = null
 optional_version_data (Some n) = number (unsigned n)
 
--- the content as it came, and the version
+-- the submitted content and the base version
 abbrev pub arrived_members : PlainContent → Data → Members
 arrived_members (create v) w = member (codes "create") (create_data v) (member (codes "v") w no_members)
 arrived_members delete w = member (codes "del") (boolean true) (member (codes "v") w no_members)
@@ -71,22 +71,22 @@ line_data k e o = object (
     (member (codes "by") (number (unsigned e.arrived.by))
     (content_members_with_moment k e.content o (line_tail e))))
 
--- without its line feed
+-- the line without its line feed
 abbrev pub line_text : PlainKey → PlainEntry → Option ℕ → List ℕ
 line_text k e o = compact_text (line_data k e o)
 
--- ---- what is read
+-- ---- parsing
 
 abbrev pub and_then_some : {A B : Type 0} → (A → Option B) → Option A → Option B
 and_then_some f None = None
 and_then_some f (Some x) = f x
 
--- the content as it came, and the version
+-- the submitted content and the base version
 abbrev pub arrived_of_data : Data → Option (PlainContent × Option ℕ)
 arrived_of_data d =
     and_then_some (λ m. and_then_some (λ v. Some (m, v)) (result_ok (read_optional count_of (present_member (codes "v") d)))) (result_ok (content_of d))
 
--- who sent it, and through which collection
+-- the source, the collection name and the pass number
 abbrev pub sent_of_data : Data → PlainContent × Option ℕ → ℕ → Option PlainSubmission
 sent_of_data d a n =
     and_then_some (λ s. and_then_some (λ w. and_then_some (λ b.
@@ -99,12 +99,12 @@ abbrev pub submission_of_data : Data → Option PlainSubmission
 submission_of_data d =
     and_then_some (λ a. and_then_some (sent_of_data d a) (count_member (codes "seq") d)) (and_then_some arrived_of_data (get (codes "arrived") d))
 
--- 0 where the dump shows no moments
+-- the moment, or 0 if the version has no moments
 abbrev pub moment_of_data : DumpVersion → Data → Option ℕ
 moment_of_data One d = Some 0
 moment_of_data Two d = count_member (codes "m") d
 
--- what a line says: a submission of a key, and the moment at which it was stored
+-- the content of a line: a submission of a key, and the moment at which it was stored
 pub record PlainLineContent : Type 0 where
   pub key : PlainKey
   pub submission : PlainSubmission
@@ -117,6 +117,6 @@ line_of_data v d =
     (submission_of_data d))
     (result_ok (key_of d))
 
--- a line that isn't UTF-8 is none
+-- the content of a line; one that isn't UTF-8 has none
 abbrev pub read_line : DumpVersion → List ℕ → Option PlainLineContent
 read_line v line = if is_utf8 line then and_then_some (line_of_data v) (read line) else None

@@ -1,4 +1,4 @@
--- The text of a dump, and what a checker makes of a text.
+-- The text of a dump, and the result of its check.
 use Rattle.std.specs.Prelude.{◌≡◌, ℕ, ◌+◌, List, [], ◌∷◌, ◌++◌, Bool, true, false, cond, if◌then◌else◌, length, map, nat_eq, ◌&&◌, bytes_eq, codes, Option, Some, None, Result, Ok, Err, ⊤}
 use Rattle.std.specs.Option.{option_map_or}
 use Rattle.std.specs.Ordering.{is_lt}
@@ -33,7 +33,7 @@ entry_line v x = line_text x.key x.entry (written_moment v x.entry.moment)
 abbrev pub dump_lines : DumpVersion → List PlainLine → List (List ℕ)
 dump_lines v xs = header_line v ∷ (map (entry_line v) xs ++ count_line (length xs) ∷ [])
 
--- each with its line feed
+-- the lines, each with its line feed
 abbrev pub ended_lines : List (List ℕ) → List ℕ
 ended_lines [] = []
 ended_lines (l ∷ ls) = l ++ 10 ∷ ended_lines ls
@@ -41,13 +41,13 @@ ended_lines (l ∷ ls) = l ++ 10 ∷ ended_lines ls
 abbrev pub dump_text : DumpVersion → List PlainLine → List ℕ
 dump_text v xs = ended_lines (dump_lines v xs)
 
--- ---- which lines are a dump
+-- ---- lines that are a dump
 
 abbrev pub log_of_lines : List PlainLine → PlainKey → List PlainEntry
 log_of_lines [] k = []
 log_of_lines (x ∷ xs) k = cond (keys_equal k x.key) (x.entry ∷ log_of_lines xs k) (log_of_lines xs k)
 
--- the key is not below that of the last line
+-- the key is not less than that of the last line
 abbrev pub key_not_below : List PlainLine → PlainKey → Bool
 key_not_below [] k = true
 key_not_below (x ∷ []) k = if is_lt (compare_keys k x.key) then false else true
@@ -56,8 +56,8 @@ key_not_below (x ∷ y ∷ xs) k = key_not_below (y ∷ xs) k
 abbrev pub line_content : PlainLine → PlainLineContent
 line_content x = record { key = x.key; submission = x.entry.arrived; moment = x.entry.moment }
 
--- the line's key is not below the last one, its entry is what `decide` stores for its submission at its moment, and the
--- line is read as these
+-- the line's key isn't less than the last one, its entry is what `decide` stores for its submission at its moment, and
+-- the line parses to these
 pub record IsNextLine (v : DumpVersion) (before : List PlainLine) (x : PlainLine) : Type 0 where
   pub ascends : key_not_below before x.key ≡ true
   pub decided : (decide (log_of_lines before x.key) x.entry.arrived x.entry.moment).log
@@ -70,7 +70,7 @@ AreNextLines v before (x ∷ xs) = IsNextLine v before x × AreNextLines v (befo
 
 -- ---- the checker
 
--- the entry that `decide` stores, if it stores one
+-- the entry that `decide` stores, if any
 abbrev pub decided_entry_cond : Option ℕ → List PlainEntry → PlainSubmission → ℕ → Result PlainContent Code → Option PlainEntry
 decided_entry_cond (Some i) log s now r = None
 decided_entry_cond None log s now (Err e) = None
@@ -83,14 +83,14 @@ decided_entry log s now = decided_entry_cond (stored_at s.src s.seq log) log s n
 abbrev pub is_text_of_entry : DumpVersion → List ℕ → PlainKey → ℕ → PlainEntry → Bool
 is_text_of_entry v line k m e = nat_eq e.moment m && bytes_eq (entry_line v (record { key = k; entry = e })) line
 
--- this entry, if it has the moment that was read, and its line is this text
+-- this entry, if it has the parsed moment and its line is this text
 abbrev pub line_of_entry_cond : DumpVersion → List ℕ → PlainLineContent → PlainEntry → Option PlainLine
 line_of_entry_cond v line r e =
     if is_text_of_entry v line r.key r.moment e
     then Some (record { key = r.key; entry = e })
     else None
 
--- the entry that is stored of what was read, if the line is its
+-- the entry that the parsed submission stores, if its line is this text
 abbrev pub line_of_read : DumpVersion → List PlainLine → List ℕ → PlainLineContent → Option PlainLine
 line_of_read v before line r =
     if key_not_below before r.key
@@ -100,26 +100,26 @@ line_of_read v before line r =
 abbrev pub accepted_line : DumpVersion → List PlainLine → List ℕ → Option PlainLine
 accepted_line v before line = and_then_some (line_of_read v before line) (read_line v line)
 
--- behind the count nothing comes
+-- no line follows the count
 abbrev pub check_end : List PlainLine → ℕ → List (List ℕ) → List ℕ → Result (List PlainLine) ℕ
 check_end xs n [] [] = Ok xs
 check_end xs n _ _ = Err n
 
--- from line n on: the lines that end in a line feed, and what is left behind the last one
+-- the check from line n on: the lines with a line feed, and the bytes after the last one
 abbrev pub check_from : DumpVersion → List PlainLine → ℕ → List (List ℕ) → List ℕ → Result (List PlainLine) ℕ
 check_from v xs n [] rest = Err n
 check_from v xs n (l ∷ ls) rest =
     if bytes_eq l (count_line (length xs)) then check_end xs (n + 1) ls rest
     else option_map_or (λ x. check_from v (xs ++ x ∷ []) (n + 1) ls rest) (accepted_line v xs l) (Err n)
 
--- the entries, or the number of the first line that isn't right
+-- the entries, or the number of the first wrong line
 abbrev pub check : List (List ℕ) → List ℕ → Result (List PlainLine) ℕ
 check [] rest = Err 1
 check (l ∷ ls) rest =
     if bytes_eq l (header_line One) then check_from One [] 2 ls rest
     else (if bytes_eq l (header_line Two) then check_from Two [] 2 ls rest else Err 1)
 
--- the version of the dump that begins with this line
+-- the version of a dump that begins with this line
 abbrev pub version_of : List ℕ → Option DumpVersion
 version_of l =
     if bytes_eq l (header_line One) then Some One else (if bytes_eq l (header_line Two) then Some Two else None)

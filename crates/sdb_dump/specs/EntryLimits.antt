@@ -1,4 +1,4 @@
--- Which keys, submissions and entries are within the limits.
+-- The limits of keys, submissions and entries.
 use Rattle.std.specs.Prelude.{◌≡◌, ℕ, ◌<◌, ◌≤◌, List, [], ◌∷◌, length, Option, Some, None, ⊤}
 use Rattle.std.specs.Str.{IsUtf8}
 use Rattle.sdb_oplog.specs.Keys.{PlainKey}
@@ -8,7 +8,7 @@ use Rattle.sdb_dump.specs.ValueLimits.{IsSafeInteger, ValueInLimits, ComponentsI
 use Rattle.sdb_dump.specs.declared.version.DumpVersion.{DumpVersion}
 use Rattle.sdb_dump.specs.declared.version.DumpVersion.TheVariants.{One, Two}
 
--- 1 to 200 bytes of UTF-8
+-- 1 to 200 bytes of UTF-8 (RFC 3629)
 pub record NameInLimits (s : List ℕ) : Type 0 where
   pub text : IsUtf8 s
   pub some : 0 < length s
@@ -22,13 +22,13 @@ abbrev pub OptionalCountInLimits : Option ℕ → Type 0
 OptionalCountInLimits None = ⊤
 OptionalCountInLimits (Some n) = IsSafeInteger n
 
--- a removed value is at most r deep
+-- a content within the limits; a removed value has at most depth r
 abbrev pub ContentInLimits : ℕ → PlainContent → Type 0
 ContentInLimits r (create v) = ValueInLimits 50 v
 ContentInLimits r delete = ⊤
 ContentInLimits r (edit cs) = ComponentsInLimits r cs
 
--- as it is sent, an operation has at most 256 components
+-- a submitted operation has at most 256 components
 abbrev pub OpLengthInLimits : PlainContent → Type 0
 OpLengthInLimits (create v) = ⊤
 OpLengthInLimits delete = ⊤
@@ -43,7 +43,7 @@ pub record SubmissionInLimits (s : PlainSubmission) : Type 0 where
   pub via : NameInLimits s.via
   pub by : IsSafeInteger s.by
 
--- a moment is a number that may be shown, and 0 where it isn't shown
+-- a moment is a safe integer, and 0 in version 1
 abbrev pub MomentInLimits : DumpVersion → ℕ → Type 0
 MomentInLimits One m = m ≡ 0
 MomentInLimits Two m = IsSafeInteger m
@@ -54,7 +54,7 @@ pub record EntryInLimits (v : DumpVersion) (e : PlainEntry) : Type 0 where
   pub content : ContentInLimits 100 e.content
   pub arrived : SubmissionInLimits e.arrived
 
--- the key and the submission of each of these lines
+-- the key and the submission of each line are within the limits
 abbrev pub AllKeysInLimits : List PlainLine → Type 0
 AllKeysInLimits [] = ⊤
 AllKeysInLimits (x ∷ xs) = KeyInLimits x.key × SubmissionInLimits x.entry.arrived × AllKeysInLimits xs

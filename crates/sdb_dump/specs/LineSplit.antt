@@ -1,4 +1,4 @@
--- A text, cut at its line feeds.
+-- A text split at its line feeds.
 use Rattle.std.specs.Prelude.{◌≡◌, ◌≢◌, ◌<◌, ◌^◌, length, ℕ, List, [], ◌∷◌, ◌++◌, ◌==◌, if◌then◌else◌, Result, Ok, ⊤}
 use Rattle.sdb_dump.specs.declared.version.DumpVersion.{DumpVersion}
 use Rattle.sdb_dump.specs.DumpText.{PlainLine, dump_text, check}
@@ -11,7 +11,7 @@ pub record SplitText : Type 0 where
 abbrev pub cons_line : List ℕ → SplitText → SplitText
 cons_line l c = record { ended = l ∷ c.ended; rest = c.rest }
 
--- the lines that end in a line feed, and what is behind the last one
+-- the lines with a line feed, and the bytes after the last one
 abbrev pub split_lines : List ℕ → List ℕ → SplitText
 split_lines pending [] = record { ended = []; rest = pending }
 split_lines pending (x ∷ xs) = if x == 10 then cons_line pending (split_lines [] xs) else split_lines (pending ++ x ∷ []) xs
@@ -19,7 +19,7 @@ split_lines pending (x ∷ xs) = if x == 10 then cons_line pending (split_lines 
 abbrev pub check_text : List ℕ → Result (List PlainLine) ℕ
 check_text t = check (split_lines [] t).ended (split_lines [] t).rest
 
--- no line feed is among the bytes
+-- no byte is a line feed
 abbrev pub HasNoLineFeed : List ℕ → Type 0
 HasNoLineFeed [] = ⊤
 HasNoLineFeed (x ∷ xs) = (x ≢ 10) × HasNoLineFeed xs

@@ -1,4 +1,4 @@
--- Which texts are accepted, by the logs that they are the dump of.
+-- The accepted texts, by the logs of which they are dumps.
 use Rattle.std.specs.Prelude.{◌≡◌, ℕ, ◌<◌, ◌^◌, List, Ok}
 use Rattle.sdb_oplog.specs.Decide.{IsMade}
 use Rattle.sdb_oplog.specs.Keys.{PlainKey, Logs}
@@ -10,17 +10,17 @@ use Rattle.sdb_dump.specs.LogListing.{lines_of_log, DumpText}
 use Rattle.sdb_dump.specs.EntryLimits.{AllKeysInLimits}
 use Rattle.sdb_dump.specs.WriteModel.{HasEntryCount}
 
--- each log is made, and what is in it is within the limits
+-- each log is made and within the limits
 pub record AreDumpable (v : DumpVersion) (f : Logs) : Type 0 where
   pub made : (k : PlainKey) → IsMade (f k)
   pub within : (k : PlainKey) → AllInLimits v (lines_of_log k (f k))
 
--- they have fewer entries than a number of 64 bits can count
+-- the logs have fewer than 2^64 entries
 abbrev pub HaveCountableEntries : Logs → Type 0
 HaveCountableEntries f = (n : ℕ) → HasEntryCount f n → n < 2 ^ 64
 
--- the dump of such logs is accepted, and gives them; what is accepted is the dump of the logs that it gives, and they
--- are such logs, as far as its keys and submissions are known to be within the limits
+-- the dump of such logs is accepted and gives them; an accepted text is the dump of the logs that it gives, and they
+-- are such logs if keys and submissions are within the limits
 pub record TextIsOfLogs : Type 0 where
   pub accepted : (v : DumpVersion) (f : Logs) (text : List ℕ) → AreDumpable v f → HaveCountableEntries f → DumpText v f text
       → (xs : List PlainLine) × (check_text text ≡ Ok xs) × ((k : PlainKey) → log_of_lines xs k ≡ f k)

@@ -20,7 +20,7 @@ lines_of_logs f (k ∷ ks) = lines_of_log k (f k) ++ lines_of_logs f ks
 abbrev pub DumpText : DumpVersion → Logs → List ℕ → Type 0
 DumpText v f text = (ks : List PlainKey) × IsKeyList f ks × (text ≡ dump_text v (lines_of_logs f ks))
 
--- the lines of the logs are such a dump, and have these logs
+-- the lines of made logs are a dump of these logs
 abbrev pub LogsAreDumped : Type 0
 LogsAreDumped =
     (f : Logs) (ks : List PlainKey) → IsKeyList f ks → ((k : PlainKey) → IsMade (f k))

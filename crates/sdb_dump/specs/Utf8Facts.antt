@@ -1,4 +1,4 @@
--- What is known of what the code's types hold: texts are UTF-8, numbers in range, the keys of objects in order.
+-- Facts from types: texts are UTF-8 (RFC 3629), numbers are in range, the keys of objects are sorted.
 use Rattle.std.specs.Prelude.{List, [], ◌∷◌, ⊤}
 use Rattle.std.specs.Str.{IsUtf8}
 use Rattle.sdb_value.specs.Value.{PlainStep, key, index}

@@ -1,5 +1,5 @@
--- Which plain data are within the limits. `r` is how deep a removed value may be: 50 as it arrives, 100 as it is
--- stored, since what is stored before it can put values below it.
+-- The limits of values and operations. `r` is the maximal depth of a removed value: 50 in a submission, 100 in the log,
+-- since entries before it can insert deeper values.
 use Rattle.std.specs.Prelude.{ℕ, ◌<◌, ◌≤◌, List, [], ◌∷◌, length, ⊤}
 use Rattle.std.specs.Str.{IsUtf8}
 use Rattle.sdb_value.specs.Value.{Value, PlainStep, key, index, depth}

@@ -1,4 +1,4 @@
--- What the code's types stand for.
+-- The views of the types.
 use Rattle.std.specs.Prelude.{◌≡◌, Option, Some, None, Result, Ok, Err}
 use Rattle.std.specs.declared.alloc.AllocError.{AllocError}
 use Rattle.sdb_oplog.specs.Keys.{plain_key}
@@ -10,7 +10,7 @@ use Rattle.sdb_dump.specs.declared.dump_line.LineContent.{LineContent}
 abbrev pub plain_line_content : LineContent → PlainLineContent
 plain_line_content l = record { key = plain_key l.key; submission = l.submission; moment = l.moment }
 
--- a refusal by another code than want of memory is none
+-- a refusal becomes `None`, and an allocation failure stays an error
 abbrev pub IsNoneIfRefused : {A : Type 0} → Result A Code → Result (Option A) AllocError → Type 0
 IsNoneIfRefused (Ok x) (Ok o) = o ≡ Some x
 IsNoneIfRefused (Ok x) (Err e) = ⊥

@@ -1,4 +1,4 @@
--- What is written of a dump.
+-- The output of a dump.
 use Rattle.std.specs.Prelude.{◌≡◌, ℕ, ◌⊎◌, List, [], ◌++◌, length, map, Option}
 use Rattle.std.specs.Io.KnownBytes.{Appends}
 use Rattle.sdb_desk.specs.StoredKeys.{IsKeyList}
@@ -17,20 +17,20 @@ log_text k es = ended_lines (map (entry_line Two) (lines_of_log k es))
 abbrev pub logs_text : Logs → List PlainKey → List ℕ
 logs_text f ks = ended_lines (map (entry_line Two) (lines_of_logs f ks))
 
--- known bytes grew by all but for the end of it, which is left
+-- the output is extended by a prefix of `all`, and `left` is the rest
 pub record WroteUpTo (old new : Option (List ℕ)) (all left : List ℕ) : Type 0 where
   pub written : List ℕ
   pub wrote : Appends old new written
   pub parts : all ≡ written ++ left
 
--- known bytes grew by the dump of these logs
+-- the output is extended by the dump of these logs
 abbrev pub WroteDump : Logs → Option (List ℕ) → Option (List ℕ) → Type 0
 WroteDump f old new = (text : List ℕ) × DumpText Two f text × Appends old new text
 
--- known bytes are as they were, or grew by a front of the dump
+-- the output is unchanged or extended by a prefix of the dump
 abbrev pub WroteDumpPrefix : Logs → Option (List ℕ) → Option (List ℕ) → Type 0
 WroteDumpPrefix f old new = Appends old new [] ⊎ ((text : List ℕ) × DumpText Two f text × AppendsPrefix old new text)
 
--- the logs have so many entries together
+-- the number of entries of all logs
 abbrev pub HasEntryCount : Logs → ℕ → Type 0
 HasEntryCount f n = (ks : List PlainKey) × IsKeyList f ks × (n ≡ length (lines_of_logs f ks))

@@ -1,4 +1,4 @@
-//! Checks a dump as it is read.
+//! The check of a dump while it is read.
 ghost use Rattle.std.specs.Prelude.{◌≡◌, ℕ, ◌+◌, ◌^◌, ◌<◌, ◌≤◌, List, [], ◌++◌, length, OnOk, IfOk, IfErr, IfSome, IsErrOf, vec_len};
 ghost use Rattle.sdb_dump.specs.CheckerModel.{CheckerAtStage};
 ghost use Rattle.sdb_dump.specs.LineSplit.{check_text};
@@ -10,17 +10,22 @@ use crate::checker::{CheckedDump, Checker, DumpFault};
 use sdb_lines::{READ_LIMIT, Source, first_line_feed};
 use std::alloc::{AllocError, Global};
 
-// The most bytes that one read takes: 64 KiB.
+// Maximal number of bytes per read: 64 KiB.
 const BUFFER_LEN: usize = 65_536;
 
-/// Reads a dump to its end, and checks that it is exactly what a server of this profile would have stored from
-/// the submissions that it names. A read takes at most 64 KiB, and at most [`READ_LIMIT`] reads are made. A
-/// line may have any length.
+/// Reads a dump to its end and checks it: it is exactly what a server would have stored for the
+/// submissions in it. Lines may have any length. A read takes at most 64 KiB, and at most
+/// [`READ_LIMIT`] reads are made.
+///
+/// # Errors
+///
+/// [`DumpFault::WrongLine`] with the first wrong line, [`DumpFault::ReadFailed`] if a read fails or
+/// the limit of reads is reached, [`DumpFault::OutOfMemory`] if an allocation fails.
 pub fn check_dump<R: Source>(alloc: Global, reader: &mut R) -> Result<CheckedDump, DumpFault>
     ensures accepted { IfOk result (λ c. IfSome (R.remaining_input reader.old) (λ text. AcceptsText c text)) }
     ensures fault { IfErr result (λ f. IfSome (R.remaining_input reader.old) (λ text. IsDumpFault f
         (check_text text))) }
-    // No read failed, but for the one that is the fault.
+    // No read failed, except the one that is the fault.
     ensures read_failures { DumpReadFaultIsCounted result (R.calls reader.old) (R.failures reader.old)
         (R.calls reader.new) (R.failures reader.new) }
 {
@@ -38,7 +43,7 @@ pub fn check_dump<R: Source>(alloc: Global, reader: &mut R) -> Result<CheckedDum
     Err(DumpFault::ReadFailed)
 }
 
-// Takes the lines that end in this piece of the text, and holds the rest of it.
+// Checks the lines that end in this part of the text, and keeps the rest as a pending line.
 fn check_chunk(checker: &mut Checker, held: &mut Vec<u8>, piece: &[u8]) -> Result<(), DumpFault>
     requires counter_bound { checker.old.entries + length piece.now + 3 < 2 ^ 64 }
     ensures bound { OnOk result (checker.new.entries ≤ checker.old.entries + length piece.now) }
@@ -57,7 +62,7 @@ fn check_chunk(checker: &mut Checker, held: &mut Vec<u8>, piece: &[u8]) -> Resul
     Ok(())
 }
 
-// Takes the line that ends with this piece.
+// Checks the line that ends with this part.
 fn check_line(checker: &mut Checker, held: &mut Vec<u8>, piece: &[u8]) -> Result<(), DumpFault>
     requires counter_bound { checker.old.entries + 3 < 2 ^ 64 }
     ensures bound { OnOk result (checker.new.entries ≤ checker.old.entries + 1) }
@@ -74,7 +79,7 @@ fn check_line(checker: &mut Checker, held: &mut Vec<u8>, piece: &[u8]) -> Result
     Ok(())
 }
 
-// The room for one read.
+// Allocates the buffer of one read.
 fn reserve_buffer(alloc: Global) -> Result<Vec<u8>, AllocError>
     ensures { IfOk result (λ buffer. vec_len buffer ≡ BUFFER_LEN) }
 {

@@ -1,4 +1,4 @@
-//! A checker of the lines of a dump.
+//! The checker of a dump's lines.
 ghost use Rattle.std.specs.Prelude.{◌≡◌, ◌+◌, ◌^◌, ◌<◌, ◌≤◌, List, [], Option, None, OnOk, IfOk, IfErr, IfSome, IsErrOf, option_map, unwrap_or, string_bytes, Ok};
 ghost use Rattle.std.specs.BTreeMap.{insert_entry};
 ghost use Rattle.sdb_oplog.specs.Decide.{IsMade};
@@ -21,16 +21,16 @@ use std::cmp::Ordering;
 use std::collections::BTreeMap;
 use thiserror::Error;
 
-/// Why a dump isn't accepted.
+/// The reason why a dump isn't accepted.
 #[derive(Clone, Copy, Debug, PartialEq, Eq, Error)]
 pub enum DumpFault {
-    /// A read failed, or so many reads as are made did not reach the end of the input.
+    /// A read failed, or the limit of reads was reached before the end.
     #[error("the dump could not be read to its end")]
     ReadFailed,
-    /// There was not enough memory.
+    /// An allocation failed.
     #[error("out of memory")]
     OutOfMemory,
-    /// The line of this number, from 1 on, is the first one that isn't right; a missing line counts.
+    /// The number of the first wrong line, from 1 on. A missing line counts.
     #[error("wrong at line {line}")]
     WrongLine { line: u128 },
 }
@@ -45,18 +45,18 @@ impl From<AllocError> for DumpFault {
     }
 }
 
-/// What was accepted: how much it is, and the logs.
+/// An accepted dump: its size and its logs.
 #[derive(Drop)]
 pub struct CheckedDump {
-    /// The documents that something is stored of.
+    /// The documents with entries.
     pub documents: u64,
-    /// The entries of all of them together.
+    /// Number of entries of all documents.
     pub entries: u128,
     logs: BTreeMap<Key, MadeLog>,
 }
 
 impl CheckedDump {
-    /// The log of the document, if something is stored of it.
+    /// Returns the document's log, or `None` if it has no entries.
     pub fn log(&self, key: &Key) -> Option<&Log>
         ensures log { unwrap_or (option_map (λ l. l.now) result) [] ≡ accepted_logs self.now (plain_key key.now) }
         ensures is_made { IsMade (accepted_logs self.now (plain_key key.now)) }
@@ -68,7 +68,7 @@ impl CheckedDump {
     }
 }
 
-// Which line comes next.
+// The kind of the next line.
 #[derive(Clone, Copy, Drop)]
 enum Stage {
     Header,
@@ -76,14 +76,14 @@ enum Stage {
     End,
 }
 
-// The document that the last line is of.
+// The document of the last line.
 #[derive(Drop)]
 struct LastDocument {
     key: Key,
     document: DecidedLog,
 }
 
-// What was checked so far: the logs of the documents before the last one, and it.
+// The state of a check: the logs of all documents before the last one, and the last document.
 #[derive(Drop)]
 pub(crate) struct Checker {
     alloc: Global,
@@ -107,7 +107,7 @@ impl Checker {
         }
     }
 
-    // Takes the next line. After a fault nothing is said of what was checked.
+    // Checks the next line. After an error the state is unspecified.
     pub fn check_line(&mut self, line: &[u8]) -> Result<(), DumpFault>
         requires counter_bound { self.old.entries + 3 < 2 ^ 64 }
         ensures bound { OnOk result (self.new.entries ≤ self.old.entries + 1) }
@@ -163,7 +163,7 @@ impl Checker {
         }
     }
 
-    // Enters the entry that the line is of. False where it is of none that is stored next.
+    // Appends the line's entry. Returns `false` if the line isn't one that may be next.
     fn accept_entry(&mut self, version: DumpVersion, line: &[u8]) -> Result<bool, AllocError>
         requires counter_bound { self.old.entries + 3 < 2 ^ 64 }
         ensures bound { self.new.entries ≤ self.old.entries + 1 }
@@ -177,7 +177,8 @@ impl Checker {
         }
     }
 
-    // Enters the entry that is stored of what the line says, if the line is its.
+    // Appends the entry that the line's submission stores. Returns `false` if the entry's line
+    // differs.
     fn check_entry(
         &mut self,
         version: DumpVersion,
@@ -212,8 +213,8 @@ impl Checker {
         Ok(is_right)
     }
 
-    // Takes out the document that a line of this key goes on with: the last one, or, where the key is above its, one of
-    // which nothing is stored yet. `None` where the key is below it.
+    // Takes the document that a line of this key extends: the last one, or an empty one if the key
+    // is greater. Returns `None` if the key is smaller.
     fn take_decided_log(&mut self, key: &Key) -> Result<Option<DecidedLog>, AllocError>
         ensures stage_unchanged { self.new.stage ≡ self.old.stage }
         ensures entries { self.new.entries ≡ self.old.entries }
@@ -233,7 +234,7 @@ impl Checker {
         }
     }
 
-    // Keeps the log of a document that no more lines are of.
+    // Moves the log of a complete document to the map.
     fn keep_log(&mut self, last: LastDocument) -> Result<(), AllocError>
         ensures kept { OnOk result (self.new.logs.entries ≡
             insert_entry (λ a b. compare_keys (plain_key a) (plain_key b)) self.old.logs.entries last.key last.document) }
@@ -246,7 +247,7 @@ impl Checker {
         Ok(())
     }
 
-    // Accepts what was checked, where nothing comes but these bytes without a line feed.
+    // Accepts the dump, given the bytes after its last line feed.
     pub fn finish(self, rest: &[u8]) -> Result<CheckedDump, DumpFault>
         requires counter_bound { self.entries + 3 < 2 ^ 64 }
         ensures accepted { IfOk result (λ c. (s : PlainStage) → CheckerAtStage self s →
@@ -263,7 +264,7 @@ impl Checker {
         }
     }
 
-    // Accepts what was checked.
+    // Accepts the dump.
     fn accept(mut self) -> Result<CheckedDump, DumpFault>
         ensures accepted { IfOk result (λ c. (xs : List PlainLine) → CheckerHolds self xs → AcceptedHasAll c xs) }
         ensures memory { IfErr result (λ f. f ≡ OutOfMemory) }
@@ -279,7 +280,7 @@ impl Checker {
         })
     }
 
-    // What is wrong so many lines behind the entries that were checked.
+    // Returns the fault of the line with this offset from the checked entries.
     fn wrong_line(&self, behind: u128) -> DumpFault
         requires counter_bound { self.now.entries + behind < 2 ^ 64 }
         ensures { result ≡ WrongLine (self.now.entries + behind) }
@@ -290,7 +291,7 @@ impl Checker {
     }
 }
 
-// Whether the entry of the key has this moment, and the line is its.
+// Returns whether the entry has this moment and its line is this one.
 fn is_line_of(
     alloc: Global,
     version: DumpVersion,
@@ -307,7 +308,7 @@ fn is_line_of(
     Ok(line_text(alloc, version, key, entry)?.as_slice() == line)
 }
 
-// The version of the dump that begins with this line.
+// Returns the version of a dump that begins with this line.
 fn version_of(line: &[u8]) -> Option<DumpVersion>
     ensures { result ≡ version_of line.now }
 {
@@ -320,7 +321,7 @@ fn version_of(line: &[u8]) -> Option<DumpVersion>
     }
 }
 
-/// The line that ends a dump of so many entries.
+/// Returns the last line of a dump with `count` entries.
 pub(crate) fn count_line(alloc: Global, count: u128) -> Result<String, AllocError>
     ensures { IfOk result (λ s. string_bytes s ≡ count_line count) }
 {

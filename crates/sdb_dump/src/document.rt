@@ -1,4 +1,4 @@
-//! One document: its log, and what it makes.
+//! One document: its log and its current value.
 ghost use Rattle.std.specs.Prelude.{◌≡◌, [], IfOk, IfErr, option_map};
 ghost use Rattle.sdb_desk.specs.DocumentModel.{CanStore, WillStore};
 ghost use Rattle.sdb_oplog.specs.Decide.{IsMade};
@@ -13,7 +13,7 @@ use sdb_value::{Json, MAX};
 use std::alloc::{AllocError, Global};
 use std::marker::Model;
 
-/// A log whose entries were decided, one after the other.
+/// A made log: each entry is what its submission stores on the entries before it.
 #[derive(Drop)]
 pub(crate) struct MadeLog {
     log: Log,
@@ -43,7 +43,7 @@ impl MadeLog {
     }
 }
 
-/// Such a log, with the document that it makes beside it.
+/// A made log with its current document.
 #[derive(Drop)]
 pub(crate) struct DecidedLog {
     log: Log,
@@ -66,7 +66,7 @@ impl Model for DecidedLog {
 }
 
 impl DecidedLog {
-    /// Nothing is stored of it.
+    /// Creates an empty log.
     pub fn new(alloc: Global) -> DecidedLog
         ensures { result ≡ [] }
     {
@@ -82,7 +82,8 @@ impl DecidedLog {
         &self.log
     }
 
-    /// Stores a submission at a moment. `None` where it was stored long since, or is refused.
+    /// Decides and appends a submission at a moment. Returns `None` if it is a duplicate or
+    /// refused.
     pub fn append_decided(
         self,
         alloc: Global,
@@ -111,7 +112,7 @@ impl DecidedLog {
         }
     }
 
-    /// The log, once nothing more is stored.
+    /// Returns the log.
     pub fn into_log(self) -> MadeLog
         ensures { result ≡ self }
     {
@@ -120,7 +121,7 @@ impl DecidedLog {
     }
 }
 
-// Whether the submission is new, there is room, and its version has been reached.
+// Returns whether the submission is no duplicate, the log isn't full, and its base version exists.
 fn can_store(log: &Log, submission: &Submission) -> bool
     ensures { IsCanStoreTest log.now submission.now result }
 {
@@ -130,8 +131,8 @@ fn can_store(log: &Log, submission: &Submission) -> bool
         && submission.version().unwrap_or(version) <= version
 }
 
-// What the content of a submission becomes along the entries that it missed, if it doesn't stay as it arrived; it is
-// applied to the document.
+// Rebases the submission's content and applies it to the document. Returns the content if it
+// changed.
 fn decide_content(
     alloc: Global,
     log: &Log,

@@ -1,4 +1,4 @@
-//! The line of a stored entry, printed and read. A line is told without its line feed.
+//! The line of an entry, written and parsed. Lines are without their line feed.
 ghost use Rattle.std.specs.Prelude.{◌≡◌, ◌++◌, [], IfOk, IfSome, OnOk, option_map, codes};
 ghost use Rattle.json.specs.Print.{print};
 ghost use Rattle.serde_json.specs.Data.{Data, Members, member, no_members};
@@ -23,10 +23,10 @@ use sdb_wire::{
 use std::alloc::{AllocError, Global};
 use std::mem;
 
-// Room for most lines.
+// Initial capacity in bytes of a line.
 const LINE_LEN: usize = 256;
 
-/// What a line says: a submission of a document, and the moment at which it was stored.
+/// The content of a line: a submission of a document and the moment at which it was stored.
 #[derive(Drop)]
 pub(crate) struct LineContent {
     pub key: Key,
@@ -34,7 +34,7 @@ pub(crate) struct LineContent {
     pub moment: Moment,
 }
 
-/// The line of an entry of the document.
+/// Returns the line of an entry of the document.
 pub(crate) fn line_text(
     alloc: Global,
     version: DumpVersion,
@@ -49,7 +49,7 @@ pub(crate) fn line_text(
     Ok(line)
 }
 
-/// Appends the line of an entry of the document. After want of memory nothing is said of `out`.
+/// Appends the line of an entry of the document. After an error `out` is unspecified.
 pub(crate) fn append_line(
     alloc: Global,
     version: DumpVersion,
@@ -85,7 +85,7 @@ fn write_line(
     write_tail(entry, out)
 }
 
-// The moment, where the dump shows it.
+// The moment, if the version of the dump contains it.
 fn written_moment(version: DumpVersion, moment: Moment) -> Option<Moment>
     ensures { result ≡ written_moment version moment }
 {
@@ -95,7 +95,7 @@ fn written_moment(version: DumpVersion, moment: Moment) -> Option<Moment>
     }
 }
 
-// The content as it came, and the version.
+// Writes the submitted content and the base version.
 fn write_arrived(submission: &Submission, out: &mut Writer) -> Result<(), AllocError>
     ensures tokens { OnOk result (out.new.tokens ≡ out.old.tokens ++ data_tokens (arrived_data submission.now)) }
     ensures before_unchanged { out.new.before ≡ out.old.before }
@@ -110,7 +110,7 @@ fn write_arrived(submission: &Submission, out: &mut Writer) -> Result<(), AllocE
     out.end_object()
 }
 
-// The content as it came.
+// Writes the submitted content.
 fn write_arrived_content(content: &Content, out: &mut Writer) -> Result<(), AllocError>
     ensures tokens { OnOk result ((w : Data) → out.new.tokens ++ object_tail_tokens (member (codes "v") w no_members)
         ≡ out.old.tokens ++ object_tail_tokens (arrived_members content.now w)) }
@@ -132,7 +132,7 @@ fn write_arrived_content(content: &Content, out: &mut Writer) -> Result<(), Allo
     }
 }
 
-// The key, the content and the moment, whose names stand among one another.
+// Writes the key, the stored content and the moment, with members in byte order.
 fn write_content(
     key: &Key,
     content: &Content,
@@ -167,7 +167,7 @@ fn write_content(
     }
 }
 
-// The moment, where the dump shows it.
+// The moment, if the version of the dump contains it.
 fn write_moment(moment: Option<Moment>, out: &mut Writer) -> Result<(), AllocError>
     ensures tokens { OnOk result ((rest : Members) → out.new.tokens ++ object_tail_tokens rest
         ≡ out.old.tokens ++ object_tail_tokens (push_moment moment rest)) }
@@ -179,7 +179,7 @@ fn write_moment(moment: Option<Moment>, out: &mut Writer) -> Result<(), AllocErr
     }
 }
 
-// What follows the content and the moment, and the end.
+// Writes the members after the moment, and the end of the object.
 fn write_tail(entry: &Entry, out: &mut Writer) -> Result<(), AllocError>
     ensures tokens { OnOk result (out.new.tokens ≡ out.old.tokens ++ object_tail_tokens (line_tail entry.now)) }
     ensures before_unchanged { out.new.before ≡ out.old.before }
@@ -191,7 +191,7 @@ fn write_tail(entry: &Entry, out: &mut Writer) -> Result<(), AllocError>
     out.end_object()
 }
 
-/// What the line says; `None` where it says nothing that could be stored.
+/// Parses a line. Returns `None` if its content can't be stored.
 pub(crate) fn read_line(
     alloc: Global,
     version: DumpVersion,
@@ -261,7 +261,7 @@ fn read_submission(alloc: Global, value: &JsonTree<'_>) -> Result<Option<Submiss
     }
 }
 
-// The submission, with who sent it and through which collection.
+// Reads the source, the collection name and the pass number of a submission.
 fn read_sent(
     alloc: Global,
     value: &JsonTree<'_>,
@@ -299,7 +299,7 @@ fn read_arrived(
     Ok(Some((content, version)))
 }
 
-/// What was made, unless it is refused; only a want of memory is an error.
+/// Returns `None` for a refusal; only an allocation failure is an error.
 pub(crate) fn none_if_refused<T: Drop>(read: Result<T, Code>) -> Result<Option<T>, AllocError>
     ensures { IsNoneIfRefused read result }
 {

@@ -1,4 +1,4 @@
-//! Laws of dumps. The functions do nothing; their contracts are the laws.
+//! Laws of dumps, as contracts of functions without effect.
 ghost use Rattle.sdb_dump.specs.DumpLaws.{TransformKeepsLimits, DumpsOfLogsAccepted, AcceptedAreDumpsOfLogs};
 ghost use Rattle.sdb_dump.specs.LineSplit.{TextIsExact};
 ghost use Rattle.sdb_dump.specs.CheckLaws.{CheckIsExact, LineReadsBack};
@@ -7,50 +7,52 @@ ghost use Rattle.sdb_dump.specs.LogDumps.{TextIsOfLogs};
 ghost use Rattle.sdb_dump.specs.PrintLaws.{PrintedReadsBack, PrintedIsText};
 ghost use Rattle.sdb_dump.specs.CheckStages.{StagesAreCheck};
 
-/// The compact text of sound data denotes those data, and is UTF-8.
+/// States that the compact text of sound data is UTF-8 and parses to those data.
 pub fn printed_reads_back()
     ensures read { PrintedReadsBack }
     ensures text { PrintedIsText }
 {}
 
-/// The line of an entry is read as what it was made of.
+/// States that the line of an entry parses to the content that it was made of.
 pub fn line_reads_back()
     ensures { LineReadsBack }
 {}
 
-/// A checker's entries are exactly those whose dump the lines are.
+/// States that the check accepts exactly the dumps of its entries.
 pub fn check_is_exact()
     ensures { CheckIsExact }
 {}
 
-/// What stands for a component that fits, after another one that fits, fits.
+/// States that transforming a component within the limits against another one stays within the
+/// limits.
 pub fn transform_fits()
     ensures { TransformKeepsLimits }
 {}
 
-/// A checker accepts the dumps of made logs within the limits, and no other lines.
+/// States that the check accepts the dumps of made logs within the limits, and no other lines.
 pub fn dump_is_accepted()
     ensures accepted { DumpsOfLogsAccepted }
     ensures only { AcceptedAreDumpsOfLogs }
 {}
 
-/// Line by line, the answer is that of the check of all lines.
+/// States that checking line by line equals checking all lines at once.
 pub fn stages_are_check()
     ensures { StagesAreCheck }
 {}
 
-/// The lines of made logs, key by key, are a dump that has these logs.
+/// States that the lines of made logs, key by key, are a dump of these logs.
 pub fn logs_are_dumped()
     ensures { LogsAreDumped }
 {}
 
-/// A text is accepted exactly where it is a dump.
+/// States that a text is accepted if and only if it is a dump.
 pub fn text_is_exact()
     ensures { TextIsExact }
 {}
 
-/// A text is accepted exactly where it is the dump of made logs within the limits, which it gives. That texts are UTF-8
-/// and numbers in range is known of the types of what was read, and not of its bytes.
+/// States that a text is accepted if and only if it is the dump of made logs within the limits, and
+/// that it gives these logs. That texts are UTF-8 and numbers are in range follows from the types
+/// of what was parsed.
 pub fn text_is_of_logs()
     ensures { TextIsOfLogs }
 {}

@@ -1,4 +1,4 @@
-//! Dumps: the text of all that is stored, and a checker of such texts.
+//! Dumps: all logs as text, and the check of such a text.
 #![tactic(auto)]
 
 mod check;

@@ -1,4 +1,5 @@
-//! What is known of a submission by its types. The functions only walk it: their contracts say what is known.
+//! Facts that the types of a submission give. The functions only traverse it; their contracts state
+//! the facts.
 ghost use Rattle.std.specs.Prelude.{◌≡◌, true};
 ghost use Rattle.std.specs.Str.{IsUtf8};
 ghost use Rattle.sdb_value.specs.View.{plain_path, plain_step, value_of};
@@ -12,7 +13,7 @@ use sdb_oplog::{Content, Key, Kind, Submission};
 use sdb_value::laws::well_formed;
 use sdb_value::{Step, Whole};
 
-/// The texts of a submission are UTF-8, and its values well formed.
+/// States that the texts of a submission are UTF-8 and its values are well formed.
 pub(crate) fn submission_texts(submission: &Submission)
     ensures { IsTextSubmission submission.now }
 {
@@ -21,7 +22,7 @@ pub(crate) fn submission_texts(submission: &Submission)
     is_text(submission.via());
 }
 
-/// So are those of a key.
+/// States that the texts of a key are UTF-8.
 pub(crate) fn key_texts(key: &Key)
     ensures { IsTextKey (plain_key key.now) }
 {

@@ -1,4 +1,4 @@
-//! Writes the dump of what is stored.
+//! The writer of dumps.
 ghost use Rattle.std.specs.Prelude.{◌≡◌, ℕ, ◌++◌, ◌∷◌, ◌⊎◌, List, [], Option, IfOk, IfSome, OnOk, OnErr, IsErrOf, length, map, option_map, true, unwrap_or};
 ghost use Rattle.std.specs.Io.KnownBytes.{Appends};
 ghost use Rattle.sdb_lines.specs.Prefixes.{AppendsPrefix};
@@ -16,25 +16,34 @@ use sdb_lines::{RunFault, Sink, flush_buffer};
 use sdb_oplog::{Entry, Key, Log};
 use std::alloc::{AllocError, Global};
 
-// The output, in bytes, that is written at a time: 64 KiB.
+// Number of bytes after which the output is written: 64 KiB.
 const OUTPUT_LIMIT: usize = 65_536;
 
-/// The documents that something is stored of.
+/// The documents with entries.
 pub trait DumpSource {
     // The log of each key.
     ghost logs: { Self → Logs };
 
-    /// Their keys, each once, by the bytes of the collection, then of the id. It fails only for want of memory.
+    /// Returns their keys, each once, by the bytes of the collection and then of the id.
+    ///
+    /// # Errors
+    ///
+    /// [`AllocError`] if an allocation fails.
     fn keys(&self) -> Result<Vec<Key>, AllocError>
         ensures { IfOk result (λ keys. IsKeyList (logs self.now) (map plain_key keys.items)) };
 
-    /// The log of the document, if something is stored of it.
+    /// Returns the document's log, or `None` if it has no entries.
     fn log(&self, key: &Key) -> Option<&Log>
         ensures { unwrap_or (option_map (λ l. l.now) result) [] ≡ logs self.now (plain_key key.now) };
 }
 
-/// Writes the dump of the second version of all that is stored, flushes it, and answers how many entries it has.
-/// It is written in pieces of 64 KiB or a line more.
+/// Writes the dump of all logs in version 2, flushes it, and returns its number of entries. It
+/// writes blocks of 64 KiB plus at most one line.
+///
+/// # Errors
+///
+/// [`RunFault::OutOfMemory`] if an allocation fails, [`RunFault::WriteFailed`] if a write or flush
+/// fails. The bytes written are then a prefix of the dump.
 pub fn write_dump<D: DumpSource, W: Sink>(
     alloc: Global,
     documents: &D,
@@ -43,10 +52,10 @@ pub fn write_dump<D: DumpSource, W: Sink>(
     ensures wrote_all { OnOk result
         (WroteDump (D.logs documents.now) (W.bytes_written writer.old) (W.bytes_written writer.new)) }
     ensures entries { IfOk result (λ n. HasEntryCount (D.logs documents.now) n) }
-    // After a fault nothing was written, or a front of the dump.
+    // After a fault, a prefix of the dump was written, possibly empty.
     ensures prefix_on_err { OnErr result
         (WroteDumpPrefix (D.logs documents.now) (W.bytes_written writer.old) (W.bytes_written writer.new)) }
-    // No write or flush failed, but for the one that is the fault.
+    // No write or flush failed, except the one that is the fault.
     ensures write_failures { WriteFaultIsCounted result (W.failures writer.old) (W.failures writer.new) }
     ensures never_read_failed { IsErrOf result RunFault.ReadFailed → ⊥ }
 {
@@ -59,8 +68,8 @@ pub fn write_dump<D: DumpSource, W: Sink>(
     Ok(entries)
 }
 
-// Adds the lines of the logs of these documents to the output, and writes it once there is much of it. It answers
-// how many lines they are.
+// Appends the lines of these documents' logs to the output, and writes it when it is full. Returns
+// the number of lines.
 fn write_logs<D: DumpSource, W: Sink>(
     alloc: Global,
     documents: &D,
@@ -87,7 +96,7 @@ fn write_logs<D: DumpSource, W: Sink>(
     Ok(count)
 }
 
-// The entries of the document's log.
+// Returns the entries of the document's log.
 fn entries_of<'a, D: DumpSource>(documents: &'a D, key: &Key) -> &'a [Entry]
     ensures { result.now ≡ D.logs documents.now (plain_key key.now) }
 {
@@ -97,7 +106,7 @@ fn entries_of<'a, D: DumpSource>(documents: &'a D, key: &Key) -> &'a [Entry]
     }
 }
 
-// Adds the lines of these entries of the document to the output, and writes it once there is much of it.
+// Appends the lines of these entries to the output, and writes it when it is full.
 fn write_log<W: Sink>(
     alloc: Global,
     key: &Key,
@@ -122,7 +131,7 @@ fn write_log<W: Sink>(
     Ok(())
 }
 
-// Writes the output once there is much of it.
+// Writes the output if it is full.
 fn flush_if_full<W: Sink>(out: &mut Vec<u8>, writer: &mut W) -> Result<(), RunFault>
     ensures wrote { OnOk result (WroteUpTo (W.bytes_written writer.old) (W.bytes_written writer.new)
         out.old.items out.new.items) }
@@ -138,7 +147,7 @@ fn flush_if_full<W: Sink>(out: &mut Vec<u8>, writer: &mut W) -> Result<(), RunFa
     flush_buffer(out, writer)
 }
 
-// Adds the line of the count to the output.
+// Appends the line with the count.
 fn push_count(alloc: Global, count: u128, out: &mut Vec<u8>) -> Result<(), AllocError>
     ensures { OnOk result (out.new.items ≡ out.old.items ++ (count_line count ++ 10 ∷ [])) }
 {
@@ -147,7 +156,7 @@ fn push_count(alloc: Global, count: u128, out: &mut Vec<u8>) -> Result<(), Alloc
     out.extend_from_slice(b"\n")
 }
 
-// Writes all of the output, and flushes it.
+// Writes the output and flushes it.
 fn write_and_flush<W: Sink>(mut out: Vec<u8>, writer: &mut W) -> Result<(), RunFault>
     ensures wrote { OnOk result (Appends (W.bytes_written writer.old) (W.bytes_written writer.new) out.items) }
     ensures prefix_on_err { OnErr result (AppendsPrefix (W.bytes_written writer.old)

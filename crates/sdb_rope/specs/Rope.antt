@@ -1,7 +1,7 @@
 -- What a text holds, and whether it is its owner's own.
 use Rattle.std.specs.Prelude.{ℕ, List, [], ◌∷◌, Bool, false}
 use Rattle.std.specs.List.{concat}
-use Rattle.sdb_chunks.specs.Chunk.{items_of, is_chunk_shared as block_shared}
+use Rattle.sdb_chunks.specs.Chunk.{items_of, is_chunk_shared}
 use Rattle.sdb_rope.specs.SharedStr.{str_bytes, is_unique_str, is_shared_str}
 use Rattle.sdb_rope.specs.ChunkModel.{chunk_texts, is_unique_chunk}
 use Rattle.sdb_rope.specs.GroupModel.{texts_of_groups}
@@ -34,8 +34,8 @@ is_unique_rope t = is_unique_rope_repr t.repr
 
 abbrev pub is_shared_rope_repr : RopeRepr → Bool
 is_shared_rope_repr (Flat c) = is_shared_str c
-is_shared_rope_repr (Chunks b) = block_shared b
-is_shared_rope_repr (Groups b) = block_shared b
+is_shared_rope_repr (Chunks b) = is_chunk_shared b
+is_shared_rope_repr (Groups b) = is_chunk_shared b
 
 -- a copy of it is a pointer
 abbrev pub is_shared_rope : Rope → Bool

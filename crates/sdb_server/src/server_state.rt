@@ -1,7 +1,7 @@
 //! The state that all connections of a server share.
 ghost use Rattle.std.specs.Prelude.{◌≡◌, IfOk};
 ghost use Rattle.sdb_backend.specs.PassModel.{IsPassOfBackend, IsHostOfBackend};
-ghost use Rattle.sdb_backend.specs.declared.pass.Host.{Host as Hosting};
+ghost use Rattle.sdb_backend.specs.declared.pass.Host.{Host as HostState};
 ghost use Rattle.sdb_server.specs.PassModel.{IsHostOfServer};
 
 use crate::client_loop::{Served, Service, close_and_drain, serve_until};
@@ -92,7 +92,7 @@ impl<R: Wait + Drop> ServerState<R> {
         backend: Backend<R>,
         table: Table,
     ) -> Result<ServerState<R>, AllocError>
-        ensures { IfOk result (λ s. (h : Hosting) → IsHostOfBackend h backend → IsHostOfServer h s) }
+        ensures { IfOk result (λ s. (h : HostState) → IsHostOfBackend h backend → IsHostOfServer h s) }
     {
         let ended = Vec::with_capacity(alloc, CLIENT_LIMIT + HANDSHAKE_LIMIT)?;
         Ok(ServerState {

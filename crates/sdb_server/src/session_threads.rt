@@ -1,7 +1,7 @@
 //! The threads that serve clients.
 ghost use Rattle.std.specs.Prelude.{◌≡◌, IfOk, IfSome};
 ghost use Rattle.sdb_backend.specs.PassModel.{IsPassOfBackend};
-ghost use Rattle.sdb_backend.specs.declared.backend.Backend.{Backend as Documents};
+ghost use Rattle.sdb_backend.specs.declared.backend.Backend.{Backend as BackendState};
 ghost use Rattle.sdb_growlock.specs.LockRule.{ForEach};
 ghost use Rattle.sdb_server.specs.ThreadModel.{ThreadsOfBackend, NoThreads, SameBackends};
 
@@ -166,7 +166,7 @@ impl<R: Wait + Drop> SessionThreads<R> {
     }
 
     fn keep_pass(&mut self, pass: Pass)
-        ensures { (b : Documents R) → IsPassOfBackend pass b → ThreadsOfBackend self.old b
+        ensures { (b : BackendState R) → IsPassOfBackend pass b → ThreadsOfBackend self.old b
             → ThreadsOfBackend self.new b }
     {
         if self.is_keeping {
@@ -203,7 +203,7 @@ impl<R: Wait + Drop> SessionThreads<R> {
     }
 
     fn take(&mut self, slot: usize) -> Option<PromisedHandle<Served, BackendPromise<R>>>
-        ensures handle { IfSome result (λ t. (b : Documents R) → ThreadsOfBackend self.old b → t.promise.0.value ≡ b) }
+        ensures handle { IfSome result (λ t. (b : BackendState R) → ThreadsOfBackend self.old b → t.promise.0.value ≡ b) }
         ensures backend { SameBackends self.old self.new }
     {
         self.handles.get_mut(slot)?.take()
@@ -211,7 +211,7 @@ impl<R: Wait + Drop> SessionThreads<R> {
 
     /// Returns the passes of ended sessions, if they are kept.
     pub(crate) fn into_passes(self) -> Vec<Pass>
-        ensures { (b : Documents R) → ThreadsOfBackend self b → ForEach (λ p. IsPassOfBackend p b) result.items }
+        ensures { (b : BackendState R) → ThreadsOfBackend self b → ForEach (λ p. IsPassOfBackend p b) result.items }
     {
         let SessionThreads { passes, .. } = self;
         passes

@@ -2,7 +2,7 @@
 ghost use Rattle.std.specs.Prelude.{IfOk};
 ghost use Rattle.sdb_backend.specs.AuditModel.{audit_logs};
 ghost use Rattle.sdb_backend.specs.PassModel.{IsHostOfBackend};
-ghost use Rattle.sdb_backend.specs.declared.pass.Host.{Host as Hosting};
+ghost use Rattle.sdb_backend.specs.declared.pass.Host.{Host as HostState};
 ghost use Rattle.sdb_server.specs.PassModel.{IsHostOfServer};
 
 use sdb_backend::{Audit, Backend, CloseError, CloseRefused};
@@ -158,7 +158,7 @@ fn server<R: Wait + Drop>(
     table: Table,
     is_logging: bool,
 ) -> Result<Arc<ServerState<R>, Global>, AllocError>
-    ensures { IfOk result (λ s. (h : Hosting) → IsHostOfBackend h backend → IsHostOfServer h s.value) }
+    ensures { IfOk result (λ s. (h : HostState) → IsHostOfBackend h backend → IsHostOfServer h s.value) }
 {
     let state = ServerState::new(alloc, backend, table)?.with_log(is_logging);
     Ok(Arc::new(alloc, state)?)

@@ -1,7 +1,7 @@
 //! Clients over sockets: two, many, large messages, requests that are no handshake, and when the server ends.
 ghost use Rattle.std.specs.Prelude.{IfOk};
 ghost use Rattle.sdb_backend.specs.PassModel.{IsHostOfBackend};
-ghost use Rattle.sdb_backend.specs.declared.pass.Host.{Host as Hosting};
+ghost use Rattle.sdb_backend.specs.declared.pass.Host.{Host as HostState};
 ghost use Rattle.sdb_server.specs.PassModel.{IsHostOfServer};
 
 use crate::clients::{Client, FIRST_OPENING, ask, come, connect, enter, expect, expect_close};
@@ -50,7 +50,7 @@ fn server<R: Wait + Drop>(
     is_logging: bool,
     longest_wait: u64,
 ) -> Result<Arc<ServerState<R>, Global>, AllocError>
-    ensures { IfOk result (λ s. (h : Hosting) → IsHostOfBackend h backend → IsHostOfServer h s.value) }
+    ensures { IfOk result (λ s. (h : HostState) → IsHostOfBackend h backend → IsHostOfServer h s.value) }
 {
     let logging = ServerState::new(alloc, backend, Table::new(alloc))?.with_log(is_logging);
     let state = logging.with_longest_wait(Duration::from_millis(longest_wait));

@@ -1,7 +1,7 @@
 //! The members of an object, one after the other.
 ghost use Rattle.std.specs.Prelude.{◌≡◌};
 ghost use Rattle.std.specs.Iterator.{YieldsFirstBy, item_count};
-ghost use Rattle.sdb_chunks.specs.Iter.{remaining_items as items_left};
+ghost use Rattle.sdb_chunks.specs.Iter.{remaining_items};
 ghost use Rattle.sdb_sorted_map.specs.Iter.{remaining_entries};
 
 use crate::map_entry::MapEntry;
@@ -14,7 +14,7 @@ pub struct Iter<'a, V> {
 
 impl<'a, V> Iter<'a, V> {
     pub(crate) fn new(entries: sdb_chunks::Iter<'a, MapEntry<V>>) -> Iter<'a, V>
-        ensures { items_left result.entries ≡ items_left entries.entry }
+        ensures { remaining_items result.entries ≡ remaining_items entries.entry }
     {
         Iter { entries }
     }

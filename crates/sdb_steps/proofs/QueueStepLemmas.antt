@@ -10,7 +10,7 @@ use Rattle.sdb_oplog.specs.Keys.{PlainKey, keys_equal}
 use Rattle.sdb_oplog.specs.Snap.{document_of}
 use Rattle.sdb_oplog.specs.Refusal.{result_and_then}
 use Rattle.sdb_oplog.specs.Decide.{decide_allocates}
-use Rattle.sdb_subscribe.specs.Queue.{PlainQueue, PlainQueues, queue_at, is_queue_of, is_open_by, pending_entries, advance as moved_by, queues_after_take, take_result, remove_queue}
+use Rattle.sdb_subscribe.specs.Queue.{PlainQueue, PlainQueues, queue_at, is_queue_of, is_open_by, pending_entries, advance, queues_after_take, take_result, remove_queue}
 use Rattle.sdb_subscribe.specs.laws.QueueLaws.{queue_at_opened_other, queue_at_taken, queue_at_taken_other, queue_at_removed_other}
 use Rattle.sdb_oplog.specs.Keys.{with_value_at_key}
 use Rattle.sdb_desk.specs.laws.MapLaws.{updated_at_same}
@@ -409,7 +409,7 @@ module _ (i : ℕ) (q0 q1 : QueuesByKey) (l0 l1 : PlainKey → List PlainEntry) 
       entries_are_pending : es ≡ pending_entries (l0 k) max queues_after
       entries_are_pending = entries_are es (pending_entries (l0 k) max queues_after) (takes_is.0 ∙ ap (λ b. cond b (take_result (l0 k) n max (q0 k).queues) None) queue_is_owned ∙ ap (option_map (pending_entries (l0 k) max)) h.stands)
 
-      queue_is_advanced : queue_at n (q1 k).queues ≡ Some (moved_by (l0 k) max queues_after)
+      queue_is_advanced : queue_at n (q1 k).queues ≡ Some (advance (l0 k) max queues_after)
       queue_is_advanced = ap (λ (z : PlainQueues). queue_at n z.queues) takes_is.1 ∙ ap (λ b. queue_at n (cond b (queues_after_take (l0 k) n max (q0 k).queues) (q0 k).queues)) queue_is_owned ∙ queue_at_taken (l0 k) n max queues_after (q0 k).queues h.stands
 
       pub taken_turn : DispatchesAct i (core_at l0 q0) (seen_by a q0 s0) (plain.take k max) (reply_answer (machine.taken es)) (core_at l1 q1) (seen_by a q1 s1)

@@ -8,7 +8,7 @@ use Rattle.sdb_oplog.specs.Plain.{PlainSubmission, PlainContent}
 use Rattle.sdb_oplog.specs.Keys.{PlainKey, keys_equal}
 use Rattle.sdb_oplog.specs.Decide.{decide_allocates}
 use Rattle.sdb_subscribe.specs.Queue.{queue}
-use Rattle.sdb_steps.specs.QueuePosition.{QueuePosition, advance_position as moved_by}
+use Rattle.sdb_steps.specs.QueuePosition.{QueuePosition, advance_position}
 use Rattle.sdb_desk.specs.Machine.{fetch_result, snapshot_at, fetch_at_moment, read_has_document, read_has_version, is_nonempty}
 use Rattle.sdb_steps.specs.OneStep as machine
 use Rattle.sdb_steps.specs.OneStep.{OneStep, Event, EventReply, start_result, machine_after_events}
@@ -149,7 +149,7 @@ subscribe_effect x k v (Err code) = event (machine.subscribe k v) x
 -- a read from the queue's position on
 abbrev pub take_effect : OneStep → SessionState → PlainKey → ℕ → QueuePosition → Effect
 take_effect m x k max q =
-    event (machine.take_from k (q.start + q.taken) max) (with_queue x k (Some (moved_by (m.logs k) max q)))
+    event (machine.take_from k (q.start + q.taken) max) (with_queue x k (Some (advance_position (m.logs k) max q)))
 
 -- the effect of this act of session n
 abbrev pub effect : OneStep → ℕ → SessionState → StepKind → Effect

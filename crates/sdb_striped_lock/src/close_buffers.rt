@@ -1,7 +1,7 @@
 //! Room for what a close gathers.
 ghost use Rattle.std.specs.Prelude.{◌≡◌, ℕ, ◌+◌, ◌<◌, ◌≤◌, ◌++◌, ◌∷◌, [], List, Vec, IfOk, length, map, slice_index_or, vec_len, vec_capacity};
 ghost use Rattle.std.specs.Global.{Global};
-ghost use Rattle.sdb_growlock.specs.declared.grow_lock.Seat.{Seat as One};
+ghost use Rattle.sdb_growlock.specs.declared.grow_lock.Seat.{Seat as LockSeat};
 ghost use Rattle.sdb_striped_lock.specs.Capacity.{ColumnsHaveCapacity, HasCapacity};
 
 use crate::striped_lock::{RootSeats, SeatSet};
@@ -42,12 +42,12 @@ impl<T> CloseBuffers<T> {
 // Puts each seat behind those of its lock.
 pub(crate) fn gather_stripe<T>(columns: &mut Vec<Vec<Seat<T>>>, mut seats: Vec<Seat<T>>)
     requires length { (length columns.old.items ≡ 8) × (length seats.items ≡ 8) }
-    requires room { (i : ℕ) (d : Vec (One T) Global) → i < 8 → vec_len (slice_index_or columns.old.items i d) <
+    requires room { (i : ℕ) (d : Vec (LockSeat T) Global) → i < 8 → vec_len (slice_index_or columns.old.items i d) <
         vec_capacity (slice_index_or columns.old.items i d) }
     ensures length { length columns.new.items ≡ 8 }
-    ensures capacity { (i : ℕ) (d : Vec (One T) Global) → i < 8 → vec_capacity (slice_index_or columns.new.items i d) ≡
+    ensures capacity { (i : ℕ) (d : Vec (LockSeat T) Global) → i < 8 → vec_capacity (slice_index_or columns.new.items i d) ≡
         vec_capacity (slice_index_or columns.old.items i d) }
-    ensures each { (i : ℕ) (d : Vec (One T) Global) (s : One T) → i < 8 → (slice_index_or columns.new.items i d).items ≡
+    ensures each { (i : ℕ) (d : Vec (LockSeat T) Global) (s : LockSeat T) → i < 8 → (slice_index_or columns.new.items i d).items ≡
         (slice_index_or columns.old.items i d).items ++ slice_index_or seats.items i s ∷ [] }
 {
     while let Some(seat) = seats.pop() {
@@ -64,7 +64,7 @@ pub(crate) fn gather_stripes<T>(
 )
     requires room { ColumnsHaveCapacity (length callers.items) columns.old.items }
     ensures length { length columns.new.items ≡ 8 }
-    ensures each { (i : ℕ) (d : Vec (One T) Global) (s : One T) → i < 8 → (slice_index_or columns.new.items i d).items ≡
+    ensures each { (i : ℕ) (d : Vec (LockSeat T) Global) (s : LockSeat T) → i < 8 → (slice_index_or columns.new.items i d).items ≡
         slice_index_or first.seats.items i s ∷ map (λ c. slice_index_or c.seats.items i s) callers.items }
 {
     gather_stripe(columns, first.into_seats());

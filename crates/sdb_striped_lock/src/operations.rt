@@ -3,7 +3,7 @@ ghost use Rattle.std.specs.Prelude.{◌≡◌, ◌≢◌, ℕ, ◌+◌, ◌<◌,
 ghost use Rattle.std.specs.Global.{Global};
 ghost use Rattle.sdb_growlock.specs.LockRule.{ForEach};
 ghost use Rattle.sdb_growlock.specs.SeatModel.{BelongsTo};
-ghost use Rattle.sdb_growlock.specs.declared.grow_lock.Seat.{Seat as One};
+ghost use Rattle.sdb_growlock.specs.declared.grow_lock.Seat.{Seat as LockSeat};
 ghost use Rattle.sdb_striped_lock.specs.CloseModel.{IsCloseResult, HasEverySeat, IsValueAfterClose};
 ghost use Rattle.sdb_striped_lock.specs.AtIndex.{AtEachIndex, SeeSameBlankValue};
 ghost use Rattle.sdb_striped_lock.specs.Capacity.{HasCapacity};
@@ -122,7 +122,7 @@ impl<T: Grows> StripedLock<T> {
         ensures length { (length firsts.new.items ≡ 8) × (length result.items ≡ 8) }
         ensures first { AtEachIndex (IsRootSeat (number + 1)) firsts.new.items self.now.locks.items 0 8 }
         ensures split_seat { AtEachIndex (IsSeatNumbered number) result.items self.now.locks.items 0 8 }
-        ensures seen { (i : ℕ) (s : One T) → i < 8 → SeeSameBlankValue T.blank (slice_index_or firsts.old.items i s)
+        ensures seen { (i : ℕ) (s : LockSeat T) → i < 8 → SeeSameBlankValue T.blank (slice_index_or firsts.old.items i s)
             (slice_index_or firsts.new.items i s) (slice_index_or result.items i s) }
     {
         for place in 0..STRIPES {
@@ -170,7 +170,7 @@ fn close_stripes<T: Grows>(
     requires length { (length locks.items ≡ 8) × (length columns.items ≡ 8) }
     requires capacity { (vec_len values ≡ 0) × (8 ≤ vec_capacity values) }
     requires belongs { AtEachIndex (λ l c. ForEach (λ s. BelongsTo s l) c.items) locks.items columns.items 0 8 }
-    requires all { (i : ℕ) (c : Vec (One T) Global) → i < 8 → HasEverySeat (slice_index_or columns.items i c).items }
+    requires all { (i : ℕ) (c : Vec (LockSeat T) Global) → i < 8 → HasEverySeat (slice_index_or columns.items i c).items }
     ensures length { length result.items ≡ 8 }
     ensures gives { AtEachIndex (λ c v. IsValueAfterClose T.extends T.same T.blank c.items v) columns.items result.items 0 8 }
 {

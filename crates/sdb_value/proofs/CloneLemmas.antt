@@ -2,15 +2,15 @@
 use Rattle.std.proofs.Common.{◌≡◌, ℕ, ◌<◌, ◌^◌, length, subst, List, [], ◌∷◌, ◌++◌, map, Option, Some, None, Bool, true, false, cond, Result, Ok, Err, IfOk, true≢false, refl, sym, ap, ◌∙◌, append_assoc}
 use Rattle.std.specs.List.{flat_map}
 use Rattle.std.specs.Option.{is_some, IfSome, IfNone}
-use Rattle.sdb_chunks.specs.Chunk.{items_of as block_items, is_chunk_unique as block_own, is_chunk_shared as block_shared}
+use Rattle.sdb_chunks.specs.Chunk.{items_of, is_chunk_unique, is_chunk_shared}
 use Rattle.sdb_chunks.specs.ChunkedVec.{all_unique, all_shared, vec_chunks, vec_items, vec_chunk_items, is_grouped, is_unique_repr, is_unique_vec, is_shared_repr, is_shared_vec}
 use Rattle.sdb_chunks.specs.laws.ChunkLaws.{vec_models_of_items}
 use Rattle.sdb_sorted_map.specs.MapEntry.{entry_key}
-use Rattle.sdb_sorted_map.specs.SortedMap.{map_entries, is_shared_map as members_shared}
+use Rattle.sdb_sorted_map.specs.SortedMap.{map_entries, is_shared_map}
 use Rattle.sdb_sorted_map.specs.KeyOrder.{IsAscending}
 use Rattle.sdb_sorted_map.specs.SearchModel.{entry_key_bytes, vec_keys}
 use Rattle.sdb_sorted_map.specs.declared.map_entry.MapEntry.{MapEntry}
-use Rattle.sdb_sorted_map.specs.declared.sorted_map.SortedMap.{SortedMap as Held}
+use Rattle.sdb_sorted_map.specs.declared.sorted_map.SortedMap.{SortedMap}
 use Rattle.sdb_chunks.specs.declared.chunk.Chunk.{Chunk}
 use Rattle.sdb_chunks.specs.declared.chunk.Chunk.TheVariants.{Unique, Shared}
 use Rattle.sdb_chunks.specs.declared.chunked_vec.Repr.{Repr}
@@ -71,7 +71,7 @@ module _ {X : Type 0} (q : X → Bool) where
   list_all_own l = cond (is_unique_vec l) (all_true (map q (vec_items l))) false
 
   abbrev each_own : Chunk X → Bool
-  each_own b = cond (block_own b) (all_true (map q (block_items b))) false
+  each_own b = cond (is_chunk_unique b) (all_true (map q (items_of b))) false
 
   pub shared_list_own : (l : ChunkedVec X) → is_shared_vec l ≡ true → list_all_own l ≡ false
   shared_list_own l h = ap (λ b. cond b (all_true (map q (vec_items l))) false) (shared_form_not_own l.repr h)
@@ -80,15 +80,15 @@ module _ {X : Type 0} (q : X → Bool) where
       → HasUniquenessOfMode m (list_all_own l) (list_all_own new) (is_shared_vec new)
   list_pointed m l new h was now = copied_pointer m (list_all_own l) (list_all_own new) (is_shared_vec new) h (shared_list_own l was) (shared_list_own new now) now
 
-  shared_block_own : (b : Chunk X) → block_shared b ≡ true → each_own b ≡ false
+  shared_block_own : (b : Chunk X) → is_chunk_shared b ≡ true → each_own b ≡ false
   shared_block_own (Unique v) h = absurd (true≢false (sym h))
   shared_block_own (Shared a) h = refl
 
-  pub block_pointed : (m : CloneMode) (b new : Chunk X) → (m ≡ manner.Unique → ⊥) → block_shared b ≡ true → block_shared new ≡ true
-      → HasUniquenessOfMode m (each_own b) (each_own new) (block_shared new)
-  block_pointed m b new h was now = copied_pointer m (each_own b) (each_own new) (block_shared new) h (shared_block_own b was) (shared_block_own new now) now
+  pub block_pointed : (m : CloneMode) (b new : Chunk X) → (m ≡ manner.Unique → ⊥) → is_chunk_shared b ≡ true → is_chunk_shared new ≡ true
+      → HasUniquenessOfMode m (each_own b) (each_own new) (is_chunk_shared new)
+  block_pointed m b new h was now = copied_pointer m (each_own b) (each_own new) (is_chunk_shared new) h (shared_block_own b was) (shared_block_own new now) now
 
-pub not_shared_own : {X : Type 0} (b : Chunk X) → block_shared b ≡ false → block_own b ≡ true
+pub not_shared_own : {X : Type 0} (b : Chunk X) → is_chunk_shared b ≡ false → is_chunk_unique b ≡ true
 not_shared_own (Unique v) h = refl
 not_shared_own (Shared a) h = absurd (true≢false h)
 
@@ -116,10 +116,10 @@ all_more [] true = refl
 all_more [] false = refl
 all_more (c ∷ bs) b = ap (λ x. cond c x false) (all_more bs b) ∙ and_assoc c (all_true bs) b
 
-pub shared_more : {X : Type 0} (bs : List (Chunk X)) (b : Chunk X) → all_shared (bs ++ b ∷ []) ≡ cond (all_shared bs) (block_shared b) false
+pub shared_more : {X : Type 0} (bs : List (Chunk X)) (b : Chunk X) → all_shared (bs ++ b ∷ []) ≡ cond (all_shared bs) (is_chunk_shared b) false
 shared_more [] (Unique v) = refl
 shared_more [] (Shared a) = refl
-shared_more (c ∷ bs) b = ap (λ x. cond (block_shared c) x false) (shared_more bs b) ∙ and_assoc (block_shared c) (all_shared bs) (block_shared b)
+shared_more (c ∷ bs) b = ap (λ x. cond (is_chunk_shared c) x false) (shared_more bs b) ∙ and_assoc (is_chunk_shared c) (all_shared bs) (is_chunk_shared b)
 
 -- ---- a list of blocks
 
@@ -142,7 +142,7 @@ one_own true = refl
 one_own false = refl
 
 unshared_form : {X : Type 0} (w : Repr X) → is_grouped w ≡ false → is_shared_repr w ≡ false → is_unique_repr w ≡ all_unique (vec_chunks (record { repr = w }))
-unshared_form (Flat b) g h = one_own (block_own b)
+unshared_form (Flat b) g h = one_own (is_chunk_unique b)
 unshared_form (Chunks (Unique v)) g h = refl
 unshared_form (Chunks (Shared a)) g h = absurd (true≢false h)
 unshared_form (Groups gs) g h = absurd (true≢false g)
@@ -156,18 +156,18 @@ module _ {X : Type 0} (q : X → Bool) where
   abbrev blocks_each : List (Chunk X) → Bool
   blocks_each bs = all_true (map (each_own q) bs)
 
-  blocks_own : (bs : List (Chunk X)) → cond (all_unique bs) (all_true (map q (flat_map block_items bs))) false ≡ blocks_each bs
+  blocks_own : (bs : List (Chunk X)) → cond (all_unique bs) (all_true (map q (flat_map items_of bs))) false ≡ blocks_each bs
   blocks_own [] = refl
   blocks_own (b ∷ bs) =
-      ap (λ x. cond (cond (block_own b) (all_unique bs) false) x false)
-      (ap all_true (map_append q (block_items b) (flat_map block_items bs)) ∙ all_append (map q (block_items b)) (map q (flat_map block_items bs)))
-      ∙ swap_and (block_own b) (all_unique bs) (all_true (map q (block_items b))) (all_true (map q (flat_map block_items bs)))
+      ap (λ x. cond (cond (is_chunk_unique b) (all_unique bs) false) x false)
+      (ap all_true (map_append q (items_of b) (flat_map items_of bs)) ∙ all_append (map q (items_of b)) (map q (flat_map items_of bs)))
+      ∙ swap_and (is_chunk_unique b) (all_unique bs) (all_true (map q (items_of b))) (all_true (map q (flat_map items_of bs)))
       ∙ ap (λ x. cond (each_own q b) x false) (blocks_own bs)
 
   -- a list whose blocks tell whether it is its own
   list_of_blocks : (l : ChunkedVec X) (bs : List (Chunk X)) → vec_chunks l ≡ bs → is_unique_vec l ≡ all_unique bs → list_all_own q l ≡ blocks_each bs
   list_of_blocks l bs e o =
-      ap (λ x. cond x (all_true (map q (vec_items l))) false) o ∙ ap (λ x. cond (all_unique bs) (all_true (map q (flat_map block_items x))) false) e ∙ blocks_own bs
+      ap (λ x. cond x (all_true (map q (vec_items l))) false) o ∙ ap (λ x. cond (all_unique bs) (all_true (map q (flat_map items_of x))) false) e ∙ blocks_own bs
 
   unshared_list : (l : ChunkedVec X) → is_grouped l.repr ≡ false → is_shared_vec l ≡ false → list_all_own q l ≡ blocks_each (vec_chunks l)
   unshared_list l g h = list_of_blocks l (vec_chunks l) refl (unshared_form l.repr g h)
@@ -204,17 +204,17 @@ copied_list m v l new is h =
     copied_by m (list_unique l) (list_unique new) (is_shared_vec new) (is_unique v) (is_unique (json.List new)) (is_frozen (json.List new))
     (ap is_unique is ∙ owned_list l) (owned_list new) (pointer_list new) h
 
-pub value_object : (v : Json) (s new : Held Json) → v ≡ json.Object s → object_value new ≡ object_value s → value_of (json.Object new) ≡ value_of v
+pub value_object : (v : Json) (s new : SortedMap Json) → v ≡ json.Object s → object_value new ≡ object_value s → value_of (json.Object new) ≡ value_of v
 value_object v s new is e = seen_object new ∙ ap object e ∙ sym (ap value_of is ∙ seen_object s)
 
-pub copied_object : (m : CloneMode) (v : Json) (s new : Held Json) → v ≡ json.Object s
-    → HasUniquenessOfMode m (object_unique s) (object_unique new) (members_shared new) → HasUniquenessOfMode m (is_unique v) (is_unique (json.Object new)) (is_frozen (json.Object new))
+pub copied_object : (m : CloneMode) (v : Json) (s new : SortedMap Json) → v ≡ json.Object s
+    → HasUniquenessOfMode m (object_unique s) (object_unique new) (is_shared_map new) → HasUniquenessOfMode m (is_unique v) (is_unique (json.Object new)) (is_frozen (json.Object new))
 copied_object m v s new is h =
-    copied_by m (object_unique s) (object_unique new) (members_shared new) (is_unique v) (is_unique (json.Object new)) (is_frozen (json.Object new))
+    copied_by m (object_unique s) (object_unique new) (is_shared_map new) (is_unique v) (is_unique (json.Object new)) (is_frozen (json.Object new))
     (ap is_unique is ∙ owned_object s) (owned_object new) (pointer_object new) h
 
-pub made_view : (l new : ChunkedVec Json) (bs : List (Chunk Json)) → vec_chunks new ≡ bs → items_value (flat_map block_items bs) ≡ list_value l → list_value new ≡ list_value l
-made_view l new bs e h = ap (λ b. items_value (flat_map block_items b)) e ∙ h
+pub made_view : (l new : ChunkedVec Json) (bs : List (Chunk Json)) → vec_chunks new ≡ bs → items_value (flat_map items_of bs) ≡ list_value l → list_value new ≡ list_value l
+made_view l new bs e h = ap (λ b. items_value (flat_map items_of b)) e ∙ h
 
 -- ---- one more block, one more item
 
@@ -234,27 +234,27 @@ append_none : {A : Type 0} (xs : List A) → xs ++ [] ≡ xs
 append_none [] = refl
 append_none (x ∷ xs) = ap (λ l. x ∷ l) (append_none xs)
 
-flat_more : {X : Type 0} (bs : List (Chunk X)) (b : Chunk X) → flat_map block_items (bs ++ b ∷ []) ≡ flat_map block_items bs ++ block_items b
-flat_more [] b = append_none (block_items b)
-flat_more (c ∷ bs) b = ap (λ l. block_items c ++ l) (flat_more bs b) ∙ sym (append_assoc (block_items c) (flat_map block_items bs) (block_items b))
+flat_more : {X : Type 0} (bs : List (Chunk X)) (b : Chunk X) → flat_map items_of (bs ++ b ∷ []) ≡ flat_map items_of bs ++ items_of b
+flat_more [] b = append_none (items_of b)
+flat_more (c ∷ bs) b = ap (λ l. items_of c ++ l) (flat_more bs b) ∙ sym (append_assoc (items_of c) (flat_map items_of bs) (items_of b))
 
 -- of lists that V sees, and J joins
 module _ {X M : Type 0} (V : List X → M) (J : M → M → M) (join_of : (xs ys : List X) → V (xs ++ ys) ≡ J (V xs) (V ys)) where
-  pub blocks_more : (bs cs : List (Chunk X)) (b c : Chunk X) → V (flat_map block_items cs) ≡ V (flat_map block_items bs)
-      → V (block_items c) ≡ V (block_items b) → V (flat_map block_items (cs ++ c ∷ [])) ≡ V (flat_map block_items (bs ++ b ∷ []))
+  pub blocks_more : (bs cs : List (Chunk X)) (b c : Chunk X) → V (flat_map items_of cs) ≡ V (flat_map items_of bs)
+      → V (items_of c) ≡ V (items_of b) → V (flat_map items_of (cs ++ c ∷ [])) ≡ V (flat_map items_of (bs ++ b ∷ []))
   blocks_more bs cs b c e h =
-      ap V (flat_more cs c) ∙ join_of (flat_map block_items cs) (block_items c) ∙ ap (λ d. J d (V (block_items c))) e
-      ∙ ap (J (V (flat_map block_items bs))) h ∙ sym (ap V (flat_more bs b) ∙ join_of (flat_map block_items bs) (block_items b))
+      ap V (flat_more cs c) ∙ join_of (flat_map items_of cs) (items_of c) ∙ ap (λ d. J d (V (items_of c))) e
+      ∙ ap (J (V (flat_map items_of bs))) h ∙ sym (ap V (flat_more bs b) ∙ join_of (flat_map items_of bs) (items_of b))
 
   pub one_more : (xs ys : List X) (x y : X) → V ys ≡ V xs → V (y ∷ []) ≡ V (x ∷ []) → V (ys ++ y ∷ []) ≡ V (xs ++ x ∷ [])
   one_more xs ys x y e h = join_of ys (y ∷ []) ∙ ap (λ d. J d (V (y ∷ []))) e ∙ ap (J (V xs)) h ∙ sym (join_of xs (x ∷ []))
 
-pub items_more : (bs cs : List (Chunk Json)) (b c : Chunk Json) → items_value (flat_map block_items cs) ≡ items_value (flat_map block_items bs)
-    → items_value (block_items c) ≡ items_value (block_items b) → items_value (flat_map block_items (cs ++ c ∷ [])) ≡ items_value (flat_map block_items (bs ++ b ∷ []))
+pub items_more : (bs cs : List (Chunk Json)) (b c : Chunk Json) → items_value (flat_map items_of cs) ≡ items_value (flat_map items_of bs)
+    → items_value (items_of c) ≡ items_value (items_of b) → items_value (flat_map items_of (cs ++ c ∷ [])) ≡ items_value (flat_map items_of (bs ++ b ∷ []))
 items_more = blocks_more items_value append_items join_view
 
-pub entries_more : (bs cs : List (Chunk (MapEntry Json))) (b c : Chunk (MapEntry Json)) → entries_value (flat_map block_items cs) ≡ entries_value (flat_map block_items bs)
-    → entries_value (block_items c) ≡ entries_value (block_items b) → entries_value (flat_map block_items (cs ++ c ∷ [])) ≡ entries_value (flat_map block_items (bs ++ b ∷ []))
+pub entries_more : (bs cs : List (Chunk (MapEntry Json))) (b c : Chunk (MapEntry Json)) → entries_value (flat_map items_of cs) ≡ entries_value (flat_map items_of bs)
+    → entries_value (items_of c) ≡ entries_value (items_of b) → entries_value (flat_map items_of (cs ++ c ∷ [])) ≡ entries_value (flat_map items_of (bs ++ b ∷ []))
 entries_more = blocks_more entries_value join_members join_entries
 
 pub entry_more : (ms cs : List (MapEntry Json)) (m c : MapEntry Json) → entries_value cs ≡ entries_value ms → entries_value (c ∷ []) ≡ entries_value (m ∷ []) → entries_value (cs ++ c ∷ []) ≡ entries_value (ms ++ m ∷ [])
@@ -265,14 +265,14 @@ same_member m c e f = ap (λ t. member t (value_of c.value) no_members) e ∙ ap
 
 module _ {X : Type 0} (q : X → Bool) where
   pub blocks_copied_more : (m : CloneMode) (bs cs : List (Chunk X)) (b c : Chunk X) → HasUniquenessOfMode m (blocks_each q bs) (blocks_each q cs) (all_shared cs)
-      → HasUniquenessOfMode m (each_own q b) (each_own q c) (block_shared c)
+      → HasUniquenessOfMode m (each_own q b) (each_own q c) (is_chunk_shared c)
       → HasUniquenessOfMode m (blocks_each q (bs ++ b ∷ [])) (blocks_each q (cs ++ c ∷ [])) (all_shared (cs ++ c ∷ []))
   blocks_copied_more m bs cs b c h k =
-      copied_by m (cond (blocks_each q bs) (each_own q b) false) (cond (blocks_each q cs) (each_own q c) false) (cond (all_shared cs) (block_shared c) false)
+      copied_by m (cond (blocks_each q bs) (each_own q b) false) (cond (blocks_each q cs) (each_own q c) false) (cond (all_shared cs) (is_chunk_shared c) false)
       (blocks_each q (bs ++ b ∷ [])) (blocks_each q (cs ++ c ∷ [])) (all_shared (cs ++ c ∷ []))
       (ap all_true (map_append (each_own q) bs (b ∷ [])) ∙ all_more (map (each_own q) bs) (each_own q b))
       (ap all_true (map_append (each_own q) cs (c ∷ [])) ∙ all_more (map (each_own q) cs) (each_own q c)) (shared_more cs c)
-      (copied_more m (blocks_each q bs) (blocks_each q cs) (all_shared cs) (each_own q b) (each_own q c) (block_shared c) h k)
+      (copied_more m (blocks_each q bs) (blocks_each q cs) (all_shared cs) (each_own q b) (each_own q c) (is_chunk_shared c) h k)
 
   pub items_copied_more : (m : CloneMode) (vs cs : List X) (v c : X) (p : Bool) → HasUniquenessOfMode m (all_true (map q vs)) (all_true (map q cs)) true → HasUniquenessOfMode m (q v) (q c) p
       → HasUniquenessOfMode m (all_true (map q (vs ++ v ∷ []))) (all_true (map q (cs ++ c ∷ []))) true
@@ -302,7 +302,7 @@ ascending_viewed l m e h = subst IsAscending (sym (texts_viewed l m e)) h
 abbrev pub value_own : MapEntry Json → Bool
 value_own m = is_unique m.value
 
-pub members_again : (m new : Held Json) → map_entries new ≡ map_entries m → object_value new ≡ object_value m
+pub members_again : (m new : SortedMap Json) → map_entries new ≡ map_entries m → object_value new ≡ object_value m
 members_again m new e = ap members_value e
 
 pub view_more : (cs vs : List Json) (c v : Json) → map value_of cs ≡ map value_of vs → value_of c ≡ value_of v → map value_of (cs ++ c ∷ []) ≡ map value_of (vs ++ v ∷ [])

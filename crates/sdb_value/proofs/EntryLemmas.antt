@@ -11,7 +11,7 @@ use Rattle.sdb_sorted_map.specs.declared.map_entry.MapEntry.{MapEntry}
 use Rattle.sdb_chunks.specs.declared.chunked_vec.ChunkedVec.{ChunkedVec}
 use Rattle.sdb_sorted_map.specs.laws.SortedMapLaws.{compare_equal}
 use Rattle.sdb_sorted_map.specs.KeyOrder.{IsAboveAll, IsBelowAll, IsKeyIndex, IsInsertIndex}
-use Rattle.sdb_sorted_map.specs.declared.sorted_map.SortedMap.{SortedMap as Held}
+use Rattle.sdb_sorted_map.specs.declared.sorted_map.SortedMap.{SortedMap}
 use Rattle.sdb_value.specs.Change.{ReplacedAt, AbsentAt}
 use Rattle.sdb_value.specs.Value.{Value, list, object, Items, no_items, item, Members, no_members, member, PlainStep, key, index, item_at, member_at, set_item, set_member, value_at, with_value_at}
 use Rattle.sdb_value.specs.View.{value_of, entries_value, items_from_list, object_value, values_of_entries}
@@ -26,7 +26,7 @@ paired_view : (ms : List (MapEntry Json)) → entries_value ms ≡ members_of_pa
 paired_view [] = refl
 paired_view (m ∷ ms) = ap (member (entry_key m) (value_of m.value)) (paired_view ms)
 
-pub object_pairs : (m : Held Json) → object_value m ≡ members_of_pairs (map_keys m) (values_of_entries (map_chunks m))
+pub object_pairs : (m : SortedMap Json) → object_value m ≡ members_of_pairs (map_keys m) (values_of_entries (map_chunks m))
 object_pairs m = paired_view (vec_items (map_chunks m)) ∙ ap (λ ts. members_of_pairs ts (values_of_entries (map_chunks m))) (sym (vec_models_of_items entry_key (map_chunks m)))
 
 module _ (k : List ℕ) where
@@ -117,7 +117,7 @@ module _ {O E : Type 0} (r : Result (Option O) E) (R : O → Value → Value →
       result_cases (Ok (Some x)) h = changed_in k (R x) ts ds es i p f h
       result_cases (Err e) h = tt
 
-  told_pairs : (s new : Held Json) → map_keys new ≡ map_keys s → IsKeyIndex (map_keys s) k i
+  told_pairs : (s new : SortedMap Json) → map_keys new ≡ map_keys s → IsKeyIndex (map_keys s) k i
       → IfOk r (λ o. MatchOption o (AbsentAt (list (values_of_entries (map_chunks s))) (index i ∷ p) (list (values_of_entries (map_chunks new))))
       (λ x. ReplacedAt (R x) (list (values_of_entries (map_chunks s))) (index i ∷ p) (list (values_of_entries (map_chunks new)))))
       → IfOk r (λ o. MatchOption o (AbsentAt (object (object_value s)) (key k ∷ p) (object (object_value new)))
@@ -135,17 +135,17 @@ module _ {O E : Type 0} (r : Result (Option O) E) (R : O → Value → Value →
   PairsUpdated l n = IfOk r (λ o. MatchOption o (AbsentAt (list (values_of_entries l)) (index i ∷ p) (list (values_of_entries n)))
       (λ x. ReplacedAt (R x) (list (values_of_entries l)) (index i ∷ p) (list (values_of_entries n))))
 
-  pub told_members : (s new : Held Json) (l n : ChunkedVec (MapEntry Json)) → l ≡ map_chunks s → map_chunks new ≡ n → vec_keys n ≡ vec_keys l → IsKeyIndex (map_keys s) k i
+  pub told_members : (s new : SortedMap Json) (l n : ChunkedVec (MapEntry Json)) → l ≡ map_chunks s → map_chunks new ≡ n → vec_keys n ≡ vec_keys l → IsKeyIndex (map_keys s) k i
       → PairsUpdated l n → IfOk r (λ o. MatchOption o (AbsentAt (object (object_value s)) (key k ∷ p) (object (object_value new)))
       (λ x. ReplacedAt (R x) (object (object_value s)) (key k ∷ p) (object (object_value new))))
   told_members s new l n a b e f h =
       told_pairs s new (ap vec_keys b ∙ e ∙ ap vec_keys a) f (subst (λ x. PairsUpdated x (map_chunks new)) a (subst (PairsUpdated l) (sym b) h))
 
-pub key_missing : (s : Held Json) (k : List ℕ) (i : ℕ) (p : List PlainStep) → IsInsertIndex (map_keys s) k i
+pub key_missing : (s : SortedMap Json) (k : List ℕ) (i : ℕ) (p : List PlainStep) → IsInsertIndex (map_keys s) k i
     → AbsentAt (object (object_value s)) (key k ∷ p) (object (object_value s))
 key_missing s k i p g =
     subst (λ ms. AbsentAt (object ms) (key k ∷ p) (object ms)) (sym (object_pairs s)) (nothing_there k (map_keys s) (values_of_entries (map_chunks s)) i p g)
 
-pub same_object : (s new : Held Json) → map_keys new ≡ map_keys s → values_of_entries (map_chunks new) ≡ values_of_entries (map_chunks s) → object_value new ≡ object_value s
+pub same_object : (s new : SortedMap Json) → map_keys new ≡ map_keys s → values_of_entries (map_chunks new) ≡ values_of_entries (map_chunks s) → object_value new ≡ object_value s
 same_object s new k v =
     object_pairs new ∙ ap (λ ts. members_of_pairs ts (values_of_entries (map_chunks new))) k ∙ ap (members_of_pairs (map_keys s)) v ∙ sym (object_pairs s)

@@ -2,7 +2,7 @@
 use Rattle.std.proofs.Common.{◌≡◌, ℕ, zero, suc, ◌+◌, ◌≤◌, ◌<◌, List, [], ◌∷◌, ◌++◌, length, map, get_or, set, refl, sym, ap, ◌∙◌, append_assoc, arith}
 use Rattle.std.proofs.lemmas.List.{get_or-map, map-set, set-get_or}
 use Rattle.std.specs.List.{flat_map}
-use Rattle.sdb_chunks.specs.Chunk.{items_of as block_items}
+use Rattle.sdb_chunks.specs.Chunk.{items_of}
 use Rattle.sdb_chunks.specs.ChunkGroup.{group_chunks}
 use Rattle.sdb_chunks.specs.laws.ChunkLaws.{vec_models_of_items}
 use Rattle.sdb_chunks.specs.ChunkedVec.{vec_items, repr_models}
@@ -37,13 +37,13 @@ same_part f (z ∷ xs) (suc k) x y h is e =
 
 -- ---- the items of groups are those of their blocks
 
-flat_append : {X : Type 0} (bs cs : List (Chunk X)) → flat_map block_items (bs ++ cs) ≡ flat_map block_items bs ++ flat_map block_items cs
+flat_append : {X : Type 0} (bs cs : List (Chunk X)) → flat_map items_of (bs ++ cs) ≡ flat_map items_of bs ++ flat_map items_of cs
 flat_append [] cs = refl
-flat_append (b ∷ bs) cs = ap (λ l. block_items b ++ l) (flat_append bs cs) ∙ sym (append_assoc (block_items b) (flat_map block_items bs) (flat_map block_items cs))
+flat_append (b ∷ bs) cs = ap (λ l. items_of b ++ l) (flat_append bs cs) ∙ sym (append_assoc (items_of b) (flat_map items_of bs) (flat_map items_of cs))
 
-pub group_parts : {X : Type 0} (gs : List (ChunkGroup X)) → flat_map block_items (flat_map group_chunks gs) ≡ flat_map (λ g. flat_map block_items (group_chunks g)) gs
+pub group_parts : {X : Type 0} (gs : List (ChunkGroup X)) → flat_map items_of (flat_map group_chunks gs) ≡ flat_map (λ g. flat_map items_of (group_chunks g)) gs
 group_parts [] = refl
-group_parts (g ∷ gs) = flat_append (group_chunks g) (flat_map group_chunks gs) ∙ ap (λ l. flat_map block_items (group_chunks g) ++ l) (group_parts gs)
+group_parts (g ∷ gs) = flat_append (group_chunks g) (flat_map group_chunks gs) ∙ ap (λ l. flat_map items_of (group_chunks g) ++ l) (group_parts gs)
 
 -- ---- a list whose items are seen the same
 

@@ -9,10 +9,10 @@ use Rattle.sdb_chunks.specs.ChunkedVec.{vec_models, is_unique_vec, vec_items}
 use Rattle.sdb_chunks.specs.declared.chunked_vec.ChunkedVec.{ChunkedVec}
 use Rattle.sdb_sorted_map.specs.laws.SortedMapLaws.{map_models_of_entries}
 use Rattle.sdb_sorted_map.specs.MapEntry.{entry_model}
-use Rattle.sdb_sorted_map.specs.SortedMap.{map_entries, map_entry_models, is_unique_map as members_own, map_chunks}
+use Rattle.sdb_sorted_map.specs.SortedMap.{map_entries, map_entry_models, is_unique_map, map_chunks}
 use Rattle.sdb_sorted_map.specs.declared.map_entry.MapEntry.{MapEntry}
 use Rattle.sdb_sorted_map.specs.KeyOrder.{compare_bytes}
-use Rattle.sdb_sorted_map.specs.declared.sorted_map.SortedMap.{SortedMap as Held}
+use Rattle.sdb_sorted_map.specs.declared.sorted_map.SortedMap.{SortedMap}
 use Rattle.sdb_value.specs.Uniqueness.{all_true, entries_unique, is_unique, object_unique, value_model, members_unique}
 use Rattle.sdb_value.specs.Value.{Value, Members, member, member_at, put_member, without_member}
 use Rattle.sdb_value.specs.View.{value_of, members_from_list, members_value, object_value}
@@ -29,7 +29,7 @@ models_view : (es : List (List ℕ × Json)) → values_of (map (λ (e : List �
 models_view [] = refl
 models_view (e ∷ es) = ap (member e.0 (value_of e.1)) (models_view es)
 
-pub object_seen : (m : Held Json) → object_value m ≡ values_of (map_entry_models value_model m)
+pub object_seen : (m : SortedMap Json) → object_value m ≡ values_of (map_entry_models value_model m)
 object_seen m = sym (ap values_of (map_models_of_entries value_model m) ∙ models_view (map_entries m))
 
 match_values : (o : Ordering) (a b c : List EntryModels) → values_of (match_ordering o a b c) ≡ match_ordering o (values_of a) (values_of b) (values_of c)
@@ -60,21 +60,21 @@ lookup_values : (k : List ℕ) (es : List EntryModels) → option_map (λ t. t.0
 lookup_values k [] = refl
 lookup_values k (e ∷ es) = found_or (is_eq (compare_bytes k e.0)) e.1 _ _ (lookup_values k es)
 
-pub object_put : (m n : Held Json) (k : List ℕ) (v : Json) → map_entry_models value_model n ≡ insert_entry compare_bytes (map_entry_models value_model m) k (value_model v)
+pub object_put : (m n : SortedMap Json) (k : List ℕ) (v : Json) → map_entry_models value_model n ≡ insert_entry compare_bytes (map_entry_models value_model m) k (value_model v)
     → object_value n ≡ put_member k (value_of v) (object_value m)
 object_put m n k v e = object_seen n ∙ ap values_of e ∙ put_values (map_entry_models value_model m) k (value_model v) ∙ ap (put_member k (value_of v)) (sym (object_seen m))
 
-pub object_without : (m n : Held Json) (k : List ℕ) → map_entry_models value_model n ≡ remove_entry (is_at (compare_bytes k)) (map_entry_models value_model m)
+pub object_without : (m n : SortedMap Json) (k : List ℕ) → map_entry_models value_model n ≡ remove_entry (is_at (compare_bytes k)) (map_entry_models value_model m)
     → object_value n ≡ without_member k (object_value m)
 object_without m n k e = object_seen n ∙ ap values_of e ∙ without_values k (map_entry_models value_model m) ∙ ap (without_member k) (sym (object_seen m))
 
-pub object_kept : (m n : Held Json) → map_entry_models value_model n ≡ map_entry_models value_model m → object_value n ≡ object_value m
+pub object_kept : (m n : SortedMap Json) → map_entry_models value_model n ≡ map_entry_models value_model m → object_value n ≡ object_value m
 object_kept m n e = object_seen n ∙ ap values_of e ∙ sym (object_seen m)
 
-pub object_absent : (m : Held Json) (k : List ℕ) → lookup (is_at (compare_bytes k)) (map_entry_models value_model m) ≡ None → member_at k (object_value m) ≡ None
+pub object_absent : (m : SortedMap Json) (k : List ℕ) → lookup (is_at (compare_bytes k)) (map_entry_models value_model m) ≡ None → member_at k (object_value m) ≡ None
 object_absent m k e = ap (member_at k) (object_seen m) ∙ sym (lookup_values k (map_entry_models value_model m)) ∙ ap (option_map (λ t. t.0)) e
 
-pub object_found : {B : Type 0} (r : Option B) (n : B → Json) (m : Held Json) (k : List ℕ) → option_map (λ x. value_model (n x)) r ≡ lookup (is_at (compare_bytes k)) (map_entry_models value_model m)
+pub object_found : {B : Type 0} (r : Option B) (n : B → Json) (m : SortedMap Json) (k : List ℕ) → option_map (λ x. value_model (n x)) r ≡ lookup (is_at (compare_bytes k)) (map_entry_models value_model m)
     → option_map (λ x. value_of (n x)) r ≡ member_at k (object_value m)
 object_found r n m k e =
     lookup_twice r n ∙ ap (option_map (λ t. t.0)) e ∙ lookup_values k (map_entry_models value_model m) ∙ ap (member_at k) (sym (object_seen m))
@@ -139,14 +139,14 @@ own_taken (d ∷ es) k h =
     own_or (is_eq (compare_bytes k d.0)) d es (remove_entry (is_at (compare_bytes k)) es) h (own_taken es k (both_second d.1.1 (all_true (model_unique es)) h))
 
 -- one that is put in or taken out, or nothing where memory is wanting
-pub own_inserted : {O E : Type 0} (r : Result O E) (m n : Held Json) (k : List ℕ) (v : Json) → OnOk r (map_entry_models value_model n ≡ insert_entry compare_bytes (map_entry_models value_model m) k (value_model v))
-    → OnErr r (map_entry_models value_model n ≡ map_entry_models value_model m) → (members_own m ≡ true → members_own n ≡ true) → object_unique m ≡ true → is_unique v ≡ true → object_unique n ≡ true
+pub own_inserted : {O E : Type 0} (r : Result O E) (m n : SortedMap Json) (k : List ℕ) (v : Json) → OnOk r (map_entry_models value_model n ≡ insert_entry compare_bytes (map_entry_models value_model m) k (value_model v))
+    → OnErr r (map_entry_models value_model n ≡ map_entry_models value_model m) → (is_unique_map m ≡ true → is_unique_map n ≡ true) → object_unique m ≡ true → is_unique v ≡ true → object_unique n ≡ true
 own_inserted (Ok x) m n k v p e keeps own new =
     own_kept (map_chunks m) (map_chunks n) keeps (λ all. ap (λ es. all_true (model_unique es)) p ∙ own_put (map_entry_models value_model m) k (value_model v) all new) own
 own_inserted (Err x) m n k v p e keeps own new = own_kept (map_chunks m) (map_chunks n) keeps (λ all. ap (λ es. all_true (model_unique es)) e ∙ all) own
 
-pub own_removed : {O E : Type 0} (r : Result O E) (m n : Held Json) (k : List ℕ) → OnOk r (map_entry_models value_model n ≡ remove_entry (is_at (compare_bytes k)) (map_entry_models value_model m))
-    → OnErr r (map_entry_models value_model n ≡ map_entry_models value_model m) → (members_own m ≡ true → members_own n ≡ true) → object_unique m ≡ true → object_unique n ≡ true
+pub own_removed : {O E : Type 0} (r : Result O E) (m n : SortedMap Json) (k : List ℕ) → OnOk r (map_entry_models value_model n ≡ remove_entry (is_at (compare_bytes k)) (map_entry_models value_model m))
+    → OnErr r (map_entry_models value_model n ≡ map_entry_models value_model m) → (is_unique_map m ≡ true → is_unique_map n ≡ true) → object_unique m ≡ true → object_unique n ≡ true
 own_removed (Ok x) m n k p e keeps own =
     own_kept (map_chunks m) (map_chunks n) keeps (λ all. ap (λ es. all_true (model_unique es)) p ∙ own_taken (map_entry_models value_model m) k all) own
 own_removed (Err x) m n k p e keeps own = own_kept (map_chunks m) (map_chunks n) keeps (λ all. ap (λ es. all_true (model_unique es)) e ∙ all) own
@@ -156,8 +156,8 @@ contrapositive true b h e = let t : b ≡ true = h refl in cc
 contrapositive false b h e = refl
 
 -- where something of the list of members is shared, the object isn't its owner's own
-pub not_held : (m : Held Json) → members_own m ≡ false → object_unique m ≡ false
-not_held m h = contrapositive (object_unique m) (members_own m) (both_first (members_own m) (members_unique (vec_items (map_chunks m)))) h
+pub not_held : (m : SortedMap Json) → is_unique_map m ≡ false → object_unique m ≡ false
+not_held m h = contrapositive (object_unique m) (is_unique_map m) (both_first (is_unique_map m) (members_unique (vec_items (map_chunks m)))) h
 
 -- the value of a key of an object that is its own
 own_either : (b : Bool) (d s : Value × Bool) (o : Option (Value × Bool)) → d.1 ≡ true → (o ≡ Some s → s.1 ≡ true) → cond b (Some d) o ≡ Some s → s.1 ≡ true
@@ -170,9 +170,9 @@ own_looked k (d ∷ es) s h e =
     own_either (is_eq (compare_bytes k d.0)) d.1 s (lookup (is_at (compare_bytes k)) es) (both_first d.1.1 (all_true (model_unique es)) h)
     (own_looked k es s (both_second d.1.1 (all_true (model_unique es)) h)) e
 
-pub own_found : {B : Type 0} (r : Option B) (n : B → Json) (m : Held Json) (k : List ℕ) → option_map (λ x. value_model (n x)) r ≡ lookup (is_at (compare_bytes k)) (map_entry_models value_model m)
+pub own_found : {B : Type 0} (r : Option B) (n : B → Json) (m : SortedMap Json) (k : List ℕ) → option_map (λ x. value_model (n x)) r ≡ lookup (is_at (compare_bytes k)) (map_entry_models value_model m)
     → object_unique m ≡ true → IfSome r (λ x. is_unique (n x) ≡ true)
 own_found None n m k e own = tt
 own_found (Some x) n m k e own =
     own_looked k (map_entry_models value_model m) (value_model (n x))
-    (both_second (members_own m) (all_true (model_unique (map_entry_models value_model m))) (sym (entries_owns (map_chunks m)) ∙ own)) (sym e)
+    (both_second (is_unique_map m) (all_true (model_unique (map_entry_models value_model m))) (sym (entries_owns (map_chunks m)) ∙ own)) (sym e)

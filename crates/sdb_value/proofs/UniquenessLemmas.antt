@@ -2,7 +2,7 @@
 use Rattle.std.proofs.Common.{◌≡◌, List, [], ◌∷◌, ◌++◌, map, Bool, true, false, cond, Vec, Global, refl, ap, ◌∙◌, rules}
 use Rattle.std.specs.declared.sync.Arc.{Arc}
 use Rattle.std.specs.List.{flat_map}
-use Rattle.sdb_chunks.specs.Chunk.{items_of as block_items, is_chunk_unique as block_own}
+use Rattle.sdb_chunks.specs.Chunk.{items_of, is_chunk_unique}
 use Rattle.sdb_chunks.specs.laws.ChunkLaws.{vec_models_of_items}
 use Rattle.sdb_chunks.specs.ChunkedVec.{vec_models, all_unique, is_unique_repr, is_unique_vec, is_shared_vec, is_shared_repr, vec_chunks, vec_items, vec_chunk_items}
 use Rattle.sdb_chunks.specs.declared.chunk.Chunk.{Chunk}
@@ -13,10 +13,10 @@ use Rattle.sdb_chunks.specs.declared.chunked_vec.ChunkedVec.{ChunkedVec}
 use mathlib.Core.Former.{this}
 use Rattle.sdb_sorted_map.specs.formers.sorted_map.SortedMap.{member_former, pieces_former}
 use Rattle.sdb_sorted_map.specs.MapEntry.{entry_model}
-use Rattle.sdb_sorted_map.specs.SortedMap.{map_entry_models, is_unique_map as members_own, is_shared_map as members_shared, map_chunks}
+use Rattle.sdb_sorted_map.specs.SortedMap.{map_entry_models, is_unique_map, is_shared_map, map_chunks}
 use Rattle.sdb_sorted_map.specs.declared.map_entry.MapEntry.{MapEntry}
-use Rattle.sdb_sorted_map.specs.declared.sorted_map.SortedMap.{SortedMap as Held}
-use Rattle.sdb_rope.specs.Rope.{is_unique_rope as text_own}
+use Rattle.sdb_sorted_map.specs.declared.sorted_map.SortedMap.{SortedMap}
+use Rattle.sdb_rope.specs.Rope.{is_unique_rope}
 use Rattle.sdb_rope.specs.declared.rope.Rope.{Rope}
 use Rattle.sdb_value.specs.Uniqueness.{all_true, is_unique, is_frozen, list_unique, object_unique}
 use Rattle.sdb_value.specs.declared.value.Json.{Json, the_lemmas}
@@ -25,8 +25,8 @@ use Rattle.sdb_value.proofs.ViewLemmas.{former_seen, former_entries, map_members
 
 -- ---- through the fold
 
-all_own_once : {X Y : Type 0} (g : Chunk X → Chunk Y) (bs : List (Chunk X)) → ((v : Vec X Global) → block_own (g (Unique v)) ≡ true)
-    → ((a : Arc (Vec X Global) Global) → block_own (g (Shared a)) ≡ false) → all_unique (map g bs) ≡ all_unique bs
+all_own_once : {X Y : Type 0} (g : Chunk X → Chunk Y) (bs : List (Chunk X)) → ((v : Vec X Global) → is_chunk_unique (g (Unique v)) ≡ true)
+    → ((a : Arc (Vec X Global) Global) → is_chunk_unique (g (Shared a)) ≡ false) → all_unique (map g bs) ≡ all_unique bs
 all_own_once g [] h k = refl
 all_own_once g (Unique v ∷ bs) h k = ap (λ x. cond x (all_unique (map g bs)) false) (h v) ∙ all_own_once g bs h k
 all_own_once g (Shared a ∷ bs) h k = ap (λ x. cond x (all_unique (map g bs)) false) (k a)
@@ -69,7 +69,7 @@ pointer_list l = search (rules, the_lemmas, former_shared)
 pub owned_null : is_unique json.Null ≡ true
 owned_null = search (rules, the_lemmas)
 
-pub owned_text : (t : Rope) → is_unique (json.Text t) ≡ text_own t
+pub owned_text : (t : Rope) → is_unique (json.Text t) ≡ is_unique_rope t
 owned_text t = search (rules, the_lemmas)
 
 own_entries : {X Y : Type 0} (f : X → Y) (w : Repr (MapEntry X)) → is_unique_vec ((pieces_former (member_former this)).map X Y f (record { repr = w })) ≡ is_unique_repr w
@@ -87,32 +87,32 @@ shared_entries f (Chunks (Shared a)) = refl
 shared_entries f (Groups (Unique v)) = refl
 shared_entries f (Groups (Shared a)) = refl
 
-mapped_own : {X Y : Type 0} (f : X → Y) (m : Held X) → members_own (map_members f m) ≡ members_own m
+mapped_own : {X Y : Type 0} (f : X → Y) (m : SortedMap X) → is_unique_map (map_members f m) ≡ is_unique_map m
 mapped_own f m = own_entries f (map_chunks m).repr
 
-mapped_shared : {X Y : Type 0} (f : X → Y) (m : Held X) → members_shared (map_members f m) ≡ members_shared m
+mapped_shared : {X Y : Type 0} (f : X → Y) (m : SortedMap X) → is_shared_map (map_members f m) ≡ is_shared_map m
 mapped_shared f m = shared_entries f (map_chunks m).repr
 
 own_each : (ms : List (MapEntry Json)) → map (λ e. e.1) (map (entry_model is_unique) ms) ≡ map (λ m. is_unique m.value) ms
 own_each [] = refl
 own_each (m ∷ ms) = ap (λ l. is_unique m.value ∷ l) (own_each ms)
 
-pub owned_object : (m : Held Json) → is_unique (json.Object m) ≡ object_unique m
+pub owned_object : (m : SortedMap Json) → is_unique (json.Object m) ≡ object_unique m
 owned_object m =
     let n = map_members is_unique m in
-    let e : is_unique (json.Object m) ≡ cond (members_own n) (all_true (map (λ e. e.1) (map_entry_models (λ b. b) n))) false = search (rules, the_lemmas) in
+    let e : is_unique (json.Object m) ≡ cond (is_unique_map n) (all_true (map (λ e. e.1) (map_entry_models (λ b. b) n))) false = search (rules, the_lemmas) in
     e ∙ ap (λ b. cond b (all_true (map (λ e. e.1) (map_entry_models (λ b. b) n))) false) (mapped_own is_unique m)
-    ∙ ap (λ es. cond (members_own m) (all_true (map (λ e. e.1) es)) false) (former_entries is_unique m ∙ vec_models_of_items (entry_model is_unique) (map_chunks m))
-    ∙ ap (λ bs. cond (members_own m) (all_true bs) false) (own_each (vec_items (map_chunks m)))
+    ∙ ap (λ es. cond (is_unique_map m) (all_true (map (λ e. e.1) es)) false) (former_entries is_unique m ∙ vec_models_of_items (entry_model is_unique) (map_chunks m))
+    ∙ ap (λ bs. cond (is_unique_map m) (all_true bs) false) (own_each (vec_items (map_chunks m)))
 
-pub pointer_object : (m : Held Json) → is_frozen (json.Object m) ≡ members_shared m
+pub pointer_object : (m : SortedMap Json) → is_frozen (json.Object m) ≡ is_shared_map m
 pointer_object m = search (rules, the_lemmas, mapped_shared)
 
 -- ---- blocks
 
-flat_blocks : {X : Type 0} (bs : List (Chunk X)) → flat_map block_items bs ≡ flat_map (λ xs. xs) (map block_items bs)
+flat_blocks : {X : Type 0} (bs : List (Chunk X)) → flat_map items_of bs ≡ flat_map (λ xs. xs) (map items_of bs)
 flat_blocks [] = refl
-flat_blocks (b ∷ bs) = ap (λ l. block_items b ++ l) (flat_blocks bs)
+flat_blocks (b ∷ bs) = ap (λ l. items_of b ++ l) (flat_blocks bs)
 
 pub items_parts : {X : Type 0} (l : ChunkedVec X) → vec_items l ≡ flat_map (λ xs. xs) (vec_chunk_items l)
 items_parts l = flat_blocks (vec_chunks l)

@@ -3,7 +3,7 @@ use Rattle.std.proofs.Common.{◌≡◌, ℕ, zero, suc, ◌<◌, List, [], ◌�
 use Rattle.std.specs.declared.sync.Arc.{Arc}
 use Rattle.std.specs.Map.{keys_of}
 use Rattle.std.specs.List.{AllByRecursion, flat_map}
-use Rattle.sdb_chunks.specs.Chunk.{items_of as block_items}
+use Rattle.sdb_chunks.specs.Chunk.{items_of}
 use mathlib.Core.Former.{this}
 use Rattle.sdb_chunks.specs.formers.chunk_group.ChunkGroup.{the_former}
 use Rattle.sdb_chunks.specs.laws.ChunkLaws.{vec_models_of_items}
@@ -20,7 +20,7 @@ use Rattle.sdb_sorted_map.specs.laws.SortedMapLaws.{map_models_of_entries}
 use Rattle.sdb_sorted_map.specs.MapEntry.{entry_model}
 use Rattle.sdb_sorted_map.specs.SortedMap.{map_entry_models, map_chunks}
 use Rattle.sdb_sorted_map.specs.declared.map_entry.MapEntry.{MapEntry}
-use Rattle.sdb_sorted_map.specs.declared.sorted_map.SortedMap.{SortedMap as Held}
+use Rattle.sdb_sorted_map.specs.declared.sorted_map.SortedMap.{SortedMap}
 use Rattle.sdb_value.specs.Value.{Value, null, list, object, member, item_at, Members}
 use Rattle.sdb_value.specs.View.{value_of, items_from_list, members_from_list, items_value, map_value, list_value, object_value}
 use Rattle.sdb_value.specs.declared.value.Json.{Json, the_lemmas}
@@ -36,8 +36,8 @@ map_once f [] = refl
 map_once f (x ∷ xs) = ap (λ l. f x ∷ l) (map_once f xs)
 
 blocks_once : {X Y : Type 0} (f : X → Y) (g : Chunk X → Chunk Y) (bs : List (Chunk X))
-    → ((v : Vec X Global) → map (λ d. d) (block_items (g (Unique v))) ≡ map f v.items)
-    → ((a : Arc (Vec X Global) Global) → map (λ d. d) (block_items (g (Shared a))) ≡ map f a.value.items)
+    → ((v : Vec X Global) → map (λ d. d) (items_of (g (Unique v))) ≡ map f v.items)
+    → ((a : Arc (Vec X Global) Global) → map (λ d. d) (items_of (g (Shared a))) ≡ map f a.value.items)
     → flatten_models (λ d. d) (map g bs) ≡ flatten_models f bs
 blocks_once f g [] h k = refl
 blocks_once f g (Unique v ∷ bs) h k = ap (λ l. l ++ flatten_models (λ d. d) (map g bs)) (h v) ∙ ap (λ l. map f v.items ++ l) (blocks_once f g bs h k)
@@ -48,8 +48,8 @@ groups_once : {X Y : Type 0} (f : X → Y) (g : ChunkGroup X → ChunkGroup Y) (
 groups_once f g [] h = refl
 groups_once f g (x ∷ gs) h = ap (λ l. l ++ flatten_group_models (λ d. d) (map g gs)) (h x) ∙ ap (λ l. group_models f x ++ l) (groups_once f g gs h)
 
-group_once : {X Y : Type 0} (f : X → Y) (n : ℕ) (bs : Chunk (Chunk X)) (e : n ≡ length (flat_map block_items (block_items bs)))
-    → group_models (λ d. d) ((the_former this).map X Y f (record { count = n; blocks = bs; count_is_sum = e })) ≡ flatten_models f (block_items bs)
+group_once : {X Y : Type 0} (f : X → Y) (n : ℕ) (bs : Chunk (Chunk X)) (e : n ≡ length (flat_map items_of (items_of bs)))
+    → group_models (λ d. d) ((the_former this).map X Y f (record { count = n; blocks = bs; count_is_sum = e })) ≡ flatten_models f (items_of bs)
 group_once f n (Unique v) e = blocks_once f _ v.items (λ w. map_once f w.items) (λ w. map_once f w.value.items)
 group_once f n (Shared a) e = blocks_once f _ a.value.items (λ w. map_once f w.items) (λ w. map_once f w.value.items)
 
@@ -73,7 +73,7 @@ seen_list l = let e : value_of (json.List l) ≡ list (items_from_list (vec_mode
     e ∙ ap (λ ds. list (items_from_list ds)) (vec_models_of_items value_of l)
 
 -- members, each value mapped
-abbrev pub map_members : {X Y : Type 0} → (X → Y) → Held X → Held Y
+abbrev pub map_members : {X Y : Type 0} → (X → Y) → SortedMap X → SortedMap Y
 map_members {X} {Y} f m = (json.TheShapes.former-Json-Object-0).map X Y f m
 
 abbrev on_member : {X Y : Type 0} → (X → Y) → MapEntry X → MapEntry Y
@@ -87,8 +87,8 @@ members_once f [] = refl
 members_once f (m ∷ ms) = ap (λ l. entry_model f m ∷ l) (members_once f ms)
 
 parts_once : {X Y : Type 0} (f : X → Y) (g : Chunk (MapEntry X) → Chunk (MapEntry Y)) (bs : List (Chunk (MapEntry X)))
-    → ((v : Vec (MapEntry X) Global) → map (entry_model (λ d. d)) (block_items (g (Unique v))) ≡ map (entry_model f) v.items)
-    → ((a : Arc (Vec (MapEntry X) Global) Global) → map (entry_model (λ d. d)) (block_items (g (Shared a))) ≡ map (entry_model f) a.value.items)
+    → ((v : Vec (MapEntry X) Global) → map (entry_model (λ d. d)) (items_of (g (Unique v))) ≡ map (entry_model f) v.items)
+    → ((a : Arc (Vec (MapEntry X) Global) Global) → map (entry_model (λ d. d)) (items_of (g (Shared a))) ≡ map (entry_model f) a.value.items)
     → flatten_models (entry_model (λ d. d)) (map g bs) ≡ flatten_models (entry_model f) bs
 parts_once f g [] h k = refl
 parts_once f g (Unique v ∷ bs) h k = ap (λ l. l ++ flatten_models (entry_model (λ d. d)) (map g bs)) (h v) ∙ ap (λ l. map (entry_model f) v.items ++ l) (parts_once f g bs h k)
@@ -101,8 +101,8 @@ grouped_once : {X Y : Type 0} (f : X → Y) (g : ChunkGroup (MapEntry X) → Chu
 grouped_once f g [] h = refl
 grouped_once f g (x ∷ gs) h = ap (λ l. l ++ flatten_group_models (entry_model (λ d. d)) (map g gs)) (h x) ∙ ap (λ l. group_models (entry_model f) x ++ l) (grouped_once f g gs h)
 
-member_group : {X Y : Type 0} (f : X → Y) (n : ℕ) (bs : Chunk (Chunk (MapEntry X))) (e : n ≡ length (flat_map block_items (block_items bs)))
-    → group_models (entry_model (λ d. d)) ((the_former (member_former this)).map X Y f (record { count = n; blocks = bs; count_is_sum = e })) ≡ flatten_models (entry_model f) (block_items bs)
+member_group : {X Y : Type 0} (f : X → Y) (n : ℕ) (bs : Chunk (Chunk (MapEntry X))) (e : n ≡ length (flat_map items_of (items_of bs)))
+    → group_models (entry_model (λ d. d)) ((the_former (member_former this)).map X Y f (record { count = n; blocks = bs; count_is_sum = e })) ≡ flatten_models (entry_model f) (items_of bs)
 member_group f n (Unique v) e = parts_once f _ v.items (λ w. members_once f w.items) (λ w. members_once f w.value.items)
 member_group f n (Shared a) e = parts_once f _ a.value.items (λ w. members_once f w.items) (λ w. members_once f w.value.items)
 
@@ -114,10 +114,10 @@ entries_once f (Chunks (Shared a)) = parts_once f _ a.value.items (λ w. members
 entries_once f (Groups (Unique v)) = grouped_once f _ v.items (λ g. member_group f g.count g.blocks g.count_is_sum)
 entries_once f (Groups (Shared a)) = grouped_once f _ a.value.items (λ g. member_group f g.count g.blocks g.count_is_sum)
 
-pub former_entries : {X Y : Type 0} (f : X → Y) (m : Held X) → map_entry_models (λ d. d) (map_members f m) ≡ map_entry_models f m
+pub former_entries : {X Y : Type 0} (f : X → Y) (m : SortedMap X) → map_entry_models (λ d. d) (map_members f m) ≡ map_entry_models f m
 former_entries f m = entries_once f (map_chunks m).repr
 
-pub seen_object : (m : Held Json) → value_of (json.Object m) ≡ object (object_value m)
+pub seen_object : (m : SortedMap Json) → value_of (json.Object m) ≡ object (object_value m)
 seen_object m = let e : value_of (json.Object m) ≡ object (members_from_list (map_entry_models value_of m)) = search (rules, the_lemmas, former_entries) in
     e ∙ ap (λ es. object (members_from_list es)) (map_models_of_entries value_of m)
 
@@ -125,7 +125,7 @@ seen_object m = let e : value_of (json.Object m) ≡ object (members_from_list (
 pub is_list : (v : Json) (l : ChunkedVec Json) → v ≡ json.List l → value_of v ≡ list (list_value l)
 is_list v l e = ap value_of e ∙ seen_list l
 
-pub is_object : (v : Json) (m : Held Json) → v ≡ json.Object m → value_of v ≡ object (object_value m)
+pub is_object : (v : Json) (m : SortedMap Json) → v ≡ json.Object m → value_of v ≡ object (object_value m)
 is_object v m e = ap value_of e ∙ seen_object m
 
 found_or : (b : Bool) (v : Json) (rest : Option Json) (d : Option Value) → option_map value_of rest ≡ d → option_map value_of (cond b (Some v) rest) ≡ cond b (Some (value_of v)) d

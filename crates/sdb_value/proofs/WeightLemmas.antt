@@ -1,7 +1,7 @@
 -- How much there is of a value: what a walk through it goes down by.
 use Rattle.std.proofs.Common.{◌≡◌, ℕ, zero, suc, ◌+◌, ◌≤◌, ◌<◌, List, [], ◌∷◌, ◌++◌, length, get_or, map, refl, ap, ◌∙◌, arith, rules}
 use Rattle.std.specs.List.{flat_map}
-use Rattle.sdb_chunks.specs.Chunk.{items_of as block_items}
+use Rattle.sdb_chunks.specs.Chunk.{items_of}
 use Rattle.sdb_chunks.specs.declared.chunk.Chunk.{Chunk}
 use Rattle.sdb_chunks.specs.laws.ChunkLaws.{vec_models_of_items}
 use Rattle.sdb_chunks.specs.ChunkedVec.{vec_models, vec_items}
@@ -9,7 +9,7 @@ use Rattle.sdb_sorted_map.specs.MapEntry.{key_value, entry_model}
 use Rattle.sdb_sorted_map.specs.SortedMap.{map_entries, map_entry_models, map_chunks}
 use Rattle.sdb_sorted_map.specs.declared.map_entry.MapEntry.{MapEntry}
 use Rattle.sdb_chunks.specs.declared.chunked_vec.ChunkedVec.{ChunkedVec}
-use Rattle.sdb_sorted_map.specs.declared.sorted_map.SortedMap.{SortedMap as Held}
+use Rattle.sdb_sorted_map.specs.declared.sorted_map.SortedMap.{SortedMap}
 use Rattle.sdb_value.specs.declared.value.Json.{Json, fold-Json, the_lemmas}
 use Rattle.sdb_value.specs.declared.value.Json as json
 use Rattle.sdb_value.specs.declared.value.Json.TheOpen.{Json-F}
@@ -51,7 +51,7 @@ weights_each : (ms : List (MapEntry Json)) → sum_of_list (map (λ e. e.1) (map
 weights_each [] = refl
 weights_each (m ∷ ms) = ap (λ n. term_weight m.value + n) (weights_each ms)
 
-pub weigh_object : (m : Held Json) → term_weight (json.Object m) ≡ suc (suc (members_weight (map_entries m)))
+pub weigh_object : (m : SortedMap Json) → term_weight (json.Object m) ≡ suc (suc (members_weight (map_entries m)))
 weigh_object m =
     let e : term_weight (json.Object m) ≡ suc (suc (sum_of_list (map (λ e. e.1) (map_entry_models (λ n. n) (map_members term_weight m))))) = search (rules, the_lemmas) in
     e ∙ ap (λ es. suc (suc (sum_of_list (map (λ e. e.1) es)))) (former_entries term_weight m ∙ vec_models_of_items (entry_model term_weight) (map_chunks m))
@@ -73,16 +73,16 @@ weights_join : (vs ws : List Json) → term_weights (vs ++ ws) ≡ term_weights 
 weights_join [] ws = omega arith
 weights_join (v ∷ vs) ws = let rest = weights_join vs ws in omega (arith, rest)
 
-pub first_fits : (bs cs : List (Chunk Json)) (b : Chunk Json) → bs ≡ b ∷ cs → term_weights (block_items b) ≤ term_weights (flat_map block_items bs)
+pub first_fits : (bs cs : List (Chunk Json)) (b : Chunk Json) → bs ≡ b ∷ cs → term_weights (items_of b) ≤ term_weights (flat_map items_of bs)
 first_fits bs cs b e =
-    let s : term_weights (flat_map block_items bs) ≡ term_weights (block_items b ++ flat_map block_items cs) = ap (λ l. term_weights (flat_map block_items l)) e in
-    let all = weights_join (block_items b) (flat_map block_items cs) in
+    let s : term_weights (flat_map items_of bs) ≡ term_weights (items_of b ++ flat_map items_of cs) = ap (λ l. term_weights (flat_map items_of l)) e in
+    let all = weights_join (items_of b) (flat_map items_of cs) in
     omega (arith, s, all)
 
-pub blocks_below : (bs cs : List (Chunk Json)) (b : Chunk Json) (n : ℕ) → bs ≡ b ∷ cs → term_weights (flat_map block_items bs) ≤ n → term_weights (flat_map block_items cs) ≤ n
+pub blocks_below : (bs cs : List (Chunk Json)) (b : Chunk Json) (n : ℕ) → bs ≡ b ∷ cs → term_weights (flat_map items_of bs) ≤ n → term_weights (flat_map items_of cs) ≤ n
 blocks_below bs cs b n e h =
-    let s : term_weights (flat_map block_items bs) ≡ term_weights (block_items b ++ flat_map block_items cs) = ap (λ l. term_weights (flat_map block_items l)) e in
-    let all = weights_join (block_items b) (flat_map block_items cs) in
+    let s : term_weights (flat_map items_of bs) ≡ term_weights (items_of b ++ flat_map items_of cs) = ap (λ l. term_weights (flat_map items_of l)) e in
+    let all = weights_join (items_of b) (flat_map items_of cs) in
     omega (arith, s, all, h)
 
 -- ---- the same of members
@@ -99,17 +99,17 @@ entries_join : (ms ns : List (MapEntry Json)) → entries_weight (ms ++ ns) ≡ 
 entries_join [] ns = omega arith
 entries_join (m ∷ ms) ns = let rest = entries_join ms ns in omega (arith, rest)
 
-pub first_part_fits : (bs cs : List (Chunk (MapEntry Json))) (b : Chunk (MapEntry Json)) → bs ≡ b ∷ cs → entries_weight (block_items b) ≤ entries_weight (flat_map block_items bs)
+pub first_part_fits : (bs cs : List (Chunk (MapEntry Json))) (b : Chunk (MapEntry Json)) → bs ≡ b ∷ cs → entries_weight (items_of b) ≤ entries_weight (flat_map items_of bs)
 first_part_fits bs cs b e =
-    let s : entries_weight (flat_map block_items bs) ≡ entries_weight (block_items b ++ flat_map block_items cs) = ap (λ l. entries_weight (flat_map block_items l)) e in
-    let all = entries_join (block_items b) (flat_map block_items cs) in
+    let s : entries_weight (flat_map items_of bs) ≡ entries_weight (items_of b ++ flat_map items_of cs) = ap (λ l. entries_weight (flat_map items_of l)) e in
+    let all = entries_join (items_of b) (flat_map items_of cs) in
     omega (arith, s, all)
 
-pub parts_below : (bs cs : List (Chunk (MapEntry Json))) (b : Chunk (MapEntry Json)) (n : ℕ) → bs ≡ b ∷ cs → entries_weight (flat_map block_items bs) ≤ n
-    → entries_weight (flat_map block_items cs) ≤ n
+pub parts_below : (bs cs : List (Chunk (MapEntry Json))) (b : Chunk (MapEntry Json)) (n : ℕ) → bs ≡ b ∷ cs → entries_weight (flat_map items_of bs) ≤ n
+    → entries_weight (flat_map items_of cs) ≤ n
 parts_below bs cs b n e h =
-    let s : entries_weight (flat_map block_items bs) ≡ entries_weight (block_items b ++ flat_map block_items cs) = ap (λ l. entries_weight (flat_map block_items l)) e in
-    let all = entries_join (block_items b) (flat_map block_items cs) in
+    let s : entries_weight (flat_map items_of bs) ≡ entries_weight (items_of b ++ flat_map items_of cs) = ap (λ l. entries_weight (flat_map items_of l)) e in
+    let all = entries_join (items_of b) (flat_map items_of cs) in
     omega (arith, s, all, h)
 
 -- one level of a list, and of an object: what it is, and what it weighs

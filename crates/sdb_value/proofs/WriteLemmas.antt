@@ -13,7 +13,7 @@ use Rattle.json.specs.Written.{WritesFront}
 use Rattle.sdb_chunks.specs.declared.chunked_vec.ChunkedVec.{ChunkedVec}
 use Rattle.sdb_sorted_map.specs.SortedMap.{entry_keys}
 use Rattle.sdb_sorted_map.specs.KeyOrder.{compare_bytes, IsAscending}
-use Rattle.sdb_sorted_map.specs.declared.sorted_map.SortedMap.{SortedMap as Held}
+use Rattle.sdb_sorted_map.specs.declared.sorted_map.SortedMap.{SortedMap}
 use Rattle.sdb_value.specs.laws.PrefixLaws.{writes_prefix_after}
 use Rattle.sdb_value.specs.ToJson.{array_tail_tokens, data_tokens, object_tail_tokens}
 use Rattle.sdb_value.specs.declared.value.Json as json
@@ -63,14 +63,14 @@ array_front (Err e) v l old mid new is first_is_least h =
     writes_prefix_after old mid new (begin_array ∷ []) (array_tail_tokens (data_of_items (list_value l))) (data_tokens (data_of_value (value_of v))) first_is_least
     (ap (λ d. data_tokens (data_of_value d)) (is_list v l is)) h
 
-pub object_written : {A E : Type 0} (r : Result A E) (v : Json) (o : Held Json) (old mid new : List Token) → v ≡ json.Object o → mid ≡ old ++ begin_object ∷ []
+pub object_written : {A E : Type 0} (r : Result A E) (v : Json) (o : SortedMap Json) (old mid new : List Token) → v ≡ json.Object o → mid ≡ old ++ begin_object ∷ []
     → OnOk r (new ≡ mid ++ object_tail_tokens (data_of_members (object_value o))) → OnOk r (new ≡ old ++ data_tokens (data_of_value (value_of v)))
 object_written (Err e) v o old mid new is first_is_least h = tt
 object_written (Ok x) v o old mid new is first_is_least h =
     let rest : List Token = object_tail_tokens (data_of_members (object_value o)) in
     h ∙ ap (λ ts. ts ++ rest) first_is_least ∙ append_assoc old (begin_object ∷ []) rest ∙ ap (λ d. old ++ data_tokens (data_of_value d)) (sym (is_object v o is))
 
-pub object_front : {A E : Type 0} (r : Result A E) (v : Json) (o : Held Json) (old mid new : List Token) → v ≡ json.Object o → mid ≡ old ++ begin_object ∷ []
+pub object_front : {A E : Type 0} (r : Result A E) (v : Json) (o : SortedMap Json) (old mid new : List Token) → v ≡ json.Object o → mid ≡ old ++ begin_object ∷ []
     → OnErr r (WritesFront mid new (object_tail_tokens (data_of_members (object_value o)))) → OnErr r (WritesFront old new (data_tokens (data_of_value (value_of v))))
 object_front (Ok x) v o old mid new is first_is_least h = tt
 object_front (Err e) v o old mid new is first_is_least h =

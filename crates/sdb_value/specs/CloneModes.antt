@@ -1,6 +1,6 @@
 -- What of a copy is its owner's own.
 use Rattle.std.specs.Prelude.{◌≡◌, List, map, Bool, true, false, cond}
-use Rattle.sdb_chunks.specs.Chunk.{items_of, is_chunk_unique as block_own}
+use Rattle.sdb_chunks.specs.Chunk.{items_of, is_chunk_unique}
 use Rattle.sdb_chunks.specs.declared.chunk.Chunk.{Chunk}
 use Rattle.sdb_sorted_map.specs.declared.map_entry.MapEntry.{MapEntry}
 use Rattle.sdb_value.specs.Uniqueness.{all_true, items_unique, members_unique}
@@ -16,14 +16,14 @@ HasUniquenessOfMode Frozen was now pointer = pointer ≡ true
 
 -- a block and all its items, blocks and all theirs
 abbrev pub is_deep_unique_chunk : Chunk Json → Bool
-is_deep_unique_chunk b = cond (block_own b) (items_unique (items_of b)) false
+is_deep_unique_chunk b = cond (is_chunk_unique b) (items_unique (items_of b)) false
 
 abbrev pub are_deep_unique_chunks : List (Chunk Json) → Bool
 are_deep_unique_chunks bs = all_true (map is_deep_unique_chunk bs)
 
 -- the same of members
 abbrev pub is_deep_unique_member_chunk : Chunk (MapEntry Json) → Bool
-is_deep_unique_member_chunk b = cond (block_own b) (members_unique (items_of b)) false
+is_deep_unique_member_chunk b = cond (is_chunk_unique b) (members_unique (items_of b)) false
 
 abbrev pub are_deep_unique_member_chunks : List (Chunk (MapEntry Json)) → Bool
 are_deep_unique_member_chunks bs = all_true (map is_deep_unique_member_chunk bs)

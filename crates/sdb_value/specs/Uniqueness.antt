@@ -2,11 +2,11 @@
 use Rattle.std.specs.Prelude.{List, [], ◌∷◌, map, Bool, true, false, cond, String}
 use Rattle.std.specs.declared.alloc.Global.{Global}
 use Rattle.sdb_chunks.specs.ChunkedVec.{vec_models, vec_items, is_unique_vec, is_shared_vec}
-use Rattle.sdb_sorted_map.specs.SortedMap.{map_entry_models, is_unique_map as members_own, is_shared_map as members_shared, map_chunks}
+use Rattle.sdb_sorted_map.specs.SortedMap.{map_entry_models, is_unique_map, is_shared_map, map_chunks}
 use Rattle.sdb_sorted_map.specs.declared.map_entry.MapEntry.{MapEntry}
 use Rattle.sdb_sorted_map.specs.declared.sorted_map.SortedMap.{SortedMap}
 use Rattle.sdb_chunks.specs.declared.chunked_vec.ChunkedVec.{ChunkedVec}
-use Rattle.sdb_rope.specs.Rope.{is_unique_rope as text_own, is_shared_rope as text_shared}
+use Rattle.sdb_rope.specs.Rope.{is_unique_rope, is_shared_rope}
 use Rattle.sdb_value.specs.Value.{Value}
 use Rattle.sdb_value.specs.View.{value_of}
 use Rattle.sdb_value.specs.declared.value.Json.{Json, fold-Json}
@@ -18,11 +18,11 @@ all_true (b ∷ bs) = cond b (all_true bs) false
 
 -- of members, with the answer for each value already known
 abbrev pub members_unique_step : SortedMap Bool → Bool
-members_unique_step m = cond (members_own m) (all_true (map (λ e. e.1) (map_entry_models (λ b. b) m))) false
+members_unique_step m = cond (is_unique_map m) (all_true (map (λ e. e.1) (map_entry_models (λ b. b) m))) false
 
 -- one level, with the answer for each value inside already known
 abbrev pub unique_step : Json-F Bool → Bool
-unique_step (Json-F.Text t) = text_own t
+unique_step (Json-F.Text t) = is_unique_rope t
 unique_step (Json-F.List l) = cond (is_unique_vec l) (all_true (vec_models (λ b. b) l)) false
 unique_step (Json-F.Object m) = members_unique_step m
 unique_step _ = true
@@ -52,9 +52,9 @@ object_unique m = entries_unique (map_chunks m)
 
 -- a copy of it is a pointer, or as little
 abbrev pub frozen_step : Json-F Bool → Bool
-frozen_step (Json-F.Text t) = text_shared t
+frozen_step (Json-F.Text t) = is_shared_rope t
 frozen_step (Json-F.List l) = is_shared_vec l
-frozen_step (Json-F.Object m) = members_shared m
+frozen_step (Json-F.Object m) = is_shared_map m
 frozen_step _ = true
 
 abbrev pub is_frozen : Json → Bool

@@ -2,7 +2,7 @@
 use Rattle.std.specs.Prelude.{ℕ, List, [], ◌∷◌, map, String, string_bytes}
 use Rattle.std.specs.declared.alloc.Global.{Global}
 use Rattle.std.specs.List.{flat_map}
-use Rattle.sdb_chunks.specs.Chunk.{items_of as block_items}
+use Rattle.sdb_chunks.specs.Chunk.{items_of}
 use Rattle.sdb_chunks.specs.ChunkGroup.{group_chunks}
 use Rattle.sdb_chunks.specs.ChunkedVec.{vec_models, repr_chunks, vec_items}
 use Rattle.sdb_chunks.specs.declared.chunk_group.ChunkGroup.{ChunkGroup}
@@ -11,7 +11,7 @@ use Rattle.sdb_chunks.specs.declared.chunked_vec.ChunkedVec.{ChunkedVec}
 use Rattle.sdb_sorted_map.specs.MapEntry.{key_value}
 use Rattle.sdb_sorted_map.specs.SortedMap.{map_entries, map_entry_models}
 use Rattle.sdb_sorted_map.specs.declared.map_entry.MapEntry.{MapEntry}
-use Rattle.sdb_sorted_map.specs.declared.sorted_map.SortedMap.{SortedMap as Held}
+use Rattle.sdb_sorted_map.specs.declared.sorted_map.SortedMap.{SortedMap}
 use Rattle.sdb_rope.specs.Rope.{rope_bytes}
 use Rattle.sdb_value.specs.Value.{Value, null, truth, whole, text, list, object, Items, no_items, item, Members, no_members, member, PlainStep, key, index}
 use Rattle.sdb_value.specs.declared.value.Json.{Json, fold-Json}
@@ -54,13 +54,13 @@ abbrev pub list_value : ChunkedVec Json → Items
 list_value l = items_value (vec_items l)
 
 abbrev pub repr_value : Repr Json → Items
-repr_value w = items_value (flat_map block_items (repr_chunks w))
+repr_value w = items_value (flat_map items_of (repr_chunks w))
 
 -- the items of a group of blocks
 abbrev pub items_of_group : ChunkGroup Json → List Json
-items_of_group g = flat_map block_items (group_chunks g)
+items_of_group g = flat_map items_of (group_chunks g)
 
-abbrev pub object_value : Held Json → Members
+abbrev pub object_value : SortedMap Json → Members
 object_value m = members_value (map_entries m)
 
 -- of members one after the other, of those of a form and of a group
@@ -68,10 +68,10 @@ abbrev pub entries_value : List (MapEntry Json) → Members
 entries_value ms = members_value (map key_value ms)
 
 abbrev pub member_repr_value : Repr (MapEntry Json) → Members
-member_repr_value w = entries_value (flat_map block_items (repr_chunks w))
+member_repr_value w = entries_value (flat_map items_of (repr_chunks w))
 
 abbrev pub members_of_group : ChunkGroup (MapEntry Json) → List (MapEntry Json)
-members_of_group g = flat_map block_items (group_chunks g)
+members_of_group g = flat_map items_of (group_chunks g)
 
 -- the values of a list of members
 abbrev pub values_of_entries : ChunkedVec (MapEntry Json) → Items

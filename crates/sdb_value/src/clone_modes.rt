@@ -1,13 +1,13 @@
 //! Copies.
 ghost use Rattle.std.specs.Prelude.{◌≡◌, Bool, map, true, false, IfOk, IfSome, IfNone};
 ghost use Rattle.std.specs.List.{flat_map};
-ghost use Rattle.sdb_chunks.specs.Chunk.{items_of, is_chunk_unique as block_own, is_chunk_shared as block_shared};
+ghost use Rattle.sdb_chunks.specs.Chunk.{items_of, is_chunk_unique, is_chunk_shared};
 ghost use Rattle.sdb_chunks.specs.ChunkedVec.{all_shared, vec_chunks, is_grouped, is_shared_vec};
 ghost use Rattle.sdb_chunks.specs.declared.chunked_vec.ChunkedVec.{ChunkedVec};
 ghost use Rattle.sdb_sorted_map.specs.MapKey.{key_bytes};
 ghost use Rattle.sdb_sorted_map.specs.MapEntry.{key_value};
-ghost use Rattle.sdb_sorted_map.specs.SortedMap.{is_shared_map as members_shared};
-ghost use Rattle.sdb_rope.specs.Rope.{rope_bytes, is_unique_rope as text_own, is_shared_rope as text_shared};
+ghost use Rattle.sdb_sorted_map.specs.SortedMap.{is_shared_map};
+ghost use Rattle.sdb_rope.specs.Rope.{rope_bytes, is_unique_rope, is_shared_rope};
 ghost use Rattle.sdb_value.specs.CloneModes.{HasUniquenessOfMode, is_deep_unique_chunk, are_deep_unique_chunks, is_deep_unique_member_chunk, are_deep_unique_member_chunks};
 ghost use Rattle.sdb_value.specs.Uniqueness.{is_unique, is_frozen, items_unique, list_unique, object_unique, members_unique};
 ghost use Rattle.sdb_value.specs.View.{value_of, entries_value, items_value, list_value, object_value};
@@ -88,7 +88,7 @@ pub(crate) fn copy(alloc: Global, value: &Json, manner: CloneMode) -> Result<Jso
 
 fn clone_text(alloc: Global, text: &Rope, manner: CloneMode) -> Result<Rope, AllocError>
     ensures bytes { IfOk result (λ t. rope_bytes t ≡ rope_bytes text.now) }
-    ensures unique { IfOk result (λ t. HasUniquenessOfMode manner (text_own text.now) (text_own t) (text_shared t)) }
+    ensures unique { IfOk result (λ t. HasUniquenessOfMode manner (is_unique_rope text.now) (is_unique_rope t) (is_shared_rope t)) }
 {
     match manner {
         CloneMode::Preserve => text.try_clone(alloc),
@@ -166,7 +166,7 @@ fn clone_chunk(
 ) -> Result<Chunk<Json>, AllocError>
     ensures items { IfOk result (λ b. items_value (items_of b) ≡ items_value (items_of block.now)) }
     ensures unique { IfOk result (λ b. HasUniquenessOfMode manner
-        (is_deep_unique_chunk block.now) (is_deep_unique_chunk b) (block_shared b)) }
+        (is_deep_unique_chunk block.now) (is_deep_unique_chunk b) (is_chunk_shared b)) }
 {
     if let Some(block) = clone_chunk_pointer(block, manner)? {
         return Ok(block);
@@ -184,10 +184,10 @@ fn clone_chunk_pointer<T>(
     manner: CloneMode,
 ) -> Result<Option<Chunk<T>>, AllocError>
     ensures equal { IfOk result (λ o. IfSome o (λ b. items_of b ≡ items_of block.now)) }
-    ensures shared { IfOk result (λ o. IfSome o (λ b. block_shared b ≡ true)) }
-    ensures was { IfOk result (λ o. IfSome o (λ _. block_shared block.now ≡ true)) }
+    ensures shared { IfOk result (λ o. IfSome o (λ b. is_chunk_shared b ≡ true)) }
+    ensures was { IfOk result (λ o. IfSome o (λ _. is_chunk_shared block.now ≡ true)) }
     ensures other { IfOk result (λ o. IfSome o (λ _. manner ≡ Unique → ⊥)) }
-    ensures none { IfOk result (λ o. IfNone o (manner ≡ Preserve → block_own block.now ≡ true)) }
+    ensures none { IfOk result (λ o. IfNone o (manner ≡ Preserve → is_chunk_unique block.now ≡ true)) }
 {
     match manner {
         CloneMode::Unique => Ok(None),
@@ -212,7 +212,7 @@ fn clone_items(alloc: Global, items: &[Json], manner: CloneMode) -> Result<Vec<J
 fn clone_members(alloc: Global, members: &Members, manner: CloneMode) -> Result<Members, AllocError>
     ensures members { IfOk result (λ m. object_value m ≡ object_value members.now) }
     ensures unique { IfOk result (λ m. HasUniquenessOfMode manner (object_unique members.now) (object_unique m)
-        (members_shared m)) }
+        (is_shared_map m)) }
 {
     if let Some(copy) = clone_members_pointer(members, manner)? {
         return Ok(copy);
@@ -235,8 +235,8 @@ fn clone_members_pointer(
 ) -> Result<Option<Members>, AllocError>
     ensures members { IfOk result (λ o. IfSome o (λ m. object_value m ≡ object_value members.now)) }
     ensures unique { IfOk result (λ o. IfSome o
-        (λ m. HasUniquenessOfMode manner (object_unique members.now) (object_unique m) (members_shared m))) }
-    ensures none { IfOk result (λ o. IfNone o (manner ≡ Preserve → members_shared members.now ≡ false)) }
+        (λ m. HasUniquenessOfMode manner (object_unique members.now) (object_unique m) (is_shared_map m))) }
+    ensures none { IfOk result (λ o. IfNone o (manner ≡ Preserve → is_shared_map members.now ≡ false)) }
 {
     match manner {
         CloneMode::Unique => Ok(None),
@@ -271,7 +271,7 @@ fn clone_member_chunk(
 ) -> Result<Chunk<MapEntry<Json>>, AllocError>
     ensures members { IfOk result (λ b. entries_value (items_of b) ≡ entries_value (items_of block.now)) }
     ensures unique { IfOk result (λ b. HasUniquenessOfMode manner (is_deep_unique_member_chunk block.now)
-        (is_deep_unique_member_chunk b) (block_shared b)) }
+        (is_deep_unique_member_chunk b) (is_chunk_shared b)) }
 {
     if let Some(block) = clone_chunk_pointer(block, manner)? {
         return Ok(block);

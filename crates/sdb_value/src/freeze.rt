@@ -1,9 +1,9 @@
 //! Values made shared in place.
 ghost use Rattle.std.specs.Prelude.{◌≡◌, true, OnOk};
 ghost use Rattle.std.specs.List.{flat_map};
-ghost use Rattle.sdb_chunks.specs.Chunk.{items_of, is_chunk_shared as block_shared};
+ghost use Rattle.sdb_chunks.specs.Chunk.{items_of, is_chunk_shared};
 ghost use Rattle.sdb_chunks.specs.ChunkedVec.{is_shared_repr, is_shared_vec};
-ghost use Rattle.sdb_sorted_map.specs.SortedMap.{is_shared_map as members_shared};
+ghost use Rattle.sdb_sorted_map.specs.SortedMap.{is_shared_map};
 ghost use Rattle.sdb_value.specs.Uniqueness.{is_frozen};
 ghost use Rattle.sdb_value.specs.View.{value_of, repr_value, items_of_group, items_value, list_value};
 ghost use Rattle.sdb_value.specs.View.{entries_value, members_of_group, member_repr_value, object_value};
@@ -158,7 +158,7 @@ fn freeze_each_chunk(alloc: Global, blocks: &mut Vec<Chunk<Json>>) -> Result<(),
 #[cycle(freeze_value)]
 fn freeze_chunk(alloc: Global, block: &mut Chunk<Json>) -> Result<(), AllocError>
     ensures items { items_value (items_of block.new) ≡ items_value (items_of block.old) }
-    ensures shared { OnOk result (block_shared block.new ≡ true) }
+    ensures shared { OnOk result (is_chunk_shared block.new ≡ true) }
 {
     freeze_unique_items(alloc, block)?;
     block.freeze(alloc)
@@ -188,7 +188,7 @@ fn freeze_each_item(alloc: Global, items: &mut Vec<Json>) -> Result<(), AllocErr
 #[cycle(freeze_value)]
 fn freeze_members(alloc: Global, members: &mut Members) -> Result<(), AllocError>
     ensures members_unchanged { object_value members.new ≡ object_value members.old }
-    ensures shared { OnOk result (members_shared members.new ≡ true) }
+    ensures shared { OnOk result (is_shared_map members.new ≡ true) }
 {
     let mut form = replace(members, Members::new(alloc))
         .into_chunks()
@@ -300,7 +300,7 @@ fn freeze_each_member_chunk(
 #[cycle(freeze_value)]
 fn freeze_member_chunk(alloc: Global, block: &mut Chunk<MapEntry<Json>>) -> Result<(), AllocError>
     ensures members { entries_value (items_of block.new) ≡ entries_value (items_of block.old) }
-    ensures shared { OnOk result (block_shared block.new ≡ true) }
+    ensures shared { OnOk result (is_chunk_shared block.new ≡ true) }
 {
     freeze_unique_members(alloc, block)?;
     block.freeze(alloc)

@@ -2,7 +2,7 @@
 ghost use Rattle.std.specs.Prelude.{◌≡◌, option_map, IfSome};
 ghost use Rattle.std.specs.Option.{OnSome};
 ghost use Rattle.std.specs.Borrow.{LendsSo, sem};
-ghost use Rattle.sdb_rope.specs.Rope.{rope_bytes, is_unique_rope as text_own};
+ghost use Rattle.sdb_rope.specs.Rope.{rope_bytes, is_unique_rope};
 ghost use Rattle.sdb_value.specs.Uniqueness.{is_unique, object_unique, list_unique};
 ghost use Rattle.sdb_value.specs.Rows.{json_row, list_row, members_row, text_row};
 ghost use Rattle.sdb_value.specs.Value.{text, list, object, as_text, as_list, as_object};
@@ -15,10 +15,10 @@ use sdb_rope::Rope;
 #[tactic(auto, using(crate::proofs::UniquenessLemmas::owned_text))]
 pub fn text_mut(value: &mut Json) -> Option<&mut Rope>
     ensures* writes_back { sem 𝓛 (LendsSo json_row text_row value.entry result
-        (λ n w. OnSome result ((value_of n ≡ text (rope_bytes w)) × (is_unique n ≡ text_own w)))
+        (λ n w. OnSome result ((value_of n ≡ text (rope_bytes w)) × (is_unique n ≡ is_unique_rope w)))
         (λ n. (value_of n ≡ value_of value.old) × (is_unique n ≡ is_unique value.old))) }
     ensures value { option_map (λ v. rope_bytes v.now) result ≡ as_text (value_of value.old) }
-    ensures unique { IfSome result (λ v. text_own v.now ≡ is_unique value.old) }
+    ensures unique { IfSome result (λ v. is_unique_rope v.now ≡ is_unique value.old) }
 {
     if let Json::Text(text) = value {
         Some(text)

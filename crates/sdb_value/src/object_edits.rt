@@ -1,7 +1,7 @@
 //! Objects changed in place.
 ghost use Rattle.std.specs.Prelude.{◌≡◌, ◌∷◌, [], true, false, None, map, slice_get, slice_set, option_map, IfOk, IfSome, IfNone, OnOk, OnErr, string_bytes};
 ghost use Rattle.sdb_sorted_map.specs.MapEntry.{entry_key};
-ghost use Rattle.sdb_sorted_map.specs.SortedMap.{is_unique_map as members_own};
+ghost use Rattle.sdb_sorted_map.specs.SortedMap.{is_unique_map};
 ghost use Rattle.sdb_sorted_map.specs.SearchModel.{vec_keys};
 ghost use Rattle.sdb_chunks.specs.ChunkedVec.{is_unique_vec_at};
 ghost use Rattle.sdb_value.specs.Uniqueness.{is_unique, entries_unique, object_unique};
@@ -24,7 +24,7 @@ pub fn put_at_key(
     ensures ok { OnOk result (object_value members.new
         ≡ put_member (string_bytes key) (value_of new) (object_value members.old)) }
     ensures err { OnErr result (object_value members.new ≡ object_value members.old) }
-    ensures absent { members_own members.old ≡ true
+    ensures absent { is_unique_map members.old ≡ true
         → OnErr result (member_at (string_bytes key) (object_value members.old) ≡ None) }
     ensures unique { object_unique members.old ≡ true → is_unique new ≡ true → object_unique members.new ≡ true }
 {
@@ -38,7 +38,7 @@ pub fn remove_at_key(alloc: Global, members: &mut Members, key: &str) -> Result<
     ensures ok { OnOk result (object_value members.new ≡ without_member key.now (object_value members.old)) }
     ensures err { OnErr result (object_value members.new ≡ object_value members.old) }
     ensures unique { object_unique members.old ≡ true → object_unique members.new ≡ true }
-    ensures memory { OnErr result (members_own members.old ≡ false) }
+    ensures memory { OnErr result (is_unique_map members.old ≡ false) }
     ensures shared_on_err { OnErr result (object_unique members.old ≡ false) }
 {
     drop(members.remove(alloc, key)?);

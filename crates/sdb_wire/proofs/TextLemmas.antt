@@ -1,4 +1,4 @@
--- Texts by pieces are those of the answers, and UTF-8.
+-- The texts in parts are those of the answers, and are UTF-8.
 use Rattle.std.proofs.Common.{◌≡◌, ℕ, true, ◌∷◌, [], ◌++◌, ◌<◌, ◌^◌, List, IsUtf8, codes, decimal, refl, sym, ap, ◌∙◌, append_assoc, append-nil}
 use Rattle.std.proofs.lemmas.Str.{IsUtf8-append, IsUtf8-from_ascii}
 use Rattle.std.proofs.lemmas.Fmt.{IsAscii-decimal}
@@ -48,9 +48,9 @@ edit_plain k e op plain =
     ∙ ap (λ t. codes "{\"a\":\"op\",\"c\":" ++ (quoted k.collection ++ (codes ",\"d\":" ++ (quoted k.id ++ before t))))
     (source_plain e.arrived.src e.version plain.2)
 
--- ---- pieces put together
+-- ---- concatenation of parts
 
--- with no literal among them, which would compute
+-- stated without literals, which the checker would unfold
 append_assoc_around : (a b c d rest : List ℕ) → (a ++ (b ++ (c ++ (d ++ [])))) ++ rest ≡ a ++ (b ++ (c ++ (d ++ rest)))
 append_assoc_around a b c d rest = simp (append_assoc, append-nil) refl
 

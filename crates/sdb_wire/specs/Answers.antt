@@ -1,4 +1,5 @@
--- The text of an answer: `Text`. Members stand in the order of their bytes, and the text is compact.
+-- The text of an answer: `Text`. It is compact JSON (RFC 8259) with members in byte order, in this project's profile of
+-- ShareDB protocol 1.
 use Rattle.std.specs.Prelude.{ℕ, List, true, Option, Some, None, codes}
 use Rattle.json.specs.Token.{Token}
 use Rattle.serde_json.specs.Data.{Data, null, boolean, number, unsigned, string, object, Members, no_members, member}
@@ -16,24 +17,24 @@ use Rattle.sdb_wire.specs.Wire.{PlainEcho, PlainEchoValue, text, count}
 pub data PlainAnswer : Type 0 where
   -- the session's source
   init : List ℕ → PlainAnswer
-  -- the session's source, to a client that said who it is
+  -- the session's source, in reply to a hello
   hello_ack : List ℕ → PlainAnswer
-  -- the present version, and the document there
+  -- the current version and document
   fetched : PlainKey → ℕ → Option Value → PlainAnswer
-  -- the end of a list of stored operations
+  -- the end of a listing of entries
   list_end : PlainKey → PlainAnswer
-  -- the present version and the document there, to a subscriber
+  -- the current version and document, for a subscriber
   subscribed : PlainKey → ℕ → Option Value → PlainAnswer
-  -- the end of the list of stored operations, to a subscriber
+  -- the end of the listing of entries, for a subscriber
   caught_up : PlainKey → PlainAnswer
   unsubscribed : PlainKey → PlainAnswer
-  -- the number of the request, a version, and the document there
+  -- the number of the request, a version and the document at it
   snapshot : ℕ → ℕ → Option Value → PlainAnswer
-  -- the same, to a request that names a moment
+  -- the number of the request, the version at a moment and the document at it
   snapshot_at_time : ℕ → ℕ → Option Value → PlainAnswer
-  -- a stored operation
+  -- an operation message
   op_message : PlainKey → PlainEntry → PlainAnswer
-  -- a submission of this source and number is stored at this version
+  -- a submission with this source and seq is stored at this version
   acknowledged : PlainKey → List ℕ → ℕ → ℕ → PlainAnswer
   failed : PlainEcho → Code → PlainAnswer
 
@@ -75,7 +76,7 @@ abbrev pub echo_value_data : PlainEchoValue → Data
 echo_value_data (text s) = string s
 echo_value_data (count n) = number (unsigned n)
 
--- a member before the others, unless it is none
+-- a member before the others, if it is present
 abbrev pub push_member : List ℕ → Option PlainEchoValue → Members → Members
 push_member k None ms = ms
 push_member k (Some w) ms = member k (echo_value_data w) ms
@@ -88,19 +89,19 @@ error_data e = object (
 abbrev pub type_data : Data
 type_data = string (codes "http://sharejs.org/types/JSONv0")
 
--- ---- a stored operation
+-- ---- entries
 
 abbrev pub create_data : Value → Data
 create_data v = object (member (codes "data") (data_of_value v) (member (codes "type") type_data no_members))
 
--- what follows the content
+-- the members after the content
 abbrev pub op_tail : PlainEntry → Members
 op_tail e =
     member (codes "seq") (number (unsigned e.arrived.seq))
     (member (codes "src") (string e.arrived.src)
     (member (codes "v") (number (unsigned e.version)) no_members))
 
--- the key with the content, before the others
+-- the key and the content, before the other members
 abbrev pub content_members : PlainKey → PlainContent → Members → Members
 content_members k (create v) ms =
     member (codes "c") (string k.collection)
@@ -115,7 +116,7 @@ content_members k (edit op) ms =
     (member (codes "d") (string k.id)
     (member (codes "op") (op_data op) ms))
 
--- a stored operation by itself, without `a` and the key
+-- an entry without `a` and the key
 abbrev pub entry_members : PlainEntry → PlainContent → Members
 entry_members e (create v) = member (codes "create") (create_data v) (op_tail e)
 entry_members e delete = member (codes "del") (boolean true) (op_tail e)
@@ -124,11 +125,11 @@ entry_members e (edit op) = member (codes "op") (op_data op) (op_tail e)
 abbrev pub entry_data : PlainEntry → Data
 entry_data e = object (entry_members e e.content)
 
--- an entry that shows this content in place of its own
+-- the entry with this content
 abbrev pub with_content : PlainEntry → PlainContent → PlainEntry
 with_content e m = record { version = e.version; moment = e.moment; content = m; arrived = e.arrived }
 
--- ---- answers that differ by their word
+-- ---- answers that differ by their kind
 
 abbrev pub hello_data : List ℕ → List ℕ → Data
 hello_data a src = object (

@@ -1,4 +1,4 @@
--- The code of what an op message tells, by which a proof tells one from another.
+-- The code of an operation message, which decides its equality.
 use Rattle.std.specs.Prelude.{List, ℕ, refl}
 use Rattle.std.specs.Coded.{Coded, code_by, coded×}
 use Rattle.sdb_value.specs.Coding.{text_code}

@@ -1,4 +1,4 @@
--- What the code's types stand for.
+-- The views of the types.
 use Rattle.std.specs.Prelude.{◌≡◌, Option, Result, Ok, Err, option_map, string_bytes}
 use Rattle.std.specs.Option.{option_map_or}
 use Rattle.serde_json.specs.Data.{Data}
@@ -48,7 +48,7 @@ abbrev pub request_view : Result Request Code → Result PlainRequest Code
 request_view (Ok r) = Ok (plain_request r)
 request_view (Err c) = Err c
 
--- what an error shows of a message that has a reading, or of none
+-- the echo of a message, which is empty if it isn't JSON
 abbrev pub echo_or_empty : Option JsonTree → PlainEcho
 echo_or_empty m = option_map_or (λ v. echo_members (tree_view v)) m empty_echo
 
@@ -70,7 +70,7 @@ plain_answer (OpText t) = op_message t.now.0 t.now.1
 plain_answer (Acknowledged k src seq v) = acknowledged (plain_key k.now) src.now seq v
 plain_answer (Failed echo code) = failed (plain_echo echo.now) code
 
--- the fault is the one that is due, or memory was wanting
+-- the fault is the one that is due, or an allocation failed
 abbrev pub IsMessageFault : BadMessage → Result PlainRequest PlainBadMessage → Type 0
 IsMessageFault b r = (b.code ≡ E10 → ⊥) → r ≡ Err (record { echo = plain_echo b.echo; code = b.code })
 

@@ -1,5 +1,5 @@
--- Which request a text is, by the members of the JSON value that it denotes: `Wire`. The messages are this project's
--- profile of those of ShareDB's protocol 1.
+-- The request that a text denotes, by the members of its JSON value (RFC 8259): `Wire`. The messages are this project's
+-- profile of ShareDB protocol 1.
 use Rattle.std.specs.Prelude.{ℕ, List, length, Bool, true, false, ◌&&◌, ◌||◌, if◌then◌else◌, nat_lt, bytes_eq, Option, Some, None, Result, Ok, Err, option_map, option_and_then, unwrap_or, codes}
 use Rattle.std.specs.Option.{option_map_or, ok_or}
 use Rattle.serde_json.specs.Data.{Data, null}
@@ -25,7 +25,7 @@ count_member k d = option_and_then count_of (get k d)
 abbrev pub name_member : List ℕ → Data → Option (List ℕ)
 name_member k d = option_and_then name_value (get k d)
 
--- a member that is there and not null
+-- a member that is present and not null
 abbrev pub not_null : Data → Option Data
 not_null null = None
 not_null d = Some d
@@ -88,14 +88,14 @@ create_content c =
 abbrev pub edit_content : Data → Result PlainContent Code
 edit_content o = option_map_or (λ op. Ok (edit op)) (op_of o) (Err E3)
 
--- exactly one content: an operation, a create, a delete
+-- exactly one content: an operation, a create or a delete
 abbrev pub content_from : Option Data → Option Data → Bool → Result PlainContent Code
 content_from (Some o) None false = edit_content o
 content_from None (Some c) false = create_content c
 content_from None None true = Ok delete
 content_from _ _ _ = Err E1
 
--- any other `del` than true counts as absent
+-- a `del` other than true counts as absent
 abbrev pub is_delete : Data → Bool
 is_delete d = unwrap_or (option_and_then as_bool (get (codes "del") d)) false
 
@@ -105,18 +105,18 @@ content_of d = content_from (present_member (codes "op") d) (present_member (cod
 -- ---- messages
 
 pub data PlainRequest : Type 0 where
-  -- who the client says it is; none keeps the session's source
+  -- the client's source, or none to keep the session's
   hello : Option (List ℕ) → PlainRequest
-  -- the present document, or the stored operations from a version on
+  -- the current document, or the entries from a version on
   fetch : PlainKey → Option ℕ → PlainRequest
-  -- the present document, or the stored operations from a version on, and from then on each that is stored
+  -- the current document or the entries from a version on, and then each entry stored later
   subscribe : PlainKey → Option ℕ → PlainRequest
   unsubscribe : PlainKey → PlainRequest
-  -- a version that is absent, a sequence number, a source that may be absent, a content
+  -- an optional base version, a seq, an optional source and a content
   submit : PlainKey → Option ℕ → ℕ → Option (List ℕ) → PlainContent → PlainRequest
-  -- the document at a version, or the present one, and the number that the answer shows again
+  -- the document at a version, or the current one, and the number that the answer repeats
   snapshot : PlainKey → Option ℕ → ℕ → PlainRequest
-  -- the document at a moment, or the present one, and the number that the answer shows again
+  -- the document at a moment, or the current one, and the number that the answer repeats
   snapshot_at_time : PlainKey → Option ℕ → ℕ → PlainRequest
 
 abbrev pub key_of : Data → Result PlainKey Code
@@ -183,25 +183,25 @@ abbrev pub with_echo : {A : Type 0} → PlainEcho → Result A Code → Result A
 with_echo e (Ok x) = Ok x
 with_echo e (Err c) = Err (record { echo = e; code = c })
 
--- the longest text of a message, in bytes
+-- maximal length in bytes of a message
 abbrev pub message_limit : ℕ
 message_limit = 1048576
 
--- the JSON value of a message, unless its text is too long or has no reading
+-- the JSON value of a message, unless it is too long or isn't JSON
 abbrev pub parse_data : List ℕ → Option Data
 parse_data line = if nat_lt message_limit (length line) then None else read line
 
--- `Wire`: the request, or the first code in order and what the error reply shows of the message
+-- `Wire`: the request, or the first code that applies with the echo of the message
 abbrev pub wire : List ℕ → Result PlainRequest PlainBadMessage
 wire line =
     option_map_or (λ d. with_echo (echo_members d) (request_of d)) (parse_data line)
     (Err (record { echo = empty_echo; code = E1 }))
 
--- what an error shows of a message
+-- the echo of a message
 abbrev pub echo_of : List ℕ → PlainEcho
 echo_of line = option_map_or echo_members (parse_data line) empty_echo
 
--- ---- the same with the echo always, since a refusal by the log shows it too
+-- ---- the request together with the echo, which a refusal by the log repeats too
 
 pub record PlainMessage : Type 0 where
   pub echo : PlainEcho

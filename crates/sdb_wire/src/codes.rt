@@ -1,4 +1,4 @@
-//! The names and texts of codes, and which of them refuse.
+//! The names and texts of codes, and the split of refusals from allocation failures.
 ghost use Rattle.std.specs.Prelude.{◌≡◌, IfOk, OnOk, OnErr};
 ghost use Rattle.sdb_oplog.specs.declared.codes.Code.TheVariants.{E10};
 ghost use Rattle.sdb_wire.specs.Answers.{code_name, code_text};
@@ -6,8 +6,11 @@ ghost use Rattle.sdb_wire.specs.Answers.{code_name, code_text};
 use sdb_oplog::Code;
 use std::alloc::AllocError;
 
-/// The code, where it refuses what was asked. E10 refuses nothing: it is want of memory, and becomes the
-/// allocator's error again.
+/// Returns the code of a refusal.
+///
+/// # Errors
+///
+/// [`AllocError`] for [`Code::E10`], which is an allocation failure and no refusal.
 pub fn refusal_code(code: Code) -> Result<Code, AllocError>
     ensures code { IfOk result (λ c. c ≡ code) }
     ensures refuses { OnOk result (code ≡ E10 → ⊥) }

@@ -1,4 +1,4 @@
-//! Stored operations as JSON values.
+//! Entries as JSON values.
 ghost use Rattle.std.specs.Prelude.{◌≡◌, IfOk, OnOk};
 ghost use Rattle.serde_json.specs.Data.{no_members};
 ghost use Rattle.serde_json.specs.View.{view as data_view, members_view};
@@ -13,8 +13,12 @@ use serde_json::{Map, Value, json, put};
 use std::alloc::{AllocError, Global};
 use std::collections::BTreeMap;
 
-/// The JSON value of a stored operation: its content, number, source and version. An op message has
-/// beside it `a`, and the document's `c` and `d`.
+/// Returns the JSON value of an entry: its content, seq, source and version. An operation message
+/// also has `a`, and the document's `c` and `d`.
+///
+/// # Errors
+///
+/// [`AllocError`] if an allocation fails.
 pub fn entry_value(alloc: Global, entry: &Entry) -> Result<Value, AllocError>
     ensures { IfOk result (λ v. data_view v ≡ entry_data entry.now) }
 {
@@ -24,7 +28,7 @@ pub fn entry_value(alloc: Global, entry: &Entry) -> Result<Value, AllocError>
     Ok(Value::Object(members))
 }
 
-// The number, the source and the version, put to no members.
+// Adds seq, source and version to an empty object.
 fn push_tail(
     alloc: Global,
     members: &mut Map<String, Value>,
@@ -39,7 +43,7 @@ fn push_tail(
     put(members, alloc, "v", Value::from(entry.version()))
 }
 
-// The content, put to what follows it.
+// Adds the content to the object.
 fn push_content(
     alloc: Global,
     members: &mut Map<String, Value>,

@@ -1,4 +1,4 @@
-//! Names that stand in a text as they are.
+//! Names without characters to escape.
 ghost use Rattle.std.specs.Prelude.{◌+◌, ◌≤◌, length};
 ghost use Rattle.std.specs.Bool.{OnTrue};
 ghost use Rattle.json.specs.Written.{PlainBetween};
@@ -6,7 +6,7 @@ ghost use Rattle.sdb_wire.specs.FastPath.{IsEscapeFree};
 
 use std::simd::prelude::*;
 
-/// Whether a name needs no escape.
+/// Returns `true` only if a name has no character to escape.
 #[inline(always)]
 pub(crate) fn is_escape_free(name: &str) -> bool
     ensures { OnTrue result (IsEscapeFree name.now) }
@@ -31,7 +31,7 @@ fn are_bytes_escape_free(text: &[u8]) -> bool
     true
 }
 
-// The last eight bytes may be tested twice.
+// The last eight bytes overlap, so some are tested twice.
 #[inline(always)]
 fn are_chunks_escape_free(text: &[u8]) -> bool
     requires { 8 ≤ length text.now }

@@ -1,5 +1,5 @@
-//! The texts of the two answers that come most, written piece by piece where their names need no escape: the
-//! acknowledgement, and the op message of an edit.
+//! A fast path for acknowledgements and operation messages of edits whose names have no characters
+//! to escape.
 ghost use Rattle.std.specs.Prelude.{◌≡◌, [], ◌++◌, IfOk, OnOk, OnErr, IsUtf8, string_bytes, decimal};
 ghost use Rattle.std.specs.Bool.{OnTrue};
 ghost use Rattle.serde_json.specs.Written.{compact_text};
@@ -15,10 +15,10 @@ use sdb_component::{Op, write_op};
 use sdb_oplog::{Entry, Key};
 use std::alloc::{AllocError, Global};
 
-/// Room for most answers.
+/// Initial capacity in bytes of an answer.
 pub(crate) const TEXT_LEN: usize = 256;
 
-/// Whether the names of an answer about an operation need no escape.
+/// Returns `true` only if the key and the source have no character to escape.
 pub(crate) fn are_escape_free(key: &Key, src: &str) -> bool
     ensures { OnTrue result (AreEscapeFree (plain_key key.now) src.now) }
 {
@@ -27,8 +27,7 @@ pub(crate) fn are_escape_free(key: &Key, src: &str) -> bool
         && is_escape_free(src)
 }
 
-/// Writes the text of an acknowledgement behind what `out` holds. After want of memory `out` holds what it
-/// held.
+/// Appends the text of an acknowledgement to `out`, which is unchanged after an error.
 pub(crate) fn push_ack(
     key: &Key,
     src: &str,
@@ -49,7 +48,7 @@ pub(crate) fn push_ack(
     done
 }
 
-// After want of memory a part of it may be written.
+// After an error a part of it may be appended.
 #[inline(always)]
 fn push_ack_parts(
     key: &Key,
@@ -68,7 +67,7 @@ fn push_ack_parts(
     push_source(src, version, out)
 }
 
-/// The text of the op message of an edit.
+/// Returns the operation message of an edit.
 pub(crate) fn edit_message(
     alloc: Global,
     key: &Key,
@@ -82,7 +81,7 @@ pub(crate) fn edit_message(
     Ok(text_of(edit_message_bytes(alloc, key, entry, op)?))
 }
 
-/// The bytes of the text of the op message of an edit.
+/// Returns the bytes of the operation message of an edit.
 pub(crate) fn edit_message_bytes(
     alloc: Global,
     key: &Key,
@@ -104,7 +103,7 @@ pub(crate) fn edit_message_bytes(
     Ok(out)
 }
 
-// An operation behind these bytes.
+// Appends an operation to these bytes.
 fn push_op(op: &Op, bytes: Vec<u8>) -> Result<Vec<u8>, AllocError>
     ensures items { IfOk result (λ v. v.items ≡ bytes.items ++ compact_text (op_data op.now)) }
     ensures utf8 { IfOk result (λ _. IsUtf8 (compact_text (op_data op.now))) }
@@ -114,7 +113,7 @@ fn push_op(op: &Op, bytes: Vec<u8>) -> Result<Vec<u8>, AllocError>
     Ok(out.into_inner())
 }
 
-// A text that is known to be UTF-8.
+// Converts bytes that are known to be UTF-8.
 fn text_of(bytes: Vec<u8>) -> String
     requires { IsUtf8 bytes.items }
     ensures { string_bytes result ≡ bytes.items }
@@ -125,7 +124,7 @@ fn text_of(bytes: Vec<u8>) -> String
     }
 }
 
-// The beginning, up to the document's name.
+// Appends the text up to the document's id.
 #[inline(always)]
 fn push_key(key: &Key, out: &mut Vec<u8>) -> Result<(), AllocError>
     ensures ok { OnOk result (out.new.items ≡ out.old.items ++ key_start (plain_key key.now) []) }
@@ -135,7 +134,7 @@ fn push_key(key: &Key, out: &mut Vec<u8>) -> Result<(), AllocError>
     push_name("\",\"d\":\"", key.id.as_str(), out)
 }
 
-// The source and all that follows it.
+// Appends the text from the source to the end.
 #[inline(always)]
 fn push_source(src: &str, version: u64, out: &mut Vec<u8>) -> Result<(), AllocError>
     ensures ok { OnOk result (out.new.items ≡ out.old.items ++ source_end src.now version) }
@@ -146,7 +145,7 @@ fn push_source(src: &str, version: u64, out: &mut Vec<u8>) -> Result<(), AllocEr
     out.extend_from_slice(b"}")
 }
 
-// A name, behind what stands before it.
+// Appends a literal and a name.
 #[inline(always)]
 fn push_name(before: &str, name: &str, out: &mut Vec<u8>) -> Result<(), AllocError>
     ensures ok { OnOk result (out.new.items ≡ out.old.items ++ (before.now ++ name.now)) }
@@ -156,7 +155,7 @@ fn push_name(before: &str, name: &str, out: &mut Vec<u8>) -> Result<(), AllocErr
     out.extend_from_slice(name.as_bytes())
 }
 
-// The digits of a number, behind what stands before them.
+// Appends a literal and the digits of a number.
 #[inline(always)]
 fn push_count(before: &str, count: u64, out: &mut Vec<u8>) -> Result<(), AllocError>
     ensures ok { OnOk result (out.new.items ≡ out.old.items ++ (before.now ++ decimal count)) }

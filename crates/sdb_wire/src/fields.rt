@@ -24,7 +24,7 @@ pub(crate) fn name_value<D: JsonData>(value: &D) -> Option<&str>
     Some(text)
 }
 
-// A member that is there and not null.
+// Returns the member if it is present and not null.
 pub(crate) fn present_field<'v, D: JsonData>(value: &'v D, key: &str) -> Option<&'v D>
     ensures { option_map (λ v. D.json v.now) result ≡ present_member key.now (D.json value.now) }
 {
@@ -32,7 +32,7 @@ pub(crate) fn present_field<'v, D: JsonData>(value: &'v D, key: &str) -> Option<
     if member.is_null() { None } else { Some(member) }
 }
 
-/// A member that is a whole number from 0 to 9007199254740991.
+/// Returns the member if it is an integer from 0 to 9007199254740991.
 pub fn count_field<D: JsonData>(value: &D, key: &str) -> Option<u64>
     ensures { result ≡ count_member key.now (D.json value.now) }
 {
@@ -45,7 +45,11 @@ pub(crate) fn name_field<'v, D: JsonData>(value: &'v D, key: &str) -> Option<&'v
     name_value(value.get(key)?)
 }
 
-/// A member that must be a name: a text of 1 to 200 bytes. E1 where it is none.
+/// Returns the member, which must be a name: a text of 1 to 200 bytes.
+///
+/// # Errors
+///
+/// [`Code::E1`] if it is no name, [`Code::E10`] if an allocation fails.
 pub fn required_name<D: JsonData>(alloc: Global, value: &D, key: &str) -> Result<String, Code>
     ensures ok { IfOk result (λ s. ok_or (name_member key.now (D.json value.now)) E1 ≡ Ok (string_bytes s)) }
     ensures err { IfErr result (λ code. IsRefusalOrOutOfMemory (ok_or (name_member key.now
@@ -57,7 +61,7 @@ pub fn required_name<D: JsonData>(alloc: Global, value: &D, key: &str) -> Result
     }
 }
 
-// A name that may be absent or null.
+// Returns the name, which may be absent or null; E1 for any other value.
 pub(crate) fn optional_name<D: JsonData>(
     alloc: Global,
     value: &D,
@@ -77,7 +81,11 @@ pub(crate) fn optional_name<D: JsonData>(
     }
 }
 
-/// A whole number from 0 to 9007199254740991 that may be absent or null. E1 where it is none of these.
+/// Returns the integer from 0 to 9007199254740991, which may be absent or null.
+///
+/// # Errors
+///
+/// [`Code::E1`] if it is another value.
 pub fn optional_count<D: JsonData>(value: &D, key: &str) -> Result<Option<u64>, Code>
     ensures { result ≡ read_optional count_of (present_member key.now (D.json value.now)) }
 {
@@ -90,14 +98,18 @@ pub fn optional_count<D: JsonData>(value: &D, key: &str) -> Result<Option<u64>, 
     }
 }
 
-/// The moment of so many milliseconds as a JSON value says: a whole number from 0 to 9007199254740991.
+/// Returns the moment of this number of milliseconds, an integer from 0 to 9007199254740991.
 pub fn moment_of<D: JsonData>(value: &D) -> Option<Moment>
     ensures { result ≡ count_of (D.json value.now) }
 {
     Moment::new(count_of(value)?)
 }
 
-/// A moment that may be absent or null. E1 where it is none of these.
+/// Returns the moment, which may be absent or null.
+///
+/// # Errors
+///
+/// [`Code::E1`] if it is another value.
 pub fn optional_moment<D: JsonData>(value: &D, key: &str) -> Result<Option<Moment>, Code>
     ensures { result ≡ read_optional count_of (present_member key.now (D.json value.now)) }
 {
@@ -137,7 +149,7 @@ fn echo_field<D: JsonData>(
     }
 }
 
-// What an error shows of the message.
+// Returns the members that an error repeats.
 pub(crate) fn echo_fields<D: JsonData>(alloc: Global, value: &D) -> Result<Echo, AllocError>
     ensures { IfOk result (λ e. plain_echo e ≡ echo_members (D.json value.now)) }
 {

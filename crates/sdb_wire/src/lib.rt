@@ -1,4 +1,4 @@
-//! Messages, read and answered, as JSON texts.
+//! Messages and answers as JSON texts.
 #![tactic(auto)]
 
 mod codes;

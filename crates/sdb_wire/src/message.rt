@@ -1,28 +1,28 @@
-//! What a message asks, and what an error shows of it.
+//! Messages, their echo in errors, and answers.
 use crate::op_text::OpText;
 use sdb_json::JsonTree;
 use sdb_oplog::{Code, Content, Entry, Key, Moment};
 use sdb_value::Json;
 
-/// The longest text of a message, in bytes: 1,048,576.
+/// Maximal length in bytes of a message: 1,048,576.
 pub const MESSAGE_LIMIT: usize = 1_048_576;
 
-/// The longest name, in bytes: 200. A name has one byte at least.
+/// Maximal length in bytes of a name: 200. The minimal length is 1.
 pub const NAME_LIMIT: usize = 200;
 
-// The address of the type of all documents, as ShareDB's json0 has it.
+// The URI of the type json0, as in ShareDB.
 pub(crate) const TYPE: &str = "http://sharejs.org/types/JSONv0";
 
-/// A member that an error shows again.
+/// The value of a member that an error repeats.
 #[derive(Drop)]
 pub enum EchoValue {
     /// A text of 1 to 200 bytes.
     Text { text: String },
-    /// A whole number from 0 to 9007199254740991.
+    /// An integer from 0 to 9007199254740991.
     Count { count: u64 },
 }
 
-/// The members of a message that an error shows again, each where it is there as a [`EchoValue`].
+/// The members of a message that an error repeats, each if it is an [`EchoValue`].
 #[derive(Drop)]
 pub struct Echo {
     pub a: Option<EchoValue>,
@@ -33,19 +33,19 @@ pub struct Echo {
     pub src: Option<EchoValue>,
 }
 
-/// What a message asks.
+/// A request of a client.
 #[derive(Drop)]
 pub enum Request {
-    /// Who the client says it is; without an `id` the session keeps its source.
+    /// The client's source. Without an `id` the session keeps its own.
     Hello {
         id: Option<String>,
     },
-    /// The present document; with a version the stored operations from there on.
+    /// The current document, or the entries from a version on.
     Fetch {
         key: Key,
         version: Option<u64>,
     },
-    /// As a fetch, and from then on each operation that is stored.
+    /// A fetch, followed by each entry stored later.
     Subscribe {
         key: Key,
         version: Option<u64>,
@@ -54,8 +54,8 @@ pub enum Request {
     Unsubscribe {
         key: Key,
     },
-    /// A submission: the version that it was made at, its number, its source, its content. Without a
-    /// source it is the session's.
+    /// A submission: its base version, seq, source and content. Without a source it has the
+    /// session's.
     Submit {
         key: Key,
         version: Option<u64>,
@@ -63,13 +63,13 @@ pub enum Request {
         src: Option<String>,
         content: Content,
     },
-    /// The document at a version, or the present one; `id` is the number that the answer shows again.
+    /// The document at a version, or the current one. The answer repeats `id`.
     Snapshot {
         key: Key,
         version: Option<u64>,
         id: u64,
     },
-    /// The document at a moment, or the present one; `id` is the number that the answer shows again.
+    /// The document at a moment, or the current one. The answer repeats `id`.
     SnapshotAtTime {
         key: Key,
         moment: Option<Moment>,
@@ -77,87 +77,86 @@ pub enum Request {
     },
 }
 
-/// Why a message asks nothing, and what the error shows of it. E10 is want of memory.
+/// The error of a message that is no request, with its echo. E10 is an allocation failure.
 #[derive(Drop)]
 pub struct BadMessage {
     pub echo: Echo,
     pub code: Code,
 }
 
-/// A message: the request that it is, or the code that refuses it, and its JSON value, if it has one. An
-/// error shows some members of it ([`echo_of`](crate::echo_of)).
+/// A parsed message: its request or the code that refuses it, and its JSON value if it has one. An
+/// error repeats some of its members ([`echo_of`](crate::echo_of)).
 #[derive(Drop)]
 pub struct Message<'a> {
     pub json: Option<JsonTree<'a>>,
     pub request: Result<Request, Code>,
 }
 
-/// An answer, of which each is one text.
+/// An answer. Each is one text.
 #[derive(Drop)]
 pub enum Answer<'a> {
-    /// The opening text: the session's source.
+    /// The opening message with the session's source.
     Init {
         src: &'a str,
     },
-    /// The session's source, to a client that said who it is.
+    /// The session's source, in reply to a hello.
     HelloAck {
         src: &'a str,
     },
-    /// The present version, and the document there.
+    /// The current version and document.
     Fetched {
         key: &'a Key,
         version: u64,
         document: Option<&'a Json>,
     },
-    /// The end of a list of stored operations.
+    /// The end of a listing of entries.
     ListEnd {
         key: &'a Key,
     },
-    /// The present version and the document there, to a subscriber.
+    /// The current version and document, for a subscriber.
     Subscribed {
         key: &'a Key,
         version: u64,
         document: Option<&'a Json>,
     },
-    /// The end of the list of stored operations, to a subscriber.
+    /// The end of the listing of entries, for a subscriber.
     CaughtUp {
         key: &'a Key,
     },
-    /// A subscription is at its end.
+    /// The end of a subscription.
     Unsubscribed {
         key: &'a Key,
     },
-    /// The document at a version: the number of the request, the version, the document.
+    /// The document at a version, with the number of its request.
     Snapshot {
         id: u64,
         version: u64,
         document: Option<&'a Json>,
     },
-    /// The document at a moment: the number of the request, the version there, the document.
+    /// The document at a moment, with its version and the number of its request.
     SnapshotAtTime {
         id: u64,
         version: u64,
         document: Option<&'a Json>,
     },
-    /// A stored operation. The content that is shown is the entry's own, except where a projection
-    /// shows a part of it.
+    /// An operation message. Its content is the entry's, or a part of it through a projection.
     OpMessage {
         key: &'a Key,
         entry: &'a Entry,
         content: &'a Content,
     },
-    /// A stored operation whose text is kept.
+    /// An operation message whose text is cached.
     OpText {
         text: &'a OpText,
     },
-    /// A submission is stored: its source, its number, the version.
+    /// The acknowledgement of a submission: its source, its seq and its version.
     Acknowledged {
         key: &'a Key,
         src: &'a str,
         seq: u64,
         version: u64,
     },
-    /// A message is refused.
+    /// The refusal of a message.
     Failed {
         echo: &'a Echo,
         code: Code,

@@ -1,4 +1,4 @@
-//! Texts of op messages that are kept.
+//! Operation messages to be cached.
 ghost use Rattle.std.specs.Prelude.{◌≡◌, IfOk, IsFalse, IsTrue};
 ghost use Rattle.sdb_oplog.specs.Keys.{plain_key};
 ghost use Rattle.sdb_wire.specs.Answers.{answer_text, op_message};
@@ -10,7 +10,7 @@ use std::alloc::{AllocError, Global};
 use std::marker::Model;
 use std::slice;
 
-/// The text of an op message, and which entry it tells of which document.
+/// The text of an operation message, with its document and entry.
 #[derive(Drop)]
 pub struct OpText {
     pub(crate) key: Key,
@@ -35,7 +35,11 @@ impl Model for OpText {
 }
 
 impl OpText {
-    /// The text that tells the entry of the document. Fails only where an allocation does.
+    /// Renders the operation message of the document's entry.
+    ///
+    /// # Errors
+    ///
+    /// [`AllocError`] if an allocation fails.
     pub fn new(alloc: Global, key: &Key, entry: &Entry) -> Result<OpText, AllocError>
         ensures { IfOk result (λ t. t ≡ (plain_key key.now, entry.now)) }
     {
@@ -52,7 +56,7 @@ impl OpText {
         })
     }
 
-    /// Whether it tells this entry of this document. It takes no memory.
+    /// Returns whether this is the message of the document's entry. It doesn't allocate.
     pub fn is_text_of(&self, key: &Key, entry: &Entry) -> bool
         ensures on_true { IsTrue result → self.now ≡ (plain_key key.now, entry.now) }
         ensures on_false { IsFalse result → self.now ≡ (plain_key key.now, entry.now) → ⊥ }
@@ -62,7 +66,7 @@ impl OpText {
             && entries_equal(slice::from_ref(&self.entry), slice::from_ref(entry))
     }
 
-    /// The text.
+    /// Returns the text.
     pub fn as_str(&self) -> &str
         ensures { result.now ≡ answer_text (op_message self.now.0 self.now.1) }
     {

@@ -1,4 +1,4 @@
-//! Reads messages.
+//! The parser of messages.
 ghost use Rattle.std.specs.Prelude.{◌≡◌, ◌⊎◌, Ok, IfOk, IfErr, option_map, codes};
 ghost use Rattle.sdb_json.specs.JsonTree.{view as tree_view};
 ghost use Rattle.sdb_oplog.specs.Keys.{plain_key};
@@ -19,12 +19,16 @@ use sdb_value::from_value;
 use serde_json::Value;
 use std::alloc::{AllocError, Global};
 
-/// The request that a text is, or the first code in order, E1 to E3, with what the error shows. A text of
-/// more than [`MESSAGE_LIMIT`] bytes isn't read, and is E1.
+/// Parses a text to a request. A text of more than [`MESSAGE_LIMIT`] bytes isn't parsed.
+///
+/// # Errors
+///
+/// The first of [`Code::E1`] to [`Code::E3`] that applies, with the echo of the message, or
+/// [`Code::E10`] if an allocation fails.
 pub fn read_message(alloc: Global, text: &str) -> Result<Request, BadMessage>
     ensures ok { IfOk result (λ r. wire text.now ≡ Ok (plain_request r)) }
     ensures err { IfErr result (λ b. IsMessageFault b (wire text.now)) }
-    // For want of memory too, an error shows members of this message, or none.
+    // The echo is that of the message, or empty if an allocation failed.
     ensures echo { IfErr result (λ b. (plain_echo b.echo ≡ echo_of text.now) ⊎ (plain_echo b.echo ≡ empty_echo)) }
 {
     let mut scratch = Scratch::new(alloc);
@@ -41,8 +45,12 @@ pub fn read_message(alloc: Global, text: &str) -> Result<Request, BadMessage>
     }
 }
 
-/// The message that a text is: as [`read_message`], but with its JSON value, since a refusal by the log
-/// shows members of it too. The value borrows from the text and, where a text in it has escapes, from the scratch.
+/// Parses a text as [`read_message`] does, and keeps the JSON value for the echo of later refusals.
+/// The value borrows from the text and, for texts with escapes, from the scratch memory.
+///
+/// # Errors
+///
+/// [`AllocError`] if an allocation fails.
 pub fn parse_message<'a>(
     alloc: Global,
     text: &'a str,
@@ -66,8 +74,11 @@ pub fn parse_message<'a>(
     })
 }
 
-/// The JSON value of a message. `None` where its text has no reading, or more than [`MESSAGE_LIMIT`]
-/// bytes, and then it is not read.
+/// Parses a text to JSON. Returns `None` if it isn't JSON or has more than [`MESSAGE_LIMIT`] bytes.
+///
+/// # Errors
+///
+/// [`AllocError`] if an allocation fails.
 pub fn parse_tree<'a>(
     alloc: Global,
     text: &'a str,
@@ -81,7 +92,11 @@ pub fn parse_tree<'a>(
     JsonTree::from_str(alloc, text, scratch)
 }
 
-/// What an error shows of a message: nothing where it has no reading.
+/// Returns the echo of a message, which is empty if it isn't JSON.
+///
+/// # Errors
+///
+/// [`AllocError`] if an allocation fails.
 pub fn echo_of(alloc: Global, message: Option<&JsonTree<'_>>) -> Result<Echo, AllocError>
     ensures { IfOk result (λ e. plain_echo e ≡ echo_or_empty (option_map (λ v. v.now) message.entry)) }
 {
@@ -91,7 +106,7 @@ pub fn echo_of(alloc: Global, message: Option<&JsonTree<'_>>) -> Result<Echo, Al
     }
 }
 
-/// Shows nothing.
+/// Returns an echo without members.
 pub fn empty_echo() -> Echo
     ensures { plain_echo result ≡ empty_echo }
 {
@@ -139,7 +154,11 @@ fn request_of<D: JsonData>(alloc: Global, value: &D) -> Result<Request, Code>
     }
 }
 
-/// The key that `c` and `d` name, each a name. E1 where one is none.
+/// Parses the key of a document from the members `c` and `d`.
+///
+/// # Errors
+///
+/// [`Code::E1`] if one of them is no name, [`Code::E10`] if an allocation fails.
 pub fn read_key<D: JsonData>(alloc: Global, value: &D) -> Result<Key, Code>
     ensures ok { IfOk result (λ p. key_of (D.json value.now) ≡ Ok (plain_key p)) }
     ensures err { IfErr result (λ code. IsRefusalOrOutOfMemory (key_of (D.json value.now)) code) }
@@ -237,9 +256,15 @@ fn read_snapshot_at_time<D: JsonData>(alloc: Global, value: &D) -> Result<Reques
     Ok(Request::SnapshotAtTime { key, moment, id })
 }
 
-/// The one content of a message: an operation, a create or a delete. Another number of them is E1, as
-/// is a create that is no object with a text `type`; another type is E2; an operation or data outside
-/// the profile are E3.
+/// Parses the content of a message: an operation, a create or a delete.
+///
+/// # Errors
+///
+/// - [`Code::E1`] if there isn't exactly one of them, or if a create is no object with a text
+///   `type`.
+/// - [`Code::E2`] if the type isn't json0.
+/// - [`Code::E3`] if the operation or the data are outside the profile.
+/// - [`Code::E10`] if an allocation fails.
 pub fn read_content<D: JsonData>(alloc: Global, value: &D) -> Result<Content, Code>
     ensures ok { IfOk result (λ m. content_of (D.json value.now) ≡ Ok m) }
     ensures err { IfErr result (λ code. IsRefusalOrOutOfMemory (content_of (D.json value.now)) code) }

@@ -1,4 +1,4 @@
-//! The texts of answers, written token by token.
+//! The writer of answers.
 ghost use Rattle.std.specs.Prelude.{◌≡◌, ◌∷◌, [], ◌++◌, Some, None, IfOk, IfSome, OnOk, OnErr, string_bytes, option_map, decimal, codes};
 ghost use Rattle.json.specs.Print.{print};
 ghost use Rattle.json.specs.Token.{begin_object, key as key_token, string, number};
@@ -21,7 +21,11 @@ use sdb_oplog::{Code, Content, Entry, Key, Kind};
 use sdb_value::{Json, write_value};
 use std::alloc::{AllocError, Global};
 
-/// The text of an answer, compact, with the members of each object in the order of their bytes.
+/// Returns the text of an answer: compact JSON with members in byte order.
+///
+/// # Errors
+///
+/// [`AllocError`] if an allocation fails.
 pub fn reply_text(alloc: Global, answer: &Answer<'_>) -> Result<String, AllocError>
     ensures { IfOk result (λ s. string_bytes s ≡ answer_text (plain_answer answer.now)) }
 {
@@ -36,8 +40,11 @@ pub fn reply_text(alloc: Global, answer: &Answer<'_>) -> Result<String, AllocErr
     Ok(text_of(out))
 }
 
-/// Writes the text of an answer, as [`reply_text`] gives it, behind what `out` holds. After want of
-/// memory `out` holds what it held.
+/// Appends the text of an answer, as [`reply_text`] returns it, to `out`.
+///
+/// # Errors
+///
+/// [`AllocError`] if an allocation fails. `out` is then unchanged.
 pub fn append_answer_text(
     alloc: Global,
     answer: &Answer<'_>,
@@ -63,7 +70,8 @@ pub fn append_answer_text(
     out.extend_from_slice(text.as_slice())
 }
 
-// The bytes of the text of an answer. A writer over other bytes would first fill the room behind them.
+// Returns the bytes of an answer. A new vector avoids that the writer first fills the spare
+// capacity of `out`.
 fn answer_bytes(alloc: Global, answer: &Answer<'_>) -> Result<Vec<u8>, AllocError>
     ensures { IfOk result (λ v. v.items ≡ answer_text (plain_answer answer.now)) }
 {
@@ -75,7 +83,7 @@ fn answer_bytes(alloc: Global, answer: &Answer<'_>) -> Result<Vec<u8>, AllocErro
     Ok(bytes_of(writer))
 }
 
-// The operation that an answer tells, of an entry of a document, where their names need no escape.
+// Returns the parts of an operation message of an edit whose names have no character to escape.
 fn fast_edit<'a>(answer: &'a Answer<'_>) -> Option<(&'a Key, &'a Entry, &'a Op)>
     ensures told { IfSome result (λ t. plain_answer answer.now
         ≡ op_message (plain_key t.0.now) (with_content t.1.now (edit t.2.now))) }
@@ -95,7 +103,7 @@ fn fast_edit<'a>(answer: &'a Answer<'_>) -> Option<(&'a Key, &'a Entry, &'a Op)>
     }
 }
 
-// What was written.
+// Returns the bytes written.
 fn bytes_of(out: Writer) -> Vec<u8>
     requires { out.before ≡ [] }
     ensures { result.items ≡ print out.tokens }
@@ -103,7 +111,7 @@ fn bytes_of(out: Writer) -> Vec<u8>
     out.into_inner()
 }
 
-// What was written, which is UTF-8.
+// Returns the text written, which is UTF-8.
 fn text_of(out: Writer) -> String
     requires { out.before ≡ [] }
     ensures { string_bytes result ≡ print out.tokens }
@@ -162,7 +170,11 @@ fn write_answer(answer: &Answer<'_>, out: &mut Writer) -> Result<(), AllocError>
     }
 }
 
-/// Writes a member of an object: its name and this text.
+/// Writes a member of an object with a text.
+///
+/// # Errors
+///
+/// [`AllocError`] if an allocation fails. A prefix of the tokens may then be written.
 pub fn write_text(name: &str, text: &str, out: &mut Writer) -> Result<(), AllocError>
     ensures tokens { OnOk result (out.new.tokens ≡ out.old.tokens ++ key_token name.now ∷ string text.now ∷ []) }
     ensures before_unchanged { out.new.before ≡ out.old.before }
@@ -172,7 +184,11 @@ pub fn write_text(name: &str, text: &str, out: &mut Writer) -> Result<(), AllocE
     out.string(text)
 }
 
-/// Writes a member of an object: its name and this number.
+/// Writes a member of an object with a number.
+///
+/// # Errors
+///
+/// [`AllocError`] if an allocation fails. A prefix of the tokens may then be written.
 pub fn write_count(name: &str, count: u64, out: &mut Writer) -> Result<(), AllocError>
     ensures tokens { OnOk result (out.new.tokens ≡ out.old.tokens ++ key_token name.now ∷ number (decimal count) ∷ []) }
     ensures before_unchanged { out.new.before ≡ out.old.before }
@@ -183,7 +199,7 @@ pub fn write_count(name: &str, count: u64, out: &mut Writer) -> Result<(), Alloc
     out.u64(count)
 }
 
-// The first members of an answer about a document.
+// Writes the first members of an answer about a document.
 fn write_head(kind: &str, key: &Key, out: &mut Writer) -> Result<(), AllocError>
     ensures tokens { OnOk result (out.new.tokens
         ≡ out.old.tokens ++ begin_object ∷ key_token (codes "a") ∷ string kind.now
@@ -197,7 +213,7 @@ fn write_head(kind: &str, key: &Key, out: &mut Writer) -> Result<(), AllocError>
     write_text("d", key.id.as_str(), out)
 }
 
-// The session's source.
+// Writes the session's source.
 fn write_hello_answer(kind: &str, src: &str, out: &mut Writer) -> Result<(), AllocError>
     ensures tokens { OnOk result (out.new.tokens ≡ out.old.tokens ++ data_tokens (hello_data kind.now src.now)) }
     ensures before_unchanged { out.new.before ≡ out.old.before }
@@ -232,7 +248,7 @@ fn write_snapshot(version: u64, document: Option<&Json>, out: &mut Writer) -> Re
     out.end_object()
 }
 
-// The present version, and the document there.
+// The current version and document.
 fn write_document(
     kind: &str,
     key: &Key,
@@ -251,7 +267,7 @@ fn write_document(
     out.end_object()
 }
 
-// An answer that says no more than which document it is about.
+// Writes an answer that names only its document.
 fn write_key(kind: &str, key: &Key, out: &mut Writer) -> Result<(), AllocError>
     ensures tokens { OnOk result (out.new.tokens
         ≡ out.old.tokens ++ data_tokens (key_data kind.now (plain_key key.now))) }
@@ -261,7 +277,7 @@ fn write_key(kind: &str, key: &Key, out: &mut Writer) -> Result<(), AllocError>
     out.end_object()
 }
 
-// The document at a version, or that there is none.
+// Writes the document at a version, or that it is absent.
 fn write_snapshot_at(
     word: &str,
     id: u64,
@@ -315,7 +331,7 @@ fn write_absent_at(word: &str, id: u64, version: u64, out: &mut Writer) -> Resul
     out.end_object()
 }
 
-// An entry that shows this content.
+// Writes an operation message with this content.
 fn write_op_message(
     key: &Key,
     entry: &Entry,
@@ -333,7 +349,11 @@ fn write_op_message(
     write_tail(entry, out)
 }
 
-/// Writes a stored operation, as [`entry_value`](crate::entry_value) spells it, behind what is written.
+/// Writes an entry, as [`entry_value`](crate::entry_value) has it.
+///
+/// # Errors
+///
+/// [`AllocError`] if an allocation fails. A prefix of the tokens may then be written.
 pub fn write_entry(entry: &Entry, out: &mut Writer) -> Result<(), AllocError>
     ensures tokens { OnOk result (out.new.tokens ≡ out.old.tokens ++ data_tokens (entry_data entry.now)) }
     ensures before_unchanged { out.new.before ≡ out.old.before }
@@ -344,7 +364,7 @@ pub fn write_entry(entry: &Entry, out: &mut Writer) -> Result<(), AllocError>
     write_tail(entry, out)
 }
 
-// The content by itself.
+// Writes the content without the key.
 fn write_entry_content(entry: &Entry, out: &mut Writer) -> Result<(), AllocError>
     ensures tokens { OnOk result (out.new.tokens ++ object_tail_tokens (op_tail entry.now)
         ≡ out.old.tokens ++ object_tail_tokens (entry_members entry.now (entry.now).content)) }
@@ -368,7 +388,7 @@ fn write_entry_content(entry: &Entry, out: &mut Writer) -> Result<(), AllocError
     }
 }
 
-// What follows the content, and the end.
+// Writes the members after the content, and the end of the object.
 fn write_tail(entry: &Entry, out: &mut Writer) -> Result<(), AllocError>
     ensures tokens { OnOk result (out.new.tokens ≡ out.old.tokens ++ object_tail_tokens (op_tail entry.now)) }
     ensures before_unchanged { out.new.before ≡ out.old.before }
@@ -380,7 +400,7 @@ fn write_tail(entry: &Entry, out: &mut Writer) -> Result<(), AllocError>
     out.end_object()
 }
 
-// The key with the content, whose name stands among the key's.
+// Writes the key and the content, with members in byte order.
 fn write_content(key: &Key, content: &Content, out: &mut Writer) -> Result<(), AllocError>
     ensures tokens { OnOk result ((rest : Members) → out.new.tokens ++ object_tail_tokens rest
         ≡ out.old.tokens ++ object_tail_tokens (content_members (plain_key key.now) content.now rest)) }
@@ -406,7 +426,11 @@ fn write_content(key: &Key, content: &Content, out: &mut Writer) -> Result<(), A
     }
 }
 
-/// Writes the data of a create, and the type, behind what is written.
+/// Writes the data and the type of a create.
+///
+/// # Errors
+///
+/// [`AllocError`] if an allocation fails. A prefix of the tokens may then be written.
 pub fn write_create(value: &Json, out: &mut Writer) -> Result<(), AllocError>
     ensures tokens { OnOk result (out.new.tokens ≡ out.old.tokens ++ data_tokens (create_data (value_of value.now))) }
     ensures before_unchanged { out.new.before ≡ out.old.before }
@@ -455,7 +479,7 @@ fn write_error_answer(echo: &Echo, code: Code, out: &mut Writer) -> Result<(), A
     out.end_object()
 }
 
-// A member, unless it is none.
+// Writes a member if it is present.
 fn write_echo_value(
     name: &str,
     word: &Option<EchoValue>,

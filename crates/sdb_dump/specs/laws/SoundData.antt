@@ -1,5 +1,4 @@
--- Which data have a text that reads back: whole numbers of 64 bits, texts in UTF-8, and the keys of an object
--- ascending by their bytes.
+-- Data whose text parses back: integers of 64 bits, texts in UTF-8, and objects with keys sorted by bytes.
 use Rattle.std.specs.Prelude.{◌≡◌, ℕ, pos, negsuc, ◌^◌, ◌<◌, List, ⊤}
 use Rattle.std.specs.Cmp.Lexicographic.{slice_cmp}
 use Rattle.std.specs.Ordering.{nat_cmp}
@@ -13,7 +12,7 @@ IsSafeNumber (negative (pos n)) = ⊥
 IsSafeNumber (negative (negsuc n)) = n < 2 ^ 63
 IsSafeNumber (float x) = ⊥
 
--- the key is below each of the members' keys
+-- the key is less than each key of the members
 abbrev pub IsKeyBelowAll : List ℕ → Members → Type 0
 IsKeyBelowAll k no_members = ⊤
 IsKeyBelowAll k (member l d ms) = (slice_cmp nat_cmp k l ≡ Less) × IsKeyBelowAll k ms

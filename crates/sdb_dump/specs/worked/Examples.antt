@@ -1,4 +1,4 @@
--- Rows: lines of dumps, and what a checker answers.
+-- Examples: lines of dumps and the results of their check.
 use Rattle.std.specs.Prelude.{◌≡◌, ℕ, List, [], ◌∷◌, None, Ok, Err, codes, pos, refl}
 use Rattle.std.specs.Fmt.{digits}
 use Rattle.std.specs.Str.{chars, is_utf8}
@@ -50,8 +50,8 @@ pub row_empty : dump_text Two [] ≡ codes "{\"dump\":2}\n{\"entries\":0}\n"
 unfolding serde_json_on_literals digits
 row_empty = refl
 
--- one entry is accepted, with its moment or at moment 0; with another version line 2 isn't right; without its count the
--- line of the count is missing
+-- one entry is accepted, with its moment or at moment 0; with another version line 2 is wrong; without the count its
+-- line is missing
 pub row_accepted : check (header_line Two ∷ row ∷ count_line 1 ∷ []) [] ≡ Ok (stored_at 100 ∷ [])
 unfolding serde_json_on_literals digits chars is_utf8
 row_accepted = refl

@@ -10,7 +10,7 @@ use Rattle.sdb_oplog.specs.Decide.{PlainReply, refused, decide_allocates}
 use Rattle.sdb_subscribe.specs.Queue.{PlainQueues, open_queue, take_result_by, queues_after_take_by}
 use Rattle.sdb_oplog.specs.Snap.{document_of}
 use Rattle.sdb_desk.specs.laws.KeyLaws.{with_queues_same, keys_equal_refl}
-use Rattle.sdb_desk.specs.Machine.{Machine, QueuesByKey, IsUnchanged, PlainFetchResult, PlainSubscribeResult, DecidesOrOutOfMemory, ReadOrOutOfMemory, is_nonempty, operations_from, queue_start, subscribe_step, subscribe_from_start, subscribe_opened as opening_of, with_queues}
+use Rattle.sdb_desk.specs.Machine.{Machine, QueuesByKey, IsUnchanged, PlainFetchResult, PlainSubscribeResult, DecidesOrOutOfMemory, ReadOrOutOfMemory, is_nonempty, operations_from, queue_start, subscribe_step, subscribe_from_start, subscribe_opened, with_queues}
 use Rattle.sdb_projection.specs.Table.{PlainProjection}
 use Rattle.sdb_submit.specs.Calls.{MachineStep, take_next, unsubscribe as unsubscribe_call, subscribe as subscribe_call, snapshot as snapshot_call, snapshot_at_time as at_time_call}
 use Rattle.sdb_submit.specs.SubmitLoop.{CallRelation, PlainBatch, total_size, entries_of, taken_or_empty, TakesBatches}
@@ -65,14 +65,14 @@ written f g k v others here = others ∙ ap (with_queues f k) here
 
 -- a subscribe that succeeds uses the next number
 next_if : (b : Bool) (log : List PlainEntry) (v : ℕ) (q w : PlainQueues) (o : PlainSubscribeResult)
-    → (opening_of log v q (cond b (Err E11) (Ok w))).answer ≡ Ok o → o.id ≡ q.next
+    → (subscribe_opened log v q (cond b (Err E11) (Ok w))).answer ≡ Ok o → o.id ≡ q.next
 next_if true log v q w o h = cc
 next_if false log v q w o h =
     let e : record { id = q.next; start = v; version = length log; snapshot = document_of log } ≡ o = cc in
     ap (λ x. x.id) (sym e)
 
 started_if : (b : Bool) (log : List PlainEntry) (v : ℕ) (q : PlainQueues) (o : PlainSubscribeResult)
-    → (subscribe_from_start log pass_zero q (cond b (Err E4) (Ok v))).answer ≡ Ok o → (opening_of log v q (open_queue pass_zero v q)).answer ≡ Ok o
+    → (subscribe_from_start log pass_zero q (cond b (Err E4) (Ok v))).answer ≡ Ok o → (subscribe_opened log v q (open_queue pass_zero v q)).answer ≡ Ok o
 started_if true log v q o h = cc
 started_if false log v q o h = h
 
@@ -86,7 +86,7 @@ next_number log v q o h =
 
 -- a subscribe that is refused leaves the queues unchanged
 open_keeps : (r : Result PlainQueues Code) (log : List PlainEntry) (v : ℕ) (q : PlainQueues) (code : Code)
-    → (opening_of log v q r).answer ≡ Err code → (opening_of log v q r).queues ≡ q
+    → (subscribe_opened log v q r).answer ≡ Err code → (subscribe_opened log v q r).queues ≡ q
 open_keeps (Ok w) log v q code h = cc
 open_keeps (Err c) log v q code h = refl
 

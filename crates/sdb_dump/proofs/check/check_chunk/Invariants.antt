@@ -4,7 +4,7 @@ use Rattle.sdb_dump.specs.CheckStages.{PlainStage}
 use Rattle.sdb_dump.specs.CheckText.{check_result_from}
 use Rattle.sdb_dump.proofs.check.check_chunk.Given as goal
 
--- the lines so far were taken, and what is left is answered as all is
+-- the lines so far were checked, and the rest has the result of the whole
 abbrev pub invariant-loop-at : goal.invariant-loop-at
 invariant-loop-at l = record {
   few : l.checker.entries + length l.rest ≤ l.initial.checker.entries + length l.initial.rest;

@@ -1,7 +1,7 @@
 use Rattle.std.proofs.Common.{◌≡◌, List, true, false, [], ◌∷◌, ◌++◌, ◌+◌, suc, take, map, sym, ap, ◌∙◌, subst, append_assoc, arith}
 use Rattle.std.proofs.lemmas.List.{append-nil, take_all, take_more}
 use Rattle.std.specs.List.{flat_map}
-use Rattle.sdb_chunks.specs.Chunk.{items_of as block_items}
+use Rattle.sdb_chunks.specs.Chunk.{items_of}
 use Rattle.sdb_chunks.specs.declared.chunk.Chunk.{Chunk}
 use Rattle.sdb_value.specs.declared.value.Json.{Json}
 use Rattle.sdb_chunks.specs.Iter.{remaining_chunks}
@@ -51,7 +51,7 @@ clone_chunks-clone_chunk-requires t c =
 
 pub clone_chunk-clone_items-requires : goal.clone_chunk-clone_items-requires
 clone_chunk-clone_items-requires t c =
-    let same : term_weights c.items.result.now ≡ term_weights (block_items c.args.block.now) = ap term_weights c.items.ensures in
+    let same : term_weights c.items.result.now ≡ term_weights (items_of c.args.block.now) = ap term_weights c.items.ensures in
     (omega (arith, same, c.decreases), tt)
 
 pub clone_items-copy-requires : goal.clone_items-copy-requires
@@ -88,7 +88,7 @@ clone_chunks-loop-block-preserved t c =
     record {
       done = done ++ b ∷ [];
       split = l.invariant.split ∙ ap (λ bs. done ++ bs) steps ∙ sym (append_assoc done (b ∷ []) left);
-      values = ap (λ l. items_value (flat_map block_items l)) pushed ∙ items_more done cs b new l.invariant.values c.in_ok-clone_chunk.ensures.items;
+      values = ap (λ l. items_value (flat_map items_of l)) pushed ∙ items_more done cs b new l.invariant.values c.in_ok-clone_chunk.ensures.items;
       own = subst Q {x = cs ++ new ∷ []} (sym pushed) (blocks_copied_more is_unique c.args.manner done cs b new l.invariant.own c.in_ok-clone_chunk.ensures.unique);
       below = blocks_below _ left b (term_weights (vec_items c.args.items.now)) steps l.invariant.below;
     }
@@ -97,7 +97,7 @@ pub clone_chunks-returns-clause-items : goal.clone_chunks-returns-clause-items
 clone_chunks-returns-clause-items t c =
     let l = c.loop-block in
     let all : vec_chunks c.args.items.now ≡ l.invariant.done = l.invariant.split ∙ ap (λ bs. l.invariant.done ++ bs) c.in-None.ensures.steps.0 ∙ append-nil l.invariant.done in
-    l.invariant.values ∙ ap (λ bs. items_value (flat_map block_items bs)) (sym all)
+    l.invariant.values ∙ ap (λ bs. items_value (flat_map items_of bs)) (sym all)
 
 pub clone_chunks-returns-clause-unique : goal.clone_chunks-returns-clause-unique
 clone_chunks-returns-clause-unique t c =
@@ -132,20 +132,20 @@ pub clone_members-from_entries-requires-in_default-inner : goal.clone_members-fr
 clone_members-from_entries-requires-in_default-inner t c =
     let q = c.chunks-2.result.now in
     let new = c.from_chunks.result in
-    let viewed : entries_value (vec_items new) ≡ entries_value (vec_items q) = ap (λ b. entries_value (flat_map block_items b)) c.from_chunks.ensures.blocks ∙ c.in_ok-copies.ensures.members in
+    let viewed : entries_value (vec_items new) ≡ entries_value (vec_items q) = ap (λ b. entries_value (flat_map items_of b)) c.from_chunks.ensures.blocks ∙ c.in_ok-copies.ensures.members in
     record { small = small_viewed q new viewed c.chunks-2.ensures.bound; ascending = ascending_viewed q new viewed c.chunks-2.ensures.ascending }
 
 pub clone_members-from_entries-requires-clause-bound : goal.clone_members-from_entries-requires-clause-bound
 clone_members-from_entries-requires-clause-bound t c =
     let q = c.chunks-2.result.now in
     let new = c.in_ok-entries-in-Frozen.entries in
-    small_viewed q new (ap (λ b. entries_value (flat_map block_items b)) c.in_ok-entries-in-Frozen.ensures.blocks ∙ c.in_ok-copies.ensures.members) c.chunks-2.ensures.bound
+    small_viewed q new (ap (λ b. entries_value (flat_map items_of b)) c.in_ok-entries-in-Frozen.ensures.blocks ∙ c.in_ok-copies.ensures.members) c.chunks-2.ensures.bound
 
 pub clone_members-from_entries-requires-clause-ascending : goal.clone_members-from_entries-requires-clause-ascending
 clone_members-from_entries-requires-clause-ascending t c =
     let q = c.chunks-2.result.now in
     let new = c.in_ok-entries-in-Frozen.entries in
-    ascending_viewed q new (ap (λ b. entries_value (flat_map block_items b)) c.in_ok-entries-in-Frozen.ensures.blocks ∙ c.in_ok-copies.ensures.members) c.chunks-2.ensures.ascending
+    ascending_viewed q new (ap (λ b. entries_value (flat_map items_of b)) c.in_ok-entries-in-Frozen.ensures.blocks ∙ c.in_ok-copies.ensures.members) c.chunks-2.ensures.ascending
 
 pub clone_members-returns-in_default-inner : goal.clone_members-returns-in_default-inner
 clone_members-returns-in_default-inner t c =
@@ -163,7 +163,7 @@ clone_members-returns-in_default-inner t c =
     c.from_chunks.ensures.unique (subst P c.chunks-2.ensures.equal c.in_ok-copies.ensures.unique) in
     record {
       members = ap (λ (q : ChunkedVec (MapEntry Json)). entries_value (vec_items q)) c.from_entries-in_default-inner.ensures
-          ∙ ap (λ b. entries_value (flat_map block_items b)) c.from_chunks.ensures.blocks ∙ c.in_ok-copies.ensures.members
+          ∙ ap (λ b. entries_value (flat_map items_of b)) c.from_chunks.ensures.blocks ∙ c.in_ok-copies.ensures.members
           ∙ ap (λ (q : ChunkedVec (MapEntry Json)). entries_value (vec_items q)) c.chunks-2.ensures.equal;
       own = subst Q (sym c.from_entries-in_default-inner.ensures)
           (by_manner kind c.args.manner (is_grouped c.chunks.result.now.repr) (object_unique m) (entries_unique new) (is_shared_vec new) inner.copied
@@ -194,7 +194,7 @@ clone_member_chunks-loop-block-preserved t c =
     record {
       done = done ++ b ∷ [];
       split = l.invariant.split ∙ ap (λ bs. done ++ bs) steps ∙ sym (append_assoc done (b ∷ []) left);
-      members = ap (λ l. entries_value (flat_map block_items l)) pushed ∙ entries_more done cs b new l.invariant.members c.in_ok-clone_member_chunk.ensures.members;
+      members = ap (λ l. entries_value (flat_map items_of l)) pushed ∙ entries_more done cs b new l.invariant.members c.in_ok-clone_member_chunk.ensures.members;
       own = subst Q {x = cs ++ new ∷ []} (sym pushed) (blocks_copied_more value_own c.args.manner done cs b new l.invariant.own c.in_ok-clone_member_chunk.ensures.unique);
       below = parts_below _ left b (entries_weight (vec_items c.args.entries.now)) steps l.invariant.below;
     }
@@ -203,7 +203,7 @@ pub clone_member_chunks-returns-clause-members : goal.clone_member_chunks-return
 clone_member_chunks-returns-clause-members t c =
     let l = c.loop-block in
     let all : vec_chunks c.args.entries.now ≡ l.invariant.done = l.invariant.split ∙ ap (λ bs. l.invariant.done ++ bs) c.in-None.ensures.steps.0 ∙ append-nil l.invariant.done in
-    l.invariant.members ∙ ap (λ bs. entries_value (flat_map block_items bs)) (sym all)
+    l.invariant.members ∙ ap (λ bs. entries_value (flat_map items_of bs)) (sym all)
 
 pub clone_member_chunks-returns-clause-unique : goal.clone_member_chunks-returns-clause-unique
 clone_member_chunks-returns-clause-unique t c =

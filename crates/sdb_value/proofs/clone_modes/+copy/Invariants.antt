@@ -1,6 +1,6 @@
 use Rattle.std.proofs.Common.{◌≡◌, ◌+◌, ◌*◌, ◌≤◌, List, ◌++◌, take, map, true}
 use Rattle.std.specs.List.{flat_map}
-use Rattle.sdb_chunks.specs.Chunk.{items_of as block_items}
+use Rattle.sdb_chunks.specs.Chunk.{items_of}
 use Rattle.sdb_chunks.specs.Iter.{remaining_chunks}
 use Rattle.sdb_chunks.specs.declared.chunk.Chunk.{Chunk}
 use Rattle.sdb_chunks.specs.ChunkedVec.{all_shared, vec_chunks, vec_items}
@@ -23,7 +23,7 @@ abbrev pub decreases-clone_member_chunks : goal.decreases-clone_member_chunks
 decreases-clone_member_chunks l = 8 * entries_weight (vec_items l.entries.now) + 4
 
 abbrev pub decreases-clone_member_chunk : goal.decreases-clone_member_chunk
-decreases-clone_member_chunk l = 8 * entries_weight (block_items l.block.now) + 3
+decreases-clone_member_chunk l = 8 * entries_weight (items_of l.block.now) + 3
 
 abbrev pub decreases-clone_each_member : goal.decreases-clone_each_member
 decreases-clone_each_member l = 8 * entries_weight l.members.now + 2
@@ -35,7 +35,7 @@ abbrev pub decreases-clone_chunks : goal.decreases-clone_chunks
 decreases-clone_chunks l = 8 * term_weights (vec_items l.items.now) + 4
 
 abbrev pub decreases-clone_chunk : goal.decreases-clone_chunk
-decreases-clone_chunk l = 8 * term_weights (block_items l.block.now) + 3
+decreases-clone_chunk l = 8 * term_weights (items_of l.block.now) + 3
 
 abbrev pub decreases-clone_items : goal.decreases-clone_items
 decreases-clone_items l = 8 * term_weights l.items.now + 2
@@ -50,9 +50,9 @@ abbrev pub invariant-clone_chunks-loop-block : goal.invariant-clone_chunks-loop-
 invariant-clone_chunks-loop-block l = record {
   done : List (Chunk Json);
   split : vec_chunks l.items ≡ done ++ remaining_chunks l.block-iterator;
-  values : items_value (flat_map block_items l.copies.items) ≡ items_value (flat_map block_items done);
+  values : items_value (flat_map items_of l.copies.items) ≡ items_value (flat_map items_of done);
   own : HasUniquenessOfMode l.manner (are_deep_unique_chunks done) (are_deep_unique_chunks l.copies.items) (all_shared l.copies.items);
-  below : term_weights (flat_map block_items (remaining_chunks l.block-iterator)) ≤ term_weights (vec_items l.items);
+  below : term_weights (flat_map items_of (remaining_chunks l.block-iterator)) ≤ term_weights (vec_items l.items);
 }
 
 abbrev pub invariant-clone_each_member-loop-member : goal.invariant-clone_each_member-loop-member
@@ -65,7 +65,7 @@ abbrev pub invariant-clone_member_chunks-loop-block : goal.invariant-clone_membe
 invariant-clone_member_chunks-loop-block l = record {
   done : List (Chunk (MapEntry Json));
   split : vec_chunks l.entries ≡ done ++ remaining_chunks l.block-iterator;
-  members : entries_value (flat_map block_items l.copies.items) ≡ entries_value (flat_map block_items done);
+  members : entries_value (flat_map items_of l.copies.items) ≡ entries_value (flat_map items_of done);
   own : HasUniquenessOfMode l.manner (are_deep_unique_member_chunks done) (are_deep_unique_member_chunks l.copies.items) (all_shared l.copies.items);
-  below : entries_weight (flat_map block_items (remaining_chunks l.block-iterator)) ≤ entries_weight (vec_items l.entries);
+  below : entries_weight (flat_map items_of (remaining_chunks l.block-iterator)) ≤ entries_weight (vec_items l.entries);
 }

@@ -5,7 +5,7 @@ use Rattle.serde_json.specs.Data as raw
 use Rattle.serde_json.specs.View as data-view
 use Rattle.sdb_json.specs.JsonTree.{sorted_members}
 use Rattle.sdb_sorted_map.specs.MapEntry.{key_value}
-use Rattle.sdb_sorted_map.specs.SortedMap.{map_entries, is_unique_map as members_own, map_chunks}
+use Rattle.sdb_sorted_map.specs.SortedMap.{map_entries, is_unique_map, map_chunks}
 use Rattle.sdb_chunks.specs.ChunkedVec.{vec_items}
 use Rattle.sdb_sorted_map.specs.SearchModel.{entry_key_bytes}
 use Rattle.sdb_value.specs.Value.{append_items, members_depth}
@@ -104,5 +104,5 @@ read_members-returns-clause-depth g t c =
 pub read_members-returns-clause-unique : goal.read_members-returns-clause-unique
 read_members-returns-clause-unique g t c =
     let m = c.in_ok-from_sorted.field-0 in
-    and_intro (members_own m) (members_unique (vec_items (map_chunks m))) c.in_ok-from_sorted.ensures.unique
+    and_intro (is_unique_map m) (members_unique (vec_items (map_chunks m))) c.in_ok-from_sorted.ensures.unique
     (owns_of (vec_items (map_chunks m)) ∙ ap entries_own c.in_ok-from_sorted.ensures.members ∙ c.loop-key.invariant.own)

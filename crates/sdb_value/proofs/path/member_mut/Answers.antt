@@ -1,5 +1,5 @@
 use Rattle.sdb_value.proofs.PutLemmas.{both_first, object_found, own_found}
-use Rattle.sdb_sorted_map.specs.SortedMap.{is_unique_map as members_own, map_chunks}
+use Rattle.sdb_sorted_map.specs.SortedMap.{is_unique_map, map_chunks}
 use Rattle.sdb_chunks.specs.ChunkedVec.{vec_items}
 use Rattle.sdb_value.specs.Uniqueness.{members_unique}
 use Rattle.sdb_value.proofs.path.member_mut.Goals as goal
@@ -8,6 +8,6 @@ pub returns : goal.returns
 returns c =
     let m = c.args.members.now in
     let k = c.args.name.now in (
-      λ own. object_found c.get_mut.result (λ x. x.now) m k (c.get_mut.ensures (both_first (members_own m) (members_unique (vec_items (map_chunks m))) own)),
-      λ own. own_found c.get_mut.result (λ x. x.now) m k (c.get_mut.ensures (both_first (members_own m) (members_unique (vec_items (map_chunks m))) own)) own,
+      λ own. object_found c.get_mut.result (λ x. x.now) m k (c.get_mut.ensures (both_first (is_unique_map m) (members_unique (vec_items (map_chunks m))) own)),
+      λ own. own_found c.get_mut.result (λ x. x.now) m k (c.get_mut.ensures (both_first (is_unique_map m) (members_unique (vec_items (map_chunks m))) own)) own,
     )

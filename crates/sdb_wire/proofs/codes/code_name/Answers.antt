@@ -1,4 +1,4 @@
--- In each arm the two texts are the same numbers.
+-- In each arm both texts are the same bytes.
 use Rattle.std.proofs.Common.{ap, sym}
 use Rattle.sdb_wire.specs.Answers.{code_name}
 use Rattle.sdb_wire.proofs.codes.code_name.Goals as goal

@@ -10,7 +10,7 @@ by_case false m n e h =
     let s : m ≡ n = cc in
     ap within (sym s) ∙ ap (λ b. cond b None (Some m)) e ∙ ap Some s
 
--- what was within the bound is again
+-- a number that passed the bound passes it again
 again : (o : Option ℕ) (n : ℕ) → option_and_then within o ≡ Some n → within n ≡ Some n
 again None n h = cc
 again (Some m) n h = by_case (nat_lt 9007199254740991 m) m n refl h

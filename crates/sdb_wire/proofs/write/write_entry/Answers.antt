@@ -9,7 +9,7 @@ use Rattle.sdb_value.specs.laws.PrefixLaws.{writes_prefix_of_rest}
 use Rattle.sdb_wire.specs.Answers.{create_data, entry_members, op_tail}
 use Rattle.sdb_wire.proofs.write.write_entry.Goals as goal
 
--- the content stands before the tail
+-- the content is before the tail
 content_adds : (e : PlainEntry) (m : PlainContent) → length (object_tail_tokens (op_tail e)) ≤ length (begin_object ∷ object_tail_tokens (entry_members e m))
 content_adds e (create v) = omega (arith, length-append (data_tokens (create_data v)) (object_tail_tokens (op_tail e)))
 content_adds e delete = omega arith

@@ -1,5 +1,5 @@
 use Rattle.std.proofs.Common.{◌≡◌, ℕ, List, [], ◌∷◌, map, false, cond, String, Global, string_bytes, refl, sym, ap, ◌∙◌}
-use Rattle.sdb_sorted_map.specs.SortedMap.{is_unique_map as members_own, map_chunks}
+use Rattle.sdb_sorted_map.specs.SortedMap.{is_unique_map, map_chunks}
 use Rattle.sdb_chunks.specs.ChunkedVec.{vec_items}
 use Rattle.sdb_value.specs.Uniqueness.{all_true, is_unique, map_unique, members_unique}
 use Rattle.sdb_value.specs.Value.{object}
@@ -19,5 +19,5 @@ returns-clause-value c = c.from_members.ensures.value ∙ ap (λ es. object (mem
 pub returns-clause-unique : goal.returns-clause-unique
 returns-clause-unique c own =
     let m = c.in_ok-from_map.field-0 in
-    c.from_members.ensures.unique ∙ and_intro (members_own m) (members_unique (vec_items (map_chunks m))) c.in_ok-from_map.ensures.unique
+    c.from_members.ensures.unique ∙ and_intro (is_unique_map m) (members_unique (vec_items (map_chunks m))) c.in_ok-from_map.ensures.unique
     (owns_of (vec_items (map_chunks m)) ∙ ap (λ (es : List (List ℕ × Json)). all_true (map (λ (e : List ℕ × Json). is_unique e.1) es)) c.in_ok-from_map.ensures.members ∙ seconds c.args.members.entries ∙ own)
