@@ -1,8 +1,8 @@
-"""Writes the input of the benchmark of a board: 8 sources put cards in, move them and mark them, each up to 8 versions behind.
+"""Writes the input of the benchmark of a board: 8 sources insert, move and mark cards. Base versions are up to 8 before the log's.
 
-Each source puts cards anywhere into a column of its own and moves them from there to the top of one that all share, whose oldest
-ones the first source takes out; marks stand in one object. So every operation fits the version that it names. A column has some
-20 cards, or as many as are named. boards.py OPERATIONS [CARDS]"""
+Each source inserts cards anywhere into a column of its own and moves them from there to the top of a shared one. The first source
+removes the oldest cards of that one; marks are in one object. So every operation applies at its base version. A column has some 20
+cards, or CARDS. boards.py OPERATIONS [CARDS]"""
 import bisect
 import json
 import random
@@ -18,7 +18,7 @@ class Board:
     def __init__(self, cards):
         self.pick, self.cards = random.Random(4), cards
         self.columns = [[] for _ in range(SOURCES)]
-        # the cards that were moved, with the versions that their moves are stored at, and how many were taken out
+        # the moved cards, with the versions at which their moves are stored, and how many were removed
         self.moved, self.versions, self.gone = [], [], 0
 
     def put(self, source, number):
@@ -62,7 +62,7 @@ def main(operations, cards=20):
     print(json.dumps({"a": "op", "c": "boards", "d": "1", "src": "u0", "seq": 0, "create": create}, separators=(",", ":")))
     for number in range(1, operations):
         source = number % SOURCES
-        # its own last one it has seen
+        # the source has seen its own last operation
         version = max(1, number - board.pick.randrange(BEHIND))
         message = {"a": "op", "c": "boards", "d": "1", "v": version, "src": f"u{source}", "seq": number}
         message["op"] = board.edit(source, number, version)

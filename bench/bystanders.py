@@ -1,10 +1,10 @@
-"""Measures what one client's long edits cost those who edit other documents: bystanders.py SERVER [EDITS]
+"""Measures what one client's long edits cost the editors of other documents: bystanders.py SERVER [EDITS]
 
-One document gets 1,000 operations of 256 components. Then one client sends operations of 256 components made at
-version 1 of it, so each is carried over all of them, while another one edits it without a pause, so each finds that the
-log has moved. Beside both a bystander sends edits to sixteen other documents in turn, of which some share the
-document's lock: 10,000 (or EDITS), and more until two of the late operations were acknowledged. Printed are the middle
-and the slowest acknowledgement of the bystander, first without the other two.
+One document gets 1,000 operations of 256 components. Then one client sends operations of 256 components with base
+version 1, so each is transformed against all of them. Another client edits the document without a pause, so each commit
+finds a longer log. At the same time a bystander sends edits to sixteen other documents in turn, of which some share the
+document's lock: 10,000 (or EDITS), and more until two of the late operations are acknowledged. It prints the middle and
+the slowest acknowledgement of the bystander, first without the other two.
 
 SERVER is the program of the server. It is started at a port of its own and stopped at the end."""
 import json
@@ -22,7 +22,7 @@ DOCUMENTS = 16
 
 
 class Client:
-    """One session over a WebSocket. Its frames are masked by zeros, so that nothing has to be computed."""
+    """One session over a WebSocket. Its frames are masked by zeros, so that no mask is computed."""
 
     def __init__(self, port, source):
         self.socket = socket.create_connection(("127.0.0.1", port))
@@ -60,7 +60,7 @@ class Client:
         return text if head[0] & 15 == 1 else self.receive()
 
     def submit(self, document, **content):
-        """Sends an operation and waits until it is acknowledged; what others have stored comes before."""
+        """Sends an operation and waits for its acknowledgement, after the operations of others."""
         self.seq += 1
         self.send({"a": "op", "c": "boards", "d": document, "src": self.source, "seq": self.seq, **content})
         own = b'"seq":%d,"src":"%s"' % (self.seq, self.source.encode())

@@ -1,10 +1,10 @@
 """Measures dumps: dumps.py [ENTRIES] takes the built program of steps and the measuring program
 
-One session stores the entries in 64 documents: of five edits four add to one number, the fifth inserts into one text. Told are
-processor seconds: the steps answered, the steps with the dump of what they store at their end, that dump checked, and the pass
-that only reads and prints the JSON of the dump's lines; and the memory that the check held at most, for each entry. Then, of
-texts that grow by 100 bytes 100,000 times, in one document and in 1,000, what the steps held at most, their documents beside
-their logs, and what the check held, which keeps the logs and one document."""
+One session stores the entries in 64 documents: of five edits four add to one number, the fifth inserts into one text. It prints
+processor seconds of the answered steps, of the steps with a dump at the end, of the check of that dump, and of a pass that only
+reads and prints the JSON of the dump's lines; and the memory of the check for each entry. Then it measures texts that grow by
+100 bytes 100,000 times, in one document and in 1,000: the memory of the steps, which keep documents and logs, and that of the
+check, which keeps the logs and one document."""
 import json
 import os
 import subprocess
@@ -28,7 +28,7 @@ def steps(entries):
         yield {"s": 0, "do": "commit", "ms": at}
 
 
-# Texts that grow, by so many edits in each of so many documents.
+# Returns lines of texts that grow: `edits` edits in each of `documents` documents.
 def growing(documents, edits):
     for key in range(documents):
         for seq in range(1, edits + 2):
@@ -44,7 +44,7 @@ def write_steps(path, lines):
 
 
 def run(command, path, out):
-    """Processor seconds, and the kilobytes that it held at most."""
+    """Returns the processor seconds, and the maximal memory in kilobytes."""
     with open(path, "rb") as lines, open(out, "wb") as written:
         process = subprocess.Popen(command, stdin=lines, stdout=written)
         _, status, usage = os.wait4(process.pid, 0)

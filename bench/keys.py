@@ -1,7 +1,7 @@
-"""Measures what is kept of a key that was subscribed to and has neither a document nor an open queue: bench/keys.py SERVER
+"""Measures the memory of a key that was subscribed to and has neither a document nor an open queue: bench/keys.py SERVER
 
-It gives one session over lines two runs of different length, and prints the bytes of memory for each key that the longer one has
-more, beside the bytes of the key's own texts."""
+It runs one session over lines twice, with different numbers of keys. It prints the additional bytes for each additional key, and
+the bytes of the key's own texts."""
 import json
 import os
 import subprocess

@@ -1,6 +1,6 @@
-"""Measures what the server holds of a client that lists a long log: bench/listing.py SERVER [OPERATIONS]
+"""Measures the memory of a client that lists a long log: bench/listing.py SERVER [OPERATIONS]
 
-One client stores the operations, another one fetches them from version 0 on and reads slowly. It needs the library `websockets`."""
+One client stores the operations, another one fetches them from version 0 on and reads slowly. Needs the library `websockets`."""
 import asyncio
 import json
 import subprocess

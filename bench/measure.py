@@ -1,4 +1,4 @@
-"""Runs the programs over generated input, in turn, and prints what they took: the best of fifteen runs each."""
+"""Runs the programs over generated input, in turn, and prints the best of fifteen runs each."""
 import json
 import os
 import random
@@ -13,7 +13,7 @@ BENCH = os.path.join(HERE, "..", "crates", "sdb_bench", "out", "sdb_bench")
 RUNS = 15
 
 
-# The processor time of a command over a file, in seconds.
+# Returns the processor time of a command over a file, in seconds.
 def spent(command, path, output=os.devnull):
     with open(path, "rb") as source, open(output, "wb") as sink:
         child = subprocess.Popen(command, stdin=source, stdout=sink)
@@ -22,7 +22,7 @@ def spent(command, path, output=os.devnull):
     return used.ru_utime + used.ru_stime
 
 
-# The server beside what any server must do: read each line as JSON, and print each answer, whose reading isn't counted.
+# Measures the server, and what any server must do: read each line as JSON and print each answer (without reading it).
 def compare(title, script, lines, *more):
     with tempfile.NamedTemporaryFile("w", suffix=".lines") as made, tempfile.NamedTemporaryFile(suffix=".answers") as answers:
         subprocess.run([sys.executable, os.path.join(HERE, script), str(lines), *map(str, more)], stdout=made, check=True)
@@ -46,7 +46,7 @@ def compare(title, script, lines, *more):
     print(f"  server: {server:.3f} s, {server / lines * 1e6:.2f} microseconds each line; ratio {server / plain:.2f}")
 
 
-# The best time of the server over what a script writes, in seconds, and the most memory it held, in bytes.
+# Returns the server's best time over a script's output in seconds, and its maximal memory in bytes.
 def server_over(runs, script, *counts):
     with tempfile.NamedTemporaryFile("w", suffix=".lines") as made:
         subprocess.run([sys.executable, os.path.join(HERE, script), *map(str, counts)], stdout=made, check=True)
@@ -105,7 +105,7 @@ def subscriptions():
         print(f"a line after which nothing waits in {subscribed} subscriptions: {idle / lines * 1e6:.2f} microseconds")
 
 
-# Prints what the program measures of these lines, each a value of JSON.
+# Prints the program's measurements of these lines, each a JSON value.
 def measured(title, part, lines):
     given = "".join(json.dumps(line, ensure_ascii=False, separators=(",", ":")) + "\n" for line in lines)
     said = subprocess.run([BENCH, part], input=given.encode(), stdout=subprocess.PIPE, check=True).stdout.decode()
@@ -113,7 +113,7 @@ def measured(title, part, lines):
         print(f"{title}: {line}", flush=True)
 
 
-# A value, and so many operations of one component.
+# Returns a value, and operations of one component.
 def edited(value, count, component):
     return [value, *([component()] for _ in range(count))]
 

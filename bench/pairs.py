@@ -1,5 +1,6 @@
-"""Writes a document of so many kilobytes, and so many edits that replace a word in one of its texts: a delete and an insert
-in one operation. pairs.py KILOBYTES EDITS"""
+"""Writes a document, and edits that replace a word in one of its texts: a delete and an insert in one operation.
+
+pairs.py KILOBYTES EDITS"""
 import json
 import sys
 

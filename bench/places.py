@@ -1,7 +1,7 @@
-"""Writes a create of one large text, list or object, and edits at random places of it, each at the version before it.
+"""Writes a create of one large text, list or object, and edits at random places of it, each with the present base version.
 
 places.py KIND SIZE OPERATIONS, where KIND is text, list or object, and SIZE its characters, items or keys; a create has at most
-1,048,576 bytes, so some 50,000 items or keys. An edit puts in a character, an item, or a key among twice as many as are there."""
+1,048,576 bytes, so some 50,000 items or keys. An edit inserts a character or an item, or sets one of twice as many keys."""
 import json
 import random
 import sys

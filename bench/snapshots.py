@@ -1,5 +1,5 @@
-"""Writes a log of one number that is incremented, and reads of it by version: snapshots.py ENTRIES READS BACK, each at a random
-version of the last BACK ones (0: the present one)."""
+"""Writes increments of one number, and reads by version: snapshots.py ENTRIES READS BACK. Each read is at a random version of the
+last BACK ones (0: the present one)."""
 import json
 import random
 import sys

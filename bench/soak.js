@@ -3,14 +3,14 @@
  *
  *     node bench/soak.js SERVER [OPERATIONS [CLIENTS [DOCUMENTS [SEED]]]]
  *
- * SERVER is the program, which is started, or the address of one that runs (ws://..). OPERATIONS (1,000,000) is how many
- * are to be stored, by CLIENTS (64) that each edit one of DOCUMENTS (8) with examples/client.js. Each makes its next
- * edit when the last one is acknowledged. About one operation in a thousand is sent on a socket that is torn down at
- * once; its client comes back with the same source and sends again what wasn't acknowledged.
+ * SERVER is the program, which is started, or the address of a running one (ws://..). CLIENTS (64) store OPERATIONS
+ * (1,000,000); each edits one of DOCUMENTS (8) with examples/client.js, and makes its next edit after the last one is
+ * acknowledged. About one operation in a thousand is sent on a socket that is torn down at once; its client reconnects
+ * with the same source and sends again what wasn't acknowledged.
  *
- * In the end each client's document must be that of a fresh fetch, at the same version, and each document the replay of
- * its log; in the log each acknowledged operation must stand at the version that its acknowledgement named, and no
- * source and number may stand twice. Prints operations per second and a verdict; status 1 on any difference.
+ * At the end each client's document must be that of a fresh fetch, at the same version, and each document the replay of
+ * its log. In the log each acknowledged operation must have the version of its acknowledgement, and no source and number
+ * may occur twice. Prints operations per second and a verdict; the status is 1 on any difference.
  *
  * Needs node-ws.
  */
@@ -19,7 +19,7 @@
 const { spawn } = require('child_process');
 const { readFileSync } = require('fs');
 const { isDeepStrictEqual } = require('util');
-module.paths.push('/usr/share/nodejs'); // where Debian's node-ws stands
+module.paths.push('/usr/share/nodejs'); // where Debian installs node-ws
 const WebSocket = require('ws');
 const { Client, apply } = require('../examples/client.js');
 const { choices } = require('../tests/clients/random.js');
@@ -27,9 +27,9 @@ const { choices } = require('../tests/clients/random.js');
 const [server, operations = '1000000', clients = '64', documents = '8', seed = '1'] = process.argv.slice(2);
 const COLLECTION = 'soak';
 const START = { text: '', list: [], numbers: { a: 0, b: 0 }, members: {} };
-const TEXT = 120; // what a text may grow to
-const LIST = 24; // what a list may grow to
-const KILL = 1000; // one operation in so many loses its socket
+const TEXT = 120; // maximal length of a text
+const LIST = 24; // maximal length of a list
+const KILL = 1000; // one operation in this number loses its socket
 const PATIENCE = 60000; // milliseconds without a stored operation
 const PIECES = ['a', 'bc', 'def ', 'é', '漢', '😀'];
 
@@ -69,7 +69,7 @@ function randomComponent(data) {
   return kind === 8 ? { p: ['numbers', pick(['a', 'b'])], na: random(21) - 10 } : memberEdit(data.members);
 }
 
-// One component, or now and then several, each made on what the one before leaves.
+// Returns one component, or sometimes several, each made on the result of the one before.
 function randomOperation(data) {
   const operation = [];
   for (let more = random(8) === 0 ? 3 : 1; more > 0; more -= 1) {
@@ -84,7 +84,7 @@ function randomOperation(data) {
 
 const state = { wanted: Number(operations), stored: 0, killed: 0, refused: 0, faults: [] };
 
-/** One client that edits one document, and remembers what was acknowledged. */
+/** A client that edits one document and keeps what was acknowledged. */
 class Participant {
   constructor(address, number, acknowledged) {
     this.number = number;
@@ -96,7 +96,7 @@ class Participant {
     this.document.on('healed', ({ version }) => state.faults.push(`client ${number} was healed at version ${version}`));
   }
 
-  // Keeps the socket, so that it can be torn down.
+  // Keeps the socket, to tear it down.
   tearable() {
     const participant = this;
     return class extends WebSocket {
@@ -143,7 +143,7 @@ function pause(milliseconds) {
   return new Promise((resolve) => setTimeout(resolve, milliseconds));
 }
 
-// Waits for a condition, as long as operations are stored.
+// Waits for a condition while operations are stored.
 async function until(what, holds) {
   let [seen, since] = [state.stored, Date.now()];
   while (!holds()) {
@@ -164,7 +164,7 @@ async function play(participants) {
 
 // The end ---------------------------------------------------------------------------------------------------
 
-// Asks over a new connection, and gives the messages up to the end of the answer.
+// Sends a request over a new connection. Returns the messages up to the end of the answer.
 function ask(address, request) {
   return new Promise((resolve, reject) => {
     const messages = [];
@@ -183,7 +183,7 @@ function ask(address, request) {
   });
 }
 
-// What the log of a document has wrong, against what was acknowledged.
+// Returns the differences between the log of a document and what was acknowledged.
 function faultsOfLog(log, acknowledged) {
   const faults = [];
   const seen = new Set();
@@ -233,7 +233,7 @@ function start() {
   });
 }
 
-// Processor seconds and peak memory of the server, where it was started here (Linux).
+// Returns the processor seconds and peak memory of the server, if it was started here (Linux).
 function cost(child) {
   if (!child) return '';
   const fields = readFileSync(`/proc/${child.pid}/stat`, 'utf8').split(') ')[1].split(' ');
@@ -244,7 +244,7 @@ function cost(child) {
 
 // ------------------------------------------------------------------------------------------------------------
 
-// Plays the clients and looks at what is left; gives the seconds that the operations took.
+// Runs the clients and checks the result. Returns the seconds of the operations.
 async function soak(address) {
   const acknowledged = Array.from({ length: Number(documents) }, () => []);
   const participants = Array.from(
@@ -258,7 +258,7 @@ async function soak(address) {
   const seconds = elapsed();
   clearInterval(progress);
   for (const { client } of participants) client.disconnect();
-  await pause(500); // the server has room for new connections when it has seen these end
+  await pause(500); // the server serves new connections once it has noticed the end of these
   for (const id of acknowledged.keys()) {
     const editors = participants.filter(({ document }) => document.id === String(id));
     state.faults.push(...(await faultsOfDocument(address, String(id), editors)));

@@ -1,5 +1,5 @@
 // A load generator for the server and for the program that only echoes: clients on loopback, all in one thread, each with
-// one operation in flight. What was seen is printed as one line of JSON.
+// one operation in flight. It prints its figures as one line of JSON.
 //
 //     sockets MODE PORT [-c CLIENTS] [-s SECONDS] [-w SECONDS_TO_WARM_UP] [-n OPERATIONS] [-k KEY]
 //
@@ -10,12 +10,12 @@
 //     shards       each of at most 8 clients edits a long text of its own, in a shard of its own
 //     shard        the same, and all texts are in one shard
 //     fan          all clients are subscribed to one document, and the first one edits it
-//     idle         the clients are connected until standard input ends; the line is printed once they are
+//     idle         the clients stay connected until standard input ends; the line is printed once all are connected
 //     listening    the same, each subscribed to one document
 //
-// An edit adds 1 to a number at the version that the client has seen; one of a long text also puts a character behind the
-// text and takes it out again, some times over. It ends after SECONDS, or after OPERATIONS if that is
-// earlier. At the end the documents must have grown by what was acknowledged.
+// An edit adds 1 to a number at the version that the client has seen. An edit of a long text also inserts a character
+// after the text and deletes it, some times over. The run ends after SECONDS, or after OPERATIONS if that is earlier. At
+// the end the documents must have grown by the acknowledged operations.
 #define _GNU_SOURCE
 #include <arpa/inet.h>
 #include <errno.h>
@@ -45,11 +45,11 @@ typedef struct {
 typedef struct {
     int socket;
     char source[32], document[64];
-    size_t prefix;               // how long `{"a":"op","c":"b","d":DOCUMENT,` is
-    unsigned long long version;  // the version after the last that it has seen
-    unsigned long long edits;    // how many it has sent
-    uint64_t sent;               // when it sent the last one
-    size_t start, end;           // the part of the input that is not read yet
+    size_t prefix;               // length of `{"a":"op","c":"b","d":DOCUMENT,`
+    unsigned long long version;  // the version after the last one seen
+    unsigned long long edits;    // number of edits sent
+    uint64_t sent;               // time of the last one
+    size_t start, end;           // the part of the input that is not parsed
     char input[INPUT_SIZE];
 } Client;
 
@@ -68,7 +68,7 @@ static Client clients[MOST_CLIENTS];
 static Samples acknowledged, fanned;
 static uint64_t measured_from, measured_until, last_measured;
 static unsigned long long submitted, in_flight;
-static int yet_to_hear;  // clients that the last edit of mode fan has not reached
+static int yet_to_hear;  // clients that have not received the last edit of mode fan
 
 static void die(const char *what) {
     perror(what);
@@ -121,7 +121,7 @@ static void send_text(Client *client, Text text) {
         send_text(client, (Text){message, length});                            \
     } while (0)
 
-// Takes what has come, and waits where nothing has. The texts that were cut before are gone then.
+// Reads input, and waits if there is none. Earlier messages are invalid afterwards.
 static void receive(Client *client) {
     memmove(client->input, client->input + client->start, client->end - client->start);
     client->end -= client->start;
@@ -132,7 +132,7 @@ static void receive(Client *client) {
     client->end += got;
 }
 
-// Cuts the next message off the input. Each is one frame: neither program sends in fragments.
+// Returns the next message of the input. Each is one frame: neither program sends fragments.
 static bool next_text(Client *client, Text *text) {
     const unsigned char *frame = (unsigned char *)client->input + client->start;
     size_t there = client->end - client->start, header = 2;
@@ -154,7 +154,7 @@ static bool begins(Text text, const char *front) {
     return text.length >= strlen(front) && memcmp(text.start, front, strlen(front)) == 0;
 }
 
-// Waits for a message that begins so, past all others.
+// Waits for a message with this prefix, and skips all others.
 static Text await_text(Client *client, const char *front) {
     Text text;
     for (;;) {
@@ -166,7 +166,7 @@ static Text await_text(Client *client, const char *front) {
     }
 }
 
-// The first number behind a name, 0 where the name is absent.
+// Returns the first number after a name, or 0 if the name is absent.
 static unsigned long long number_after(Text text, const char *name) {
     const char *found = memmem(text.start, text.length, name, strlen(name));
     unsigned long long number = 0;
@@ -202,7 +202,7 @@ static void open_session(Client *client) {
     await_text(client, "{\"a\":\"hs\"");
 }
 
-// The document's number; the client has then seen its present version.
+// Returns the document's number; the client has then seen its present version.
 static unsigned long long fetch(Client *client) {
     SEND(client, "{\"a\":\"f\",\"c\":\"b\",\"d\":\"%s\"}", client->document);
     Text text = await_text(client, "{\"a\":\"f\"");
@@ -218,7 +218,7 @@ static bool has_own_document(void) {
     return mode == OWN || is_long();
 }
 
-// What a document begins with.
+// The data of a create.
 static const char *first_data(void) {
     static char text[LONG_TEXT + 1], data[LONG_TEXT + 32];
     if (!is_long()) return "{\"n\":0}";
@@ -261,7 +261,7 @@ static void open_client(int number) {
     if (mode == SUBSCRIBED || mode == FAN || mode == LISTENING) subscribe(client);
 }
 
-// What the numbers of all documents amount to.
+// Returns the sum of the numbers of all documents.
 static unsigned long long total(void) {
     unsigned long long sum = 0;
     for (int i = 0; i < (has_own_document() ? client_count : 1); i++) sum += fetch(&clients[i]);
@@ -270,7 +270,7 @@ static unsigned long long total(void) {
 
 // Operations
 
-// What an edit does behind its addition.
+// The further components of an edit.
 static const char *more_components(void) {
     static char text[PAIRS * 64];
     if (is_long() && !*text)
@@ -289,7 +289,7 @@ static void submit(Client *client) {
          client->document, client->version, client->source, client->edits, more_components());
 }
 
-// Keeps how long it took since the client's last edit, if that is measured.
+// Records the time since the client's last edit, if it is measured.
 static void sample(Samples *samples, Client *since, uint64_t time) {
     if (time < measured_from || time > measured_until) return;
     if (samples->count == samples->room) {
@@ -328,7 +328,7 @@ static void hear(Client *client, Text text) {
         hear_acknowledgement(client, text);
         return;
     }
-    // The members stand in the order of their names, and an acknowledgement has no content.
+    // Members are sorted by name, and an acknowledgement has no content.
     const char *member = text.length > client->prefix + 2 ? text.start + client->prefix : "";
     if (strncmp(member, "\"seq", 4) == 0)
         hear_acknowledgement(client, text);
@@ -363,7 +363,7 @@ static void run(void) {
     }
 }
 
-// What was seen
+// Figures
 
 static int compare(const void *a, const void *b) {
     uint32_t left = *(const uint32_t *)a, right = *(const uint32_t *)b;

@@ -1,10 +1,10 @@
-"""Measures the program of steps: 100,000 lines of 64 sessions on one document and on 64, beside a pass that only reads and
-prints the JSON of the same lines. steps.py [RUNS] builds the programs and runs each so often.
-steps.py --lines DOCUMENTS unnamed|named only writes the lines: an edit names no version, or the one that its session saw.
+"""Measures the program of steps: 100,000 lines of 64 sessions on one document and on 64, next to a pass that only reads and
+prints the JSON of the same lines. steps.py [RUNS] builds the programs and runs each RUNS times.
+steps.py --lines DOCUMENTS unnamed|named only writes the lines: an edit has no version, or the one that its session saw.
 
 In a random order, with a fixed seed, each session begins an edit, works it or not, and commits until that decides. Four edits
 of five add to one number, the fifth inserts into one text. A tenth of the lines fetch the document, and a tenth take from a
-queue that the session opened at first."""
+queue that the session opened at the start."""
 import json
 import os
 import random
@@ -28,7 +28,7 @@ class Attempt:
 
 
 class Sessions:
-    """What the sessions do next. They follow which commits decide, so that no line is idle."""
+    """Chooses the next steps of the sessions. It tracks which commits decide, so that no line is idle."""
 
     def __init__(self, documents, is_named):
         self.pick = random.Random(5)
@@ -100,7 +100,7 @@ def build(crate, *words):
 
 
 def timed(command, path):
-    """What a run took by the clock, and of the processor."""
+    """Returns the elapsed seconds of a run, and its processor seconds."""
     with open(path, "rb") as source, open(os.devnull, "wb") as sink:
         before, start = resource.getrusage(resource.RUSAGE_CHILDREN), time.perf_counter()
         subprocess.run(command, stdin=source, stdout=sink, check=True)

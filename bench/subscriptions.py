@@ -1,5 +1,7 @@
-"""Writes increments of one number in each of 64 documents, in turn: subscriptions.py INCREMENTS SUBSCRIBED FETCHES. The first SUBSCRIBED
-documents are subscribed to before; FETCHES fetches of a document that isn't there follow, after each of which nothing waits."""
+"""Writes increments of one number in each of 64 documents, in turn: subscriptions.py INCREMENTS SUBSCRIBED FETCHES
+
+Before them the session subscribes to the first SUBSCRIBED documents. FETCHES fetches of an absent document follow, which find all
+queues empty."""
 import json
 import sys
 

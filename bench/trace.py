@@ -1,7 +1,6 @@
-"""Writes the input of the second benchmark: a typing trace of 8 sources on one text, each up to 8 versions behind.
+"""Writes the input of the second benchmark: a typing trace of 8 sources on one text. Base versions are up to 8 before the log's.
 
-Each inserts inside the text that the document began with. Nothing is deleted, so every operation fits the version that it
-names."""
+Each source inserts inside the text of the create. Nothing is deleted, so every operation applies at its base version."""
 import json
 import random
 import sys

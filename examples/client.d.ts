@@ -1,10 +1,10 @@
 /** The types of client.js and client.mjs. As a script, client.js has the global name Navirotsohy. */
 export as namespace Navirotsohy;
 
-/** What a document can hold. Numbers are whole, from -9007199254740991 to 9007199254740991. */
+/** A value of a document. Numbers are whole, from -9007199254740991 to 9007199254740991. */
 export type Data = null | boolean | number | string | Data[] | { [key: string]: Data };
 
-/** Keys of objects and places of lists; the last step of `si` and `sd` is an offset in UTF-16 units. */
+/** Keys of objects and indices of lists; the last step of `si` and `sd` is an offset in UTF-16 units. */
 export type Path = Array<string | number>;
 
 /** One change at one place. */
@@ -22,7 +22,7 @@ export type Component =
 /** Components that are applied one after the other. */
 export type Operation = Component[];
 
-/** What a submission asks for: one of these is there. */
+/** The content of a submission: one of these members is present. */
 export interface Content {
   op?: Operation;
   create?: { type: string; data: Data };
@@ -36,7 +36,7 @@ export interface Entry extends Content {
   seq: number;
 }
 
-/** A document at a version; `data` is undefined where none existed. */
+/** A document at a version; `data` is undefined if none existed. */
 export interface Snapshot {
   version: number;
   data: Data | undefined;
@@ -54,20 +54,20 @@ export type Code =
   | 'ERR_OP_NOT_ALLOWED_IN_PROJECTION'
   | 'ERR_OUT_OF_MEMORY'
   | 'ERR_LIMIT'
-  // The client's own:
+  // The client's own codes:
   | 'ERR_CLOSED'
   | 'ERR_PROTOCOL'
   | 'ERR_SERVER_RESTARTED'
   | 'ERR_UNREACHABLE';
 
-/** What the server, or the client in its place, refused. */
+/** A refusal by the server, or by the client in its place. */
 export class Refusal extends Error {
   constructor(code: Code, message?: string);
   name: 'Refusal';
   code: Code;
 }
 
-/** Whose change it is: what was handed to `submit`, or else the writer's source. */
+/** The origin of a change: the argument of `submit`, or else the writer's source. */
 export interface Origin {
   source: unknown;
   local: boolean;
@@ -80,26 +80,26 @@ export interface Seen {
 }
 
 export interface DocumentEvents {
-  /** The document came as a whole: at first, and after the server was started afresh. */
+  /** The whole document was received: at first, and after a restart of the server. */
   load: { version: number };
-  /** Before and behind each operation that changes what is shown. */
+  /** Before and after each operation that changes `data`. */
   'before op': Origin & { operation: Operation };
   op: Origin & { operation: Operation };
   create: Origin & { data: Data };
   remove: Origin & { data: Data };
-  /** What is shown has changed: by an operation or, where that is null, as a whole. */
+  /** `data` has changed: by an operation or, if that is null, as a whole. */
   change: { operation: Operation | null; source: unknown; local: boolean };
-  /** A stored operation was seen, of whomever. */
+  /** A stored operation of any client was received. */
   version: Seen;
   /** An own operation is stored. */
   stored: Seen;
   /** Own operations were dropped. */
   refused: { error: Refusal; contents: Content[] };
-  /** The server was started afresh, and doesn't have what was shown here. */
+  /** The server was restarted and has lost the document. */
   restarted: { version: number; data: Data | undefined; contents: Content[] };
-  /** The document that was held here wasn't the server's, and was replaced. */
+  /** The document here differed from the server's and was replaced. */
   healed: { version: number };
-  /** The document can't be followed. */
+  /** The document can't be subscribed to. */
   error: Refusal;
 }
 
@@ -110,28 +110,28 @@ export interface ClientEvents {
 
 export type State = 'connecting' | 'connected' | 'disconnected' | 'failed';
 
-/** Keeps listeners by the name of an event. A listener that throws is reported, and the others are called. */
+/** Keeps listeners by the name of an event. An exception of a listener is reported, and the others are called. */
 export class Emitter<Events> {
-  /** Returns what takes the listener away again. */
+  /** Returns a function that removes the listener. */
   on<Name extends keyof Events>(event: Name, listener: (detail: Events[Name]) => void): () => void;
   once<Name extends keyof Events>(event: Name, listener: (detail: Events[Name]) => void): () => void;
   off<Name extends keyof Events>(event: Name, listener?: (detail: Events[Name]) => void): void;
 }
 
 export interface Options {
-  /** Names this client in all its operations; random where it is left out. No two clients may share one. */
+  /** Names this client in all its operations; random by default. No two clients may share one. */
   source?: string;
-  /** Where there is no global one. */
+  /** The class, if there is no global one. */
   WebSocket?: new (address: string) => any;
-  /** Milliseconds before what failed is tried again for the first time: 1000. */
+  /** Milliseconds before the first reconnect: 1000. */
   retryDelay?: number;
-  /** What these grow to: 30000. */
+  /** The longest delay: 30000. */
   longestDelay?: number;
-  /** After so many tries in a row that fail the client ends; without it, it never does. */
+  /** After this many failures in a row the client ends; by default it never does. */
   mostTries?: number;
 }
 
-/** A connection to the server, made at once and again where it is lost, and the documents over it. */
+/** A connection to the server, opened at once and reopened if it is lost, and the documents over it. */
 export class Client extends Emitter<ClientEvents> {
   constructor(address: string, options?: Options);
   readonly address: string;
@@ -141,34 +141,34 @@ export class Client extends Emitter<ClientEvents> {
   readonly error: Refusal | null;
   connect(): void;
   disconnect(): void;
-  /** Always the same object, until it is destroyed. A projection is named as a collection. */
+  /** The same object until it is destroyed. A projection's name is a collection. */
   document(collection: string, id: string): Document;
   snapshot(collection: string, id: string, version?: number | null): Promise<Snapshot>;
-  /** As it was at a moment of the server's clock, in milliseconds since 1970. */
+  /** The document at a time of the server's clock, in milliseconds since 1970. */
   snapshotAtTime(collection: string, id: string, moment?: number | null): Promise<Snapshot>;
   whenNothingPending(): Promise<void>;
 }
 
 export interface SubmitOptions {
-  /** What listeners are handed as the source. */
+  /** The source that listeners receive. */
   source?: unknown;
 }
 
-/** One document that is fetched or followed, and edited. */
+/** A document that is fetched or subscribed to, and edited. */
 export class Document extends Emitter<DocumentEvents> {
   private constructor();
   readonly collection: string;
   readonly id: string;
-  /** The version that was seen, null before the first answer. */
+  /** The version seen, null before the first answer. */
   readonly version: number | null;
-  /** What is shown: read it, never change it; undefined where no document exists. */
+  /** The document with own edits: never change it; undefined if none exists. */
   readonly data: any;
-  /** The document as it is stored at `version`, without what is pending. */
+  /** The document as stored at `version`, without pending operations. */
   readonly confirmed: any;
   readonly source: string;
-  /** How many own operations aren't known to be stored. */
+  /** The number of own operations that aren't known to be stored. */
   readonly pending: number;
-  /** Whether the document is to be followed. */
+  /** Whether a subscription is wanted. */
   readonly wanted: boolean;
   fetch(): Promise<Document>;
   subscribe(): Promise<Document>;
@@ -180,20 +180,20 @@ export class Document extends Emitter<DocumentEvents> {
   remove(options?: SubmitOptions): Promise<{ version: number }>;
   whenNothingPending(listener?: () => void): Promise<void>;
   snapshot(version?: number | null): Promise<Snapshot>;
-  /** As it was at a moment of the server's clock, in milliseconds since 1970. */
+  /** The document at a time of the server's clock, in milliseconds since 1970. */
   snapshotAtTime(moment?: number | null): Promise<Snapshot>;
   operations(from?: number): Promise<Entry[]>;
 }
 
-/** What the operation makes of a value, which itself stays as it is. Throws a Refusal. */
+/** Applies the operation to a value, which stays unchanged. Throws a Refusal. */
 export function apply(data: Data, operation: Operation): Data;
-/** One operation that does what two in a row do. */
+/** Composes two successive operations. */
 export function compose(first: Operation, second: Operation): Operation;
-/** Two operations on one document, each as it stands after the other. Throws a Refusal. */
+/** Transforms two concurrent operations against each other. Throws a Refusal. */
 export function cross(left: Operation, right: Operation): { left: Operation; right: Operation };
-/** The operation that makes one text of another; what follows the caret was likely not changed. */
+/** Returns the operation from one text to another; the text after the caret was likely not changed. */
 export function textChange(path: Path, before: string, after: string, caret?: number): Operation;
-/** The components that stand for a component after another one. Throws a Refusal. */
+/** Transforms a component against a concurrent one. Throws a Refusal. */
 export function transformComponent(component: Component, other: Component, side: 'left' | 'right'): Component[];
-/** Where an offset of a text goes when an operation is applied. */
+/** Returns an offset of a text after an operation. */
 export function transformOffset(offset: number, operation: Operation, path: Path): number;

@@ -3,7 +3,7 @@
  *
  *     import { Client } from './client.mjs';
  *
- * It reads client.js beside it, which hands itself over as a CommonJS module or, in a page, by its global name.
+ * It imports client.js from its own folder, which exports a CommonJS module or, in a page, a global name.
  */
 import * as loaded from './client.js';
 

@@ -1,15 +1,15 @@
 /*
  * The page with two clients (index.html): a text and a board of cards, both in one document. Each view is a client of
- * its own. What a reader does in a view becomes an operation on the document that the view shows; what others do
- * arrives as operations, and the view is drawn again from the document.
+ * its own. An edit in a view becomes an operation on its document. Operations of others are received, and the view is
+ * drawn from the document again.
  *
  *     { "text": TEXT, "columns": [{ "name": TEXT, "cards": [{ "id", "title", "done", "votes" }] }] }
  */
 'use strict';
 
 const COLLECTION = 'examples';
-const CLOCKS_APART = 86400000; // milliseconds that the server's clock may be ahead
-const NOTICE_STAYS = 10000; // milliseconds for the word that the server was started afresh
+const CLOCKS_APART = 86400000; // milliseconds by which the server's clock may be ahead
+const NOTICE_STAYS = 10000; // milliseconds for the notice that the server was restarted
 
 const START = {
   text: 'Two views, one document.\n\nType here, on both sides at once. Each view is a client with its own connection.\n',
@@ -41,7 +41,7 @@ function valueAt(data, path) {
   return path.reduce((value, step) => value[step], data);
 }
 
-/** A text field that shows and edits one text of the shared document; `path` tells where that stands now. */
+/** A text field that shows and edits one text of the shared document; `path` returns its present path. */
 class TextField {
   constructor(element, shared, path) {
     this.element = element;
@@ -56,7 +56,7 @@ class TextField {
     shared.submit(Navirotsohy.textChange(path, valueAt(shared.data, path), element.value, element.selectionStart));
   }
 
-  /** Shows the text; the caret stays with the letters that it stood between. */
+  /** Shows the text; the caret stays between its two letters. */
   show(text, operation, pathBefore) {
     const { element } = this;
     if (element.value === text) return;
@@ -68,7 +68,7 @@ class TextField {
   }
 }
 
-/** One card on the screen. It knows where its card stands in the document as it is shown. */
+/** One card on the screen, with the position of its card in the document. */
 class CardElement {
   constructor(board) {
     this.board = board;
@@ -96,7 +96,7 @@ class CardElement {
     return ['columns', place.column, 'cards', place.index];
   }
 
-  // What can be done by dragging can be done by keys.
+  // The keyboard can do what dragging does.
   press(event) {
     const moves = { ArrowLeft: [-1, 0], ArrowRight: [1, 0], ArrowUp: [0, -1], ArrowDown: [0, 1] };
     if (event.altKey && moves[event.key]) this.board.moveBy(this.place, ...moves[event.key]);
@@ -131,7 +131,7 @@ class Board {
     this.dragged = null;
   }
 
-  // What a reader does ---------------------------------------------------------------------------------------
+  // Edits ----------------------------------------------------------------------------------------------------
 
   add(column) {
     this.insert(column, this.shared.data.columns[column].cards.length);
@@ -146,7 +146,7 @@ class Board {
     this.lists[column].children[index].querySelector('.title').focus();
   }
 
-  // Whoever uses the keyboard goes on at the card that takes the place, or at the column's button.
+  // The keyboard's focus moves to the card that takes the position, or to the column's button.
   remove({ column, index }) {
     const path = ['columns', column, 'cards', index];
     const inside = this.lists[column].children[index].contains(document.activeElement);
@@ -172,7 +172,7 @@ class Board {
     if (column) this.move(place, { column: place.column + by, index: column.cards.length });
   }
 
-  // The place to go to is one of the document in which the card still stands at its old place.
+  // The target is a position of the document in which the card still has its old position.
   move(from, to) {
     const moved = valueAt(this.shared.data, ['columns', from.column, 'cards', from.index]);
     const index = from.column === to.column && from.index < to.index ? to.index - 1 : to.index;
@@ -190,7 +190,7 @@ class Board {
     this.move(this.dragged.place, { column, index: below < 0 ? cards.length : below });
   }
 
-  // What is shown ------------------------------------------------------------------------------------------
+  // Drawing ------------------------------------------------------------------------------------------------
 
   show(columns, operation) {
     while (this.lists.length < columns.length) this.addColumn();
@@ -202,7 +202,7 @@ class Board {
     if (focused !== document.activeElement) focused.focus({ preventScroll: true });
   }
 
-  // The cards by id. Where two clients moved one card at once it stands twice, and has a key for each place.
+  // Returns the cards by id. If two clients moved one card concurrently it occurs twice, with a key for each position.
   wantedCards(columns) {
     const wanted = new Map();
     columns.forEach(({ cards }, column) =>
@@ -240,7 +240,7 @@ class Board {
   }
 }
 
-/** One of the two views: a client, its connection, and what it shows of the shared document. */
+/** One of the two views: a client, its connection, and its view of the shared document. */
 class View {
   constructor({ name, accent }, address, id) {
     this.element = fromTemplate('view');
@@ -248,7 +248,7 @@ class View {
     this.find('h2').textContent = name;
     this.client = new Navirotsohy.Client(address, { source: `${name.toLowerCase()}-${shortRandom()}` });
     this.shared = this.client.document(COLLECTION, id);
-    this.noticeStays = 0; // until when
+    this.noticeStays = 0; // the time until which it is shown
     this.text = new TextField(this.find('textarea'), this.shared, () => ['text']);
     this.board = new Board(this.find('.board'), this.shared);
     this.listen();
@@ -272,7 +272,7 @@ class View {
     this.shared.on('refused', ({ error }) => this.showNotice(`not stored: ${error.message}`));
   }
 
-  // Where no document is there: the one that a server had which is gone, or a first one.
+  // If no document exists: creates that of the lost server, or a first one.
   create() {
     const data = this.kept === undefined ? START : this.kept;
     this.kept = undefined;
@@ -323,7 +323,7 @@ class View {
   }
 }
 
-/** The document as it was at any moment of its life, by a slider. It asks over a connection of its own. */
+/** The document at any time since its creation, by a slider. It uses a connection of its own. */
 class Life {
   constructor(element, address, id) {
     this.element = element;
@@ -340,7 +340,7 @@ class Life {
     return this.client.snapshotAtTime(COLLECTION, this.id, moment);
   }
 
-  // The document changed: where nothing is shown yet its life begins, and at the slider's end it goes on.
+  // The document has changed: finds its creation if it isn't known, and follows the present at the slider's end.
   async changed() {
     if (this.birth !== null && this.moment() === null) await this.show();
     if (this.birth === null && !this.begins) {
@@ -350,7 +350,7 @@ class Life {
     }
   }
 
-  // No answer tells a moment, so that of the first operation is found by halving.
+  // No answer contains a time, so that of the first operation is found by halving.
   async begin() {
     if ((await this.at(null)).version === 0) return;
     let [low, high] = [0, Date.now() + CLOCKS_APART];
@@ -371,7 +371,7 @@ class Life {
     return Math.floor(this.birth + ((Date.now() - this.birth) * value) / max);
   }
 
-  // Of the answers to a slider that is moved only the last one is shown.
+  // While the slider moves, only the last answer is shown.
   async show() {
     const number = (this.asked += 1);
     const moment = this.moment();
@@ -383,7 +383,7 @@ class Life {
   }
 }
 
-// A document of this page, in words.
+// Describes a document of this page.
 function textOf(data) {
   if (data === undefined) return 'There is no document.';
   const columns = data.columns.map(({ name, cards }) => {
@@ -409,4 +409,4 @@ function main() {
   });
 }
 
-const views = main(); // by this name they can be looked at from the console
+const views = main(); // a global name for the console

@@ -1,7 +1,7 @@
-/* Preloaded: the allocation that FAIL_NTH counts, from 1, finds no memory. FAIL_COUNT names a file for three counts of eight
-   bytes each: the allocations so far, of these the ones inside the call that is tried, and of those the ones that were refused.
-   A call stands between two blocks of MARK bytes, which are neither counted nor refused; without them everything is outside. The file is mapped, so that a program
-   that is ended leaves its counts too. */
+/* Preloaded: the FAIL_NTH-th allocation, from 1, fails. FAIL_COUNT names a file for three counts of eight bytes each: the
+   allocations so far, those of them inside the call, and those of these that failed. A call is between two blocks of MARK
+   bytes, which are neither counted nor failed; without them everything is outside. The file is mapped, so a program that is
+   killed leaves its counts too. */
 #define _GNU_SOURCE
 #include <dlfcn.h>
 #include <errno.h>

@@ -1,17 +1,17 @@
-"""Refuses each allocation of the calls of a table in turn, and looks at what comes of it: python3 tests/growths.py
+"""Fails each allocation of the calls of a table in turn, and checks the result: python3 tests/growths.py
 
-What it tries is what `rt ci` or `rt test` and `rt run` have built: runs of the two programs, and the tests of the modules growths
-of sdb_model_tests and sdb_service_tests. A line for each call says how many allocations were refused, how many of them inside the
-call, and how many runs went wrong; the status is 1 where one did, or where no allocation stood inside a call.
+It uses what `rt ci` or `rt test` and `rt run` have built: runs of the two programs, and the tests of the modules growths of
+sdb_model_tests and sdb_service_tests. A line for each call says how many allocations failed, how many of them inside the call,
+and how many runs went wrong. The status is 1 if one did, or if no allocation is inside a call.
 
-A run of a program is inside its call from end to end. Where the work on a request or a step finds no memory, it is answered E10
-and the others as if it had not been sent, and the status is 0: so a refused commit counts as no try. Where a line can't be held
-or its answer not written, what is written is a front of the whole answer, then `fault: memory`, and the status is 1. A refused
-allocation that the run can do without changes nothing. Before the opening text a refusal ends the program with an error.
+A run of a program is inside its call from end to end. If an allocation of a request or a step fails, it is answered E10 and
+the others as if it had not been sent, and the status is 0; so a failed commit counts as no try. If a line can't be held or its
+answer not written, the output is a prefix of the whole answer, then `fault: memory`, and the status is 1. A failed allocation
+that the run doesn't need changes nothing. Before the opening text a failure ends the program with an error.
 
-A test makes its call between two marks (tests/fail_nth.c) and again where it found no memory. It passes where the first answer
-was for want of memory, all was as before, and the second answer is the one that is due; outside of the marks it may also end for
-want of memory in what stands around the call."""
+A test makes its call between two marks (tests/fail_nth.c), and again after an allocation failure. It passes if the first answer
+was an allocation failure, all was as before, and the second answer is right. Outside of the marks it may also end with an
+allocation failure of the code around the call."""
 import os
 import struct
 import subprocess
@@ -25,7 +25,7 @@ STEPS = [os.path.join(CRATES, "sdb_steps_main", "out", "sdb_steps_main")]
 TESTS = [os.path.join(CRATES, crate, "out", f"{crate}_tests") for crate in ("sdb_model_tests", "sdb_service_tests")]
 FAULT = b"fault: memory\n"
 WANTING = (b"ERR_OUT_OF_MEMORY", b'{"error":"E10"}')
-# how a test ends that finds no memory around its call
+# how a test ends if an allocation around its call fails
 AROUND = ("AllocError", "AllocFailed", "error: Memory", "out of memory", '"no fetch"', '"no queue"', '"no work"', '"not stored"')
 
 
@@ -37,7 +37,7 @@ STORED = b"""{"a":"op","c":"b","d":"1","v":null,"src":"x","seq":1,"create":{"typ
 {"a":"f","c":"b","d":"1"}
 """
 
-# A session that says who it is, subscribes, sees what is stored, also through a projection, subscribes anew and lets go.
+# A session that sets its source, subscribes, receives operations, also through a projection, subscribes anew and unsubscribes.
 SESSION = b"""{"a":"hs","id":"me"}
 {"a":"op","c":"boards","d":"1","src":"x","seq":1,"create":{"type":"json0","data":{"title":"a","votes":0}}}
 {"a":"s","c":"boards","d":"1","v":0}
@@ -52,7 +52,7 @@ SESSION = b"""{"a":"hs","id":"me"}
 {"a":"op","c":"boards","d":"1","v":3,"src":"x","seq":4,"op":[{"p":["votes"],"na":1}]}
 """
 
-# Two sessions race for a document, one subscribes twice, and each kind of step comes once.
+# Two sessions race for a document, one subscribes twice, and each kind of step stands once.
 INTERLEAVED = b"""{"s":0,"do":"begin","c":"b","d":"1","src":"w","seq":1,"create":{"type":"json0","data":{"n":0}}}
 {"s":0,"do":"commit"}
 {"s":3,"do":"subscribe","c":"b","d":"1","v":0}
@@ -73,7 +73,7 @@ INTERLEAVED = b"""{"s":0,"do":"begin","c":"b","d":"1","src":"w","seq":1,"create"
 """
 
 
-# An edit that is overtaken by another one before each of its nine commits.
+# An edit that finds a longer log at each of its nine commits.
 def ninth():
     lines = [
         '{"s":0,"do":"begin","c":"b","d":"1","src":"w","seq":1,"create":{"type":"json0","data":{"n":0}}}',
@@ -88,7 +88,7 @@ def ninth():
 
 
 class Refusals:
-    """Runs of programs with one allocation refused."""
+    """Runs of programs with one failed allocation."""
 
     def __init__(self, room):
         self.library, self.counted = os.path.join(room, "fail_nth.so"), os.path.join(room, "counts")
@@ -100,7 +100,7 @@ class Refusals:
         return subprocess.run(program, input=given, stdout=subprocess.PIPE, stderr=subprocess.PIPE, env=env, timeout=60)
 
     def counts(self):
-        """How many allocations the last run made, how many of them inside its call, and how many of those were refused."""
+        """Returns the allocations of the last run, those inside its call, and how many of these failed."""
         with open(self.counted, "rb") as file:
             return struct.unpack("3Q", file.read(24))
 
@@ -126,7 +126,7 @@ def program_is_right(refusals, name, program, given, told_refusals=1):
     assert whole.returncode == 0, name
     count = refusals.counts()[0]
     lines = given.splitlines(keepends=True)
-    # what is answered to the input without one of its lines, for each of them
+    # the answers to the input without one of its lines, for each line
     without_one = {refusals.run(program, b"".join(lines[:at] + lines[at + 1 :])).stdout for at in range(len(lines))}
     wrong = [nth for nth in range(1, count + 1) if not is_right(refusals.run(program, given, nth), whole.stdout, without_one, told_refusals)]
     return told(name, count, count, wrong)
@@ -162,7 +162,7 @@ def main():
         ("run_lines, a session", SERVER, SESSION),
         ("run_steps, interleaved steps", STEPS, INTERLEAVED),
         ("run_steps, nine commits of one edit", STEPS, ninth()),
-        # a dump tells no refusal
+        # a dump contains no refusal
         ("run_dump, interleaved steps", [*STEPS, "--dump"], INTERLEAVED, 0),
         ("check_dump, their dump", [*STEPS, "--check"], dump_of(INTERLEAVED)),
     ]

@@ -1,11 +1,11 @@
 /*
- * Compares the tables of examples/client.js with the server's, over lines and without a socket.
+ * Compares the transforms of examples/client.js with the server's, over lines and without a socket.
  *
  *     node tests/clients/agreement.js SERVER [CASES] [SEED]
  *
- * Each case is a random document, one to three operations stored on it one after the other, and one that arrives at
- * the first version. The server's code or version, the operation that it stores and the document that it ends with
- * have to be those that the client's tables give. Status 1, and a line for each of the first cases that differ.
+ * Each case is a random document, one to three operations stored on it one after the other, and one with the first
+ * version as its base version. The server's code or version, its stored operation and its final document must be those
+ * that the client's functions return. The status is 1, with a line for each of the first differences, if they differ.
  */
 'use strict';
 
@@ -16,7 +16,7 @@ const { choices } = require('./random.js');
 
 const [server, cases = '2000', seed = '1'] = process.argv.slice(2);
 const MOST_SHOWN = 5; // differences that are printed
-const BASE = 1; // the version that all operations of a case are made at: that of the created document
+const BASE = 1; // the base version of all operations of a case: that of the created document
 
 const { random, pick } = choices(seed);
 
@@ -40,7 +40,7 @@ function randomData(depth) {
   return Object.fromEntries(several(3, () => [pick(KEYS), randomData(depth - 1)]));
 }
 
-// Somewhere in the document: a path, and the value there.
+// Returns a random place in the document: a path, and the value there.
 function randomPlace(data) {
   const path = [];
   let value = data;
@@ -54,7 +54,7 @@ function randomPlace(data) {
   return { path, value };
 }
 
-// What a text is cut into: its code points, so that no half of a pair is sent.
+// Splits a text into its code points, so that no half of a surrogate pair is sent.
 function textComponent(path, text) {
   const points = [...text];
   const from = random(points.length + 1);
@@ -85,7 +85,7 @@ function randomComponent(data) {
   return value === null || typeof value !== 'object' ? { p: path, na: 1 } : objectComponent(path, value);
 }
 
-// Components in a row, each made on what the one before leaves; those that can't be applied are left out.
+// Returns components, each made on the result of the one before, without those that can't be applied.
 function randomOperation(data, most) {
   const operation = [];
   const wanted = 1 + random(most);
@@ -111,7 +111,7 @@ function randomCase(id) {
     stored.push(made.operation);
     present = made.data;
   }
-  const seen = random(8) > 0 ? start : randomData(3); // one in eight arrives from another document
+  const seen = random(8) > 0 ? start : randomData(3); // one in eight is made on another document
   return { id: String(id), start, stored, present, arriving: randomOperation(seen, 3).operation };
 }
 
@@ -126,7 +126,7 @@ function linesOf({ id, start, stored, arriving }) {
   ].map((message) => JSON.stringify(message));
 }
 
-// What the tables of the client make of the arriving operation: its code, or its stored form and the document.
+// Returns what the client computes for the arriving operation: its code, or its stored form and the document.
 function expected({ stored, present, arriving }) {
   try {
     const form = stored.reduce((left, right) => cross(left, right).left, arriving);
@@ -136,7 +136,7 @@ function expected({ stored, present, arriving }) {
   }
 }
 
-// What the server answered about one document.
+// Returns the server's answers about one document.
 function answered(messages, { stored }) {
   const refused = messages.find((message) => message.error);
   const kept = messages.findLast((message) => message.op && message.src === 'z' && message.v === BASE + stored.length);

@@ -1,9 +1,9 @@
 /*
- * examples/client.js against a scripted server: what comes late, twice, in another order, or is refused.
+ * examples/client.js against a scripted server: late, duplicate, reordered and refused messages.
  *
  *     node tests/clients/cases.js
  *
- * Each case says what the server sends, and looks at what the client sends and holds. Needs Node alone.
+ * Each case sends the server's messages, and checks what the client sends and holds. Needs only Node.
  */
 'use strict';
 
@@ -11,9 +11,9 @@ const assert = require('assert');
 const { Client, compose, textChange, transformOffset } = require('../../examples/client.js');
 
 const ADDRESS = { c: 'b', d: '1' };
-const SOON = 5; // milliseconds before what failed is tried again
+const SOON = 5; // milliseconds before a reconnect
 
-/** A socket whose other end is the test. */
+/** A socket whose server is the test. */
 class ScriptedSocket {
   static opened = [];
 
@@ -35,12 +35,12 @@ class ScriptedSocket {
     for (const message of messages) this.onmessage({ data: JSON.stringify(message) });
   }
 
-  // The opening, up to the answer to the handshake. A server counts its sessions.
+  // Sends the opening message and the answer to `hs`. A server counts its sessions.
   open(number = this.number) {
     this.answer({ a: 'init', id: `s${number}` }, { a: 'hs', id: 'me' });
   }
 
-  // What was sent since the last time, but for the handshake.
+  // Returns what was sent since the last call, without `hs`.
   taken() {
     return this.sent.splice(0).filter(({ a }) => a !== 'hs');
   }
@@ -70,7 +70,7 @@ function insert(at, text) {
   return [{ p: [at], si: text }];
 }
 
-// A client that follows a document that doesn't exist yet.
+// Returns a client that is subscribed to an absent document.
 function absent() {
   const client = new Client('ws://test', { source: 'me', WebSocket: ScriptedSocket });
   const document = client.document(ADDRESS.c, ADDRESS.d);
@@ -81,7 +81,7 @@ function absent() {
   return { document, socket };
 }
 
-// A client that has loaded the text `abc` at version 3, and the events that its document has told.
+// Returns a client that has loaded the text `abc` at version 3, and the events of its document.
 function loaded(data = 'abc') {
   const client = new Client('ws://test', { source: 'me', WebSocket: ScriptedSocket, retryDelay: SOON });
   const document = client.document(ADDRESS.c, ADDRESS.d);
@@ -102,7 +102,7 @@ function holds(document, version, data) {
   assert.deepStrictEqual([document.version, document.data, document.pending], [version, data, 0]);
 }
 
-// Cuts a connection and opens the next one.
+// Closes a connection and opens the next one.
 async function reconnected(socket, number) {
   socket.close();
   await later();
@@ -112,7 +112,7 @@ async function reconnected(socket, number) {
   return next;
 }
 
-// Lets the client find what it compares: the document at its version.
+// Answers the client's comparison: the document at its version.
 async function compared(socket, data = 'abc') {
   const [{ a, id, v }] = socket.taken();
   assert.strictEqual(a, 'nf');

@@ -1,20 +1,20 @@
 /*
- * One client in Node: edits a document many times together with others, follows it, and compares it in the end.
+ * One client in Node: edits a document concurrently with others, subscribes to it, and compares it at the end.
  *
  *     node tests/clients/client.js ADDRESS DOCUMENT [EDITS] [CLIENTS] [SEED]
  *
  * It is examples/client.js with random edits: some one by one, some in a row without waiting, some while it is
- * disconnected, some just before its connection is torn down. When they are stored it puts a key `finished-..` into
- * the document; when CLIENTS of these keys are there, nobody edits any more. Then it fetches the document over a new
- * connection, and as it was at every fifth version that it has seen. Status 1, and a line that says what differs, where
- * these aren't what it holds and held.
+ * disconnected, some just before its connection is torn down. Once they are stored it sets a key `finished-..` in the
+ * document; once CLIENTS of these keys are set, no client edits. Then it fetches the document over a new connection, and
+ * the document at every fifth version that it has seen. If these differ from its copies, it prints a line that says
+ * where, and the status is 1.
  *
  * Needs node-ws.
  */
 'use strict';
 
 const { createHash } = require('crypto');
-module.paths.push('/usr/share/nodejs'); // where Debian's node-ws stands
+module.paths.push('/usr/share/nodejs'); // where Debian installs node-ws
 const WebSocket = require('ws');
 const { Client, textChange } = require('../../examples/client.js');
 const { choices } = require('./random.js');
@@ -23,9 +23,9 @@ const COLLECTION = 'examples';
 const NAME = 'node';
 const PATIENCE = 120000; // milliseconds without progress
 const MOST_FAULTS = 5; // that are printed
-const EVERY = 5; // one version in so many is looked at again in the end
-const CARDS = 8; // what a column may grow to
-const TEXT = 300; // what a text may grow to
+const EVERY = 5; // one version in this number is compared at the end
+const CARDS = 8; // maximal length of a column
+const TEXT = 300; // maximal length of a text
 const START = { text: '', columns: ['To do', 'Doing', 'Done'].map((name) => ({ name, cards: [] })) };
 const PIECES = ['a', 'bc', '😀', 'word ', '\n', 'é', '漢字', '🎉🎉'];
 
@@ -35,7 +35,7 @@ let { random, pick } = choices(1);
 
 // Edits -------------------------------------------------------------------------------------------------------
 
-// Often at the front or the end, where others write at the same time.
+// Returns an offset, often at the start or the end, where others write concurrently.
 function textEdit(path, text, most) {
   const points = [...text];
   const from = pick([0, random(points.length + 1), points.length]);
@@ -61,7 +61,7 @@ function listEdit(data) {
   return [random(3) === 0 ? { ...removed, li: newCard() } : removed];
 }
 
-// A card is taken out here and put in there, in one operation.
+// Moves a card: one operation that removes it and inserts it elsewhere.
 function moveEdit(data, path, card) {
   const column = random(data.columns.length);
   const there = data.columns[column].cards.length - (column === path[1] ? 1 : 0);
@@ -112,7 +112,7 @@ function pause(milliseconds) {
   return new Promise((resolve) => setTimeout(resolve, milliseconds));
 }
 
-// Waits for a condition that is looked at after each change.
+// Waits for a condition, which is checked after each change.
 function until(document, holds) {
   return new Promise((resolve, reject) => {
     const timer = setTimeout(() => reject(new Error('nothing more comes')), PATIENCE);
@@ -127,7 +127,7 @@ function until(document, holds) {
   });
 }
 
-// Keeps the socket of a client, so that it can be torn down.
+// Keeps the client's socket, so that it can be torn down.
 function tearable() {
   const kept = { socket: null };
   kept.WebSocket = class extends WebSocket {
@@ -159,7 +159,7 @@ function finished(data) {
 
 // The end -----------------------------------------------------------------------------------------------------
 
-// The document over a new connection, and behind it the document as it was at some versions, by version.
+// Returns the document over a new connection, and the document at some versions, by version.
 function fetchDocument(address, id, versions) {
   return new Promise((resolve, reject) => {
     const socket = new WebSocket(address);
@@ -187,7 +187,7 @@ function canonical(value) {
   return `{${members.join()}}`;
 }
 
-// The first place at which two values differ, or null.
+// Returns the first place at which two values differ, or null.
 function difference(ours, theirs, path = 'document') {
   const spelled = `${path}: ${JSON.stringify(ours)} and ${JSON.stringify(theirs)}`;
   const [isObject, alike] = [ours !== null && typeof ours === 'object', Array.isArray(ours) === Array.isArray(theirs)];
@@ -204,7 +204,7 @@ const faults = [];
 
 async function main(address, id, edits = '300', clients = '1', seed = '1') {
   ({ random, pick } = choices(seed));
-  const held = new Map(); // the document as it was, spelled, by version
+  const held = new Map(); // the document as JSON text, by version
   let refused = 0;
   const kept = tearable();
   const client = new Client(address, { WebSocket: kept.WebSocket, retryDelay: 20 });

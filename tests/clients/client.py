@@ -1,12 +1,11 @@
-"""One client in Python: edits a document many times together with others, follows it, and compares it in the end.
+"""One client in Python: edits a document concurrently with others, subscribes to it, and compares it at the end.
 
     /usr/bin/python3 tests/clients/client.py ADDRESS DOCUMENT [EDITS] [CLIENTS] [SEED]
 
-It shares nothing with examples/client.js and needs no transform: each edit is made on the document as it was seen, at
-that version, and its stored form is fetched when it is acknowledged. When it has made its edits it puts a key
-`finished-..` into the document; when CLIENTS of these keys are there, nobody edits any more. Then it fetches the
-document over a new connection, and as it was at every fifth version that it has seen. Status 1, and a line that says
-what differs, where these aren't what it holds and held.
+It shares no code with examples/client.js and needs no transform: each edit is made at the version that the client has seen,
+and its stored form is fetched when it is acknowledged. After its edits the client sets a key `finished-..` in the document;
+once CLIENTS of these keys are set, no client edits. Then it fetches the document over a new connection, and the document at
+every fifth version that it has seen. If these differ from its copies, it prints a line that says where, and the status is 1.
 
 Needs python3-websockets.
 """
@@ -22,8 +21,8 @@ COLLECTION = "examples"
 NAME = "python"
 PATIENCE = 120  # seconds without a message
 MOST_FAULTS = 5  # that are printed
-EVERY = 5  # one version in so many is looked at again in the end
-CARDS, TEXT = 8, 300  # what a column and a text may grow to
+EVERY = 5  # one version in this number is compared at the end
+CARDS, TEXT = 8, 300  # maximal length of a column and of a text
 START = {"text": "", "columns": [{"name": name, "cards": []} for name in ("To do", "Doing", "Done")]}
 PIECES = ["a", "bc", "😀", "word ", "\n", "é", "漢字", "🎉🎉"]
 
@@ -42,7 +41,7 @@ def split(text, at):
 
 # Operations -----------------------------------------------------------------------------------------------------------
 
-# The text at the place with the component's text put in or taken out.
+# Returns the text with the component's text inserted or deleted.
 def edited(text, component, offset):
     front, rest = split(text, offset)
     if "si" in component:
@@ -64,7 +63,7 @@ def change(place, step, component):
         place.pop(step, None)
 
 
-# Applies one component in place. The document stands in a list, so that its root is a place like any other.
+# Applies one component in place. The document is the item of a list, so that its root has a container.
 def apply_component(holder, component):
     path = [0, *component["p"]]
     of_text = "si" in component or "sd" in component
@@ -80,7 +79,7 @@ def apply_component(holder, component):
 
 # Edits ----------------------------------------------------------------------------------------------------------------
 
-# Often at the front or the end, where others write at the same time.
+# Returns an offset, often at the start or the end, where others write concurrently.
 def text_edit(path, text, most):
     points = list(text)
     start = random.choice([0, random.randrange(len(points) + 1), len(points)])
@@ -107,7 +106,7 @@ def list_edit(data):
     return [removed]
 
 
-# A card is taken out here and put in there, in one operation.
+# Moves a card: one operation that removes it and inserts it elsewhere.
 def move_edit(data, path, card):
     column = random.randrange(len(data["columns"]))
     there = len(data["columns"][column]["cards"]) - (column == path[1])
@@ -160,7 +159,7 @@ class Client:
         self.version = None
         self.holder = [None]
         self.arrived = {}
-        self.held = {}  # the document as it was, spelled, by version
+        self.held = {}  # the document as JSON text, by version
         self.refused = 0
 
     @property
@@ -183,7 +182,7 @@ class Client:
             if message["a"] in wanted and not any(member in message for member in ("op", "create", "del")):
                 return message
 
-    # What has come is applied in the order of versions. Before the first answer nothing is.
+    # Applies received operations in the order of versions. Applies none before the first answer.
     def advance(self):
         while self.version is not None and self.version in self.arrived:
             entry = self.arrived.pop(self.version)
@@ -208,7 +207,7 @@ class Client:
         while self.data is None:
             await self.receive()
 
-    # Sends an edit of the seen version, and goes on when that version is seen which it was stored at.
+    # Sends an edit at the seen version, and waits until the version at which it is stored is seen.
     async def submit(self, **content):
         self.number += 1
         await self.send(a="op", v=self.version, src=self.source, seq=self.number, **content)
@@ -233,7 +232,7 @@ class Client:
 
 # The end --------------------------------------------------------------------------------------------------------------
 
-# The version and the document over a new connection, and the document as it was at some versions.
+# Returns the version and the document over a new connection, and the document at some versions.
 async def fetch(address, document, versions):
     async with websockets.connect(address) as socket:
         fresh = Client(socket, document)
@@ -247,7 +246,7 @@ async def fetch(address, document, versions):
         return found["v"], found.get("data"), before
 
 
-# The first place at which two values differ, or None.
+# Returns the first place at which two values differ, or None.
 def difference(ours, theirs, path="document"):
     if type(ours) is not type(theirs):
         return f"{path}: {json.dumps(ours)} and {json.dumps(theirs)}"
@@ -258,7 +257,7 @@ def difference(ours, theirs, path="document"):
     return None if ours == theirs else f"{path}: {json.dumps(ours)} and {json.dumps(theirs)}"
 
 
-# What differs at the versions that were held, each with the document there, spelled.
+# Returns the differences at the kept versions, each with the document there as JSON text.
 def differences_before(held, before):
     for version, text in held.items():
         found = difference(json.loads(text), before[version])
@@ -274,7 +273,7 @@ def digest(data):
     return hashlib.sha256(spelled(data).encode()).hexdigest()[:16]
 
 
-# Prints how a client ended, and the first of its faults. The status.
+# Prints how a client ended and its first faults. Returns the status.
 def told(name, ended, faults):
     print(f"{name}: {ended}")
     for fault in faults[:MOST_FAULTS]:

@@ -1,6 +1,6 @@
 /*
- * Clients that follow a document, leave it, fetch it, look at its versions, and lose their connections, all at random,
- * while they edit it: in the end each holds what the server has, and each edit's promise has told the truth.
+ * Clients that subscribe, unsubscribe, fetch, read versions and lose their connections, at random, while they edit a
+ * document. At the end each holds the server's document, and each edit's promise was right.
  *
  *     node tests/clients/links.js ADDRESS [ROUNDS] [SEED]
  *
@@ -9,14 +9,14 @@
 'use strict';
 
 const assert = require('assert');
-module.paths.push('/usr/share/nodejs'); // where Debian's node-ws stands
+module.paths.push('/usr/share/nodejs'); // where Debian installs node-ws
 const WebSocket = require('ws');
 const { Client, apply } = require('../../examples/client.js');
 const { choices } = require('./random.js');
 
 const [address, rounds = '300', seed = '1'] = process.argv.slice(2);
 const { random, pick } = choices(seed);
-const PATIENCE = 60000; // milliseconds for all of it
+const PATIENCE = 60000; // milliseconds for the whole run
 const CLIENTS = 3;
 const ID = `links-${seed}-${process.pid}`;
 const faults = [];
@@ -30,7 +30,7 @@ class Participant {
     const participant = this;
     this.number = number;
     this.made = 0; // edits
-    this.versions = []; // at which they are stored, as their promises told
+    this.versions = []; // at which they are stored, by their promises
     const Tearable = class extends WebSocket {
       constructor(where) {
         super(where);
@@ -85,7 +85,7 @@ class Participant {
     }
   }
 
-  // A document at a version is what the operations before it make.
+  // The document at a version is the replay of the operations before it.
   async look() {
     const version = random(this.document.version) + 1;
     const [{ data }, entries] = await Promise.all([this.document.snapshot(version), this.document.operations(0)]);

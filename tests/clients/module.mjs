@@ -1,6 +1,6 @@
 /*
- * examples/client.js as an ES module and as a CommonJS module: both give the same. Where tsc is installed the types are
- * tried too.
+ * examples/client.js as an ES module and as a CommonJS module: both export the same. If tsc is installed, this also
+ * checks the types.
  *
  *     node tests/clients/module.mjs
  */

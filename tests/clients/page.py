@@ -1,13 +1,13 @@
-"""The page with two clients, in Chromium without a window: edited many times together with others, and compared.
+"""The page with two clients, in headless Chromium: edits concurrently with others, and compares.
 
     /usr/bin/python3 tests/clients/page.py ADDRESS DOCUMENT [EDITS] [CLIENTS]
 
-The page is driven by its fields and buttons (page_edits.js), in both views. When the edits are stored it puts a key
-`finished-page` into the document; when CLIENTS of these keys are there, nobody edits any more. Then what both views
-hold and show is compared with the document as it is fetched over a new connection, and what they held at every fifth
-version with the document as it was there. Before that, on documents of their own, a caret is looked at while the other
-view writes, the page is used by keys alone, and on a screen of 320 pixels nothing lies outside; and the client is
-imported as a module. Status 1, and a line that says what differs, on a difference.
+The script uses the page's fields and buttons (page_edits.js), in both views. After its edits it sets a key `finished-page`
+in the document; once CLIENTS of these keys are set, no client edits. Then it compares the document and the screen of both
+views with a fetch over a new connection, and their document at every fifth version with the server's. Before that, on other
+documents, it tests that a caret stays while the other view writes, that the page can be used by the keyboard alone, that
+nothing is outside a screen of 320 pixels, and that the client can be imported as a module. On a difference it prints a line,
+and the status is 1.
 
 Needs python3-websockets and chromium.
 """
@@ -58,7 +58,7 @@ async def browser(*options):
         shutil.rmtree(folder, ignore_errors=True)
 
 
-# The address at which the first tab of a browser is driven, which has written its port into a file.
+# Returns the debugging address of a browser's first tab, from the file to which it has written its port.
 async def first_tab(port_file):
     for _ in range(600):
         await asyncio.sleep(0.05)
@@ -102,7 +102,7 @@ class Tab:
         await self.call("Input.dispatchKeyEvent", type="keyDown", **parameters, **text)
         await self.call("Input.dispatchKeyEvent", type="keyUp", **parameters)
 
-    # Presses Tab until what has the focus fits.
+    # Presses Tab until the focused element fits.
     async def tab_to(self, selector, most=60):
         for _ in range(most):
             await self.press("Tab", 9)
@@ -111,12 +111,12 @@ class Tab:
         raise RuntimeError(f"Tab never comes to {selector}")
 
 
-# By keys -------------------------------------------------------------------------------------------------------------
+# By keyboard ---------------------------------------------------------------------------------------------------------
 
 CARD = "views[0].shared.data.columns.map(({ cards }) => cards.findIndex(({ title }) => title === 'by keys'))"
 
 
-# A card is added, written, moved to the next column, up there, voted for and removed; a view is disconnected and connected.
+# Adds a card, writes it, moves it to the next column and up, votes for it and removes it; disconnects and connects a view.
 async def faults_by_keys(tab, address, document):
     await tab.open(address, document)
     await tab.evaluate("pageEdits.opened()")
@@ -171,7 +171,7 @@ class Quiet(http.server.SimpleHTTPRequestHandler):
 MODULE = "import('/client.mjs').then(({ Client, default: api }) => api.Client === Client && api === Navirotsohy)"
 
 
-# A browser imports modules over HTTP alone.
+# A browser imports modules only over HTTP.
 async def faults_of_module(tab):
     files = http.server.ThreadingHTTPServer(("127.0.0.1", 0), functools.partial(Quiet, directory=PAGE.parent))
     threading.Thread(target=files.serve_forever, daemon=True).start()
@@ -184,7 +184,7 @@ async def faults_of_module(tab):
         files.shutdown()
 
 
-# What a view shows of a document: its text, and its columns without the ids and other members of cards.
+# Returns what a view shows of a document: its text, and its columns without the ids and other members of cards.
 def as_shown(data):
     members = ("title", "done", "votes")
     columns = [{"name": c["name"], "cards": [{m: card[m] for m in members} for card in c["cards"]]} for c in data["columns"]]
@@ -223,5 +223,5 @@ async def main(address, document, edits="300", clients="1"):
 
 
 if __name__ == "__main__":
-    signal.signal(signal.SIGTERM, signal.default_int_handler)  # so that the browser is ended too
+    signal.signal(signal.SIGTERM, signal.default_int_handler)  # so that the browser is stopped too
     sys.exit(asyncio.run(main(*sys.argv[1:])))

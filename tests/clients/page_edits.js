@@ -1,13 +1,13 @@
 /*
- * What page.py runs in the page: it edits as a reader does, by the fields and buttons of both views.
- * Each edit picks a view; what it does goes through the page's own listeners.
+ * Runs in the page for page.py: it edits as a user does, by the fields and buttons of both views.
+ * Each edit picks a view and uses the page's own listeners.
  */
 'use strict';
 
 window.pageEdits = (() => {
-  const EVERY = 5; // one version in so many is looked at again in the end
-  const CARDS = 8; // what a column may grow to
-  const TEXT = 300; // what a text may grow to
+  const EVERY = 5; // one version in this number is compared at the end
+  const CARDS = 8; // maximal length of a column
+  const TEXT = 300; // maximal length of a text
   const PIECES = ['a', 'bc', '😀', 'word ', '\n', 'é', '漢字', '🎉🎉'];
 
   function random(below) {
@@ -22,7 +22,7 @@ window.pageEdits = (() => {
     return new Promise((resolve) => setTimeout(resolve, milliseconds));
   }
 
-  // Changes some letters of a field, as typing does; often at the front or the end, where others write too.
+  // Changes some letters of a field, as typing does; often at the start or the end, where others write too.
   function type(field, most) {
     const points = [...field.value];
     const from = pick([0, random(points.length + 1), points.length]);
@@ -64,7 +64,7 @@ window.pageEdits = (() => {
     return views.every((view) => view.client.state === 'connected' && view.shared.data !== undefined);
   }
 
-  // What a view holds at every fifth version, and where its document was replaced.
+  // Returns a view's document at every fifth version, and the versions at which it was replaced.
   function remember({ shared }) {
     const kept = { held: {}, healed: [] };
     shared.on('healed', ({ version }) => kept.healed.push(version));
@@ -94,14 +94,14 @@ window.pageEdits = (() => {
     await views[0].shared.whenNothingPending();
   }
 
-  // Waits until all clients have finished, in both views.
+  // Waits until both views have the keys of all finished clients.
   async function follow(clients) {
     const finished = (view) => Object.keys(view.shared.data).filter((key) => key.startsWith('finished-')).length;
     while (!views.every((view) => finished(view) >= clients)) await pause(20);
     while (views[0].shared.version !== views[1].shared.version) await pause(20);
   }
 
-  // What stands on the screen, in the form of the document.
+  // Returns what the screen shows, in the form of the document.
   function shown(view) {
     const cardOf = (card) => ({
       title: card.querySelector('.title').value,
@@ -123,7 +123,7 @@ window.pageEdits = (() => {
     return views.map((view, at) => ({ ...remembered[at], ...held(view), shown: shown(view) }));
   }
 
-  // A caret stays between the letters that it stands between while the other view writes.
+  // A caret stays between its two letters while the other view writes.
   async function caret() {
     while (!ready()) await pause(10);
     const [left, right] = views.map((view) => view.find('textarea'));
@@ -139,8 +139,8 @@ window.pageEdits = (() => {
     await write(left, 'one two three', 0, left.value.length);
     left.setSelectionRange(4, 7); // two
     await write(right, '😀 zero ', 0, 0); // before it
-    await write(right, ' four', right.value.length, right.value.length); // behind it
-    await write(right, '', 0, 3); // a part of what is before it
+    await write(right, ' four', right.value.length, right.value.length); // after it
+    await write(right, '', 0, 3); // a part of the text before it
     return [left.value, left.value.slice(left.selectionStart, left.selectionEnd)];
   }
 

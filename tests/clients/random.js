@@ -1,7 +1,7 @@
-/* Random choices that the same seed makes again. */
+/* Random choices that a seed determines. */
 'use strict';
 
-/** A whole number from 0 to below the one that is given; one of a list. */
+/** Returns a random whole number from 0 to below the given one, or a random item of a list. */
 function choices(seed) {
   let state = Number(seed);
   const random = (below) => {

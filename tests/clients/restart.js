@@ -1,11 +1,11 @@
 /*
- * The server is killed in the middle and started afresh at the same address: the clients say so, and go on.
+ * The server is killed and restarted at the same address: the clients report it and continue.
  *
  *     node tests/clients/restart.js SERVER
  *
- * One client edits without a pause and one only follows; a third one is away until the fresh server's document has a
- * longer log than the old one had. Each has to tell `restarted` once, with the document as it was stored, and to end
- * with the fresh server's document. No edit of the old document may be stored in the fresh one.
+ * One client edits without a pause and one only subscribes. A third one is disconnected until the new server's document
+ * has a longer log than the old one had. Each must emit `restarted` once, with the stored document, and end with the new
+ * server's document. No edit of the old document may be stored in the new one.
  *
  * Needs node-ws.
  */
@@ -13,16 +13,16 @@
 
 const assert = require('assert');
 const { spawn } = require('child_process');
-module.paths.push('/usr/share/nodejs'); // where Debian's node-ws stands
+module.paths.push('/usr/share/nodejs'); // where Debian installs node-ws
 const WebSocket = require('ws');
 const { Client } = require('../../examples/client.js');
 
 const [server] = process.argv.slice(2);
-const PATIENCE = 60000; // milliseconds for all of it
+const PATIENCE = 60000; // milliseconds for the whole run
 const EDITS = 40; // that are stored before the server is killed
 let running = null; // the server
 
-// Starts the server, and gives its address.
+// Starts the server and returns its address.
 function start(address) {
   const child = spawn(server, ['--listen', address], { stdio: ['ignore', 'pipe', 'inherit'] });
   running = child;

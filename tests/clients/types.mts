@@ -1,4 +1,4 @@
-// Tried by module.mjs: a program that uses each call of the client, as TypeScript reads its types.
+// Compiled by module.mjs: a program that uses each call of the client with its TypeScript types.
 import { Client, Refusal, apply, compose, cross } from '../../examples/client.mjs';
 import { textChange, transformComponent, transformOffset } from '../../examples/client.mjs';
 import type { Component, Entry, Operation, Snapshot } from '../../examples/client.mjs';

@@ -1,4 +1,4 @@
--- Components that work below one place of a value.
+-- Components that work inside one path of a value.
 use Rattle.std.proofs.Common.{◌≡◌, ℕ, zero, suc, ◌≤◌, List, [], ◌∷◌, ◌++◌, length, take, drop, map, min, get_or, ◌+◌, ◌<◌, ◌-◌, Option, Some, None, Ok, Err, Result, refl, sym, ap, ◌∙◌, arith, option_map, subst}
 use Rattle.std.specs.Prelude.{⊤, true}
 use Rattle.std.specs.Option.{option_and_then}
@@ -32,7 +32,7 @@ map_after_prefix : (o : Option Value) (e : Value → Option Value) (f g h : Valu
 map_after_prefix None e f g h same = refl
 map_after_prefix (Some x) e f g h same = map_twice (e x) f g h same
 
--- a component under a place does to the value there what it does to the whole
+-- a component inside a path has the effect that it has on the value there
 pub does_path : (p q x : List PlainStep) (c : PlainComponent) (d u : Value) → value_at d p ≡ Some u → x ≡ p ++ q
     → option_and_then (λ v. option_map (with_value_at d x) (apply_act c.act v)) (value_at d x) ≡ option_map (with_value_at d p) (option_and_then (λ v. option_map (with_value_at u q) (apply_act c.act v)) (value_at u q))
 does_path p q x c d u found is =
@@ -53,14 +53,14 @@ under_then (Some v) p cs ds d u found strip_steps = strip_steps v ∙ map_same (
     map_same None f g same = refl
     map_same (Some x) f g same = ap Some (same x)
 
--- and so do components one after the other
+-- a list of components has it too
 pub applies_under : (cs : List PlainComponent) (p : List PlainStep) (d u : Value) → value_at d p ≡ Some u → AllBelowPath p cs → apply cs d ≡ option_map (with_value_at d p) (apply (strip_steps (length p) cs) u)
 applies_under [] p d u found h = ap Some (sym (with_same p d u found))
 applies_under (c ∷ cs) p d u found h =
     ap (option_and_then (apply cs)) (does_under p c d u found h.0)
     ∙ under_then (apply_one (without_steps (length p) c) u) p cs (strip_steps (length p) cs) d u found (λ v. applies_under cs p (with_value_at d p v) v (at_with d u v p found) h.1)
 
--- nothing comes of them where nothing is at their place
+-- components don't apply if their path doesn't exist
 does_none_of_at_none : (p : List PlainStep) (c : PlainComponent) (d : Value) → value_at d p ≡ None → IsBelowPath p c → apply_one c d ≡ None
 does_none_of_at_none p c d none h =
     let q = drop (length p) c.path in
@@ -71,7 +71,7 @@ pub none_nowhere : (cs : List PlainComponent) (c : PlainComponent) (p : List Pla
 none_nowhere [] c p d first none h = cc
 none_nowhere (x ∷ cs) c p d first none h = ap (option_and_then (apply cs)) (does_none_of_at_none p x d none h.0)
 
--- the outcome at the place is the outcome in the whole value
+-- the outcome at the path is the outcome in the whole value
 pub whole_at : (r : Result ⊤ ApplyFault) (cs : List PlainComponent) (n : ℕ) (d e : Value) (p : List PlainStep) → n ≡ length p → AllBelowPath p cs
     → ReplacedAt (λ u v. IsApplyOutcome true r (apply (strip_steps n cs) u) u v) d p e → IsApplyOutcome true r (apply cs d) d e
 whole_at (Ok x) cs n d e p is h c =
@@ -80,7 +80,7 @@ whole_at (Err NotApplied) cs n d e p is h c =
     (applies_under cs p d c.before c.found h ∙ ap (λ k. option_map (with_value_at d p) (apply (strip_steps k cs) c.before)) (sym is) ∙ ap (option_map (with_value_at d p)) c.related.0, c.placed ∙ ap (with_value_at d p) c.related.1 ∙ with_same p d c.before c.found)
 whole_at (Err OutOfMemory) cs n d e p is h c = (c.related.0, c.placed ∙ ap (with_value_at d p) c.related.1 ∙ with_same p d c.before c.found)
 
--- ---- fronts of paths
+-- ---- prefixes of paths
 
 pub drop_within : {A B : Type 0} (f : A → B) (xs : List A) (n : ℕ) → map f (drop (min n (length xs)) xs) ≡ drop n (map f xs)
 drop_within f [] zero = refl
@@ -88,7 +88,7 @@ drop_within f [] (suc n) = let e : min (suc n) 0 ≡ 0 = omega arith in ap (λ k
 drop_within f (x ∷ xs) zero = let e : min 0 (suc (length xs)) ≡ 0 = omega arith in ap (λ k. map f (drop k (x ∷ xs))) e
 drop_within f (x ∷ xs) (suc n) = let e : min (suc n) (suc (length xs)) ≡ suc (min n (length xs)) = omega arith in ap (λ k. map f (drop k (x ∷ xs))) e ∙ drop_within f xs n
 
--- a shorter front is a front too
+-- a prefix of a prefix is a prefix
 pub take_take_prefix : (k n : ℕ) (x : List PlainStep) → take k (take n x) ≡ take (length (take k (take n x))) x
 take_take_prefix zero n x = refl
 take_take_prefix (suc k) zero [] = refl
@@ -115,7 +115,7 @@ length_take (suc k) (x ∷ xs) h = let e : length (take k xs) ≡ k = length_tak
 pub rest_within : (path : List Step) (n k : ℕ) → k ≡ min n (length path) → plain_path (take (length path - k) (drop k path)) ≡ drop n (plain_path path)
 rest_within path n k is = ap plain_path (take_rest path k) ∙ ap (λ i. plain_path (drop i path)) is ∙ drop_within plain_step path n
 
--- one more step that both paths have
+-- one more common step of both paths
 pub common_prefix_extends : (xs ys : List Step) (i : ℕ) (x y : Step) → i < length xs → i < length ys → x ≡ get_or xs i x → y ≡ get_or ys i y → plain_step x ≡ plain_step y
     → take i (plain_path xs) ≡ take i (plain_path ys) → take (i + 1) (plain_path xs) ≡ take (i + 1) (plain_path ys)
 common_prefix_extends xs ys i x y hx hy is isy same before =
@@ -152,7 +152,7 @@ shared_more k i xs path cs c h is within value_at same all =
     let Q : List PlainComponent → Type 0 = λ l. AllBelowPath p l in
     subst P (take-map plain_step k xs) (subst Q (sym (take_more cs i c h ∙ ap (λ w. take i cs ++ w ∷ []) (sym is))) more)
 
--- one more component at the place
+-- one more component at the path
 pub below_more : (n i : ℕ) (cs : List PlainComponent) (c : PlainComponent) (q : List PlainStep) (a : PlainAct) (d e : Value) → i < length cs → c ≡ get_or cs i c → q ≡ drop n c.path → a ≡ c.act
     → apply (strip_steps n (take i cs)) d ≡ Some e → apply (strip_steps n (take (i + 1) cs)) d ≡ apply_one (record { path = q; act = a }) e
 below_more n i cs c q a d e h is path act done =

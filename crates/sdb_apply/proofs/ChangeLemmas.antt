@@ -1,4 +1,4 @@
--- Changes in turn: at two places, and below one.
+-- Changes in sequence: at two paths, and inside one.
 use Rattle.std.proofs.Common.{◌≡◌, List, [], ◌∷◌, ◌++◌, map, Option, Some, None, option_map, option_and_then, refl, sym, ap, ◌∙◌}
 use Rattle.sdb_value.specs.Value.{Value, PlainStep, value_at, with_value_at}
 use Rattle.sdb_value.specs.laws.PathLaws.{at_with}
@@ -16,12 +16,12 @@ same_value a b e = cc
 pub one_result : (c : PlainComponent) (d e f : Value) → apply_one c d ≡ Some e → apply_one c d ≡ Some f → e ≡ f
 one_result c d e f h k = same_value e f (sym h ∙ k)
 
--- what an act makes of a place that is there
+-- the result of an applicable act
 pub has_effect : (o : Option Value) (f : Value → Value) (r : Value) → option_map f o ≡ Some r → (v : Value) × (o ≡ Some v)
 has_effect None f r e = cc
 has_effect (Some v) f r e = (v, refl)
 
--- what a component does, by the value that it finds and what it leaves there
+-- the effect of a component, by the value before and after at its path
 pub does_is : (c : PlainComponent) (d u v : Value) → value_at d c.path ≡ Some u → apply_act c.act u ≡ Some v → apply_one c d ≡ Some (with_value_at d c.path v)
 does_is c d u v e f = ap (option_and_then (λ u. option_map (with_value_at d c.path) (apply_act c.act u))) e ∙ ap (option_map (with_value_at d c.path)) f
 

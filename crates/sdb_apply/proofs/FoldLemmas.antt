@@ -1,4 +1,4 @@
--- Components one after the other.
+-- Components in sequence.
 use Rattle.std.proofs.Common.{◌≡◌, ℕ, ◌+◌, ◌<◌, [], ◌∷◌, ◌++◌, length, take, get_or, List, Option, Some, None, refl, sym, ap, ◌∙◌}
 use Rattle.std.proofs.lemmas.List.{take_more}
 use Rattle.std.specs.Option.{option_and_then}
@@ -28,7 +28,7 @@ and_then_none : (o : Option Value) (cs ds : List PlainComponent) → option_and_
 and_then_none None cs ds h below = refl
 and_then_none (Some d) cs ds h below = below d h
 
--- what has no effect has none with more behind it
+-- components that don't apply don't apply with more after them
 pub none_more : (cs ds : List PlainComponent) (d : Value) → apply cs d ≡ None → apply (cs ++ ds) d ≡ None
 none_more [] ds d h = cc
 none_more (c ∷ cs) ds d h = and_then_none (apply_one c d) cs ds h (λ x k. none_more cs ds x k)

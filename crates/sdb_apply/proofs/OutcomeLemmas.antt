@@ -1,4 +1,4 @@
--- What an act does at its place, and in the whole value.
+-- The outcome of an act at its path and in the whole value.
 use Rattle.std.proofs.Common.{◌≡◌, ℕ, List, Option, Some, None, Ok, Err, Result, Bool, true, false, refl, sym, ap, ◌∙◌, option_map}
 use Rattle.std.specs.Prelude.{⊤, if◌then◌else◌}
 use Rattle.std.specs.Option.{option_and_then}
@@ -17,7 +17,7 @@ use Rattle.sdb_apply.specs.Outcome.{IsApplyOutcome, may_allocate}
 use Rattle.sdb_apply.specs.declared.op_apply.ApplyFault.{ApplyFault}
 use Rattle.sdb_apply.specs.declared.op_apply.ApplyFault.TheVariants.{NotApplied, OutOfMemory}
 
--- an outcome at a place is the outcome in the whole value
+-- an outcome at a path is the outcome in the whole value
 pub outcome_at : (r : Result ⊤ ApplyFault) (g : Bool) (f : Value → Option Value) (d e : Value) (p : List PlainStep) → ReplacedAt (λ u v. IsApplyOutcome g r (f u) u v) d p e
     → IsApplyOutcome g r (option_and_then (λ u. option_map (with_value_at d p) (f u)) (value_at d p)) d e
 outcome_at (Ok x) g f d e p h = rw (h.found, h.related) (ap Some (sym h.placed))
@@ -27,7 +27,7 @@ outcome_at (Err OutOfMemory) g f d e p h = (h.related.0, h.placed ∙ ap (with_v
 abbrev pub result_of_bool : Bool → Result ⊤ ApplyFault
 result_of_bool done = if done then Ok tt else Err NotApplied
 
--- an edit of the inside is the outcome for the value
+-- the outcome of a change inside a value
 outcome_of_edit : {A : Type 0} (done g : Bool) (f : Option A) (make : A → Value) (x y : A) (d e : Value) (o : Option Value) → o ≡ option_map make f → d ≡ make x → e ≡ make y → EditOutcome done f x y
     → IsApplyOutcome g (result_of_bool done) o d e
 outcome_of_edit true g f make x y d e o is was now h = is ∙ ap (option_map make) h ∙ ap Some (sym now)
@@ -77,7 +77,7 @@ not_object f (text s) e = refl
 not_object f (list es) e = refl
 not_object f (object ms) e = cc
 
--- ---- what takes memory
+-- ---- allocations
 
 pub needs_put : (own : Bool) → may_allocate true own ≡ true
 needs_put true = refl
@@ -89,7 +89,7 @@ needs_shared takes own h = ap (may_allocate takes) h
 pub list_shared : (l : ChunkedVec Json) → is_unique_vec l ≡ false → list_unique l ≡ false
 list_shared l h = ap (λ b. cond b (items_unique (vec_items l)) false) h
 
--- an outcome of which only what is shared, or put in, takes memory
+-- an outcome that allocates only for shared parts and inserts
 pub outcome_needs_less : {A : Type 0} (r : Result ⊤ ApplyFault) (takes own : Bool) (o : Option A) (d e : A) → IsApplyOutcome true r o d e
     → (own ≡ true → IsErrOf r OutOfMemory → takes ≡ true) → IsApplyOutcome (may_allocate takes own) r o d e
 outcome_needs_less (Ok x) takes own o d e h k = h
@@ -97,7 +97,7 @@ outcome_needs_less (Err NotApplied) takes own o d e h k = h
 outcome_needs_less (Err OutOfMemory) takes true o d e h k = (k refl refl, h.1)
 outcome_needs_less (Err OutOfMemory) takes false o d e h k = (refl, h.1)
 
--- what is said of an option that is there, or isn't
+-- a fact about a present or absent option
 pub outcome_at_some : {A : Type 0} (N : Type 0) (P : A → Type 0) (o : Option A) (x : A) → o ≡ Some x → MatchOption o N P → P x
 outcome_at_some {A} N P o x e h = let Q : Option A → Type 0 = λ o. MatchOption o N P in subst Q e h
 
@@ -107,7 +107,7 @@ outcome_at_none {A} N P o e h = let Q : Option A → Type 0 = λ o. MatchOption 
 pub if_some : {A : Type 0} (P : A → Type 0) (o : Option A) (x : A) → o ≡ Some x → IfSome o P → P x
 if_some {A} P o x e h = let Q : Option A → Type 0 = λ o. IfSome o P in subst Q e h
 
--- what the later value needs, which is own where the first one was, the first one needs
+-- an allocation of a later value, unique if the first one was, is one of the first
 pub needs_mono : (takes own later : Bool) → (own ≡ true → later ≡ true) → may_allocate takes later ≡ true → may_allocate takes own ≡ true
 needs_mono takes false later h k = refl
 needs_mono takes true later h k = ap (may_allocate takes) (sym (h refl)) ∙ k

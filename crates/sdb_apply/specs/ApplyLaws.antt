@@ -5,11 +5,11 @@ use Rattle.sdb_value.specs.Disjoint.{AreDisjointPaths}
 use Rattle.sdb_component.specs.Plain.{PlainComponent}
 use Rattle.sdb_apply.specs.Apply.{apply_one, apply}
 
--- a component makes one value at most
+-- a component has at most one result
 abbrev pub UniqueResult : Type 0
 UniqueResult = (c : PlainComponent) (d e f : Value) → apply_one c d ≡ Some e → apply_one c d ≡ Some f → e ≡ f
 
--- two components at places of which neither lies in the other make one value in either order
+-- two components at disjoint paths make one value in either order
 abbrev pub DisjointChangesCommute : Type 0
 DisjointChangesCommute =
     (a b : PlainComponent) (d e f : Value) → AreDisjointPaths a.path b.path → apply_one a d ≡ Some e → apply_one b d ≡ Some f
@@ -19,7 +19,7 @@ DisjointChangesCommute =
 abbrev pub with_path_prefix : List PlainStep → PlainComponent → PlainComponent
 with_path_prefix p c = record { path = p ++ c.path; act = c.act }
 
--- components below a place do to the value there what they do to that value by itself
+-- components inside a path have the effect that they have on the value there
 abbrev pub ChangesBelowPlace : Type 0
 ChangesBelowPlace =
     (p : List PlainStep) (cs : List PlainComponent) (d u : Value) → value_at d p ≡ Some u

@@ -1,4 +1,4 @@
--- Components that all work below one place.
+-- Components that all work inside one path.
 use Rattle.std.specs.Prelude.{◌≡◌, ℕ, List, [], ◌∷◌, map, length, take, drop}
 use Rattle.sdb_value.specs.Value.{PlainStep}
 use Rattle.sdb_component.specs.Plain.{PlainComponent}
@@ -7,11 +7,11 @@ use Rattle.sdb_component.specs.Plain.{PlainComponent}
 abbrev pub IsBelowPath : List PlainStep → PlainComponent → Type 0
 IsBelowPath p c = p ≡ take (length p) c.path
 
--- and so does each component's path
+-- each component's path does
 abbrev pub AllBelowPath : List PlainStep → List PlainComponent → Type 0
 AllBelowPath p [] = Unit {0}
 AllBelowPath p (c ∷ cs) = IsBelowPath p c × AllBelowPath p cs
 
--- the same components, for the value that lies n steps down their paths
+-- the components relative to the value at the first n steps of their paths
 abbrev pub strip_steps : ℕ → List PlainComponent → List PlainComponent
 strip_steps n cs = map (λ c. record { path = drop n c.path; act = c.act }) cs

@@ -1,10 +1,10 @@
--- How a change in place ends.
+-- The outcome of a change in place.
 use Rattle.std.specs.Prelude.{◌≡◌, ℕ, zero, suc, List, [], ◌∷◌, Bool, true, false, if◌then◌else◌, Option, Some, None, Result, Ok, Err, ⊤}
 use Rattle.sdb_component.specs.Plain.{PlainAct, na, sd, ld, od, PlainComponent}
 use Rattle.sdb_apply.specs.declared.op_apply.ApplyFault.{ApplyFault}
 use Rattle.sdb_apply.specs.declared.op_apply.ApplyFault.TheVariants.{NotApplied, OutOfMemory}
 
--- only what puts something in takes memory
+-- whether an act allocates on a unique value: only an insert does
 abbrev pub act_allocates : PlainAct → Bool
 act_allocates (na x) = false
 act_allocates (sd p s) = false
@@ -12,24 +12,23 @@ act_allocates (ld i x) = false
 act_allocates (od k x) = false
 act_allocates _ = true
 
--- the component that stands behind i others does
+-- whether the component at index i allocates
 abbrev pub act_allocates_at : ℕ → List PlainComponent → Bool
 act_allocates_at i [] = false
 act_allocates_at zero (c ∷ cs) = act_allocates c.act
 act_allocates_at (suc i) (c ∷ cs) = act_allocates_at i cs
 
--- done, and the value is the effect; not applied, there is none, and the value is as it was; or memory was
--- wanting, and the value is as it was
+-- applied, with the effect as new value; or not applied, or an allocation failed, with the old value
 abbrev pub IsApplyOutcome : {A : Type 0} → Bool → Result ⊤ ApplyFault → Option A → A → A → Type 0
 IsApplyOutcome grows (Ok _) o d e = o ≡ Some e
 IsApplyOutcome grows (Err NotApplied) o d e = (o ≡ None) × (e ≡ d)
 IsApplyOutcome grows (Err OutOfMemory) o d e = (grows ≡ true) × (e ≡ d)
 
--- what is its owner's own takes memory only for what is put in; what is shared may take some
+-- a unique value allocates only if the act does; a shared one may allocate
 abbrev pub may_allocate : Bool → Bool → Bool
 may_allocate takes own = if own then takes else true
 
--- one component takes memory where its act does; of several, the place that they share is made shared
+-- one component allocates if its act does; several may, since their common path is frozen
 abbrev pub atomic_apply_allocates : List PlainComponent → Bool
 atomic_apply_allocates [] = false
 atomic_apply_allocates (c ∷ []) = act_allocates c.act

@@ -1,4 +1,4 @@
-//! What each act does at its place.
+//! The effect of each act on the value at its path.
 ghost use Rattle.std.specs.Prelude.{◌≡◌, ◌+ℤ◌, false, true, if◌then◌else◌, IfOk};
 ghost use Rattle.sdb_value.specs.Uniqueness.{is_unique};
 ghost use Rattle.sdb_value.specs.FromJson.{checked_whole};
@@ -18,30 +18,31 @@ use sdb_value::{
 };
 use std::alloc::{AllocError, Global};
 
-pub(crate) fn apply_act(alloc: Global, place: &mut Json, act: &Act) -> Result<(), ApplyFault>
-    ensures outcome { IsApplyOutcome (may_allocate (act_allocates (plain_act act.now)) (is_unique place.old)) result
-        (apply_act (plain_act act.now) (value_of place.old)) (value_of place.old) (value_of place.new) }
-    ensures unique { is_unique place.old ≡ true → is_unique place.new ≡ true }
+pub(crate) fn apply_act(alloc: Global, target: &mut Json, act: &Act) -> Result<(), ApplyFault>
+    ensures outcome { IsApplyOutcome (may_allocate (act_allocates (plain_act act.now)) (is_unique target.old)) result
+        (apply_act (plain_act act.now) (value_of target.old)) (value_of target.old) (value_of target.new) }
+    ensures unique { is_unique target.old ≡ true → is_unique target.new ≡ true }
 {
     match act {
-        Act::Na(amount) => add_number(place, *amount),
-        Act::Si(offset, piece) => insert_text(alloc, place, *offset, piece),
-        Act::Sd(offset, piece) => delete_text(alloc, place, *offset, piece),
-        Act::Li(index, value) => insert_list_item(alloc, place, *index, value),
-        Act::Ld(index, _removed) => delete_list_item(alloc, place, *index),
-        Act::Lr(index, _removed, value) => replace_list_item(alloc, place, *index, value),
-        Act::Oi(key, value) => set_member(alloc, place, key.as_str(), value),
-        Act::Od(key, _removed) => remove_member(alloc, place, key.as_str()),
-        Act::Or(key, _removed, value) => set_member(alloc, place, key.as_str(), value),
+        Act::Na(amount) => add_number(target, *amount),
+        Act::Si(offset, piece) => insert_text(alloc, target, *offset, piece),
+        Act::Sd(offset, piece) => delete_text(alloc, target, *offset, piece),
+        Act::Li(index, value) => insert_list_item(alloc, target, *index, value),
+        Act::Ld(index, _removed) => delete_list_item(alloc, target, *index),
+        Act::Lr(index, _removed, value) => replace_list_item(alloc, target, *index, value),
+        Act::Oi(key, value) => set_member(alloc, target, key.as_str(), value),
+        Act::Od(key, _removed) => remove_member(alloc, target, key.as_str()),
+        Act::Or(key, _removed, value) => set_member(alloc, target, key.as_str(), value),
     }
 }
 
-fn add_number(place: &mut Json, amount: Whole) -> Result<(), ApplyFault>
-    ensures outcome { IsApplyOutcome (may_allocate false (is_unique place.old)) result
-        (map_number (λ n. checked_whole (n +ℤ amount)) (value_of place.old)) (value_of place.old) (value_of place.new) }
-    ensures unique { is_unique place.old ≡ true → is_unique place.new ≡ true }
+fn add_number(target: &mut Json, amount: Whole) -> Result<(), ApplyFault>
+    ensures outcome { IsApplyOutcome (may_allocate false (is_unique target.old)) result
+        (map_number (λ n. checked_whole (n +ℤ amount)) (value_of target.old)) (value_of target.old)
+        (value_of target.new) }
+    ensures unique { is_unique target.old ≡ true → is_unique target.new ≡ true }
 {
-    if let Json::Int(n) = place {
+    if let Json::Int(n) = target {
         match n.checked_add(amount) {
             Some(sum) => {
                 *n = sum;
@@ -55,15 +56,15 @@ fn add_number(place: &mut Json, amount: Whole) -> Result<(), ApplyFault>
 
 fn insert_text(
     alloc: Global,
-    place: &mut Json,
+    target: &mut Json,
     offset: u64,
     piece: &NonEmptyText,
 ) -> Result<(), ApplyFault>
-    ensures outcome { IsApplyOutcome (may_allocate true (is_unique place.old)) result
-        (map_text (insert_text offset piece.now) (value_of place.old)) (value_of place.old) (value_of place.new) }
-    ensures unique { is_unique place.old ≡ true → is_unique place.new ≡ true }
+    ensures outcome { IsApplyOutcome (may_allocate true (is_unique target.old)) result
+        (map_text (insert_text offset piece.now) (value_of target.old)) (value_of target.old) (value_of target.new) }
+    ensures unique { is_unique target.old ≡ true → is_unique target.new ≡ true }
 {
-    match text_mut(place) {
+    match text_mut(target) {
         Some(text) => applied_if(text.insert(alloc, offset, piece.as_str())?),
         None => Err(ApplyFault::NotApplied),
     }
@@ -71,15 +72,15 @@ fn insert_text(
 
 fn delete_text(
     alloc: Global,
-    place: &mut Json,
+    target: &mut Json,
     offset: u64,
     piece: &NonEmptyText,
 ) -> Result<(), ApplyFault>
-    ensures outcome { IsApplyOutcome (may_allocate false (is_unique place.old)) result
-        (map_text (remove_text offset piece.now) (value_of place.old)) (value_of place.old) (value_of place.new) }
-    ensures unique { is_unique place.old ≡ true → is_unique place.new ≡ true }
+    ensures outcome { IsApplyOutcome (may_allocate false (is_unique target.old)) result
+        (map_text (remove_text offset piece.now) (value_of target.old)) (value_of target.old) (value_of target.new) }
+    ensures unique { is_unique target.old ≡ true → is_unique target.new ≡ true }
 {
-    match text_mut(place) {
+    match text_mut(target) {
         Some(text) => applied_if(text.remove(alloc, offset, piece.as_str())?),
         None => Err(ApplyFault::NotApplied),
     }
@@ -87,28 +88,28 @@ fn delete_text(
 
 fn insert_list_item(
     alloc: Global,
-    place: &mut Json,
+    target: &mut Json,
     index: u64,
     value: &Json,
 ) -> Result<(), ApplyFault>
-    ensures outcome { IsApplyOutcome (may_allocate true (is_unique place.old)) result
-        (map_list (insert_item index (value_of value.now)) (value_of place.old)) (value_of place.old)
-        (value_of place.new) }
-    ensures unique { is_unique place.old ≡ true → is_unique place.new ≡ true }
+    ensures outcome { IsApplyOutcome (may_allocate true (is_unique target.old)) result
+        (map_list (insert_item index (value_of value.now)) (value_of target.old)) (value_of target.old)
+        (value_of target.new) }
+    ensures unique { is_unique target.old ≡ true → is_unique target.new ≡ true }
 {
-    let copy = clone_for_insert(alloc, place, value)?;
-    match list_mut(place) {
+    let copy = clone_for_insert(alloc, target, value)?;
+    match list_mut(target) {
         Some(items) => applied_if(insert_item(alloc, items, index, copy)?),
         None => Err(ApplyFault::NotApplied),
     }
 }
 
-fn delete_list_item(alloc: Global, place: &mut Json, index: u64) -> Result<(), ApplyFault>
-    ensures outcome { IsApplyOutcome (may_allocate false (is_unique place.old)) result
-        (map_list (remove_item index) (value_of place.old)) (value_of place.old) (value_of place.new) }
-    ensures unique { is_unique place.old ≡ true → is_unique place.new ≡ true }
+fn delete_list_item(alloc: Global, target: &mut Json, index: u64) -> Result<(), ApplyFault>
+    ensures outcome { IsApplyOutcome (may_allocate false (is_unique target.old)) result
+        (map_list (remove_item index) (value_of target.old)) (value_of target.old) (value_of target.new) }
+    ensures unique { is_unique target.old ≡ true → is_unique target.new ≡ true }
 {
-    match list_mut(place) {
+    match list_mut(target) {
         Some(items) => applied_if(remove_item(alloc, items, index)?),
         None => Err(ApplyFault::NotApplied),
     }
@@ -116,42 +117,42 @@ fn delete_list_item(alloc: Global, place: &mut Json, index: u64) -> Result<(), A
 
 fn replace_list_item(
     alloc: Global,
-    place: &mut Json,
+    target: &mut Json,
     index: u64,
     value: &Json,
 ) -> Result<(), ApplyFault>
-    ensures outcome { IsApplyOutcome (may_allocate true (is_unique place.old)) result
-        (map_list (replace_item index (value_of value.now)) (value_of place.old)) (value_of place.old)
-        (value_of place.new) }
-    ensures unique { is_unique place.old ≡ true → is_unique place.new ≡ true }
+    ensures outcome { IsApplyOutcome (may_allocate true (is_unique target.old)) result
+        (map_list (replace_item index (value_of value.now)) (value_of target.old)) (value_of target.old)
+        (value_of target.new) }
+    ensures unique { is_unique target.old ≡ true → is_unique target.new ≡ true }
 {
-    let copy = clone_for_insert(alloc, place, value)?;
-    match list_mut(place) {
+    let copy = clone_for_insert(alloc, target, value)?;
+    match list_mut(target) {
         Some(items) => applied_if(replace_item(alloc, items, index, copy)?),
         None => Err(ApplyFault::NotApplied),
     }
 }
 
-fn set_member(alloc: Global, place: &mut Json, key: &str, value: &Json) -> Result<(), ApplyFault>
-    ensures outcome { IsApplyOutcome (may_allocate true (is_unique place.old)) result
-        (map_object (put_member key.now (value_of value.now)) (value_of place.old)) (value_of place.old)
-        (value_of place.new) }
-    ensures unique { is_unique place.old ≡ true → is_unique place.new ≡ true }
+fn set_member(alloc: Global, target: &mut Json, key: &str, value: &Json) -> Result<(), ApplyFault>
+    ensures outcome { IsApplyOutcome (may_allocate true (is_unique target.old)) result
+        (map_object (put_member key.now (value_of value.now)) (value_of target.old)) (value_of target.old)
+        (value_of target.new) }
+    ensures unique { is_unique target.old ≡ true → is_unique target.new ≡ true }
 {
     let name = String::from_str(alloc, key)?;
-    let copy = clone_for_insert(alloc, place, value)?;
-    match object_mut(place) {
+    let copy = clone_for_insert(alloc, target, value)?;
+    match object_mut(target) {
         Some(object) => Ok(put_at_key(alloc, object, name, copy)?),
         None => Err(ApplyFault::NotApplied),
     }
 }
 
-fn remove_member(alloc: Global, place: &mut Json, key: &str) -> Result<(), ApplyFault>
-    ensures outcome { IsApplyOutcome (may_allocate false (is_unique place.old)) result
-        (map_object (without_member key.now) (value_of place.old)) (value_of place.old) (value_of place.new) }
-    ensures unique { is_unique place.old ≡ true → is_unique place.new ≡ true }
+fn remove_member(alloc: Global, target: &mut Json, key: &str) -> Result<(), ApplyFault>
+    ensures outcome { IsApplyOutcome (may_allocate false (is_unique target.old)) result
+        (map_object (without_member key.now) (value_of target.old)) (value_of target.old) (value_of target.new) }
+    ensures unique { is_unique target.old ≡ true → is_unique target.new ≡ true }
 {
-    match object_mut(place) {
+    match object_mut(target) {
         Some(object) => {
             remove_at_key(alloc, object, key)?;
             Ok(())
@@ -160,13 +161,13 @@ fn remove_member(alloc: Global, place: &mut Json, key: &str) -> Result<(), Apply
     }
 }
 
-// A copy of a value that is put in: where the place is shared, at the cost of a pointer as far as the value is; where
-// it may be its owner's own, all of the copy is.
-fn clone_for_insert(alloc: Global, place: &Json, value: &Json) -> Result<Json, AllocError>
+// Returns the copy to insert: a cheap clone if the target is shared, a deep copy if it is unique,
+// so that it stays unique.
+fn clone_for_insert(alloc: Global, target: &Json, value: &Json) -> Result<Json, AllocError>
     ensures value { IfOk result (λ v. value_of v ≡ value_of value.now) }
-    ensures unique { is_unique place.now ≡ true → IfOk result (λ v. is_unique v ≡ true) }
+    ensures unique { is_unique target.now ≡ true → IfOk result (λ v. is_unique v ≡ true) }
 {
-    if place.is_shared() {
+    if target.is_shared() {
         return value.try_clone(alloc);
     }
     value.deep_clone(alloc)

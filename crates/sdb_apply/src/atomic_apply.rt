@@ -1,4 +1,4 @@
-//! Operations, applied whole or not at all.
+//! Operations that are applied as a whole or not at all.
 ghost use Rattle.std.specs.Prelude.{◌≡◌, ◌≤◌, ◌∷◌, [], IsTrue, length, take, drop, Some, true, OnOk, OnErr, IfErr, IsErrOf, ⊤};
 ghost use Rattle.sdb_value.specs.Uniqueness.{is_unique};
 ghost use Rattle.sdb_value.specs.View.{value_of, plain_path, plain_step};
@@ -12,13 +12,17 @@ use sdb_component::{Component, Op};
 use sdb_value::{Change, Json, Step, change_at};
 use std::alloc::Global;
 
-/// Applies the components one after the other, in place, each to what the one before it made, as
-/// [`apply`](crate::apply) does; where one of them is refused the value is as it was.
+/// Applies the components in order, in place, as [`apply`](crate::apply) does. If one is refused,
+/// the value is unchanged.
 ///
-/// One component copies nothing. Of several, the value at the longest path that all of them share is made
-/// shared, at the cost of what in it isn't shared yet, and a pointer to it is put back where one is refused:
-/// so the parts of it on the ways of the components are copied, and nothing else. A value that is its own stays
-/// so under one component, and need not under several.
+/// One component copies nothing. For several, the value at their common path is frozen and restored
+/// after a refusal, so only the parts on their paths are copied. A unique value stays unique with
+/// one component, but not always with several.
+///
+/// # Errors
+///
+/// [`ApplyFault::NotApplied`] if a component doesn't apply, [`ApplyFault::OutOfMemory`] if an
+/// allocation fails. The value is then unchanged.
 pub fn apply_atomic(alloc: Global, value: &mut Json, op: &Op) -> Result<(), ApplyFault>
     ensures applied { OnOk result (apply op.now (value_of value.old) ≡ Some (value_of value.new)) }
     ensures not_applied { IsErrOf result NotApplied → apply op.now (value_of value.old) ≡ None }
@@ -56,7 +60,7 @@ fn apply_many(
     }
 }
 
-// The longest front of the path that the paths of all components begin with.
+// Returns the longest common prefix of all components' paths.
 fn common_path<'p>(path: &'p [Step], components: &[Component]) -> &'p [Step]
     ensures front { plain_path result.now ≡ take (length result.now) (plain_path path.now) }
     ensures all_below { AllBelowPath (plain_path result.now) components.now }
@@ -68,7 +72,7 @@ fn common_path<'p>(path: &'p [Step], components: &[Component]) -> &'p [Step]
     shared
 }
 
-// How many steps both paths have in common at their front.
+// Returns the length of the common prefix of both paths.
 fn common_prefix_len(path: &[Step], other: &[Step]) -> usize
     ensures in_range { result ≤ length path.now }
     ensures equal { take result (plain_path path.now) ≡ take result (plain_path other.now) }
@@ -95,7 +99,7 @@ fn steps_equal_at(step: &Step, other: &Step) -> bool
     }
 }
 
-// Components on their way to the value at the path that they share, which has so many steps.
+// Components to apply at their common path, which has `depth` steps.
 #[derive(Drop)]
 struct ApplyMany<'a> {
     alloc: Global,
@@ -112,20 +116,20 @@ impl Change for ApplyMany<'_> {
 
     ghost result_unique = { λ t r. ⊤ };
 
-    fn change(self, place: &mut Json) -> Result<(), ApplyFault> {
-        place.freeze(self.alloc)?;
-        let kept = place.frozen_clone(self.alloc)?;
-        match apply_at_depth(self.alloc, place, self.components, self.depth) {
+    fn change(self, target: &mut Json) -> Result<(), ApplyFault> {
+        target.freeze(self.alloc)?;
+        let kept = target.frozen_clone(self.alloc)?;
+        match apply_at_depth(self.alloc, target, self.components, self.depth) {
             Ok(()) => Ok(()),
             Err(fault) => {
-                *place = kept;
+                *target = kept;
                 Err(fault)
             }
         }
     }
 }
 
-// Applies components to a value that lies so many steps down their paths.
+// Applies components to the value at the first `depth` steps of their paths.
 fn apply_at_depth(
     alloc: Global,
     value: &mut Json,
@@ -151,7 +155,7 @@ fn apply_at_depth(
     Ok(())
 }
 
-// The path behind so many steps.
+// Returns the path after `depth` steps.
 fn path_tail(path: &[Step], depth: usize) -> &[Step]
     ensures { plain_path result.now ≡ drop depth (plain_path path.now) }
 {

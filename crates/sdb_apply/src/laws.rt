@@ -1,19 +1,18 @@
-//! Laws of changes, proved of the definitions that the contracts name. The functions do nothing.
+//! Laws of changes, as contracts of functions without effect.
 ghost use Rattle.sdb_apply.specs.ApplyLaws.{UniqueResult, DisjointChangesCommute, ChangesBelowPlace};
 
-/// A component makes one value at most of a value.
+/// States that a component has at most one result.
 pub fn unique_result()
     ensures { UniqueResult }
 {}
 
-/// Two components, neither of whose paths begins with the other's, can be exchanged: each still has
-/// its effect after the other, and both orders make one value.
+/// States that two components at disjoint paths commute: each still applies after the other, and
+/// both orders make one value.
 pub fn disjoint_changes_commute()
     ensures { DisjointChangesCommute }
 {}
 
-/// What components below a place make of a value is that value with what they make of the one at the
-/// place.
+/// States that applying components inside a path is applying them to the value at the path.
 pub fn changes_below_place()
     ensures { ChangesBelowPlace }
 {}

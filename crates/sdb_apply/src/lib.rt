@@ -1,4 +1,4 @@
-//! Operations applied to a value in place.
+//! Operations of json0, applied to a value in place.
 #![tactic(auto)]
 
 mod act;

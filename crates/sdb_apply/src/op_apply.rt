@@ -1,4 +1,4 @@
-//! Components and operations, applied.
+//! Applying components and operations.
 ghost use Rattle.std.specs.Prelude.{◌≡◌, ◌+◌, ◌<◌, take, length, true, OnOk, OnErr, IfErr, IsErrOf, Some, None, ⊤};
 ghost use Rattle.sdb_value.specs.Uniqueness.{is_unique};
 ghost use Rattle.sdb_value.specs.View.{value_of, plain_path};
@@ -13,13 +13,13 @@ use sdb_value::{Change, Json, Step, change_at};
 use std::alloc::{AllocError, Global};
 use thiserror::Error;
 
-/// Why a component changed nothing.
+/// The reason why a component isn't applied.
 #[derive(Clone, Copy, PartialEq, Eq, Debug, Drop, Error)]
 pub enum ApplyFault {
-    /// It has no effect on the value: E8.
+    /// It doesn't apply to the value (E8).
     #[error("operation can not be applied")]
     NotApplied,
-    /// A growth was refused: E10.
+    /// An allocation failed (E10).
     #[error("out of memory")]
     OutOfMemory,
 }
@@ -34,24 +34,27 @@ impl From<AllocError> for ApplyFault {
     }
 }
 
-/// Which component of an operation was refused, and why. Those before it were applied, and those
-/// behind it were not tried.
+/// The component of an operation that was refused, and why. The components before it were applied,
+/// the later ones were not.
 #[derive(Clone, Copy, Debug, Drop)]
 pub struct Refused {
-    /// How many components stand before it: its place in the list, the first being 0.
+    /// The index of the component.
     pub at: usize,
-    /// Why it was refused.
+    /// The reason.
     pub why: ApplyFault,
 }
 
-/// Applies the component in place, through a borrow of the one value that it changes. Values that
-/// it removes aren't compared with those that stand there, but a deleted text is.
+/// Applies a component in place. A removed value isn't compared with the one at the path, but a
+/// deleted text is. A unique value stays unique.
 ///
-/// `NotApplied` where its path leads nowhere, another kind of value stands there, an index is out
-/// of range, an offset (of UTF-16 units) is inside a pair or past the end, another text stands
-/// where one is to be deleted, or a sum is outside -9007199254740991 to 9007199254740991. `OutOfMemory`
-/// only where something is put in, or something of the value is shared. After a refusal the value is
-/// unchanged. A value that is its own stays so.
+/// # Errors
+///
+/// - [`ApplyFault::NotApplied`] if the path doesn't exist, the value there has another kind, an
+///   index or offset is out of range, an offset (in UTF-16 code units) is inside a surrogate pair,
+///   a deleted text differs, or a sum leaves the range from -9007199254740991 to 9007199254740991.
+/// - [`ApplyFault::OutOfMemory`] if an allocation fails. This needs an insert or a shared part.
+///
+/// The value is then unchanged.
 pub fn apply_one(alloc: Global, value: &mut Json, component: &Component) -> Result<(), ApplyFault>
     ensures applied { OnOk result (apply_one component.now (value_of value.old) ≡ Some (value_of value.new)) }
     ensures not_applied { IsErrOf result NotApplied → apply_one component.now (value_of value.old) ≡ None }
@@ -63,8 +66,11 @@ pub fn apply_one(alloc: Global, value: &mut Json, component: &Component) -> Resu
     apply_component(alloc, value, component)
 }
 
-/// Applies the act at the path, as a component of both would be, with the same refusals: for a value
-/// that lies deeper in a document than the path tells. After a refusal the value is unchanged.
+/// Applies an act at a path, as the component of both. The path is relative to the value.
+///
+/// # Errors
+///
+/// As [`apply_one`]: the value is then unchanged.
 pub fn apply_at(alloc: Global, value: &mut Json, path: &[Step], act: &Act) -> Result<(), ApplyFault>
     ensures outcome { IsApplyOutcome (may_allocate (act_allocates (plain_act act.now)) (is_unique value.old)) result
         (apply_one (record { path = plain_path path.now; act = plain_act act.now }) (value_of value.old))
@@ -85,10 +91,13 @@ fn apply_component(alloc: Global, value: &mut Json, component: &Component) -> Re
     apply_at(alloc, value, component.path(), component.act())
 }
 
-/// Applies the components one after the other, in place, each to what the one before it made. Stops
-/// at the first that is refused, as [`apply_one`] says when: the value is then what the components
-/// before that one made of it. `OutOfMemory` only at a component that puts something in, or where something of
-/// the value is shared. A value that is its own stays so.
+/// Applies the components in order, in place. It stops at the first one that is refused. A unique
+/// value stays unique.
+///
+/// # Errors
+///
+/// [`Refused`] with the first component that [`apply_one`] refuses. The value is then the result of
+/// the components before it.
 pub fn apply(alloc: Global, value: &mut Json, op: &Op) -> Result<(), Refused>
     ensures applied { OnOk result (apply op.now (value_of value.old) ≡ Some (value_of value.new)) }
     ensures before { IfErr result (λ r. apply (take r.at op.now) (value_of value.old) ≡ Some (value_of value.new)) }
@@ -109,7 +118,7 @@ pub fn apply(alloc: Global, value: &mut Json, op: &Op) -> Result<(), Refused>
     Ok(())
 }
 
-// The act of a component, on its way to the place.
+// The act of a component, to apply at its path.
 #[derive(Drop)]
 struct ApplyOne<'a> {
     alloc: Global,
@@ -125,7 +134,7 @@ impl Change for ApplyOne<'_> {
 
     ghost result_unique = { λ t r. IsErrOf r OutOfMemory → act_allocates (plain_act t.act.now) ≡ true };
 
-    fn change(self, place: &mut Json) -> Result<(), ApplyFault> {
-        apply_act(self.alloc, place, self.act)
+    fn change(self, target: &mut Json) -> Result<(), ApplyFault> {
+        apply_act(self.alloc, target, self.act)
     }
 }

@@ -33,8 +33,8 @@ use Rattle.sdb_subscribe.specs.contracts.queues.Queues as Queues
 use Rattle.sdb_subscribe.specs.contracts.queues.Queues.TheInside as queues
 use Rattle.sdb_desk.specs.contracts.document.Document as Document
 use Rattle.sdb_desk.specs.contracts.document.Document.TheInside as document
-use Rattle.sdb_desk.specs.contracts.document_slot.DocumentSlot as Topic
-use Rattle.sdb_desk.specs.contracts.document_slot.DocumentSlot.TheInside as topic
+use Rattle.sdb_desk.specs.contracts.document_slot.DocumentSlot as Slot
+use Rattle.sdb_desk.specs.contracts.document_slot.DocumentSlot.TheInside as slot
 use Rattle.sdb_desk.specs.contracts.shard.Shard as Shard
 use Rattle.sdb_striped_lock.specs.contracts.striped_lock.StripedLock as Locks
 use Rattle.sdb_striped_lock.proofs.striped_lock.StripedLock.TheSendSync as locks
@@ -168,14 +168,14 @@ queues-send = declared_send queues.the_type (search (sendable, crosses) depth 20
 pub Queues-send : IsSend Queues.the_row
 Queues-send = view_send _ _ _ _ _ queues-send
 
-topic-send : IsSend topic.the_row
-topic-send = declared_send topic.the_type (search (sendable, crosses, Document-send) depth 20, (search (sendable, Queues-send) depth 20, tt))
+slot-send : IsSend slot.the_row
+slot-send = declared_send slot.the_type (search (sendable, crosses, Document-send) depth 20, (search (sendable, Queues-send) depth 20, tt))
 
-pub Topic-send : IsSend Topic.the_row
-Topic-send = view_send _ _ _ _ _ topic-send
+pub Slot-send : IsSend Slot.the_row
+Slot-send = view_send _ _ _ _ _ slot-send
 
 pub Shard-send : IsSend Shard.the_row
-Shard-send = search (sendable, crosses, maps.crosses, Topic-send) depth 20
+Shard-send = search (sendable, crosses, maps.crosses, Slot-send) depth 20
 
 pub Held-send : IsSend Held.the_row
 Held-send = declared_send Held.the_type (Shard-send, tt)

@@ -1,4 +1,4 @@
-//! Components applied to one value, one after the other.
+//! The time to apply the components of a list of operations to one value in order.
 use crate::input::read;
 use crate::timing::report;
 use sdb_apply::apply_one;

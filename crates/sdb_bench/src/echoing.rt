@@ -1,5 +1,5 @@
-//! A WebSocket server that sends each text back: what the library, the threads and the sockets cost
-//! without any work on documents.
+//! A WebSocket server that sends each text message back. It measures the cost of the library, the
+//! threads and the sockets without work on documents.
 use std::alloc::Global;
 use std::net::{Net, TcpListener, TcpStream};
 use std::sync::Wait;
@@ -9,7 +9,7 @@ use tungstenite::{Error, NoMask, WebSocket, WebSocketConfig};
 
 const READ_BUFFER_SIZE: usize = 16 * 1024;
 
-/// Gives each connection at the address a thread, until the process is killed.
+/// Serves each connection at the address in its own thread, until the process is killed.
 pub(crate) fn serve<R>(rt: R, address: &str) -> anyhow::Result<()>
 where
     R: Net<Listener = TcpListener, Stream = TcpStream>
@@ -27,20 +27,20 @@ where
     println!(rt; "listening {open}")?;
     for stream in listener.incoming() {
         let stream = stream?;
-        // The handle is let go: a thread ends with its connection.
+        // The handle is dropped: the thread ends with its connection.
         drop(thread::spawn(&rt, move || connection(&rt, alloc, stream))?);
     }
     Ok(())
 }
 
-// One connection, from its handshake to its end.
+// Serves one connection from its handshake to its end.
 fn connection(rt: &impl Wait, alloc: Global, stream: TcpStream) {
     if stream.set_nodelay(true).is_err() {
         return;
     }
     if let Ok(mut socket) = tungstenite::accept(alloc, stream) {
         socket.set_config(WebSocketConfig::default().read_buffer_size(READ_BUFFER_SIZE));
-        // Each connection ends by an error, a close too.
+        // Each connection ends with an error, also when it is closed.
         let _ = echo(rt, &mut socket);
     }
 }

@@ -1,4 +1,4 @@
-//! Fetches of a document, and of the same one that is edited between them.
+//! The time to fetch an unchanged document, and one that is edited before each fetch.
 use crate::input::read;
 use crate::timing::report;
 use sdb_component::Op;

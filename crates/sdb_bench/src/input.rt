@@ -1,10 +1,10 @@
-//! What the calls are given: JSON on standard input, a text in each line.
+//! The input of the measurements: one JSON text per line of standard input.
 use sdb_component::{Op, read_op};
 use sdb_value::{Json, from_value};
 use serde_json::Value;
 use std::io::{BufRead, BufReader};
 
-/// The value of the first line, and the operation of each line behind it.
+/// Returns the value of the first line, and the operations of the other lines.
 pub(crate) fn read(rt: &HostRuntime) -> anyhow::Result<(Json, Vec<Op>)> {
     let alloc = rt.alloc();
     let mut value = None;

@@ -1,9 +1,9 @@
-//! Lines read as JSON, and printed again.
+//! The time to parse lines of JSON, and to print them.
 use serde_json::Value;
 use std::io;
 use std::io::{BufRead, BufReader, BufWriter, Write};
 
-/// Reads each line, and prints nothing.
+/// Parses each line and prints nothing.
 pub(crate) fn read(rt: &HostRuntime) -> anyhow::Result<()> {
     let alloc = rt.alloc();
     for line in BufReader::new(alloc, rt.reader())?.lines(alloc) {
@@ -12,7 +12,7 @@ pub(crate) fn read(rt: &HostRuntime) -> anyhow::Result<()> {
     Ok(())
 }
 
-/// Reads each line and prints it.
+/// Parses and prints each line.
 pub(crate) fn pass(rt: &HostRuntime) -> anyhow::Result<()> {
     let alloc = rt.alloc();
     let mut writer = BufWriter::new(alloc, io::writer(rt))?;

@@ -1,4 +1,4 @@
-//! What a lock costs that one thread takes and frees: `GrowLock` beside `Mutex`.
+//! The cost to acquire and release an uncontended lock, for `GrowLock` and for `Mutex`.
 use crate::timing::report;
 use sdb_growlock::{GrowLock, Grows, Job};
 use std::sync::{Mutex, Wait};
@@ -6,7 +6,7 @@ use std::time::Instant;
 
 const TURNS: u64 = 10_000_000;
 
-/// A number of which nothing is promised.
+/// A counter without guarantees.
 #[derive(Drop)]
 struct Count {
     turns: u64,

@@ -1,6 +1,6 @@
-//! What calls of the lower crates cost, passes that only read and print JSON, and a WebSocket server that only
-//! echoes. What the calls are given is read from standard input. The scripts `bench/run` and `bench/sockets` build it,
-//! make its input and name the results.
+//! Measurements of the lower crates, of parsing and printing JSON, and a WebSocket server that only
+//! echoes. The input is read from standard input. The scripts `bench/run` and `bench/sockets` build
+//! the program, generate its input and name the results.
 #![tactic(auto)]
 
 mod applying;

@@ -1,8 +1,8 @@
-//! How a measured time is shown.
+//! The output of a measurement.
 use std::io;
 use std::time::Instant;
 
-/// Prints what one of so many calls took since the start.
+/// Prints the mean time of so many calls since the start.
 pub(crate) fn report(rt: &HostRuntime, name: &str, start: Instant, calls: u64) -> io::Result<()> {
     let nanos = start.elapsed(rt)?.as_nanos();
     let each = if calls == 0 { 0 } else { nanos / calls as u128 };

@@ -1,4 +1,4 @@
-//! Components and operations carried past one another.
+//! The time to transform components and operations against one another.
 use crate::input::read;
 use crate::timing::report;
 use sdb_component::Component;
@@ -7,7 +7,8 @@ use std::time::Instant;
 
 const CALLS: u64 = 1_000_000;
 
-// Carries what comes of the one component past the other, again and again.
+// Transforms a component against the other one again and again, each time the last component of the
+// result.
 pub(crate) fn carry(rt: &HostRuntime) -> anyhow::Result<()> {
     let (_, mut ops) = read(rt)?;
     let (Some(other), Some(op)) = (ops.pop(), ops.pop()) else {
@@ -29,7 +30,7 @@ fn carried(rt: &HostRuntime, current: Option<Component>, other: &Component) -> O
     results.ok()?.pop()
 }
 
-// Carries two operations past one another, once.
+// Transforms two operations against one another, once.
 pub(crate) fn cross_once(rt: &HostRuntime) -> anyhow::Result<()> {
     let (_, ops) = read(rt)?;
     if let [left, right] = ops.as_slice() {

@@ -1,4 +1,4 @@
--- How many items the blocks have.
+-- Returns the number of items in the chunks.
 use Rattle.std.proofs.Common.{◌≡◌, ℕ, zero, suc, ◌+◌, ◌-◌, ◌*◌, ◌/◌, ◌<◌, ◌≤◌, max, List, [], ◌∷◌, ◌++◌, length, take, drop, map, reverse, refl, sym, ap, ◌∙◌, arith, length-append, length-take, length-drop, get_or, set, Bool, true, false, leb, if◌then◌else◌}
 use Rattle.std.proofs.Math.ListN.{length-map}
 use Rattle.std.proofs.lemmas.Bool.{le-leb, lt-leb, leb-true, leb-false}
@@ -15,7 +15,7 @@ use Rattle.sdb_chunks.proofs.FlattenLemmas.{seen_blocks, if_same, if_other, map_
 abbrev chunk_count : {X : Type 0} → Chunk X → ℕ
 chunk_count b = length (items_of b)
 
--- ---- the longest of blocks that are changed
+-- ---- the greatest length after a change of chunks
 
 pub longest_at : {X : Type 0} (bs : List (Chunk X)) (k : ℕ) (d : Chunk X) → k < length bs → length (items_of (get_or bs k d)) ≤ max_chunk_length bs
 longest_at [] k d h = absurd (omega (arith, h))
@@ -61,7 +61,7 @@ longest_drop bs zero = omega arith
 longest_drop [] (suc n) = omega arith
 longest_drop (b ∷ bs) (suc n) = let r = longest_drop bs n in omega (arith, r)
 
--- one more, put behind
+-- one more appended
 pub longest_push : {X : Type 0} (bs all : List (Chunk X)) (b : Chunk X) (n : ℕ) → all ≡ bs ++ b ∷ [] → max_chunk_length bs ≤ n → length (items_of b) ≤ n → max_chunk_length all ≤ n
 longest_push bs all b n e h l =
     let p = ap max_chunk_length e in
@@ -78,7 +78,7 @@ cut_short bs all xs b n m pushed is h w =
 pub no_more : {X : Type 0} (xs ys : List X) (n : ℕ) → xs ≡ ys → length ys ≤ n → length xs ≤ n
 no_more xs ys n e h = let l = ap length e in omega (arith, l, h)
 
--- one that has no more items than were in its place
+-- a chunk replaced by one that isn't longer
 pub longest_kept : {X : Type 0} (bs : List (Chunk X)) (k : ℕ) (a d : Chunk X) → k < length bs → d ≡ get_or bs k d → length (items_of a) ≤ length (items_of d)
     → max_chunk_length (set bs k a) ≤ max_chunk_length bs
 longest_kept bs k a d h e l =
@@ -86,7 +86,7 @@ longest_kept bs k a d h e l =
     let w = longest_at bs k d h in
     longest_set bs k a (max_chunk_length bs) (omega arith) (omega (arith, m, w, l))
 
--- ---- the block into which an item is put
+-- ---- the chunk of an insert
 
 pub block_here : {X S : Type 0} (f : X → S) (bs : List (Chunk X)) (index k i : ℕ) (d : Chunk X) → k < length bs → length (flatten_models f (take k bs)) + i ≡ index
     → (0 < k → 0 < i) → i ≤ length (items_of (get_or bs k d)) → k ≡ insert_chunk_index bs index
@@ -103,7 +103,7 @@ block_here f (b ∷ bs) index (suc k) i d h s p w =
     ap suc (block_here f bs (index - length (items_of b)) k i d (omega (arith, h)) t (λ _. q) w)
     ∙ sym (if_other (leb index (length (items_of b))) 0 (suc (insert_chunk_index bs (index - length (items_of b)))) (lt-leb index (length (items_of b)) l))
 
--- whether the index leads to the first block, or past it
+-- whether the index is in the first chunk or after it
 first_of : {A : Type 0} (t : Bool) (k : ℕ) → (t ≡ true → A) → (t ≡ false → A) → A
 first_of true k p q = p refl
 first_of false k p q = q refl
@@ -135,13 +135,13 @@ items_past f (b ∷ bs) index h =
     if_other (leb index (length (items_of b))) (length (items_of b)) (chunk_length_at bs (index - length (items_of b))) (lt-leb index (length (items_of b)) l)
     ∙ items_past f bs (index - length (items_of b)) (omega (arith, h, m, n))
 
--- where there is none, the index leads past the end
+-- without chunks the index is out of range
 pub items_none : {X S : Type 0} (f : X → S) (bs : List (Chunk X)) (index : ℕ) → (index ≤ length (flatten_models f bs) → bs ≡ []) → chunk_length_at bs index ≡ 0
 items_none f bs index h =
     first_of (leb index (length (flatten_models f bs))) 0 (λ t. ap (λ l. chunk_length_at l index) (h (leb-true index (length (flatten_models f bs)) t)))
     (λ t. items_past f bs index (leb-false index (length (flatten_models f bs)) t))
 
--- ---- what is longest once an item was put in
+-- ---- the greatest length after an insert
 
 pub room_half : {X : Type 0} (bs cs : List (Chunk X)) (i k most : ℕ) (d : Chunk X) → k < length bs → k ≡ insert_chunk_index bs i → d ≡ get_or bs k d
     → most ≤ length (items_of d) → 1 < most → max_chunk_length cs ≤ max_chunk_length bs → ((j : ℕ) → insert_chunk_index bs j ≡ k → 2 * chunk_length_at cs j ≤ chunk_length_at bs j + 1)
@@ -160,7 +160,7 @@ room_here bs i k most d h first is room =
     let was = ap (λ b. length (items_of b)) is in
     omega (arith, here, was, room)
 
--- ---- a block and its two halves
+-- ---- a chunk and its two halves
 
 pub longest_halves : {X : Type 0} (bs : List (Chunk X)) (k : ℕ) (a b e : Chunk X) (n : ℕ) → max_chunk_length bs ≤ n → length (items_of a) ≤ n → length (items_of b) ≤ n → length (items_of e) ≤ n
     → max_chunk_length (set (set (insert bs (k + 1) e) k a) (k + 1) b) ≤ n
@@ -206,7 +206,7 @@ half_at bs i k m a b e d h w s p q =
     let r = half_here bs i k m a b e d h w s p q in
     omega (arith, x, r)
 
--- ---- what copies have in common
+-- ---- the models that clones share
 
 abbrev flat_longest : {S : Type 0} → List (List S × Bool) → ℕ
 flat_longest [] = 0
@@ -220,7 +220,7 @@ module _ {X S : Type 0} (f : X → S) where
   pub same_count : (xs ys : List X) → map f xs ≡ map f ys → length xs ≡ length ys
   same_count xs ys e = sym (length-map xs f) ∙ ap length e ∙ length-map ys f
 
-  -- the items of a block, in two
+  -- the items of a chunk in two halves
   pub halves_count : (xs ys zs : List X) → map f xs ≡ take (length zs / 2) (map f zs) → map f ys ≡ drop (length zs / 2) (map f zs)
       → (length xs + length ys ≡ length zs) × (length xs ≤ length ys) × (2 * length ys ≤ length zs + 1)
   halves_count xs ys zs u v =
@@ -252,7 +252,7 @@ module _ {X S : Type 0} (f : X → S) where
       let l = longest_drop bs m in
       omega (arith, s, l)
 
-  -- items had again in a block, put behind
+  -- cloned items appended as a chunk
   pub part_short : (bs all : List (Chunk X)) (xs us : List X) (b : Chunk X) (i m n : ℕ) → all ≡ bs ++ b ∷ [] → items_of b ≡ us → map f us ≡ map f (take n (drop i xs))
       → max_chunk_length bs ≤ m → n ≤ m → max_chunk_length all ≤ m
   part_short bs all xs us b i m n pushed is seen h w =
@@ -261,7 +261,7 @@ module _ {X S : Type 0} (f : X → S) where
       longest_push bs all b m pushed h (omega (arith, e, l, w))
 
   abbrev seen_blocks_of : ChunkGroup X → List (List S × Bool) × Bool
-  seen_blocks_of g = seen_blocks f g.blocks
+  seen_blocks_of g = seen_blocks f g.chunks
 
   groups_flat : (gs : List (ChunkGroup X)) → max_grouped_length gs ≡ all_longest (map (seen_blocks_of) gs)
   groups_flat [] = refl
@@ -274,7 +274,7 @@ module _ {X S : Type 0} (f : X → S) where
   pub longest_grouped_alike : (gs hs : List (ChunkGroup X)) → map (seen_blocks_of) gs ≡ map (seen_blocks_of) hs → max_grouped_length gs ≡ max_grouped_length hs
   longest_grouped_alike gs hs e = groups_flat gs ∙ ap all_longest e ∙ sym (groups_flat hs)
 
--- ---- the longest of groups that are changed
+-- ---- the greatest length after a change of groups
 
 pub grouped_at : {X : Type 0} (gs : List (ChunkGroup X)) (k : ℕ) (d : ChunkGroup X) → k < length gs → max_chunk_length (group_chunks (get_or gs k d)) ≤ max_grouped_length gs
 grouped_at [] k d h = absurd (omega (arith, h))
@@ -333,7 +333,7 @@ grouped_push gs all g n e h l =
     let o = longest_append (group_chunks g) [] in
     omega (arith, p, m, o, h, l)
 
--- blocks had again in a group, put behind
+-- cloned chunks appended as a group
 pub group_short : {X S : Type 0} (f : X → S) (gs all : List (ChunkGroup X)) (bs us : List (Chunk X)) (g : ChunkGroup X) (i n : ℕ) → all ≡ gs ++ g ∷ [] → group_chunks g ≡ us
     → map (chunk_model f) us ≡ map (chunk_model f) (take n (drop i bs)) → max_grouped_length gs ≤ max_chunk_length bs → max_grouped_length all ≤ max_chunk_length bs
 group_short f gs all bs us g i n pushed is seen h =
@@ -342,7 +342,7 @@ group_short f gs all bs us g i n pushed is seen h =
     let r = longest_drop bs i in
     grouped_push gs all g (max_chunk_length bs) pushed h (omega (arith, e, l, r))
 
--- one whose blocks are no longer than those in its place
+-- a group replaced by one whose chunks aren't longer
 pub grouped_kept : {X : Type 0} (gs : List (ChunkGroup X)) (k : ℕ) (a d : ChunkGroup X) (n : ℕ) → k < length gs → d ≡ get_or gs k d → max_chunk_length (group_chunks a) ≤ max n (max_chunk_length (group_chunks d))
     → max_grouped_length (set gs k a) ≤ max n (max_grouped_length gs)
 grouped_kept gs k a d n h e l =

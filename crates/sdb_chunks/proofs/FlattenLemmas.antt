@@ -1,4 +1,4 @@
--- Blocks one by one, and the list that they make.
+-- Chunks one by one, and the list that they make.
 use Rattle.std.proofs.Common.{◌≡◌, ℕ, zero, suc, ◌+◌, ◌-◌, ◌<◌, ◌≤◌, List, [], ◌∷◌, ◌++◌, length, take, drop, map, reverse, refl, sym, ap, ◌∙◌, arith, append_assoc, length-append, get_or, set, Option, Some, None, option_map, slice_get, Bool, true, false, cond, Bor, MutBor, Result, Ok, Err, OnErr, ltb, if◌then◌else◌}
 use Rattle.std.proofs.Math.ListN.{length-map}
 use Rattle.std.proofs.lemmas.Bool.{lt-ltb, le-ltb, ltb-true, ltb-false}
@@ -63,29 +63,29 @@ module _ {X S : Type 0} (s : X → List S) where
   joined_append [] qs = refl
   joined_append (p ∷ ps) qs = ap (λ l. s p ++ l) (joined_append ps qs) ∙ sym (append_assoc (s p) (flat_map s ps) (flat_map s qs))
 
-  -- the first blocks and one more
+  -- the first chunks and one more
   pub joined_more : (ps : List X) (k : ℕ) (d : X) → k < length ps → flat_map s (take (k + 1) ps) ≡ flat_map s (take k ps) ++ s (get_or ps k d)
   joined_more ps k d h = ap (flat_map s) (take_more ps k d h) ∙ joined_append (take k ps) (get_or ps k d ∷ []) ∙ ap (λ l. flat_map s (take k ps) ++ l) (append_none (s (get_or ps k d)))
 
-  -- a block, and those before and behind it
+  -- a chunk, and those before and after it
   pub joined_around : (ps : List X) (k : ℕ) (d : X) → k < length ps → flat_map s ps ≡ flat_map s (take k ps) ++ (s (get_or ps k d) ++ flat_map s (drop (suc k) ps))
   joined_around [] k d h = absurd (omega (arith, h))
   joined_around (p ∷ ps) zero d h = refl
   joined_around (p ∷ ps) (suc k) d h = ap (λ l. s p ++ l) (joined_around ps k d (omega (arith, h))) ∙ sym (append_assoc (s p) (flat_map s (take k ps)) _)
 
-  -- another in its place
+  -- a chunk replaced by another
   pub joined_set : (ps : List X) (k : ℕ) (a : X) → k < length ps → flat_map s (set ps k a) ≡ flat_map s (take k ps) ++ (s a ++ flat_map s (drop (suc k) ps))
   joined_set [] k a h = absurd (omega (arith, h))
   joined_set (p ∷ ps) zero a h = refl
   joined_set (p ∷ ps) (suc k) a h = ap (λ l. s p ++ l) (joined_set ps k a (omega (arith, h))) ∙ sym (append_assoc (s p) (flat_map s (take k ps)) _)
 
-  -- two in its place
+  -- a chunk replaced by two
   pub joined_two : (ps : List X) (k : ℕ) (a b : X) → k < length ps → flat_map s (set (insert ps (suc k) b) k a) ≡ flat_map s (take k ps) ++ (s a ++ (s b ++ flat_map s (drop (suc k) ps)))
   joined_two [] k a b h = absurd (omega (arith, h))
   joined_two (p ∷ ps) zero a b h = refl
   joined_two (p ∷ ps) (suc k) a b h = ap (λ l. s p ++ l) (joined_two ps k a b (omega (arith, h))) ∙ sym (append_assoc (s p) (flat_map s (take k ps)) _)
 
-  -- an item more in one block is an item more in the list
+  -- an insert into one chunk is an insert into the list
   pub joined_insert : (ps : List X) (index k i : ℕ) (x : S) (a d : X) → IsInsertPosition s ps index k i → s a ≡ insert (s (get_or ps k d)) i x
       → flat_map s (set ps k a) ≡ insert (flat_map s ps) index x
   joined_insert ps index k i x a d at e =
@@ -97,14 +97,14 @@ module _ {X S : Type 0} (s : X → List S) where
       joined_set ps k a at.index_in_range ∙ ap (λ l. J ++ l) (ap (λ l. l ++ R) e ∙ sym (insert-append_left q R i x (at.within d)) ∙ ap (λ m. insert (q ++ R) m x) (sym n))
       ∙ sym (insert-append_right J (q ++ R) (length J) index x refl lo) ∙ ap (λ l. insert l index x) (sym (joined_around ps k d at.index_in_range))
 
-  -- a block that has the same items in its place
+  -- a chunk replaced by one with equal items
   pub joined_same : (ps : List X) (k : ℕ) (a d : X) → k < length ps → s a ≡ s (get_or ps k d) → flat_map s (set ps k a) ≡ flat_map s ps
   joined_same ps k a d h e = joined_set ps k a h ∙ ap (λ l. flat_map s (take k ps) ++ (l ++ flat_map s (drop (suc k) ps))) e ∙ sym (joined_around ps k d h)
 
   drop_joined : (ps : List X) (k : ℕ) (d : X) → k < length ps → flat_map s (drop k ps) ≡ s (get_or ps k d) ++ flat_map s (drop (k + 1) ps)
   drop_joined ps k d h = ap (flat_map s) (drop_more ps k d h)
 
-  -- in the block at k, and behind it
+  -- in the chunk at k, and after it
   pub get_here : (ps : List X) (k i : ℕ) (p : X) → k < length ps → p ≡ get_or ps k p → i < length (s p) → slice_get (flat_map s (drop k ps)) i ≡ slice_get (s p) i
   get_here ps k i p h e l =
       ap (λ xs. slice_get xs i) (drop_joined ps k p h ∙ ap (λ q. s q ++ flat_map s (drop (k + 1) ps)) (sym e)) ∙ get_front (s p) (flat_map s (drop (k + 1) ps)) i l
@@ -131,7 +131,7 @@ module _ {X S : Type 0} (s : X → List S) where
       joined_set ps k a at.index_in_range ∙ ap (λ l. J ++ l) (ap (λ l. l ++ R) e ∙ sym (remove_front q R i (at.within d)))
       ∙ sym (remove_behind J (q ++ R) index i (sym at.offset_is_sum)) ∙ ap (λ l. remove l index) (sym (joined_around ps k d at.index_in_range))
 
-  -- a block, its two halves, the second in the place of one that was put in behind it
+  -- a chunk and its two halves, the second replacing one that was inserted after it
   joined_pair : (ps : List X) (k : ℕ) (a b e : X) → k < length ps → flat_map s (set (set (insert ps (suc k) e) k a) (suc k) b) ≡ flat_map s (take k ps) ++ (s a ++ (s b ++ flat_map s (drop (suc k) ps)))
   joined_pair [] k a b e h = absurd (omega (arith, h))
   joined_pair (p ∷ ps) zero a b e h = refl
@@ -147,7 +147,7 @@ module _ {X S : Type 0} (s : X → List S) where
       ∙ ap (λ l. flat_map s (take k ps) ++ l) (sym (append_assoc (s a) (s b) R) ∙ ap (λ l. l ++ R) (ap (λ l. l ++ s b) u ∙ ap (λ l. take m q ++ l) v ∙ take-append-drop m q))
       ∙ sym (joined_around ps k d h)
 
-  -- a part, what stands in its place of it, and what stands behind it
+  -- a part replaced by two parts with its items
   pub joined_halves : (ps : List X) (k : ℕ) (a b d e : X) → k < length ps → s a ++ s b ≡ s (get_or ps k d) → flat_map s (set (set (insert ps (k + 1) e) k a) (k + 1) b) ≡ flat_map s ps
   joined_halves ps k a b d e h u =
       let n : k + 1 ≡ suc k = omega arith in
@@ -155,7 +155,7 @@ module _ {X S : Type 0} (s : X → List S) where
       ap (λ m. flat_map s (set (set (insert ps m e) k a) m b)) n ∙ joined_pair ps k a b e h
       ∙ ap (λ l. flat_map s (take k ps) ++ l) (sym (append_assoc (s a) (s b) R) ∙ ap (λ l. l ++ R) u) ∙ sym (joined_around ps k d h)
 
-  -- an empty block behind one that has the same items
+  -- an empty chunk after one with equal items
   pub joined_spare : (ps : List X) (k : ℕ) (a d e : X) → k < length ps → s e ≡ [] → s a ≡ s (get_or ps k d) → flat_map s (set (insert ps (k + 1) e) k a) ≡ flat_map s ps
   joined_spare ps k a d e h u v =
       let n : k + 1 ≡ suc k = omega arith in
@@ -163,13 +163,13 @@ module _ {X S : Type 0} (s : X → List S) where
       ap (λ m. flat_map s (set (insert ps m e) k a)) n ∙ joined_two ps k a e h
       ∙ ap (λ l. flat_map s (take k ps) ++ (s a ++ (l ++ R))) u ∙ ap (λ l. flat_map s (take k ps) ++ (l ++ R)) v ∙ sym (joined_around ps k d h)
 
-  -- an empty block taken out
+  -- an empty chunk removed
   pub joined_without : (ps : List X) (k : ℕ) (d : X) → k < length ps → s (get_or ps k d) ≡ [] → flat_map s (remove ps k) ≡ flat_map s ps
   joined_without [] k d h e = absurd (omega (arith, h))
   joined_without (p ∷ ps) zero d h e = sym (ap (λ l. l ++ flat_map s ps) e)
   joined_without (p ∷ ps) (suc k) d h e = ap (λ l. s p ++ l) (joined_without ps k d (omega (arith, h)) e)
 
-  -- an item of a block is one of the list
+  -- an item of a chunk is one of the list
   pub joined_get : (ps : List X) (index k i : ℕ) (d : X) → IsItemPosition s ps index k i → slice_get (s (get_or ps k d)) i ≡ slice_get (flat_map s ps) index
   joined_get ps index k i d at =
       let q = s (get_or ps k d) in
@@ -185,7 +185,7 @@ module _ {X S : Type 0} (s : X → List S) where
       let n = ap length (joined_around ps k d at.index_in_range) ∙ length-append J (q ++ R) in
       omega (arith, n, length-append q R, at.offset_is_sum, at.within d)
 
--- ---- whose the blocks are
+-- ---- uniqueness of the chunks
 
 pub own_at : {X : Type 0} (bs : List (Chunk X)) (k : ℕ) (d : Chunk X) → k < length bs → all_unique bs ≡ true → is_chunk_unique (get_or bs k d) ≡ true
 own_at [] k d h e = absurd (omega (arith, h))
@@ -219,7 +219,7 @@ get_before bs k e d h =
     let s : k + 1 ≡ suc k = omega arith in
     ap (λ n. get_or (insert bs n e) k d) s ∙ get_first bs k e d h
 
--- one that is its owner's own as long as the one before was
+-- a replacement that is unique if the old chunk was
 pub own_changed : {X : Type 0} (bs : List (Chunk X)) (k : ℕ) (a d : Chunk X) → k < length bs → d ≡ get_or bs k d → (is_chunk_unique d ≡ true → is_chunk_unique a ≡ true) → all_unique bs ≡ true → all_unique (set bs k a) ≡ true
 own_changed bs k a d h e keeps all = own_set bs k a (keeps (ap is_chunk_unique e ∙ own_at bs k d h all)) all
 
@@ -239,7 +239,7 @@ shared_at [] k d h e = absurd (omega (arith, h))
 shared_at (b ∷ bs) zero d h e = first_false (is_chunk_unique b) (all_unique bs) e
 shared_at (b ∷ bs) (suc k) d h e = false_cond (is_chunk_unique b) (all_unique bs) (shared_at bs k d (omega (arith, h)) e)
 
--- ---- the block of an item
+-- ---- the chunk of an item
 
 pub cc_false : (b : Bool) → b ≡ true → b ≡ false → ⊥
 cc_false true p q = cc
@@ -281,7 +281,7 @@ among_set f (b ∷ bs) index (suc k) i a h s w =
     if_other (ltb index (length (items_of b))) (is_chunk_unique b) (is_unique_at (set bs k a) (index - length (items_of b))) (le-ltb index (length (items_of b)) l)
     ∙ among_set f bs (index - length (items_of b)) k i a (omega (arith, h)) t w
 
--- ---- what copies have in common
+-- ---- the models that clones share
 
 abbrev pub seen_blocks : {X S : Type 0} → (X → S) → Chunk (Chunk X) → List (List S × Bool) × Bool
 seen_blocks f b = (map (chunk_model f) (items_of b), is_chunk_unique b)
@@ -333,7 +333,7 @@ many_flat f a = λ i. (flat_joined f (items_of a) i, cond (is_chunk_unique a) (f
 pub many_alike : {X S : Type 0} (f : X → S) (a b : Chunk (Chunk X)) → seen_blocks f a ≡ seen_blocks f b → seen_all f a ≡ seen_all f b
 many_alike f a b e = many_flat f a ∙ ap seen_many e ∙ sym (many_flat f b)
 
--- ---- items seen
+-- ---- views of items
 
 pub map_take : {X S : Type 0} (f : X → S) (xs : List X) (n : ℕ) → map f (take n xs) ≡ take n (map f xs)
 map_take f xs zero = refl
@@ -359,7 +359,7 @@ map_insert f [] (suc i) x = refl
 map_insert f (y ∷ xs) zero x = refl
 map_insert f (y ∷ xs) (suc i) x = ap (λ l. f y ∷ l) (map_insert f xs i x)
 
--- what was put in is inside
+-- an inserted item is in range
 pub put_inside : {S : Type 0} (xs : List S) (i : ℕ) (x : S) → i ≤ length xs → i < length (insert xs i x)
 put_inside [] zero x h = omega arith
 put_inside [] (suc i) x h = absurd (omega (arith, h))
@@ -407,7 +407,7 @@ pub seen_of_mut : {X S : Type 0} (f : X → S) (r : Option (MutBor X)) (xs : Lis
 seen_of_mut f None xs i b e = sym (map_get f xs i ∙ ap (option_map f) (get_none xs i (past_of i (length xs) b)))
 seen_of_mut f (Some x) xs i b e = sym (map_get f xs i ∙ ap (option_map f) (get_some xs i x.now (within_of i (length xs) b) ∙ ap Some (sym e)))
 
--- what is lent is what is found
+-- a borrowed item is the one that was found
 pub lent_item : {X S : Type 0} (f : X → S) (r : Option (MutBor X)) (o : Option S) → option_map (λ x. f x.now) r ≡ o → IfSome r (λ x. o ≡ Some (f x.now))
 lent_item f None o e = tt
 lent_item f (Some x) o e = sym e
@@ -420,9 +420,9 @@ pub if_some : {A P : Type 0} (r : Option A) → P → IfSome r (λ _. P)
 if_some None p = tt
 if_some (Some x) p = p
 
--- ---- a block whose items are exchanged
+-- ---- a chunk with exchanged items
 
--- ---- blocks that are cut off, the last first
+-- ---- chunks that are split off, the last first
 
 pub own_more : {X : Type 0} (bs : List (Chunk X)) (b : Chunk X) → all_unique bs ≡ true → is_chunk_unique b ≡ true → all_unique (bs ++ b ∷ []) ≡ true
 own_more [] b all own = own_both (is_chunk_unique b) true own refl

@@ -1,4 +1,4 @@
--- Groups of blocks, and the number of their items.
+-- Groups of chunks and their numbers of items.
 use Rattle.std.proofs.Common.{◌≡◌, ℕ, zero, suc, ◌+◌, ◌-◌, ◌*◌, ◌<◌, ◌≤◌, List, [], ◌∷◌, ◌++◌, length, take, drop, map, refl, sym, ap, ◌∙◌, arith, length-append, append_assoc, get_or, set, Bool, true, false, cond, ltb, if◌then◌else◌, Result, Ok, Err, OnOk, OnErr}
 use Rattle.std.proofs.Math.ListN.{length-map}
 use Rattle.std.proofs.lemmas.Bool.{lt-ltb, le-ltb}
@@ -133,9 +133,9 @@ module _ {X S : Type 0} (f : X → S) where
       if_other (ltb index g.count) (is_unique_group_at g index) (is_unique_in_groups_at (set gs k a) (index - g.count)) (le-ltb index g.count l)
       ∙ grouped_set gs (index - g.count) k i a (omega (arith, h)) t w
 
-  -- ---- what copies of groups have in common
+  -- ---- the models that clones of groups share
   abbrev pub seen_blocks_of : ChunkGroup X → List (List S × Bool) × Bool
-  seen_blocks_of g = seen_blocks f g.blocks
+  seen_blocks_of g = seen_blocks f g.chunks
 
 abbrev all_flat : {S : Type 0} → List (List (List S × Bool) × Bool) → List S
 all_flat [] = []
@@ -151,14 +151,14 @@ flat_halves [] (suc m) = refl
 flat_halves (p ∷ ps) (suc m) = append_assoc p.0 (flatten_pairs (take m ps)) (flatten_pairs (drop m ps)) ∙ ap (λ l. p.0 ++ l) (flat_halves ps m)
 
 module _ {X S : Type 0} (f : X → S) where
-  -- blocks that are the first of others, and those that are the rest of them
+  -- chunks that are a prefix of others, and those that are the rest
   pub in_halves : (as' bs cs : List (Chunk X)) (m : ℕ) → map (chunk_model f) as' ≡ take m (map (chunk_model f) cs) → map (chunk_model f) bs ≡ drop m (map (chunk_model f) cs)
       → flatten_models f as' ++ flatten_models f bs ≡ flatten_models f cs
   in_halves as' bs cs m u v =
       ap (λ l. l ++ flatten_models f bs) (flat_joined f as' ∙ ap flatten_pairs u) ∙ ap (λ l. flatten_pairs (take m (map (chunk_model f) cs)) ++ l) (flat_joined f bs ∙ ap flatten_pairs v)
       ∙ flat_halves (map (chunk_model f) cs) m ∙ sym (flat_joined f cs)
 
-  -- ---- blocks put in groups
+  -- ---- chunks put into groups
   take_none : {Y : Type 0} (n : ℕ) → ◌≡◌ {A = List Y} (take n []) []
   take_none zero = refl
   take_none (suc n) = refl
@@ -174,7 +174,7 @@ module _ {X S : Type 0} (f : X → S) where
   map_append [] ys = refl
   map_append (x ∷ xs) ys = ap (λ l. f x ∷ l) (map_append xs ys)
 
-  -- the next items in a block of their own
+  -- the next items as a new chunk
   pub part_next : (ps bs all : List (Chunk X)) (xs us : List X) (b : Chunk X) (i m n : ℕ) → flatten_models f bs ≡ flatten_models f ps ++ map f (take i xs) → all ≡ bs ++ b ∷ [] → items_of b ≡ us
       → map f us ≡ map f (take n (drop i xs)) → n ≡ m → flatten_models f all ≡ flatten_models f ps ++ map f (take (i + m) xs)
   part_next ps bs all xs us b i m n before pushed is seen count =
@@ -204,8 +204,8 @@ module _ {X S : Type 0} (f : X → S) where
       let n : g.count ≡ length (flatten_pairs (map (chunk_model f) (group_chunks g))) = sym (seen_count f g) ∙ ap length (flat_joined f (group_chunks g)) in
       let m = length (flatten_pairs (map (chunk_model f) (group_chunks g))) in
       ap (λ l. if ltb i l then is_unique_group_at g i else is_unique_in_groups_at gs (i - l)) n
-      ∙ ap (λ o. if ltb i m then cond (is_chunk_unique g.blocks) o false else is_unique_in_groups_at gs (i - m)) (flat_own_among f (group_chunks g) i)
-      ∙ ap (λ o. if ltb i m then cond (is_chunk_unique g.blocks) (flat_among (map (chunk_model f) (group_chunks g)) i) false else o) (flat_in_groups gs (i - m))
+      ∙ ap (λ o. if ltb i m then cond (is_chunk_unique g.chunks) o false else is_unique_in_groups_at gs (i - m)) (flat_own_among f (group_chunks g) i)
+      ∙ ap (λ o. if ltb i m then cond (is_chunk_unique g.chunks) (flat_among (map (chunk_model f) (group_chunks g)) i) false else o) (flat_in_groups gs (i - m))
 
   pub groups_alike : (gs hs : List (ChunkGroup X)) → map (seen_blocks_of f) gs ≡ map (seen_blocks_of f) hs → flatten_group_models f gs ≡ flatten_group_models f hs
   groups_alike gs hs e = flat_groups gs ∙ ap all_flat e ∙ sym (flat_groups hs)

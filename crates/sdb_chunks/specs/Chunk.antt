@@ -1,4 +1,4 @@
--- What a block holds, and whether it is its owner's own.
+-- The contents and the uniqueness of a chunk.
 use Rattle.std.specs.Prelude.{List, Bool, true, false}
 use Rattle.sdb_chunks.specs.declared.chunk.Chunk.{Chunk}
 use Rattle.sdb_chunks.specs.declared.chunk.Chunk.TheVariants.{Unique, Shared}

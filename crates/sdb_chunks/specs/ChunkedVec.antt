@@ -1,4 +1,4 @@
--- What a list in pieces holds, and whether all of it is its own.
+-- The contents and the uniqueness of a chunked list.
 use Rattle.std.specs.Prelude.{ℕ, List, [], ◌∷◌, map, Bool, true, false, cond}
 use Rattle.std.specs.List.{flat_map}
 use Rattle.sdb_chunks.specs.Chunk.{items_of, is_chunk_unique, is_chunk_shared}
@@ -17,7 +17,7 @@ repr_models f (Groups gs) = flatten_group_models f (items_of gs)
 abbrev pub vec_models : {X S : Type 0} → (X → S) → ChunkedVec X → List S
 vec_models f l = repr_models f l.repr
 
--- nothing of it is shared, but for what its items share. A list is in groups only once it was shared
+-- no part is shared, except inside items; a list has groups only after a freeze
 abbrev pub is_unique_repr : {X : Type 0} → Repr X → Bool
 is_unique_repr (Flat b) = is_chunk_unique b
 is_unique_repr (Chunks bs) = cond (is_chunk_unique bs) (all_unique (items_of bs)) false
@@ -26,7 +26,7 @@ is_unique_repr (Groups gs) = false
 abbrev pub is_unique_vec : {X : Type 0} → ChunkedVec X → Bool
 is_unique_vec l = is_unique_repr l.repr
 
--- all on the way to the item at i is its own, or there is no such item
+-- all parts on the path to item i are unique, or there is no such item
 abbrev pub is_unique_repr_at : {X : Type 0} → Repr X → ℕ → Bool
 is_unique_repr_at (Flat b) i = is_chunk_unique b
 is_unique_repr_at (Chunks bs) i = cond (is_chunk_unique bs) (is_unique_at (items_of bs) i) false
@@ -40,7 +40,7 @@ is_grouped (Flat b) = false
 is_grouped (Chunks bs) = false
 is_grouped (Groups gs) = true
 
--- its items stand in one block that is its own
+-- the list is one unique chunk
 abbrev pub is_unique_flat_repr : {X : Type 0} → Repr X → Bool
 is_unique_flat_repr (Flat b) = is_chunk_unique b
 is_unique_flat_repr (Chunks bs) = false
@@ -49,7 +49,7 @@ is_unique_flat_repr (Groups gs) = false
 abbrev pub is_unique_flat_vec : {X : Type 0} → ChunkedVec X → Bool
 is_unique_flat_vec l = is_unique_flat_repr l.repr
 
--- a copy of it is a pointer
+-- a clone is a pointer
 abbrev pub is_shared_repr : {X : Type 0} → Repr X → Bool
 is_shared_repr (Flat b) = is_chunk_shared b
 is_shared_repr (Chunks bs) = is_chunk_shared bs
@@ -58,7 +58,7 @@ is_shared_repr (Groups gs) = is_chunk_shared gs
 abbrev pub is_shared_vec : {X : Type 0} → ChunkedVec X → Bool
 is_shared_vec l = is_shared_repr l.repr
 
--- its blocks
+-- its chunks
 abbrev pub repr_chunks : {X : Type 0} → Repr X → List (Chunk X)
 repr_chunks (Flat b) = b ∷ []
 repr_chunks (Chunks bs) = items_of bs
@@ -67,7 +67,7 @@ repr_chunks (Groups gs) = flat_map group_chunks (items_of gs)
 abbrev pub vec_chunks : {X : Type 0} → ChunkedVec X → List (Chunk X)
 vec_chunks l = repr_chunks l.repr
 
--- the items of each block
+-- the items of each chunk
 abbrev pub vec_chunk_items : {X : Type 0} → ChunkedVec X → List (List X)
 vec_chunk_items l = map items_of (vec_chunks l)
 

@@ -1,4 +1,4 @@
-//! Items in one run of memory, a list's own or shared with its copies.
+//! A chunk: items in one vector, unique or shared with clones.
 ghost use Rattle.std.specs.Option.{option_copied};
 ghost use Rattle.std.specs.Prelude.{◌≡◌, true, false, length, map, slice_get, if◌then◌else◌, IfOk, OnOk, OnErr, IfSome, is_some};
 ghost use Rattle.sdb_chunks.specs.Chunk.{items_of, is_chunk_unique, is_chunk_shared};
@@ -7,28 +7,32 @@ use std::alloc::{AllocError, Global};
 use std::mem::replace;
 use std::sync::Arc;
 
-/// What can be had again.
+/// A value whose clone may fail. Shared parts are cloned by reference count.
 pub trait TryClone: Drop {
-    // What a value stands for; all its copies stand for the same.
+    // The model of a value, which all its clones share.
     ghost Model: { Type 0 };
 
     ghost model: { Self → Model };
 
-    /// The same again, where it is shared at the cost of a pointer. Fails only where memory is wanting.
+    /// Clones the value; a shared one by pointer.
+    ///
+    /// # Errors
+    ///
+    /// [`AllocError`] if an allocation fails.
     fn try_clone(&self, alloc: Global) -> Result<Self, AllocError>
         ensures { IfOk result (λ x. model x ≡ model self.now) };
 }
 
-/// Items in one run of memory.
+/// Items in one vector, unique or shared.
 #[derive(Drop)]
 pub enum Chunk<T> {
-    /// Of one owner.
+    /// Unique.
     Unique(Vec<T>),
-    /// Of as many as have the pointer.
+    /// Shared by reference count.
     Shared(Arc<Vec<T>>),
 }
 
-// The same items, in memory of their own, with room for so many more.
+// Clones the items into a vector with spare capacity.
 pub(crate) fn clone_items<T: TryClone>(
     alloc: Global,
     items: &[T],
@@ -44,7 +48,7 @@ pub(crate) fn clone_items<T: TryClone>(
 }
 
 impl<T> Chunk<T> {
-    /// The items.
+    /// Returns the items.
     pub fn items(&self) -> &[T]
         ensures { result.now ≡ items_of self.now }
     {
@@ -54,14 +58,14 @@ impl<T> Chunk<T> {
         }
     }
 
-    /// The number of items.
+    /// Returns the number of items.
     pub fn len(&self) -> usize
         ensures { result ≡ length (items_of self.now) }
     {
         self.items().len()
     }
 
-    /// Whether it is its owner's own.
+    /// Returns whether the chunk is unique.
     pub fn is_unique(&self) -> bool
         ensures { result ≡ is_chunk_unique self.now }
     {
@@ -71,7 +75,7 @@ impl<T> Chunk<T> {
         }
     }
 
-    /// The allocator of the items.
+    /// Returns the allocator.
     pub fn allocator(&self) -> Global {
         match self {
             Chunk::Unique(items) => *items.allocator(),
@@ -79,7 +83,7 @@ impl<T> Chunk<T> {
         }
     }
 
-    /// The item at the index, or `None` past the end.
+    /// Returns the item at an index, or `None` if it is out of range.
     pub fn get(&self, index: usize) -> Option<&T>
         ensures { option_copied result ≡ slice_get (items_of self.now) index }
     {
@@ -88,7 +92,11 @@ impl<T> Chunk<T> {
 }
 
 impl<T: Drop> Chunk<T> {
-    /// The same items, shared, so that the next copy of them is a pointer.
+    /// Makes the chunk shared, so that its next clone is a pointer.
+    ///
+    /// # Errors
+    ///
+    /// [`AllocError`] if an allocation fails. The chunk is then dropped.
     pub fn into_frozen(self, alloc: Global) -> Result<Chunk<T>, AllocError>
         ensures equal { IfOk result (λ b. items_of b ≡ items_of self) }
         ensures shared { IfOk result (λ b. is_chunk_shared b ≡ true) }
@@ -100,8 +108,12 @@ impl<T: Drop> Chunk<T> {
         }
     }
 
-    /// Makes the items shared in place, so that the next copy of them is a pointer: they are moved, and memory
-    /// is taken for the pointer alone, where they had one owner.
+    /// Freezes the chunk in place, so that its next clone is a pointer. A unique vector is moved,
+    /// which takes one allocation for the pointer.
+    ///
+    /// # Errors
+    ///
+    /// [`AllocError`] if an allocation fails. The items are then unchanged.
     pub fn freeze(&mut self, alloc: Global) -> Result<(), AllocError>
         ensures unchanged { items_of self.new ≡ items_of self.old }
         ensures shared { OnOk result (is_chunk_shared self.new ≡ true) }
@@ -126,8 +138,11 @@ impl<T: Drop> Chunk<T> {
 }
 
 impl<T> Chunk<T> {
-    /// The same items again, as a pointer to them, where they are shared; `None` where they have one owner.
-    /// Fails only where no more pointers can be counted.
+    /// Clones the chunk by pointer if it is shared, or returns `None`.
+    ///
+    /// # Errors
+    ///
+    /// [`AllocError`] if the reference count is at its maximum.
     pub fn clone_shared(&self) -> Result<Option<Chunk<T>>, AllocError>
         ensures equal { IfOk result (λ o. IfSome o (λ b. items_of b ≡ items_of self.now)) }
         ensures shared { IfOk result (λ o. IfSome o (λ b. is_chunk_shared b ≡ true)) }
@@ -142,8 +157,11 @@ impl<T> Chunk<T> {
 }
 
 impl<T: TryClone> Chunk<T> {
-    /// Makes the items this owner's own: others who have them keep them, and this one has a copy.
-    /// Fails only where they were shared and memory is wanting.
+    /// Makes the chunk unique. Copies the items if another owner shares them.
+    ///
+    /// # Errors
+    ///
+    /// [`AllocError`] if an allocation fails. The items are then equal.
     pub fn make_unique(&mut self, alloc: Global) -> Result<(), AllocError>
         ensures same { map T.model (items_of self.new) ≡ map T.model (items_of self.old) }
         ensures unique { OnOk result (is_chunk_unique self.new ≡ true) }
@@ -152,7 +170,7 @@ impl<T: TryClone> Chunk<T> {
         self.make_unique_with_capacity(alloc, 0)
     }
 
-    // The same, where so many items are going to be put in: a copy has room for them.
+    // Makes the chunk unique; a copy has this spare capacity.
     pub(crate) fn make_unique_with_capacity(
         &mut self,
         alloc: Global,

@@ -1,8 +1,8 @@
-//! The list of the blocks, made its owner's own and changed.
+//! Edits of a list of chunks, which makes it unique.
 ghost use Rattle.std.specs.List.{insert, remove};
 ghost use Rattle.std.specs.Option.{OnSome};
 ghost use Rattle.std.specs.Borrow.{LendsSo, sem};
-ghost use Rattle.sdb_chunks.specs.Rows.{block_row};
+ghost use Rattle.sdb_chunks.specs.Rows.{chunk_row};
 ghost use Rattle.std.specs.Prelude.{◌≡◌, ◌≤◌, ◌<◌, ◌∷◌, true, false, [], ℕ, length, map, max, slice_get, slice_set};
 ghost use Rattle.std.specs.Prelude.{option_map, nat_le, if◌then◌else◌, IfOk, IfSome, OnOk, OnErr, Some};
 ghost use Rattle.sdb_chunks.specs.Chunk.{items_of, is_chunk_unique};
@@ -14,44 +14,44 @@ use crate::chunk_edit::{insert_in_chunks, remove_from_chunks, replace_in_chunks}
 use std::alloc::{AllocError, Global};
 use std::mem::swap;
 
-// Makes the list of the blocks its owner's own.
+// Makes the list of chunks unique.
 fn make_chunks_unique<T: TryClone>(
     alloc: Global,
-    blocks: &mut Chunk<Chunk<T>>,
+    chunks: &mut Chunk<Chunk<T>>,
 ) -> Result<(), AllocError>
-    ensures same { flatten_models T.model (items_of blocks.new) ≡ flatten_models T.model (items_of blocks.old) }
-    ensures unchanged { all_unique (items_of blocks.new) ≡ all_unique (items_of blocks.old) }
-    ensures among { (i : ℕ) → is_unique_at (items_of blocks.new) i ≡ is_unique_at (items_of blocks.old) i }
-    ensures unique { OnOk result (is_chunk_unique blocks.new ≡ true) }
-    ensures shared_on_err { OnErr result (is_chunk_unique blocks.old ≡ false) }
-    ensures bound { max_chunk_length (items_of blocks.new) ≡ max_chunk_length (items_of blocks.old) }
+    ensures same { flatten_models T.model (items_of chunks.new) ≡ flatten_models T.model (items_of chunks.old) }
+    ensures unchanged { all_unique (items_of chunks.new) ≡ all_unique (items_of chunks.old) }
+    ensures among { (i : ℕ) → is_unique_at (items_of chunks.new) i ≡ is_unique_at (items_of chunks.old) i }
+    ensures unique { OnOk result (is_chunk_unique chunks.new ≡ true) }
+    ensures shared_on_err { OnErr result (is_chunk_unique chunks.old ≡ false) }
+    ensures bound { max_chunk_length (items_of chunks.new) ≡ max_chunk_length (items_of chunks.old) }
 {
-    blocks.make_unique(alloc)?;
+    chunks.make_unique(alloc)?;
     Ok(())
 }
 
-// Puts an item at the index, into the list's own list of blocks.
+// Inserts an item at an index and makes the list of chunks unique.
 pub(crate) fn insert_in_chunk_list<T: TryClone>(
     alloc: Global,
-    blocks: &mut Chunk<Chunk<T>>,
+    chunks: &mut Chunk<Chunk<T>>,
     index: usize,
     item: T,
     most: usize,
 ) -> Result<bool, AllocError>
     requires { 1 < most }
-    ensures ok { IfOk result (λ done. flatten_models T.model (items_of blocks.new) ≡ (if done
-        then insert (flatten_models T.model (items_of blocks.old)) index (T.model item)
-        else flatten_models T.model (items_of blocks.old))) }
+    ensures ok { IfOk result (λ done. flatten_models T.model (items_of chunks.new) ≡ (if done
+        then insert (flatten_models T.model (items_of chunks.old)) index (T.model item)
+        else flatten_models T.model (items_of chunks.old))) }
     ensures in_range { IfOk result (λ done. done
-        ≡ nat_le index (length (flatten_models T.model (items_of blocks.old)))) }
-    ensures err { OnErr result (flatten_models T.model (items_of blocks.new)
-        ≡ flatten_models T.model (items_of blocks.old)) }
-    ensures unique { is_unique_repr (Chunks blocks.old) ≡ true → is_unique_repr (Chunks blocks.new) ≡ true }
-    ensures unique_after { IfOk result (λ done. done ≡ true → is_unique_repr_at (Chunks blocks.new) index ≡ true) }
-    ensures bound { max_chunk_length (items_of blocks.new) ≤ max most (max_chunk_length (items_of blocks.old)) }
+        ≡ nat_le index (length (flatten_models T.model (items_of chunks.old)))) }
+    ensures err { OnErr result (flatten_models T.model (items_of chunks.new)
+        ≡ flatten_models T.model (items_of chunks.old)) }
+    ensures unique { is_unique_repr (Chunks chunks.old) ≡ true → is_unique_repr (Chunks chunks.new) ≡ true }
+    ensures unique_after { IfOk result (λ done. done ≡ true → is_unique_repr_at (Chunks chunks.new) index ≡ true) }
+    ensures bound { max_chunk_length (items_of chunks.new) ≤ max most (max_chunk_length (items_of chunks.old)) }
 {
-    make_chunks_unique(alloc, blocks)?;
-    match blocks {
+    make_chunks_unique(alloc, chunks)?;
+    match chunks {
         Chunk::Unique(own) => {
             let done = insert_in_chunks(alloc, own, index, item, most)?;
             Ok(done)
@@ -60,25 +60,25 @@ pub(crate) fn insert_in_chunk_list<T: TryClone>(
     }
 }
 
-// Takes the item at the index out of the list's own list of blocks.
+// Removes the item at an index and makes the list of chunks unique.
 pub(crate) fn remove_from_chunk_list<T: TryClone>(
     alloc: Global,
-    blocks: &mut Chunk<Chunk<T>>,
+    chunks: &mut Chunk<Chunk<T>>,
     index: usize,
 ) -> Result<Option<T>, AllocError>
     ensures item { IfOk result (λ x. option_map T.model x
-        ≡ slice_get (flatten_models T.model (items_of blocks.old)) index) }
-    ensures ok { OnOk result (flatten_models T.model (items_of blocks.new)
-        ≡ remove (flatten_models T.model (items_of blocks.old)) index) }
-    ensures err { OnErr result (flatten_models T.model (items_of blocks.new)
-        ≡ flatten_models T.model (items_of blocks.old)) }
-    ensures unique { is_unique_repr (Chunks blocks.old) ≡ true → is_unique_repr (Chunks blocks.new) ≡ true }
-    ensures shared_on_err { OnErr result (is_unique_repr (Chunks blocks.old) ≡ false) }
-    ensures shared_there { OnErr result (is_unique_repr_at (Chunks blocks.old) index ≡ false) }
-    ensures bound { max_chunk_length (items_of blocks.new) ≤ max_chunk_length (items_of blocks.old) }
+        ≡ slice_get (flatten_models T.model (items_of chunks.old)) index) }
+    ensures ok { OnOk result (flatten_models T.model (items_of chunks.new)
+        ≡ remove (flatten_models T.model (items_of chunks.old)) index) }
+    ensures err { OnErr result (flatten_models T.model (items_of chunks.new)
+        ≡ flatten_models T.model (items_of chunks.old)) }
+    ensures unique { is_unique_repr (Chunks chunks.old) ≡ true → is_unique_repr (Chunks chunks.new) ≡ true }
+    ensures shared_on_err { OnErr result (is_unique_repr (Chunks chunks.old) ≡ false) }
+    ensures shared_there { OnErr result (is_unique_repr_at (Chunks chunks.old) index ≡ false) }
+    ensures bound { max_chunk_length (items_of chunks.new) ≤ max_chunk_length (items_of chunks.old) }
 {
-    make_chunks_unique(alloc, blocks)?;
-    match blocks {
+    make_chunks_unique(alloc, chunks)?;
+    match chunks {
         Chunk::Unique(own) => {
             let item = remove_from_chunks(alloc, own, index)?;
             Ok(item)
@@ -87,26 +87,26 @@ pub(crate) fn remove_from_chunk_list<T: TryClone>(
     }
 }
 
-// Puts another item in the place of the one at the index, in the list's own list of blocks.
+// Replaces the item at an index and makes the list of chunks unique.
 pub(crate) fn replace_in_chunk_list<T: TryClone>(
     alloc: Global,
-    blocks: &mut Chunk<Chunk<T>>,
+    chunks: &mut Chunk<Chunk<T>>,
     index: usize,
     item: T,
 ) -> Result<Option<T>, AllocError>
     ensures item { IfOk result (λ x. option_map T.model x
-        ≡ slice_get (flatten_models T.model (items_of blocks.old)) index) }
-    ensures ok { OnOk result (flatten_models T.model (items_of blocks.new)
-        ≡ slice_set (flatten_models T.model (items_of blocks.old)) index (T.model item)) }
-    ensures err { OnErr result (flatten_models T.model (items_of blocks.new)
-        ≡ flatten_models T.model (items_of blocks.old)) }
-    ensures unique { is_unique_repr (Chunks blocks.old) ≡ true → is_unique_repr (Chunks blocks.new) ≡ true }
-    ensures shared_on_err { OnErr result (is_unique_repr_at (Chunks blocks.old) index ≡ false) }
-    ensures unique_after { IfOk result (λ x. IfSome x (λ _. is_unique_repr_at (Chunks blocks.new) index ≡ true)) }
-    ensures bound { max_chunk_length (items_of blocks.new) ≤ max_chunk_length (items_of blocks.old) }
+        ≡ slice_get (flatten_models T.model (items_of chunks.old)) index) }
+    ensures ok { OnOk result (flatten_models T.model (items_of chunks.new)
+        ≡ slice_set (flatten_models T.model (items_of chunks.old)) index (T.model item)) }
+    ensures err { OnErr result (flatten_models T.model (items_of chunks.new)
+        ≡ flatten_models T.model (items_of chunks.old)) }
+    ensures unique { is_unique_repr (Chunks chunks.old) ≡ true → is_unique_repr (Chunks chunks.new) ≡ true }
+    ensures shared_on_err { OnErr result (is_unique_repr_at (Chunks chunks.old) index ≡ false) }
+    ensures unique_after { IfOk result (λ x. IfSome x (λ _. is_unique_repr_at (Chunks chunks.new) index ≡ true)) }
+    ensures bound { max_chunk_length (items_of chunks.new) ≤ max_chunk_length (items_of chunks.old) }
 {
-    make_chunks_unique(alloc, blocks)?;
-    match blocks {
+    make_chunks_unique(alloc, chunks)?;
+    match chunks {
         Chunk::Unique(own) => {
             let old = replace_in_chunks(alloc, own, index, item)?;
             Ok(old)
@@ -115,39 +115,39 @@ pub(crate) fn replace_in_chunk_list<T: TryClone>(
     }
 }
 
-// The item at the index of a block.
-pub(crate) fn chunk_item<T: TryClone>(block: &Chunk<T>, index: usize) -> Option<&T>
-    ensures { option_map (λ x. T.model x.now) result ≡ slice_get (map T.model (items_of block.now)) index }
+// Returns the item at an index of a chunk.
+pub(crate) fn chunk_item<T: TryClone>(chunk: &Chunk<T>, index: usize) -> Option<&T>
+    ensures { option_map (λ x. T.model x.now) result ≡ slice_get (map T.model (items_of chunk.now)) index }
 {
-    block.get(index)
+    chunk.get(index)
 }
 
-// The item at the index of a block, to be changed, where the block is its owner's own.
-pub(crate) fn chunk_item_mut<T: TryClone>(block: &mut Chunk<T>, index: usize) -> Option<&mut T>
-    ensures* writes_back { sem 𝓛 (LendsSo (block_row T.row) T.row block.entry result
+// Borrows the item at an index of a chunk mutably, if the chunk is unique.
+pub(crate) fn chunk_item_mut<T: TryClone>(chunk: &mut Chunk<T>, index: usize) -> Option<&mut T>
+    ensures* writes_back { sem 𝓛 (LendsSo (chunk_row T.row) T.row chunk.entry result
         (λ n w. OnSome result (map T.model (items_of n)
-        ≡ slice_set (map T.model (items_of block.old)) index (T.model w)))
-        (λ n. map T.model (items_of n) ≡ map T.model (items_of block.old))) }
-    ensures item { IfSome result (λ x. slice_get (map T.model (items_of block.old)) index ≡ Some (T.model x.now)) }
-    ensures value { is_chunk_unique block.old ≡ true
-        → option_map (λ x. T.model x.now) result ≡ slice_get (map T.model (items_of block.old)) index }
+        ≡ slice_set (map T.model (items_of chunk.old)) index (T.model w)))
+        (λ n. map T.model (items_of n) ≡ map T.model (items_of chunk.old))) }
+    ensures item { IfSome result (λ x. slice_get (map T.model (items_of chunk.old)) index ≡ Some (T.model x.now)) }
+    ensures value { is_chunk_unique chunk.old ≡ true
+        → option_map (λ x. T.model x.now) result ≡ slice_get (map T.model (items_of chunk.old)) index }
 {
-    match block {
+    match chunk {
         Chunk::Unique(items) => items.get_mut(index),
         Chunk::Shared(_) => None,
     }
 }
 
-// The block's items in a block of their own, in a list; in their place none are left.
+// Moves the chunk into a list of one, and leaves an empty chunk.
 pub(crate) fn single_chunk<T: Drop>(
     alloc: Global,
-    block: &mut Chunk<T>,
+    chunk: &mut Chunk<T>,
 ) -> Result<Vec<Chunk<T>>, AllocError>
-    ensures ok { IfOk result (λ v. v.items ≡ block.old ∷ []) }
-    ensures err { OnErr result (block.new ≡ block.old) }
+    ensures ok { IfOk result (λ v. v.items ≡ chunk.old ∷ []) }
+    ensures err { OnErr result (chunk.new ≡ chunk.old) }
 {
-    let mut blocks = Vec::with_capacity(alloc, 2)?;
-    blocks.push(Chunk::Unique(Vec::new(alloc)))?;
-    swap(&mut blocks[0], block);
-    Ok(blocks)
+    let mut chunks = Vec::with_capacity(alloc, 2)?;
+    chunks.push(Chunk::Unique(Vec::new(alloc)))?;
+    swap(&mut chunks[0], chunk);
+    Ok(chunks)
 }

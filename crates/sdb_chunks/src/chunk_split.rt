@@ -1,4 +1,4 @@
-//! Blocks that are cut from one run of memory.
+//! Splitting a vector into chunks.
 ghost use Rattle.std.specs.Prelude.{◌≡◌, ◌≤◌, ◌<◌, true, IfOk};
 ghost use Rattle.std.specs.List.{flat_map};
 ghost use Rattle.sdb_chunks.specs.Chunk.{items_of};
@@ -7,7 +7,7 @@ ghost use Rattle.sdb_chunks.specs.ChunkedVec.{all_unique, max_chunk_length};
 use crate::chunk::Chunk;
 use std::alloc::{AllocError, Global};
 
-// The items, in blocks of at most as many as are given.
+// Splits the items into chunks of at most `most` items.
 pub(crate) fn split_into_chunks<T: Drop>(
     alloc: Global,
     items: Vec<T>,
@@ -19,13 +19,13 @@ pub(crate) fn split_into_chunks<T: Drop>(
     ensures bound { IfOk result (λ v. max_chunk_length v.items ≤ most) }
 {
     let mut left = items;
-    let mut blocks = Vec::with_capacity(alloc, left.len() / most + 1)?;
+    let mut chunks = Vec::with_capacity(alloc, left.len() / most + 1)?;
     while left.len() > most {
         let last = left.split_off(left.len() - most)?;
-        blocks.push(Chunk::Unique(last))?;
+        chunks.push(Chunk::Unique(last))?;
     }
     left.shrink_to_fit();
-    blocks.push(Chunk::Unique(left))?;
-    blocks.reverse();
-    Ok(blocks)
+    chunks.push(Chunk::Unique(left))?;
+    chunks.reverse();
+    Ok(chunks)
 }

@@ -1,8 +1,8 @@
-//! Lists in pieces.
+//! Chunked lists.
 ghost use Rattle.std.specs.List.{insert, remove};
 ghost use Rattle.std.specs.Option.{OnSome};
 ghost use Rattle.std.specs.Borrow.{LendsSo, sem};
-ghost use Rattle.sdb_chunks.specs.Rows.{pieces_row};
+ghost use Rattle.sdb_chunks.specs.Rows.{chunked_vec_row};
 ghost use Rattle.sdb_chunks.specs.Iter.{remaining_items, remaining_chunks};
 ghost use Rattle.std.specs.Prelude.{◌≡◌, ◌≤◌, ◌<◌, ◌∷◌, [], true, false, length, max, map, slice_get, slice_set};
 ghost use Rattle.std.specs.Prelude.{option_map, nat_le, if◌then◌else◌, Some, IfOk, IfSome, is_some, OnOk, OnErr};
@@ -30,26 +30,26 @@ use std::alloc::{AllocError, Global};
 use std::slice;
 use std::sync::Arc;
 
-/// A list: in one block while it is short, and else in blocks of bounded size. Each is the list's own,
-/// or shared with its copies.
+/// A list: one chunk if it is short, else chunks of bounded length. Each chunk is unique or shared
+/// with clones.
 #[derive(Drop)]
 pub struct ChunkedVec<T> {
     repr: Repr<T>,
 }
 
-/// Where the items are.
+/// The representation of a chunked list.
 #[derive(Drop)]
 pub enum Repr<T> {
-    /// In one block.
+    /// One chunk.
     Flat(Chunk<T>),
-    /// In one block after the other.
+    /// A list of chunks.
     Chunks(Chunk<Chunk<T>>),
-    /// In many blocks, in groups: so is a long list once it was shared.
+    /// Groups of chunks, as of a long list after a freeze.
     Groups(Chunk<ChunkGroup<T>>),
 }
 
 impl<T> ChunkedVec<T> {
-    /// A list of these items, in the vector's own memory.
+    /// Creates a list that keeps the vector's memory.
     pub fn from_vec(items: Vec<T>) -> ChunkedVec<T>
         ensures items { vec_chunk_items result ≡ items.items ∷ [] }
         ensures unique { is_unique_vec result ≡ true }
@@ -59,89 +59,93 @@ impl<T> ChunkedVec<T> {
         }
     }
 
-    /// The list of the items that stand here.
-    pub fn from_repr(form: Repr<T>) -> ChunkedVec<T>
-        ensures { result.repr ≡ form }
+    /// Creates a list from its representation.
+    pub fn from_repr(repr: Repr<T>) -> ChunkedVec<T>
+        ensures { result.repr ≡ repr }
     {
-        ChunkedVec { repr: form }
+        ChunkedVec { repr: repr }
     }
 
-    /// Where its items stand.
+    /// Returns the representation.
     pub fn into_repr(self) -> Repr<T>
         ensures { result ≡ self.repr }
     {
-        let ChunkedVec { repr: form } = self;
-        form
+        let ChunkedVec { repr: repr } = self;
+        repr
     }
 
-    /// Whether a copy of it is a pointer.
+    /// Returns whether a clone is a pointer.
     pub fn is_shared(&self) -> bool
         ensures { result ≡ is_shared_vec self.now }
     {
         match &self.repr {
-            Repr::Flat(block) => !block.is_unique(),
-            Repr::Chunks(blocks) => !blocks.is_unique(),
+            Repr::Flat(chunk) => !chunk.is_unique(),
+            Repr::Chunks(chunks) => !chunks.is_unique(),
             Repr::Groups(groups) => !groups.is_unique(),
         }
     }
 
-    /// Whether it is in groups of blocks.
+    /// Returns whether the list has groups.
     pub fn is_grouped(&self) -> bool
         ensures { result ≡ is_grouped self.now.repr }
     {
         matches!(&self.repr, Repr::Groups(_))
     }
 
-    /// Where its items stand.
+    /// Returns the representation.
     pub fn repr(&self) -> &Repr<T>
         ensures { result.now ≡ self.now.repr }
     {
         &self.repr
     }
 
-    /// Its blocks, one after the other.
+    /// Iterates over the chunks in order.
     pub fn chunks(&self) -> Chunks<'_, T>
         ensures { remaining_chunks result ≡ vec_chunks self.now }
     {
         match &self.repr {
-            Repr::Flat(block) => Chunks::new(slice::from_ref(block), &[]),
-            Repr::Chunks(blocks) => Chunks::new(blocks.items(), &[]),
+            Repr::Flat(chunk) => Chunks::new(slice::from_ref(chunk), &[]),
+            Repr::Chunks(chunks) => Chunks::new(chunks.items(), &[]),
             Repr::Groups(groups) => Chunks::new(&[], groups.items()),
         }
     }
 
-    /// Its items, one after the other.
+    /// Iterates over the items in order.
     pub fn iter(&self) -> Iter<'_, T>
         ensures { remaining_items result ≡ vec_items self.now }
     {
         match &self.repr {
-            Repr::Flat(block) => Iter::new(block.items(), &[]),
-            Repr::Chunks(blocks) => Iter::new(&[], blocks.items()),
+            Repr::Flat(chunk) => Iter::new(chunk.items(), &[]),
+            Repr::Chunks(chunks) => Iter::new(&[], chunks.items()),
             Repr::Groups(groups) => Iter::of_groups(groups.items()),
         }
     }
 }
 
 impl<T: Drop> ChunkedVec<T> {
-    /// The list of these blocks, in order. One block alone is in no other vector.
-    pub fn from_chunks(mut blocks: Vec<Chunk<T>>) -> ChunkedVec<T>
-        ensures blocks { vec_chunks result ≡ blocks.items }
-        ensures unique { is_unique_vec result ≡ all_unique blocks.items }
+    /// Creates a list from its chunks. A single chunk needs no list of chunks.
+    pub fn from_chunks(mut chunks: Vec<Chunk<T>>) -> ChunkedVec<T>
+        ensures chunks { vec_chunks result ≡ chunks.items }
+        ensures unique { is_unique_vec result ≡ all_unique chunks.items }
     {
-        if blocks.len() == 1 {
-            if let Some(block) = blocks.pop() {
+        if chunks.len() == 1 {
+            if let Some(chunk) = chunks.pop() {
                 return ChunkedVec {
-                    repr: Repr::Flat(block),
+                    repr: Repr::Flat(chunk),
                 };
             }
         }
         ChunkedVec {
-            repr: Repr::Chunks(Chunk::Unique(blocks)),
+            repr: Repr::Chunks(Chunk::Unique(chunks)),
         }
     }
 
-    /// A list of these items: of at most 20 in the vector's own memory, of more in blocks of 20 to 512, the longer the
-    /// more there are.
+    /// Creates a list. At most 20 items keep the vector's memory; more are split into chunks of 20
+    /// to 512 items, longer ones for more items.
+    ///
+    /// # Errors
+    ///
+    /// [`AllocError`] if an allocation fails.
     pub fn from_vec_chunked(alloc: Global, items: Vec<T>) -> Result<ChunkedVec<T>, AllocError>
         ensures items { IfOk result (λ l. vec_items l ≡ items.items) }
         ensures unique { IfOk result (λ l. is_unique_vec l ≡ true) }
@@ -154,32 +158,39 @@ impl<T: Drop> ChunkedVec<T> {
         Ok(ChunkedVec::from_chunks(split_into_chunks(alloc, items, most)?))
     }
 
-    /// The list of these blocks, in order, so that the next copy of it is a pointer where the blocks are shared.
+    /// Creates a list from shared chunks, so that its next clone is a pointer.
+    ///
+    /// # Errors
+    ///
+    /// [`AllocError`] if an allocation fails.
     pub fn from_shared_chunks(
         alloc: Global,
-        mut blocks: Vec<Chunk<T>>,
+        mut chunks: Vec<Chunk<T>>,
     ) -> Result<ChunkedVec<T>, AllocError>
-        requires { all_shared blocks.items ≡ true }
-        ensures blocks { IfOk result (λ l. vec_chunks l ≡ blocks.items) }
+        requires { all_shared chunks.items ≡ true }
+        ensures chunks { IfOk result (λ l. vec_chunks l ≡ chunks.items) }
         ensures shared { IfOk result (λ l. is_shared_vec l ≡ true) }
     {
-        if blocks.len() == 1 {
-            if let Some(block) = blocks.pop() {
+        if chunks.len() == 1 {
+            if let Some(chunk) = chunks.pop() {
                 return Ok(ChunkedVec {
-                    repr: Repr::Flat(block),
+                    repr: Repr::Flat(chunk),
                 });
             }
         }
-        let blocks = Arc::new(alloc, blocks)?;
+        let chunks = Arc::new(alloc, chunks)?;
         Ok(ChunkedVec {
-            repr: Repr::Chunks(Chunk::Shared(blocks)),
+            repr: Repr::Chunks(Chunk::Shared(chunks)),
         })
     }
 }
 
 impl<T> ChunkedVec<T> {
-    /// The same list again, as a pointer to its items, where it is shared; `None` where it isn't. Fails only
-    /// where no more pointers can be counted.
+    /// Clones the list by pointer if it is shared, or returns `None`.
+    ///
+    /// # Errors
+    ///
+    /// [`AllocError`] if the reference count is at its maximum.
     pub fn clone_shared(&self) -> Result<Option<ChunkedVec<T>>, AllocError>
         ensures equal { IfOk result (λ o. IfSome o (λ l. vec_chunk_items l ≡ vec_chunk_items self.now)) }
         ensures shared { IfOk result (λ o. IfSome o (λ l. is_shared_vec l ≡ true)) }
@@ -187,15 +198,15 @@ impl<T> ChunkedVec<T> {
         ensures memory { OnErr result (is_shared_vec self.now ≡ true) }
     {
         match &self.repr {
-            Repr::Flat(block) => match block.clone_shared()? {
-                Some(block) => Ok(Some(ChunkedVec {
-                    repr: Repr::Flat(block),
+            Repr::Flat(chunk) => match chunk.clone_shared()? {
+                Some(chunk) => Ok(Some(ChunkedVec {
+                    repr: Repr::Flat(chunk),
                 })),
                 None => Ok(None),
             },
-            Repr::Chunks(blocks) => match blocks.clone_shared()? {
-                Some(blocks) => Ok(Some(ChunkedVec {
-                    repr: Repr::Chunks(blocks),
+            Repr::Chunks(chunks) => match chunks.clone_shared()? {
+                Some(chunks) => Ok(Some(ChunkedVec {
+                    repr: Repr::Chunks(chunks),
                 })),
                 None => Ok(None),
             },
@@ -210,34 +221,38 @@ impl<T> ChunkedVec<T> {
 }
 
 impl<T: TryClone> ChunkedVec<T> {
-    /// The items in one vector: their own, without memory, where they stand in one block that is the list's
-    /// own; else they are had again.
+    /// Returns the items in one vector. A list of one unique chunk returns its own vector; any
+    /// other clones the items.
+    ///
+    /// # Errors
+    ///
+    /// [`AllocError`] if an allocation fails.
     pub fn into_vec(self, alloc: Global) -> Result<Vec<T>, AllocError>
         ensures items { IfOk result (λ v. map T.model v.items ≡ vec_models T.model self) }
         ensures shared_on_err { OnErr result (is_unique_flat_vec self ≡ false) }
     {
-        let ChunkedVec { repr: form } = self;
-        match form {
+        let ChunkedVec { repr: repr } = self;
+        match repr {
             Repr::Flat(Chunk::Unique(items)) => Ok(items),
-            form => clone_flat(alloc, &ChunkedVec { repr: form }),
+            repr => clone_flat(alloc, &ChunkedVec { repr: repr }),
         }
     }
 
-    /// The item at the index, or `None` past the end.
+    /// Returns the item at an index, or `None` if it is out of range.
     pub fn get(&self, index: usize) -> Option<&T>
         ensures { option_map (λ x. T.model x.now) result ≡ slice_get (vec_models T.model self.now) index }
     {
         match &self.repr {
-            Repr::Flat(block) => chunk_item(block, index),
-            Repr::Chunks(blocks) => item_in_chunks(blocks.items(), index),
+            Repr::Flat(chunk) => chunk_item(chunk, index),
+            Repr::Chunks(chunks) => item_in_chunks(chunks.items(), index),
             Repr::Groups(groups) => grouped_item(groups.items(), index),
         }
     }
 
-    /// The item at the index, to be changed, or `None` past the end, and where its block is shared or the list is in
-    /// groups.
+    /// Borrows the item at an index mutably. Returns `None` if the index is out of range, its chunk
+    /// is shared, or the list has groups.
     pub fn get_mut(&mut self, index: usize) -> Option<&mut T>
-        ensures* writes_back { sem 𝓛 (LendsSo (pieces_row T.row) T.row self.entry result
+        ensures* writes_back { sem 𝓛 (LendsSo (chunked_vec_row T.row) T.row self.entry result
             (λ n w. OnSome result (vec_models T.model n ≡ slice_set (vec_models T.model self.old) index (T.model w)))
             (λ n. vec_models T.model n ≡ vec_models T.model self.old)) }
         ensures item { IfSome result (λ x. slice_get (vec_models T.model self.old) index ≡ Some (T.model x.now)) }
@@ -245,46 +260,49 @@ impl<T: TryClone> ChunkedVec<T> {
             → option_map (λ x. T.model x.now) result ≡ slice_get (vec_models T.model self.old) index }
     {
         match &mut self.repr {
-            Repr::Flat(block) => chunk_item_mut(block, index),
-            Repr::Chunks(blocks) => match blocks {
-                Chunk::Unique(blocks) => item_mut(blocks, index),
+            Repr::Flat(chunk) => chunk_item_mut(chunk, index),
+            Repr::Chunks(chunks) => match chunks {
+                Chunk::Unique(chunks) => item_mut(chunks, index),
                 Chunk::Shared(_) => None,
             },
             Repr::Groups(_) => None,
         }
     }
 
-    // How many items a block may have.
+    // Returns the maximal length of a chunk.
     fn max_chunk_len(&self) -> usize
         ensures lower_bound { 20 ≤ result }
         ensures upper_bound { result ≤ 512 }
     {
         match &self.repr {
-            Repr::Chunks(blocks) => max_chunk_len(blocks.len()),
+            Repr::Chunks(chunks) => max_chunk_len(chunks.len()),
             _ => MIN_CHUNK_LEN,
         }
     }
 
-    // Makes a list of blocks of one block that has as many items as it may have.
+    // Turns a single chunk of maximal length into a list of chunks.
     fn reserve_for_insert(&mut self, alloc: Global, most: usize) -> Result<(), AllocError>
         ensures unchanged { vec_models T.model self.new ≡ vec_models T.model self.old }
         ensures unique { is_unique_vec self.old ≡ true → is_unique_vec self.new ≡ true }
-        ensures blocks { vec_chunks self.new ≡ vec_chunks self.old }
+        ensures chunks { vec_chunks self.new ≡ vec_chunks self.old }
         ensures bound { OnOk result ((b : Chunk T) → self.new.repr ≡ Flat b → length (items_of b) < most) }
     {
-        if let Repr::Flat(block) = &mut self.repr {
-            if block.len() >= most {
-                let blocks = single_chunk(alloc, block)?;
-                self.repr = Repr::Chunks(Chunk::Unique(blocks));
+        if let Repr::Flat(chunk) = &mut self.repr {
+            if chunk.len() >= most {
+                let chunks = single_chunk(alloc, chunk)?;
+                self.repr = Repr::Chunks(Chunk::Unique(chunks));
             }
         }
         Ok(())
     }
 
-    /// Puts an item at the index, from 0 to the length, before those from there on. `false`, with the list
-    /// unchanged, where the index is past the length, and `Err`, with the list unchanged, where memory is
-    /// wanting. A block that has as many items as the list has blocks, or in groups one of 20, is split first, but
-    /// none of fewer; so is a group that has as many blocks as there are groups.
+    /// Inserts an item at an index from 0 to the length. Returns `false`, with the list unchanged,
+    /// if the index is greater. A chunk with as many items as the list has chunks (20 in groups),
+    /// but at least 20, is split first, as is a group with as many chunks as there are groups.
+    ///
+    /// # Errors
+    ///
+    /// [`AllocError`] if an allocation fails. The list is then unchanged.
     pub fn insert(&mut self, alloc: Global, index: usize, item: T) -> Result<bool, AllocError>
         ensures ok { IfOk result (λ done. vec_models T.model self.new ≡ (if done
             then insert (vec_models T.model self.old) index (T.model item) else vec_models T.model self.old)) }
@@ -297,15 +315,15 @@ impl<T: TryClone> ChunkedVec<T> {
         let most = self.max_chunk_len();
         self.reserve_for_insert(alloc, most)?;
         match &mut self.repr {
-            Repr::Flat(block) => {
-                if index > block.len() {
+            Repr::Flat(chunk) => {
+                if index > chunk.len() {
                     return Ok(false);
                 }
-                chunk_insert(alloc, block, index, item)?;
+                chunk_insert(alloc, chunk, index, item)?;
                 Ok(true)
             }
-            Repr::Chunks(blocks) => {
-                let done = insert_in_chunk_list(alloc, blocks, index, item, most)?;
+            Repr::Chunks(chunks) => {
+                let done = insert_in_chunk_list(alloc, chunks, index, item, most)?;
                 Ok(done)
             }
             Repr::Groups(groups) => {
@@ -315,9 +333,12 @@ impl<T: TryClone> ChunkedVec<T> {
         }
     }
 
-    /// Takes the item at the index, below the length, out, and moves those behind it up. `None`, with the
-    /// list unchanged, where there is none, and `Err`, with the list unchanged, where memory is wanting. It
-    /// takes memory only where something of the list is shared.
+    /// Removes the item at an index. Returns `None`, with the list unchanged, if the index is out
+    /// of range. It allocates only if a part of the list is shared.
+    ///
+    /// # Errors
+    ///
+    /// [`AllocError`] if an allocation fails. The list is then unchanged.
     pub fn remove(&mut self, alloc: Global, index: usize) -> Result<Option<T>, AllocError>
         ensures item { IfOk result (λ x. option_map T.model x ≡ slice_get (vec_models T.model self.old) index) }
         ensures ok { OnOk result (vec_models T.model self.new ≡ remove (vec_models T.model self.old) index) }
@@ -328,15 +349,15 @@ impl<T: TryClone> ChunkedVec<T> {
         ensures bound { max_chunk_length (vec_chunks self.new) ≤ max_chunk_length (vec_chunks self.old) }
     {
         match &mut self.repr {
-            Repr::Flat(block) => {
-                if index >= block.len() {
+            Repr::Flat(chunk) => {
+                if index >= chunk.len() {
                     return Ok(None);
                 }
-                let item = chunk_remove(alloc, block, index)?;
+                let item = chunk_remove(alloc, chunk, index)?;
                 Ok(item)
             }
-            Repr::Chunks(blocks) => {
-                let item = remove_from_chunk_list(alloc, blocks, index)?;
+            Repr::Chunks(chunks) => {
+                let item = remove_from_chunk_list(alloc, chunks, index)?;
                 Ok(item)
             }
             Repr::Groups(groups) => {
@@ -346,10 +367,13 @@ impl<T: TryClone> ChunkedVec<T> {
         }
     }
 
-    /// Puts another item in the place of the one at the index, below the length, and answers that one.
-    /// `None`, with the list unchanged, where there is none, and `Err`, with the list unchanged, where memory
-    /// is wanting. It takes memory only where the list of blocks or the item's block is shared, and makes
-    /// both the list's own.
+    /// Replaces the item at an index and returns the old one. Returns `None`, with the list
+    /// unchanged, if the index is out of range. It allocates only if the list of chunks or the
+    /// item's chunk is shared, and makes both unique.
+    ///
+    /// # Errors
+    ///
+    /// [`AllocError`] if an allocation fails. The list is then unchanged.
     pub fn replace(&mut self, alloc: Global, index: usize, item: T) -> Result<Option<T>, AllocError>
         ensures item { IfOk result (λ x. option_map T.model x ≡ slice_get (vec_models T.model self.old) index) }
         ensures ok { OnOk result (vec_models T.model self.new
@@ -361,15 +385,15 @@ impl<T: TryClone> ChunkedVec<T> {
         ensures bound { max_chunk_length (vec_chunks self.new) ≤ max_chunk_length (vec_chunks self.old) }
     {
         match &mut self.repr {
-            Repr::Flat(block) => {
-                if index >= block.len() {
+            Repr::Flat(chunk) => {
+                if index >= chunk.len() {
                     return Ok(None);
                 }
-                let old = chunk_replace(alloc, block, index, item)?;
+                let old = chunk_replace(alloc, chunk, index, item)?;
                 Ok(old)
             }
-            Repr::Chunks(blocks) => {
-                let old = replace_in_chunk_list(alloc, blocks, index, item)?;
+            Repr::Chunks(chunks) => {
+                let old = replace_in_chunk_list(alloc, chunks, index, item)?;
                 Ok(old)
             }
             Repr::Groups(groups) => {
@@ -380,7 +404,7 @@ impl<T: TryClone> ChunkedVec<T> {
     }
 }
 
-// Has all items again, in one vector.
+// Clones all items into one vector.
 fn clone_flat<T: TryClone>(alloc: Global, list: &ChunkedVec<T>) -> Result<Vec<T>, AllocError>
     ensures { IfOk result (λ v. map T.model v.items ≡ vec_models T.model list.now) }
 {
@@ -401,11 +425,11 @@ impl<T: TryClone> TryClone for ChunkedVec<T> {
 
     fn try_clone(&self, alloc: Global) -> Result<ChunkedVec<T>, AllocError> {
         match &self.repr {
-            Repr::Flat(block) => Ok(ChunkedVec {
-                repr: Repr::Flat(block.try_clone(alloc)?),
+            Repr::Flat(chunk) => Ok(ChunkedVec {
+                repr: Repr::Flat(chunk.try_clone(alloc)?),
             }),
-            Repr::Chunks(blocks) => Ok(ChunkedVec {
-                repr: Repr::Chunks(blocks.try_clone(alloc)?),
+            Repr::Chunks(chunks) => Ok(ChunkedVec {
+                repr: Repr::Chunks(chunks.try_clone(alloc)?),
             }),
             Repr::Groups(groups) => Ok(ChunkedVec {
                 repr: Repr::Groups(groups.try_clone(alloc)?),

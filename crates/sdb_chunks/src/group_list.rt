@@ -1,4 +1,4 @@
-//! Lists in groups of blocks, changed in place.
+//! Edits of a list with groups.
 ghost use Rattle.std.specs.List.{insert, remove};
 ghost use Rattle.std.specs.Prelude.{◌≡◌, ◌≤◌, ◌<◌, true, false, [], ℕ, length, max, slice_get, slice_set};
 ghost use Rattle.std.specs.Prelude.{option_map, nat_le, if◌then◌else◌, IfOk, IfSome, IfNone, OnOk, OnErr};
@@ -13,12 +13,13 @@ use crate::chunk_edit::MIN_CHUNK_LEN;
 use crate::chunk_group::ChunkGroup;
 use std::alloc::{AllocError, Global};
 
-// The group where an item can be put at the index, and the place in it. `None` where there is none.
+// Returns the group and the index in it at which to insert an item. Returns `None` if the index is
+// out of range.
 fn group_insert_position<T: TryClone>(
     groups: &[ChunkGroup<T>],
     index: usize,
 ) -> Option<(usize, usize)>
-    ensures place { IfSome result (λ r. IsInsertPosition (group_models T.model) groups.now index r.0 r.1) }
+    ensures position { IfSome result (λ r. IsInsertPosition (group_models T.model) groups.now index r.0 r.1) }
     ensures none { IfNone result (index ≤ length (flatten_group_models T.model groups.now) → groups.now ≡ []) }
 {
     let mut left = index as u128;
@@ -31,7 +32,7 @@ fn group_insert_position<T: TryClone>(
     None
 }
 
-// The group of the item at the index, and the place in it. `None` past the end.
+// Returns the group and the index in it of an item. Returns `None` if the index is out of range.
 fn group_item_position<T: TryClone>(
     groups: &[ChunkGroup<T>],
     index: usize,
@@ -49,7 +50,7 @@ fn group_item_position<T: TryClone>(
     None
 }
 
-// The item at the index.
+// Returns the item at an index.
 pub(crate) fn grouped_item<T: TryClone>(groups: &[ChunkGroup<T>], index: usize) -> Option<&T>
     ensures { option_map (λ x. T.model x.now) result ≡ slice_get (flatten_group_models T.model groups.now) index }
 {
@@ -59,7 +60,7 @@ pub(crate) fn grouped_item<T: TryClone>(groups: &[ChunkGroup<T>], index: usize) 
     }
 }
 
-// Makes the list of the groups its owner's own.
+// Makes the list of groups unique.
 fn make_groups_unique<T: TryClone>(
     alloc: Global,
     groups: &mut Chunk<ChunkGroup<T>>,
@@ -76,7 +77,7 @@ fn make_groups_unique<T: TryClone>(
     Ok(())
 }
 
-// Makes two groups of one: the second half of its blocks stands in a new one behind it.
+// Splits a group into two halves; the second one follows it.
 fn split_group<T: TryClone>(
     alloc: Global,
     groups: &mut Vec<ChunkGroup<T>>,
@@ -92,7 +93,8 @@ fn split_group<T: TryClone>(
     Ok(())
 }
 
-// Makes two groups of the one at the index, where it has as many blocks as there are groups, but not of a few.
+// Splits the group at the index if it has as many chunks as there are groups, and at least
+// `MIN_CHUNK_LEN`.
 fn split_long_chunk<T: TryClone>(
     alloc: Global,
     groups: &mut Vec<ChunkGroup<T>>,
@@ -109,7 +111,7 @@ fn split_long_chunk<T: TryClone>(
     Ok(())
 }
 
-// Sees to it that there is a group.
+// Adds an empty group if there is none.
 fn ensure_group<T: TryClone>(
     alloc: Global,
     groups: &mut Vec<ChunkGroup<T>>,
@@ -124,7 +126,7 @@ fn ensure_group<T: TryClone>(
     Ok(())
 }
 
-// Puts an item at the index. `false`, with all as it was, past the end.
+// Inserts an item at an index. Returns `false`, with all unchanged, if it is out of range.
 fn insert_in_group_at<T: TryClone>(
     alloc: Global,
     groups: &mut Vec<ChunkGroup<T>>,
@@ -151,7 +153,7 @@ fn insert_in_group_at<T: TryClone>(
     }
 }
 
-// The same, and a group of as many blocks as it may have is split first.
+// Inserts an item, after splitting a group of maximal length.
 fn insert_in_groups<T: TryClone>(
     alloc: Global,
     groups: &mut Vec<ChunkGroup<T>>,
@@ -174,7 +176,7 @@ fn insert_in_groups<T: TryClone>(
     Ok(done)
 }
 
-// Puts an item at the index, into the list's own list of groups.
+// Inserts an item at an index and makes the list of groups unique.
 pub(crate) fn insert_in_group_list<T: TryClone>(
     alloc: Global,
     groups: &mut Chunk<ChunkGroup<T>>,
@@ -201,7 +203,7 @@ pub(crate) fn insert_in_group_list<T: TryClone>(
     }
 }
 
-// Takes a group out that has no blocks left.
+// Removes the group if it has no chunks.
 fn remove_empty_group<T: TryClone>(groups: &mut Vec<ChunkGroup<T>>, at: usize)
     requires { at < length groups.old.items }
     ensures unchanged { flatten_group_models T.model groups.new.items ≡ flatten_group_models T.model groups.old.items }
@@ -212,7 +214,7 @@ fn remove_empty_group<T: TryClone>(groups: &mut Vec<ChunkGroup<T>>, at: usize)
     }
 }
 
-// Takes the item at the index out. `None`, with all as it was, past the end.
+// Removes the item at an index. Returns `None`, with all unchanged, if it is out of range.
 fn remove_from_groups<T: TryClone>(
     alloc: Global,
     groups: &mut Vec<ChunkGroup<T>>,
@@ -235,7 +237,7 @@ fn remove_from_groups<T: TryClone>(
     Ok(item)
 }
 
-// Takes the item at the index out of the list's own list of groups.
+// Removes the item at an index and makes the list of groups unique.
 pub(crate) fn remove_from_group_list<T: TryClone>(
     alloc: Global,
     groups: &mut Chunk<ChunkGroup<T>>,
@@ -260,8 +262,8 @@ pub(crate) fn remove_from_group_list<T: TryClone>(
     }
 }
 
-// Puts another item in the place of the one at the index, and answers that one. `None`, with all as it
-// was, past the end.
+// Replaces the item at an index and returns the old one. Returns `None`, with all unchanged, if it
+// is out of range.
 fn replace_in_groups<T: TryClone>(
     alloc: Global,
     groups: &mut Vec<ChunkGroup<T>>,
@@ -285,7 +287,7 @@ fn replace_in_groups<T: TryClone>(
     Ok(old)
 }
 
-// Puts another item in the place of the one at the index, in the list's own list of groups.
+// Replaces the item at an index and makes the list of groups unique.
 pub(crate) fn replace_in_group_list<T: TryClone>(
     alloc: Global,
     groups: &mut Chunk<ChunkGroup<T>>,

@@ -1,4 +1,4 @@
-//! The items of a list, one after the other.
+//! Iterators over a chunked list.
 ghost use Rattle.std.specs.Prelude.{◌≡◌, ◌++◌};
 ghost use Rattle.std.specs.List.{flat_map};
 ghost use Rattle.std.specs.Iterator.{YieldsFirstRef, item_count};
@@ -9,21 +9,21 @@ ghost use Rattle.sdb_chunks.specs.Iter.{remaining_items, remaining_chunks};
 use crate::chunk::Chunk;
 use crate::chunk_group::ChunkGroup;
 
-/// What is left of the blocks of a list that is gone through.
+/// An iterator over the chunks of a list.
 #[derive(Drop)]
 pub struct Chunks<'a, T> {
-    // of the group at hand
-    blocks: &'a [Chunk<T>],
-    // the groups behind it
+    // the rest of the current group
+    chunks: &'a [Chunk<T>],
+    // the groups after it
     groups: &'a [ChunkGroup<T>],
 }
 
 impl<'a, T> Chunks<'a, T> {
-    /// The blocks that stand here, and then those of the groups.
-    pub fn new(blocks: &'a [Chunk<T>], groups: &'a [ChunkGroup<T>]) -> Chunks<'a, T>
-        ensures { remaining_chunks result ≡ blocks.now ++ flat_map group_chunks groups.now }
+    /// Creates an iterator over these chunks, and then those of the groups.
+    pub fn new(chunks: &'a [Chunk<T>], groups: &'a [ChunkGroup<T>]) -> Chunks<'a, T>
+        ensures { remaining_chunks result ≡ chunks.now ++ flat_map group_chunks groups.now }
     {
-        Chunks { blocks, groups }
+        Chunks { chunks, groups }
     }
 }
 
@@ -35,44 +35,44 @@ impl<'a, T> Iterator for Chunks<'a, T> {
     ghost remaining = { item_count remaining_chunks };
 
     fn next(&mut self) -> Option<&'a Chunk<T>> {
-        while self.blocks.is_empty() {
+        while self.chunks.is_empty() {
             let (group, others) = self.groups.split_first()?;
-            self.blocks = group.chunks();
+            self.chunks = group.chunks();
             self.groups = others;
         }
-        let (first, others) = self.blocks.split_first()?;
-        self.blocks = others;
+        let (first, others) = self.chunks.split_first()?;
+        self.chunks = others;
         Some(first)
     }
 }
 
-/// What is left of a list that is gone through.
+/// An iterator over the items of a list.
 #[derive(Drop)]
 pub struct Iter<'a, T> {
-    // of the block at hand
+    // the rest of the current chunk
     items: &'a [T],
-    // the blocks behind it
-    blocks: Chunks<'a, T>,
+    // the chunks after it
+    chunks: Chunks<'a, T>,
 }
 
 impl<'a, T> Iter<'a, T> {
-    /// The items that stand here, and then those of the blocks.
-    pub fn new(items: &'a [T], blocks: &'a [Chunk<T>]) -> Iter<'a, T>
-        ensures { remaining_items result ≡ items.now ++ flat_map items_of blocks.now }
+    /// Creates an iterator over these items, and then those of the chunks.
+    pub fn new(items: &'a [T], chunks: &'a [Chunk<T>]) -> Iter<'a, T>
+        ensures { remaining_items result ≡ items.now ++ flat_map items_of chunks.now }
     {
         Iter {
             items,
-            blocks: Chunks::new(blocks, &[]),
+            chunks: Chunks::new(chunks, &[]),
         }
     }
 
-    /// The items of the groups.
+    /// Creates an iterator over the items of groups.
     pub(crate) fn of_groups(groups: &'a [ChunkGroup<T>]) -> Iter<'a, T>
         ensures { remaining_items result ≡ flat_map items_of (flat_map group_chunks groups.now) }
     {
         Iter {
             items: &[],
-            blocks: Chunks::new(&[], groups),
+            chunks: Chunks::new(&[], groups),
         }
     }
 }
@@ -86,7 +86,7 @@ impl<'a, T> Iterator for Iter<'a, T> {
 
     fn next(&mut self) -> Option<&'a T> {
         while self.items.is_empty() {
-            self.items = self.blocks.next()?.items();
+            self.items = self.chunks.next()?.items();
         }
         let (first, others) = self.items.split_first()?;
         self.items = others;

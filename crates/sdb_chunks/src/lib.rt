@@ -1,4 +1,4 @@
-//! Lists in pieces of bounded size, each of them a list's own or shared with its copies.
+//! Chunked lists: chunks of bounded length, each unique or shared with clones.
 #![tactic(auto)]
 
 mod chunk;

@@ -1,4 +1,4 @@
-//! Lists made shared: a long list's blocks are put in groups.
+//! Freezing of lists, which puts the chunks of a long list into groups.
 ghost use Rattle.std.specs.Prelude.{◌≡◌, ◌≤◌, ◌<◌, ◌++◌, true, map, max, IfOk, IfSome, OnOk};
 ghost use Rattle.sdb_chunks.specs.Chunk.{items_of, is_chunk_shared};
 ghost use Rattle.sdb_chunks.specs.ChunkGroup.{flatten_group_models, max_grouped_length};
@@ -10,90 +10,91 @@ use crate::chunk_group::ChunkGroup;
 use crate::chunked_vec::Repr;
 use std::alloc::{AllocError, Global};
 
-// How many blocks the groups get that so many blocks are put into: they have room for as many again.
-fn chunks_per_group(blocks: usize) -> usize
+// Returns the number of chunks per new group. Each group can grow to twice that number.
+fn chunks_per_group(chunks: usize) -> usize
     ensures { 0 < result }
 {
     let mut size = MIN_CHUNK_LEN / 2;
-    while size < 256 && size < blocks / size {
+    while size < 256 && size < chunks / size {
         size *= 2;
     }
     size
 }
 
-// Has the items of a block again, behind others, in blocks of at most 20: by a pointer where it is such and shared.
+// Appends the chunk's items in chunks of at most 20. A shared chunk that is short enough is
+// appended by pointer.
 fn push_merged<T: TryClone>(
     alloc: Global,
-    blocks: &mut Vec<Chunk<T>>,
-    block: &Chunk<T>,
+    chunks: &mut Vec<Chunk<T>>,
+    chunk: &Chunk<T>,
 ) -> Result<(), AllocError>
-    ensures items { OnOk result (flatten_models T.model blocks.new.items
-        ≡ flatten_models T.model blocks.old.items ++ chunk_models T.model block.now) }
-    ensures bound { OnOk result (max_chunk_length blocks.new.items ≤ max 20 (max_chunk_length blocks.old.items)) }
+    ensures items { OnOk result (flatten_models T.model chunks.new.items
+        ≡ flatten_models T.model chunks.old.items ++ chunk_models T.model chunk.now) }
+    ensures bound { OnOk result (max_chunk_length chunks.new.items ≤ max 20 (max_chunk_length chunks.old.items)) }
 {
-    if block.len() <= MIN_CHUNK_LEN {
-        blocks.push(block.try_clone(alloc)?)?;
+    if chunk.len() <= MIN_CHUNK_LEN {
+        chunks.push(chunk.try_clone(alloc)?)?;
         return Ok(());
     }
-    push_split(alloc, blocks, block.items())
+    push_split(alloc, chunks, chunk.items())
 }
 
-// Has the items again, in blocks of 20 that are shared.
+// Appends clones of the items in chunks of 20.
 fn push_split<T: TryClone>(
     alloc: Global,
-    blocks: &mut Vec<Chunk<T>>,
+    chunks: &mut Vec<Chunk<T>>,
     items: &[T],
 ) -> Result<(), AllocError>
-    ensures items { OnOk result (flatten_models T.model blocks.new.items
-        ≡ flatten_models T.model blocks.old.items ++ map T.model items.now) }
-    ensures bound { OnOk result (max_chunk_length blocks.new.items ≤ max 20 (max_chunk_length blocks.old.items)) }
+    ensures items { OnOk result (flatten_models T.model chunks.new.items
+        ≡ flatten_models T.model chunks.old.items ++ map T.model items.now) }
+    ensures bound { OnOk result (max_chunk_length chunks.new.items ≤ max 20 (max_chunk_length chunks.old.items)) }
 {
     let mut start = 0;
     while start < items.len() {
         let end = start + (items.len() - start).min(MIN_CHUNK_LEN);
         let part = clone_items(alloc, &items[start..end], 0)?;
-        blocks.push(Chunk::Unique(part).into_frozen(alloc)?)?;
+        chunks.push(Chunk::Unique(part).into_frozen(alloc)?)?;
         start = end;
     }
     Ok(())
 }
 
-// The same items, in blocks of at most 20.
+// Clones the items into chunks of at most 20.
 fn rebalance_chunks<T: TryClone>(
     alloc: Global,
-    blocks: &[Chunk<T>],
+    chunks: &[Chunk<T>],
 ) -> Result<Vec<Chunk<T>>, AllocError>
-    ensures items { IfOk result (λ v. flatten_models T.model v.items ≡ flatten_models T.model blocks.now) }
+    ensures items { IfOk result (λ v. flatten_models T.model v.items ≡ flatten_models T.model chunks.now) }
     ensures bound { IfOk result (λ v. max_chunk_length v.items ≤ 20) }
 {
-    let mut short = Vec::with_capacity(alloc, blocks.len())?;
-    for block in blocks {
-        push_merged(alloc, &mut short, block)?;
+    let mut short = Vec::with_capacity(alloc, chunks.len())?;
+    for chunk in chunks {
+        push_merged(alloc, &mut short, chunk)?;
     }
     Ok(short)
 }
 
-// The same blocks, in groups.
+// Clones the chunks into groups.
 fn split_into_groups<T: TryClone>(
     alloc: Global,
-    blocks: &[Chunk<T>],
+    chunks: &[Chunk<T>],
 ) -> Result<Vec<ChunkGroup<T>>, AllocError>
-    ensures items { IfOk result (λ v. flatten_group_models T.model v.items ≡ flatten_models T.model blocks.now) }
-    ensures bound { IfOk result (λ v. max_grouped_length v.items ≤ max_chunk_length blocks.now) }
+    ensures items { IfOk result (λ v. flatten_group_models T.model v.items ≡ flatten_models T.model chunks.now) }
+    ensures bound { IfOk result (λ v. max_grouped_length v.items ≤ max_chunk_length chunks.now) }
 {
-    let size = chunks_per_group(blocks.len());
-    let mut groups = Vec::with_capacity(alloc, blocks.len() / size + 1)?;
+    let size = chunks_per_group(chunks.len());
+    let mut groups = Vec::with_capacity(alloc, chunks.len() / size + 1)?;
     let mut start = 0;
-    while start < blocks.len() {
-        let end = start + (blocks.len() - start).min(size);
-        let group = clone_items(alloc, &blocks[start..end], 0)?;
+    while start < chunks.len() {
+        let end = start + (chunks.len() - start).min(size);
+        let group = clone_items(alloc, &chunks[start..end], 0)?;
         groups.push(ChunkGroup::new(Chunk::Unique(group)))?;
         start = end;
     }
     Ok(groups)
 }
 
-// Makes the list of each group's blocks shared.
+// Freezes the list of each group's chunks.
 fn freeze_each<T: TryClone>(
     alloc: Global,
     groups: &mut Vec<ChunkGroup<T>>,
@@ -107,7 +108,7 @@ fn freeze_each<T: TryClone>(
     Ok(())
 }
 
-// The same, where the list of the groups isn't shared yet.
+// Freezes the groups, unless the list of groups is shared.
 fn freeze_unique<T: TryClone>(
     alloc: Global,
     groups: &mut Chunk<ChunkGroup<T>>,
@@ -122,7 +123,7 @@ fn freeze_unique<T: TryClone>(
     }
 }
 
-// Makes the groups shared, and the list of them.
+// Freezes the groups and their list.
 fn freeze_groups<T: TryClone>(
     alloc: Global,
     groups: &mut Chunk<ChunkGroup<T>>,
@@ -137,27 +138,30 @@ fn freeze_groups<T: TryClone>(
 }
 
 impl<T: TryClone> Repr<T> {
-    // The blocks of a list of many in groups, where the list of them is its own.
+    // Returns the chunks of a long list in groups, if the list of chunks is unique.
     fn into_groups(&self, alloc: Global) -> Result<Option<Vec<ChunkGroup<T>>>, AllocError>
         ensures items { IfOk result (λ o. IfSome o (λ v. flatten_group_models T.model v.items
             ≡ repr_models T.model self.now)) }
         ensures bound { IfOk result (λ o. IfSome o (λ v. max_grouped_length v.items ≤ 20)) }
     {
         match self {
-            Repr::Chunks(blocks) => {
-                if !blocks.is_unique() || blocks.len() <= MIN_CHUNK_LEN {
+            Repr::Chunks(chunks) => {
+                if !chunks.is_unique() || chunks.len() <= MIN_CHUNK_LEN {
                     return Ok(None);
                 }
-                let short = rebalance_chunks(alloc, blocks.items())?;
+                let short = rebalance_chunks(alloc, chunks.items())?;
                 Ok(Some(split_into_groups(alloc, &short)?))
             }
             _ => Ok(None),
         }
     }
 
-    /// Makes the list shared in place, so that the next copy of it is a pointer: the items of more than 20 blocks are
-    /// put in groups of blocks of at most 20. Blocks that aren't shared are had again there. Fails only where memory
-    /// is wanting.
+    /// Freezes the list in place, so that its next clone is a pointer. More than 20 chunks are put
+    /// into groups, in chunks of at most 20 items; unique chunks are cloned for this.
+    ///
+    /// # Errors
+    ///
+    /// [`AllocError`] if an allocation fails. The items are then equal.
     pub fn freeze(&mut self, alloc: Global) -> Result<(), AllocError>
         ensures unchanged { repr_models T.model self.new ≡ repr_models T.model self.old }
         ensures shared { OnOk result (is_shared_repr self.new ≡ true) }
@@ -167,8 +171,8 @@ impl<T: TryClone> Repr<T> {
             *self = Repr::Groups(Chunk::Unique(groups));
         }
         match self {
-            Repr::Flat(block) => block.freeze(alloc),
-            Repr::Chunks(blocks) => blocks.freeze(alloc),
+            Repr::Flat(chunk) => chunk.freeze(alloc),
+            Repr::Chunks(chunks) => chunks.freeze(alloc),
             Repr::Groups(groups) => freeze_groups(alloc, groups),
         }
     }

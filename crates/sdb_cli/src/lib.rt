@@ -1,5 +1,5 @@
-//! What the programs share: the statuses that they end with, and how a command line or a run that ends
-//! early is answered.
+//! What the programs have in common: exit statuses, and the messages for refused command lines and
+//! for runs that fail.
 #![tactic(auto)]
 
 pub mod terminal;
@@ -12,18 +12,22 @@ use sdb_lines::RunFault;
 use std::alloc::AllocError;
 use std::io;
 
-/// The status of a run that reached the end of its input, and of help.
+/// The exit status of a run that reached the end of its input, and of help.
 pub const STATUS_OK: u8 = 0;
 
-/// The status of a run that a fault ended.
+/// The exit status of a run that failed.
 pub const STATUS_FAULT: u8 = 1;
 
-/// The status of a refused command line.
+/// The exit status of a refused command line.
 pub const STATUS_USAGE: u8 = 2;
 
-/// Answers a command line that asks for no run, and gives the status: help goes to standard output, and why
-/// it is refused to standard error, as one line. Want of memory is neither, and an error here; so is an
-/// output that fails.
+/// Prints the outcome of a command line that starts no run, and returns the exit status. Help and
+/// the version go to standard output; a refusal goes to standard error as one line.
+///
+/// # Errors
+///
+/// [`AllocError`] if an allocation fails or was the reason of `error`. The error of the stream if
+/// the line cannot be printed.
 pub fn print_help_or_error<R>(rt: &R, error: &Error) -> anyhow::Result<u8>
 where
     R: AllocGlobal + Print + Eprint,
@@ -40,7 +44,11 @@ where
     Ok(print_refusal(rt, text.as_str())?)
 }
 
-/// Says on standard error why a command line is refused: the first line of the text.
+/// Prints the first line of `why` to standard error, and returns [`STATUS_USAGE`].
+///
+/// # Errors
+///
+/// The error of standard error if the line cannot be printed.
 pub fn print_refusal(rt: &impl Eprint, why: &str) -> io::Result<u8>
     ensures { IfOk result (λ status. status ≡ STATUS_USAGE) }
 {
@@ -49,8 +57,8 @@ pub fn print_refusal(rt: &impl Eprint, why: &str) -> io::Result<u8>
     Ok(STATUS_USAGE)
 }
 
-/// Says on standard output which fault ended a run, where the output still takes it: a fault of the output
-/// itself is not told.
+/// Prints the fault that ended a run to standard output, and returns [`STATUS_FAULT`]. It prints
+/// nothing for a failed write, and ignores a failure to print.
 pub fn exit_status(rt: &impl Print, fault: RunFault) -> u8
     ensures { result ≡ STATUS_FAULT }
 {

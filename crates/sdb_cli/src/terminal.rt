@@ -4,18 +4,18 @@ use std::cell::RefCell;
 use std::fmt::{Display, Write};
 use std::io;
 
-/// What is printed on standard output and on standard error.
+/// The text printed to standard output and to standard error.
 #[derive(Drop)]
 pub struct TerminalBuffer {
     alloc: Global,
-    /// Standard output.
+    /// The text printed to standard output.
     pub out: RefCell<String>,
-    /// Standard error.
+    /// The text printed to standard error.
     pub err: RefCell<String>,
 }
 
 impl TerminalBuffer {
-    /// A terminal on which nothing is printed yet.
+    /// Creates a terminal with no text.
     pub fn new(alloc: Global) -> TerminalBuffer {
         TerminalBuffer {
             alloc,
@@ -25,7 +25,11 @@ impl TerminalBuffer {
     }
 }
 
-/// The words of a command line, as a shell without quotes would cut it.
+/// Splits a command line at white space, without quoting.
+///
+/// # Errors
+///
+/// [`AllocError`] if an allocation fails.
 pub fn argument_list(alloc: Global, line: &str) -> Result<Vec<String>, AllocError> {
     let mut words = Vec::new(alloc);
     for word in line.split_whitespace() {

@@ -1,4 +1,4 @@
--- What is read of an operation keeps the limits.
+-- Parsed operations are within the limits.
 use Rattle.std.proofs.Common.{◌≡◌, ℕ, suc, ◌+◌, ◌<◌, ◌≤◌, List, [], ◌∷◌, ◌++◌, length, Option, Some, None, Bool, true, false, refl, arith, length-append}
 use Rattle.std.specs.Prelude.{⊤, if◌then◌else◌, nat_lt, codes, option_map, option_and_then, IfSome}
 use Rattle.std.proofs.lemmas.Bool.Decides.{nat_tests}
@@ -61,7 +61,7 @@ path_in_range d =
     if_some_and_then (λ _. ⊤) (PathWithin 50) (λ ds. if nat_lt 50 (data_item_count ds) then None else path_steps_of ds) (as_array d) (some_any (as_array d)) (λ ds _.
     unless_over (PathWithin 50) 50 (data_item_count ds) (nat_lt 50 (data_item_count ds)) (path_steps_of ds) refl (λ h. path_within_mono (data_item_count ds) 50 (path_steps_of ds) h (steps_in_range ds)))
 
--- ---- the path but its last step, and that step
+-- ---- the path without its last step, and that step
 
 abbrev IndexLastInRange : ℕ → (List PlainStep × ℕ) → Type 0
 IndexLastInRange n l = StepsInRange l.0 × (suc (length l.0) ≤ n) × IsSafeInteger l.1

@@ -1,4 +1,4 @@
--- What is written of an operation or a path, part by part.
+-- The written parts of an operation or a path.
 use Rattle.std.proofs.Common.{◌≡◌, List, [], ◌∷◌, ◌++◌, map, refl, sym, ap, ◌∙◌}
 use Rattle.serde_json.specs.Data as raw
 use Rattle.serde_json.specs.View as data-view

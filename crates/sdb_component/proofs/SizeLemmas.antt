@@ -1,4 +1,4 @@
--- How many items a list has, and which step a value is.
+-- The length of a list, and the step of a value.
 use Rattle.std.proofs.Common.{◌≡◌, suc, List, [], ◌∷◌, ℕ, length, map, Option, Some, None, option_map, refl, ap}
 use Rattle.serde_json.specs.Data as raw
 use Rattle.serde_json.specs.Data.{Data}

@@ -1,4 +1,4 @@
--- A component's members, in the order in which they are written.
+-- A component's members in the order in which they are written.
 use Rattle.std.proofs.Common.{◌≡◌, ◌≤◌, List, ◌∷◌, [], ◌++◌, length, codes, refl, sym, ap, ◌∙◌, append_assoc, arith}
 use Rattle.std.proofs.lemmas.List.{length-append}
 use Rattle.json.specs.Token.{Token, begin_object, key}
@@ -22,7 +22,7 @@ in_order (oi k v) p = refl
 in_order (od k x) p = refl
 in_order (or k x y) p = refl
 
--- the brace, the values, the path and the texts, put together
+-- the brace, the values, the path and the texts, concatenated
 pub put_together : (a : PlainAct) (p : raw.Data) (start values path end : List Token)
     → ((rest : raw.Members) → values ++ object_tail_tokens rest ≡ (start ++ begin_object ∷ []) ++ object_tail_tokens (members_before_path a rest))
     → path ≡ (values ++ key (codes "p") ∷ []) ++ data_tokens p
@@ -33,7 +33,7 @@ put_together a p start values path end v e f =
     f ∙ ap (λ ts. ts ++ object_tail_tokens (members_after_path a)) (e ∙ append_assoc values _ _) ∙ append_assoc values _ _ ∙ v rest ∙ append_assoc start _ _
     ∙ ap (λ ms. start ++ begin_object ∷ object_tail_tokens ms) (in_order a p)
 
--- the members before the path take no tokens away
+-- the members before the path add tokens
 pub before_path_adds : (a : PlainAct) (rest : raw.Members) → length (object_tail_tokens rest) ≤ length (object_tail_tokens (members_before_path a rest))
 before_path_adds (na x) rest = omega arith
 before_path_adds (si i s) rest = omega arith
@@ -45,12 +45,12 @@ before_path_adds (oi k v) rest = omega (arith, length-append {A = Token})
 before_path_adds (od k x) rest = omega (arith, length-append {A = Token})
 before_path_adds (or k x y) rest = omega (arith, length-append {A = Token})
 
--- nor do steps
+-- steps add tokens
 pub steps_add : (p : List PlainStep) → length (array_tail_tokens raw.no_items) ≤ length (array_tail_tokens (path_items p))
 steps_add [] = omega arith
 steps_add (s ∷ p) = omega (arith, length-append {A = Token}, steps_add p)
 
--- the members behind the path have an end
+-- the members after the path have an end
 pub behind_path_ends : (a : PlainAct) → length (object_tail_tokens raw.no_members) ≤ length (object_tail_tokens (members_after_path a))
 behind_path_ends (na x) = omega arith
 behind_path_ends (si i s) = omega arith
@@ -62,7 +62,7 @@ behind_path_ends (oi k v) = omega arith
 behind_path_ends (od k x) = omega arith
 behind_path_ends (or k x y) = omega arith
 
--- a front of the values, and one of what follows them
+-- a prefix of the values, and one of what follows them
 pub front_of_values : (a : PlainAct) (p : raw.Data) (start begun new : List Token) → begun ≡ start ++ begin_object ∷ []
     → ((rest : raw.Members) → WritesFront begun new (object_tail_tokens (members_before_path a rest))) → WritesFront start new (data_tokens (raw.object (act_members a p)))
 front_of_values a p start begun new e w =

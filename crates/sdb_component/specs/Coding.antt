@@ -1,4 +1,4 @@
--- Codes of the plain components, by which a proof tells them apart.
+-- Codes of the plain components, which decide their equality.
 use Rattle.std.specs.Prelude.{◌≡◌, ℕ, ℤ, List, ◌⊎◌, refl}
 use Rattle.std.specs.Coded.{Coded, code_by, coded×, coded⊎, coded_ℕ, coded_ℤ, coded_list}
 use Rattle.std.proofs.Common.{inl, inr}
@@ -6,7 +6,7 @@ use Rattle.sdb_value.specs.Value.{Value, PlainStep}
 use Rattle.sdb_value.specs.Coding.{value_code, text_code, path_code}
 use Rattle.sdb_component.specs.Plain.{PlainAct, na, si, sd, li, ld, lr, oi, od, or, PlainComponent}
 
--- a number; a text at an offset; a value at an index; two values there; a value at a key; two there
+-- a number; a text at an offset; a value at an index; two values at an index; a value at a key; two values at a key
 abbrev AtOffset : Type 0
 AtOffset = ℕ × List ℕ
 

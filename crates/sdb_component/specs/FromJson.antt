@@ -1,4 +1,4 @@
--- Which operation a JSON value is (json0's README, "Summary of operations"), within the profile's limits.
+-- The operation of a JSON value (json0's README, "Summary of operations"), within the limits of the profile.
 use Rattle.std.specs.Prelude.{◌≡◌, ℕ, suc, ℤ, List, [], ◌∷◌, ◌++◌, Bool, true, false, ◌||◌, if◌then◌else◌, nat_lt, codes, Option, Some, None, option_map, option_and_then, ⊤}
 use Rattle.std.specs.Option.{is_some}
 use Rattle.serde_json.specs.Data as raw
@@ -14,7 +14,7 @@ use Rattle.sdb_component.specs.declared.from_json.OpFault.TheVariants.{BadlyForm
 
 -- ---- the path
 
--- a step is a text or a whole number
+-- a step is a text or an integer
 abbrev pub path_step_of : Data → Option PlainStep
 path_step_of (raw.string k) = Some (key k)
 path_step_of d = option_map index (count_of d)
@@ -31,12 +31,12 @@ data_item_count (raw.item d ds) = suc (data_item_count ds)
 abbrev pub path_of : Data → Option (List PlainStep)
 path_of d = option_and_then (λ ds. if nat_lt 50 (data_item_count ds) then None else path_steps_of ds) (as_array d)
 
--- ---- the shape: which of the members that name one are present
+-- ---- the shape, by the members that are present
 
 abbrev pub has_member : List ℕ → Data → Bool
 has_member k d = is_some (get k d)
 
--- of na, si, sd, li, ld, oi, od
+-- the shape, from na, si, sd, li, ld, oi, od
 abbrev pub kind_of_fields : Bool → Bool → Bool → Bool → Bool → Bool → Bool → Option ActKind
 kind_of_fields true false false false false false false = Some Na
 kind_of_fields false true false false false false false = Some Si
@@ -49,7 +49,7 @@ kind_of_fields false false false false false false true = Some Od
 kind_of_fields false false false false false true true = Some Or
 kind_of_fields _ _ _ _ _ _ _ = None
 
--- the list move and the subtypes are left out of the profile
+-- the profile excludes list moves and subtypes
 abbrev pub has_unsupported_field : Data → Bool
 has_unsupported_field d = has_member (codes "lm") d || (has_member (codes "t") d || has_member (codes "o") d)
 
@@ -61,7 +61,7 @@ act_kind_of d =
 
 -- ---- a component
 
--- the path without its last step, and that step, where it is a number; where it is a text
+-- the path without its last step and that step, which must be an index; or a key
 abbrev pub split_last_index : List PlainStep → Option (List PlainStep × ℕ)
 split_last_index [] = None
 split_last_index (index i ∷ []) = Some ([], i)
@@ -74,7 +74,7 @@ split_last_key (key k ∷ []) = Some ([], k)
 split_last_key (index i ∷ []) = None
 split_last_key (s ∷ t ∷ p) = option_map (λ l. (s ∷ l.0, l.1)) (split_last_key (t ∷ p))
 
--- what is made of these two
+-- a function of both parts
 abbrev pub with_last_index : {A : Type 0} → (List PlainStep → ℕ → Option A) → List PlainStep → Option A
 with_last_index f p = option_and_then (λ l. f l.0 l.1) (split_last_index p)
 
@@ -87,14 +87,14 @@ whole_member k d = option_and_then whole_of (option_and_then as_number (get k d)
 abbrev pub text_member : List ℕ → Data → Option (List ℕ)
 text_member k d = option_and_then as_str (get k d)
 
--- a value of the profile, at most 50 deep
+-- a value of the profile, of depth 50 at most
 abbrev pub value_member : List ℕ → Data → Option Value
 value_member k d = option_and_then bounded_value_of_data (get k d)
 
 abbrev pub one_component : List PlainStep → PlainAct → List PlainComponent
 one_component q a = record { path = q; act = a } ∷ []
 
--- an insert or a delete of an empty text is dropped once it is checked
+-- an insert or delete of an empty text is dropped after its check
 abbrev pub unless_empty : List ℕ → List PlainComponent → List PlainComponent
 unless_empty [] cs = []
 unless_empty (b ∷ bs) cs = cs
@@ -113,7 +113,7 @@ components_of_kind Oi p d = with_last_key (λ q k. option_map (λ v. one_compone
 components_of_kind Od p d = with_last_key (λ q k. option_map (λ x. one_component q (od k x)) (value_member (codes "od") d)) p
 components_of_kind Or p d = with_last_key (λ q k. map_two (λ x y. one_component q (or k x y)) (value_member (codes "od") d) (value_member (codes "oi") d)) p
 
--- none, or the one component that is left of it
+-- the component, or none if it is dropped
 abbrev pub component_of : Data → Option (List PlainComponent)
 component_of d =
     option_and_then (λ s. option_and_then (λ p. components_of_kind s p d) (option_and_then path_of (get (codes "p") d)))
@@ -126,11 +126,11 @@ components_of raw.no_items = Some []
 components_of (raw.item d ds) =
     option_and_then (λ cs. option_map (λ rest. cs ++ rest) (components_of ds)) (component_of d)
 
--- an operation is an array of at most 256 components, those that are dropped counted
+-- an operation is an array of at most 256 components, including dropped ones
 abbrev pub op_of : Data → Option (List PlainComponent)
 op_of d = option_and_then (λ ds. if nat_lt 256 (data_item_count ds) then None else components_of ds) (as_array d)
 
--- ---- what a reader answers that gives none
+-- ---- faults of the parser
 
 abbrev pub FaultMeansNone : {A : Type 0} → Option A → OpFault → Type 0
 FaultMeansNone o BadlyFormed = o ≡ None

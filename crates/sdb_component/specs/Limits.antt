@@ -1,5 +1,5 @@
--- How long, how deep and how great what is read of an operation can be. That its texts are UTF-8 and its numbers in
--- range is known of their types.
+-- The limits of a parsed operation: length, depth and positions. That texts are UTF-8 and numbers are in range follows
+-- from their types.
 use Rattle.std.specs.Prelude.{ℕ, ◌<◌, ◌≤◌, List, [], ◌∷◌, length, IfSome, ⊤}
 use Rattle.serde_json.specs.Data.{Data}
 use Rattle.sdb_value.specs.Value.{Value, PlainStep, key, index, depth}
@@ -7,7 +7,7 @@ use Rattle.sdb_component.specs.Plain.{PlainAct, na, si, sd, li, ld, lr, oi, od, 
 use Rattle.sdb_component.specs.ToJson.{full_path}
 use Rattle.sdb_component.specs.FromJson.{op_of}
 
--- the greatest whole number that a double holds with all below it
+-- a safe integer: at most 2^53 - 1, so that a double holds it exactly
 abbrev pub IsSafeInteger : ℕ → Type 0
 IsSafeInteger i = i ≤ 9007199254740991
 
@@ -42,6 +42,6 @@ abbrev pub AllInRange : List PlainComponent → Type 0
 AllInRange [] = ⊤
 AllInRange (c ∷ cs) = ComponentInRange c × AllInRange cs
 
--- what is read keeps the limits
+-- a parsed operation is within the limits
 abbrev pub ReadStaysInRange : Type 0
 ReadStaysInRange = (d : Data) → IfSome (op_of d) (λ cs. AllInRange cs × (length cs ≤ 256))

@@ -15,7 +15,7 @@ pub data PlainAct : Type 0 where
   od : List ℕ → Value → PlainAct
   or : List ℕ → Value → Value → PlainAct
 
--- the container's path, and what is done there
+-- the container's path and the act
 pub record PlainComponent : Type 0 where
   pub path : List PlainStep
   pub act : PlainAct

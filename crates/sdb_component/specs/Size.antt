@@ -1,5 +1,4 @@
--- How much a component holds: each step of its path counts 1, and the bytes of its keys and texts
--- and the sizes of its values count too.
+-- The size of a component: the steps of its path, the bytes of its keys and texts, and the sizes of its values.
 use Rattle.std.specs.Prelude.{ℕ, suc, ◌+◌, List, [], ◌∷◌, length}
 use Rattle.sdb_value.specs.Size.{size}
 use Rattle.sdb_value.specs.Value.{PlainStep, key, index}

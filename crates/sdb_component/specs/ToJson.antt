@@ -1,4 +1,4 @@
--- The JSON value that an operation is sent as. Members stand in the order of their bytes.
+-- The JSON value of an operation, with members in byte order.
 use Rattle.std.specs.Prelude.{ℕ, List, [], ◌∷◌, ◌++◌, codes}
 use Rattle.serde_json.specs.Data as raw
 use Rattle.serde_json.specs.Data.{Data}
@@ -18,7 +18,7 @@ path_items (s ∷ p) = raw.item (step_data s) (path_items p)
 abbrev pub path_data : List PlainStep → Data
 path_data p = raw.array (path_items p)
 
--- the last step of the path, where the act has one
+-- the last step of the path, if the act has one
 abbrev pub last_step : PlainAct → List PlainStep
 last_step (na x) = []
 last_step (si p s) = index p ∷ []
@@ -30,7 +30,7 @@ last_step (oi k v) = key k ∷ []
 last_step (od k x) = key k ∷ []
 last_step (or k x y) = key k ∷ []
 
--- the container's path with the last step behind it
+-- the container's path followed by the last step
 abbrev pub full_path : List PlainStep → PlainAct → List PlainStep
 full_path q a = q ++ last_step a
 

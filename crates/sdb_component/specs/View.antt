@@ -1,4 +1,4 @@
--- What an act and the components of the code stand for.
+-- The views of acts and components.
 use Rattle.std.specs.Arc.{arc_value}
 use Rattle.std.specs.declared.alloc.Global.{Global}
 use Rattle.std.specs.declared.sync.Arc.{Arc}
@@ -12,7 +12,7 @@ use Rattle.sdb_component.specs.declared.component.Act.TheVariants.{Na, Si, Sd, L
 use Rattle.sdb_component.specs.declared.operation.Components.{Components}
 use Rattle.sdb_component.specs.declared.operation.Components.TheVariants.{One, Many}
 
--- the value that copies of an act share
+-- the value that clones of an act share
 abbrev pub arc_json_value : Arc Json Global → Value
 arc_json_value v = value_of (arc_value v)
 

@@ -1,9 +1,9 @@
--- The weight of an operation: the deletion of a text weighs its UTF-16 units, any other component 1.
+-- The weight of an operation: a text deletion weighs its UTF-16 code units, any other component 1.
 use Rattle.std.specs.Prelude.{ℕ, ◌+◌, max, List, [], ◌∷◌}
 use Rattle.sdb_rope.specs.Utf16.{units}
 use Rattle.sdb_component.specs.Plain.{PlainAct, sd, PlainComponent}
 
--- a text that is deleted isn't empty, so it has a unit at least
+-- a deleted text isn't empty, so it has at least one code unit
 abbrev pub act_weight : PlainAct → ℕ
 act_weight (sd p d) = max 1 (units d)
 act_weight _ = 1

@@ -1,11 +1,11 @@
--- A component's members as they are written: those before its path, and those behind it.
+-- A component's members as written: those before its path, and those after it.
 use Rattle.std.specs.Prelude.{codes}
 use Rattle.serde_json.specs.Data as raw
 use Rattle.serde_json.specs.Find.{of_integer}
 use Rattle.sdb_value.specs.FromJson.{data_of_value}
 use Rattle.sdb_component.specs.Plain.{PlainAct, na, si, sd, li, ld, lr, oi, od, or}
 
--- the numbers and values, whose names stand before `p`
+-- the numbers and values, whose names precede `p`
 abbrev pub members_before_path : PlainAct → raw.Members → raw.Members
 members_before_path (na x) ms = raw.member (codes "na") (raw.number (of_integer x)) ms
 members_before_path (si i s) ms = ms
@@ -17,7 +17,7 @@ members_before_path (oi k v) ms = raw.member (codes "oi") (data_of_value v) ms
 members_before_path (od k x) ms = raw.member (codes "od") (data_of_value x) ms
 members_before_path (or k x y) ms = raw.member (codes "od") (data_of_value x) (raw.member (codes "oi") (data_of_value y) ms)
 
--- the texts, whose names stand behind it
+-- the texts, whose names follow `p`
 abbrev pub members_after_path : PlainAct → raw.Members
 members_after_path (na x) = raw.no_members
 members_after_path (si i s) = raw.member (codes "si") (raw.string s) raw.no_members

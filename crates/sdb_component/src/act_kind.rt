@@ -1,11 +1,12 @@
-//! The shapes of components as sent.
+//! The shapes of components in JSON.
 ghost use Rattle.std.specs.Prelude.{◌≡◌};
 ghost use Rattle.sdb_component.specs.FromJson.{has_unsupported_field, kind_of_fields, act_kind_of};
 
 use crate::fields::has_field;
 use sdb_json::JsonData;
 
-/// A shape, told by the members that are present. `Lr` has `ld` and `li`, `Or` has `od` and `oi`.
+/// A shape, determined by the members that are present. `Lr` has `ld` and `li`, `Or` has `od` and
+/// `oi`.
 #[derive(Clone, Copy, Drop)]
 pub(crate) enum ActKind {
     Na,
@@ -35,7 +36,7 @@ pub(crate) fn act_kind_of<D: JsonData>(value: &D) -> Option<ActKind>
     kind_of_fields(na, si, sd, li, ld, oi, od)
 }
 
-// A list move, and an operation of a subtype.
+// Returns whether it is a list move or a subtype operation.
 fn has_unsupported_field<D: JsonData>(value: &D) -> bool
     ensures { result ≡ has_unsupported_field (D.json value.now) }
 {

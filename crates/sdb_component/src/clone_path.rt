@@ -1,11 +1,11 @@
-//! Copies of paths.
+//! Clones of paths.
 ghost use Rattle.std.specs.Prelude.{◌≡◌, IfOk};
 ghost use Rattle.sdb_value.specs.View.{plain_path, plain_step};
 
 use sdb_value::Step;
 use std::alloc::{AllocError, Global};
 
-// A copy of a path, its keys copied too.
+// Clones a path with its keys.
 pub(crate) fn clone_path(alloc: Global, path: &[Step]) -> Result<Vec<Step>, AllocError>
     ensures { IfOk result (λ p. plain_path p.items ≡ plain_path path.now) }
 {

@@ -13,11 +13,11 @@ use std::alloc::AllocError;
 use std::marker::Model;
 use std::sync::Arc;
 
-/// What a component does at the place that its path leads to. With it stands the last step of the
-/// path as sent: an offset of UTF-16 units, an index, or a key. `Na` has none. Copies of an act share its values.
+/// The act of a component at its container's path. Each but `Na` has the last step of the JSON
+/// path: an offset in UTF-16 code units, an index, or a key. Clones share its values.
 #[derive(Drop)]
 pub enum Act {
-    /// Adds to the number there.
+    /// Adds to the number.
     Na(Whole),
     /// Inserts into the text at the offset.
     Si(u64, NonEmptyText),
@@ -27,19 +27,22 @@ pub enum Act {
     Li(u64, Arc<Json>),
     /// Deletes the item at the index.
     Ld(u64, Arc<Json>),
-    /// Replaces the item at the index: the one removed, the one put.
+    /// Replaces the item at the index: the old value, then the new one.
     Lr(u64, Arc<Json>, Arc<Json>),
-    /// Gives the key a value.
+    /// Sets the key.
     Oi(String, Arc<Json>),
     /// Deletes the key.
     Od(String, Arc<Json>),
-    /// Replaces the value of the key: the one removed, the one put.
+    /// Replaces the value of the key: the old value, then the new one.
     Or(String, Arc<Json>, Arc<Json>),
 }
 
 impl Act {
-    /// A copy, which shares the values. Its texts are copied. Fails only where an allocation does, or where there
-    /// are 2^63 copies of a value already.
+    /// Clones the act. Values are shared, texts are copied.
+    ///
+    /// # Errors
+    ///
+    /// [`AllocError`] if an allocation fails or a value has 2^63 clones already.
     pub fn try_clone(&self) -> Result<Act, AllocError>
         ensures { IfOk result (λ a. plain_act a ≡ plain_act self.now) }
     {
@@ -61,13 +64,14 @@ impl Act {
     }
 }
 
-/// A change of one place.
+/// A change at one path.
 pub struct Component {
     path: Path,
     act: Act,
 }
 
-// Written out: so whoever lets a component go calls this, and no proof opens each form of its act there.
+// Written by hand: a derived `Drop` would be unfolded over all acts in each proof that drops a
+// component.
 impl Drop for Component {
     fn drop(self) {
         let Component { act, path } = self;
@@ -90,35 +94,40 @@ impl Model for Component {
 }
 
 impl Component {
-    /// The component that does the act at the container's path.
+    /// Creates a component from the container's path and an act.
     pub fn new(path: Path, act: Act) -> Component
         ensures { result ≡ record { path = path; act = plain_act act } }
     {
         Self { path, act }
     }
 
-    /// The container's path: the path as sent for `Na`, and else that path without its last step.
+    /// Returns the container's path: the JSON path without its last step, or the whole path for
+    /// `Na`.
     pub fn path(&self) -> &[Step]
         ensures { plain_path result.now ≡ self.now.path }
     {
         self.path.steps()
     }
 
-    /// The container's path, shared. It takes no memory; it fails only where there are 2^63 copies already.
+    /// Clones the container's path by reference. It doesn't allocate.
+    ///
+    /// # Errors
+    ///
+    /// [`AllocError`] if there are 2^63 clones already.
     pub fn try_clone_path(&self) -> Result<Path, AllocError>
         ensures { IfOk result (λ p. p ≡ self.now.path) }
     {
         self.path.try_clone()
     }
 
-    /// What is done there.
+    /// Returns the act.
     pub fn act(&self) -> &Act
         ensures { plain_act result.now ≡ self.now.act }
     {
         &self.act
     }
 
-    /// The container's path and what is done there, given up.
+    /// Returns the container's path and the act.
     pub fn into_parts(self) -> (Path, Act)
         ensures path { result.0 ≡ self.path }
         ensures act { plain_act result.1 ≡ self.act }
@@ -127,8 +136,11 @@ impl Component {
         (path, act)
     }
 
-    /// The component, which shares this path where it is its own. Fails only where there are 2^63 copies of the path
-    /// already.
+    /// Returns the component, with this path shared if it equals its own.
+    ///
+    /// # Errors
+    ///
+    /// [`AllocError`] if the path has 2^63 clones already.
     pub fn with_interned_path(self, path: &Path) -> Result<Component, AllocError>
         ensures { IfOk result (λ c. c ≡ self) }
     {
@@ -139,8 +151,11 @@ impl Component {
         Ok(self)
     }
 
-    /// A copy, which shares the path and the values of the act. Its texts are copied. Fails only where an
-    /// allocation does, or where there are 2^63 copies of the path or of a value already.
+    /// Clones the component. Path and values are shared, texts are copied.
+    ///
+    /// # Errors
+    ///
+    /// [`AllocError`] if an allocation fails, or the path or a value has 2^63 clones already.
     pub fn try_clone(&self) -> Result<Component, AllocError>
         ensures { IfOk result (λ c. c ≡ self.now) }
     {
@@ -149,7 +164,7 @@ impl Component {
         Ok(Component::new(path, act))
     }
 
-    /// The UTF-16 units of the text that is deleted, or 1 where the component is no `Act::Sd`.
+    /// Returns the UTF-16 code units of the deleted text, or 1 for any other act.
     pub fn weight(&self) -> u64
         ensures { result ≡ component_weight self.now }
     {
@@ -159,9 +174,8 @@ impl Component {
         }
     }
 
-    /// How much it holds, up to the limit: the steps of its path, the bytes of its keys and texts, and
-    /// the sizes of its values ([`Json::size`]). Where that is more, it is the limit, and the rest isn't
-    /// looked at.
+    /// Returns the size, at most the limit: the steps of the path, the bytes of keys and texts, and
+    /// the sizes of values ([`Json::size`]). It stops at the limit.
     pub fn size(&self, limit: u64) -> u64
         ensures { result ≡ min limit (component_size self.now) }
     {

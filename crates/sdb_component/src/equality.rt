@@ -1,11 +1,11 @@
-//! Whether components are the same.
+//! Equality of components.
 ghost use Rattle.std.specs.Prelude.{◌≡◌, IsTrue, IsFalse};
 ghost use Rattle.sdb_component.specs.View.{plain_act};
 
 use crate::component::{Act, Component};
 use sdb_value::{paths_equal, values_equal};
 
-/// Whether the components are the same, one by one. It takes no memory.
+/// Returns whether the lists of components are equal. It doesn't allocate.
 pub fn components_equal(a: &[Component], b: &[Component]) -> bool
     ensures on_true { IsTrue result → a.now ≡ b.now }
     ensures on_false { IsFalse result → a.now ≡ b.now → ⊥ }

@@ -1,4 +1,4 @@
-//! Members of a component as sent.
+//! Members of a component in JSON.
 ghost use Rattle.std.specs.Arc.{arc_value};
 ghost use Rattle.std.specs.Prelude.{◌≡◌, Some, IfOk, IfErr, string_bytes};
 ghost use Rattle.sdb_component.specs.FromJson.{FaultMeansNone, has_member, text_member, value_member, whole_member};
@@ -36,7 +36,7 @@ pub(crate) fn text_field<D: JsonData>(
     }
 }
 
-// A value that is taken out.
+// Parses a removed value.
 pub(crate) fn value_field<D: JsonData>(
     alloc: Global,
     value: &D,
@@ -49,7 +49,7 @@ pub(crate) fn value_field<D: JsonData>(
     Ok(into_arc(alloc, json)?)
 }
 
-// A value that is put in: all of it is shared, so that a document that shares has it by a pointer.
+// Parses an inserted value and freezes it, so that a shared document inserts it as a pointer.
 pub(crate) fn frozen_value_field<D: JsonData>(
     alloc: Global,
     value: &D,

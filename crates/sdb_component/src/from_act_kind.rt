@@ -1,4 +1,4 @@
-//! Components of each shape.
+//! The parser of each shape.
 ghost use Rattle.std.specs.Prelude.{◌≡◌, Some, IfOk, IfErr, option_to_list};
 ghost use Rattle.sdb_component.specs.FromJson.{FaultMeansNone, components_of_kind};
 ghost use Rattle.sdb_value.specs.View.{plain_path};
@@ -14,7 +14,7 @@ use sdb_json::JsonData;
 use sdb_value::Step;
 use std::alloc::Global;
 
-// What a component of the shape does at the path, or nothing where its text is empty.
+// Parses a component of the shape, or returns `None` if its text is empty.
 pub(crate) fn component_of_kind<D: JsonData>(
     alloc: Global,
     shape: ActKind,

@@ -1,4 +1,4 @@
-//! Reads operations.
+//! The parser of operations.
 ghost use Rattle.std.specs.Prelude.{◌≡◌, ◌∷◌, [], map, IfOk, IfErr, Some, option_to_list};
 ghost use Rattle.serde_json.specs.View.{items_of};
 ghost use Rattle.sdb_component.specs.FromJson.{component_of, components_of, op_of, FaultMeansNone};
@@ -13,13 +13,13 @@ use sdb_json::JsonData;
 use std::alloc::{AllocError, Global};
 use thiserror::Error;
 
-/// Why a value is no operation.
+/// The reason why a JSON value is no operation.
 #[derive(Debug, Drop, Error)]
 pub enum OpFault {
-    /// A part of it is of none of the nine shapes, or passes a limit.
+    /// A component has none of the nine shapes, or exceeds a limit.
     #[error("operation is badly formed")]
     BadlyFormed,
-    /// An allocation failed. Nothing is said of the value.
+    /// An allocation failed.
     #[error("out of memory")]
     OutOfMemory,
 }
@@ -34,16 +34,20 @@ impl From<AllocError> for OpFault {
     }
 }
 
-/// The operation that a JSON value is: an array of at most 256 components, each an object with a
-/// path `p` of at most 50 steps and the members of exactly one of the nine shapes. A component that
-/// has `lm`, `t` or `o` is refused, and any other member is left aside.
+/// Parses the operation of a JSON value: an array of at most 256 components. Each is an object with
+/// a path `p` of at most 50 steps and the members of exactly one of the nine shapes. Other members
+/// are ignored, except `lm`, `t` and `o`, which are refused.
 ///
-/// A step is a text or a whole number from 0 to 9007199254740991. The number of `na` is whole, and
-/// at most 9007199254740991 in size. A value nests at most 50 deep, and its numbers are such numbers.
-/// An insert or a delete of an empty text is checked like any other and counts as a component, and
-/// is then dropped.
+/// - A step is a text or an integer from 0 to 9007199254740991.
+/// - The number of `na` is an integer of at most 9007199254740991 in size, as is each number in a
+///   value.
+/// - A value has at most depth 50.
+/// - An insert or delete of an empty text is checked, counts as a component, and is then dropped.
 ///
-/// `BadlyFormed` where the value is no such array, and `OutOfMemory` where an allocation failed.
+/// # Errors
+///
+/// [`OpFault::BadlyFormed`] if the value is no such array, [`OpFault::OutOfMemory`] if an
+/// allocation fails.
 #[tactic(auto, using(crate::proofs::SizeLemmas::view_size))]
 pub fn read_op<D: JsonData>(alloc: Global, value: &D) -> Result<Op, OpFault>
     ensures ok { IfOk result (λ o. op_of (D.json value.now) ≡ Some o) }
@@ -61,7 +65,7 @@ pub fn read_op<D: JsonData>(alloc: Global, value: &D) -> Result<Op, OpFault>
     }
 }
 
-// The operation of one component, or of none where it is dropped.
+// Returns the operation of one component, or the empty one if it is dropped.
 fn single_component<D: JsonData>(alloc: Global, item: &D) -> Result<Op, OpFault>
     ensures ok { IfOk result (λ o. components_of (items_of (D.json item.now ∷ [])) ≡ Some o) }
     ensures err { IfErr result (λ f. FaultMeansNone (components_of (items_of (D.json item.now ∷ []))) f) }
@@ -84,7 +88,7 @@ fn components_of<D: JsonData>(alloc: Global, items: &[D]) -> Result<Vec<Componen
     Ok(components)
 }
 
-// The component that a value is, or none where it is dropped.
+// Parses a component, or returns `None` if it is dropped.
 fn component_of<D: JsonData>(alloc: Global, value: &D) -> Result<Option<Component>, OpFault>
     ensures ok { IfOk result (λ c. component_of (D.json value.now) ≡ Some (option_to_list c)) }
     ensures err { IfErr result (λ f. FaultMeansNone (component_of (D.json value.now)) f) }

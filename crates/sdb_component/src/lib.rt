@@ -1,4 +1,4 @@
-//! Operations: lists of components, each a change of one place (json0's README, "Summary of
+//! Operations of json0: lists of components, each a change at one path (json0's README, "Summary of
 //! operations").
 #![tactic(auto)]
 

@@ -4,7 +4,7 @@ ghost use Rattle.std.specs.Prelude.{◌≡◌, ◌<◌, length, IfOk, IfNone, If
 use std::alloc::AllocError;
 use std::marker::Model;
 
-/// A text that isn't empty, as `si` and `sd` have it.
+/// The text of `si` or `sd`, which isn't empty.
 #[derive(Drop)]
 pub struct NonEmptyText {
     text: String,
@@ -21,7 +21,7 @@ impl Model for NonEmptyText {
 }
 
 impl NonEmptyText {
-    /// The text as a piece, or `None` where it is empty.
+    /// Creates the text, or returns `None` if it is empty.
     pub fn new(text: String) -> Option<NonEmptyText>
         ensures some { IfSome result (λ p. p ≡ string_bytes text) }
         ensures none { IfNone result (string_bytes text ≡ []) }
@@ -32,7 +32,7 @@ impl NonEmptyText {
         Some(NonEmptyText { text })
     }
 
-    /// The text.
+    /// Returns the text.
     pub fn as_str(&self) -> &str
         ensures value { result.now ≡ self.now }
         ensures nonempty { 0 < length result.now }
@@ -40,7 +40,11 @@ impl NonEmptyText {
         self.text.as_str()
     }
 
-    /// A copy. Fails only where an allocation does.
+    /// Clones the text.
+    ///
+    /// # Errors
+    ///
+    /// [`AllocError`] if an allocation fails.
     pub fn try_clone(&self) -> Result<NonEmptyText, AllocError>
         ensures { IfOk result (λ p. p ≡ self.now) }
     {
@@ -48,7 +52,7 @@ impl NonEmptyText {
         Ok(NonEmptyText { text })
     }
 
-    /// The text, given up.
+    /// Returns the owned text.
     pub fn into_string(self) -> String
         ensures value { string_bytes result ≡ self }
         ensures nonempty { 0 < length (string_bytes result) }

@@ -1,10 +1,10 @@
-//! Weights.
+//! Weights of operations.
 ghost use Rattle.std.specs.Prelude.{◌≡◌};
 ghost use Rattle.sdb_component.specs.Weight.{weight};
 
 use crate::operation::Op;
 
-/// The sum of the components' weights. It allocates nothing.
+/// Returns the sum of the components' weights. It doesn't allocate.
 pub fn weight(op: &Op) -> u128
     ensures { result ≡ weight op.now }
 {

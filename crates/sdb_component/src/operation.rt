@@ -7,14 +7,14 @@ use std::alloc::{AllocError, Global};
 use std::marker::Model;
 use std::slice;
 
-// The components of an operation. One alone takes no allocation.
+// The components of an operation. A single one doesn't allocate.
 #[derive(Drop)]
 pub(crate) enum Components {
     One(Component),
     Many(Vec<Component>),
 }
 
-/// An operation: components that are applied one after the other.
+/// An operation: components that are applied in order.
 #[derive(Drop)]
 pub struct Op {
     components: Components,
@@ -34,7 +34,7 @@ impl Model for Op {
 }
 
 impl Op {
-    /// The operation of these components.
+    /// Creates an operation.
     pub fn new(components: Vec<Component>) -> Op
         ensures { result ≡ components.items }
     {
@@ -43,7 +43,7 @@ impl Op {
         }
     }
 
-    /// The operation of one component. It takes no memory.
+    /// Creates an operation of one component. It doesn't allocate.
     pub fn one(component: Component) -> Op
         ensures { result ≡ component ∷ [] }
     {
@@ -52,7 +52,7 @@ impl Op {
         }
     }
 
-    /// The components, in order.
+    /// Returns the components in order.
     pub fn components(&self) -> &[Component]
         ensures { result.now ≡ self.now }
     {
@@ -62,7 +62,11 @@ impl Op {
         }
     }
 
-    /// The components, given up. Fails only where an allocation does.
+    /// Returns the owned components.
+    ///
+    /// # Errors
+    ///
+    /// [`AllocError`] if an allocation fails.
     pub fn into_components(self, alloc: Global) -> Result<Vec<Component>, AllocError>
         ensures { IfOk result (λ components. components.items ≡ self) }
     {
@@ -76,8 +80,11 @@ impl Op {
         }
     }
 
-    /// The component of an operation that [`Op::one`] made, given up. Another operation is handed back, one of one
-    /// component too.
+    /// Returns the component of an operation made by [`Op::one`].
+    ///
+    /// # Errors
+    ///
+    /// The operation, if it was made otherwise, even with one component.
     pub fn into_one(self) -> Result<Component, Op>
         ensures ok { IfOk result (λ component. self ≡ component ∷ []) }
         ensures err { IfErr result (λ op. op ≡ self) }
@@ -88,8 +95,12 @@ impl Op {
         }
     }
 
-    /// The operation. One that [`Op::one`] made shares this path where it is its own
+    /// Returns the operation. If it was made by [`Op::one`] with an equal path, this path is shared
     /// ([`Component::with_interned_path`]).
+    ///
+    /// # Errors
+    ///
+    /// [`AllocError`] if the path has 2^63 clones already.
     pub fn with_interned_path(self, path: &Path) -> Result<Op, AllocError>
         ensures { IfOk result (λ o. o ≡ self) }
     {
@@ -99,7 +110,11 @@ impl Op {
         }
     }
 
-    /// A copy, its components copied as [`Component::try_clone`] does.
+    /// Clones the operation with [`Component::try_clone`].
+    ///
+    /// # Errors
+    ///
+    /// [`AllocError`] if an allocation fails, or a path or value has 2^63 clones already.
     pub fn try_clone(&self, alloc: Global) -> Result<Op, AllocError>
         ensures { IfOk result (λ o. o ≡ self.now) }
     {

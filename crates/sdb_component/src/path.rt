@@ -1,4 +1,4 @@
-//! Paths that components share.
+//! Shared paths.
 ghost use Rattle.std.specs.Arc.{arc_value};
 ghost use Rattle.std.specs.Prelude.{◌≡◌, IfOk, min};
 ghost use Rattle.sdb_value.specs.View.{plain_path};
@@ -11,7 +11,7 @@ use std::alloc::{AllocError, Global};
 use std::marker::Model;
 use std::sync::Arc;
 
-/// The steps that lead from a document to the container of a component. Copies share them.
+/// The steps from a document to a component's container. Clones share them.
 #[derive(Drop)]
 pub struct Path {
     steps: Arc<Vec<Step>>,
@@ -32,7 +32,11 @@ impl Model for Path {
 }
 
 impl Path {
-    /// The path of these steps. Fails only where an allocation does.
+    /// Creates a path.
+    ///
+    /// # Errors
+    ///
+    /// [`AllocError`] if an allocation fails.
     pub fn new(alloc: Global, steps: Vec<Step>) -> Result<Path, AllocError>
         ensures { IfOk result (λ p. p ≡ plain_path steps.items) }
     {
@@ -40,22 +44,25 @@ impl Path {
         Ok(Path { steps })
     }
 
-    /// The steps, in order.
+    /// Returns the steps in order.
     pub fn steps(&self) -> &[Step]
         ensures { plain_path result.now ≡ self.now }
     {
         self.steps.as_slice()
     }
 
-    /// How much it holds, up to the limit: its steps and the bytes of its keys. Where that is more, it is the limit,
-    /// and the rest isn't looked at.
+    /// Returns the size, at most the limit: the steps and the bytes of keys. It stops at the limit.
     pub fn size(&self, limit: u64) -> u64
         ensures { result ≡ min limit (path_size self.now) }
     {
         size_of_path(self.steps(), limit)
     }
 
-    /// The steps, given up. They are copied where other paths share them. Fails only where an allocation does.
+    /// Returns the owned steps, cloned if other paths share them.
+    ///
+    /// # Errors
+    ///
+    /// [`AllocError`] if an allocation fails.
     pub fn into_steps(self, alloc: Global) -> Result<Vec<Step>, AllocError>
         ensures { IfOk result (λ steps. plain_path steps.items ≡ self) }
     {
@@ -65,7 +72,11 @@ impl Path {
         }
     }
 
-    /// A copy, which shares the steps. It takes no memory; it fails only where there are 2^63 copies already.
+    /// Clones the path by reference. It doesn't allocate.
+    ///
+    /// # Errors
+    ///
+    /// [`AllocError`] if there are 2^63 clones already.
     pub fn try_clone(&self) -> Result<Path, AllocError>
         ensures { IfOk result (λ p. p ≡ self.now) }
     {

@@ -1,4 +1,4 @@
-//! Paths as sent.
+//! Paths in JSON.
 ghost use Rattle.std.specs.Prelude.{◌≡◌, ◌++◌, ◌∷◌, [], map, Some, IfOk, IfErr, OnOk, string_bytes};
 ghost use Rattle.serde_json.specs.View.{items_of};
 ghost use Rattle.sdb_component.specs.FromJson.{FaultMeansNone, split_last_index, split_last_key, path_of, path_step_of, path_steps_of};
@@ -57,7 +57,7 @@ pub(crate) fn path_of<D: JsonData>(alloc: Global, value: &D) -> Result<Vec<Step>
     path_steps_of(alloc, items)
 }
 
-// The path without its last step, and that step, where it is an index.
+// Splits off the last step, which must be an index.
 #[tactic(auto, using(crate::proofs::LastStep::index_at_end, crate::proofs::LastStep::no_index_at_end))]
 pub(crate) fn split_last_index(alloc: Global, mut path: Vec<Step>) -> Result<(Path, u64), OpFault>
     ensures ok { IfOk result (λ l. split_last_index (plain_path path.items) ≡ Some (l.0, l.1)) }
@@ -72,7 +72,7 @@ pub(crate) fn split_last_index(alloc: Global, mut path: Vec<Step>) -> Result<(Pa
     }
 }
 
-// The path without its last step, and that step, where it is a key.
+// Splits off the last step, which must be a key.
 #[tactic(auto, using(crate::proofs::LastStep::key_at_end, crate::proofs::LastStep::no_key_at_end))]
 pub(crate) fn split_last_key(alloc: Global, mut path: Vec<Step>) -> Result<(Path, String), OpFault>
     ensures ok { IfOk result (λ l. split_last_key (plain_path path.items) ≡ Some (l.0, string_bytes l.1)) }

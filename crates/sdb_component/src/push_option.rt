@@ -1,4 +1,4 @@
-//! Lists that grow by at most one.
+//! Lists that grow by at most one item.
 ghost use Rattle.std.specs.Prelude.{◌≡◌, ◌++◌, OnOk, option_to_list};
 
 use std::alloc::AllocError;

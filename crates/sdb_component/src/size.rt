@@ -1,4 +1,4 @@
-//! How much components hold, up to a limit.
+//! Sizes of components, up to a limit.
 ghost use Rattle.std.specs.Prelude.{◌≡◌, ◌+◌, ◌≤◌, min, length};
 ghost use Rattle.sdb_value.specs.Size.{size};
 ghost use Rattle.sdb_value.specs.View.{plain_path, plain_step, value_of};

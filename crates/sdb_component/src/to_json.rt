@@ -16,9 +16,12 @@ use serde_json::{Map, Value};
 use std::alloc::{AllocError, Global};
 use std::collections::BTreeMap;
 
-/// The JSON value that the operation is sent as: an array of its components, each an object whose
-/// members stand in the order of their keys. A path is written whole, with its last step. Fails only
-/// where an allocation does.
+/// Returns the JSON value of an operation: an array of components, each an object with sorted
+/// members. A path is written with its last step.
+///
+/// # Errors
+///
+/// [`AllocError`] if an allocation fails.
 pub fn op_value(alloc: Global, op: &Op) -> Result<Value, AllocError>
     ensures { IfOk result (λ v. data_view v ≡ op_data op.now) }
 {
@@ -44,7 +47,7 @@ fn component_value(alloc: Global, component: &Component) -> Result<Value, AllocE
     Ok(Value::Object(members))
 }
 
-// The amount, the text or the values of an act, put to its path.
+// Adds the amount, the text or the values of an act to the object with its path.
 fn push_act_fields(
     alloc: Global,
     members: &mut Map<String, Value>,

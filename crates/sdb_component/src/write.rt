@@ -1,4 +1,4 @@
-//! Operations as text, written token by token.
+//! The writer of operations.
 ghost use Rattle.std.specs.Arc.{arc_value};
 ghost use Rattle.std.specs.Prelude.{◌≡◌, ◌∷◌, [], ◌++◌, OnOk, OnErr};
 ghost use Rattle.json.specs.Token.{key};
@@ -19,8 +19,11 @@ use sdb_value::{Json, Step, write_value};
 use std::alloc::AllocError;
 use std::sync::Arc;
 
-/// Writes an operation behind what is written, compact, as [`op_value`](crate::op_value) spells it.
-/// Fails only where memory is wanting, and a part of it may then be written.
+/// Writes an operation as compact JSON, as [`op_value`](crate::op_value) has it.
+///
+/// # Errors
+///
+/// [`AllocError`] if an allocation fails. A prefix of the tokens may then be written.
 pub fn write_op(op: &Op, out: &mut Writer) -> Result<(), AllocError>
     ensures tokens { OnOk result (out.new.tokens ≡ out.old.tokens ++ data_tokens (op_data op.now)) }
     ensures before_unchanged { out.new.before ≡ out.old.before }
@@ -47,7 +50,7 @@ fn write_component(component: &Component, out: &mut Writer) -> Result<(), AllocE
     out.end_object()
 }
 
-// The amount, or the values removed and put.
+// Writes the amount, or the removed and inserted values.
 fn write_values(act: &Act, out: &mut Writer) -> Result<(), AllocError>
     ensures tokens { OnOk result ((rest : Members) → out.new.tokens ++ object_tail_tokens rest
         ≡ out.old.tokens ++ object_tail_tokens (members_before_path (plain_act act.now) rest)) }
@@ -87,7 +90,7 @@ fn write_member(name: &str, value: &Arc<Json>, out: &mut Writer) -> Result<(), A
     write_value(value, out)
 }
 
-// The text put or taken.
+// Writes the inserted or deleted text.
 fn write_text(act: &Act, out: &mut Writer) -> Result<(), AllocError>
     ensures tokens { OnOk result (out.new.tokens ++ object_tail_tokens no_members
         ≡ out.old.tokens ++ object_tail_tokens (members_after_path (plain_act act.now))) }
@@ -135,7 +138,7 @@ fn write_step(step: &Step, out: &mut Writer) -> Result<(), AllocError>
     }
 }
 
-// The last step of the path, where the act has one.
+// Writes the last step of the path, if the act has one.
 fn write_last(act: &Act, out: &mut Writer) -> Result<(), AllocError>
     ensures tokens { OnOk result (out.new.tokens ++ array_tail_tokens no_items
         ≡ out.old.tokens ++ array_tail_tokens (path_items (last_step (plain_act act.now)))) }

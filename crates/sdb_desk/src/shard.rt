@@ -99,7 +99,7 @@ impl Shard {
             ≡ documents_of self.now (plain_key key.now) }
     {
         match self.slots.get(key) {
-            Some(topic) => topic.document(),
+            Some(slot) => slot.document(),
             None => None,
         }
     }
@@ -127,8 +127,8 @@ impl Shard {
         ensures { IfOk result (λ keys. IsKeyList (logs_of self.now) (map plain_key keys.items)) }
     {
         let mut keys = Vec::with_capacity(self.alloc, self.slots.len())?;
-        for (key, topic) in self.slots.iter() {
-            if topic.has_document() {
+        for (key, slot) in self.slots.iter() {
+            if slot.has_document() {
                 keys.push(key.try_clone()?)?;
             }
         }
@@ -141,8 +141,8 @@ impl Shard {
         ensures { IsOpenCount (queues_of self.now) result }
     {
         let mut count: u64 = 0;
-        for topic in self.slots.values() {
-            count = count.saturating_add(topic.queues().count());
+        for slot in self.slots.values() {
+            count = count.saturating_add(slot.queues().count());
         }
         count
     }
@@ -435,7 +435,7 @@ impl Shard {
         let submission = submission.try_clone()?;
         let content = clone_content(content)?;
         match self.slots.get_mut(key) {
-            Some(topic) => topic.append(self.alloc, submission, now, content, made),
+            Some(slot) => slot.append(self.alloc, submission, now, content, made),
             None => self.append_first(key, submission, now, content, made),
         }
     }
@@ -460,18 +460,18 @@ impl Shard {
         ensures rings { RingsFollowLogs (logs_of self.old) (logs_of self.new) (ringed_queues_of self.old)
             (ringed_queues_of self.new) }
     {
-        let mut topic = DocumentSlot::new(self.alloc);
-        topic.append(self.alloc, submission, now, content, made)?;
-        self.insert_slot(key, topic)?;
+        let mut slot = DocumentSlot::new(self.alloc);
+        slot.append(self.alloc, submission, now, content, made)?;
+        self.insert_slot(key, slot)?;
         Ok(())
     }
 
     // Inserts the slot of a key.
-    fn insert_slot(&mut self, key: &Key, topic: DocumentSlot) -> Result<(), AllocError>
-        ensures ok { OnOk result (slots_of self.new ≡ with_value_at_key (slots_of self.old) (plain_key key.now) topic) }
+    fn insert_slot(&mut self, key: &Key, slot: DocumentSlot) -> Result<(), AllocError>
+        ensures ok { OnOk result (slots_of self.new ≡ with_value_at_key (slots_of self.old) (plain_key key.now) slot) }
         ensures err { OnErr result (slots_of self.new ≡ slots_of self.old) }
     {
-        drop(self.slots.insert(key.try_clone()?, topic)?);
+        drop(self.slots.insert(key.try_clone()?, slot)?);
         Ok(())
     }
 
@@ -506,7 +506,7 @@ impl Shard {
         ensures rings_unchanged { ringed_queues_of self.new ≡ ringed_queues_of self.old }
     {
         match self.slots.get_mut(key) {
-            Some(topic) => topic.freeze(self.alloc),
+            Some(slot) => slot.freeze(self.alloc),
             None => Ok(None),
         }
     }
@@ -642,7 +642,7 @@ impl Shard {
         ensures rings_unchanged { ringed_queues_of self.new ≡ ringed_queues_of self.old }
     {
         match self.slots.get_mut(key) {
-            Some(topic) => topic.snapshot_at(self.alloc, version),
+            Some(slot) => slot.snapshot_at(self.alloc, version),
             None => Ok(None),
         }
     }
@@ -696,7 +696,7 @@ impl Shard {
         ensures rings_unchanged { ringed_queues_of self.new ≡ ringed_queues_of self.old }
     {
         match self.slots.get_mut(key) {
-            Some(topic) => topic.replay_base(self.alloc, version),
+            Some(slot) => slot.replay_base(self.alloc, version),
             None => Ok(empty_replay_base(self.alloc)),
         }
     }
@@ -716,8 +716,8 @@ impl Shard {
         ensures queues_unchanged { queues_of self.new ≡ queues_of self.old }
         ensures rings_unchanged { ringed_queues_of self.new ≡ ringed_queues_of self.old }
     {
-        if let Some(topic) = self.slots.get_mut(key) {
-            topic.offer(self.alloc, version, snapshot);
+        if let Some(slot) = self.slots.get_mut(key) {
+            slot.offer(self.alloc, version, snapshot);
         }
     }
 
@@ -728,8 +728,8 @@ impl Shard {
         ensures queues { queues_of self.new ≡ queues_of self.old }
         ensures rings_unchanged { ringed_queues_of self.new ≡ ringed_queues_of self.old }
     {
-        if let Some(topic) = self.slots.get_mut(key) {
-            topic.forget();
+        if let Some(slot) = self.slots.get_mut(key) {
+            slot.forget();
         }
     }
 
@@ -811,7 +811,7 @@ impl Shard {
         ensures { result ≡ nat_eq (queues_of self.now (plain_key key.now)).next 18446744073709551615 }
     {
         match self.slots.get(key) {
-            Some(topic) => topic.queues().next_id() == u64::MAX,
+            Some(slot) => slot.queues().next_id() == u64::MAX,
             None => false,
         }
     }
@@ -822,7 +822,7 @@ impl Shard {
         ensures { result ≡ option_map length (rings_of self.now (plain_key key.now) id) }
     {
         match self.slots.get(key) {
-            Some(topic) => topic.queues().ringed(id),
+            Some(slot) => slot.queues().ringed(id),
             None => None,
         }
     }
@@ -847,12 +847,12 @@ impl Shard {
             (append_ringed_queue id by start (ringed_queues_of self.old (plain_key key.now)))) }
         ensures rings_left { OnErr result (ringed_queues_of self.new ≡ ringed_queues_of self.old) }
     {
-        if let Some(topic) = self.slots.get_mut(key) {
-            return topic.open(by, start);
+        if let Some(slot) = self.slots.get_mut(key) {
+            return slot.open(by, start);
         }
-        let mut topic = DocumentSlot::new(self.alloc);
-        let id = topic.open(by, start)?;
-        self.insert_slot(key, topic)?;
+        let mut slot = DocumentSlot::new(self.alloc);
+        let id = slot.open(by, start)?;
+        self.insert_slot(key, slot)?;
         Ok(id)
     }
 
@@ -883,7 +883,7 @@ impl Shard {
         ensures rings_left { OnErr result (ringed_queues_of self.new ≡ ringed_queues_of self.old) }
     {
         match self.slots.get_mut(key) {
-            Some(topic) => topic.take(self.alloc, by, id, max),
+            Some(slot) => slot.take(self.alloc, by, id, max),
             None => Ok(None),
         }
     }
@@ -900,8 +900,8 @@ impl Shard {
         ensures rings { ringed_queues_of self.new ≡ with_ringed_queues (ringed_queues_of self.old) (plain_key key.now)
             (remove_ringed_queue_by by id (ringed_queues_of self.old (plain_key key.now))) }
     {
-        if let Some(topic) = self.slots.get_mut(key) {
-            topic.close(by, id);
+        if let Some(slot) = self.slots.get_mut(key) {
+            slot.close(by, id);
         }
     }
 }

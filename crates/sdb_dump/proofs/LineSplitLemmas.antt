@@ -19,25 +19,25 @@ use Rattle.sdb_dump.proofs.LimitLemmas.{all_within}
 
 -- ---- the lines concatenated are the text
 
-joined_if : (b : Bool) (x : ℕ) (xs pending : List ℕ) → (x == 10) ≡ b
+joined_if : (b : Bool) (x : ℕ) (xs line_buffer : List ℕ) → (x == 10) ≡ b
     → ((p : List ℕ) → ended_lines (split_lines p xs).ended ++ (split_lines p xs).rest ≡ p ++ xs)
-    → (let c = if b then cons_line pending (split_lines [] xs) else split_lines (pending ++ x ∷ []) xs in ended_lines c.ended ++ c.rest) ≡ pending ++ x ∷ xs
-joined_if true x xs pending e below =
+    → (let c = if b then cons_line line_buffer (split_lines [] xs) else split_lines (line_buffer ++ x ∷ []) xs in ended_lines c.ended ++ c.rest) ≡ line_buffer ++ x ∷ xs
+joined_if true x xs line_buffer e below =
     let f : 10 ≡ x = grind (arith, nat_tests, e) in
-    append_assoc pending (10 ∷ ended_lines (split_lines [] xs).ended) (split_lines [] xs).rest ∙ ap (λ l. pending ++ 10 ∷ l) (below []) ∙ ap (λ y. pending ++ y ∷ xs) f
-joined_if false x xs pending e below = below (pending ++ x ∷ []) ∙ append_assoc pending (x ∷ []) xs
+    append_assoc line_buffer (10 ∷ ended_lines (split_lines [] xs).ended) (split_lines [] xs).rest ∙ ap (λ l. line_buffer ++ 10 ∷ l) (below []) ∙ ap (λ y. line_buffer ++ y ∷ xs) f
+joined_if false x xs line_buffer e below = below (line_buffer ++ x ∷ []) ∙ append_assoc line_buffer (x ∷ []) xs
 
-split_joins_back : (xs pending : List ℕ) → ended_lines (split_lines pending xs).ended ++ (split_lines pending xs).rest ≡ pending ++ xs
-split_joins_back [] pending = sym (append-nil pending)
-split_joins_back (x ∷ xs) pending = joined_if (x == 10) x xs pending refl (split_joins_back xs)
+split_joins_back : (xs line_buffer : List ℕ) → ended_lines (split_lines line_buffer xs).ended ++ (split_lines line_buffer xs).rest ≡ line_buffer ++ xs
+split_joins_back [] line_buffer = sym (append-nil line_buffer)
+split_joins_back (x ∷ xs) line_buffer = joined_if (x == 10) x xs line_buffer refl (split_joins_back xs)
 
 -- ---- the text of lines splits into them
 
-split_of_line : (l rest pending : List ℕ) → HasNoLineFeed l → split_lines pending (l ++ 10 ∷ rest) ≡ cons_line (pending ++ l) (split_lines [] rest)
-split_of_line [] rest pending h = ap (λ p. cons_line p (split_lines [] rest)) (sym (append-nil pending))
-split_of_line (x ∷ l) rest pending h =
-    ap (λ b. if b then cons_line pending (split_lines [] (l ++ 10 ∷ rest)) else split_lines (pending ++ x ∷ []) (l ++ 10 ∷ rest)) (ne_eqb x 10 h.0)
-    ∙ split_of_line l rest (pending ++ x ∷ []) h.1 ∙ ap (λ p. cons_line p (split_lines [] rest)) (append_assoc pending (x ∷ []) l)
+split_of_line : (l rest line_buffer : List ℕ) → HasNoLineFeed l → split_lines line_buffer (l ++ 10 ∷ rest) ≡ cons_line (line_buffer ++ l) (split_lines [] rest)
+split_of_line [] rest line_buffer h = ap (λ p. cons_line p (split_lines [] rest)) (sym (append-nil line_buffer))
+split_of_line (x ∷ l) rest line_buffer h =
+    ap (λ b. if b then cons_line line_buffer (split_lines [] (l ++ 10 ∷ rest)) else split_lines (line_buffer ++ x ∷ []) (l ++ 10 ∷ rest)) (ne_eqb x 10 h.0)
+    ∙ split_of_line l rest (line_buffer ++ x ∷ []) h.1 ∙ ap (λ p. cons_line p (split_lines [] rest)) (append_assoc line_buffer (x ∷ []) l)
 
 abbrev HaveNoLineFeeds : List (List ℕ) → Type 0
 HaveNoLineFeeds [] = ⊤

@@ -55,9 +55,9 @@ ended_more [] ms = refl
 ended_more (l ∷ ls) ms = ap (λ r. l ++ 10 ∷ r) (ended_more ls ms) ∙ sym (append_assoc l (10 ∷ ended_lines ls) (ended_lines ms))
 
 -- the lines of the entries from the i-th on, after this one's line is pending
-pub entry_left : (k : PlainKey) (es : List PlainEntry) (i : ℕ) (e : PlainEntry) (out line pending : List ℕ) → i < length es → e ≡ get_or es i e
-    → line ≡ out ++ entry_line Two (record { key = k; entry = e }) → pending ≡ line ++ 10 ∷ [] → out ++ log_text k (drop i es) ≡ pending ++ log_text k (drop (i + 1) es)
-entry_left k es i e out line pending lt at more end =
+pub entry_left : (k : PlainKey) (es : List PlainEntry) (i : ℕ) (e : PlainEntry) (out line line_buffer : List ℕ) → i < length es → e ≡ get_or es i e
+    → line ≡ out ++ entry_line Two (record { key = k; entry = e }) → line_buffer ≡ line ++ 10 ∷ [] → out ++ log_text k (drop i es) ≡ line_buffer ++ log_text k (drop (i + 1) es)
+entry_left k es i e out line line_buffer lt at more end =
     let text = entry_line Two (record { key = k; entry = e }) in
     let rest = log_text k (drop (i + 1) es) in
     let here : drop i es ≡ e ∷ drop (i + 1) es = drop_more es i e lt ∙ ap (λ y. y ∷ drop (i + 1) es) (sym at) in

@@ -13,12 +13,12 @@ use Rattle.sdb_dump.specs.declared.version.DumpVersion.{DumpVersion}
 
 -- the result for a text, from a stage and the bytes of a pending line
 abbrev pub check_result_from : PlainStage → List ℕ → List ℕ → Result (List PlainLine) ℕ
-check_result_from s pending text = stages_result s (split_lines pending text).ended (split_lines pending text).rest
+check_result_from s line_buffer text = stages_result s (split_lines line_buffer text).ended (split_lines line_buffer text).rest
 
 -- after a part of the text, the rest has the result that the whole text has
 abbrev pub CheckContinues : PlainStage → List ℕ → List ℕ → Checker → List ℕ → Type 0
-CheckContinues s pending piece c held =
-    (t : PlainStage) × CheckerAtStage c t × ((rest : List ℕ) → check_result_from s pending (piece ++ rest) ≡ check_result_from t held rest)
+CheckContinues s line_buffer input c partial =
+    (t : PlainStage) × CheckerAtStage c t × ((rest : List ℕ) → check_result_from s line_buffer (input ++ rest) ≡ check_result_from t partial rest)
 
 -- the text is the dump of the accepted logs
 pub record AcceptsText (c : CheckedDump) (t : List ℕ) : Type 0 where

@@ -13,8 +13,8 @@ cons_line l c = record { ended = l ∷ c.ended; rest = c.rest }
 
 -- the lines with a line feed, and the bytes after the last one
 abbrev pub split_lines : List ℕ → List ℕ → SplitText
-split_lines pending [] = record { ended = []; rest = pending }
-split_lines pending (x ∷ xs) = if x == 10 then cons_line pending (split_lines [] xs) else split_lines (pending ++ x ∷ []) xs
+split_lines line_buffer [] = record { ended = []; rest = line_buffer }
+split_lines line_buffer (x ∷ xs) = if x == 10 then cons_line line_buffer (split_lines [] xs) else split_lines (line_buffer ++ x ∷ []) xs
 
 abbrev pub check_text : List ℕ → Result (List PlainLine) ℕ
 check_text t = check (split_lines [] t).ended (split_lines [] t).rest

@@ -32,11 +32,11 @@ pub fn check_dump<R: Source>(alloc: Global, reader: &mut R) -> Result<CheckedDum
     let mut space = reserve_buffer(alloc)?;
     let buffer = space.as_mut_slice();
     let mut checker = Checker::new(alloc);
-    let mut held = Vec::new(alloc);
+    let mut partial = Vec::new(alloc);
     for _turn in 0..READ_LIMIT {
         match reader.read_into(buffer) {
-            Ok(0) => return checker.finish(held.as_slice()),
-            Ok(n) => check_chunk(&mut checker, &mut held, &buffer[..n])?,
+            Ok(0) => return checker.finish(partial.as_slice()),
+            Ok(n) => check_chunk(&mut checker, &mut partial, &buffer[..n])?,
             Err(_) => return Err(DumpFault::ReadFailed),
         }
     }
@@ -44,38 +44,38 @@ pub fn check_dump<R: Source>(alloc: Global, reader: &mut R) -> Result<CheckedDum
 }
 
 // Checks the lines that end in this part of the text, and keeps the rest as a pending line.
-fn check_chunk(checker: &mut Checker, held: &mut Vec<u8>, piece: &[u8]) -> Result<(), DumpFault>
-    requires counter_bound { checker.old.entries + length piece.now + 3 < 2 ^ 64 }
-    ensures bound { OnOk result (checker.new.entries ≤ checker.old.entries + length piece.now) }
+fn check_chunk(checker: &mut Checker, partial: &mut Vec<u8>, input: &[u8]) -> Result<(), DumpFault>
+    requires counter_bound { checker.old.entries + length input.now + 3 < 2 ^ 64 }
+    ensures bound { OnOk result (checker.new.entries ≤ checker.old.entries + length input.now) }
     ensures taken { OnOk result ((s : PlainStage) → CheckerAtStage checker.old s →
-        CheckContinues s held.old.items piece.now checker.new held.new.items) }
+        CheckContinues s partial.old.items input.now checker.new partial.new.items) }
     ensures fault { IfErr result (λ f. (s : PlainStage) → CheckerAtStage checker.old s → (rest : List ℕ) →
-        IsDumpFault f (check_result_from s held.old.items (piece.now ++ rest))) }
+        IsDumpFault f (check_result_from s partial.old.items (input.now ++ rest))) }
     ensures never_read_failed { IsErrOf result DumpFault.ReadFailed → ⊥ }
 {
-    let mut rest = piece;
+    let mut rest = input;
     while let Some(at) = first_line_feed(rest) {
-        check_line(checker, held, &rest[..at])?;
+        check_line(checker, partial, &rest[..at])?;
         rest = &rest[at + 1..];
     }
-    held.extend_from_slice(rest)?;
+    partial.extend_from_slice(rest)?;
     Ok(())
 }
 
 // Checks the line that ends with this part.
-fn check_line(checker: &mut Checker, held: &mut Vec<u8>, piece: &[u8]) -> Result<(), DumpFault>
+fn check_line(checker: &mut Checker, partial: &mut Vec<u8>, input: &[u8]) -> Result<(), DumpFault>
     requires counter_bound { checker.old.entries + 3 < 2 ^ 64 }
     ensures bound { OnOk result (checker.new.entries ≤ checker.old.entries + 1) }
-    ensures partial_line { OnOk result (held.new.items ≡ []) }
+    ensures partial_line { OnOk result (partial.new.items ≡ []) }
     ensures taken { OnOk result ((s : PlainStage) → CheckerAtStage checker.old s →
-        CheckerAtStage checker.new (stage_after_line s (held.old.items ++ piece.now))) }
+        CheckerAtStage checker.new (stage_after_line s (partial.old.items ++ input.now))) }
     ensures fault { IfErr result (λ f. (s : PlainStage) → CheckerAtStage checker.old s →
-        IsStageFault f (stage_after_line s (held.old.items ++ piece.now))) }
+        IsStageFault f (stage_after_line s (partial.old.items ++ input.now))) }
     ensures never_read_failed { IsErrOf result DumpFault.ReadFailed → ⊥ }
 {
-    held.extend_from_slice(piece)?;
-    checker.check_line(held.as_slice())?;
-    held.clear();
+    partial.extend_from_slice(input)?;
+    checker.check_line(partial.as_slice())?;
+    partial.clear();
     Ok(())
 }
 

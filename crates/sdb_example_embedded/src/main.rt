@@ -1,4 +1,4 @@
-//! A program with the server in it. It serves one client, a visitor on a thread of its own.
+//! An example program that embeds the server. It serves one client, which runs in another thread.
 #![tactic(auto)]
 
 mod visitor;

@@ -1,4 +1,4 @@
-//! A client that creates a document and fetches it.
+//! The client, which creates a document and fetches it.
 use std::net::{Net, SocketAddr, TcpStream};
 use std::random::RandomSource;
 use tungstenite::handshake::client::request_of;
@@ -9,7 +9,8 @@ const MESSAGES: [&str; 2] = [
     r#"{"a":"f","c":"board","d":"1"}"#,
 ];
 
-// Visits the server at the address, and prints what it says, as far as it says something.
+// Connects to the server at the address and prints the messages received. Errors end the session
+// silently.
 pub(crate) fn visit<R>(rt: R, address: SocketAddr)
 where
     R: AllocGlobal + Print + Net<Stream = TcpStream> + RandomSource + Drop + Copy,
@@ -17,7 +18,7 @@ where
     let _ = talk(rt, address);
 }
 
-// Prints the opening of the session, and then the answer to each message.
+// Prints the first message of the session, then the response to each request.
 fn talk<R>(rt: R, address: SocketAddr) -> Option<()>
 where
     R: AllocGlobal + Print + Net<Stream = TcpStream> + RandomSource + Drop + Copy,

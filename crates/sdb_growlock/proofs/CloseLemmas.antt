@@ -1,4 +1,4 @@
--- What whoever has every seat knows of the value.
+-- The value as known from all seats.
 use Rattle.std.proofs.Common.{◌≡◌, ℕ, ◌+◌, ◌<◌, ◌≤◌, ◌≢◌, List, [], ◌∷◌, ◌++◌, map, get_or, sym, refl, ap, ◌∙◌, subst, ⊎_elim, arith, Option, Some, None}
 use mathlib.Core.Logic.{dite}
 use mathlib.Core.Option.{some, some-injective}
@@ -66,7 +66,7 @@ module _ {T : Type 0} where
     abbrev FitsHere : T → ℕ → (ℕ → ℕ) → ℕ → Observation T → Type 0
     FitsHere = ObservationFits extends same blank
 
-    -- where one view stands for all numbers and has no out, the value is at home
+    -- if one view has all numbers and holds no value, the value is in its slot
     value_at_home_at_close : (s : St) (r : Rule s) (id : ℕ) (v : View T) → get_elem? s.views id ≡ some v → v.out ≡ None → v.next ≢ 0
         → ((k : ℕ) → k < v.next → (p : Observation T) × (p.number ≡ k) × FitsHere r.value r.next r.owner id p) → get_elem? s.homes 0 ≡ some (some (Some r.value))
     value_at_home_at_close s r id v at idle some_next cover = r.value_at_home (dite (ℕ_discrete (get_or s.words 0 0) 0) (λ z. z) (λ busy.

@@ -1,4 +1,4 @@
--- What a seat has in hand, from step to step.
+-- The contents of a seat from step to step.
 use Rattle.std.proofs.Common.{◌≡◌, ℕ, false, List, [], ◌∷◌, map, length, sym, refl, ap, ◌∙◌, subst, arith, Option, Some, None}
 use Rattle.atomic_table.specs.Table.{Me, rest}
 use Rattle.sdb_growlock.specs.declared.view.View.{View}
@@ -22,7 +22,7 @@ module _ {T : Type 0} where
   none_of_not_out (Some x) e = absurd (cc)
   none_of_not_out None e = refl
 
-  -- what the fact of every seat says
+  -- the view that the invariant of a seat gives
   pub idle_view_of_fields : (m : M T) (n k : ℕ) → length m.1 ≡ 0 → map number_of m.0.seen ≡ n ∷ [] → is_out m.0.out ≡ false → m.0.next ≡ k → (x : T) × (m ≡ (idle_view n x k, []))
   idle_view_of_fields m n k none one out next = let s = single_observation m.0.seen n one in let o = none_of_not_out m.0.out out in let c = empty_of_length_zero m.1 none in
       (s.0, λ i. (record { seen = s.1 i; out = o i; next = next i }, c i))
@@ -30,14 +30,14 @@ module _ {T : Type 0} where
   pub fields_of_idle_view : (m : M T) (n k : ℕ) (x : T) → m ≡ (idle_view n x k, []) → (length m.1 ≡ 0) × (map number_of m.0.seen ≡ n ∷ []) × (is_out m.0.out ≡ false) × (m.0.next ≡ k)
   fields_of_idle_view m n k x e = subst (λ (m : M T). (length m.1 ≡ 0) × (map number_of m.0.seen ≡ n ∷ []) × (is_out m.0.out ≡ false) × (m.0.next ≡ k)) (sym e) (refl, refl, refl, refl)
 
-  -- the value that the seat took out is the one that came to it
+  -- the value that the seat takes out is the one that moved to it
   pub same_value : (v y d : T) (c c' : List (ℕ × Option T)) (r : Option T) (l : List (ℕ × Option T)) → l ≡ (0, Some v) ∷ c → l ≡ (0, r) ∷ c' → r ≡ Some y → v ≡ y
   same_value v y d c c' r l e f g = ap (slot_value_or d) (sym e ∙ (f ∙ ap (λ (o : Option T). (0, o) ∷ c') g))
 
   pub holder_view_of_acquire : (m m1 : M T) (n k : ℕ) (x v : T) → m ≡ (idle_view n x k, []) → m1 ≡ (acquired_view m.0 v, (0, Some v) ∷ m.1) → m1 ≡ (holder_view n v k, (0, Some v) ∷ [])
   holder_view_of_acquire m m1 n k x v e h = h ∙ ap (λ (z : M T). let r : M T = (acquired_view z.0 v, (0, Some v) ∷ z.1) in r) e
 
-  -- what the seat is seen to hold, by an exchange
+  -- the seat's slot, as an exchange observes it
   pub slot_of_acquire : (m m1 : M T) (n k : ℕ) (x v : T) → m ≡ (idle_view n x k, []) → m1 ≡ (acquired_view m.0 v, (0, Some v) ∷ m.1) → (o : Option T) × (m1.1 ≡ (0, o) ∷ rest m1.1)
   slot_of_acquire m m1 n k x v e h = let t = holder_view_of_acquire m m1 n k x v e h in (Some v, subst (λ (z : M T). z.1 ≡ (0, Some v) ∷ rest z.1) (sym t) refl)
 

@@ -1,4 +1,4 @@
--- Each step keeps the rule.
+-- Each step preserves the rule.
 use Rattle.std.proofs.Common.{◌≡◌, ℕ, ◌+◌, ◌<◌, ◌≤◌, ◌≢◌, ◌⊎◌, zero, suc, List, [], ◌∷◌, ◌++◌, map, length, get_or, set, sym, refl, ap, ◌∙◌, subst, inl, inr, ⊎_elim, arith, length-set, get_or-set_same, eqb, eq-eqb, ne_eqb, Option, Some, None}
 use lib.Seq.{set-get_or}
 use prog.Atomic.{either}
@@ -83,14 +83,14 @@ module _ {T : Type 0} (extends : T → T → Type 0) (same : ℕ → T → T →
   abbrev lock_word : St → ℕ
   lock_word s = get_or s.words 0 0
 
-  -- a seat that sees the value sees it under each of its numbers
+  -- a seat observes the value under each of its numbers
   module _ (itself : (a : T) → extends a a) (same_itself : (n : ℕ) (a : T) → same n a a) where
     observe_all_fits : (v : T) (next : ℕ) (owner : ℕ → ℕ) (j : ℕ) (value : T) → ((k : ℕ) → next ≤ k → blank k v) → (l : List (Observation T)) → ForEach (FitsHere value next owner j) l → ForEach (FitsHere v next owner j) (observe_all v l)
     observe_all_fits v next owner j value clear l h = for_each_map (FitsHere v next owner j) (λ (p : Observation T). observation p.number v) l
         (for_each_mono (FitsHere value next owner j) (λ p. FitsHere v next owner j (observation p.number v))
         (λ p f. record { below_next = f.below_next; owner_is = f.owner_is; extends_observed = itself v; same_as_observed = same_itself p.number v; blank_above = clear }) l h)
 
-    -- the value comes to the seat
+    -- the value moves to the seat
     acquire_preserves : (s : St) (r : Rule s) (id : ℕ) (d : View T) (c : List (ℕ × Option T)) (n : ℕ) (x : T) → d.seen ≡ observation n x ∷ [] → get_elem? s.views id ≡ some d → lock_word s ≡ 0
         → Rule (stepped s 0 1 id c (acquired_view d r.value) (takes 0 (Some r.value)))
     acquire_preserves s r id d c n x one at free = let wide = r.one_word in let now : get_or (set s.words 0 1) 0 0 ≡ 1 = get_or-set_same s.words 0 1 0 (omega arith) in
@@ -118,7 +118,7 @@ module _ {T : Type 0} (extends : T → T → Type 0) (same : ℕ → T → T →
           value_is_out = λ _. (f.below_next, (w, subst (λ (j : ℕ). get_elem? (set s.views id w) j ≡ some w) (sym f.owner_is) (set_here s.views id w (index_in_bounds s.views id d at)), refl));
         }
 
-    -- another has the value
+    -- another seat holds the value
     acquire_failed_preserves : (s : St) (r : Rule s) (id : ℕ) (d : View T) (c : List (ℕ × Option T)) → get_elem? s.views id ≡ some d → lock_word s ≢ 0 → Rule (stepped s 0 1 id c d keeps)
     acquire_failed_preserves s r id d c at busy = let wide = r.one_word in let now : get_or (set s.words 0 1) 0 0 ≡ 1 = get_or-set_same s.words 0 1 0 (omega arith) in
         subst (λ (vs : List (View T)). Rule record { words = set s.words 0 1; homes = s.homes; views = vs }) (sym (set_again s.views id d at)) record {
@@ -146,7 +146,7 @@ module _ {T : Type 0} (extends : T → T → Type 0) (same : ℕ → T → T →
 
     module _ (further : (a b c : T) → extends c b → extends b a → extends c a) (same_further : (n : ℕ) (a b c : T) → same n a b → same n b c → same n a c)
         (same_blank : (n : ℕ) (a b : T) → same n a b → blank n a → blank n b) where
-      -- the value goes home, as w
+      -- the value w moves back to the slot
       release_preserves : (s : St) (r : Rule s) (id n k : ℕ) (v w : T) → get_elem? s.views id ≡ some (holder_view n v k) → 0 < length s.homes → extends w v → ((j : ℕ) → j ≢ n → same j v w)
           → Rule (stepped s 0 0 id ((0, Some w) ∷ []) (idle_view n w k) gives)
       release_preserves s r id n k v w at deep grown others = let wide = r.one_word in let now : get_or (set s.words 0 0) 0 0 ≡ 0 = get_or-set_same s.words 0 0 0 (omega arith) in
@@ -212,7 +212,7 @@ module _ {T : Type 0} (extends : T → T → Type 0) (same : ℕ → T → T →
   at_end (x ∷ xs) a b zero e = inl e
   at_end (x ∷ xs) a b (suc j) e = ⊎_elim (λ h. inl h) (λ h. inr (h.0, ap suc h.1)) (at_end xs a b j e)
 
-  -- a number that is k has this seat, and each other has the seat that it had
+  -- number k belongs to this seat, and each other number to its old seat
   abbrev at_split : (ℕ → ℕ) → ℕ → ℕ → ℕ → ℕ
   at_split owner k seat n = either (eqb n k) seat (owner n)
 
@@ -222,7 +222,7 @@ module _ {T : Type 0} (extends : T → T → Type 0) (same : ℕ → T → T →
   at_split_else : (owner : ℕ → ℕ) (k seat n : ℕ) → n ≢ k → at_split owner k seat n ≡ owner n
   at_split_else owner k seat n e = ap (λ b. either b seat (owner n)) (ne_eqb n k e)
 
-  -- the numbers of one seat are another's, and each other has the seat that it had
+  -- the numbers of one seat belong to another, and each other number to its old seat
   abbrev at_join : (ℕ → ℕ) → ℕ → ℕ → ℕ → ℕ
   at_join owner from to n = either (eqb (owner n) from) to (owner n)
 

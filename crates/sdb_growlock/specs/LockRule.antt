@@ -1,4 +1,4 @@
--- The rule of the table, and what each step tells.
+-- The rule of the table, and the effect of each step.
 use Rattle.std.specs.Prelude.{◌≡◌, ◌≢◌, ◌⊎◌, ℕ, ◌+◌, ◌<◌, ◌≤◌, Bool, true, false, List, [], ◌∷◌, ◌++◌, map, length, slice_index, Option, Some, None}
 use mathlib.Core.Option.{some}
 use lib.ListN.{get_elem?}
@@ -14,15 +14,15 @@ module _ {T : Type 0} where
   abbrev pub observation : ℕ → T → Observation T
   observation n x = record { number = n; value = x }
 
-  -- a seat at rest
+  -- a seat that doesn't hold the lock
   abbrev pub idle_view : ℕ → T → ℕ → View T
   idle_view n x k = record { seen = observation n x ∷ []; out = None; next = k }
 
-  -- a seat that has the value
+  -- a seat that holds the lock
   abbrev pub holder_view : ℕ → T → ℕ → View T
   holder_view n x k = record { seen = observation n x ∷ []; out = Some x; next = k }
 
-  -- the same numbers, under each of which this was seen
+  -- this value observed under each of the numbers
   abbrev pub observe_all : T → List (Observation T) → List (Observation T)
   observe_all v l = map (λ p. observation p.number v) l
 
@@ -39,12 +39,12 @@ module _ {T : Type 0} where
   is_out (Some x) = true
   is_out None = false
 
-  -- at this view, this was seen under the seat's number
+  -- in this view, the value was observed under the seat's number
   abbrev pub HasObserved : View T → ℕ → T → Type 0
   HasObserved v n x = v.seen ≡ observation n x ∷ []
 
 module _ {T : Type 0} (extends : T → T → Type 0) (same : ℕ → T → T → Type 0) (blank : ℕ → T → Type 0) where
-  -- what was seen fits the value and the seats
+  -- an observation that fits the value and the seats
   pub record ObservationFits (value : T) (next : ℕ) (owner : ℕ → ℕ) (j : ℕ) (p : Observation T) : Type 0 where
     pub below_next : p.number < next
     pub owner_is : owner p.number ≡ j
@@ -71,7 +71,7 @@ module _ {T : Type 0} (extends : T → T → Type 0) (same : ℕ → T → T →
   abbrev pub SeatState : Type 0
   SeatState = Me (Option T) (View T)
 
-  -- the value came to the seat
+  -- the value moved to the seat
   abbrev pub AcquiresValue : SeatState → SeatState → Type 0
   AcquiresValue m m' = (v : T) × (m' ≡ (acquired_view m.0 v, (0, Some v) ∷ m.1)) × ForEach (λ p. extends v p.value × same p.number p.value v) m.0.seen
 
@@ -81,26 +81,26 @@ module _ {T : Type 0} (extends : T → T → Type 0) (same : ℕ → T → T →
   abbrev pub release_step : Step (Option T) → SeatState → ℕ → SeatState → Type 0
   release_step st m r m' = (w : T) → m.1 ≡ (0, Some w) ∷ [] → m' ≡ (released_view m.0 w, [])
 
-  -- the seat knows that nothing stands under its next number
+  -- the seat learns that there is no part of its next number
   abbrev pub read_step : Step (Option T) → SeatState → ℕ → SeatState → Type 0
   read_step st m r m' = (m' ≡ m) × (m.0.next ≢ 0 → ForEach (λ p. blank m.0.next p.value) m.0.seen)
 
 module _ {T : Type 0} where
-  -- the first seat, after a split, and the seat that it gave
+  -- the first seat after a split, and the new seat
   abbrev pub splitter_view : View T → View T
   splitter_view d = record { seen = d.seen; out = d.out; next = d.next + 1 }
 
   abbrev pub split_off_view : View T → View T
   split_off_view d = record { seen = map (λ p. observation d.next p.value) d.seen; out = None; next = 0 }
 
-  -- a seat that took in another, and that one
+  -- a seat after a join, and the joined one
   abbrev pub join_views : View T → View T → View T
   join_views d e = record { seen = d.seen ++ e.seen; out = d.out; next = d.next + e.next }
 
   abbrev pub empty_view : View T
   empty_view = record { seen = []; out = None; next = 0 }
 
-  -- a seat that took in others, the last of the list first
+  -- a seat after the join of all others, the last of the list first
   abbrev pub join_all_views : View T → List (View T) → View T
   join_all_views d [] = d
   join_all_views d (e ∷ es) = join_views (join_all_views d es) e

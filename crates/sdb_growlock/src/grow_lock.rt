@@ -6,17 +6,19 @@ use crate::grows::Grows;
 use crate::rule::{LockTable, TableSeat};
 use std::sync::atomic::AtomicU64;
 
-/// A lock round a value that only grows. It is made with its first seat, and each thread needs a seat of its own.
+/// A lock around a value that only grows. It is created with its first seat; each thread needs its
+/// own seat.
 #[derive(Drop)]
 pub struct GrowLock<T: Grows> {
     pub(crate) table: LockTable<T>,
-    // how many threads wait for the value, or are about to
+    // number of threads that wait for the value or are about to
     pub(crate) waiting: AtomicU64,
     ghost one_word_one_slot: { (table.shared.table_id.words ≡ 1) × (table.shared.table_id.slots ≡ 1) },
 }
 
-/// The right to use one lock, under a number of its own: 0 of the first seat, then one higher for each that is split
-/// off. It has seen a value (`HasSeen`), which each later value under the lock extends.
+/// The right to acquire one lock, under a unique number: 0 for the first seat, then one more for
+/// each split. A seat records the last value that it observed (`HasSeen`), which each later value
+/// extends.
 pub struct Seat<T> {
     pub(crate) number: u64,
     pub(crate) next: u64,
@@ -26,7 +28,7 @@ pub struct Seat<T> {
 }
 
 impl<T> Seat<T> {
-    // What the seat is to the table.
+    // Returns the seat's part of the atomic table.
     pub(crate) fn into_table_seat(self) -> TableSeat<T>
         ensures { result ≡ self.inner }
     {

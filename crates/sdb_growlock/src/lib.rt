@@ -1,10 +1,12 @@
-//! A lock round a value that only grows, and seats that know how far it has grown.
+//! A lock around a value that only grows, and seats that record how far it has grown.
 //!
-//! A value behind a common lock is known by its invariant alone: nobody can say that what was seen once is still there.
-//! Here the value is of a type that [`Grows`], each thread comes with a [`Seat`], and the seat has seen a value: what
-//! [`GrowLock::with`] shows next extends it, and holds under the seat's own number just what stood there.
+//! A common lock guarantees only its value's invariant: what a thread observed once may be gone
+//! later. Here the value's type [`Grows`], and each thread has a [`Seat`] with the last value that
+//! it observed. [`GrowLock::with`] passes a value that extends it and has the same part of the
+//! seat's number.
 //!
-//! The lock is one word and one slot of an `atomic_table`; its steps and the rule that they keep stand in `rule.rt`.
+//! The lock is one word and one slot of an `atomic_table`. Its steps and their rule are defined in
+//! `rule.rt`.
 #![tactic(auto)]
 
 mod grow_lock;

@@ -1,4 +1,4 @@
-//! What is done with a lock and its seats.
+//! The operations of a lock and its seats.
 ghost use Rattle.std.specs.Prelude.{◌≡◌, ◌≢◌, ℕ, ◌+◌, ◌<◌, ◌≤◌, map, [], ◌∷◌, IfOk, IfErr, IsTrue, IsFalse};
 ghost use Rattle.sdb_growlock.specs.LockRule.{ForEach, AcquiresValue, idle_view, observation, holder_view, released_view, splitter_view, split_off_view, join_views, join_all_views};
 ghost use Rattle.sdb_growlock.specs.SeatModel.{BelongsTo, HasSeen, number, next, seat_count, HasNumber};
@@ -14,18 +14,22 @@ use std::sync::Wait;
 use std::sync::atomic::AtomicU64;
 use std::sync::atomic::Ordering::SeqCst;
 
-// How often a thread reads the word of a lock before it parks, as `std`'s `Mutex` does.
+// Number of spins before a thread parks, as in `std`'s `Mutex`.
 const SPIN_LIMIT: u64 = 100;
 
-/// Why no seat was split off. A split takes no memory.
+/// The reason why a split fails. A split doesn't allocate.
 #[derive(Debug, Drop)]
 pub enum SplitFault {
-    /// All numbers below the greatest u64 are given.
+    /// All numbers below the greatest `u64` are used up.
     OutOfNumbers,
 }
 
 impl<T: Grows> GrowLock<T> {
-    /// A lock round the value, and its first seat. Where memory is wanting the value comes back.
+    /// Creates a lock around the value, and its first seat.
+    ///
+    /// # Errors
+    ///
+    /// The value, if an allocation fails.
     pub fn new(alloc: Global, value: T) -> Result<(GrowLock<T>, Seat<T>), T>
         requires clear { (k : ℕ) → 0 < k → T.blank k value }
         ensures belongs { IfOk result (λ made. BelongsTo made.1 made.0) }
@@ -57,8 +61,9 @@ impl<T: Grows> GrowLock<T> {
         }
     }
 
-    /// Runs the job once, on a value that extends what the seat has seen and holds under the seat's number just what it
-    /// has seen there. The seat has then seen what the job left. Waits until no other seat has the value.
+    /// Runs the job once, on a value that extends the last one that the seat observed and has the
+    /// same part of its number. The seat then observes the job's result. Waits until the lock is
+    /// free.
     pub fn with<J: Job<T>, R: Wait>(&self, rt: &R, seat: &mut Seat<T>, job: J) -> J::Answer
         requires belongs { BelongsTo seat.old self.now }
         requires ready { (x v : T) → HasSeen seat.old x → T.extends v x → T.same (number seat.old) x v
@@ -80,8 +85,12 @@ impl<T: Grows> GrowLock<T> {
         answer
     }
 
-    /// By the first seat: a seat with the next number, which has seen what the first has seen. That holds nothing under
-    /// the new number.
+    /// Creates a seat with the next number from the first seat. It has observed what the first seat
+    /// has, a value without a part of the new number.
+    ///
+    /// # Errors
+    ///
+    /// [`SplitFault::OutOfNumbers`] if all numbers are used up. The first seat is then unchanged.
     pub fn split(&self, seat: &mut Seat<T>) -> Result<Seat<T>, SplitFault>
         requires belongs { BelongsTo seat.old self.now }
         requires first { 0 < next seat.old }
@@ -105,8 +114,8 @@ impl<T: Grows> GrowLock<T> {
         })
     }
 
-    /// Gives the value back, to whoever has every seat of the lock. It extends what each has seen, holds under the
-    /// number of each just what that one has seen there, and nothing under a number that no seat has.
+    /// Returns the value, given all seats of the lock. It extends what each seat has observed, has
+    /// each seat's part unchanged, and has no part of any other number.
     pub fn close(self, mut seats: Vec<Seat<T>>) -> T
         requires belongs { ForEach (λ s. BelongsTo s self) seats.items }
         requires first { 0 < seat_count seats.items }
@@ -118,29 +127,30 @@ impl<T: Grows> GrowLock<T> {
         let Some(last) = seats.pop() else {
             unreachable!()
         };
-        let mut place = last.into_table_seat();
-        self.join_all_table_seats(&mut place, seats);
+        let mut table_seat = last.into_table_seat();
+        self.join_all_table_seats(&mut table_seat, seats);
         let GrowLock { table, waiting: _ } = self;
-        let mut closed = table.close_with(place);
+        let mut closed = table.close_with(table_seat);
         let slot = closed.take(0);
         closed.free();
         let Some(value) = slot else { unreachable!() };
         value
     }
 
-    // Waits for the value. It is then in the seat's slot.
-    fn acquire<R: Wait>(&self, rt: &R, place: &mut TableSeat<T>)
-        requires belongs { place.old.table_id ≡ self.now.table.shared.table_id }
-        requires one { (n : ℕ) × (x : T) × (place.old.me.0.seen ≡ observation n x ∷ []) }
-        ensures belongs { (place.new.table_id ≡ place.old.table_id) × (place.new.id ≡ place.old.id) }
-        ensures taken { AcquiresValue T.extends T.same T.blank place.old.me place.new.me }
+    // Acquires the lock. The value is then in the seat's slot.
+    fn acquire<R: Wait>(&self, rt: &R, table_seat: &mut TableSeat<T>)
+        requires belongs { table_seat.old.table_id ≡ self.now.table.shared.table_id }
+        requires one { (n : ℕ) × (x : T) × (table_seat.old.me.0.seen ≡ observation n x ∷ []) }
+        ensures belongs { (table_seat.new.table_id ≡ table_seat.old.table_id)
+            × (table_seat.new.id ≡ table_seat.old.id) }
+        ensures taken { AcquiresValue T.extends T.same T.blank table_seat.old.me table_seat.new.me }
     {
-        if self.try_acquire(place) {
+        if self.try_acquire(table_seat) {
             return;
         }
         for _ in rt.forever() {
             self.spin();
-            if self.try_acquire(place) {
+            if self.try_acquire(table_seat) {
                 return;
             }
             self.waiting.fetch_add(1, SeqCst);
@@ -150,18 +160,20 @@ impl<T: Grows> GrowLock<T> {
         unreachable!()
     }
 
-    // Takes the value, if it is at home: whether it was.
-    fn try_acquire(&self, place: &mut TableSeat<T>) -> bool
-        requires belongs { place.old.table_id ≡ self.now.table.shared.table_id }
-        requires one { (n : ℕ) × (x : T) × (place.old.me.0.seen ≡ observation n x ∷ []) }
-        ensures belongs { (place.new.table_id ≡ place.old.table_id) × (place.new.id ≡ place.old.id) }
-        ensures taken { IsTrue result → AcquiresValue T.extends T.same T.blank place.old.me place.new.me }
-        ensures left { IsFalse result → place.new.me ≡ place.old.me }
+    // Acquires the lock if it is free. Returns whether it did.
+    fn try_acquire(&self, table_seat: &mut TableSeat<T>) -> bool
+        requires belongs { table_seat.old.table_id ≡ self.now.table.shared.table_id }
+        requires one { (n : ℕ) × (x : T) × (table_seat.old.me.0.seen ≡ observation n x ∷ []) }
+        ensures belongs { (table_seat.new.table_id ≡ table_seat.old.table_id)
+            × (table_seat.new.id ≡ table_seat.old.id) }
+        ensures taken { IsTrue result → AcquiresValue T.extends T.same T.blank table_seat.old.me table_seat.new.me }
+        ensures left { IsFalse result → table_seat.new.me ≡ table_seat.old.me }
     {
-        self.table.shared.swap::<AcquireStep>(place, 0, 1) == 0
+        self.table.shared.swap::<AcquireStep>(table_seat, 0, 1) == 0
     }
 
-    // Reads the word while the value is out, for as long as a short job takes: to park and to be woken takes longer.
+    // Polls the word while the lock is held, for the time of a short job: parking and waking take
+    // longer.
     fn spin(&self) {
         for _ in 0..SPIN_LIMIT {
             if self.table.shared.peek(0) == 0 {
@@ -171,67 +183,73 @@ impl<T: Grows> GrowLock<T> {
         }
     }
 
-    // Puts the value home. Who parks has counted itself before, and parks only while the value is out: so
-    // where nobody is counted here, nobody parks that this would have to wake.
-    fn release(&self, place: &mut TableSeat<T>)
-        requires belongs { place.old.table_id ≡ self.now.table.shared.table_id }
-        requires grown { (n k : ℕ) × (v w : T) × (place.old.me ≡ (holder_view n v k, (0, Some w) ∷ [])) × T.extends w v
+    // Stores the value and releases the lock. A waiter increments `waiting` before it parks and
+    // parks only while the lock is held, so no thread needs a wake-up if `waiting` is 0.
+    fn release(&self, table_seat: &mut TableSeat<T>)
+        requires belongs { table_seat.old.table_id ≡ self.now.table.shared.table_id }
+        requires grown { (n k : ℕ) × (v w : T) × (table_seat.old.me ≡ (holder_view n v k, (0, Some w) ∷ []))
+            × T.extends w v
             × ((j : ℕ) → j ≢ n → T.same j v w) }
-        ensures belongs { (place.new.table_id ≡ place.old.table_id) × (place.new.id ≡ place.old.id) }
-        ensures freed { (w : T) → place.old.me.1 ≡ (0, Some w) ∷ []
-            → place.new.me ≡ (released_view place.old.me.0 w, []) }
+        ensures belongs { (table_seat.new.table_id ≡ table_seat.old.table_id)
+            × (table_seat.new.id ≡ table_seat.old.id) }
+        ensures freed { (w : T) → table_seat.old.me.1 ≡ (0, Some w) ∷ []
+            → table_seat.new.me ≡ (released_view table_seat.old.me.0 w, []) }
     {
-        self.table.shared.store::<ReleaseStep>(place, 0, 0);
+        self.table.shared.store::<ReleaseStep>(table_seat, 0, 0);
         if self.waiting.load(SeqCst) > 0 {
             self.table.shared.wake_one(0);
         }
     }
 
-    // The new one has the next number.
-    fn split_table_seat(&self, place: &mut TableSeat<T>) -> TableSeat<T>
-        requires belongs { place.old.table_id ≡ self.now.table.shared.table_id }
-        requires first { (n k : ℕ) × (x : T) × (place.old.me ≡ (idle_view n x k, [])) × (0 < k) }
-        ensures belongs { (place.new.table_id ≡ place.old.table_id) × (place.new.id ≡ place.old.id)
-            × (result.table_id ≡ place.old.table_id) }
-        ensures parts { (place.new.me ≡ (splitter_view place.old.me.0, place.old.me.1))
-            × (result.me ≡ (split_off_view place.old.me.0, [])) }
-        ensures blank { ForEach (λ p. T.blank place.old.me.0.next p.value) place.old.me.0.seen }
+    // Splits the table seat; the new one has the next number.
+    fn split_table_seat(&self, table_seat: &mut TableSeat<T>) -> TableSeat<T>
+        requires belongs { table_seat.old.table_id ≡ self.now.table.shared.table_id }
+        requires first { (n k : ℕ) × (x : T) × (table_seat.old.me ≡ (idle_view n x k, [])) × (0 < k) }
+        ensures belongs { (table_seat.new.table_id ≡ table_seat.old.table_id) × (table_seat.new.id ≡ table_seat.old.id)
+            × (result.table_id ≡ table_seat.old.table_id) }
+        ensures parts { (table_seat.new.me ≡ (splitter_view table_seat.old.me.0, table_seat.old.me.1))
+            × (result.me ≡ (split_off_view table_seat.old.me.0, [])) }
+        ensures blank { ForEach (λ p. T.blank table_seat.old.me.0.next p.value) table_seat.old.me.0.seen }
     {
-        self.table.shared.load::<ReadStep>(place, 0);
-        self.table.shared.split_seat::<SplitJoinStep>(place)
+        self.table.shared.load::<ReadStep>(table_seat, 0);
+        self.table.shared.split_seat::<SplitJoinStep>(table_seat)
     }
 
-    // The one takes in the other.
-    fn join_table_seat(&self, place: &mut TableSeat<T>, other: TableSeat<T>)
-        requires belongs { (place.old.table_id ≡ self.now.table.shared.table_id)
+    // Joins `other` into `place`.
+    fn join_table_seat(&self, table_seat: &mut TableSeat<T>, other: TableSeat<T>)
+        requires belongs { (table_seat.old.table_id ≡ self.now.table.shared.table_id)
             × (other.table_id ≡ self.now.table.shared.table_id) }
         requires idle { (other.me.1 ≡ []) × (other.me.0.out ≡ None) }
-        ensures belongs { (place.new.table_id ≡ place.old.table_id) × (place.new.id ≡ place.old.id) }
-        ensures both { place.new.me ≡ (join_views place.old.me.0 other.me.0, place.old.me.1) }
+        ensures belongs { (table_seat.new.table_id ≡ table_seat.old.table_id)
+            × (table_seat.new.id ≡ table_seat.old.id) }
+        ensures both { table_seat.new.me ≡ (join_views table_seat.old.me.0 other.me.0, table_seat.old.me.1) }
     {
-        self.table.shared.join_seat::<SplitJoinStep>(place, other);
+        self.table
+            .shared
+            .join_seat::<SplitJoinStep>(table_seat, other);
     }
 
-    // The one takes in all seats.
-    fn join_all_table_seats(&self, place: &mut TableSeat<T>, mut seats: Vec<Seat<T>>)
-        requires belongs { place.old.table_id ≡ self.now.table.shared.table_id }
+    // Joins all seats into `place`.
+    fn join_all_table_seats(&self, table_seat: &mut TableSeat<T>, mut seats: Vec<Seat<T>>)
+        requires belongs { table_seat.old.table_id ≡ self.now.table.shared.table_id }
         requires owns { ForEach (λ s. s.inner.table_id ≡ self.now.table.shared.table_id) seats.items }
-        ensures belongs { (place.new.table_id ≡ place.old.table_id) × (place.new.id ≡ place.old.id) }
-        ensures all { place.new.me ≡ (
-          join_all_views place.old.me.0 (map
+        ensures belongs { (table_seat.new.table_id ≡ table_seat.old.table_id)
+            × (table_seat.new.id ≡ table_seat.old.id) }
+        ensures all { table_seat.new.me ≡ (
+          join_all_views table_seat.old.me.0 (map
               (λ s. s.inner.me.0) seats.items),
-          place.old.me.1,
+          table_seat.old.me.1,
         ) }
     {
         while let Some(seat) = seats.pop() {
-            self.join_table_seat(place, seat.into_table_seat());
+            self.join_table_seat(table_seat, seat.into_table_seat());
         }
         seats.destroy_empty();
     }
 }
 
 impl<T> Seat<T> {
-    /// The number under which the seat's jobs are run.
+    /// Returns the number under which the seat's jobs run.
     pub fn number(&self) -> u64
         ensures { result ≡ number self.now }
     {

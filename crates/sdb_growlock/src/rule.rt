@@ -1,4 +1,4 @@
-//! The rule of the table, and what each of its steps tells the seat that makes it.
+//! The rule of the table, and the effect of each step on the seat that makes it.
 ghost use Rattle.sdb_growlock.specs.LockRule.{LockInvariant, idle_view, acquire_step, release_step, read_step, splitter_view, split_off_view, join_views, empty_view};
 
 use crate::grows::Grows;
@@ -7,7 +7,7 @@ use atomic_table::{Join, Play, Seat, Split, Table, TableRule};
 use std::alloc::Global;
 use std::snapshot::Snapshot;
 
-/// The rule: the value extends all that was seen, and holds under each number just what was seen there.
+/// The rule: the value extends all that was observed, and has the observed part of each number.
 pub struct GrowthRule;
 
 impl<T: Grows> TableRule<Option<T>, View<T>, Snapshot<T>> for GrowthRule {
@@ -16,28 +16,28 @@ impl<T: Grows> TableRule<Option<T>, View<T>, Snapshot<T>> for GrowthRule {
     ghost first = { λ key. idle_view 0 key.value 1 };
 }
 
-/// The word is set to 1: where it was 0, the value comes to the seat.
+/// Sets the word to 1. If it was 0, the value moves to the seat.
 pub struct AcquireStep;
 
 impl<T: Grows> Play<Option<T>, View<T>> for AcquireStep {
     ghost then = { acquire_step T.extends T.same T.blank };
 }
 
-/// The word is set to 0: the value is at home again.
+/// Sets the word to 0. The value moves back to the slot.
 pub struct ReleaseStep;
 
 impl<T: Grows> Play<Option<T>, View<T>> for ReleaseStep {
     ghost then = { release_step T.extends T.same T.blank };
 }
 
-/// The word is read: the first seat learns that nothing stands under the next number.
+/// Reads the word. The first seat learns that the value has no part of the next number.
 pub struct ReadStep;
 
 impl<T: Grows> Play<Option<T>, View<T>> for ReadStep {
     ghost then = { read_step T.extends T.same T.blank };
 }
 
-/// A seat is cut in two, and two are joined.
+/// Splits a seat in two, and joins two seats.
 pub struct SplitJoinStep;
 
 impl<T> Split<View<T>> for SplitJoinStep {

@@ -1,14 +1,15 @@
-//! What a seat knows.
+//! The view of a seat.
 use std::collections::LinkedList;
 
-/// What was seen under a number.
+/// A value observed under a number.
 pub struct Observation<T> {
     pub number: u64,
     pub value: T,
 }
 
-/// What a seat knows: what was seen under each number that it stands for, the value that it has out, and, of the first
-/// seat, the next number, else 0. It stands in the proofs alone: no value of it is ever made.
+/// The view of a seat: the observation of each of its numbers, the value that it holds, and the
+/// next number (0 unless it is the first seat). It exists in proofs only; no value of it is ever
+/// created.
 pub struct View<T> {
     pub seen: LinkedList<Observation<T>>,
     pub out: Option<T>,

@@ -1,4 +1,4 @@
--- The grammar's loops, a turn at a time, under the conversion to data.
+-- The loops of the grammar, one iteration at a time, under the conversion to data.
 use Rattle.std.proofs.Common.{◌≡◌, ℕ, zero, suc, ◌-◌, ◌<◌, ◌≤◌, List, [], ◌∷◌, ◌++◌, length, Option, Some, None, option_map, option_and_then, refl, ap, ◌∙◌}
 use Rattle.json.specs.Token.{Token}
 use Rattle.json.specs.Json as json
@@ -94,7 +94,7 @@ module _ (p : Parse json.Json) where
     pub members_over : (n : ℕ) (ts r : List Token) → length ts ≤ n → read_key ts ≡ Some (None, r) → converted (λ ms. of_members ms old) (members p n ts) ≡ Some (old, r)
     members_over n ts r enough e = ap (converted (λ ms. of_members ms old)) (members_end p n ts r enough e)
 
--- ---- a list that grows at its end
+-- ---- a list extended at its end
 
 abbrev pub items_before : List JsonTree → Items → Items
 items_before [] rest = rest

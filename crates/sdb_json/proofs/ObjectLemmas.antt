@@ -1,4 +1,4 @@
--- The members of an object, one after another.
+-- The members of an object, added one by one.
 use Rattle.std.proofs.Common.{◌≡◌, ℕ, List, [], ◌∷◌, ◌++◌, map, Ordering, Less, Equal, Greater, Some, nat_cmp, refl, ◌∙◌, ap}
 use Rattle.std.specs.Borrow.{Bor}
 use Rattle.std.specs.BTreeMap.{insert_entry}
@@ -18,18 +18,18 @@ put_all_more : (fs : List FieldEntry) (f : FieldEntry) (found : Members)
 put_all_more [] f found = refl
 put_all_more (g ∷ fs) f found = put_all_more fs f (put g.0.now (view g.1) found)
 
--- one member more
+-- one more member is put over the others
 pub fields_more : (fs : List FieldEntry) (f : FieldEntry) → fields_view (fs ++ f ∷ []) ≡ put f.0.now (view f.1) (fields_view fs)
 fields_more fs f = put_all_more fs f no_members
 
--- the last member is the one that was looked for, or another
+-- the last member has the key that is searched for, or another
 pub last_found : (fs : List FieldEntry) (f : FieldEntry) (k : List ℕ) → f.0.now ≡ k → get_member k (fields_view (fs ++ f ∷ [])) ≡ Some (view f.1)
 last_found fs f k is = ap (get_member k) (fields_more fs f) ∙ rw is (get_member-put k (view f.1) (fields_view fs))
 
 pub last_other : (fs : List FieldEntry) (f : FieldEntry) (k : List ℕ) → (k ≡ f.0.now → ⊥) → get_member k (fields_view (fs ++ f ∷ [])) ≡ get_member k (fields_view fs)
 last_other fs f k other = ap (get_member k) (fields_more fs f) ∙ get_member-put_other k f.0.now (view f.1) (fields_view fs) other
 
--- ---- members by their keys
+-- ---- members sorted by key
 
 abbrev pub text_cmp : Bor (List ℕ) → Bor (List ℕ) → Ordering
 text_cmp k l = slice_cmp nat_cmp k.now l.now

@@ -1,4 +1,4 @@
--- A tree, level by level.
+-- The data of a tree, level by level.
 use Rattle.std.proofs.Common.{◌≡◌, Vec, Global, rules}
 use Rattle.serde_json.specs.Data.{array, object}
 use Rattle.sdb_json.specs.JsonTree.{fields_view, items_view, view}

@@ -1,8 +1,8 @@
-//! Why a text has no tree.
+//! The failures of parsing a JSON text.
 use json::Invalid;
 use std::alloc::AllocError;
 
-// The text is no JSON, or an allocation failed.
+// The text is not JSON, or an allocation failed.
 #[derive(Drop)]
 pub(crate) enum ParseFault {
     BadlyFormed,

@@ -1,4 +1,4 @@
-//! The members of an object as they came.
+//! The members of an object, in the order of the text.
 ghost use Rattle.std.specs.Prelude.{◌≡◌, IfOk, bytes_eq, option_map};
 ghost use Rattle.serde_json.specs.Find.{get_member};
 ghost use Rattle.sdb_json.specs.JsonTree.{fields_view, sorted_members, view};
@@ -7,7 +7,7 @@ use crate::tree::JsonTree;
 use std::alloc::{AllocError, Global};
 use std::collections::BTreeMap;
 
-// The last value of that key.
+// Returns the last value of that key.
 pub(crate) fn find_field<'v, 'a>(
     fields: &'v [(&'a str, JsonTree<'a>)],
     key: &str,
@@ -25,7 +25,7 @@ pub(crate) fn find_field<'v, 'a>(
     None
 }
 
-// Most names differ in their length already, which is told without a call.
+// Most names differ in length, so that most comparisons need no call.
 #[inline(always)]
 fn is_named(name: &str, key: &str) -> bool
     ensures { result ≡ bytes_eq name.now key.now }
@@ -33,7 +33,7 @@ fn is_named(name: &str, key: &str) -> bool
     name.len() == key.len() && name == key
 }
 
-// The last value of each key, by the keys.
+// Returns the last value of each key, sorted by key.
 pub(crate) fn sort_fields<'v, 'a>(
     alloc: Global,
     fields: &'v [(&'a str, JsonTree<'a>)],

@@ -1,4 +1,4 @@
-//! JSON that is read: the values of `serde_json`, and trees that borrow the text that they were read from.
+//! JSON values to read: those of `serde_json`, and trees that borrow from the text that was parsed.
 #![tactic(auto)]
 
 mod fault;

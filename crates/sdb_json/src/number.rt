@@ -1,4 +1,4 @@
-//! The number that a text is.
+//! The number of a JSON token.
 ghost use Rattle.std.specs.Prelude.{◌≡◌, ◌<◌, ◌==◌, IsTrue, false, length, option_map, slice_index, true};
 ghost use Rattle.serde_json.specs.Read.{float_of, number_from, number_of};
 ghost use Rattle.serde_json.specs.View.{number_view};
@@ -6,7 +6,7 @@ ghost use Rattle.serde_json.specs.View.{number_view};
 use fast_float::Numeral;
 use serde_json::Number;
 
-// The number that a token of JSON writes, where it is in range.
+// Parses a number token; returns `None` if its value is out of range.
 pub(crate) fn parse_number(text: &str) -> Option<Number>
     ensures { option_map number_view result ≡ number_of text.now }
 {

@@ -1,4 +1,4 @@
-//! From a text to its tree, in one pass over the tokens.
+//! The parser from a text to its tree, in one pass over the tokens.
 ghost use Rattle.std.specs.Prelude.{◌≡◌, ◌<◌, ◌++◌, ◌∷◌, [], length, Some, None, Err, IfOk, OnOk, option_map};
 ghost use Rattle.json.specs.Json.{value, items, members};
 ghost use Rattle.serde_json.specs.Data.{no_members, put};
@@ -12,16 +12,21 @@ use crate::tree::JsonTree;
 use json::{Reader, Scratch, Token};
 use std::alloc::{AllocError, Global};
 
-// Room for the members of most objects that have some.
+// The capacity reserved for the first member, enough for most objects.
 const FIELDS: usize = 8;
 
-// How deep arrays and objects may nest, as `serde_json` has it.
+// The nesting limit of arrays and objects, equal to that of `serde_json`.
 const MAX_DEPTH: usize = 127;
 
 impl<'a> JsonTree<'a> {
-    /// The tree of a text that is JSON (RFC 8259), as `serde_json` reads it: arrays and objects nest at most 127 deep,
-    /// and a number that no float holds is none. Texts with escapes go into the scratch, which grows to the length of
-    /// the text. An error is want of memory.
+    /// Parses a JSON text (RFC 8259) with the limits of `serde_json`; returns `None` if it is
+    /// malformed. Arrays and objects nest at most 127 deep, and each number must fit a finite
+    /// float. Strings with escapes are decoded into the scratch, which grows to the length of the
+    /// text.
+    ///
+    /// # Errors
+    ///
+    /// [`AllocError`] if an allocation fails.
     pub fn from_str(
         alloc: Global,
         text: &'a str,
@@ -40,7 +45,7 @@ impl<'a> JsonTree<'a> {
     }
 }
 
-// The one value of all tokens.
+// Parses one value that must use all tokens.
 fn parse_document<'a>(alloc: Global, reader: &mut Reader<'a>) -> Result<JsonTree<'a>, ParseFault>
     ensures ok { IfOk result (λ v. complete_value (value 127 reader.old) ≡ Some (view v)) }
     ensures err { result ≡ Err BadlyFormed → complete_value (value 127 reader.old) ≡ None }
@@ -154,7 +159,7 @@ fn push_object_field<'a>(
     Ok(())
 }
 
-// Room for the first members at once, where there is none yet.
+// Reserves room for the first members when the list is empty.
 fn reserve_field<'a>(fields: &mut Vec<(&'a str, JsonTree<'a>)>) -> Result<(), AllocError>
     ensures { OnOk result (fields.new.items ≡ fields.old.items) }
 {

@@ -1,4 +1,4 @@
-//! `serde_json`'s values.
+//! The implementation of `JsonData` for the values of `serde_json`.
 ghost use Rattle.std.specs.Prelude.{◌≡◌, IfOk};
 ghost use Rattle.serde_json.specs.View.{members_view, view};
 ghost use Rattle.sdb_json.specs.JsonTree.{sorted_members};
@@ -46,7 +46,7 @@ impl JsonData for Value {
     }
 }
 
-// The members by borrowed keys.
+// Returns the members, sorted by borrowed keys.
 fn borrow_members<'v>(
     alloc: Global,
     members: &'v Map<String, Value>,

@@ -1,4 +1,4 @@
-//! A JSON text as a tree.
+//! The tree of a JSON text.
 ghost use Rattle.sdb_json.specs.JsonTree.{view};
 
 use crate::fields::{find_field, sort_fields};
@@ -7,21 +7,22 @@ use serde_json::Number;
 use std::alloc::{AllocError, Global};
 use std::collections::BTreeMap;
 
-/// A JSON text as a tree. It borrows its texts: from what was read, or, where they have escapes, from the scratch that
-/// reading was lent.
+/// The tree of a JSON text. Its strings borrow from the text, or from the scratch if they have
+/// escapes.
 #[derive(Drop)]
 pub enum JsonTree<'a> {
     /// `null`.
     Null,
-    /// `true` or `false`.
+    /// A boolean.
     Bool(bool),
     /// A number.
     Number(Number),
-    /// A text.
+    /// A string.
     Text(&'a str),
     /// The items of an array.
     Array(Vec<JsonTree<'a>>),
-    /// The members of an object as they came. Of those with one key the last one counts.
+    /// The members of an object in the order of the text. Of members with equal keys the last one
+    /// counts.
     Object(Vec<(&'a str, JsonTree<'a>)>),
 }
 

@@ -1,4 +1,4 @@
--- How the lines of an input go on at a piece of it.
+-- The lines of an input, continued by a chunk of it.
 use Rattle.std.proofs.Common.{◌≡◌, ℕ, ◌+◌, ◌-◌, ◌≤◌, ◌<◌, List, [], ◌∷◌, ◌++◌, None, Some, length, take, drop, min, refl, ap, sym, ◌∙◌, append_assoc, append-nil, arith, All, ◌≢◌, length-append, inl, inr, Ok, Err, OnOk}
 use Rattle.std.specs.Prelude.{is_ok}
 use Rattle.std.specs.declared.result.Result.{Result}
@@ -25,12 +25,12 @@ reading-good l h u = rw (le-ltb 1048576 (length l) h, is_utf8-from_IsUtf8 l u) r
 pub reading-bad : (l : List ℕ) → length l ≤ 1048576 → ¬ (IsUtf8 l) → readable_text l ≡ None
 reading-bad l h u = elim (cases_Bool (is_utf8 l)) [ inl e ↦ absurd (u (IsUtf8-from_is_utf8 l e)) | inr e ↦ rw (le-ltb 1048576 (length l) h, e) refl ]
 
--- bytes without a line feed join what is pending
-pub lines-plain : (piece rest pending : List ℕ) → All (λ x. x ≢ 10) piece → lines_from (piece ++ rest) pending ≡ lines_from rest (pending ++ piece)
-lines-plain [] rest pending h = rw append-nil refl
-lines-plain (x ∷ xs) rest pending h = rw (ne_eqb x 10 (All-head (λ x. x ≢ 10) x xs h)) (lines-plain xs rest (pending ++ x ∷ []) (All-tail (λ x. x ≢ 10) x xs h) ∙ ap (lines_from rest) (append_assoc pending (x ∷ []) xs))
+-- bytes without a line feed are appended to the pending ones
+pub lines-plain : (input rest line_buffer : List ℕ) → All (λ x. x ≢ 10) input → lines_from (input ++ rest) line_buffer ≡ lines_from rest (line_buffer ++ input)
+lines-plain [] rest line_buffer h = rw append-nil refl
+lines-plain (x ∷ xs) rest line_buffer h = rw (ne_eqb x 10 (All-head (λ x. x ≢ 10) x xs h)) (lines-plain xs rest (line_buffer ++ x ∷ []) (All-tail (λ x. x ≢ 10) x xs h) ∙ ap (lines_from rest) (append_assoc line_buffer (x ∷ []) xs))
 
--- a line whose front is the same is read the same
+-- lines with a common prefix longer than the limit have equal readings
 pub reading-front : (k : ℕ) (p q : List ℕ) → 1048576 < k → take k p ≡ take k q → readable_text p ≡ readable_text q
 reading-front k p q long e =
     let same = ap length e in
@@ -54,7 +54,7 @@ same-front k p q x e =
 some-front : (k : ℕ) (q : List ℕ) (y : ℕ) → 0 < k → take k [] ≡ take k (y ∷ q) → ⊥
 some-front k q y long e = omega (arith, ap length e, length-take k (y ∷ q), length-take {A = ℕ} k [], long)
 
--- only the front of what is pending matters
+-- only the kept prefix of the pending bytes matters
 pub readings-front : (k : ℕ) (rest p q : List ℕ) → 1048576 < k → take k p ≡ take k q → readable_lines_from rest p ≡ readable_lines_from rest q
 readings-front k [] [] [] long e = refl
 readings-front k [] [] (y ∷ q) long e = absurd (some-front k q y (omega (arith, long)) e)
@@ -68,44 +68,44 @@ readings-front k (x ∷ xs) p q long e = elim (cases_Bool (x == 10)) [
 front-again : (k : ℕ) (l : List ℕ) → take k (take k l) ≡ take k l
 front-again k l = take_all k (take k l) (omega (arith, length-take k l))
 
--- what is held of a line is read as the line is
-pub reading-held : (line : List ℕ) → readable_text (kept_prefix line) ≡ readable_text line
-reading-held line = reading-front 1048577 (kept_prefix line) line (omega arith) (front-again 1048577 line)
+-- the kept prefix of a line has the reading of the line
+pub reading-partial : (line : List ℕ) → readable_text (kept_prefix line) ≡ readable_text line
+reading-partial line = reading-front 1048577 (kept_prefix line) line (omega arith) (front-again 1048577 line)
 
-pub readings-held : (rest line : List ℕ) → readable_lines_from rest (kept_prefix line) ≡ readable_lines_from rest line
-readings-held rest line = readings-front 1048577 rest (kept_prefix line) line (omega arith) (front-again 1048577 line)
+pub readings-partial : (rest line : List ℕ) → readable_lines_from rest (kept_prefix line) ≡ readable_lines_from rest line
+readings-partial rest line = readings-front 1048577 rest (kept_prefix line) line (omega arith) (front-again 1048577 line)
 
--- a piece up to its first line feed
-pub ended-line : (piece rest pending : List ℕ) → All (λ x. x ≢ 10) piece → lines_ended_by (piece ++ 10 ∷ rest) pending ≡ readable_text (pending ++ piece) ∷ lines_ended_by rest []
-ended-line [] rest pending h = rw append-nil refl
-ended-line (x ∷ xs) rest pending h = rw (ne_eqb x 10 (All-head (λ x. x ≢ 10) x xs h)) (ended-line xs rest (pending ++ x ∷ []) (All-tail (λ x. x ≢ 10) x xs h) ∙ ap (λ l. readable_text l ∷ lines_ended_by rest []) (append_assoc pending (x ∷ []) xs))
+-- a chunk up to its first line feed
+pub ended-line : (input rest line_buffer : List ℕ) → All (λ x. x ≢ 10) input → lines_ended_by (input ++ 10 ∷ rest) line_buffer ≡ readable_text (line_buffer ++ input) ∷ lines_ended_by rest []
+ended-line [] rest line_buffer h = rw append-nil refl
+ended-line (x ∷ xs) rest line_buffer h = rw (ne_eqb x 10 (All-head (λ x. x ≢ 10) x xs h)) (ended-line xs rest (line_buffer ++ x ∷ []) (All-tail (λ x. x ≢ 10) x xs h) ∙ ap (λ l. readable_text l ∷ lines_ended_by rest []) (append_assoc line_buffer (x ∷ []) xs))
 
-pub unended-line : (piece rest pending : List ℕ) → All (λ x. x ≢ 10) piece → partial_line_after (piece ++ 10 ∷ rest) pending ≡ partial_line_after rest []
-unended-line [] rest pending h = refl
-unended-line (x ∷ xs) rest pending h = rw (ne_eqb x 10 (All-head (λ x. x ≢ 10) x xs h)) (unended-line xs rest (pending ++ x ∷ []) (All-tail (λ x. x ≢ 10) x xs h))
+pub unended-line : (input rest line_buffer : List ℕ) → All (λ x. x ≢ 10) input → partial_line_after (input ++ 10 ∷ rest) line_buffer ≡ partial_line_after rest []
+unended-line [] rest line_buffer h = refl
+unended-line (x ∷ xs) rest line_buffer h = rw (ne_eqb x 10 (All-head (λ x. x ≢ 10) x xs h)) (unended-line xs rest (line_buffer ++ x ∷ []) (All-tail (λ x. x ≢ 10) x xs h))
 
--- a piece, its first line feed at an index, and what is left of it behind that
-module _ (rest held held' : List ℕ) (at : ℕ) (plain : All (λ x. x ≢ 10) (take at rest)) (e : rest ≡ take at rest ++ 10 ∷ drop (at + 1) rest) (f : held' ≡ []) where
-  pub ended-at : lines_ended_by rest held ≡ readable_text (held ++ take at rest) ∷ lines_ended_by (take (length rest - (at + 1)) (drop (at + 1) rest)) held'
-  ended-at = ap (λ l. lines_ended_by l held) e ∙ ended-line (take at rest) (drop (at + 1) rest) held plain
-      ∙ ap (λ l. readable_text (held ++ take at rest) ∷ lines_ended_by l []) (sym (take_rest rest (at + 1)))
-      ∙ ap (λ l. readable_text (held ++ take at rest) ∷ lines_ended_by (take (length rest - (at + 1)) (drop (at + 1) rest)) l) (sym f)
+-- a chunk, the index of its first line feed, and the rest after it
+module _ (rest partial partial' : List ℕ) (at : ℕ) (plain : All (λ x. x ≢ 10) (take at rest)) (e : rest ≡ take at rest ++ 10 ∷ drop (at + 1) rest) (f : partial' ≡ []) where
+  pub ended-at : lines_ended_by rest partial ≡ readable_text (partial ++ take at rest) ∷ lines_ended_by (take (length rest - (at + 1)) (drop (at + 1) rest)) partial'
+  ended-at = ap (λ l. lines_ended_by l partial) e ∙ ended-line (take at rest) (drop (at + 1) rest) partial plain
+      ∙ ap (λ l. readable_text (partial ++ take at rest) ∷ lines_ended_by l []) (sym (take_rest rest (at + 1)))
+      ∙ ap (λ l. readable_text (partial ++ take at rest) ∷ lines_ended_by (take (length rest - (at + 1)) (drop (at + 1) rest)) l) (sym f)
 
-  pub unended-at : partial_line_after rest held ≡ partial_line_after (take (length rest - (at + 1)) (drop (at + 1) rest)) held'
-  unended-at = ap (λ l. partial_line_after l held) e ∙ unended-line (take at rest) (drop (at + 1) rest) held plain
+  pub unended-at : partial_line_after rest partial ≡ partial_line_after (take (length rest - (at + 1)) (drop (at + 1) rest)) partial'
+  unended-at = ap (λ l. partial_line_after l partial) e ∙ unended-line (take at rest) (drop (at + 1) rest) partial plain
       ∙ ap (λ l. partial_line_after l []) (sym (take_rest rest (at + 1)))
       ∙ ap (λ l. partial_line_after (take (length rest - (at + 1)) (drop (at + 1) rest)) l) (sym f)
 
--- a piece without a line feed
-pub ended-plain : (piece pending : List ℕ) → All (λ x. x ≢ 10) piece → lines_ended_by piece pending ≡ []
-ended-plain [] pending h = refl
-ended-plain (x ∷ xs) pending h = rw (ne_eqb x 10 (All-head (λ x. x ≢ 10) x xs h)) (ended-plain xs (pending ++ x ∷ []) (All-tail (λ x. x ≢ 10) x xs h))
+-- a chunk without a line feed
+pub ended-plain : (input line_buffer : List ℕ) → All (λ x. x ≢ 10) input → lines_ended_by input line_buffer ≡ []
+ended-plain [] line_buffer h = refl
+ended-plain (x ∷ xs) line_buffer h = rw (ne_eqb x 10 (All-head (λ x. x ≢ 10) x xs h)) (ended-plain xs (line_buffer ++ x ∷ []) (All-tail (λ x. x ≢ 10) x xs h))
 
-pub unended-plain : (piece pending : List ℕ) → All (λ x. x ≢ 10) piece → partial_line_after piece pending ≡ pending ++ piece
-unended-plain [] pending h = sym (append-nil pending)
-unended-plain (x ∷ xs) pending h = rw (ne_eqb x 10 (All-head (λ x. x ≢ 10) x xs h)) (unended-plain xs (pending ++ x ∷ []) (All-tail (λ x. x ≢ 10) x xs h) ∙ append_assoc pending (x ∷ []) xs)
+pub unended-plain : (input line_buffer : List ℕ) → All (λ x. x ≢ 10) input → partial_line_after input line_buffer ≡ line_buffer ++ input
+unended-plain [] line_buffer h = sym (append-nil line_buffer)
+unended-plain (x ∷ xs) line_buffer h = rw (ne_eqb x 10 (All-head (λ x. x ≢ 10) x xs h)) (unended-plain xs (line_buffer ++ x ∷ []) (All-tail (λ x. x ≢ 10) x xs h) ∙ append_assoc line_buffer (x ∷ []) xs)
 
--- a last line that isn't empty
+-- a last line that is not empty
 pub readings-last : (line : List ℕ) → 0 < length line → readable_lines_from [] line ≡ readable_text line ∷ []
 readings-last [] h = absurd (omega arith)
 readings-last (x ∷ xs) h = refl
@@ -114,37 +114,37 @@ pub readings-none : (line : List ℕ) → length line ≡ 0 → readable_lines_f
 readings-none [] h = refl
 readings-none (x ∷ xs) h = absurd (omega arith)
 
--- a piece and what follows it
-pub readings-piece : (piece rest pending : List ℕ) → readable_lines_from (piece ++ rest) pending ≡ lines_ended_by piece pending ++ readable_lines_from rest (partial_line_after piece pending)
-readings-piece [] rest pending = refl
-readings-piece (x ∷ xs) rest pending = elim (cases_Bool (x == 10)) [
-  | inl t ↦ rw t (ap (λ r. readable_text pending ∷ r) (readings-piece xs rest []))
-  | inr t ↦ rw t (readings-piece xs rest (pending ++ x ∷ []))
+-- a chunk and the input after it
+pub readings-input : (input rest line_buffer : List ℕ) → readable_lines_from (input ++ rest) line_buffer ≡ lines_ended_by input line_buffer ++ readable_lines_from rest (partial_line_after input line_buffer)
+readings-input [] rest line_buffer = refl
+readings-input (x ∷ xs) rest line_buffer = elim (cases_Bool (x == 10)) [
+  | inl t ↦ rw t (ap (λ r. readable_text line_buffer ∷ r) (readings-input xs rest []))
+  | inr t ↦ rw t (readings-input xs rest (line_buffer ++ x ∷ []))
 ]
 
-pub ended-few : (piece pending : List ℕ) → length (lines_ended_by piece pending) ≤ length piece
-ended-few [] pending = omega arith
-ended-few (x ∷ xs) pending = elim (cases_Bool (x == 10)) [
+pub ended-few : (input line_buffer : List ℕ) → length (lines_ended_by input line_buffer) ≤ length input
+ended-few [] line_buffer = omega arith
+ended-few (x ∷ xs) line_buffer = elim (cases_Bool (x == 10)) [
   | inl t ↦ rw t (omega (arith, ended-few xs []))
-  | inr t ↦ rw t (omega (arith, ended-few xs (pending ++ x ∷ [])))
+  | inr t ↦ rw t (omega (arith, ended-few xs (line_buffer ++ x ∷ [])))
 ]
 
--- what is held of a line and room for more of it
-pub hold-more : (held piece : List ℕ) (n : ℕ) → length held ≤ 1048577 → n ≡ min (length piece) (1048577 - length held) → held ++ take n piece ≡ take 1048577 (held ++ piece)
-hold-more held piece n h e = elim (cases_lt (1048577 - length held) (length piece)) [
-  | inl l ↦ (let m : n ≡ 1048577 - length held = omega (arith, e, l) in
-      let k : length held + n ≡ 1048577 = omega (arith, m, h) in
-      subst (λ (i : ℕ). held ++ take n piece ≡ take i (held ++ piece)) k (sym (take-append-add held piece n)))
-  | inr l ↦ (let m : length piece ≤ n = omega (arith, e, l) in
-      let k : length (held ++ piece) ≤ 1048577 = omega (arith, length-append held piece, l, h) in
-      ap (λ i. held ++ i) (take_all n piece m) ∙ sym (take_all 1048577 (held ++ piece) k))
+-- the kept prefix of a line extended by a part of a chunk
+pub hold-more : (partial input : List ℕ) (n : ℕ) → length partial ≤ 1048577 → n ≡ min (length input) (1048577 - length partial) → partial ++ take n input ≡ take 1048577 (partial ++ input)
+hold-more partial input n h e = elim (cases_lt (1048577 - length partial) (length input)) [
+  | inl l ↦ (let m : n ≡ 1048577 - length partial = omega (arith, e, l) in
+      let k : length partial + n ≡ 1048577 = omega (arith, m, h) in
+      subst (λ (i : ℕ). partial ++ take n input ≡ take i (partial ++ input)) k (sym (take-append-add partial input n)))
+  | inr l ↦ (let m : length input ≤ n = omega (arith, e, l) in
+      let k : length (partial ++ input) ≤ 1048577 = omega (arith, length-append partial input, l, h) in
+      ap (λ i. partial ++ i) (take_all n input m) ∙ sym (take_all 1048577 (partial ++ input) k))
 ]
 
 pub on_ok-if : {T E : Type 0} (r : Result T E) (new a b t : List ℕ) → new ≡ cond (is_ok r) a b → a ≡ t → OnOk r (new ≡ t)
 on_ok-if (Ok x) new a b t e f = e ∙ f
 on_ok-if (Err x) new a b t e f = tt
 
--- one more line is counted
+-- one more line counted
 pub counted-one : (s : List ℕ → Bool) (old new : Counts) (line : Option (List ℕ)) → new.lines ≡ old.lines + 1 → new.steps ≡ old.steps + (if is_counted_step s line then 1 else 0) → new ≡ counts_after s old (line ∷ [])
 counted-one s old new line e f =
     let a : new.lines ≡ old.lines + length (line ∷ []) = omega (arith, e) in
@@ -156,7 +156,7 @@ steps-append : (s : List ℕ → Bool) (a b : List (Option (List ℕ))) → step
 steps-append s [] b = omega arith
 steps-append s (line ∷ a) b = omega (arith, steps-append s a b)
 
--- lines counted after lines
+-- counting a list of lines after another counts their concatenation
 pub counted-append : (s : List ℕ → Bool) (counts : Counts) (a b : List (Option (List ℕ))) → counts_after s (counts_after s counts a) b ≡ counts_after s counts (a ++ b)
 counted-append s counts a b =
     let e : (counts.lines + length a) + length b ≡ counts.lines + length (a ++ b) = omega (arith, length-append a b) in

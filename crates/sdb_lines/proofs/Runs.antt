@@ -1,4 +1,4 @@
--- Runs joined to runs, and what is known to be written for them.
+-- The concatenation of runs, and their known output.
 use Rattle.std.proofs.Common.{◌≡◌, ℕ, List, [], ◌∷◌, ◌++◌, None, Some, refl, ap, sym, ◌∙◌, subst, append_assoc, append-nil}
 use Rattle.std.specs.declared.option.Option.{Option}
 use Rattle.std.specs.Io.KnownBytes.{Appends, Keeps}
@@ -25,14 +25,14 @@ prefix-trans a b c (after, e) = (after, ap (λ l. a ++ l) e ∙ sym (append_asso
 pub prefix-append : {A : Type 0} (a b c : List A) → IsPrefix a b → IsPrefix a (b ++ c)
 prefix-append a b c (after, e) = (after ++ c, ap (λ l. l ++ c) e ∙ append_assoc a after c)
 
--- what comes first is a front of what it is the front of
+-- a prefix of a list is a prefix of its extension
 pub AppendsFront-more : (a b : Option (List ℕ)) (all more : List ℕ) → AppendsPrefix a b all → AppendsPrefix a b (all ++ more)
 AppendsFront-more a b all more (bytes, w, f) = (bytes, w, prefix-append bytes all more f)
 
 AppendsFront-on : (a b c : Option (List ℕ)) (written all : List ℕ) → Appends a b written → AppendsPrefix b c all → AppendsPrefix a c (written ++ all)
 AppendsFront-on a b c written all w (bytes, v, f) = (written ++ bytes, Appends-trans a b c written bytes w v, prefix-trans written bytes all f)
 
--- the pieces of two runs in a row
+-- the concatenated output of two runs, split at the bytes written
 append_regroup : (first x y written out : List ℕ) → first ++ x ≡ written ++ out → first ++ (x ++ y) ≡ written ++ (out ++ y)
 append_regroup first x y written out e = sym (append_assoc first x y) ∙ ap (λ l. l ++ y) e ∙ append_assoc written out y
 
@@ -42,15 +42,15 @@ module _ {S : Type 0} (takes : S → Option (List ℕ) → List ℕ → S → Ty
   Run-append s t u (line ∷ a) b x y (answer, next, more, h, rest, e) r =
       (answer, next, more ++ y, h, Run-append next t u a b more y rest r, ap (λ l. l ++ y) e ∙ append_assoc answer more y)
 
-  -- no line
+  -- the run of no line
   pub Run-none : (s : S) → Handles takes s [] [] s
   Run-none s = (refl, refl)
 
-  -- one line
+  -- the run of one line
   pub Run-one : (s t : S) (line : Option (List ℕ)) (answer : List ℕ) → takes s line answer t → Handles takes s (line ∷ []) answer t
   Run-one s t line answer h = (answer, t, [], h, (refl, refl), sym (append-nil answer))
 
-  -- nothing is taken yet
+  -- the run that has taken no line and written no byte
   pub nothing-written : (s : S) (first : List ℕ) (old : Option (List ℕ)) (lines : List (Option (List ℕ))) → AppendsAnswerPrefix takes s lines first old old
   nothing-written s first old lines = record {
     taken = [];
@@ -61,7 +61,7 @@ module _ {S : Type 0} (takes : S → Option (List ℕ) → List ℕ → S → Ty
     wrote = ([], Appends-none old, (first ++ [], refl));
   }
 
-  -- what comes first is written, and nothing is taken yet
+  -- the run that has written the opening text and taken no line
   pub first-written : (s : S) (first : List ℕ) (old new : Option (List ℕ)) → Appends old new first → AppendsAnswers takes s [] s first old new
   first-written s first old new w = record { bytes = []; run = Run-none s; wrote = subst (Appends old new) (sym (append-nil first)) w }
 
@@ -69,28 +69,28 @@ module _ {S : Type 0} (takes : S → Option (List ℕ) → List ℕ → S → Ty
   first-front s first old new lines w =
       record { taken = []; bytes = []; last = s; from_first = (lines, refl); run = Run-none s; wrote = AppendsFront-more old new first [] w }
 
-  -- the answer to a line is pending
-  pub line-pending : {s t : S} {line : Option (List ℕ)} (first pending : List ℕ) (old : Option (List ℕ)) → AppendsWhere first pending (λ answer. takes s line answer t) → AppendsAnswersUpTo takes pending s (line ∷ []) t first old old
-  line-pending {s} {t} {line} first pending old (answer, e, h) = record { bytes = answer; written = []; run = Run-one s t line answer h; parts = sym e; wrote = Appends-none old }
+  -- the response to a line is pending
+  pub line-line_buffer : {s t : S} {line : Option (List ℕ)} (first line_buffer : List ℕ) (old : Option (List ℕ)) → AppendsWhere first line_buffer (λ answer. takes s line answer t) → AppendsAnswersUpTo takes line_buffer s (line ∷ []) t first old old
+  line-line_buffer {s} {t} {line} first line_buffer old (answer, e, h) = record { bytes = answer; written = []; run = Run-one s t line answer h; parts = sym e; wrote = Appends-none old }
 
-  -- what was pending is written
-  pub pending-written : {s t : S} {lines : List (Option (List ℕ))} {first pending : List ℕ} {old mid : Option (List ℕ)} (new : Option (List ℕ)) → AppendsAnswersUpTo takes pending s lines t first old mid → Appends mid new pending → AppendsAnswers takes s lines t first old new
-  pending-written {pending = pending} {old} {mid} new a v =
-      record { bytes = a.bytes; run = a.run; wrote = subst (Appends old new) (sym a.parts) (Appends-trans old mid new a.written pending a.wrote v) }
+  -- the pending output is written
+  pub line_buffer-written : {s t : S} {lines : List (Option (List ℕ))} {first line_buffer : List ℕ} {old mid : Option (List ℕ)} (new : Option (List ℕ)) → AppendsAnswersUpTo takes line_buffer s lines t first old mid → Appends mid new line_buffer → AppendsAnswers takes s lines t first old new
+  line_buffer-written {line_buffer = line_buffer} {old} {mid} new a v =
+      record { bytes = a.bytes; run = a.run; wrote = subst (Appends old new) (sym a.parts) (Appends-trans old mid new a.written line_buffer a.wrote v) }
 
-  pub pending-front : {s t : S} {lines : List (Option (List ℕ))} {first pending : List ℕ} {old mid : Option (List ℕ)} (new : Option (List ℕ)) → AppendsAnswersUpTo takes pending s lines t first old mid → AppendsPrefix mid new pending → AppendsAnswerPrefix takes s lines first old new
-  pending-front {t = t} {lines} {pending = pending} {old} {mid} new a v = record {
+  pub line_buffer-front : {s t : S} {lines : List (Option (List ℕ))} {first line_buffer : List ℕ} {old mid : Option (List ℕ)} (new : Option (List ℕ)) → AppendsAnswersUpTo takes line_buffer s lines t first old mid → AppendsPrefix mid new line_buffer → AppendsAnswerPrefix takes s lines first old new
+  line_buffer-front {t = t} {lines} {line_buffer = line_buffer} {old} {mid} new a v = record {
     taken = lines;
     bytes = a.bytes;
     last = t;
     from_first = prefix-refl lines;
     run = a.run;
-    wrote = subst (AppendsPrefix old new) (sym a.parts) (AppendsFront-on old mid new a.written pending a.wrote v);
+    wrote = subst (AppendsPrefix old new) (sym a.parts) (AppendsFront-on old mid new a.written line_buffer a.wrote v);
   }
 
-  -- all is written
-  pub none-pending : {s t : S} {lines : List (Option (List ℕ))} {first : List ℕ} {old new : Option (List ℕ)} (pending : List ℕ) → pending ≡ [] → AppendsAnswers takes s lines t first old new → AppendsAnswersUpTo takes pending s lines t first old new
-  none-pending {first = first} pending e a = record {
+  -- no output is pending
+  pub none-line_buffer : {s t : S} {lines : List (Option (List ℕ))} {first : List ℕ} {old new : Option (List ℕ)} (line_buffer : List ℕ) → line_buffer ≡ [] → AppendsAnswers takes s lines t first old new → AppendsAnswersUpTo takes line_buffer s lines t first old new
+  none-line_buffer {first = first} line_buffer e a = record {
     bytes = a.bytes;
     written = first ++ a.bytes;
     run = a.run;
@@ -98,14 +98,14 @@ module _ {S : Type 0} (takes : S → Option (List ℕ) → List ℕ → S → Ty
     wrote = a.wrote;
   }
 
-  -- lines after lines
-  pub lines-pending : {s t u : S} {a b : List (Option (List ℕ))} {first out pending : List ℕ} {old mid new : Option (List ℕ)}
-      → AppendsAnswersUpTo takes out s a t first old mid → AppendsAnswersUpTo takes pending t b u out mid new → AppendsAnswersUpTo takes pending s (a ++ b) u first old new
-  lines-pending {s} {t} {u} {a} {b} {first} {out} {pending} {old} {mid} {new} x y = record {
+  -- the concatenation of two runs with pending output
+  pub lines-line_buffer : {s t u : S} {a b : List (Option (List ℕ))} {first out line_buffer : List ℕ} {old mid new : Option (List ℕ)}
+      → AppendsAnswersUpTo takes out s a t first old mid → AppendsAnswersUpTo takes line_buffer t b u out mid new → AppendsAnswersUpTo takes line_buffer s (a ++ b) u first old new
+  lines-line_buffer {s} {t} {u} {a} {b} {first} {out} {line_buffer} {old} {mid} {new} x y = record {
     bytes = x.bytes ++ y.bytes;
     written = x.written ++ y.written;
     run = Run-append s t u a b x.bytes y.bytes x.run y.run;
-    parts = append_regroup first x.bytes y.bytes x.written out x.parts ∙ ap (λ l. x.written ++ l) y.parts ∙ sym (append_assoc x.written y.written pending);
+    parts = append_regroup first x.bytes y.bytes x.written out x.parts ∙ ap (λ l. x.written ++ l) y.parts ∙ sym (append_assoc x.written y.written line_buffer);
     wrote = Appends-trans old mid new x.written y.written x.wrote y.wrote;
   }
 
@@ -130,16 +130,16 @@ module _ {S : Type 0} (takes : S → Option (List ℕ) → List ℕ → S → Ty
 
   pub lines-written_front : {s t : S} {a b : List (Option (List ℕ))} {first : List ℕ} {old mid new : Option (List ℕ)}
       → AppendsAnswers takes s a t first old mid → AppendsAnswerPrefix takes t b [] mid new → AppendsAnswerPrefix takes s (a ++ b) first old new
-  lines-written_front x y = lines-front (none-pending [] refl x) y
+  lines-written_front x y = lines-front (none-line_buffer [] refl x) y
 
-  -- a front of the answers to some lines is one of the answers to more
+  -- a prefix of the responses to some lines is a prefix of the responses to more
   pub all-front : {s t : S} {lines : List (Option (List ℕ))} {first : List ℕ} {old new : Option (List ℕ)} → AppendsAnswers takes s lines t first old new → AppendsAnswerPrefix takes s lines first old new
   all-front {t = t} {lines} {first} a =
       record { taken = lines; bytes = a.bytes; last = t; from_first = prefix-refl lines; run = a.run; wrote = (first ++ a.bytes, a.wrote, prefix-refl (first ++ a.bytes)) }
 
-  pub pending-only : {s t : S} {lines : List (Option (List ℕ))} {first pending : List ℕ} {old new : Option (List ℕ)} → AppendsAnswersUpTo takes pending s lines t first old new → AppendsAnswerPrefix takes s lines first old new
-  pending-only {t = t} {lines} {pending = pending} a =
-      record { taken = lines; bytes = a.bytes; last = t; from_first = prefix-refl lines; run = a.run; wrote = (a.written, a.wrote, (pending, a.parts)) }
+  pub line_buffer-only : {s t : S} {lines : List (Option (List ℕ))} {first line_buffer : List ℕ} {old new : Option (List ℕ)} → AppendsAnswersUpTo takes line_buffer s lines t first old new → AppendsAnswerPrefix takes s lines first old new
+  line_buffer-only {t = t} {lines} {line_buffer = line_buffer} a =
+      record { taken = lines; bytes = a.bytes; last = t; from_first = prefix-refl lines; run = a.run; wrote = (a.written, a.wrote, (line_buffer, a.parts)) }
 
   pub front-lines : {s : S} {a : List (Option (List ℕ))} (b : List (Option (List ℕ))) {first : List ℕ} {old new : Option (List ℕ)} → AppendsAnswerPrefix takes s a first old new → AppendsAnswerPrefix takes s (a ++ b) first old new
   front-lines {a = a} b x = record { taken = x.taken; bytes = x.bytes; last = x.last; from_first = prefix-append x.taken a b x.from_first; run = x.run; wrote = x.wrote }

@@ -1,4 +1,4 @@
--- What a write of some of the output adds to the known bytes.
+-- The known bytes after a write of a part of the output.
 use Rattle.std.proofs.Common.{◌≡◌, ℕ, ◌+◌, ◌-◌, List, length, take, drop, ap, sym, ◌∙◌, subst, take-append-drop, ◌⊎◌, inl, inr, None, Some, Ok, Err}
 use Rattle.std.proofs.lemmas.List.{take_rest}
 use Rattle.std.proofs.Math.Seq.{take-add}
@@ -18,12 +18,12 @@ put-more a b c all out at n e p q =
 pub front-taken : (a c : Option (List ℕ)) (all : List ℕ) (k : ℕ) → Appends a c (take k all) → AppendsPrefix a c all
 front-taken a c all k p = (take k all, p, (drop k all, sym (take-append-drop k all)))
 
--- what holds but for an error holds where there is none
+-- a property that holds except for an error holds of a value
 pub but-no_error : {T E P : Type 0} (x : T) (e : E) → P ⊎ (◌≡◌ {A = Result T E} (Ok x) (Err e)) → P
 but-no_error x e (inl p) = p
 but-no_error x e (inr q) = cc
 
--- what holds whatever was returned
+-- a property that always holds also holds on an error
 pub on_any_err : {T E P : Type 0} (r : Result T E) → P → OnErr r P
 on_any_err (Ok x) p = tt
 on_any_err (Err e) p = p
@@ -32,7 +32,7 @@ pub on_ok_both : {T E P Q R : Type 0} (r : Result T E) → (P → Q → R) → O
 on_ok_both (Ok x) f p q = f p q
 on_ok_both (Err e) f p q = tt
 
--- what holds of each value holds of the one that is there
+-- a property of each value holds of an optional one
 pub if_any_some : {A : Type 0} (a : Option A) (P : A → Type 0) → ((x : A) → P x) → IfSome a P
 if_any_some None P f = tt
 if_any_some (Some x) P f = f x

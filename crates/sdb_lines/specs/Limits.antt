@@ -1,14 +1,14 @@
--- How long a line and how long a run may be.
+-- The limits of a line and of a run.
 use Rattle.std.specs.Prelude.{ℕ, ◌+◌}
 
--- the longest line that can be read, in bytes, without its line feed
+-- the maximum length of a line, in bytes, without its line feed
 abbrev pub max_line_len : ℕ
 max_line_len = 1048576
 
--- the most bytes that are held of a line: enough to see that it is too long
+-- the maximum number of bytes kept of a line, one more so that a longer line is recognized
 abbrev pub max_partial_len : ℕ
 max_partial_len = max_line_len + 1
 
--- the most reads that one run makes
+-- the maximum number of reads in one run
 abbrev pub read_limit : ℕ
 read_limit = 1099511627776

@@ -1,12 +1,12 @@
--- What has been written of what is to be written.
+-- Prefixes of the output.
 use Rattle.std.specs.Prelude.{◌≡◌, ℕ, List, ◌++◌}
 use Rattle.std.specs.declared.option.Option.{Option}
 use Rattle.std.specs.Io.KnownBytes.{Appends}
 
--- the list is a front of all
+-- the list is a prefix of the other
 abbrev pub IsPrefix : {A : Type 0} → List A → List A → Type 0
 IsPrefix {A} front all = (after : List A) × (all ≡ front ++ after)
 
--- known bytes grow by a front of all
+-- the known bytes grow by a prefix of the list
 abbrev pub AppendsPrefix : Option (List ℕ) → Option (List ℕ) → List ℕ → Type 0
 AppendsPrefix old new all = (bytes : List ℕ) × Appends old new bytes × IsPrefix bytes all

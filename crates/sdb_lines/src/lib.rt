@@ -1,8 +1,8 @@
-//! Lines in, answers out.
+//! A loop that reads lines and writes the responses to them.
 //!
-//! [`run_lines`] reads an input to its end, cuts it into lines and writes what a [`LineHandler`] answers to each.
-//! It reads from any [`Source`] and writes to any [`Sink`]; [`CountingReader`] and [`CountingWriter`] make these of the
-//! readers and writers of `std`.
+//! [`run_lines`] reads an input to its end and passes each line to a [`LineHandler`], which appends
+//! the response. It reads from a [`Source`] and writes to a [`Sink`]; [`CountingReader`] and
+//! [`CountingWriter`] implement these for the readers and writers of `std`.
 #![tactic(auto)]
 
 pub mod line_reader;

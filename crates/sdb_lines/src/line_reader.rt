@@ -1,7 +1,7 @@
-//! An input that comes in pieces, cut into lines, and each line answered.
+//! The splitting of an input into lines, and the handling of each line.
 //!
-//! A line ends at a line feed, which is no part of it. A carriage return is a byte of its line like any other.
-//! What follows the last line feed is a line too, unless it is empty.
+//! A line feed ends a line and is not part of it; a carriage return is an ordinary byte. The bytes
+//! after the last line feed are a line unless there are none.
 ghost use Rattle.std.specs.Prelude.{◌≡◌, ℕ, ◌+◌, ◌^◌, ◌≤◌, ◌<◌, ◌⊎◌, Bool, List, [], ◌∷◌, ◌++◌, None, Some, true, length, take, drop, OnOk, OnErr, IfOk, IfSome, IfNone, vec_len, IsErrOf, All, ◌≢◌};
 ghost use Rattle.std.specs.declared.option.Option.{Option};
 ghost use Rattle.std.specs.Io.KnownBytes.{Appends};
@@ -19,51 +19,66 @@ use crate::streams::Sink;
 use memchr::memchr;
 use std::alloc::{AllocError, Global};
 
-/// The longest line that is read, in bytes, without its line feed: 1,048,576.
+/// The maximum length of a line in bytes, without its line feed: 1,048,576.
 pub const LINE_LIMIT: usize = 1_048_576;
 
-// What is held of a line that is too long: enough to see that it is.
+// The number of bytes kept of a line, one more than the limit so that a longer line is recognized.
 const PARTIAL_LINE_LIMIT: usize = 1_048_577;
 
-// The output, in bytes, that is written before the piece of input is done.
+// The length of the output, in bytes, at which it is written before the chunk is finished.
 const OUTPUT_LIMIT: usize = 65_536;
 
-/// Answers lines, one after the other.
+/// A state machine that handles lines in order.
 pub trait LineHandler {
-    // What is written before the first line is read.
+    // The bytes written before the first line is read.
     ghost opening: { Self → List ℕ };
 
-    // Whether the first machine answers this line by these bytes, and then is the second machine. `None` is a line that
-    // is too long or not UTF-8.
+    // Whether the handler in the first state responds to this line with these bytes and is then in
+    // the second state. `None` is a line that is too long or not UTF-8.
     ghost handles: { Self → Option (List ℕ) → List ℕ → Self → Type 0 };
 
-    // Whether a line is a step, by its text alone.
+    // Whether a line counts as a step, by its text alone.
     ghost counts_as_step: { List ℕ → Bool };
 
-    /// Appends the opening text to `out`. After an error nothing is said of `out`, and nothing of it is written.
+    /// Appends the opening text to `out`.
+    ///
+    /// # Errors
+    ///
+    /// [`AllocError`] if an allocation fails; the contents of `out` are then unspecified, and the
+    /// caller discards them.
     fn write_opening(&self, alloc: Global, out: &mut Vec<u8>) -> Result<(), AllocError>
         ensures { OnOk result (out.new.items ≡ out.old.items ++ opening self.now) };
 
-    /// Takes a line, without its line feed, and appends the answer to `out`. It answers whether the line is a step.
+    /// Handles a line, given without its line feed, and appends the response to `out`. Returns
+    /// whether the line is a step.
     ///
-    /// After an error the run ends: nothing is said of `self` and `out`, and nothing of `out` is written.
+    /// # Errors
+    ///
+    /// [`AllocError`] if an allocation fails; `self` and `out` are then unspecified, and the caller
+    /// ends the run.
     fn handle(&mut self, alloc: Global, line: &str, out: &mut Vec<u8>) -> Result<bool, AllocError>
         ensures answer { OnOk result (AppendsWhere out.old.items out.new.items
             (λ answer. handles self.old (Some line.now) answer self.new)) }
         ensures step { IfOk result (λ b. b ≡ counts_as_step line.now) };
 
-    /// Takes a line that is longer than [`LINE_LIMIT`] or not UTF-8, and appends the answer to `out`. It is no step.
+    /// Handles a line that is longer than [`LINE_LIMIT`] or not UTF-8, and appends the response to
+    /// `out`. Such a line is not a step.
+    ///
+    /// # Errors
+    ///
+    /// [`AllocError`] if an allocation fails; `self` and `out` are then unspecified, and the caller
+    /// ends the run.
     fn handle_unreadable(&mut self, alloc: Global, out: &mut Vec<u8>) -> Result<(), AllocError>
         ensures { OnOk result (AppendsWhere out.old.items out.new.items
             (λ answer. handles self.old None answer self.new)) };
 }
 
-// What a run carries from one piece of its input to the next.
+// The state of a run between two chunks of its input.
 #[derive(Drop)]
 pub(crate) struct LineBuffer {
-    // The bytes of a line that has not ended, up to the limit.
+    // The bytes of the unfinished line, up to the limit.
     pub partial_line: Vec<u8>,
-    // The answers that are not written yet.
+    // The responses that are not written yet.
     pub out: Vec<u8>,
     pub counts: Counts,
     ghost partial_line_bounded: { vec_len partial_line ≤ max_partial_len },
@@ -85,7 +100,7 @@ impl LineBuffer {
     }
 }
 
-// Answers a line of any bytes, and whether it is a step.
+// Handles a line of arbitrary bytes; returns whether it is a step.
 fn handle_line<M: LineHandler>(
     alloc: Global,
     machine: &mut M,
@@ -109,18 +124,23 @@ fn handle_line<M: LineHandler>(
     }
 }
 
-// Holds the piece behind what is held of the line, up to the limit.
-fn append_partial(held: &mut Vec<u8>, piece: &[u8]) -> Result<(), AllocError>
-    requires { vec_len held.old ≤ PARTIAL_LINE_LIMIT }
-    ensures items { OnOk result (held.new.items ≡ kept_prefix (held.old.items ++ piece.now)) }
-    ensures bound { vec_len held.new ≤ PARTIAL_LINE_LIMIT }
+// Appends the chunk to the kept bytes of the line, up to the limit.
+fn append_partial(partial: &mut Vec<u8>, input: &[u8]) -> Result<(), AllocError>
+    requires { vec_len partial.old ≤ PARTIAL_LINE_LIMIT }
+    ensures items { OnOk result (partial.new.items ≡ kept_prefix (partial.old.items ++ input.now)) }
+    ensures bound { vec_len partial.new ≤ PARTIAL_LINE_LIMIT }
 {
-    let room = PARTIAL_LINE_LIMIT - held.len();
-    let taken = piece.len().min(room);
-    held.extend_from_slice(&piece[..taken])
+    let room = PARTIAL_LINE_LIMIT - partial.len();
+    let taken = input.len().min(room);
+    partial.extend_from_slice(&input[..taken])
 }
 
-/// Writes all of the output, which is empty then. A fault is that of a write, and a front of it was written.
+/// Writes all of the output and empties it.
+///
+/// # Errors
+///
+/// [`RunFault::WriteFailed`] if a write fails or writes 0 bytes; a prefix of the output is then
+/// written.
 pub fn flush_buffer<W: Sink>(out: &mut Vec<u8>, writer: &mut W) -> Result<(), RunFault>
     ensures empty { OnOk result (out.new.items ≡ []) }
     ensures wrote { OnOk result (Appends (W.bytes_written writer.old) (W.bytes_written writer.new) out.old.items) }
@@ -142,7 +162,7 @@ pub fn flush_buffer<W: Sink>(out: &mut Vec<u8>, writer: &mut W) -> Result<(), Ru
     Ok(())
 }
 
-/// Where the first line feed is.
+/// Returns the index of the first line feed.
 pub fn first_line_feed(bytes: &[u8]) -> Option<usize>
     ensures found { IfSome result (λ at. (at < length bytes.now) × All (λ x. x ≢ 10) (take at bytes.now)
         × (bytes.now ≡ take at bytes.now ++ 10 ∷ drop (at + 1) bytes.now)) }
@@ -152,79 +172,82 @@ pub fn first_line_feed(bytes: &[u8]) -> Option<usize>
     memchr(b'\n', bytes)
 }
 
-// Answers and counts the line that ends with this piece, and writes the output once there is much of it.
+// Handles and counts the line that ends with this chunk, and writes the output once it reaches the
+// limit.
 fn handle_partial<M: LineHandler, W: Sink>(
     alloc: Global,
     machine: &mut M,
-    pending: &mut LineBuffer,
+    line_buffer: &mut LineBuffer,
     writer: &mut W,
-    piece: &[u8],
+    input: &[u8],
 ) -> Result<(), RunFault>
-    requires counter_bound { pending.old.counts.lines + 1 < 2 ^ 64 }
-    ensures partial_line { OnOk result (pending.new.partial_line.items ≡ []) }
-    ensures count { OnOk result (pending.new.counts
-        ≡ counts_after M.counts_as_step pending.old.counts (readable_text (pending.old.partial_line.items ++ piece.now)
+    requires counter_bound { line_buffer.old.counts.lines + 1 < 2 ^ 64 }
+    ensures partial_line { OnOk result (line_buffer.new.partial_line.items ≡ []) }
+    ensures count { OnOk result (line_buffer.new.counts
+        ≡ counts_after M.counts_as_step line_buffer.old.counts (readable_text
+        (line_buffer.old.partial_line.items ++ input.now)
         ∷ [])) }
-    ensures wrote_answers { OnOk result (AppendsAnswersUpTo M.handles pending.new.out.items
-        machine.old (readable_text (pending.old.partial_line.items ++ piece.now) ∷ []) machine.new
-        pending.old.out.items (W.bytes_written writer.old) (W.bytes_written writer.new)) }
+    ensures wrote_answers { OnOk result (AppendsAnswersUpTo M.handles line_buffer.new.out.items
+        machine.old (readable_text (line_buffer.old.partial_line.items ++ input.now) ∷ []) machine.new
+        line_buffer.old.out.items (W.bytes_written writer.old) (W.bytes_written writer.new)) }
     ensures prefix_on_err { OnErr result (AppendsAnswerPrefix M.handles
-        machine.old (readable_text (pending.old.partial_line.items ++ piece.now) ∷ [])
-        pending.old.out.items (W.bytes_written writer.old) (W.bytes_written writer.new)) }
+        machine.old (readable_text (line_buffer.old.partial_line.items ++ input.now) ∷ [])
+        line_buffer.old.out.items (W.bytes_written writer.old) (W.bytes_written writer.new)) }
     ensures write_failures { (W.failures writer.new ≡ W.failures writer.old) ⊎ IsErrOf result RunFault.WriteFailed }
     ensures write_failed { IsErrOf result RunFault.WriteFailed →
         W.failures writer.new ≡ failures_after true (W.failures writer.old) }
     ensures never_read_failed { IsErrOf result RunFault.ReadFailed → ⊥ }
 {
-    append_partial(&mut pending.partial_line, piece)?;
+    append_partial(&mut line_buffer.partial_line, input)?;
     let is_step = handle_line(
         alloc,
         machine,
-        pending.partial_line.as_slice(),
-        &mut pending.out,
+        line_buffer.partial_line.as_slice(),
+        &mut line_buffer.out,
     )?;
-    pending.partial_line.clear();
-    pending.counts.count_line(is_step);
-    if pending.out.len() < OUTPUT_LIMIT {
+    line_buffer.partial_line.clear();
+    line_buffer.counts.count_line(is_step);
+    if line_buffer.out.len() < OUTPUT_LIMIT {
         return Ok(());
     }
-    flush_buffer(&mut pending.out, writer)
+    flush_buffer(&mut line_buffer.out, writer)
 }
 
-// Answers the lines that end in this piece of the input, and holds the rest of it.
+// Handles the lines that end in this chunk, and keeps the rest of it.
 fn handle_chunk_lines<M: LineHandler, W: Sink>(
     alloc: Global,
     machine: &mut M,
-    pending: &mut LineBuffer,
+    line_buffer: &mut LineBuffer,
     writer: &mut W,
-    piece: &[u8],
+    input: &[u8],
 ) -> Result<(), RunFault>
-    requires counter_bound { pending.old.counts.lines + length piece.now < 2 ^ 64 }
-    ensures partial_line { OnOk result (pending.new.partial_line.items
-        ≡ kept_prefix (partial_line_after piece.now pending.old.partial_line.items)) }
-    ensures count { OnOk result (pending.new.counts
-        ≡ counts_after M.counts_as_step pending.old.counts (lines_ended_by piece.now pending.old.partial_line.items)) }
-    ensures wrote_answers { OnOk result (AppendsAnswersUpTo M.handles pending.new.out.items
-        machine.old (lines_ended_by piece.now pending.old.partial_line.items) machine.new
-        pending.old.out.items (W.bytes_written writer.old) (W.bytes_written writer.new)) }
+    requires counter_bound { line_buffer.old.counts.lines + length input.now < 2 ^ 64 }
+    ensures partial_line { OnOk result (line_buffer.new.partial_line.items
+        ≡ kept_prefix (partial_line_after input.now line_buffer.old.partial_line.items)) }
+    ensures count { OnOk result (line_buffer.new.counts
+        ≡ counts_after M.counts_as_step line_buffer.old.counts
+        (lines_ended_by input.now line_buffer.old.partial_line.items)) }
+    ensures wrote_answers { OnOk result (AppendsAnswersUpTo M.handles line_buffer.new.out.items
+        machine.old (lines_ended_by input.now line_buffer.old.partial_line.items) machine.new
+        line_buffer.old.out.items (W.bytes_written writer.old) (W.bytes_written writer.new)) }
     ensures prefix_on_err { OnErr result (AppendsAnswerPrefix M.handles machine.old
-        (lines_ended_by piece.now pending.old.partial_line.items)
-        pending.old.out.items (W.bytes_written writer.old) (W.bytes_written writer.new)) }
+        (lines_ended_by input.now line_buffer.old.partial_line.items)
+        line_buffer.old.out.items (W.bytes_written writer.old) (W.bytes_written writer.new)) }
     ensures write_failures { (W.failures writer.new ≡ W.failures writer.old) ⊎ IsErrOf result RunFault.WriteFailed }
     ensures write_failed { IsErrOf result RunFault.WriteFailed →
         W.failures writer.new ≡ failures_after true (W.failures writer.old) }
     ensures never_read_failed { IsErrOf result RunFault.ReadFailed → ⊥ }
 {
-    let mut rest = piece;
+    let mut rest = input;
     while let Some(at) = first_line_feed(rest) {
-        handle_partial(alloc, machine, pending, writer, &rest[..at])?;
+        handle_partial(alloc, machine, line_buffer, writer, &rest[..at])?;
         rest = &rest[at + 1..];
     }
-    append_partial(&mut pending.partial_line, rest)?;
+    append_partial(&mut line_buffer.partial_line, rest)?;
     Ok(())
 }
 
-// Writes all of the output, and flushes it.
+// Writes all of the output and flushes the writer.
 fn write_and_flush<W: Sink>(out: &mut Vec<u8>, writer: &mut W) -> Result<(), RunFault>
     ensures empty { OnOk result (out.new.items ≡ []) }
     ensures wrote { OnOk result (Appends (W.bytes_written writer.old) (W.bytes_written writer.new) out.old.items) }
@@ -238,7 +261,7 @@ fn write_and_flush<W: Sink>(out: &mut Vec<u8>, writer: &mut W) -> Result<(), Run
     writer.flush_all().map_err(|_| RunFault::WriteFailed)
 }
 
-// Writes the opening text, and flushes it.
+// Writes the opening text and flushes the writer.
 pub(crate) fn write_opening<M: LineHandler, W: Sink>(
     alloc: Global,
     machine: &M,
@@ -258,67 +281,69 @@ pub(crate) fn write_opening<M: LineHandler, W: Sink>(
     write_and_flush(&mut out, writer)
 }
 
-// Answers the lines that end in this piece of the input, writes their answers and flushes.
+// Handles the lines that end in this chunk, writes their responses and flushes the writer.
 pub(crate) fn handle_chunk<M: LineHandler, W: Sink>(
     alloc: Global,
     machine: &mut M,
-    pending: &mut LineBuffer,
+    line_buffer: &mut LineBuffer,
     writer: &mut W,
-    piece: &[u8],
+    input: &[u8],
 ) -> Result<(), RunFault>
-    requires empty { pending.old.out.items ≡ [] }
-    requires counter_bound { pending.old.counts.lines + length piece.now < 2 ^ 64 }
-    ensures empty { OnOk result (pending.new.out.items ≡ []) }
-    ensures partial_line { OnOk result (pending.new.partial_line.items
-        ≡ kept_prefix (partial_line_after piece.now pending.old.partial_line.items)) }
-    ensures count { OnOk result (pending.new.counts
-        ≡ counts_after M.counts_as_step pending.old.counts (lines_ended_by piece.now pending.old.partial_line.items)) }
+    requires empty { line_buffer.old.out.items ≡ [] }
+    requires counter_bound { line_buffer.old.counts.lines + length input.now < 2 ^ 64 }
+    ensures empty { OnOk result (line_buffer.new.out.items ≡ []) }
+    ensures partial_line { OnOk result (line_buffer.new.partial_line.items
+        ≡ kept_prefix (partial_line_after input.now line_buffer.old.partial_line.items)) }
+    ensures count { OnOk result (line_buffer.new.counts
+        ≡ counts_after M.counts_as_step line_buffer.old.counts
+        (lines_ended_by input.now line_buffer.old.partial_line.items)) }
     ensures wrote_answers { OnOk result (AppendsAnswers M.handles machine.old
-        (lines_ended_by piece.now pending.old.partial_line.items) machine.new
+        (lines_ended_by input.now line_buffer.old.partial_line.items) machine.new
         [] (W.bytes_written writer.old) (W.bytes_written writer.new)) }
     ensures prefix_on_err { OnErr result (AppendsAnswerPrefix M.handles machine.old
-        (lines_ended_by piece.now pending.old.partial_line.items)
+        (lines_ended_by input.now line_buffer.old.partial_line.items)
         [] (W.bytes_written writer.old) (W.bytes_written writer.new)) }
     ensures write_failures { (W.failures writer.new ≡ W.failures writer.old) ⊎ IsErrOf result RunFault.WriteFailed }
     ensures write_failed { IsErrOf result RunFault.WriteFailed →
         W.failures writer.new ≡ failures_after true (W.failures writer.old) }
     ensures never_read_failed { IsErrOf result RunFault.ReadFailed → ⊥ }
 {
-    handle_chunk_lines(alloc, machine, pending, writer, piece)?;
-    write_and_flush(&mut pending.out, writer)
+    handle_chunk_lines(alloc, machine, line_buffer, writer, input)?;
+    write_and_flush(&mut line_buffer.out, writer)
 }
 
-// Answers a last line that has no line feed.
+// Handles a last line without a line feed.
 pub(crate) fn handle_rest<M: LineHandler, W: Sink>(
     alloc: Global,
     machine: &mut M,
-    pending: &mut LineBuffer,
+    line_buffer: &mut LineBuffer,
     writer: &mut W,
 ) -> Result<(), RunFault>
-    requires empty { pending.old.out.items ≡ [] }
-    requires counter_bound { pending.old.counts.lines + 1 < 2 ^ 64 }
-    ensures count { OnOk result (pending.new.counts
-        ≡ counts_after M.counts_as_step pending.old.counts (readable_lines_from [] pending.old.partial_line.items)) }
+    requires empty { line_buffer.old.out.items ≡ [] }
+    requires counter_bound { line_buffer.old.counts.lines + 1 < 2 ^ 64 }
+    ensures count { OnOk result (line_buffer.new.counts
+        ≡ counts_after M.counts_as_step line_buffer.old.counts
+        (readable_lines_from [] line_buffer.old.partial_line.items)) }
     ensures wrote_answers { OnOk result (AppendsAnswers M.handles machine.old
-        (readable_lines_from [] pending.old.partial_line.items) machine.new
+        (readable_lines_from [] line_buffer.old.partial_line.items) machine.new
         [] (W.bytes_written writer.old) (W.bytes_written writer.new)) }
     ensures prefix_on_err { OnErr result (AppendsAnswerPrefix M.handles machine.old
-        (readable_lines_from [] pending.old.partial_line.items)
+        (readable_lines_from [] line_buffer.old.partial_line.items)
         [] (W.bytes_written writer.old) (W.bytes_written writer.new)) }
     ensures write_failures { (W.failures writer.new ≡ W.failures writer.old) ⊎ IsErrOf result RunFault.WriteFailed }
     ensures write_failed { IsErrOf result RunFault.WriteFailed →
         W.failures writer.new ≡ failures_after true (W.failures writer.old) }
     ensures never_read_failed { IsErrOf result RunFault.ReadFailed → ⊥ }
 {
-    if pending.partial_line.is_empty() {
+    if line_buffer.partial_line.is_empty() {
         return Ok(());
     }
     let is_step = handle_line(
         alloc,
         machine,
-        pending.partial_line.as_slice(),
-        &mut pending.out,
+        line_buffer.partial_line.as_slice(),
+        &mut line_buffer.out,
     )?;
-    pending.counts.count_line(is_step);
-    write_and_flush(&mut pending.out, writer)
+    line_buffer.counts.count_line(is_step);
+    write_and_flush(&mut line_buffer.out, writer)
 }

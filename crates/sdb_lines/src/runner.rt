@@ -1,7 +1,7 @@
-//! The runner: a whole input, read, answered and counted.
+//! The loop that reads, handles and counts the lines of a whole input.
 //!
-//! All that is pending is written and flushed before the next read, so whoever writes a line and waits gets the answer
-//! without having to send more.
+//! All pending output is written and flushed before the next read. A client that writes a line and
+//! waits therefore gets the response without sending more.
 ghost use Rattle.std.specs.Prelude.{◌≡◌, ◌+◌, ◌-◌, ◌^◌, ◌≤◌, ◌<◌, ◌⊎◌, ◌++◌, true, if◌then◌else◌, length, min, map, OnOk, OnErr, IfOk, IfSome, vec_len, IsErrOf};
 ghost use Rattle.sdb_lines.specs.Lines.{readable_text, lines_of};
 ghost use Rattle.sdb_lines.specs.Counts.{AreCountsOf};
@@ -13,18 +13,18 @@ use crate::streams::{Sink, Source};
 use std::alloc::{AllocError, Global};
 use thiserror::Error;
 
-/// The most reads that one run makes: 2^40.
+/// The maximum number of reads in one run: 2^40.
 pub const READ_LIMIT: u64 = 1_099_511_627_776;
 
-// The most bytes that one read takes: 64 KiB.
+// The size of the read buffer: 64 KiB.
 const BUFFER_LEN: usize = 65_536;
 
-/// How much of an input was read.
+/// The number of lines and of steps in an input.
 #[derive(Clone, Copy, Debug, PartialEq, Eq)]
 pub struct Counts {
-    /// The lines, also those that could not be read as text.
+    /// The number of lines, including those that are too long or not UTF-8.
     pub lines: u64,
-    /// The lines that the replier took as steps.
+    /// The number of lines that count as steps.
     pub steps: u64,
 }
 
@@ -43,16 +43,16 @@ impl Counts {
     }
 }
 
-/// Why a run stopped before the end of its input.
+/// The reason why a run stopped before the end of its input.
 #[derive(Clone, Copy, Debug, PartialEq, Eq, Error)]
 pub enum RunFault {
     /// A read failed, or [`READ_LIMIT`] reads did not reach the end of the input.
     #[error("the input could not be read to its end")]
     ReadFailed,
-    /// A write or a flush failed, or a write took 0 bytes of some.
+    /// A write or a flush failed, or a write of one or more bytes wrote 0.
     #[error("an answer could not be written")]
     WriteFailed,
-    /// There was not enough memory for the 64 KiB that a read fills, for a line or for its answer.
+    /// An allocation failed: for the read buffer of 64 KiB, a line or its response.
     #[error("out of memory")]
     OutOfMemory,
 }
@@ -67,32 +67,39 @@ impl From<AllocError> for RunFault {
     }
 }
 
-/// Writes the opening text, reads the input to its end, and writes the answer to each of its lines. On `Ok` it tells
-/// how many lines there were, and how many of them were steps.
+/// Writes the opening text, reads the input to its end, and writes the response to each of its
+/// lines. Returns the number of lines and of steps. A last line needs no line feed.
 ///
-/// What is pending is written and flushed before each read and at the end, and also, unflushed, once it has reached
-/// 64 KiB. A read takes at most 64 KiB, and at most [`READ_LIMIT`] reads are made. At most 1,048,577 bytes of a line
-/// are held, however long it is.
+/// The output is written and flushed before each read and at the end, and written without a flush
+/// once it reaches 64 KiB. A read takes at most 64 KiB. At most 1,048,577 bytes of a line are kept,
+/// whatever its length.
 ///
-/// A last line needs no line feed. After a fault the reader may have given bytes of lines that were not answered, and
-/// the machine may have taken lines whose answers were not written.
+/// # Errors
+///
+/// [`RunFault::ReadFailed`] if a read fails or [`READ_LIMIT`] reads do not reach the end.
+/// [`RunFault::WriteFailed`] if a write or a flush fails. [`RunFault::OutOfMemory`] if an
+/// allocation fails.
+///
+/// The bytes written are then a prefix of the opening text and the responses in order. The reader
+/// may have given bytes of lines that were not handled, and the machine may have handled lines
+/// whose responses were not written.
 pub fn run_lines<M: LineHandler, R: Source, W: Sink>(
     alloc: Global,
     machine: &mut M,
     reader: &mut R,
     writer: &mut W,
 ) -> Result<Counts, RunFault>
-    // The machine took the lines of the input, in order and no other, and all that it answered was written.
+    // The handler took exactly the lines of the input, in order, and all responses were written.
     ensures wrote_all { OnOk result (IfSome (R.remaining_input reader.old) (λ input.
         AppendsAnswers M.handles machine.old (map readable_text (lines_of input)) machine.new
         (M.opening machine.old) (W.bytes_written writer.old) (W.bytes_written writer.new))) }
     ensures counts { IfOk result (λ counts. IfSome (R.remaining_input reader.old)
         (λ input. AreCountsOf M.counts_as_step input counts)) }
-    // After a fault a front of the opening and the answers to the first lines was written.
+    // After an error a prefix of the opening text and the responses was written.
     ensures prefix_on_err { OnErr result (IfSome (R.remaining_input reader.old) (λ input.
         AppendsAnswerPrefix M.handles machine.old (map readable_text (lines_of input))
         (M.opening machine.old) (W.bytes_written writer.old) (W.bytes_written writer.new))) }
-    // No read failed, and no write or flush, but for the one that is the fault.
+    // No read, write or flush failed, except the one that is the error.
     ensures read_failures { ReadFaultIsCounted result (R.calls reader.old) (R.failures reader.old)
         (R.calls reader.new) (R.failures reader.new) }
     ensures write_failures { WriteFaultIsCounted result (W.failures writer.old) (W.failures writer.new) }
@@ -100,21 +107,21 @@ pub fn run_lines<M: LineHandler, R: Source, W: Sink>(
     let mut space = read_buffer(alloc)?;
     let buffer = space.as_mut_slice();
     write_opening(alloc, machine, writer)?;
-    let mut pending = LineBuffer::new(alloc);
+    let mut line_buffer = LineBuffer::new(alloc);
     for _turn in 0..READ_LIMIT {
         match reader.read_into(buffer) {
             Ok(0) => {
-                handle_rest(alloc, machine, &mut pending, writer)?;
-                return Ok(pending.counts);
+                handle_rest(alloc, machine, &mut line_buffer, writer)?;
+                return Ok(line_buffer.counts);
             }
-            Ok(n) => handle_chunk(alloc, machine, &mut pending, writer, &buffer[..n])?,
+            Ok(n) => handle_chunk(alloc, machine, &mut line_buffer, writer, &buffer[..n])?,
             Err(_) => return Err(RunFault::ReadFailed),
         }
     }
     Err(RunFault::ReadFailed)
 }
 
-// The room for one read.
+// Allocates the read buffer.
 fn read_buffer(alloc: Global) -> Result<Vec<u8>, AllocError>
     ensures { IfOk result (λ buffer. vec_len buffer ≡ BUFFER_LEN) }
 {

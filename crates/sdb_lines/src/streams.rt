@@ -9,18 +9,23 @@ ghost use Rattle.sdb_lines.specs.Streams.{failures_after};
 use std::io;
 use std::io::{Read, Write};
 
-/// A reader that counts its reads, and those of them that failed.
+/// A reader that counts its reads and its failed reads.
 pub trait Source {
-    // The bytes that are still to be read, for a reader that can tell.
+    // The bytes still to be read, if the reader determines them.
     ghost remaining_input: { Self → Option (List ℕ) };
 
-    // The number of reads that answered an error, which stays at 2^64 - 1 once it gets there.
+    // The number of failed reads, which saturates at 2^64 - 1.
     ghost failures: { Self → ℕ };
 
-    // The number of reads, which stays at 2^64 - 1 once it gets there.
+    // The number of reads, which saturates at 2^64 - 1.
     ghost calls: { Self → ℕ };
 
-    /// Reads some bytes into the front of `buf`, and answers how many. 0 is the end of the input, where `buf` has room.
+    /// Reads bytes into a prefix of `buf` and returns their number. If `buf` is not empty, 0 means
+    /// the end of the input.
+    ///
+    /// # Errors
+    ///
+    /// The error of the underlying reader; the failure is then counted.
     fn read_into(&mut self, buf: &mut [u8]) -> io::Result<usize>
         ensures bound { ReadsAtMost result buf.new }
         ensures bytes { ReadConsumes (remaining_input self.old) (remaining_input self.new) result buf.new }
@@ -28,19 +33,19 @@ pub trait Source {
         ensures calls { calls self.new ≡ min (calls self.old + 1) (2 ^ 64 - 1) };
 }
 
-/// A reader of `std`, watched. A failure stops no later call.
+/// A reader of `std` with counters. A failure stops no later call.
 #[derive(Drop)]
 pub struct CountingReader<S> {
-    /// The reader itself. What is done to it directly isn't watched.
+    /// The underlying reader. Calls made on it directly are not counted.
     pub stream: S,
-    /// The number of reads that failed, which stays at `u64::MAX` once it gets there.
+    /// The number of failed reads, which saturates at `u64::MAX`.
     pub failures: u64,
-    /// The number of reads, which stays at `u64::MAX` once it gets there.
+    /// The number of reads, which saturates at `u64::MAX`.
     pub calls: u64,
 }
 
 impl<S> CountingReader<S> {
-    /// Watches a reader from now on.
+    /// Wraps a reader, with both counters at 0.
     pub fn new(stream: S) -> CountingReader<S>
         ensures stream { result.stream ≡ stream }
         ensures quiet { result.failures ≡ 0 }
@@ -71,16 +76,21 @@ impl<S: Read> Source for CountingReader<S> {
     }
 }
 
-/// A writer that counts its writes and flushes that failed.
+/// A writer that counts its failed writes and flushes.
 pub trait Sink {
-    // The bytes that were written, for a writer that can tell.
+    // The bytes written, if the writer determines them.
     ghost bytes_written: { Self → Option (List ℕ) };
 
-    // The number of writes and flushes that answered an error, and of writes that took 0 bytes of some. It stays at
-    // 2^64 - 1 once it gets there.
+    // The number of failed writes and flushes, and of writes that wrote 0 of one or more bytes. It
+    // saturates at 2^64 - 1.
     ghost failures: { Self → ℕ };
 
-    /// Writes a front of `buf`, and answers its length in bytes. 0 bytes of some is a failure.
+    /// Writes a prefix of `buf` and returns its length in bytes. If `buf` is not empty, 0 counts as
+    /// a failure.
+    ///
+    /// # Errors
+    ///
+    /// The error of the underlying writer; the failure is then counted.
     fn write_from(&mut self, buf: &[u8]) -> io::Result<usize>
         ensures bound { WritesAtMost result buf.now }
         ensures bytes { WriteAppends (bytes_written self.old) (bytes_written self.new) result buf.now }
@@ -88,22 +98,26 @@ pub trait Sink {
             ≡ failures_after (is_write_fault result (length buf.now)) (failures self.old) };
 
     /// Flushes what was written.
+    ///
+    /// # Errors
+    ///
+    /// The error of the underlying writer; the failure is then counted.
     fn flush_all(&mut self) -> io::Result<()>
         ensures bytes { Keeps (bytes_written self.old) (bytes_written self.new) }
         ensures failures { failures self.new ≡ failures_after (is_err result) (failures self.old) };
 }
 
-/// A writer of `std`, watched. A failure stops no later call.
+/// A writer of `std` with a counter. A failure stops no later call.
 #[derive(Drop)]
 pub struct CountingWriter<S> {
-    /// The writer itself. What is done to it directly isn't watched.
+    /// The underlying writer. Calls made on it directly are not counted.
     pub stream: S,
-    /// The number of writes and flushes that failed, which stays at `u64::MAX` once it gets there.
+    /// The number of failed writes and flushes, which saturates at `u64::MAX`.
     pub failures: u64,
 }
 
 impl<S> CountingWriter<S> {
-    /// Watches a writer from now on.
+    /// Wraps a writer, with the counter at 0.
     pub fn new(stream: S) -> CountingWriter<S>
         ensures stream { result.stream ≡ stream }
         ensures quiet { result.failures ≡ 0 }

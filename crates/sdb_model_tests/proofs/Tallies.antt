@@ -1,4 +1,4 @@
--- A number that is added to a list of numbers.
+-- A number appended to a list of numbers.
 use Rattle.std.proofs.Common.{◌≡◌, ◌≢◌, ℕ, Bool, true, false, cond, List, [], ◌∷◌, ◌++◌, eqb, ne_eqb, sym, ap, ◌∙◌}
 use Rattle.sdb_model_tests.specs.Tally.{those}
 

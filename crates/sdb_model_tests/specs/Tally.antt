@@ -1,12 +1,12 @@
--- For the tests: a list of numbers, each put in under itself.
+-- The model of a list of numbers for the tests of `sdb_growlock`, in which each number is added by its own seat.
 use Rattle.std.proofs.Common.{◌≡◌, ℕ, cond, List, [], ◌∷◌, ◌++◌, eqb, sym, ap, ◌∙◌, append_assoc, append-nil}
 
--- those of the list that are n
+-- the items of the list that equal n
 abbrev pub those : ℕ → List ℕ → List ℕ
 those n [] = []
 those n (x ∷ xs) = cond (eqb x n) (x ∷ those n xs) (those n xs)
 
--- the first list goes on from the second
+-- the first list extends the second one
 abbrev pub GoesOn : List ℕ → List ℕ → Type 0
 GoesOn new old = (more : List ℕ) × (new ≡ old ++ more)
 

@@ -1,4 +1,4 @@
-//! `sdb_apply`: components and operations applied, one after the other and whole.
+//! Tests of `sdb_apply`: components and operations, applied in order or atomically.
 use crate::texts::{component, each_row, is_shown, is_value, json, json_of, op_of, parsed, says};
 use sdb_apply::{ApplyFault, Refused, apply, apply_atomic, apply_one};
 use sdb_component::Component;
@@ -6,7 +6,8 @@ use serde_json::Value;
 use std::alloc::Global;
 use std::process::Abort;
 
-// Rows of a value, an operation, which of its components can't be applied, and the value afterwards.
+// Rows of a value, an operation, the index of its first component that cannot be applied, and the
+// value afterwards.
 const STEPS: &str = r#"[
   [5, [{"p":[],"na":1}], null, 6],
   [5, [{"p":[],"na":-7}], null, -2],
@@ -58,7 +59,7 @@ const STEPS: &str = r#"[
   [[], [{"p":[0],"li":"ab"},{"p":[0,2],"si":"c"},{"p":[0,0],"sd":"a"}], null, ["bc"]]
 ]"#;
 
-// Which component was not applied.
+// Returns the index of the component that was not applied.
 pub(crate) fn refused(rt: &impl Abort, applied: Result<(), Refused>) -> Option<u64> {
     match applied {
         Ok(()) => None,
@@ -69,7 +70,7 @@ pub(crate) fn refused(rt: &impl Abort, applied: Result<(), Refused>) -> Option<u
     }
 }
 
-// Whether the operation is applied or refused so, and leaves this.
+// Checks the outcome of `apply` for a row, and the value afterwards.
 fn holds(rt: &impl Abort, alloc: Global, row: &[Value]) -> bool {
     let [before, steps, at, after] = row else {
         return false;
@@ -84,7 +85,7 @@ fn operations_are_applied_or_refused(rt: HostRuntime) {
     assert!(rt; each_row(&rt, rt.alloc(), STEPS, holds) == 48);
 }
 
-// Rows of a value, an operation, whether it is applied whole, and the value afterwards.
+// Rows of a value, an operation, whether it is applied atomically, and the value afterwards.
 const WHOLE: &str = r#"[
   [5, [], true, 5],
   [[1], [{"p":[0],"na":1}], true, [2]],
@@ -96,8 +97,8 @@ const WHOLE: &str = r#"[
   [{"t":"ab"}, [{"p":["t",0],"sd":"a"},{"p":["t",0],"sd":"b"},{"p":["t",0],"sd":"b"}], false, {"t":"ab"}]
 ]"#;
 
-// Whether the operation is applied whole or not at all, twice: the second time on a value that is shared
-// with a copy, which stays as it is.
+// Checks `apply_atomic` for a row on a unique value and on a frozen one, whose clone stays
+// unchanged.
 fn holds_whole(rt: &impl Abort, alloc: Global, row: &[Value]) -> bool {
     let [before, steps, done, after] = row else {
         return false;
@@ -120,12 +121,12 @@ fn operations_are_applied_whole_or_not_at_all(rt: HostRuntime) {
     assert!(rt; each_row(&rt, rt.alloc(), WHOLE, holds_whole) == 8);
 }
 
-// The one component that the text names.
+// Parses an operation and returns its only component.
 fn one(rt: &impl Abort, alloc: Global, text: &str) -> Component {
     component(rt, alloc, &parsed(rt, alloc, text))
 }
 
-// An insert is applied, and one past the end refused.
+// An insert is applied, and one after the end is refused.
 #[test]
 fn one_component_is_applied(rt: HostRuntime) {
     let insert = one(&rt, rt.alloc(), r#"[{"p":["l",1],"li":2}]"#);

@@ -1,9 +1,9 @@
-//! `sdb_cli`: faults and refusals, as they are told.
+//! Tests of `sdb_cli`: the messages for faults and refusals.
 use sdb_cli::terminal::TerminalBuffer;
 use sdb_cli::{STATUS_FAULT, STATUS_USAGE, exit_status, print_refusal};
 use sdb_lines::RunFault;
 
-// Whether this is printed on standard output, and this on standard error.
+// Returns whether the terminal has this standard output and this standard error.
 fn is_printed(terminal: TerminalBuffer, out: &str, err: &str) -> bool {
     terminal.out.into_inner().as_str() == out && terminal.err.into_inner().as_str() == err
 }

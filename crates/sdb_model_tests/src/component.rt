@@ -1,4 +1,5 @@
-//! `sdb_component`: operations read, copied, weighed and printed. What is refused is in the lines of the server.
+//! Tests of `sdb_component`: operations that are parsed, cloned, weighed and printed. The lines of
+//! the server test the refusals.
 use crate::texts::{component, each_row, is_op, is_printed, op, op_of, parsed, says, text_of};
 use json::Writer;
 use sdb_component::{Component, Op, OpFault, Path, weight, write_op};
@@ -7,7 +8,7 @@ use serde_json::Value;
 use std::alloc::Global;
 use std::process::Abort;
 
-// Rows of an operation, and what it reads as, printed again.
+// Rows of an operation, and its printed form.
 const SHAPES: &str = r#"[
   [[], []],
   [[{"p":[],"na":-1}], [{"na":-1,"p":[]}]],
@@ -26,14 +27,14 @@ const SHAPES: &str = r#"[
   [[{"ld":null,"li":null,"p":[0]}], [{"ld":null,"li":null,"p":[0]}]]
 ]"#;
 
-// The operation, written without a JSON value between.
+// Writes the operation without a JSON value in between.
 fn written(rt: &impl Abort, alloc: Global, op: &Op) -> Vec<u8> {
     let mut out = Writer::new(Vec::new(alloc));
     write_op(op, &mut out).expect(rt, "out of memory");
     out.into_inner()
 }
 
-// Whether the operation is printed and written as this value is.
+// Returns whether the operation is printed and written like this value.
 fn is_spelled(rt: &impl Abort, alloc: Global, op: &Op, wanted: &Value) -> bool {
     let wanted = text_of(rt, alloc, wanted);
     is_printed(rt, alloc, op, wanted.as_str())
@@ -52,7 +53,7 @@ fn each_shape_is_read_and_printed(rt: HostRuntime) {
     each_row(&rt, rt.alloc(), SHAPES, holds);
 }
 
-// An operation of all nine shapes, each in containers of containers.
+// An operation with components of all nine kinds, each in nested containers.
 const NINE: &str = r#"[
     {"na":-3,"p":["a",0,"n"]},
     {"p":["a",1,7],"si":"aé😀"},
@@ -77,7 +78,8 @@ fn a_copy_is_the_same(rt: HostRuntime) {
     );
 }
 
-// An operation of one component is read as such, and gives it up; one that was made of a list doesn't.
+// A parsed operation of one component returns it by `into_one`; an operation made from a list does
+// not.
 #[test]
 fn one_component_is_given_up(rt: HostRuntime) {
     let one = op(&rt, rt.alloc(), r#"[{"na":1,"p":["n"]}]"#);
@@ -90,7 +92,7 @@ fn one_component_is_given_up(rt: HostRuntime) {
     );
 }
 
-// Rows of an operation of one component, whose path another one is to share, and of that other one.
+// Rows of an operation of one component, and of another operation that takes its path.
 const SHARED: &str = r#"[
   [[{"na":1,"p":["a",0]}], [{"na":2,"p":["a",0]}]],
   [[{"na":1,"p":["a",0]}], [{"na":2,"p":["a",1]}]],
@@ -98,7 +100,7 @@ const SHARED: &str = r#"[
   [[{"na":1,"p":["a",0]}], [{"na":2,"p":["a",0]},{"na":3,"p":["a",0]}]]
 ]"#;
 
-// Whether the other one is the same with the path.
+// Returns whether the other operation is unchanged when its path is interned.
 fn is_same_with(rt: &impl Abort, alloc: Global, row: &[Value]) -> bool {
     let [first, other] = row else {
         return false;
@@ -117,13 +119,13 @@ fn an_operation_that_shares_a_path_is_the_same(rt: HostRuntime) {
     each_row(&rt, rt.alloc(), SHARED, is_same_with);
 }
 
-// Rows of an operation of one component, and how large its path is up to 3 and up to 9.
+// Rows of an operation of one component, and the size of its path with the limits 3 and 9.
 const PATHS: &str = r#"[
   [[{"na":1,"p":["ab",0]}], 3, 4],
   [[{"na":1,"p":[]}], 0, 0]
 ]"#;
 
-// Whether the steps are given up of a path that another shares, and then of the last one.
+// Checks that a shared path and then the last owner of it both return their steps.
 fn gives_its_steps(rt: &impl Abort, alloc: Global, row: &[Value]) -> bool {
     let [first, few, all] = row else {
         return false;
@@ -155,7 +157,7 @@ fn faults_are_named(rt: HostRuntime) {
     );
 }
 
-// Rows of an operation of one component, and how much there is to copy of it.
+// Rows of an operation of one component, and its size.
 const SIZES: &str = r#"[
   [[{"na":-3,"p":["ab",0]}], 4],
   [[{"p":["a",7],"si":"aé😀"}], 9],
@@ -168,12 +170,12 @@ const SIZES: &str = r#"[
   [[{"od":"a","oi":[0],"p":["abc"]}], 7]
 ]"#;
 
-// Whether the size of the component is told so up to the limit.
+// Returns whether the size is right with this limit.
 fn is_sized_to(component: &Component, limit: u64, wanted: u64) -> bool {
     component.size(limit) == limit.min(wanted)
 }
 
-// Whether it is told so up to each limit.
+// Returns whether the size is right with each limit.
 fn is_sized(component: &Component, wanted: u64) -> bool {
     for limit in 0..=10 {
         if !is_sized_to(component, limit, wanted) {

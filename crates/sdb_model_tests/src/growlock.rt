@@ -1,4 +1,4 @@
-//! `sdb_growlock`: two threads that let one list grow.
+//! Tests of `sdb_growlock`: two threads that extend one list.
 ghost use Rattle.std.specs.Prelude.{◌≡◌, ℕ, ◌++◌, ◌∷◌, [], true};
 ghost use Rattle.sdb_growlock.specs.SeatModel.{BelongsTo, number, next};
 
@@ -6,7 +6,7 @@ use sdb_growlock::{GrowLock, Grows, Job, Seat};
 use std::sync::Wait;
 use std::thread;
 
-// How often each thread adds its number.
+// The number of times that each thread adds its number.
 const TIMES: u64 = 1_000;
 
 // The numbers that were added, in order.
@@ -39,7 +39,7 @@ impl Grows for Tally {
     ghost blank_of_same = { λ n a b h k. sym h ∙ k };
 }
 
-// Adds the number under which it is run, and says whether there was memory for it.
+// A job that adds the number under which it runs, and returns whether the allocation succeeded.
 #[derive(Drop)]
 struct AddNumber;
 
@@ -55,7 +55,8 @@ impl Job<Tally> for AddNumber {
     }
 }
 
-// Adds the seat's number so many times. The seat, and how often there was memory.
+// Adds the number of the seat so many times. Returns the seat, and the number of allocations that
+// succeeded.
 fn add_all<R: Wait>(rt: &R, lock: &GrowLock<Tally>, mut seat: Seat<Tally>) -> (Seat<Tally>, u64)
     requires belongs { BelongsTo seat lock.now }
     ensures belongs { BelongsTo result.0 lock.now × (number result.0 ≡ number seat) × (next result.0 ≡ next seat) }

@@ -1,5 +1,5 @@
-//! Calls that find no memory: what they leave, and the same call with memory. Run as they stand, these
-//! tests find memory at once; `tests/growths.py` refuses each allocation of each in turn.
+//! Tests of calls in which an allocation fails: the state afterwards, and a retry. Run directly, no
+//! allocation fails; `tests/growths.py` fails each allocation of each test in turn.
 use crate::members::{copied as copied_members, shared};
 use crate::pieces::{Number, numbered, share};
 use crate::texts::{extended, is_printed, is_shown, json, op};
@@ -12,10 +12,11 @@ use sdb_transform::{Crossed, Fault, cross};
 use std::alloc::Global;
 use std::process::Abort;
 
-// The call that is tried stands between two of these, which that program knows by their size.
+// Allocates a buffer of 7,919 bytes. The script recognizes the size, and fails only allocations
+// between two marks.
 fn mark(rt: &impl Abort, alloc: Global) -> usize {
-    let block: Vec<u8> = Vec::with_capacity(alloc, 7_919).expect(rt, "out of memory");
-    block.capacity()
+    let chunk: Vec<u8> = Vec::with_capacity(alloc, 7_919).expect(rt, "out of memory");
+    chunk.capacity()
 }
 
 const OPERATION: &str = r#"[{"p":["n"],"na":1},{"p":["l",1],"li":[2]},{"p":["m"],"oi":"x"}]"#;
@@ -28,7 +29,7 @@ const VALUES: [&str; 4] = [
     r#"{"l":[1,[2]],"m":"x","n":1}"#,
 ];
 
-// How many components are applied to the value, whose text is as it is due then.
+// Returns the number of components that are applied, and checks the value after them.
 fn applied(rt: &impl Abort, alloc: Global, op: &Op) -> usize {
     let mut value = json(rt, alloc, VALUES[0]);
     mark(rt, alloc);
@@ -51,7 +52,7 @@ fn an_apply(rt: HostRuntime) {
     assert!(rt; applied(&rt, rt.alloc(), &op) == 3 || applied(&rt, rt.alloc(), &op) == 3);
 }
 
-// The whole operation is applied, where there was no memory after that left the value as it was.
+// A failed atomic apply leaves the value unchanged, and a retry succeeds.
 #[test]
 fn an_apply_whole(rt: HostRuntime) {
     let op = op(&rt, rt.alloc(), OPERATION);
@@ -69,7 +70,8 @@ fn an_apply_whole(rt: HostRuntime) {
     assert!(rt; is_shown(&rt, rt.alloc(), &value, VALUES[3]));
 }
 
-// Carries them past one another, once more where there was no memory.
+// Transforms the operations against each other between two marks, and again if an allocation
+// failed.
 fn crossed(rt: &impl Abort, alloc: Global, left: &Op, right: &Op) -> Crossed {
     mark(rt, alloc);
     let outcome = cross(alloc, left, right);
@@ -102,7 +104,7 @@ fn a_cross(rt: HostRuntime) {
     assert!(rt; is_printed(&rt, rt.alloc(), &crossed.right, after) && crossed.pairs == 4);
 }
 
-// A text of so many pieces that they are put into two groups where it is shared.
+// Returns a text of so many chunks that freezing makes two groups of them.
 fn long(rt: &impl Abort, alloc: Global) -> (Rope, String) {
     let plain = extended(rt, alloc, "", "0123456789abcdef", 8_000);
     let text = Rope::from_str(alloc, plain.as_str()).expect(rt, "out of memory");
@@ -146,7 +148,7 @@ fn an_insert_into_a_shared_text(rt: HostRuntime) {
     assert!(rt; is(&rt, rt.alloc(), &text, longer.as_str()));
 }
 
-// What is taken out stands in two groups.
+// The removed text spans two groups.
 #[test]
 fn a_removal_from_a_shared_text(rt: HostRuntime) {
     let (mut text, plain) = long(&rt, rt.alloc());
@@ -167,27 +169,27 @@ fn a_removal_from_a_shared_text(rt: HostRuntime) {
     assert!(rt; is(&rt, rt.alloc(), &text, left.as_str()));
 }
 
-// Whether it has the numbers from 0 on, and so many of them.
+// Returns whether the items are the numbers below the count, in order.
 fn counts_to(list: &ChunkedVec<Number>, count: u64) -> bool {
     list.iter().map(|item| item.0).eq(0..count)
 }
 
 #[test]
 fn a_long_list_shared(rt: HostRuntime) {
-    let mut form = numbered(&rt, rt.alloc(), 4_000).into_repr();
+    let mut repr = numbered(&rt, rt.alloc(), 4_000).into_repr();
     mark(&rt, rt.alloc());
-    let outcome = form.freeze(rt.alloc());
+    let outcome = repr.freeze(rt.alloc());
     mark(&rt, rt.alloc());
     if outcome.is_err() {
-        let list = ChunkedVec::from_repr(form);
+        let list = ChunkedVec::from_repr(repr);
         assert!(rt; counts_to(&list, 4_000));
-        form = list.into_repr();
-        assert!(rt; form.freeze(rt.alloc()).is_ok());
+        repr = list.into_repr();
+        assert!(rt; repr.freeze(rt.alloc()).is_ok());
     }
-    assert!(rt; matches!(&form, Repr::Groups(_)) && counts_to(&ChunkedVec::from_repr(form), 4_000));
+    assert!(rt; matches!(&repr, Repr::Groups(_)) && counts_to(&ChunkedVec::from_repr(repr), 4_000));
 }
 
-// The same list by a pointer, so that a change of one of them copies what is on its way.
+// Returns a shared clone, so that a change of one of the lists copies on write.
 fn copied(rt: &impl Abort, list: &ChunkedVec<Number>) -> ChunkedVec<Number> {
     let copy = list.clone_shared().expect(rt, "out of memory");
     copy.expect(rt, "a shared list")
@@ -235,7 +237,7 @@ fn key(rt: &impl Abort, alloc: Global, number: u64) -> String {
     key
 }
 
-// Members of so many keys that they are in groups.
+// Returns frozen members with so many keys that they are in groups.
 fn long_members(rt: &impl Abort, alloc: Global) -> SortedMap<Number> {
     let mut members = SortedMap::new(alloc);
     for number in 0..2_000 {
@@ -245,7 +247,7 @@ fn long_members(rt: &impl Abort, alloc: Global) -> SortedMap<Number> {
     shared(rt, alloc, members)
 }
 
-// Whether their values are the numbers from 0 on, and so many of them.
+// Returns whether the values are the numbers below the count, in order.
 fn values_count_to(members: &SortedMap<Number>, count: u64) -> bool {
     members.iter().map(|member| member.1.0).eq(0..count)
 }

@@ -1,4 +1,5 @@
-//! `sdb_json`: texts read to trees, and what trees and `serde_json`'s values answer.
+//! Tests of `sdb_json`: texts parsed to trees, and the accessors of trees and of `serde_json`
+//! values.
 use crate::texts::{each_row, extended, is_shown, joined, parsed};
 use sdb_json::{JsonData, JsonTree, Scratch};
 use sdb_value::from_value;
@@ -6,7 +7,7 @@ use serde_json::Value;
 use std::alloc::Global;
 use std::process::Abort;
 
-// Rows of a text and of how its value is printed, which is null where the text has no reading.
+// Rows of a text and of the printed value, which is null if the text is refused.
 const TEXTS: &str = r#"[
   ["null", "null"],
   [" [ 1 , -2 , true ] ", "[1,-2,true]"],
@@ -49,7 +50,7 @@ fn texts_are_read(rt: HostRuntime) {
     each_row(&rt, rt.alloc(), TEXTS, is_read_as);
 }
 
-// Whether a text of so many lists inside one another, with this in the last, is read.
+// Returns whether lists nested to this depth are accepted.
 fn nests(rt: &impl Abort, alloc: Global, depth: u64) -> bool {
     let opened = extended(rt, alloc, "", "[", depth);
     let text = extended(rt, alloc, opened.as_str(), "]", depth);
@@ -81,7 +82,7 @@ fn a_long_text_is_read(rt: HostRuntime) {
 
 const KINDS: &str = r#"{"n":null,"b":true,"i":-7,"t":"x","l":[1,[]],"o":{"k":0}}"#;
 
-// Whether each of the kinds is answered as what it is.
+// Checks the accessor of each kind of value.
 fn tells<D: JsonData>(rt: &impl Abort, alloc: Global, value: &D) -> bool {
     let number = value.get("i").and_then(D::as_number).expect(rt, "a number");
     let items = value.get("l").and_then(D::as_array).expect(rt, "a list");
@@ -95,7 +96,7 @@ fn tells<D: JsonData>(rt: &impl Abort, alloc: Global, value: &D) -> bool {
         && value.get("x").is_none()
 }
 
-// Whether none of them is what it isn't.
+// Checks that the accessors of other kinds return nothing.
 fn tells_no_other<D: JsonData>(rt: &impl Abort, alloc: Global, value: &D) -> bool {
     let text = value.get("t").expect(rt, "a text");
     let members = text.members(alloc).expect(rt, "out of memory");

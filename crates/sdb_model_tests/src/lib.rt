@@ -1,6 +1,6 @@
-//! Tests of the public calls of the libraries up to the log, its snapshots and its queues, of the lines, of the lock
-//! and of what command lines share, a module for each. They stand in a crate above all of these, so that none is
-//! proved a second time for its tests.
+//! Tests of the public functions of the libraries up to `sdb_oplog`, of snapshots, queues, lines,
+//! the lock and command lines, one module for each library. They are a separate crate so that no
+//! library is proved again for its tests.
 #![tactic(auto)]
 
 #[cfg(test)]

@@ -1,4 +1,4 @@
-//! Tests of `sdb_lines`: what no clause says of a run over lines.
+//! Tests of `sdb_lines`: the behavior of a run that no clause states.
 ghost use Rattle.std.specs.Prelude.{◌∷◌, []};
 ghost use Rattle.sdb_model_tests.specs.LongestLine.{TakesLine, has_bytes};
 
@@ -9,8 +9,8 @@ use std::cell::Cell;
 use std::io;
 use std::io::{ErrorKind, Read, Write};
 
-// Answers a line with the digit that is the length of the longest line so far, or 9, and `bad` to one that can't be
-// read.
+// A handler that responds with the length of the longest line so far as a digit, at most 9. It
+// responds `bad` to an unreadable line.
 #[derive(Drop)]
 struct Longest {
     digit: u8,
@@ -43,7 +43,7 @@ impl LineHandler for Longest {
     }
 }
 
-// A reader of two bytes a call, whose read of the given number fails.
+// A reader of two bytes per call, whose call of this number fails.
 #[derive(Drop)]
 struct Slow {
     bytes: &'static [u8],
@@ -77,7 +77,7 @@ impl Read for Slow {
     }
 }
 
-// What goes wrong at a writer, and at which of its calls.
+// The failure of a writer, and the number of the call that fails.
 #[derive(Clone, Copy)]
 enum Trouble {
     Nothing,
@@ -86,7 +86,7 @@ enum Trouble {
     FlushFails(u64),
 }
 
-// A writer of which each write takes one byte, until there is trouble.
+// A writer that accepts one byte per call, up to its failure.
 #[derive(Drop)]
 struct Narrow {
     taken: Vec<u8>,
@@ -141,7 +141,7 @@ const OUTPUT: &[u8] = b"0\n3\n5\n5\nbad\n5\n";
 
 const COUNTS: Counts = Counts { lines: 5, steps: 3 };
 
-// Answers the input in pieces of two bytes.
+// Runs over the input with two bytes per read.
 fn run_slowly(
     alloc: Global,
     fails_at: Option<u64>,
@@ -154,7 +154,7 @@ fn run_slowly(
     (ended, writer.stream)
 }
 
-// Answers these bytes.
+// Runs over these bytes.
 fn run_over(alloc: Global, input: &[u8]) -> (Result<Counts, RunFault>, Vec<u8>) {
     let mut machine = Longest { digit: b'0' };
     let mut reader = CountingReader::new(input);
@@ -171,7 +171,7 @@ fn answers_every_line(rt: HostRuntime) {
     );
 }
 
-// Whether these bytes are answered so, with these counts.
+// Returns whether the run on these bytes has this output and these counts.
 fn is_answered(alloc: Global, input: &[u8], output: &[u8], lines: u64, steps: u64) -> bool {
     let (ended, written) = run_over(alloc, input);
     ended == Ok(Counts { lines, steps }) && written.as_slice() == output
@@ -188,7 +188,7 @@ fn ends_lines_at_line_feeds(rt: HostRuntime) {
     );
 }
 
-// Whether the read of this number fails once this is written and flushed.
+// Returns whether the read of this number fails after this output is written and flushed.
 fn fails_at_read(alloc: Global, k: u64, shown: &[u8]) -> bool {
     let (ended, writer) = run_slowly(alloc, Some(k), Trouble::Nothing);
     ended == Err(RunFault::ReadFailed)
@@ -208,7 +208,7 @@ fn tells_of_a_failed_read(rt: HostRuntime) {
     );
 }
 
-// How many bytes were written before the trouble, if they are the first of the answer.
+// Returns the number of bytes written before the failure, if they are a prefix of the output.
 fn fails_to_write(alloc: Global, trouble: Trouble) -> Option<u64> {
     let (ended, writer) = run_slowly(alloc, None, trouble);
     if ended == Err(RunFault::WriteFailed) && OUTPUT.starts_with(writer.taken.as_slice()) {
@@ -235,14 +235,14 @@ fn tells_of_a_failed_flush(rt: HostRuntime) {
     }
 }
 
-// How many bytes were written, and how many of them were flushed.
+// The number of bytes written, and the number of those flushed.
 #[derive(Drop)]
 struct Flow {
     written: Cell<usize>,
     flushed: Cell<usize>,
 }
 
-// A reader of four bytes a call, which notes a read before which something written was not flushed.
+// A reader of four bytes per call that records a read with unflushed output.
 #[derive(Drop)]
 struct Waiting<'a> {
     bytes: &'static [u8],
@@ -263,7 +263,7 @@ impl<'a> Read for Waiting<'a> {
     }
 }
 
-// A writer that takes all, and notes the most bytes that it was given at once.
+// A writer that accepts all bytes and records the longest buffer.
 #[derive(Drop)]
 struct Wide<'a> {
     flow: &'a Flow,
@@ -285,7 +285,7 @@ impl<'a> Write for Wide<'a> {
     }
 }
 
-// Answers the input, and tells whether a read came too early.
+// Runs over the input, and returns whether a read came before a flush.
 fn run_waiting<'a>(alloc: Global, flow: &'a Flow) -> (Result<Counts, RunFault>, bool) {
     let mut machine = Longest { digit: b'0' };
     let mut reader = CountingReader::new(Waiting {
@@ -308,7 +308,7 @@ fn flushes_before_each_read(rt: HostRuntime) {
     assert!(rt; ended == Ok(COUNTS) && !is_early && flow.flushed.get() == OUTPUT.len());
 }
 
-// Answers these bytes, and tells the most that was written at once.
+// Runs over these bytes, and returns the length of the longest write.
 fn run_widely(alloc: Global, input: &[u8], flow: &Flow) -> (Result<Counts, RunFault>, usize) {
     let mut machine = Longest { digit: b'0' };
     let mut reader = CountingReader::new(input);
@@ -323,7 +323,7 @@ fn writes_before_much_is_pending(rt: HostRuntime) {
         written: Cell::new(0),
         flushed: Cell::new(0),
     };
-    // One read gives all these lines, each with an answer of two bytes.
+    // One read returns all these lines, each with a response of two bytes.
     let input = vec![in rt.alloc(); b'\n'; 50_000].expect(&rt, "out of memory");
     let (ended, most) = run_widely(rt.alloc(), input.as_slice(), &flow);
     assert!(rt; ended.is_ok() && (flow.written.get(), most) == (100_002, 65_536));

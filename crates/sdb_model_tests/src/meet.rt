@@ -1,5 +1,5 @@
-//! `sdb_transform` and `sdb_apply`: two components that meet. One and then what stands for the other give
-//! the same both ways.
+//! Tests of `sdb_transform` and `sdb_apply`: two concurrent components converge. Each, followed by
+//! the other transformed against it, gives one value.
 use crate::apply::refused;
 use crate::texts::{component, each_row, is_value, json_of, op_of};
 use sdb_apply::apply;
@@ -9,7 +9,7 @@ use serde_json::Value;
 use std::alloc::Global;
 use std::process::Abort;
 
-// Rows of a value, the left component, the right one, and what both ways give, or E8.
+// Rows of a value, the left component, the right one, and the value of both orders, or E8.
 const ROWS: &str = r#"[
   [["x"], [{"li":"A","p":[0]}], [{"li":"B","p":[0]}], ["A","B","x"]],
   [[5], [{"ld":5,"li":6,"p":[0]}], [{"ld":5,"p":[0]}], [6]],
@@ -22,14 +22,14 @@ const ROWS: &str = r#"[
   [9007199254740990, [{"na":1,"p":[]}], [{"na":1,"p":[]}], "E8"]
 ]"#;
 
-// What stands for the second after the first.
+// Transforms the second component against the first one.
 fn after(rt: &impl Abort, alloc: Global, second: &Value, first: &Value, side: Side) -> Op {
     let (second, first) = (component(rt, alloc, second), component(rt, alloc, first));
     Op::new(transform_one(alloc, second, &first, side).expect(rt, "transformed"))
 }
 
-// Whether the first, which is made for the value, and then what stands for the second, which has this side,
-// give what is wanted.
+// Applies the first component and then the second one, transformed against it on this side, and
+// checks the value.
 fn gives(
     rt: &impl Abort,
     alloc: Global,

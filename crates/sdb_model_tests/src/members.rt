@@ -1,4 +1,4 @@
-//! Members of an object, beside a map.
+//! Tests of sorted maps against `BTreeMap`.
 
 use crate::pieces::{Number, block_count};
 use crate::texts::{scattered, text_of};
@@ -8,12 +8,12 @@ use std::alloc::Global;
 use std::collections::BTreeMap;
 use std::process::Abort;
 
-// A key, of five thousand and three.
+// Returns one of 5,003 keys.
 fn name(rt: &impl Abort, alloc: Global, step: u64) -> String {
     text_of(rt, alloc, &scattered(step, 5_003))
 }
 
-// Whether the key had the same value in both, and has it now.
+// Inserts into both maps, and returns whether the old values agree.
 fn put(
     rt: &impl Abort,
     alloc: Global,
@@ -28,7 +28,7 @@ fn put(
     old.map(|number| number.0) == was.expect(rt, "out of memory")
 }
 
-// Whether the same value was taken out of both, or none.
+// Removes from both maps, and returns whether the removed values agree.
 fn take(
     rt: &impl Abort,
     alloc: Global,
@@ -43,7 +43,7 @@ fn take(
     value.map(|number| number.0) == plain.remove(key.as_str())
 }
 
-// Whether both have the same members, in the same order.
+// Returns whether both maps have equal members in equal order.
 fn is(members: &SortedMap<Number>, plain: &BTreeMap<String, u64>) -> bool {
     let mut others = plain.iter();
     for (key, value) in members.iter() {
@@ -81,24 +81,24 @@ fn take_all(
     }
 }
 
-// The members shared in place: in groups where they are many.
+// Freezes the members; if they are many, they are then in groups.
 pub(crate) fn shared(
     rt: &impl Abort,
     alloc: Global,
     members: SortedMap<Number>,
 ) -> SortedMap<Number> {
-    let mut form = members.into_chunks().into_repr();
-    form.freeze(alloc).expect(rt, "out of memory");
-    SortedMap::from_entries(ChunkedVec::from_repr(form))
+    let mut repr = members.into_chunks().into_repr();
+    repr.freeze(alloc).expect(rt, "out of memory");
+    SortedMap::from_entries(ChunkedVec::from_repr(repr))
 }
 
-// The same members by a pointer, so that a change of one of them copies what is on its way.
+// Returns a shared clone, so that a change of one of the maps copies on write.
 pub(crate) fn copied(rt: &impl Abort, members: &SortedMap<Number>) -> SortedMap<Number> {
     let copy = members.clone_shared().expect(rt, "out of memory");
     copy.expect(rt, "shared members")
 }
 
-// The same members, made of the vector of them.
+// Rebuilds the map from the vector of its entries.
 fn again(rt: &impl Abort, alloc: Global, members: SortedMap<Number>) -> SortedMap<Number> {
     let entries = members.into_chunks().into_vec(alloc);
     SortedMap::from_sorted(alloc, entries.expect(rt, "out of memory")).expect(rt, "out of memory")
@@ -147,7 +147,7 @@ fn members_of_a_map_are_found(rt: HostRuntime) {
     );
 }
 
-// Two members, of the keys "a" and "c".
+// Returns two members with the keys "a" and "c".
 fn two(rt: &impl Abort, alloc: Global) -> SortedMap<Number> {
     let mut members = SortedMap::new(alloc);
     for (key, number) in [("c", 3), ("a", 1)] {
@@ -201,7 +201,7 @@ fn a_copy_of_a_member_is_the_same(rt: HostRuntime) {
     assert!(rt; copy.key.as_str() == member.key.as_str() && copy.value.0 == 7);
 }
 
-// A key of so many of these letters, read, had again, and made of a text of its own.
+// Checks a key of so many letters: its text, its clone, and the key made from a `String`.
 fn is_kept(rt: &impl Abort, alloc: Global, letter: char, count: u64) -> bool {
     let mut text = String::new(alloc);
     for _ in 0..count {

@@ -1,4 +1,5 @@
-//! `sdb_oplog`: what no line shows: whole replays, entries compared, one content over another.
+//! Tests of `sdb_oplog`: whole replays, equality of entries, and the transformation of contents,
+//! which the lines do not cover.
 ghost use Rattle.std.specs.Prelude.{◌≡◌};
 
 use crate::texts::{is_op, op_of, parsed};
@@ -21,7 +22,7 @@ fn submission(rt: &impl Abort, alloc: Global, seq: u64, content: Content) -> Sub
     Submission::new(alloc, src, seq, None, content, via, 7).expect(rt, "out of memory")
 }
 
-// A log whose one entry creates the document true.
+// Returns a log whose only entry creates the document `true`.
 fn a_log(rt: &impl Abort, alloc: Global) -> Log {
     let mut log = Log::new(alloc);
     let content = Content::create(alloc, Json::Bool(true)).expect(rt, "out of memory");
@@ -31,7 +32,7 @@ fn a_log(rt: &impl Abort, alloc: Global) -> Log {
     log
 }
 
-// The one entry stands at 0, and nothing before it.
+// The only entry has moment 0, so that each moment is at version 1.
 #[test]
 fn versions_at_moments(rt: HostRuntime) {
     let last = Moment::new(9_007_199_254_740_991).expect(&rt, "a moment");
@@ -48,7 +49,7 @@ fn is_true(document: Option<&Json>) -> bool {
     matches!(document, Some(Json::Bool(true)))
 }
 
-// The document is replayed, and the log stays.
+// A replay leaves the log unchanged.
 #[test]
 fn a_log_is_replayed(rt: HostRuntime) {
     assert!(rt; Log::new(rt.alloc()).is_empty());
@@ -60,7 +61,7 @@ fn a_log_is_replayed(rt: HostRuntime) {
     );
 }
 
-// An entry whose submission creates and whose content deletes.
+// Returns an entry whose submission creates and whose content deletes.
 fn an_entry(rt: &impl Abort, alloc: Global) -> Entry {
     let content = Content::create(alloc, Json::Null).expect(rt, "out of memory");
     let create = submission(rt, alloc, 1, content)
@@ -102,7 +103,7 @@ fn a_content_over_another(rt: HostRuntime) {
     );
 }
 
-// Edits, one after the other.
+// Edits in order.
 const EDITS: &str = r#"[
   [{"na":1,"p":["n"]}],
   [{"na":2,"p":["n"]}],
@@ -111,7 +112,7 @@ const EDITS: &str = r#"[
   [{"na":6,"p":["n"]}]
 ]"#;
 
-// The edit by the operation, which shares the last path.
+// Returns the edit with its path interned.
 fn edit_after(rt: &impl Abort, alloc: Global, last: &mut PathInterner, op: &Value) -> Content {
     let edit = Content::edit(alloc, op_of(rt, alloc, op)).expect(rt, "out of memory");
     last.intern(alloc, edit).expect(rt, "out of memory")

@@ -1,4 +1,4 @@
-//! Lists in pieces, beside vectors.
+//! Tests of chunked vectors against `Vec`.
 
 use crate::texts::scattered;
 use sdb_chunks::{Chunk, ChunkedVec, TryClone};
@@ -26,11 +26,11 @@ fn push_all(rt: &impl Abort, found: &mut Vec<u64>, items: &[Number]) {
     }
 }
 
-// The numbers of all blocks.
+// Returns the numbers of all chunks.
 fn numbers(rt: &impl Abort, alloc: Global, list: &ChunkedVec<Number>) -> Vec<u64> {
     let mut found = Vec::new(alloc);
-    for block in list.chunks() {
-        push_all(rt, &mut found, block.items());
+    for chunk in list.chunks() {
+        push_all(rt, &mut found, chunk.items());
     }
     found
 }
@@ -47,12 +47,12 @@ fn is(rt: &impl Abort, alloc: Global, list: &ChunkedVec<Number>, plain: &Vec<u64
     numbers(rt, alloc, list).as_slice() == plain.as_slice()
 }
 
-// Places that go up and down in a list of this length.
-fn place(step: u64, len: usize) -> usize {
+// Returns a scattered index, at most the length.
+fn target(step: u64, len: usize) -> usize {
     scattered(step, (len as u64).saturating_add(1)) as usize
 }
 
-// Whether the same number was put in both.
+// Inserts a number into both lists, and returns whether it was inserted.
 fn put(
     rt: &impl Abort,
     alloc: Global,
@@ -60,7 +60,7 @@ fn put(
     plain: &mut Vec<u64>,
     step: u64,
 ) -> bool {
-    let at = place(step, plain.len());
+    let at = target(step, plain.len());
     if at <= plain.len() {
         plain.insert(at, step).expect(rt, "out of memory");
     }
@@ -81,7 +81,7 @@ fn taken(plain: &mut Vec<u64>, at: usize) -> Option<u64> {
     None
 }
 
-// Whether the same number was taken out of both, or none.
+// Removes from both lists, and returns whether the removed numbers agree.
 fn take(
     rt: &impl Abort,
     alloc: Global,
@@ -89,7 +89,7 @@ fn take(
     plain: &mut Vec<u64>,
     step: u64,
 ) -> bool {
-    let at = place(step, plain.len());
+    let at = target(step, plain.len());
     let item = list.remove(alloc, at).expect(rt, "out of memory");
     item.map(|item| item.0) == taken(plain, at)
 }
@@ -110,18 +110,18 @@ fn a_list_of_many_blocks_is_that_of_a_vector(rt: HostRuntime) {
     assert!(rt; is(&rt, rt.alloc(), &list, &plain));
 }
 
-// The same list in one block, of which a copy is a pointer.
+// Returns the list as one shared chunk, which is cloned by a pointer.
 fn shared(rt: &impl Abort, alloc: Global, list: ChunkedVec<Number>) -> ChunkedVec<Number> {
     let items = list.into_vec(alloc).expect(rt, "out of memory");
-    let mut blocks = Vec::new(alloc);
-    let block = Chunk::Unique(items)
+    let mut chunks = Vec::new(alloc);
+    let chunk = Chunk::Unique(items)
         .into_frozen(alloc)
         .expect(rt, "out of memory");
-    blocks.push(block).expect(rt, "out of memory");
-    ChunkedVec::from_shared_chunks(alloc, blocks).expect(rt, "out of memory")
+    chunks.push(chunk).expect(rt, "out of memory");
+    ChunkedVec::from_shared_chunks(alloc, chunks).expect(rt, "out of memory")
 }
 
-// What a copy has after its original was changed, and the original after the copy was.
+// Checks that a change of the list leaves its clone unchanged.
 fn change_apart(
     rt: &impl Abort,
     alloc: Global,
@@ -138,7 +138,7 @@ fn change_apart(
     assert!(rt; is(rt, alloc, &copy, &before) && !is(rt, alloc, list, &before));
 }
 
-// A list in one block, which was made beside the vector.
+// Returns a list of one shared chunk, built together with the vector.
 fn one_block(rt: &impl Abort, alloc: Global, plain: &mut Vec<u64>) -> ChunkedVec<Number> {
     let mut list = ChunkedVec::from_vec(Vec::new(alloc));
     put_all(rt, alloc, &mut list, plain);
@@ -183,18 +183,18 @@ fn an_item_is_changed_in_place(rt: HostRuntime) {
     assert!(rt; !changed(&mut list, 1));
 }
 
-// The list shared in place.
+// Freezes the list.
 pub(crate) fn share(
     rt: &impl Abort,
     alloc: Global,
     list: ChunkedVec<Number>,
 ) -> ChunkedVec<Number> {
-    let mut form = list.into_repr();
-    form.freeze(alloc).expect(rt, "out of memory");
-    ChunkedVec::from_repr(form)
+    let mut repr = list.into_repr();
+    repr.freeze(alloc).expect(rt, "out of memory");
+    ChunkedVec::from_repr(repr)
 }
 
-// The numbers from 0 on, so many of them, in blocks.
+// Returns the numbers below the count, in chunks.
 pub(crate) fn numbered(rt: &impl Abort, alloc: Global, count: u64) -> ChunkedVec<Number> {
     let mut items = Vec::new(alloc);
     for number in 0..count {
@@ -219,7 +219,7 @@ fn a_list_in_groups_is_that_of_a_vector(rt: HostRuntime) {
     change_apart(&rt, rt.alloc(), &mut list, &mut plain);
 }
 
-// All is taken out of a list in groups, and one put in again.
+// All items of a list in groups are removed, and one is inserted again.
 #[test]
 fn groups_are_emptied(rt: HostRuntime) {
     let list = numbered(&rt, rt.alloc(), 4_000);

@@ -1,4 +1,4 @@
-//! Kept snapshots.
+//! Tests of the cache of snapshots.
 use sdb_snapcache::{CACHE_CAPACITY, Cache};
 use sdb_value::{Json, Whole, values_equal};
 use std::alloc::Global;
@@ -8,7 +8,7 @@ fn number(rt: &impl Abort, n: i64) -> Json {
     Json::Int(Whole::new(n).expect(rt, "a number"))
 }
 
-// Whether this version is found, and its snapshot is this number.
+// Returns whether the nearest version is this one and its snapshot is this number.
 fn is_found(rt: &impl Abort, cache: &mut Cache, v: u64, version: u64, n: i64) -> bool {
     match cache.nearest(v) {
         Some((found, value)) => found == version && values_equal(value, &number(rt, n)),
@@ -16,7 +16,7 @@ fn is_found(rt: &impl Abort, cache: &mut Cache, v: u64, version: u64, n: i64) ->
     }
 }
 
-// A cache that was offered the numbers 1 to 9, each at its version.
+// Returns a cache after the offers of the numbers 1 to 9, each at its version.
 fn nine(rt: &impl Abort, alloc: Global) -> Cache {
     let mut cache = Cache::new(alloc);
     for version in 1..10u8 {
@@ -34,7 +34,7 @@ fn a_new_cache_has_nothing(rt: HostRuntime) {
     assert!(rt; cache.len() == 0 && cache.nearest(9).is_none());
 }
 
-// Of nine the last eight are there.
+// The cache keeps the last eight of nine.
 #[test]
 fn eight_are_kept(rt: HostRuntime) {
     let mut cache = nine(&rt, rt.alloc());
@@ -46,7 +46,7 @@ fn eight_are_kept(rt: HostRuntime) {
     );
 }
 
-// The one that was found stays, and the next goes.
+// The snapshot that was found stays, and the next one is evicted.
 #[test]
 fn the_least_recently_used_goes(rt: HostRuntime) {
     let mut cache = nine(&rt, rt.alloc());

@@ -1,4 +1,5 @@
-//! Queues and their rings. What a take gives is in the tests of `sdb_desk`, where the log is that of a document.
+//! Tests of queues and their ring buffers. The tests of `sdb_desk` cover the entries that are
+//! taken.
 use sdb_oplog::{Content, Entry, Moment, Submission};
 use sdb_subscribe::{Queues, SubId};
 use std::alloc::Global;
@@ -20,7 +21,7 @@ fn opened(rt: &impl Abort, queues: &mut Queues, from: u64) -> SubId {
     queues.open(0, from).expect(rt, "open")
 }
 
-// Notes the entries from this version on, up to that one.
+// Pushes the entries with versions of this range, without its end.
 fn note_all(rt: &impl Abort, alloc: Global, queues: &mut Queues, from: u64, to: u64) {
     for version in from..to {
         queues.push_entry(&entry(rt, alloc, version));
@@ -73,7 +74,7 @@ fn a_ring_takes_in_nothing_before_its_start(rt: HostRuntime) {
     assert!(rt; queues.ringed(late) == Some(1));
 }
 
-// Where an open finds no memory nothing has changed, and the queue is opened with memory.
+// A failed open leaves the queues unchanged, and a retry succeeds.
 #[test]
 fn an_open_that_finds_no_memory_changes_nothing(rt: HostRuntime) {
     let mut queues = Queues::new(rt.alloc());

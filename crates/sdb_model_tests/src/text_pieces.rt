@@ -1,4 +1,4 @@
-//! Texts in pieces, beside strings.
+//! Tests of ropes against strings.
 
 use crate::texts::{extended, scattered};
 use sdb_chunks::TryClone;
@@ -7,15 +7,15 @@ use sdb_rope::utf16::{cut_at, units};
 use std::alloc::Global;
 use std::process::Abort;
 
-// Characters of one, two, three and four bytes, the last two units wide.
+// Characters of one, two, three and four bytes; the last one is two UTF-16 code units.
 const SOME: &str = "aß…😀";
 
-// As many of them one after the other.
+// Returns these characters, repeated.
 fn repeated(rt: &impl Abort, alloc: Global, times: u64) -> String {
     extended(rt, alloc, "", SOME, times)
 }
 
-// An offset that goes up and down in a text, now and then inside a pair or past the end.
+// Returns a scattered offset, sometimes within a surrogate pair or after the end.
 fn offset(step: u64, text: &str) -> u64 {
     scattered(step, units(text).saturating_add(3))
 }
@@ -25,7 +25,7 @@ fn pieces_of(rt: &impl Abort, alloc: Global, plain: &str) -> Rope {
     Rope::new(alloc, plain).expect(rt, "out of memory")
 }
 
-// Whether the same text was put in both, or in neither.
+// Inserts into the rope and the string, and returns whether both or neither changed.
 fn put(rt: &impl Abort, alloc: Global, text: &mut Rope, plain: &mut String, step: u64) -> bool {
     let new = repeated(rt, alloc, if step % 7 == 3 { 700 } else { 2 });
     let at = offset(step, plain.as_str());
@@ -41,7 +41,8 @@ fn put(rt: &impl Abort, alloc: Global, text: &mut Rope, plain: &mut String, step
     done
 }
 
-// What stands from an offset on, as many units of it as are asked for, or none.
+// Returns the text of this offset and length in UTF-16 code units, or the empty text if they are
+// invalid.
 fn standing<'a>(rt: &impl Abort, plain: &'a str, at: u64, count: u64) -> &'a str {
     match (cut_at(plain, at), cut_at(plain, at.saturating_add(count))) {
         (Some(from), Some(to)) => plain.get(from..to).expect(rt, "in order"),
@@ -49,14 +50,14 @@ fn standing<'a>(rt: &impl Abort, plain: &'a str, at: u64, count: u64) -> &'a str
     }
 }
 
-// The text without as many bytes from one on.
+// Returns the text without so many bytes from an index on.
 fn without(rt: &impl Abort, alloc: Global, plain: &str, from: usize, len: usize) -> String {
     let front = plain.get(..from).expect(rt, "a cut");
     let rest = plain.get(from.saturating_add(len)..).expect(rt, "a cut");
     extended(rt, alloc, front, rest, 1)
 }
 
-// Whether the same text was taken out of both, or of neither.
+// Removes from the rope and the string, and returns whether both or neither changed.
 fn take(rt: &impl Abort, alloc: Global, text: &mut Rope, plain: &mut String, step: u64) -> bool {
     let at = offset(step, plain.as_str());
     let count = if step % 5 == 2 { 6_001 } else { 3 };
@@ -112,7 +113,7 @@ fn shared(rt: &impl Abort, alloc: Global) -> Rope {
     text.frozen_clone(alloc).expect(rt, "out of memory")
 }
 
-// The copy stays as it was where the text is changed.
+// Checks that a change of the text leaves the clone unchanged.
 fn change_apart(rt: &impl Abort, alloc: Global, text: &mut Rope, copy: &Rope) {
     let before = copy.to_string(alloc).expect(rt, "out of memory");
     assert!(rt;
@@ -130,7 +131,7 @@ fn copies_of_a_text_are_changed_apart(rt: HostRuntime) {
     change_apart(&rt, rt.alloc(), &mut text, &copy);
 }
 
-// A text of so many pieces that they are put into groups where it is shared.
+// Returns a frozen text of so many chunks that they are in groups.
 fn long(rt: &impl Abort, alloc: Global) -> (Rope, String) {
     let plain = repeated(rt, alloc, 12_000);
     let mut text = pieces_of(rt, alloc, plain.as_str());
@@ -145,7 +146,7 @@ fn a_text_in_groups_is_that_of_a_string(rt: HostRuntime) {
     assert!(rt; text.as_str().is_none());
 }
 
-// What is taken out stands in two groups.
+// The removed text spans two groups.
 #[test]
 fn a_text_is_taken_out_across_groups(rt: HostRuntime) {
     let (mut text, mut plain) = long(&rt, rt.alloc());

@@ -1,5 +1,5 @@
-//! JSON texts of values and operations, read and printed, and tables of rows. What can't be had, for want of
-//! memory or by a fault of the test, ends the test where it is asked for.
+//! JSON values and operations, parsed and printed, and tables of rows, for the tests. A failed
+//! allocation or a malformed text ends the test.
 use sdb_component::{Component, Op, op_value, read_op};
 use sdb_value::{Json, from_value, to_value};
 use serde_json::Value;
@@ -27,7 +27,7 @@ pub(crate) fn op(rt: &impl Abort, alloc: Global, text: &str) -> Op {
     op_of(rt, alloc, &parsed(rt, alloc, text))
 }
 
-// The one component of the operation.
+// Returns the only component of the operation.
 pub(crate) fn component(rt: &impl Abort, alloc: Global, value: &Value) -> Component {
     op_of(rt, alloc, value)
         .into_one()
@@ -39,7 +39,7 @@ pub(crate) fn text_of<T: Display>(rt: &impl Abort, alloc: Global, shown: &T) -> 
     shown.to_string(alloc).expect(rt, "out of memory")
 }
 
-// Whether what is shown reads like this.
+// Returns whether the displayed text is this one.
 pub(crate) fn says<T: Display>(rt: &impl Abort, alloc: Global, shown: &T, wanted: &str) -> bool {
     text_of(rt, alloc, shown).as_str() == wanted
 }
@@ -52,28 +52,28 @@ pub(crate) fn shown(rt: &impl Abort, alloc: Global, json: &Json) -> String {
     )
 }
 
-// Whether the value is printed as this text.
+// Returns whether the value is printed as this text.
 pub(crate) fn is_shown(rt: &impl Abort, alloc: Global, json: &Json, wanted: &str) -> bool {
     shown(rt, alloc, json).as_str() == wanted
 }
 
-// Whether it is printed as this one is.
+// Returns whether the value is printed like this one.
 pub(crate) fn is_value(rt: &impl Abort, alloc: Global, json: &Json, wanted: &Value) -> bool {
     is_shown(rt, alloc, json, text_of(rt, alloc, wanted).as_str())
 }
 
-// Whether the operation is printed as this text.
+// Returns whether the operation is printed as this text.
 pub(crate) fn is_printed(rt: &impl Abort, alloc: Global, op: &Op, wanted: &str) -> bool {
     let value = op_value(alloc, op).expect(rt, "out of memory");
     says(rt, alloc, &value, wanted)
 }
 
-// Whether it is printed as this value is.
+// Returns whether the operation is printed like this value.
 pub(crate) fn is_op(rt: &impl Abort, alloc: Global, op: &Op, wanted: &Value) -> bool {
     is_printed(rt, alloc, op, text_of(rt, alloc, wanted).as_str())
 }
 
-// A number below the bound, or 0, that goes up and down from step to step.
+// Returns a pseudorandom number below the bound, or 0 if the bound is 0.
 pub(crate) fn scattered(step: u64, bound: u64) -> u64 {
     if bound == 0 {
         return 0;
@@ -81,7 +81,7 @@ pub(crate) fn scattered(step: u64, bound: u64) -> u64 {
     step.wrapping_mul(7919) % bound
 }
 
-// The text, with the part so many times behind it.
+// Returns the text, followed by the part so many times.
 pub(crate) fn extended(
     rt: &impl Abort,
     alloc: Global,
@@ -96,21 +96,22 @@ pub(crate) fn extended(
     text
 }
 
-// Puts the parts behind the text.
+// Appends the parts to the text.
 pub(crate) fn add(rt: &impl Abort, text: &mut String, parts: &[&str]) {
     for part in parts {
         text.push_str(part).expect(rt, "out of memory");
     }
 }
 
-// The front, and the parts behind it.
+// Returns the prefix, followed by the parts.
 pub(crate) fn joined(rt: &impl Abort, alloc: Global, front: &str, parts: &[&str]) -> String {
     let mut text = text_of(rt, alloc, &front);
     add(rt, &mut text, parts);
     text
 }
 
-// Asserts of each row of the table, a JSON array of such arrays, that it holds, and counts them.
+// Checks that the predicate holds of each row of the table, a JSON array of arrays, and returns the
+// number of rows.
 pub(crate) fn each_row<R: Abort, F: Fn(&R, Global, &[Value]) -> bool>(
     rt: &R,
     alloc: Global,

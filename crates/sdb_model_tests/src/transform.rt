@@ -1,4 +1,4 @@
-//! `sdb_transform`: components and operations carried past one another.
+//! Tests of `sdb_transform`: components and operations, transformed against each other.
 use crate::texts::{
     add, component, each_row, extended, is_op, is_printed, joined, op, op_of, says, text_of,
 };
@@ -11,10 +11,10 @@ use std::alloc::Global;
 use std::process::Abort;
 use std::sync::Arc;
 
-// The rows of the table, each a JSON array: a component, another one, the side, and what stands for the
-// first after the second, or E8.
+// Rows of the tables: a component, another one, the side, and the first one transformed against the
+// second, or E8.
 
-// Worked rows.
+// Selected examples.
 const WORKED: &str = r#"[
   [[{"p":[1],"sd":"bcde"}], [{"p":[3],"si":"XYZ"}], "either", [{"p":[1],"sd":"bc"},{"p":[4],"sd":"de"}]],
   [[{"p":[0],"sd":"a😀"}], [{"p":[2],"si":"x"}], "either", "E8"],
@@ -24,7 +24,7 @@ const WORKED: &str = r#"[
   [[{"ld":1,"li":2,"p":[0]}], [{"ld":1,"p":[0]}], "either", [{"li":2,"p":[0]}]]
 ]"#;
 
-// The other lies below the value that this removes.
+// The other component changes the value that this one removes.
 const CASE_1: &str = r#"[
   [[{"ld":"ab","p":[1]}], [{"p":[1,1],"si":"z"}], "either", [{"ld":"azb","p":[1]}]],
   [[{"ld":{"k":1},"li":2,"p":[1]}], [{"oi":5,"p":[1,"m"]}], "either", [{"ld":{"k":1,"m":5},"li":2,"p":[1]}]],
@@ -39,7 +39,7 @@ const CASE_1: &str = r#"[
   [[{"oi":1,"p":["k"]}], [{"na":3,"p":["k"]}], "either", [{"oi":1,"p":["k"]}]]
 ]"#;
 
-// This lies below the other's container.
+// The path of this component leads through the container of the other one.
 const CASE_2: &str = r#"[
   [[{"p":[2,0],"si":"x"}], [{"li":"v","p":[1]}], "either", [{"p":[3,0],"si":"x"}]],
   [[{"p":[2,0],"si":"x"}], [{"li":"v","p":[2]}], "either", [{"p":[3,0],"si":"x"}]],
@@ -70,7 +70,7 @@ const CASE_2: &str = r#"[
   [[{"oi":1,"p":["a",3,"b","k"]}], [{"od":9,"p":["a",3,"b"]}], "either", []]
 ]"#;
 
-// Lists.
+// Both components are in one list.
 const LISTS: &str = r#"[
   [[{"li":"c","p":[2]}], [{"li":"o","p":[1]}], "either", [{"li":"c","p":[3]}]],
   [[{"li":"c","p":[2]}], [{"li":"o","p":[2]}], "left", [{"li":"c","p":[2]}]],
@@ -108,7 +108,7 @@ const LISTS: &str = r#"[
   [[{"ld":"c","li":"z","p":[2]}], [{"ld":"o","li":"y","p":[3]}], "either", [{"ld":"c","li":"z","p":[2]}]]
 ]"#;
 
-// Objects.
+// Both components are in one object.
 const OBJECTS: &str = r#"[
   [[{"oi":2,"p":["k"]}], [{"oi":1,"p":["k"]}], "left", [{"od":1,"oi":2,"p":["k"]}]],
   [[{"oi":2,"p":["k"]}], [{"oi":1,"p":["k"]}], "right", []],
@@ -134,7 +134,7 @@ const OBJECTS: &str = r#"[
   [[{"od":0,"oi":2,"p":["k"]}], [{"od":0,"oi":1,"p":["m"]}], "either", [{"od":0,"oi":2,"p":["k"]}]]
 ]"#;
 
-// Texts.
+// Both components are in one string.
 const TEXTS: &str = r#"[
   [[{"p":[3],"si":"x"}], [{"p":[1],"si":"yz"}], "either", [{"p":[5],"si":"x"}]],
   [[{"p":[3],"si":"x"}], [{"p":[4],"si":"yz"}], "either", [{"p":[3],"si":"x"}]],
@@ -172,7 +172,7 @@ const TEXTS: &str = r#"[
   [[{"p":[1],"sd":"😀b"}], [{"p":[0],"sd":"ab"}], "either", "E8"]
 ]"#;
 
-// Every other pair, and components that stand apart.
+// All other pairs, and components with independent paths.
 const OTHERS: &str = r#"[
   [[{"na":1,"p":[]}], [{"na":2,"p":[]}], "either", [{"na":1,"p":[]}]],
   [[{"na":1,"p":[]}], [{"p":[0],"sd":"a"}], "either", [{"na":1,"p":[]}]],
@@ -197,7 +197,7 @@ const OTHERS: &str = r#"[
   [[{"oi":1,"p":["a","k"]}], [{"oi":2,"p":["b","k"]}], "either", [{"oi":1,"p":["a","k"]}]]
 ]"#;
 
-// Whether it was transformed into this, or E8.
+// Returns whether the outcome is this one, or E8.
 fn is_outcome(
     rt: &impl Abort,
     alloc: Global,
@@ -210,7 +210,7 @@ fn is_outcome(
     }
 }
 
-// Whether this stands for the component after the other one, or E8.
+// Returns whether the transformed component is this one, or E8.
 fn is_transformed(
     rt: &impl Abort,
     alloc: Global,
@@ -222,7 +222,7 @@ fn is_transformed(
     is_outcome(rt, alloc, transform_one(alloc, value, &other, side), wanted)
 }
 
-// Whether the row holds as each side that it is for.
+// Returns whether the row holds on each side that it names.
 fn holds(rt: &impl Abort, alloc: Global, row: &[Value]) -> bool {
     let [value, other, side, wanted] = row else {
         return false;
@@ -245,7 +245,8 @@ fn each_row_of_the_table_holds(rt: HostRuntime) {
     assert!(rt; each_row(&rt, rt.alloc(), OTHERS, holds) == 21);
 }
 
-// Two operations, what stands for each after the other, and the pairs that met.
+// Rows of two operations, each transformed against the other one, and the number of transformed
+// pairs.
 const CROSSINGS: &str = r#"[
   [[], [{"li":1,"p":[0]}], [], [{"li":1,"p":[0]}], 0],
   [[{"li":1,"p":[0]}], [], [{"li":1,"p":[0]}], [], 0],
@@ -285,7 +286,8 @@ fn one_refusal_refuses_all(rt: HostRuntime) {
     assert!(rt; transformed.err() == Some(Fault::NotTransformed));
 }
 
-// The component, and 99 with this member behind it, at 1, 2 and so on or at 197, 195 and so on.
+// Returns the first component, and 99 more with this member, at 1, 2 and so on, or at 197, 195 and
+// so on.
 fn followed(rt: &impl Abort, alloc: Global, first: &str, member: &str, is_falling: bool) -> String {
     let mut text = text_of(rt, alloc, &first);
     for i in 1..100_u64 {
@@ -300,13 +302,13 @@ fn followed(rt: &impl Abort, alloc: Global, first: &str, member: &str, is_fallin
     text
 }
 
-// The front, so many letters, and the end.
+// Returns the prefix, so many letters and the suffix.
 fn around(rt: &impl Abort, alloc: Global, front: &str, letters: u64, end: &str) -> String {
     let text = extended(rt, alloc, front, "x", letters);
     extended(rt, alloc, text.as_str(), end, 1)
 }
 
-// A row of a delete of 200 letters that inserts cut, the last one first.
+// Returns a row with a delete of 200 letters that inserts split, the last one first.
 fn cuts(rt: &impl Abort, alloc: Global) -> String {
     let left = extended(rt, alloc, r#"[[[{"p":[0],"sd":""#, "a", 200);
     let right = followed(rt, alloc, r#"{"p":[199],"si":"x"}"#, r#""si":"x""#, true);
@@ -330,7 +332,7 @@ fn a_long_delete_is_cut_a_hundred_times(rt: HostRuntime) {
     assert!(rt; each_row(&rt, rt.alloc(), cuts(&rt, rt.alloc()).as_str(), crosses) == 1);
 }
 
-// Whether this stands for an insert of B, where one of A stands at the same place.
+// Checks each transform function for an insert of B against an insert of A at the same index.
 fn is_left_as(rt: &impl Abort, alloc: Global, side: Side, wanted: &str) -> bool {
     let insert = op(rt, alloc, r#"[{"li":"B","p":[0]}]"#);
     let other = op(rt, alloc, r#"[{"li":"A","p":[0]}]"#);
@@ -343,7 +345,8 @@ fn is_left_as(rt: &impl Abort, alloc: Global, side: Side, wanted: &str) -> bool 
         && is_printed(rt, alloc, &given, wanted)
 }
 
-// Whether it is known that this stays as it is after the other one, and is the same when it is given up.
+// Returns whether the operation is unchanged by the other one, and the owned one is returned
+// unchanged.
 fn stays(rt: &impl Abort, alloc: Global, text: &str, other: &str) -> bool {
     let other = op(rt, alloc, other);
     let lent = transform_if_changed(alloc, &op(rt, alloc, text), &other, Side::Left);
@@ -380,7 +383,8 @@ fn an_operation_is_transformed_as_either_side(rt: HostRuntime) {
 
 const BELOW: &str = r#"[{"p":[3,0,0],"si":"yy"},{"li":1,"p":[3,1]},{"li":2,"p":[0]}]"#;
 
-// Two rows, of the removal of a text of so many letters that meets edits below it, from either side.
+// Returns two rows, one for each side, of the removal of a value against edits within it. The value
+// has a string of so many letters.
 fn removals(rt: &impl Abort, alloc: Global, letters: u64) -> String {
     let removal = around(rt, alloc, r#"[{"ld":[""#, letters, r#"",null],"p":[3]}]"#);
     let after = around(

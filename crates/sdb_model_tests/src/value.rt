@@ -1,4 +1,4 @@
-//! `sdb_value`: values read, measured, found, changed and printed.
+//! Tests of `sdb_value`: values that are parsed, measured, searched, changed and printed.
 ghost use Rattle.std.specs.Prelude.{◌≡◌, OnOk, ⊤};
 ghost use Rattle.sdb_value.specs.View.{value_of};
 
@@ -28,7 +28,7 @@ fn step(rt: &impl Abort, alloc: Global, item: &Value) -> Step {
     }
 }
 
-// The steps that a list of keys and indexes names.
+// Returns the path of a list of keys and indexes.
 fn path_of(rt: &impl Abort, alloc: Global, steps: &Value) -> Path {
     let mut path = Vec::new(alloc);
     for item in steps.as_array().expect(rt, "a list") {
@@ -37,7 +37,7 @@ fn path_of(rt: &impl Abort, alloc: Global, steps: &Value) -> Path {
     path
 }
 
-// Lists, so many inside one another.
+// Returns the text of lists nested to this depth.
 fn deep(rt: &impl Abort, alloc: Global, depth: u64) -> String {
     let opened = extended(rt, alloc, "", "[", depth);
     extended(rt, alloc, opened.as_str(), "]", depth)
@@ -78,7 +78,7 @@ fn depth_is_counted(rt: HostRuntime) {
     assert!(rt; value.depth() == 50 && is_shown(&rt, rt.alloc(), &value, text.as_str()));
 }
 
-// Rows of a JSON number, and what it is as a whole number and as a count.
+// Rows of a JSON number, and its value as an integer and as a count.
 const NUMBERS: &str = r#"[
   [0, 0, 0],
   [9007199254740991, 9007199254740991, 9007199254740991],
@@ -129,7 +129,7 @@ fn whole_numbers_stay_in_range(rt: HostRuntime) {
     assert!(rt; sum(3, -5) == Some(-2));
 }
 
-// Rows of a value, and how much there is to copy of it.
+// Rows of a value, and its size.
 const SIZES: &str = r#"[
   [null, 1],
   ["", 1],
@@ -140,12 +140,12 @@ const SIZES: &str = r#"[
   [{"":"😀","b":{"c":[]}}, 10]
 ]"#;
 
-// Whether the size of the value is told so up to the limit.
+// Returns whether the size is right with this limit.
 fn is_sized_to(value: &Json, limit: u64, wanted: u64) -> bool {
     value.size(limit) == limit.min(wanted)
 }
 
-// Whether it is told so up to each limit.
+// Returns whether the size is right with each limit.
 fn is_sized(value: &Json, wanted: u64) -> bool {
     laws::well_formed(value);
     for limit in 0..=11 {
@@ -186,7 +186,7 @@ fn faults_are_named(rt: HostRuntime) {
 
 const PLACED: &str = r#"{"a":[1,{"b":"x"}],"c":null,"d":true}"#;
 
-// Rows of a path into that value, and what it leads to.
+// Rows of a path into that value, and the value at the path.
 const PLACES: &str = r#"[
   [[], {"a":[1,{"b":"x"}],"c":null,"d":true}],
   [["a"], [1,{"b":"x"}]],
@@ -207,22 +207,22 @@ const PLACES: &str = r#"[
   [["d",0,"b"], "nothing"]
 ]"#;
 
-fn shown_or_nothing(rt: &impl Abort, alloc: Global, place: Option<&Json>) -> String {
-    match place {
-        Some(place) => shown(rt, alloc, place),
+fn shown_or_nothing(rt: &impl Abort, alloc: Global, target: Option<&Json>) -> String {
+    match target {
+        Some(target) => shown(rt, alloc, target),
         None => text_of(rt, alloc, &r#""nothing""#),
     }
 }
 
 fn lent(rt: &impl Abort, alloc: Global, value: &mut Json, path: &Path) -> String {
     match find_mut(value, path) {
-        Some(place) => shown(rt, alloc, place),
+        Some(target) => shown(rt, alloc, target),
         None => shown_or_nothing(rt, alloc, None),
     }
 }
 
-// Whether the path leads to this, read and lent. No clause says that a search that finds nothing changes
-// nothing.
+// Checks `find` and `find_mut` for a row. Also checks that a search without a result changes
+// nothing, which no clause states.
 fn is_place(rt: &impl Abort, alloc: Global, row: &[Value]) -> bool {
     let [steps, wanted] = row else {
         return false;
@@ -240,10 +240,10 @@ fn places_are_found(rt: HostRuntime) {
     each_row(&rt, rt.alloc(), PLACES, is_place);
 }
 
-// Puts a truth at the path.
+// Replaces the value at the path by `true`.
 fn put_truth(value: &mut Json, path: &Path) {
-    if let Some(place) = find_mut(value, path) {
-        *place = Json::Bool(true);
+    if let Some(target) = find_mut(value, path) {
+        *target = Json::Bool(true);
     }
 }
 
@@ -256,7 +256,7 @@ fn a_place_is_written(rt: HostRuntime) {
     assert!(rt; is_shown(&rt, rt.alloc(), &value, after));
 }
 
-// Puts a value in the place of another, and answers how deep that was.
+// Replaces a value, and returns the depth of the old one.
 #[derive(Drop)]
 struct Replace<'a> {
     alloc: Global,
@@ -272,9 +272,9 @@ impl Change for Replace<'_> {
 
     ghost result_unique = { λ _ _. ⊤ };
 
-    fn change(self, place: &mut Json) -> Result<u64, AllocError> {
-        let depth = place.depth();
-        *place = self.new.deep_clone(self.alloc)?;
+    fn change(self, target: &mut Json) -> Result<u64, AllocError> {
+        let depth = target.depth();
+        *target = self.new.deep_clone(self.alloc)?;
         Ok(depth)
     }
 }
@@ -283,7 +283,7 @@ fn depth_of(rt: &impl Abort, changed: Option<Result<u64, AllocError>>) -> Option
     Some(changed?.expect(rt, "out of memory"))
 }
 
-// Puts null at the path, and answers how deep the value there was.
+// Replaces the value at the path by null, and returns the depth of the old one.
 fn put_null(rt: &impl Abort, alloc: Global, value: &mut Json, steps: &str) -> Option<u64> {
     let path = path_of(rt, alloc, &parsed(rt, alloc, steps));
     let null = Json::Null;
@@ -292,7 +292,7 @@ fn put_null(rt: &impl Abort, alloc: Global, value: &mut Json, steps: &str) -> Op
     depth_of(rt, changed.expect(rt, "out of memory"))
 }
 
-// One place takes null, and places that aren't there change nothing.
+// The value at a path becomes null; paths that lead to no value change nothing.
 #[test]
 fn one_place_is_changed(rt: HostRuntime) {
     let mut value = json(&rt, rt.alloc(), r#"{"a":[1,{"b":[[]]}],"c":2}"#);
@@ -315,7 +315,7 @@ fn the_whole_value_is_changed(rt: HostRuntime) {
     );
 }
 
-// Asserts where the text is cut at each offset.
+// Checks the byte index of each offset.
 fn assert_cuts(rt: &impl Abort, text: &str, cuts: &[(u64, Option<usize>)]) {
     for (offset, wanted) in cuts {
         assert!(rt; cut_at(text, *offset) == *wanted, "{offset}");
@@ -336,7 +336,7 @@ fn texts_are_measured(rt: HostRuntime) {
     assert_cuts(&rt, "a😀b", &cuts);
 }
 
-// A pair over the end of the first 4096 bytes, and one more behind the second.
+// Returns a text with one surrogate pair across byte 4096 and another one after byte 8192.
 fn long(rt: &impl Abort, alloc: Global) -> String {
     let text = extended(rt, alloc, "", "a", 4095);
     let text = extended(rt, alloc, text.as_str(), "😀", 1);
@@ -365,7 +365,7 @@ fn long_texts_are_measured(rt: HostRuntime) {
     assert_cuts(&rt, text.as_str(), &cuts);
 }
 
-// Pairs alone, from the end of the first 4096 bytes to that of the third.
+// Returns a text of surrogate pairs from byte 4096 to byte 12288.
 fn pairs(rt: &impl Abort, alloc: Global) -> String {
     let text = extended(rt, alloc, "", "a", 4096);
     extended(rt, alloc, text.as_str(), "😀", 2048)
@@ -440,7 +440,8 @@ fn a_text_is_changed_in_place(rt: HostRuntime) {
     );
 }
 
-// The text of an object with a member for each number from 100 to 999, or for each even one.
+// Returns the text of an object with a member for each number from 100 to 999, or for each even
+// one.
 fn numbered(rt: &impl Abort, alloc: Global, with_odd: bool) -> String {
     let mut text = extended(rt, alloc, r#"{"k100":100"#, "", 0);
     for number in 101_u64..1_000 {
@@ -456,7 +457,7 @@ fn numbered(rt: &impl Abort, alloc: Global, with_odd: bool) -> String {
     extended(rt, alloc, text.as_str(), "}", 1)
 }
 
-// Takes the members of odd numbers out, or puts them in again.
+// Removes the members of odd numbers, or inserts them again.
 fn change_odd(rt: &impl Abort, alloc: Global, object: &mut Json, back: bool) {
     let object = object_mut(object).expect(rt, "an object");
     for half in 50_i64..500 {
@@ -501,7 +502,7 @@ fn members_are_a_value_again(rt: HostRuntime) {
     assert!(rt; values_equal(&object, &Json::from_members(copy)));
 }
 
-// A value with a list and an object of several blocks and a text of several pieces.
+// Returns a value with a list and an object of several chunks and a text of several chunks.
 fn wide(rt: &impl Abort, alloc: Global) -> Json {
     let items = extended(rt, alloc, "", r#"{"n":[1]},"#, 1_500);
     let object = numbered(rt, alloc, true);
@@ -517,7 +518,7 @@ fn wide(rt: &impl Abort, alloc: Global) -> Json {
     json(rt, alloc, joined(rt, alloc, r#"{"l":["#, &parts).as_str())
 }
 
-// Puts null at some places.
+// Replaces some values by null.
 fn change_some(rt: &impl Abort, alloc: Global, value: &mut Json) {
     assert!(rt;
         put_null(rt, alloc, value, r#"["l",700,"n",0]"#) == Some(0)
@@ -527,14 +528,14 @@ fn change_some(rt: &impl Abort, alloc: Global, value: &mut Json) {
     );
 }
 
-// Whether a copy takes the same changes once more.
+// Returns whether the same changes on a clone give an equal value.
 fn is_changed_again(rt: &impl Abort, alloc: Global, first: &Json) -> bool {
     let mut third = first.frozen_clone(alloc).expect(rt, "out of memory");
     change_some(rt, alloc, &mut third);
     values_equal(first, &third)
 }
 
-// A copy stays as it was where the other is changed, whichever is changed first.
+// A change of a clone leaves the original unchanged, and the reverse.
 #[test]
 fn copies_of_a_value_are_changed_apart(rt: HostRuntime) {
     let value = wide(&rt, rt.alloc());

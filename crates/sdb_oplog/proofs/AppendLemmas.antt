@@ -1,4 +1,4 @@
--- What a log keeps while it grows.
+-- Append preserves the invariant of a log.
 use Rattle.std.proofs.Common.{◌≡◌, ◌≢◌, ℕ, ◌+◌, ◌<◌, ◌≤◌, List, [], ◌∷◌, ◌++◌, length, Bool, true, false, cond, ◌&&◌, Some, None, bytes_eq, nat_eq, refl, sym, ap, ◌∙◌, subst, arith, length-append}
 use Rattle.std.proofs.lemmas.Bool.{eq-eqb}
 use Rattle.std.proofs.lemmas.Slice.Eq.{bytes_eq-Decides}
@@ -13,7 +13,7 @@ use Rattle.sdb_oplog.specs.declared.index.Index.{Index}
 use Rattle.sdb_oplog.proofs.LogGrowth.{first_more}
 use Rattle.sdb_oplog.proofs.IndexLemmas.{one_more_placed}
 
--- an index that says the same serves as well
+-- an index with equal contents has the invariant too
 pub same_places : (es fs : List PlainEntry) (x y : Index) → fs ≡ es → ((s : List ℕ) (n : ℕ) → indexed_version y s n ≡ indexed_version x s n) → LogInvariant es x → LogInvariant fs y
 same_places es fs x y e h l = record {
   identifiers_unique = ap (are_identifiers_new []) e ∙ l.identifiers_unique;
@@ -38,11 +38,11 @@ used_or true x one s is here others = subst (λ t. SourceHasEntries x t) ((bytes
 used_or false x one s is here others =
     others (λ e. let yes : bytes_eq one s ≡ true = (bytes_eq-Decides one s).1 (sym e) in let never : false ≡ true = sym is ∙ yes in cc)
 
--- where the others are used, and the one too
+-- all sources have entries if the others have and this one has
 pub all_used : (x : Index) (one : List ℕ) → SourceHasEntries x one → OtherSourcesHaveEntries x one → AllSourcesHaveEntries x
 all_used x one here others s = used_or (bytes_eq one s) x one s refl here (others s)
 
--- a source with one more number is used
+-- a source with one more seq has entries
 pub put_used : (x y : Index) (one : List ℕ) (n at : ℕ) → OtherSourcesHaveEntries x one → ((s : List ℕ) → s ≢ one → SourceHasEntries x s → SourceHasEntries y s)
     → ((s : List ℕ) (k : ℕ) → indexed_version y s k ≡ cond (nat_eq n k && bytes_eq one s) (Some at) (indexed_version x s k)) → AllSourcesHaveEntries y
 put_used x y one n at others kept places =

@@ -1,4 +1,4 @@
--- An index of a log that grows.
+-- The index of a log that grows.
 use Rattle.std.proofs.Common.{◌≡◌, ℕ, suc, ◌+◌, List, [], ◌∷◌, ◌++◌, length, Bool, true, false, cond, ◌&&◌, Option, Some, None, refl, sym, ap, ◌∙◌, arith, bytes_eq, nat_eq}
 use Rattle.std.proofs.lemmas.Bool.{eqb-true}
 use Rattle.std.proofs.lemmas.Slice.Eq.{bytes_eq-Decides}
@@ -14,7 +14,7 @@ front_step true o p i e h = e
 front_step false None p i e h = cc
 front_step false (Some j) p i e h = ap (option_map (λ k. k + 1)) (h j refl) ∙ e
 
--- what is found stays where it is
+-- an entry that is found stays at its version
 found_front : (es : List PlainEntry) (s : List ℕ) (n i : ℕ) (e : PlainEntry) → stored_at s n es ≡ Some i → stored_at s n (es ++ e ∷ []) ≡ Some i
 found_front [] s n i e h = cc
 found_front (x ∷ es) s n i e h = front_step (has_identifier s n x) (stored_at s n es) (stored_at s n (es ++ e ∷ [])) i h (λ j k. found_front es s n j e k)
@@ -24,7 +24,7 @@ last_step true o p k e h = cc
 last_step false None p k e h = ap (option_map (λ j. j + 1)) (h refl) ∙ ap Some (omega arith)
 last_step false (Some j) p k e h = cc
 
--- what wasn't found is found at the end
+-- an entry that wasn't found is found at the end
 found_last : (es : List PlainEntry) (s : List ℕ) (n : ℕ) (e : PlainEntry) → stored_at s n es ≡ None → has_identifier s n e ≡ true → stored_at s n (es ++ e ∷ []) ≡ Some (length es)
 found_last [] s n e h here = rw here refl
 found_last (x ∷ es) s n e h here = last_step (has_identifier s n x) (stored_at s n es) (stored_at s n (es ++ e ∷ [])) (length es) h (λ k. found_last es s n e k here)
@@ -33,7 +33,7 @@ and_elim : (b c : Bool) → (b && c) ≡ true → (b ≡ true) × (c ≡ true)
 and_elim true c e = (refl, e)
 and_elim false c e = cc
 
--- the source and number of an entry are those that it is from
+-- the source and seq of an entry are those of its submission
 from_one : (s : List ℕ) (n : ℕ) (e : PlainEntry) (es : List PlainEntry) → has_identifier s n e ≡ true → stored_at s n es ≡ stored_at e.arrived.src e.arrived.seq es
 from_one s n e es h =
     let b = and_elim (nat_eq e.arrived.seq n) (bytes_eq e.arrived.src s) h in
@@ -50,7 +50,7 @@ index_of_append_cond : (b : Bool) (es : List PlainEntry) (s : List ℕ) (n : ℕ
 index_of_append_cond true es s n e o p is first old new = new ∙ sym (found_last es s n e (from_one s n e es is ∙ first) is)
 index_of_append_cond false es s n e o p is first old new = new ∙ old ∙ sym (stored_at_other (stored_at s n es) es s n e refl is)
 
--- the index knows one more entry
+-- the index after one more entry
 pub one_more_placed : (x y : Index) (es : List PlainEntry) (e : PlainEntry) → stored_at e.arrived.src e.arrived.seq es ≡ None → ((s : List ℕ) (n : ℕ) → indexed_version x s n ≡ stored_at s n es)
     → ((s : List ℕ) (n : ℕ) → indexed_version y s n ≡ cond (nat_eq e.arrived.seq n && bytes_eq e.arrived.src s) (Some (length es)) (indexed_version x s n))
     → (s : List ℕ) (n : ℕ) → indexed_version y s n ≡ stored_at s n (es ++ e ∷ [])

@@ -1,4 +1,4 @@
--- Sources of an index that have a number.
+-- Sources of an index that have a seq.
 use Rattle.std.proofs.Common.{◌≡◌, ℕ, List, [], ◌∷◌, Bool, true, false, cond, Option, Some, None, bytes_eq, nat_eq, refl, sym, ap, ◌∙◌, subst}
 use Rattle.std.proofs.lemmas.Slice.Eq.{bytes_eq-Decides}
 use Rattle.std.proofs.lemmas.Bool.{eq-eqb}
@@ -15,7 +15,7 @@ bytes_eq_false : (b : Bool) (bs s : List ℕ) → bytes_eq bs s ≡ b → (s ≡
 bytes_eq_false true bs s is other = absurd (other (sym ((bytes_eq-Decides bs s).0 is)))
 bytes_eq_false false bs s is other = refl
 
--- another source is as it was
+-- another source is unchanged
 pub other_same : (f g : VersionsBySource) (bs s : List ℕ) (w : Option VersionsBySeq) → ((cs : List ℕ) → g cs ≡ update bytes_eq f bs w cs) → (s ≡ bs → ⊥) → g s ≡ f s
 other_same f g bs s w h other = h s ∙ ap (λ b. cond b w (f s)) (bytes_eq_false (bytes_eq bs s) bs s refl other)
 
@@ -27,7 +27,7 @@ same_used f g s e used =
 pub other_used : (f g : VersionsBySource) (bs s : List ℕ) (w : Option VersionsBySeq) → ((cs : List ℕ) → g cs ≡ update bytes_eq f bs w cs) → (s ≡ bs → ⊥) → SourceUsedIn f s → SourceUsedIn g s
 other_used f g bs s w h other used = same_used f g s (other_same f g bs s w h other) used
 
--- where all numbers have the same places, and the source was there
+-- all versions are equal, and the source existed
 pub placed_used : (f g : VersionsBySource) (s : List ℕ) → ((n : ℕ) → number_in g s n ≡ number_in f s n) → (is_some (g s) ≡ true → is_some (f s) ≡ true) → SourceUsedIn f s → SourceUsedIn g s
 placed_used f g s same there used h = let u = used (there h) in (u.0, ap is_some (same u.0) ∙ u.1)
 
@@ -35,18 +35,18 @@ there_at : (b : Bool) (f : VersionsBySource) (bs s : List ℕ) (o : Option Versi
 there_at true f bs s o is found h = ap (λ x. is_some (f x)) (sym ((bytes_eq-Decides bs s).0 is)) ∙ found
 there_at false f bs s o is found h = h
 
--- numbers that took the place of others of the same source
+-- versions that replaced others of the source
 pub entry_existed : (f g : VersionsBySource) (bs s : List ℕ) (w : Option VersionsBySeq) → ((cs : List ℕ) → g cs ≡ update bytes_eq f bs w cs) → is_some (f bs) ≡ true → is_some (g s) ≡ true → is_some (f s) ≡ true
 entry_existed f g bs s w h found there = there_at (bytes_eq bs s) f bs s w refl found (sym (ap is_some (h s)) ∙ there)
 
--- a source that was taken out
+-- a source that was removed
 pub out_used : (f g : VersionsBySource) (bs : List ℕ) → ((cs : List ℕ) → g cs ≡ update bytes_eq f bs None cs) → SourceUsedIn g bs
 out_used f g bs h there =
     let none : g bs ≡ None = h bs ∙ ap (λ b. cond b None (f bs)) ((bytes_eq-Decides bs bs).1 refl) in
     let never : false ≡ true = sym (ap is_some none) ∙ there in
     cc
 
--- a source that isn't there
+-- a source that is absent
 pub none_used : (f : VersionsBySource) (bs : List ℕ) → f bs ≡ None → SourceUsedIn f bs
 none_used f bs none there = let never : false ≡ true = sym (ap is_some none) ∙ there in cc
 
@@ -54,7 +54,7 @@ first_number : (es : List (ℕ × ℕ)) → (es ≡ [] → ⊥) → (n : ℕ) ×
 first_number [] some = absurd (some refl)
 first_number (e ∷ es) some = (e.0, ap (λ b. is_some (cond b (Some e.1) (lookup (nat_eq e.0) es))) (eq-eqb e.0 e.0 refl))
 
--- numbers that aren't none
+-- a source with some seq
 pub some_used : (f : VersionsBySource) (bs : List ℕ) (m : VersionsBySeq) → f bs ≡ Some m → (m.entries ≡ [] → ⊥) → SourceUsedIn f bs
 some_used f bs m found some there =
     let one = first_number m.entries some in

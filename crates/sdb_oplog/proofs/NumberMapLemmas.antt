@@ -1,4 +1,4 @@
--- An index by source that changes at one source.
+-- An index that changes at one source.
 use Rattle.std.proofs.Common.{◌≡◌, ℕ, List, [], ◌∷◌, Bool, true, false, cond, ◌&&◌, Option, Some, None, Result, Ok, Err, OnOk, bytes_eq, nat_eq, length, refl, sym, ap, ◌∙◌}
 use Rattle.std.proofs.lemmas.Slice.Eq.{bytes_eq-Decides}
 use Rattle.std.specs.HashMap.{get}
@@ -17,7 +17,7 @@ same_at : (b : Bool) (f : VersionsBySource) (bs s : List ℕ) (n : ℕ) (w : Opt
 same_at true f bs s n w is e = e ∙ ap (λ x. number_in f x n) ((bytes_eq-Decides bs s).0 is)
 same_at false f bs s n w is e = refl
 
--- a source whose numbers have the same places
+-- a source with equal versions
 pub changed_same : (f g : VersionsBySource) (bs : List ℕ) (w : Option VersionsBySeq) → ((cs : List ℕ) → g cs ≡ update bytes_eq f bs w cs) → ((n : ℕ) → option_and_then (λ m. get nat_eq m n) w ≡ number_in f bs n)
     → (s : List ℕ) (n : ℕ) → number_in g s n ≡ number_in f s n
 changed_same f g bs w h e s n = ap (option_and_then (λ m. get nat_eq m n)) (h s) ∙ same_at (bytes_eq bs s) f bs s n w refl (e n)
@@ -37,14 +37,14 @@ put_at true f bs s k n at w old is found e =
     e ∙ ap (λ c. cond c (Some at) (get nat_eq old n)) (sym (and_yes (nat_eq k n))) ∙ ap (cond (nat_eq k n && true) (Some at)) (sym same)
 put_at false f bs s k n at w old is found e = ap (λ c. cond c (Some at) (number_in f s n)) (sym (and_no (nat_eq k n)))
 
--- a source that has one more number
+-- a source with one more seq
 pub changed_put : (f g : VersionsBySource) (bs : List ℕ) (k at : ℕ) (w old : VersionsBySeq) → ((cs : List ℕ) → g cs ≡ update bytes_eq f bs (Some w) cs) → f bs ≡ Some old
     → ((n : ℕ) → get nat_eq w n ≡ cond (nat_eq k n) (Some at) (get nat_eq old n)) → (s : List ℕ) (n : ℕ) → number_in g s n ≡ cond (nat_eq k n && bytes_eq bs s) (Some at) (number_in f s n)
 changed_put f g bs k at w old h found e s n =
     ap (option_and_then (λ m. get nat_eq m n)) (h s) ∙ put_at (bytes_eq bs s) f bs s k n at w old refl found (e n)
     ∙ refl
 
--- a map without entries has nothing
+-- a map without entries has no version
 pub none_in : (m : VersionsBySeq) (n : ℕ) → m.entries ≡ [] → get nat_eq m n ≡ None
 none_in m n e = ap (lookup (nat_eq n)) e
 

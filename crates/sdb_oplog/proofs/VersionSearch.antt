@@ -1,4 +1,4 @@
--- Moments of a log, by halves.
+-- The binary search for a moment.
 use Rattle.std.proofs.Common.{◌≡◌, ℕ, zero, suc, ◌+◌, ◌-◌, ◌<◌, ◌≤◌, List, [], ◌∷◌, length, take, drop, get_or, Bool, true, false, cond, nat_lt, Some, slice_get, refl, sym, ap, ◌∙◌, arith}
 use Rattle.std.proofs.lemmas.Bool.Decides.{nat_tests}
 use Rattle.sdb_oplog.specs.Plain.{PlainEntry}
@@ -22,7 +22,7 @@ not_late_of_le m e h = grind (arith, nat_tests)
 not_counted : (m : ℕ) (e : PlainEntry) → m < e.moment → nat_lt m e.moment ≡ true
 not_counted m e h = grind (arith, nat_tests)
 
--- what stands in a log is not before its beginning
+-- no entry's moment is before the first moment
 not_before : (m : ℕ) (es : List PlainEntry) (i : ℕ) (e : PlainEntry) → MomentsOrderedFrom m es → i < length es → e ≡ get_or es i e → m ≤ e.moment
 not_before m [] i e t h is = omega arith
 not_before m (x ∷ es) zero e t h is = omega (arith, t.0, ap (λ (y : PlainEntry). y.moment) is)
@@ -31,7 +31,7 @@ not_before m (x ∷ es) (suc i) e t h is = let k : x.moment ≤ e.moment = not_b
 abbrev count_cond : Bool → List PlainEntry → ℕ → ℕ
 count_cond b es now = cond b (version_at es now) (suc (version_at es now))
 
--- where an entry is counted, so are all before it
+-- if an entry is counted, so are all before it
 front_counted : (m : ℕ) (es : List PlainEntry) (i : ℕ) (e : PlainEntry) (now : ℕ) → MomentsOrderedFrom m es → i < length es → e ≡ get_or es i e
     → e.moment ≤ now → version_at (take (suc i) es) now ≡ suc i
 front_counted m [] i e now t h is k = omega arith
@@ -52,7 +52,7 @@ none_counts m (x ∷ es) now t h =
     ap (λ b. count_cond b es now) (not_counted now x (omega (arith, t.0, h)))
     ∙ none_counts x.moment es now t.1 (omega (arith, t.0, h))
 
--- where an entry isn't counted, none after it is
+-- if an entry isn't counted, none after it is
 pub back_counts : (m : ℕ) (es : List PlainEntry) (i : ℕ) (e : PlainEntry) (now : ℕ) → MomentsOrderedFrom m es → i < length es → e ≡ get_or es i e
     → now < e.moment → version_at (drop i es) now ≡ 0
 back_counts m [] i e now t h is k = omega arith
@@ -72,6 +72,6 @@ version_split (x ∷ es) zero now = omega arith
 version_split (x ∷ es) (suc i) now =
     split_by (nat_lt now x.moment) (version_at es now) (version_at (take i es) now) (version_at (drop i es) now) (version_split es i now)
 
--- and all are counted where the halves meet
+-- all counted entries are found when the halves meet
 pub halves_meet : (es : List PlainEntry) (i : ℕ) (now : ℕ) → version_at (take i es) now ≡ i → version_at (drop i es) now ≡ 0 → version_at es now ≡ i
 halves_meet es i now h k = omega (arith, version_split es i now, h, k)

@@ -1,4 +1,4 @@
--- Codes of the plain data, by which a proof tells them apart.
+-- Codes of the plain data, which decide their equality.
 use Rattle.std.specs.Prelude.{◌≡◌, ℕ, List, Option, ◌⊎◌, refl}
 use Rattle.std.specs.Coded.{Coded, code_by, coded×, coded⊎, coded_ℕ, coded_list, coded_option}
 use Rattle.std.proofs.Common.{inl, inr}
@@ -30,7 +30,7 @@ back (edit op) = refl
 abbrev pub content_code : Coded PlainContent
 content_code = code_by Cases (coded⊎ value_code (coded⊎ coded_unit op_code)) to_cases from_cases back
 
--- source and number, version and content, via and by
+-- source and seq, version and content, via and by
 abbrev Fields : Type 0
 Fields = (List ℕ × ℕ) × ((Option ℕ × PlainContent) × (List ℕ × ℕ))
 

@@ -1,4 +1,4 @@
--- Which code a fault of a lower crate is answered by.
+-- The code for each fault of a lower crate.
 use Rattle.sdb_value.specs.declared.from_json.ValueFault.{ValueFault}
 use Rattle.sdb_value.specs.declared.from_json.ValueFault.TheVariants as value
 use Rattle.sdb_component.specs.declared.from_json.OpFault.{OpFault}

@@ -1,4 +1,4 @@
--- Keys, and logs by key: the machine that takes each submission in one step.
+-- Keys, and logs by key.
 use Rattle.std.specs.Prelude.{ℕ, ◌+◌, ◌%◌, List, [], Bool, cond, string_bytes}
 use Rattle.std.specs.List.{sum}
 use Rattle.std.specs.declared.cmp.Ordering.{Ordering}
@@ -21,11 +21,11 @@ compare_keys a b = ordering_then (slice_cmp nat_cmp a.collection b.collection) (
 abbrev pub keys_equal : PlainKey → PlainKey → Bool
 keys_equal a b = is_eq (compare_keys a b)
 
--- the number of the shard that a key falls into, of eight
+-- the number of a key's shard, from 0 to 7
 abbrev pub shard_of : PlainKey → ℕ
 shard_of k = (sum k.collection + sum k.id) % 8
 
--- what stands at each key, with this at k
+-- a function of keys with its value at k replaced
 abbrev pub with_value_at_key : {A : Type 0} → (PlainKey → A) → PlainKey → A → PlainKey → A
 with_value_at_key f k x q = cond (keys_equal k q) x (f q)
 

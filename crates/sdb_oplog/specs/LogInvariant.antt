@@ -1,4 +1,4 @@
--- What a log keeps.
+-- The invariant of a log.
 use Rattle.std.specs.Prelude.{◌≡◌, ℕ, ◌≤◌, List, [], length, true, Option, unwrap_or}
 use Rattle.std.specs.Option.{is_some}
 use Rattle.sdb_oplog.specs.Plain.{PlainContent, PlainEntry, PlainReservedAppend}
@@ -8,8 +8,8 @@ use Rattle.sdb_oplog.specs.Moments.{MomentsOrderedFrom}
 use Rattle.sdb_oplog.specs.IndexModel.{indexed_version}
 use Rattle.sdb_oplog.specs.declared.index.Index.{Index}
 
--- no source and number stands twice, each entry has an effect, their moments never fall, there are not too many, and
--- the index knows the place of each
+-- source and seq are unique, each entry applies, moments never decrease, the length is bounded, and the index has each
+-- version
 pub record LogInvariant (es : List PlainEntry) (x : Index) : Type 0 where
   pub identifiers_unique : are_identifiers_new [] es ≡ true
   pub every_entry_applies : is_some (snap es) ≡ true
@@ -17,6 +17,6 @@ pub record LogInvariant (es : List PlainEntry) (x : Index) : Type 0 where
   pub length_in_range : length es ≤ 9007199254740991
   pub index_is_exact : (s : List ℕ) (n : ℕ) → indexed_version x s n ≡ stored_at s n es
 
--- the entry of the submission with this content, stored now; without one, with the content that arrived
+-- the entry of the submission, stored now with this content or with the submitted one
 abbrev pub appended_entry : PlainReservedAppend → ℕ → Option PlainContent → PlainEntry
 appended_entry p now content = new_entry p.log p.submission now (unwrap_or content p.submission.content)

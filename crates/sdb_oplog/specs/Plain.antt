@@ -1,4 +1,4 @@
--- What a log holds, as plain data.
+-- The contents of a log as plain data.
 use Rattle.std.specs.Prelude.{ℕ, List, Option}
 use Rattle.sdb_value.specs.Value.{Value}
 use Rattle.sdb_component.specs.Plain.{PlainComponent}
@@ -16,7 +16,7 @@ pub record PlainSubmission : Type 0 where
   pub via : List ℕ
   pub by : ℕ
 
--- the source, number, via and by of an entry are those of the submission that it came from
+-- an entry; its source, seq, via and by are those of its submission
 pub record PlainEntry : Type 0 where
   pub version : ℕ
   -- the moment at which it was stored, in milliseconds
@@ -24,7 +24,7 @@ pub record PlainEntry : Type 0 where
   pub content : PlainContent
   pub arrived : PlainSubmission
 
--- a log, and a submission that room is made for in it
+-- a log and a submission for which space is reserved
 pub record PlainReservedAppend : Type 0 where
   pub log : List PlainEntry
   pub submission : PlainSubmission

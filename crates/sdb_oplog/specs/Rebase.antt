@@ -1,4 +1,4 @@
--- What a content made at one version becomes after what was stored since: `Over`.
+-- The content transformed against each entry stored since its base version: `Over`.
 use Rattle.std.specs.Prelude.{List, [], ◌∷◌, Bool, true, false, Result, Ok, Err}
 use Rattle.std.specs.Option.{option_map_or}
 use Rattle.sdb_component.specs.Plain.{PlainComponent}
@@ -9,7 +9,7 @@ use Rattle.sdb_oplog.specs.Refusal.{result_and_then}
 use Rattle.sdb_oplog.specs.declared.codes.Code.{Code}
 use Rattle.sdb_oplog.specs.declared.codes.Code.TheVariants.{E5, E6, E8}
 
--- the arriving edit is the left one
+-- an edit transformed against a concurrent one, as the left operation
 abbrev pub edit_over : List PlainComponent → List PlainComponent → Result PlainContent Code
 edit_over op other = option_map_or (λ c. Ok (edit c)) (transform_op Left op other) (Err E8)
 
@@ -22,14 +22,14 @@ over (create v) (edit other) = Err E6
 over delete (edit other) = Ok delete
 over (edit op) (edit other) = edit_over op other
 
--- along stored entries, up to the first refusal
+-- transformed against each entry in order, up to the first refusal
 abbrev pub rebase : PlainContent → List PlainEntry → Result PlainContent Code
 rebase m [] = Ok m
 rebase m (e ∷ es) = result_and_then (λ k. rebase k es) (over m e.content)
 
--- ---- memory
+-- ---- allocations
 
--- only an edit over an edit is transformed
+-- only an edit against an edit allocates
 abbrev pub over_allocates : PlainContent → PlainContent → Bool
 over_allocates (create v) stored = false
 over_allocates delete stored = false
@@ -37,8 +37,8 @@ over_allocates (edit op) (create v) = false
 over_allocates (edit op) delete = false
 over_allocates (edit op) (edit other) = true
 
--- along stored entries the first one tells: over it an edit is transformed, or refused, and all else is refused or a
--- delete, which stays one
+-- whether a rebase allocates, which its first entry decides: against it an edit is transformed or refused, and any
+-- other content is refused or stays a delete
 abbrev pub rebase_allocates : PlainContent → List PlainEntry → Bool
 rebase_allocates m [] = false
 rebase_allocates m (e ∷ es) = over_allocates m e.content

@@ -1,4 +1,4 @@
--- What a kind of content stands for.
+-- The view of a kind of content.
 use Rattle.std.specs.Arc.{arc_value}
 use Rattle.sdb_value.specs.View.{value_of}
 use Rattle.sdb_oplog.specs.Plain.{PlainContent, create, delete, edit}

@@ -7,29 +7,29 @@ use sdb_transform::Fault;
 use sdb_value::ValueFault;
 use std::alloc::AllocError;
 
-/// Why a message, a step or a submission is refused. `sdb_wire` has the name and the text that replies show
-/// for each.
+/// The reason why a message, a step or a submission is refused. `sdb_wire` has the name and the
+/// text of each.
 #[derive(Clone, Copy, Debug, PartialEq, Eq, Drop)]
 pub enum Code {
-    /// The message has no reading, or a member is missing, of a wrong kind or past a limit.
+    /// The message is no valid JSON, or a member is missing, has the wrong type or exceeds a limit.
     E1,
-    /// The type of a document to be created is neither json0 nor its address.
+    /// The type of a create is neither json0 nor its URI.
     E2,
     /// An operation or a value is outside the profile.
     E3,
-    /// The version is above the present one.
+    /// The version is above the current one.
     E4,
-    /// The document was deleted meanwhile.
+    /// The document was deleted since the base version.
     E5,
-    /// The document was created already, or meanwhile.
+    /// The document exists already, or was created since the base version.
     E6,
     /// There is no document to edit.
     E7,
-    /// A component has no effect on the document, or can't be transformed.
+    /// A component doesn't apply to the document, or can't be transformed.
     E8,
-    /// The projection doesn't show what the operation changes.
+    /// The projection doesn't permit the operation.
     E9,
-    /// A growth was refused.
+    /// An allocation failed.
     E10,
     /// A limit of the server is reached.
     E11,

@@ -1,4 +1,4 @@
-//! What is asked of a document.
+//! Contents of submissions and entries.
 ghost use Rattle.std.specs.Arc.{arc_value};
 ghost use Rattle.std.specs.Prelude.{◌≡◌, true, IfOk, IfErr, OnOk, OnErr, IsErrOf, Ok, option_map, unwrap_or};
 ghost use Rattle.sdb_value.specs.Uniqueness.{is_unique};
@@ -21,19 +21,19 @@ use std::alloc::{AllocError, Global};
 use std::marker::Model;
 use std::sync::Arc;
 
-/// The three kinds of content. Copies of one content share its data and its operation.
+/// The three kinds of content. Clones of a content share its data or its operation.
 #[derive(Drop)]
 pub enum Kind {
-    /// The document is created with these data.
+    /// A create with these data.
     Create(Arc<Json>),
-    /// The document is deleted.
+    /// A delete.
     Delete,
-    /// The document is edited.
+    /// An edit.
     Edit(Arc<Op>),
 }
 
-/// What a submission asks, and what an entry stores: a create, a delete or an edit. It never changes,
-/// and a copy of it copies nothing deep.
+/// The content of a submission or an entry: a create, a delete or an edit. It is immutable, and a
+/// clone is a pointer.
 #[derive(Drop)]
 pub struct Content {
     kind: Kind,
@@ -53,7 +53,11 @@ impl Model for Content {
 }
 
 impl Content {
-    /// A create with these data, which all documents made of it share: a copy of them costs a pointer.
+    /// Creates the content of a create. All documents made of it share its data.
+    ///
+    /// # Errors
+    ///
+    /// [`AllocError`] if an allocation fails.
     pub fn create(alloc: Global, value: Json) -> Result<Content, AllocError>
         ensures { IfOk result (λ c. c ≡ create (value_of value)) }
     {
@@ -62,14 +66,18 @@ impl Content {
         })
     }
 
-    /// A delete.
+    /// Creates the content of a delete.
     pub fn delete() -> Content
         ensures { result ≡ delete }
     {
         Content { kind: Kind::Delete }
     }
 
-    /// An edit by this operation.
+    /// Creates the content of an edit.
+    ///
+    /// # Errors
+    ///
+    /// [`AllocError`] if an allocation fails.
     pub fn edit(alloc: Global, op: Op) -> Result<Content, AllocError>
         ensures { IfOk result (λ c. c ≡ edit op) }
     {
@@ -78,15 +86,18 @@ impl Content {
         })
     }
 
-    /// Which of the three it is.
+    /// Returns the kind.
     pub fn kind(&self) -> &Kind
         ensures { plain_kind result.now ≡ self.now }
     {
         &self.kind
     }
 
-    /// A copy, which shares the data or the operation. It takes no memory; it fails only where there are
-    /// 2^63 copies already.
+    /// Clones the content, sharing its data or its operation. It doesn't allocate.
+    ///
+    /// # Errors
+    ///
+    /// [`AllocError`] if there are 2^63 clones already.
     pub fn try_clone(&self) -> Result<Content, AllocError>
         ensures { IfOk result (λ c. c ≡ self.now) }
     {
@@ -98,7 +109,8 @@ impl Content {
         Ok(Content { kind })
     }
 
-    // The content. One that edits by one component shares this path where it is the component's own.
+    // Returns the content with this path shared, if it is an edit by one component with an equal
+    // path.
     pub(crate) fn with_interned_path(
         self,
         alloc: Global,
@@ -117,7 +129,7 @@ impl Content {
         }
     }
 
-    // The path of an edit by one component, shared.
+    // Returns a shared clone of the path of an edit by one component.
     pub(crate) fn path(&self) -> Result<Option<Path>, AllocError> {
         let Kind::Edit(op) = &self.kind else {
             return Ok(None);
@@ -128,13 +140,16 @@ impl Content {
         }
     }
 
-    /// Makes of a document, which may be none, what the content makes of it, in place. A create on a
-    /// document is E6, an edit of none E7, one that has no effect E8, want of memory E10. The document
-    /// is then as it was.
+    /// Applies the content to a document in place; the document may be absent.
     ///
-    /// An edit of one component copies nothing but what is shared with copies of the document on its way. One
-    /// of several also makes the value at the longest path that they share shared, as far as it isn't yet, and
-    /// copies its parts on their ways.
+    /// An edit of one component copies only shared parts on its path. An edit of several also
+    /// freezes the value at their common path, and copies parts on their paths.
+    ///
+    /// # Errors
+    ///
+    /// [`Code::E6`] for a create on a present document, [`Code::E7`] for an edit of an absent one,
+    /// [`Code::E8`] if a component doesn't apply, [`Code::E10`] if an allocation fails. The
+    /// document is then unchanged.
     pub fn apply_to(&self, alloc: Global, document: &mut Option<Json>) -> Result<(), Code>
         ensures ok { OnOk result (apply_content self.now (option_map value_of document.old)
             ≡ Ok (option_map value_of document.new)) }
@@ -200,9 +215,15 @@ fn edit_value(alloc: Global, op: &Op, value: &mut Json) -> Result<(), Code>
     Ok(())
 }
 
-/// What a content made at one version becomes after a stored content of that version. Over a create
-/// everything is E6; over a delete a create and an edit are E5; over an edit a create is E6, and an
-/// edit is transformed, as the left one. Then E8 where that can't be, and E10 for want of memory.
+/// Transforms a content against a concurrent stored content. An edit against an edit is transformed
+/// as the left one.
+///
+/// # Errors
+///
+/// - [`Code::E6`] for any content against a create, and for a create against an edit.
+/// - [`Code::E5`] for a create or an edit against a delete.
+/// - [`Code::E8`] if an edit can't be transformed against an edit.
+/// - [`Code::E10`] if an allocation fails.
 pub fn over(alloc: Global, content: &Content, stored: &Content) -> Result<Content, Code>
     ensures ok { IfOk result (λ c. over content.now stored.now ≡ Ok c) }
     ensures err { IfErr result (λ code. IsRefusalOrOutOfMemory (over content.now stored.now) code) }
@@ -231,8 +252,12 @@ fn edit_over(alloc: Global, op: &Op, other: &Op) -> Result<Content, Code>
     Ok(Content::edit(alloc, carried)?)
 }
 
-/// What a content becomes along stored entries, each after the one before, up to the first refusal.
-/// `None` where it is known to stay as it is, as where there are no entries.
+/// Transforms a content against each entry in order, up to the first refusal. Returns `None` if the
+/// content is known to be unchanged, as for no entries.
+///
+/// # Errors
+///
+/// The code of the first refusal, as of [`over`], or [`Code::E10`] if an allocation fails.
 pub fn rebase(alloc: Global, content: &Content, entries: &[Entry]) -> Result<Option<Content>, Code>
     ensures ok { IfOk result (λ m. rebase content.now entries.now ≡ Ok (unwrap_or m content.now)) }
     ensures err { IfErr result (λ code. IsRefusalOrOutOfMemory (rebase content.now entries.now) code) }
@@ -245,8 +270,8 @@ pub fn rebase(alloc: Global, content: &Content, entries: &[Entry]) -> Result<Opt
     Ok(carried)
 }
 
-// What a content becomes after one stored content more. What it became before is given up. `None` where it is known
-// to have stayed as it is.
+// Transforms against one more stored content and drops the earlier result. Returns `None` if the
+// content is known to be unchanged.
 fn rebase_step(
     alloc: Global,
     carried: Option<Content>,
@@ -263,7 +288,7 @@ fn rebase_step(
     }
 }
 
-// The same of a content that stayed as it is so far.
+// Transforms a content that is unchanged so far.
 fn rebase_first(alloc: Global, content: &Content, stored: &Content) -> Result<Option<Content>, Code>
     ensures ok { IfOk result (λ m. over content.now stored.now ≡ Ok (unwrap_or m content.now)) }
     ensures err { IfErr result (λ code. IsRefusalOrOutOfMemory (over content.now stored.now) code) }
@@ -275,7 +300,7 @@ fn rebase_first(alloc: Global, content: &Content, stored: &Content) -> Result<Op
     }
 }
 
-// The same of a content that it became, which is given up.
+// Transforms an owned content.
 fn rebase_next(alloc: Global, carried: Content, stored: &Content) -> Result<Content, Code>
     ensures ok { IfOk result (λ c. over carried stored.now ≡ Ok c) }
     ensures err { IfErr result (λ code. IsRefusalOrOutOfMemory (over carried stored.now) code) }
@@ -287,7 +312,7 @@ fn rebase_next(alloc: Global, carried: Content, stored: &Content) -> Result<Cont
     }
 }
 
-// As `edit_over`, but `None` where the edit is known to stay as it is.
+// As `edit_over`, but returns `None` if the edit is known to be unchanged.
 fn rebase_edit(alloc: Global, op: &Op, other: &Op) -> Result<Option<Content>, Code>
     ensures ok { IfOk result (λ m. edit_over op.now other.now ≡ Ok (unwrap_or m (edit op.now))) }
     ensures err { IfErr result (λ code. IsRefusalOrOutOfMemory (edit_over op.now other.now) code) }
@@ -298,7 +323,7 @@ fn rebase_edit(alloc: Global, op: &Op, other: &Op) -> Result<Option<Content>, Co
     }
 }
 
-// As `edit_over`, but the operation is given up.
+// As `edit_over`, for an owned operation.
 fn rebase_owned_edit(alloc: Global, op: Arc<Op>, other: &Op) -> Result<Content, Code>
     ensures ok { IfOk result (λ c. edit_over (arc_value op) other.now ≡ Ok c) }
     ensures err { IfErr result (λ code. IsRefusalOrOutOfMemory (edit_over (arc_value op) other.now) code) }

@@ -1,4 +1,4 @@
-//! What is sent, and what is stored of it.
+//! Submissions and entries.
 ghost use Rattle.std.specs.Arc.{arc_value};
 ghost use Rattle.std.specs.Prelude.{◌≡◌, ◌<◌, IfOk, IsTrue, OnErr, length, string_bytes, unwrap_or};
 
@@ -8,7 +8,7 @@ use std::alloc::{AllocError, Global};
 use std::marker::Model;
 use std::sync::Arc;
 
-// What a submission has.
+// The fields of a submission.
 #[derive(Drop)]
 struct Fields {
     src: Arc<String>,
@@ -19,7 +19,7 @@ struct Fields {
     by: u64,
 }
 
-/// What a session asks of one document. It never changes, and its copies share it.
+/// A session's submission to one document. It is immutable, and a clone is a pointer.
 #[derive(Drop)]
 pub struct Submission {
     fields: Arc<Fields>,
@@ -47,9 +47,13 @@ impl Model for Submission {
 }
 
 impl Submission {
-    /// A submission of the source, by its own sequence number, made at the version, or at the
-    /// version at which it is decided where that is `None`. `via` is the collection name it comes
-    /// through, `by` the number of the pass. Fails only where memory is wanting.
+    /// Creates a submission of a source with its seq, made at `version`, or at the version of its
+    /// decision if that is `None`. `via` is the collection name through which it came, `by` the
+    /// pass number.
+    ///
+    /// # Errors
+    ///
+    /// [`AllocError`] if an allocation fails.
     pub fn new(
         alloc: Global,
         src: String,
@@ -73,7 +77,11 @@ impl Submission {
         Submission::with_names(alloc, src, seq, version, content, via, by)
     }
 
-    /// As [`Submission::new`], of names that other submissions may share. Fails only where memory is wanting.
+    /// Creates a submission as [`Submission::new`], with names that other submissions may share.
+    ///
+    /// # Errors
+    ///
+    /// [`AllocError`] if an allocation fails.
     pub fn with_names(
         alloc: Global,
         src: Arc<String>,
@@ -105,49 +113,53 @@ impl Submission {
         })
     }
 
-    /// The source.
+    /// Returns the source.
     pub fn src(&self) -> &str
         ensures { result.now ≡ self.now.src }
     {
         self.fields.src.as_str()
     }
 
-    /// The number that its source gave it.
+    /// Returns the number that the source gave it.
     pub fn seq(&self) -> u64
         ensures { result ≡ self.now.seq }
     {
         self.fields.seq
     }
 
-    /// The version that it was made at.
+    /// Returns the version at which it was made.
     pub fn version(&self) -> Option<u64>
         ensures { result ≡ self.now.version }
     {
         self.fields.version
     }
 
-    /// What it asks.
+    /// Returns the content.
     pub fn content(&self) -> &Content
         ensures { result.now ≡ self.now.content }
     {
         &self.fields.content
     }
 
-    /// The collection name that it came through.
+    /// Returns the collection name through which it came.
     pub fn via(&self) -> &str
         ensures { result.now ≡ self.now.via }
     {
         self.fields.via.as_str()
     }
 
-    /// The number of the pass.
+    /// Returns the pass number.
     pub fn by(&self) -> u64
         ensures { result ≡ self.now.by }
     {
         self.fields.by
     }
 
-    /// A copy, which shares all. It takes no memory; it fails only where there are 2^63 copies already.
+    /// Clones the submission. It doesn't allocate.
+    ///
+    /// # Errors
+    ///
+    /// [`AllocError`] if there are 2^63 clones already.
     pub fn try_clone(&self) -> Result<Submission, AllocError>
         ensures { IfOk result (λ s. s ≡ self.now) }
     {
@@ -157,13 +169,13 @@ impl Submission {
     }
 }
 
-/// A stored operation: the version that it was applied at, when it was stored, what was applied, and the
-/// submission that it came from, whose source, number, `via` and `by` are its own.
+/// An entry of a log: its version, its moment, the content that was applied, and its submission,
+/// with source, seq, `via` and `by`.
 #[derive(Drop)]
 pub struct Entry {
     version: u64,
     moment: Moment,
-    // none where it is stored as it arrived
+    // `None` if it is the submitted content
     content: Option<Content>,
     arrived: Submission,
 }
@@ -186,8 +198,7 @@ impl Model for Entry {
 }
 
 impl Entry {
-    /// The entry of the content at the version, stored at the moment. Without a content it is that of the
-    /// submission, as it arrived.
+    /// Creates an entry at a version and a moment. Without a content it has the submitted one.
     pub fn new(version: u64, moment: Moment, content: Option<Content>, arrived: Submission) -> Entry
         ensures { result ≡ record {
           version = version;
@@ -204,21 +215,21 @@ impl Entry {
         }
     }
 
-    /// The version that it was applied at.
+    /// Returns the version at which it was applied.
     pub fn version(&self) -> u64
         ensures { result ≡ self.now.version }
     {
         self.version
     }
 
-    /// When it was stored: never before the entry in front of it.
+    /// Returns the moment at which it was stored. Moments never decrease in a log.
     pub fn moment(&self) -> Moment
         ensures { result ≡ self.now.moment }
     {
         self.moment
     }
 
-    /// What was applied.
+    /// Returns the content that was applied.
     pub fn content(&self) -> &Content
         ensures { result.now ≡ self.now.content }
     {
@@ -228,22 +239,25 @@ impl Entry {
         }
     }
 
-    /// Whether it is known to be stored as it arrived.
+    /// Returns `true` only if the content is the submitted one.
     pub(crate) fn has_arrived_content(&self) -> bool
         ensures { IsTrue result → self.now.content ≡ self.now.arrived.content }
     {
         self.content.is_none()
     }
 
-    /// The submission as it arrived.
+    /// Returns the submission.
     pub fn arrived(&self) -> &Submission
         ensures { result.now ≡ self.now.arrived }
     {
         &self.arrived
     }
 
-    /// A copy, which shares the content and the submission. It takes no memory; it fails only where there are
-    /// 2^63 copies already.
+    /// Clones the entry, sharing content and submission. It doesn't allocate.
+    ///
+    /// # Errors
+    ///
+    /// [`AllocError`] if there are 2^63 clones already.
     pub fn try_clone(&self) -> Result<Entry, AllocError>
         ensures { IfOk result (λ e. e ≡ self.now) }
     {
@@ -256,7 +270,11 @@ impl Entry {
     }
 }
 
-/// Copies of the entries, in their order. Where there are none it takes no memory.
+/// Clones the entries in order. For no entries it doesn't allocate.
+///
+/// # Errors
+///
+/// [`AllocError`] if an allocation fails.
 pub fn clone_entries(alloc: Global, entries: &[Entry]) -> Result<Vec<Entry>, AllocError>
     ensures copies { IfOk result (λ v. v.items ≡ entries.now) }
     ensures memory { OnErr result (0 < length entries.now) }

@@ -1,4 +1,4 @@
-//! Whether entries are the same.
+//! Equality of entries.
 ghost use Rattle.std.specs.Prelude.{◌≡◌, IsTrue, IsFalse};
 ghost use Rattle.sdb_value.specs.View.{value_of};
 
@@ -7,7 +7,7 @@ use crate::entry::{Entry, Submission};
 use sdb_component::components_equal;
 use sdb_value::values_equal;
 
-/// Whether the entries are the same, one by one.
+/// Returns whether the lists of entries are equal.
 pub fn entries_equal(a: &[Entry], b: &[Entry]) -> bool
     ensures on_true { IsTrue result → a.now ≡ b.now }
     ensures on_false { IsFalse result → a.now ≡ b.now → ⊥ }
@@ -33,7 +33,7 @@ fn entry_equal(a: &Entry, b: &Entry) -> bool
         && entry_content_equal(a, b)
 }
 
-// Whether of one submission the same is stored.
+// Returns whether two entries of one submission have equal contents.
 fn entry_content_equal(a: &Entry, b: &Entry) -> bool
     requires { a.now.arrived ≡ b.now.arrived }
     ensures on_true { IsTrue result → a.now.content ≡ b.now.content }

@@ -1,12 +1,12 @@
-//! Where the submissions of a log stand, by source and number.
+//! The index from source and seq to version.
 ghost use Rattle.std.specs.Prelude.{◌≡◌, ◌≢◌, ℕ, List, Some, None, IfSome, OnOk, OnErr, if◌then◌else◌, ◌&&◌, bytes_eq, nat_eq};
 ghost use Rattle.sdb_oplog.specs.IndexModel.{indexed_version, HasReserved, SourceHasEntries, AllSourcesHaveEntries};
 
 use std::alloc::{AllocError, Global};
 use std::collections::HashMap;
 
-// The place of each entry of a log, by the source and the number of its submission. A source may have
-// no number yet: room is then made for its first one.
+// An index from the source and seq of a submission to its version. A source may have no seq yet:
+// space for its first one is then reserved.
 #[derive(Drop)]
 pub(crate) struct Index {
     by_source: HashMap<String, HashMap<u64, u64>>,
@@ -22,7 +22,7 @@ impl Index {
         }
     }
 
-    // The place of the entry of this source and number.
+    // Returns the version of the entry with this source and seq.
     pub(crate) fn find(&self, src: &str, seq: u64) -> Option<u64>
         ensures { result ≡ indexed_version self.now src.now seq }
     {
@@ -30,7 +30,7 @@ impl Index {
         numbers.get(&seq).copied()
     }
 
-    // Makes room for one more number of the source.
+    // Reserves space for one more seq of the source.
     pub(crate) fn reserve(&mut self, alloc: Global, src: &str) -> Result<(), AllocError>
         ensures equal { (s : List ℕ) (n : ℕ) → indexed_version self.new s n ≡ indexed_version self.old s n }
         ensures reserved { OnOk result (HasReserved self.new src.now) }
@@ -43,7 +43,7 @@ impl Index {
         }
     }
 
-    // Puts a source in that has no number yet.
+    // Adds a source without a seq.
     fn add_source(&mut self, alloc: Global, src: &str) -> Result<(), AllocError>
         requires { (n : ℕ) → indexed_version self.old src.now n ≡ None }
         ensures equal { (s : List ℕ) (n : ℕ) → indexed_version self.new s n ≡ indexed_version self.old s n }
@@ -58,7 +58,7 @@ impl Index {
         Ok(())
     }
 
-    // Takes a source out that has no number.
+    // Removes the source if it has no seq.
     pub(crate) fn remove_unused(&mut self, src: &str)
         ensures equal { (s : List ℕ) (n : ℕ) → indexed_version self.new s n ≡ indexed_version self.old s n }
         ensures unused { SourceHasEntries self.new src.now }
@@ -72,7 +72,7 @@ impl Index {
         }
     }
 
-    // Puts the place of one more number of the source. Room is made for it.
+    // Inserts the version of one more seq of the source, for which space is reserved.
     pub(crate) fn insert(&mut self, src: &str, seq: u64, at: u64)
         requires { HasReserved self.old src.now }
         ensures versions { (s : List ℕ) (n : ℕ) → indexed_version self.new s n

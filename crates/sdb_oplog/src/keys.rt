@@ -5,8 +5,8 @@ ghost use Rattle.sdb_oplog.specs.Keys.{plain_key, shard_of};
 
 use std::alloc::AllocError;
 
-/// Where a document is: a collection, and an id in it. Keys stand in the order of the bytes of the
-/// collection, then of the id.
+/// The key of a document: a collection and an id. Keys are ordered by the bytes of the collection
+/// and then of the id.
 #[derive(PartialEq, Eq, PartialOrd, Ord, Hash, Debug, Drop)]
 pub struct Key {
     pub collection: String,
@@ -14,7 +14,11 @@ pub struct Key {
 }
 
 impl Key {
-    /// A copy.
+    /// Clones the key.
+    ///
+    /// # Errors
+    ///
+    /// [`AllocError`] if an allocation fails.
     pub fn try_clone(&self) -> Result<Key, AllocError>
         ensures { IfOk result (λ k. plain_key k ≡ plain_key self.now) }
     {
@@ -23,8 +27,8 @@ impl Key {
         Ok(Key { collection, id })
     }
 
-    /// The number of its shard, of eight: the sum of the bytes of the collection and of the id, modulo
-    /// 8. It takes no memory.
+    /// Returns the shard number from 0 to 7: the sum of all bytes of the collection and the id,
+    /// modulo 8. It doesn't allocate.
     pub fn shard(&self) -> usize
         ensures shard { result ≡ shard_of (plain_key self.now) }
         ensures below { result < 8 }
@@ -33,7 +37,7 @@ impl Key {
     }
 }
 
-// The sum of the bytes, modulo 8.
+// Returns the sum of the bytes modulo 8.
 fn byte_sum(text: &str) -> usize
     ensures { result ≡ sum text.now % 8 }
 {

@@ -1,4 +1,4 @@
-//! The log of a document: what was stored, in order, each with the submission that it came from.
+//! The log of a document: its entries in order, each with its submission.
 #![tactic(auto)]
 
 mod codes;

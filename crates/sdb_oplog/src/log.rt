@@ -16,8 +16,8 @@ use sdb_value::{Json, MAX};
 use std::alloc::{AllocError, Global};
 use std::marker::Model;
 
-/// A list of entries. The sources and numbers of their submissions differ pairwise, each content has
-/// an effect where it stands, their moments never fall, and there are at most [`MAX`] of them.
+/// A list of at most [`MAX`] entries. No two have the same source and seq, each content applies at
+/// its version, and moments never decrease.
 #[derive(Drop)]
 pub struct Log {
     alloc: Global,
@@ -42,7 +42,7 @@ impl Model for Log {
     ghost invariant = { λ l. LogInvariant l.entries.items l.index × AllSourcesHaveEntries l.index };
 }
 
-/// A log with a submission that room is made for: to store it takes no memory.
+/// A log and a submission for which space is reserved, so that appending it doesn't allocate.
 #[derive(Drop)]
 pub struct ReservedAppend {
     alloc: Global,
@@ -69,7 +69,7 @@ impl Model for ReservedAppend {
         HasReserved p.index p.submission.src × OtherSourcesHaveEntries p.index p.submission.src };
 }
 
-/// A log in which no room could be made, as it was, and why.
+/// An unchanged log in which no space could be reserved, and the error.
 #[derive(Drop)]
 pub struct ReserveError {
     pub log: Log,
@@ -77,7 +77,7 @@ pub struct ReserveError {
 }
 
 impl Log {
-    /// A log without entries. It keeps the allocator.
+    /// Creates an empty log. It keeps the allocator.
     pub fn new(alloc: Global) -> Log
         ensures { result ≡ [] }
     {
@@ -88,7 +88,7 @@ impl Log {
         }
     }
 
-    /// How many entries there are: the present version.
+    /// Returns the number of entries, which is the current version.
     pub fn len(&self) -> u64
         ensures len { result ≡ length self.now }
         ensures bound { length self.now ≤ MAX }
@@ -99,21 +99,21 @@ impl Log {
         self.entries.len() as u64
     }
 
-    /// Whether nothing is stored.
+    /// Returns whether the log is empty.
     pub fn is_empty(&self) -> bool
         ensures { IsTrue result ↔ (length self.now ≡ 0) }
     {
         self.entries.is_empty()
     }
 
-    /// The entry of the version.
+    /// Returns the entry of a version.
     pub fn get(&self, version: u64) -> Option<&Entry>
         ensures { option_map (λ e. e.now) result ≡ slice_get self.now version }
     {
         self.entries.get(version as usize)
     }
 
-    /// The entries from the version on, which is at most the length.
+    /// Returns the entries from a version on, which is at most the length.
     pub fn entries_from(&self, version: u64) -> &[Entry]
         requires { version ≤ length self.now }
         ensures { result.now ≡ drop version self.now }
@@ -121,16 +121,15 @@ impl Log {
         &self.entries.as_slice()[version as usize..]
     }
 
-    /// The version of the entry that came from this source and number, wherever it stands. It is looked
-    /// up in an index, however long the log is.
+    /// Returns the version of the entry with this source and seq, from an index.
     pub fn stored_at(&self, src: &str, seq: u64) -> Option<u64>
         ensures { result ≡ stored_at src.now seq self.now }
     {
         self.index.find(src, seq)
     }
 
-    /// The version at a moment: how many entries have a moment that is not above it. It is found by halving,
-    /// since moments never fall.
+    /// Returns the version at a moment: the number of entries whose moment isn't later. It is found
+    /// by binary search, since moments never decrease.
     pub fn version_at(&self, moment: Moment) -> u64
         ensures { result ≡ version_at self.now moment }
     {
@@ -148,7 +147,11 @@ impl Log {
         low as u64
     }
 
-    /// Stores an entry. After want of memory the log is unchanged.
+    /// Appends an entry to the log.
+    ///
+    /// # Errors
+    ///
+    /// [`AllocError`] if an allocation fails. The log is then unchanged.
     pub fn push(&mut self, entry: Entry) -> Result<(), AllocError>
         requires first { stored_at entry.arrived.src entry.arrived.seq self.old ≡ None }
         requires alive { is_some (snap (self.old ++ entry ∷ [])) ≡ true }
@@ -167,8 +170,11 @@ impl Log {
         Ok(())
     }
 
-    /// Makes room for the entry of a submission, so that to store it takes no memory. After want of
-    /// memory the log comes back as it was.
+    /// Reserves space for the entry of a submission, so that appending it can't fail.
+    ///
+    /// # Errors
+    ///
+    /// [`ReserveError`] with the unchanged log if an allocation fails.
     pub fn reserve_append(self, submission: Submission) -> Result<ReservedAppend, ReserveError>
         ensures ok { IfOk result (λ p. p ≡ record { log = self; submission = submission }) }
         ensures err { IfErr result (λ u. u.log ≡ self) }
@@ -196,8 +202,11 @@ impl Log {
         }
     }
 
-    /// The document after the first entries, at most all. It applies them one by one. E10 is want of
-    /// memory.
+    /// Returns the document at a version, by applying the entries before it.
+    ///
+    /// # Errors
+    ///
+    /// [`Code::E10`] if an allocation fails.
     pub fn replay(&self, version: u64) -> Result<Option<Json>, Code>
         requires { version ≤ length self.now }
         ensures ok { IfOk result (λ d. snap (take version self.now) ≡ Some (option_map value_of d)) }
@@ -206,8 +215,12 @@ impl Log {
         self.replay_from(None, 0, version)
     }
 
-    /// The document after the first `to` entries, made of the one after the first `from`. It applies the
-    /// entries between them one by one. E10 is want of memory.
+    /// Returns the document at version `to` from the one at version `from`, by applying the entries
+    /// between them.
+    ///
+    /// # Errors
+    ///
+    /// [`Code::E10`] if an allocation fails.
     pub fn replay_from(
         &self,
         document: Option<Json>,
@@ -230,15 +243,15 @@ impl Log {
 }
 
 impl ReservedAppend {
-    /// The submission.
+    /// Returns the submission.
     pub fn submission(&self) -> &Submission
         ensures { result.now ≡ self.now.submission }
     {
         &self.submission
     }
 
-    /// Stores the submission with this content; without one, with the content that arrived. Its moment is
-    /// this one, or that of the entry before it where that is later.
+    /// Appends the submission with this content, or with the submitted one if it is `None`. Its
+    /// moment is `now`, or that of the entry before it if that is later.
     pub fn commit(self, now: Moment, content: Option<Content>) -> Log
         requires first { stored_at self.submission.src self.submission.seq self.log ≡ None }
         requires alive { is_some (snap (self.log ++ appended_entry self now content ∷ [])) ≡ true }
@@ -262,7 +275,7 @@ impl ReservedAppend {
         }
     }
 
-    /// The log, where nothing is stored. The index keeps no source that nothing is stored of.
+    /// Returns the log unchanged. A source without an entry is removed from the index.
     pub fn cancel(self) -> Log
         ensures { result ≡ self.log }
     {
@@ -281,7 +294,7 @@ impl ReservedAppend {
     }
 }
 
-// The moment of the last entry, or the first one where there is none.
+// Returns the moment of the last entry, or the first moment for an empty log.
 fn last_moment(entries: &[Entry]) -> Moment
     ensures { result ≡ last_moment entries.now }
 {
@@ -291,7 +304,7 @@ fn last_moment(entries: &[Entry]) -> Moment
     }
 }
 
-// Makes room for one more entry of the source.
+// Reserves space for one more entry of the source.
 fn reserve(
     alloc: Global,
     entries: &mut Vec<Entry>,
@@ -309,7 +322,7 @@ fn reserve(
     index.reserve(alloc, src)
 }
 
-// Puts an entry behind the others. Room is made for it.
+// Appends an entry, for which space is reserved.
 fn append(entries: &mut Vec<Entry>, index: &mut Index, entry: Entry)
     requires capacity { vec_len entries.old < vec_capacity entries.old }
     requires source { HasReserved index.old entry.arrived.src }

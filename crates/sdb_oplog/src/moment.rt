@@ -1,11 +1,11 @@
-//! Moments at which operations are stored.
+//! The moments at which operations are stored.
 ghost use Rattle.std.specs.Prelude.{◌≡◌, min, max, if◌then◌else◌, nat_lt, Some, None};
 
 use sdb_value::MAX;
 use std::marker::Model;
 
-/// A moment: a number of milliseconds from 0 to [`MAX`]. Where a machine's clock tells it, they are counted
-/// from the beginning of 1970.
+/// A moment: a number of milliseconds from 0 to [`MAX`]. By a system's clock it counts from the
+/// beginning of 1970.
 #[derive(Clone, Copy, Drop)]
 pub struct Moment {
     milliseconds: u64,
@@ -24,7 +24,7 @@ impl Model for Moment {
 }
 
 impl Moment {
-    /// The moment of so many milliseconds, or `None` where they are more than [`MAX`].
+    /// Creates a moment, or returns `None` if the milliseconds exceed [`MAX`].
     pub fn new(milliseconds: u64) -> Option<Moment>
         ensures { result ≡ (if nat_lt MAX milliseconds then None else Some milliseconds) }
     {
@@ -34,7 +34,7 @@ impl Moment {
         Some(Moment { milliseconds })
     }
 
-    /// The moment of so many milliseconds, or the last one where they are more than [`MAX`].
+    /// Creates a moment, at most [`MAX`].
     pub fn saturating_new(milliseconds: u64) -> Moment
         ensures { result ≡ min milliseconds MAX }
     {
@@ -43,21 +43,21 @@ impl Moment {
         }
     }
 
-    /// The first moment, 0.
+    /// Returns the first moment, 0.
     pub fn zero() -> Moment
         ensures { result ≡ 0 }
     {
         Moment { milliseconds: 0 }
     }
 
-    /// How many milliseconds.
+    /// Returns the milliseconds.
     pub fn milliseconds(self) -> u64
         ensures { result ≡ self }
     {
         self.milliseconds
     }
 
-    /// The later one of both.
+    /// Returns the later of two moments.
     pub fn max(self, other: Moment) -> Moment
         ensures { result ≡ max self other }
     {

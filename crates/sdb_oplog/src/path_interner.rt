@@ -1,28 +1,32 @@
-//! The path that contents share.
+//! An interner for the paths of edits.
 ghost use Rattle.std.specs.Prelude.{◌≡◌, IfOk};
 
 use crate::content::Content;
 use sdb_component::Path;
 use std::alloc::{AllocError, Global};
 
-// The most that a path that is kept holds, in steps and bytes of its keys.
+// Maximal size of an interned path, in steps and bytes of its keys.
 const PATH_LIMIT: u64 = 256;
 
-/// The path of the last edit by one component. Edits that follow one another in one place share it. One of more than
-/// 256 steps and bytes of keys isn't kept.
+/// An interner with the path of the last edit by one component. Consecutive edits at one path share
+/// it. A path of more than 256 steps and bytes of keys isn't interned.
 #[derive(Drop)]
 pub struct PathInterner {
     path: Option<Path>,
 }
 
 impl PathInterner {
-    /// Keeps no path yet.
+    /// Creates an interner without a path.
     pub fn new() -> PathInterner {
         PathInterner { path: None }
     }
 
-    /// The content. Where it edits by one component with the path that is kept, it shares that, and another path is
-    /// kept in its place. Fails only where an allocation does, or where there are 2^63 copies of the path already.
+    /// Returns the content, with the interned path shared if it is an edit by one component with an
+    /// equal path. Another path replaces the interned one.
+    ///
+    /// # Errors
+    ///
+    /// [`AllocError`] if an allocation fails or the path has 2^63 clones already.
     pub fn intern(&mut self, alloc: Global, content: Content) -> Result<Content, AllocError>
         ensures { IfOk result (λ c. c ≡ content) }
     {

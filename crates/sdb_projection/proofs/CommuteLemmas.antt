@@ -1,4 +1,4 @@
--- What is shown of a value, before and after an operation.
+-- The projection of a value before and after an operation.
 use Rattle.std.proofs.Common.{◌≡◌, ℕ, ℤ, ◌+ℤ◌, List, [], ◌∷◌, Bool, true, false, cond, Option, Some, None, Less, Equal, Greater, refl, sym, ap, ◌∙◌, subst}
 use Rattle.std.specs.declared.cmp.Ordering.{Ordering}
 use Rattle.std.specs.Ordering.{nat_cmp, is_eq, match_ordering, ordering_reverse}
@@ -29,9 +29,9 @@ by_order Greater k l is h = cc
 same_key : (k l : List ℕ) → texts_equal k l ≡ true → k ≡ l
 same_key k l h = by_order (slice_cmp nat_cmp k l) k l refl h
 
--- ---- members that are shown
+-- ---- visible members
 
--- the value at a field is the same
+-- the value at a field is unchanged by the projection
 shown_at_or : (b c : Bool) (fields : FieldList) (k l : List ℕ) (d : Value) (ms : Members) → texts_equal k l ≡ b → is_field fields l ≡ c → is_field fields k ≡ true → member_at k (project_members fields ms) ≡ member_at k ms
     → member_at k (cond c (member l d (project_members fields ms)) (project_members fields ms)) ≡ cond b (Some d) (member_at k ms)
 shown_at_or b true fields k l d ms same is listed below = ap (λ t. cond t (Some d) (member_at k (project_members fields ms))) same ∙ ap (cond b (Some d)) below
@@ -42,7 +42,7 @@ shown_at : (fields : FieldList) (k : List ℕ) (ms : Members) → is_field field
 shown_at fields k no_members listed = refl
 shown_at fields k (member l d ms) listed = shown_at_or (texts_equal k l) (is_field fields l) fields k l d ms refl refl listed (shown_at fields k ms listed)
 
--- a field is written in what is shown
+-- a field is set in the projected members
 shown_set_or : (b c : Bool) (fields : FieldList) (k l : List ℕ) (d u : Value) (ms : Members) → texts_equal k l ≡ b → is_field fields l ≡ c → is_field fields k ≡ true → set_member k (project_members fields ms) u ≡ project_members fields (set_member k ms u)
     → set_member k (cond c (member l d (project_members fields ms)) (project_members fields ms)) u ≡ project_members fields (cond b (member l u ms) (member l d (set_member k ms u)))
 shown_set_or true true fields k l d u ms same is listed below =
@@ -57,7 +57,7 @@ shown_set : (fields : FieldList) (k : List ℕ) (u : Value) (ms : Members) → i
 shown_set fields k u no_members listed = refl
 shown_set fields k u (member l d ms) listed = shown_set_or (texts_equal k l) (is_field fields l) fields k l d u ms refl refl listed (shown_set fields k u ms listed)
 
--- no other key is seen
+-- a key that is no field isn't visible
 hidden_set_or : (b : Bool) (fields : FieldList) (k l : List ℕ) (d u : Value) (ms rest : Members) → texts_equal k l ≡ b → is_field fields k ≡ false → project_members fields rest ≡ project_members fields ms
     → project_members fields (cond b (member l u ms) (member l d rest)) ≡ cond (is_field fields l) (member l d (project_members fields ms)) (project_members fields ms)
 hidden_set_or true fields k l d u ms rest same other below =
@@ -69,7 +69,7 @@ hidden_set : (fields : FieldList) (k : List ℕ) (u : Value) (ms : Members) → 
 hidden_set fields k u no_members other = refl
 hidden_set fields k u (member l d ms) other = hidden_set_or (texts_equal k l) fields k l d u ms (set_member k ms u) refl other (hidden_set fields k u ms other)
 
--- a field is taken out of what is shown
+-- a field is removed from the projected members
 shown_without_or : (b c : Bool) (fields : FieldList) (k l : List ℕ) (d : Value) (ms : Members) → texts_equal k l ≡ b → is_field fields l ≡ c → is_field fields k ≡ true → without_member k (project_members fields ms) ≡ project_members fields (without_member k ms)
     → without_member k (cond c (member l d (project_members fields ms)) (project_members fields ms)) ≡ project_members fields (cond b ms (member l d (without_member k ms)))
 shown_without_or true true fields k l d ms same is listed below = ap (λ t. cond t (project_members fields ms) (member l d (without_member k (project_members fields ms)))) same
@@ -92,7 +92,7 @@ hidden_without : (fields : FieldList) (k : List ℕ) (ms : Members) → is_field
 hidden_without fields k no_members other = refl
 hidden_without fields k (member l d ms) other = hidden_without_or (texts_equal k l) fields k l d ms (without_member k ms) refl other (hidden_without fields k ms other)
 
--- ---- members in the order of their keys
+-- ---- members sorted by key
 
 abbrev KeysAscend : Members → Type 0
 KeysAscend no_members = ⊤
@@ -118,7 +118,7 @@ put_below : (k : List ℕ) (u : Value) (ms : Members) → IsKeyBelowAll k ms →
 put_below k u no_members b = refl
 put_below k u (member l d ms) b = ap (λ o. match_ordering o (member k u (member l d ms)) (member l u ms) (member l d (put_member k u ms))) b.0
 
--- ---- a member that is put
+-- ---- a member that is inserted
 
 shown_put_or : (o : Ordering) (c : Bool) (fields : FieldList) (k l : List ℕ) (d u : Value) (ms : Members) → slice_cmp nat_cmp k l ≡ o → is_field fields l ≡ c → is_field fields k ≡ true → IsKeyBelowAll l ms
     → put_member k u (project_members fields ms) ≡ project_members fields (put_member k u ms)
@@ -154,7 +154,7 @@ hidden_put : (fields : FieldList) (k : List ℕ) (u : Value) (ms : Members) → 
 hidden_put fields k u no_members other = ap (λ t. cond t (member k u no_members) no_members) other
 hidden_put fields k u (member l d ms) other = hidden_put_or (slice_cmp nat_cmp k l) fields k l d u ms (put_member k u ms) refl other (hidden_put fields k u ms other)
 
--- ---- the order stays
+-- ---- the order is preserved
 
 below_put_or : (o : Ordering) (x k l : List ℕ) (d u : Value) (ms rest : Members) → slice_cmp nat_cmp x k ≡ Less → IsKeyBelowAll x (member l d ms) → IsKeyBelowAll x rest
     → IsKeyBelowAll x (match_ordering o (member k u (member l d ms)) (member l u ms) (member l d rest))
@@ -206,12 +206,12 @@ ascend_without k (member l d ms) h = elim (texts_equal k l) as (λ t. KeysAscend
 
 -- ---- one component
 
--- the members of an object stand in the order of their keys
+-- the members of an object are sorted by key
 abbrev IsOrderedObject : Value → Type 0
 IsOrderedObject (object ms) = KeysAscend ms
 IsOrderedObject _ = ⊤
 
--- a component that is shown does to what is shown what it does to the value; any other isn't seen
+-- a visible component has its effect on the projected value; any other has none
 abbrev ShowsEffect : Bool → FieldList → PlainComponent → Value → Value → Type 0
 ShowsEffect true fields c d e = apply_one c (proj fields d) ≡ Some (proj fields e)
 ShowsEffect false fields c d e = proj fields e ≡ proj fields d
@@ -275,7 +275,7 @@ list_root fields f (whole n) e h = cc
 list_root fields f (text s) e h = cc
 list_root fields f (object ms) e h = cc
 
--- a change of the members that touches no key but k
+-- a change of the members that changes no key but k
 record TouchesOneKey (fields : FieldList) (k : List ℕ) (f : Members → Members) (ms : Members) : Type 0 where
   pub listed : is_field fields k ≡ true → f (project_members fields ms) ≡ project_members fields (f ms)
   pub hidden : is_field fields k ≡ false → project_members fields (f ms) ≡ project_members fields ms
@@ -321,7 +321,7 @@ root_step fields (oi k v) d e h ordered = shows_effect_of_both fields (at_root (
 root_step fields (od k x) d e h ordered = shows_effect_of_both fields (at_root (od k x)) d e (object_root fields (od k x) k (without_member k) d e (λ y. refl) h ordered (takes_out fields k))
 root_step fields (or k x y) d e h ordered = shows_effect_of_both fields (at_root (or k x y)) d e (object_root fields (or k x y) k (put_member k y) d e (λ z. refl) h ordered (put_touches_one_key fields k y))
 
--- ---- below the root
+-- ---- inside a member
 
 list_kept : (fields : FieldList) (i : ℕ) (p : List PlainStep) (ds : Items) (v : Value) (o : Option Value)
     → let u = option_map_or (λ c. with_child (index i) (list ds) (with_value_at c p v)) o (list ds) in (proj fields u ≡ null) × IsOrderedObject u
@@ -395,6 +395,6 @@ well_ordered (text s) h = tt
 well_ordered (list ds) h = tt
 well_ordered (object ms) h = keys_ascend_of_well_formed ms h
 
--- of each value that a document can hold
+-- for each well-formed value
 pub commutes_for_all : (d : Value) → IsWellFormed d → ProjectionCommutes d
 commutes_for_all d h fields op e is = all_seen fields op d e is (well_ordered d h)

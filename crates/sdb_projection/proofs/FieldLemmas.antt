@@ -1,4 +1,4 @@
--- Fields, and the paths that lead to them.
+-- Fields, and paths that begin with them.
 use Rattle.std.proofs.Common.{◌≡◌, ℕ, ◌<◌, List, [], ◌∷◌, ◌++◌, ◌||◌, map, length, get_or, String, Global, string_bytes, nat_cmp, refl, ap, ◌∙◌, arith}
 use Rattle.std.specs.BTreeMap.{is_at}
 use Rattle.std.specs.Cmp.Lexicographic.{slice_cmp}
@@ -16,7 +16,7 @@ first_alone : (fields : List (List ℕ)) (w : PlainStep) (p q : List PlainStep) 
 first_alone fields (key k) p q = refl
 first_alone fields (index i) p q = refl
 
--- only the first step counts
+-- only the first step matters
 pub first_step : (fields : List (List ℕ)) (ps : List Step) (x : Step) (q : List PlainStep) → 0 < length ps → x ≡ get_or ps 0 x → path_starts_at_field fields (plain_step x ∷ []) ≡ path_starts_at_field fields (plain_path ps ++ q)
 first_step fields [] x q h is = absurd (omega arith)
 first_step fields (y ∷ ps) x q h is = ap (λ z. path_starts_at_field fields (plain_step z ∷ [])) is ∙ first_alone fields (plain_step y) [] (plain_path ps ++ q)

@@ -1,4 +1,4 @@
--- Members that are shown, one after the other.
+-- Visible members, one by one.
 use Rattle.std.proofs.Common.{◌≡◌, ℕ, List, [], ◌∷◌, ◌++◌, Bool, true, false, cond, Less, Greater, sym, ap, ◌∙◌}
 use Rattle.std.proofs.lemmas.Cmp.{nat_list_cmp_total}
 use Rattle.std.specs.List.{AllByRecursion}
@@ -22,7 +22,7 @@ put_behind : (b : Bool) (k l : List ℕ) (u d : Value) (rest all : Members) → 
 put_behind true k l u d rest all above h = ap (λ o. match_ordering o (member k u (member l d rest)) (member l u rest) (member l d (put_member k u rest))) above ∙ ap (member l d) h
 put_behind false k l u d rest all above h = h
 
--- a field that is above those before it goes last
+-- a field with the greatest key goes last
 pub one_shown : (fields : List (List ℕ)) (done : List MemberEntry) (e : MemberEntry) (more : List MemberEntry) → IsAscending (entry_keys (done ++ e ∷ more)) → is_field fields e.0 ≡ true
     → put_member e.0 (value_of e.1) (project_members fields (members_value done)) ≡ project_members fields (members_value (done ++ e ∷ []))
 unfolding IsStrictlySortedBy

@@ -1,4 +1,4 @@
--- What is shown of a value, and whether it may be created, by whether it is an object.
+-- The projection of a value and whether its create is permitted, for objects and other values.
 use Rattle.std.proofs.Common.{◌≡◌, ℕ, List, Some, None, true, false, refl}
 use Rattle.sdb_value.specs.Value.{Value, null, truth, whole, text, list, object, Members, as_object}
 use Rattle.sdb_projection.specs.ProjectionModel.{proj, project_members, has_only_fields, allowed_data}

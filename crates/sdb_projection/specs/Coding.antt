@@ -1,4 +1,4 @@
--- Codes of the plain data, by which a proof tells them apart.
+-- Codes of the plain data, which decide their equality.
 use Rattle.std.specs.Prelude.{ℕ, List, refl}
 use Rattle.std.specs.Coded.{Coded, code_by, coded×, coded_list}
 use Rattle.sdb_value.specs.Coding.{text_code}

@@ -1,4 +1,4 @@
--- What a set of top-level fields shows of values and operations: `Projected`.
+-- The projection of values and operations to a set of top-level fields: `Projected`.
 use Rattle.std.specs.Prelude.{ℕ, List, ◌∷◌, Bool, true, false, ◌&&◌, cond}
 use Rattle.std.specs.List.{filter, list_all, list_any}
 use Rattle.sdb_value.specs.Value.{Value, null, object, Members, no_members, member, PlainStep, key, texts_equal}
@@ -15,7 +15,7 @@ abbrev pub project_members : List (List ℕ) → Members → Members
 project_members fields no_members = no_members
 project_members fields (member k d ms) = cond (is_field fields k) (member k d (project_members fields ms)) (project_members fields ms)
 
--- of an object these members alone; other data show as null
+-- an object with these members only; any other value is projected to null
 abbrev pub proj : List (List ℕ) → Value → Value
 proj fields (object ms) = object (project_members fields ms)
 proj fields _ = null
@@ -25,7 +25,7 @@ abbrev pub path_starts_at_field : List (List ℕ) → List PlainStep → Bool
 path_starts_at_field fields (key k ∷ p) = is_field fields k
 path_starts_at_field fields _ = false
 
--- whether the path of a component, as it is sent, does
+-- whether the component's path, with the act's last step, does
 abbrev pub is_visible_component : List (List ℕ) → PlainComponent → Bool
 is_visible_component fields c = path_starts_at_field fields (full_path c.path c.act)
 
@@ -38,20 +38,20 @@ proj_content fields (create d) = create (proj fields d)
 proj_content fields delete = delete
 proj_content fields (edit op) = edit (proj_op fields op)
 
--- ---- what may be asked through it
+-- ---- permitted contents
 
 -- each member is a field
 abbrev pub has_only_fields : List (List ℕ) → Members → Bool
 has_only_fields fields no_members = true
 has_only_fields fields (member k d ms) = is_field fields k && has_only_fields fields ms
 
--- null, or an object of fields alone
+-- null, or an object with only fields
 abbrev pub allowed_data : List (List ℕ) → Value → Bool
 allowed_data fields null = true
 allowed_data fields (object ms) = has_only_fields fields ms
 allowed_data fields _ = false
 
--- a create of such data, a delete, and an edit whose components are all shown
+-- a create of such data, a delete, or an edit whose components are all visible
 abbrev pub allowed : List (List ℕ) → PlainContent → Bool
 allowed fields (create d) = allowed_data fields d
 allowed fields delete = true

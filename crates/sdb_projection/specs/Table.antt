@@ -5,7 +5,7 @@ use Rattle.std.specs.Option.{is_some}
 use Rattle.sdb_projection.specs.declared.table.TableFault.{TableFault}
 use Rattle.sdb_projection.specs.declared.table.TableFault.TheVariants.{DuplicateName, NameOfBase, BaseIsProjection, NoField, OutOfMemory}
 
--- a collection name, the collection that it shows, and the fields
+-- a collection name, its base collection and the fields
 pub record PlainProjection : Type 0 where
   pub name : List ℕ
   pub base : List ℕ
@@ -16,7 +16,7 @@ abbrev pub projection_of : List ℕ → List PlainProjection → Option PlainPro
 projection_of n [] = None
 projection_of n (p ∷ table) = cond (bytes_eq p.name n) (Some p) (projection_of n table)
 
--- whether a projection of the table shows this collection
+-- whether the collection is the base of a projection
 abbrev pub is_base : List ℕ → List PlainProjection → Bool
 is_base n = list_any (λ p. bytes_eq p.base n)
 
@@ -24,7 +24,7 @@ abbrev pub is_empty : List (List ℕ) → Bool
 is_empty [] = true
 is_empty (f ∷ fields) = false
 
--- why the projection is refused; the first that holds
+-- the first fault that applies to the projection
 abbrev pub table_fault : PlainProjection → List PlainProjection → Option TableFault
 table_fault p table =
     if is_some (projection_of p.name table) then Some DuplicateName
@@ -33,7 +33,7 @@ table_fault p table =
     else (if is_empty p.fields then Some NoField
     else None)))
 
--- the fault is the one that is due, or memory was wanting
+-- the fault is the one that is due, or an allocation failed
 abbrev pub IsTableFault : Option TableFault → TableFault → Type 0
 IsTableFault r OutOfMemory = ⊤
 IsTableFault r f = r ≡ Some f

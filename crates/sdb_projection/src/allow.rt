@@ -1,4 +1,4 @@
-//! What may be asked through a projection.
+//! The contents that a projection permits.
 ghost use Rattle.std.specs.Prelude.{◌≡◌};
 ghost use Rattle.std.specs.List.{list_all};
 ghost use Rattle.sdb_value.specs.View.{value_of, object_value};
@@ -10,9 +10,8 @@ use sdb_component::Op;
 use sdb_oplog::{Content, Kind};
 use sdb_value::{Json, Members};
 
-/// Whether the content may be asked through the projection: a create of null or of an object of its
-/// fields alone; a delete; an edit each of whose components has a path, as it is sent, that begins
-/// with a field. It takes no memory.
+/// Returns whether the projection permits the content: a create of null or of an object with only
+/// its fields, a delete, or an edit whose components all begin at a field. It doesn't allocate.
 pub fn allowed(projection: &Projection, content: &Content) -> bool
     ensures { result ≡ allowed (fields_of projection.now) content.now }
 {

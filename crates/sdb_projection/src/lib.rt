@@ -1,4 +1,4 @@
-//! Projections: collection names under which some fields of another collection's documents are shown.
+//! Projections: collection names that show some fields of another collection's documents.
 #![tactic(auto)]
 
 mod allow;

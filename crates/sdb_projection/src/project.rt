@@ -1,4 +1,4 @@
-//! What a projection shows.
+//! Projected values and operations.
 ghost use Rattle.std.specs.Prelude.{◌≡◌, IfOk};
 ghost use Rattle.sdb_value.specs.View.{value_of, object_value};
 ghost use Rattle.sdb_projection.specs.ProjectionModel.{proj, proj_op, proj_content, project_members};
@@ -10,8 +10,11 @@ use sdb_oplog::{Content, Kind};
 use sdb_value::{Json, Members, put_at_key};
 use std::alloc::{AllocError, Global};
 
-/// What the projection shows of a document's data: of an object its fields alone, and null of other
-/// data. Fails only where an allocation does.
+/// Returns the projected data: an object with only the fields, and null for any other value.
+///
+/// # Errors
+///
+/// [`AllocError`] if an allocation fails.
 pub fn project_data(
     alloc: Global,
     projection: &Projection,
@@ -25,7 +28,7 @@ pub fn project_data(
     }
 }
 
-// Copies of the members whose keys are fields.
+// Returns clones of the members whose keys are fields.
 fn project_members(
     alloc: Global,
     projection: &Projection,
@@ -44,8 +47,11 @@ fn project_members(
     Ok(copies)
 }
 
-/// What the projection shows of an operation: the components whose path, as it is sent, begins with a
-/// field, in their order. Fails only where an allocation does.
+/// Returns the projected operation: the components that begin at a field, in order.
+///
+/// # Errors
+///
+/// [`AllocError`] if an allocation fails.
 pub fn project_op(alloc: Global, projection: &Projection, op: &Op) -> Result<Op, AllocError>
     ensures { IfOk result (λ o. o ≡ proj_op (fields_of projection.now) op.now) }
 {
@@ -58,8 +64,12 @@ pub fn project_op(alloc: Global, projection: &Projection, op: &Op) -> Result<Op,
     Ok(Op::new(copies))
 }
 
-/// What the projection shows of what an entry stores: of a create its data, of an edit its operation,
-/// and a delete as it is. Fails only where an allocation does.
+/// Returns the projected content: the data of a create, the operation of an edit, and a delete
+/// unchanged.
+///
+/// # Errors
+///
+/// [`AllocError`] if an allocation fails.
 pub fn project_content(
     alloc: Global,
     projection: &Projection,

@@ -1,4 +1,4 @@
-//! A projection, and which components it shows.
+//! A projection and its visible components.
 ghost use Rattle.std.specs.Prelude.{◌≡◌, [], ◌∷◌};
 ghost use Rattle.sdb_value.specs.View.{plain_step};
 ghost use Rattle.sdb_component.specs.View.{plain_act};
@@ -10,7 +10,7 @@ use sdb_component::{Act, Component};
 use sdb_value::Step;
 use std::collections::BTreeSet;
 
-/// A collection name over another collection, of whose documents it shows these top-level fields.
+/// A collection name that shows these top-level fields of another collection's documents.
 #[derive(Drop)]
 pub struct Projection {
     pub name: String,
@@ -19,14 +19,14 @@ pub struct Projection {
 }
 
 impl Projection {
-    // Whether the key is one of the fields.
+    // Returns whether the key is one of the fields.
     pub(crate) fn is_field(&self, key: &str) -> bool
         ensures { result ≡ is_field (fields_of self.now) key.now }
     {
         self.fields.contains(key)
     }
 
-    // Whether the path of the component, as it is sent, begins with a field.
+    // Returns whether the component's path, with the act's last step, begins with a field.
     pub(crate) fn is_visible_component(&self, component: &Component) -> bool
         ensures { result ≡ is_visible_component (fields_of self.now) component.now }
     {
@@ -45,7 +45,7 @@ impl Projection {
         }
     }
 
-    // Whether the act's last step is a field.
+    // Returns whether the act's last step is a field.
     fn is_visible_act(&self, act: &Act) -> bool
         ensures { result ≡ path_starts_at_field (fields_of self.now) (last_step (plain_act act.now)) }
     {

@@ -9,19 +9,19 @@ use std::alloc::Global;
 use std::marker::Model;
 use thiserror::Error;
 
-/// Why a projection is not taken into a table.
+/// The reason why a table refuses a projection.
 #[derive(Clone, Copy, Debug, PartialEq, Eq, Drop, Error)]
 pub enum TableFault {
-    /// The table has a projection of that name.
+    /// The table has a projection of this name.
     #[error("a projection has this name already")]
     DuplicateName,
-    /// The name is that of the collection itself.
+    /// The name is that of the base collection.
     #[error("a projection can not have the name of its collection")]
     NameOfBase,
-    /// The collection is a projection of the table, or the name is a collection that one of them shows.
+    /// The base collection is a projection of the table, or the name is the base of one.
     #[error("a projection can not show a projection")]
     BaseIsProjection,
-    /// It shows no field.
+    /// It has no field.
     #[error("a projection needs a field")]
     NoField,
     /// An allocation failed.
@@ -29,7 +29,7 @@ pub enum TableFault {
     OutOfMemory,
 }
 
-/// The projections that were taken in, in order.
+/// A list of projections in the order in which they were added.
 #[derive(Drop)]
 pub struct Table {
     projections: Vec<Projection>,
@@ -50,7 +50,7 @@ impl Model for Table {
 }
 
 impl Table {
-    /// A table without projections.
+    /// Creates a table without projections.
     pub fn new(alloc: Global) -> Table
         ensures { result ≡ [] }
     {
@@ -59,8 +59,12 @@ impl Table {
         }
     }
 
-    /// Takes a projection in, behind the others. Of the faults the first that holds is answered, in the
-    /// order of [`TableFault`], and the table is then unchanged.
+    /// Adds a projection.
+    ///
+    /// # Errors
+    ///
+    /// The first [`TableFault`] that applies, in the order of its variants. The table is then
+    /// unchanged.
     pub fn add(&mut self, projection: Projection) -> Result<(), TableFault>
         ensures refused { (fault : TableFault) → table_fault (plain_projection projection) self.old ≡ Some fault
             → result ≡ Err fault }
@@ -75,7 +79,7 @@ impl Table {
         }
     }
 
-    // Refuses a projection that the table can't take in.
+    // Refuses a projection that conflicts with the table.
     fn check(&self, projection: &Projection) -> Result<(), TableFault>
         ensures { result_err result ≡ table_fault (plain_projection projection.now) self.now }
     {
@@ -96,7 +100,7 @@ impl Table {
         Ok(())
     }
 
-    /// The projection of the name.
+    /// Returns the projection of this name.
     pub fn find(&self, name: &str) -> Option<&Projection>
         ensures { option_map (λ p. plain_projection p.now) result ≡ projection_of name.now self.now }
     {
@@ -108,7 +112,7 @@ impl Table {
         None
     }
 
-    // Whether a projection shows this collection.
+    // Returns whether the collection is the base of a projection.
     fn is_base(&self, name: &str) -> bool
         ensures { result ≡ is_base name.now self.now }
     {

@@ -1,4 +1,4 @@
--- Where a text ends that stands in another.
+-- The end of a text that is contained in another.
 use Rattle.std.proofs.Common.{◌≡◌, ℕ, zero, suc, ◌+◌, ◌-◌, ◌≤◌, ◌<◌, List, [], ◌∷◌, length, take, drop, sym, true, nat_eq, ap, subst, arith, length-take, length-drop}
 use Rattle.std.specs.List.{starts_with}
 use Rattle.std.specs.Str.{IsUtf8, IsCharBoundary}
@@ -34,7 +34,7 @@ char_after bs i (c ∷ cs) h l u e =
 pub to_end : (bs : List ℕ) (i : ℕ) → take (length bs - i) (drop i bs) ≡ drop i bs
 to_end bs i = take_all (length bs - i) (drop i bs) (omega (arith, length-drop i bs))
 
--- behind a character stands the next, at most four bytes on
+-- the next character begins at most four bytes later
 pub next_char : (bs : List ℕ) (i : ℕ) → IsUtf8 bs → IsCharBoundary bs i → i < length bs → (k : ℕ) × ((i < k) × (k ≤ i + 4) × IsCharBoundary bs k)
 next_char bs i u b h =
     let v : IsUtf8 (drop i bs) = IsUtf8-drop bs i u b in

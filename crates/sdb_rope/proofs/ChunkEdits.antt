@@ -1,4 +1,4 @@
--- Texts cut inside, and edits there.
+-- Positions and edits inside chunks.
 use Rattle.std.proofs.Common.{◌≡◌, ℕ, zero, suc, ◌+◌, ◌-◌, ◌*◌, ◌<◌, ◌≤◌, List, [], ◌∷◌, ◌++◌, length, take, drop, Option, Some, None, option_map, Bool, true, false, refl, sym, ap, ◌∙◌, arith, append_assoc, length-append, ◌≢◌}
 use Rattle.std.specs.Prelude.{if◌then◌else◌, nat_le, nat_eq, option_and_then}
 use Rattle.std.specs.List.{insert_slice, remove_range, starts_with}
@@ -53,7 +53,7 @@ take_part bs (suc i) zero h = absurd (omega (arith, h))
 take_part [] (suc i) (suc j) h = sym (take_none (suc j - suc i))
 take_part (b ∷ bs) (suc i) (suc j) h = let z : j - i ≡ suc j - suc i = omega arith in ap (λ l. b ∷ l) (take_part bs i j (omega (arith, h)) ∙ ap (λ k. take i bs ++ take k (drop i bs)) z)
 
--- a cut past the first part is one of the second
+-- a position after the first part is one in the second
 pub cut_behind : (xs ys : List ℕ) (p i : ℕ) → units xs + i ≡ p → cut_at (xs ++ ys) p ≡ option_map (λ k. length xs + k) (cut_at ys i)
 cut_behind [] ys p i e = let s : p ≡ i = omega (arith, e) in ap (cut_at ys) s ∙ map_none (cut_at ys i)
 cut_behind (b ∷ xs) ys p i e =
@@ -70,7 +70,7 @@ cut_front_step true u b p xs ys e h below =
     ap (option_map suc) (below l)
 cut_front_step false u b p xs ys e h below = refl
 
--- a cut before a unit of the first part is one of it
+-- a position before the end of the first part is one in it
 pub cut_front : (xs ys : List ℕ) (p : ℕ) → p < units xs → cut_at (xs ++ ys) p ≡ cut_at xs p
 cut_front [] ys p h = absurd (omega (arith, h))
 cut_front (b ∷ xs) ys p h = cut_front_step (nat_le (utf16_width b) p) (nat_eq p 0) b p xs ys refl h (λ l. cut_front xs ys (p - utf16_width b) l)
@@ -78,7 +78,7 @@ cut_front (b ∷ xs) ys p h = cut_front_step (nat_le (utf16_width b) p) (nat_eq 
 pub cut_inside : (J q R : List ℕ) (offset left : ℕ) → units J + left ≡ offset → left < units q → cut_at (J ++ (q ++ R)) offset ≡ option_map (λ k. length J + k) (cut_at q left)
 cut_inside J q R offset left sum less = cut_behind J (q ++ R) offset left sum ∙ ap (option_map (λ k. length J + k)) (cut_front q R left less)
 
--- ---- at the end, and past it
+-- ---- at the end, and after it
 
 end_step : (u : Bool) (n i : ℕ) → nat_eq i 0 ≡ u → i ≢ 0 → option_map (λ k. n + k) (if u then Some 0 else None) ≡ None
 end_step true n i e h = absurd (grind (arith, nat_tests))
@@ -90,7 +90,7 @@ past_end xs p i e h = ap (λ l. cut_at l p) (sym (append-nil xs)) ∙ cut_behind
 pub at_end : (xs : List ℕ) (p : ℕ) → units xs + 0 ≡ p → cut_at xs p ≡ Some (length xs)
 at_end xs p e = let z : length xs + 0 ≡ length xs = omega arith in ap (λ l. cut_at l p) (sym (append-nil xs)) ∙ cut_behind xs [] p 0 e ∙ ap Some z
 
--- ---- edits between what stands before a place and what stands from there on
+-- ---- edits between the bytes before a position and those after it
 
 pub put_seam : (X Y s : List ℕ) → insert_slice (X ++ Y) (length X) s ≡ X ++ (s ++ Y)
 put_seam X Y s = ap (λ l. (l ++ s) ++ drop (length X) (X ++ Y)) (take_at X Y (length X) refl) ∙ ap (λ l. (X ++ s) ++ l) (drop_at X Y (length X) refl) ∙ append_assoc X s Y

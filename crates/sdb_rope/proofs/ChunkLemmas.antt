@@ -1,4 +1,4 @@
--- Pieces in a list that is its owner's own or shared.
+-- Chunks in a list that is unique or shared.
 use Rattle.std.proofs.Common.{◌≡◌, Bool, true, false, ◌&&◌, List, ℕ, map, Result, Ok, Err, OnErr, refl, ap, ◌∙◌}
 use Rattle.std.specs.List.{concat}
 use Rattle.sdb_chunks.specs.Chunk.{items_of, is_chunk_unique}

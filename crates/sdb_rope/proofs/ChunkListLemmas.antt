@@ -1,4 +1,4 @@
--- Pieces as they are stored.
+-- The stored chunks.
 use Rattle.std.proofs.Common.{length-append, length-take, length-drop, ◌≡◌, Bool, true, false, ◌&&◌, All, map, refl, ℕ, zero, suc, ◌+◌, ◌-◌, ◌<◌, ◌≤◌, List, [], ◌∷◌, ◌++◌, length, take, drop, get_or, set, ap, sym, ◌∙◌, arith}
 use Rattle.std.specs.List.{concat, insert_slice, splice, remove_range, remove}
 use Rattle.std.proofs.lemmas.List.{get_or-map, length-map, take_more}
@@ -24,7 +24,7 @@ length_of_texts ps = length-map ps chunk_bytes
 pub text_at : (ps : List RopeChunk) (k : ℕ) (p : RopeChunk) → k < length ps → p ≡ get_or ps k p → chunk_text (chunk_list_texts ps) k ≡ chunk_bytes p
 text_at ps k p h e = get_or-map chunk_bytes ps k p [] h ∙ ap chunk_bytes (sym e)
 
--- the units before the next piece
+-- the code units before the next chunk
 pub units_next : (ps : List RopeChunk) (k left more offset : ℕ) (p : RopeChunk) → k < length ps → p ≡ get_or ps k p → more ≡ units (chunk_bytes p) → more ≤ left
     → units (concat (take k (chunk_list_texts ps))) + left ≡ offset → units (concat (take (k + 1) (chunk_list_texts ps))) + (left - more) ≡ offset
 units_next ps k left more offset p h is m l s =
@@ -35,11 +35,11 @@ units_next ps k left more offset p h is m l s =
     let t : units (concat (take (k + 1) ts)) ≡ units (concat (take k ts)) + units (chunk_text ts k) = ap units e ∙ units_append (concat (take k ts)) (chunk_text ts k) in
     omega (arith, q, t, l, s)
 
--- a piece in place of another of the same bytes
+-- a chunk replaced by one with equal bytes
 pub same_set : (ps : List RopeChunk) (k : ℕ) (p : RopeChunk) → chunk_bytes p ≡ chunk_text (chunk_list_texts ps) k → chunk_list_texts (set ps k p) ≡ chunk_list_texts ps
 same_set ps k p e = map-set chunk_bytes ps k p ∙ ap (set (chunk_list_texts ps) k) e ∙ set-get_or (chunk_list_texts ps) k []
 
--- pieces in place of one
+-- a chunk replaced by several
 pub put_pieces : (ps us : List RopeChunk) (s : List ℕ) (k i : ℕ) → k < length ps → concat (chunk_list_texts us) ≡ insert_slice (chunk_text (chunk_list_texts ps) k) i s
     → concat (chunk_list_texts (splice ps k (k + 1) us)) ≡ bytes_before (chunk_list_texts ps) k i ++ (s ++ bytes_after (chunk_list_texts ps) k i)
 put_pieces ps us s k i h e =
@@ -50,7 +50,7 @@ put_pieces ps us s k i h e =
     ∙ ap (λ l. l ++ (chunk_list_texts us ++ chunk_list_texts (drop (suc k) ps))) (sym (take-map chunk_bytes k ps)) ∙ ap (λ l. take k (chunk_list_texts ps) ++ (chunk_list_texts us ++ l)) (sym (drop-map chunk_bytes (suc k) ps)) in
     ap concat f ∙ put_in (chunk_list_texts ps) (chunk_list_texts us) s k i (omega (arith, h, length_of_texts ps)) e
 
--- one piece, with a text put in
+-- a chunk with an inserted text
 pub put_piece : (ps : List RopeChunk) (p : RopeChunk) (s : List ℕ) (k i : ℕ) → k < length ps → chunk_bytes p ≡ insert_slice (chunk_text (chunk_list_texts ps) k) i s
     → concat (chunk_list_texts (set ps k p)) ≡ bytes_before (chunk_list_texts ps) k i ++ (s ++ bytes_after (chunk_list_texts ps) k i)
 put_piece ps p s k i h e =
@@ -59,11 +59,11 @@ put_piece ps p s k i h e =
     let one : concat (chunk_bytes p ∷ []) ≡ insert_slice (chunk_text ts k) i s = append-nil (chunk_bytes p) ∙ e in
     ap concat (map-set chunk_bytes ps k p ∙ set_split ts k (chunk_bytes p) inside) ∙ put_in ts (chunk_bytes p ∷ []) s k i inside one
 
--- one more piece
+-- one more chunk
 pub push_piece : (ps : List RopeChunk) (p : RopeChunk) → concat (chunk_list_texts (ps ++ p ∷ [])) ≡ concat (chunk_list_texts ps) ++ chunk_bytes p
 push_piece ps p = ap concat (map_push chunk_bytes ps p) ∙ concat_append (chunk_list_texts ps) (chunk_bytes p ∷ []) ∙ ap (λ l. concat (chunk_list_texts ps) ++ l) (append-nil (chunk_bytes p))
 
--- a piece is text
+-- the bytes of a chunk are UTF-8
 pub chars_utf8 : (c : SharedStr) → IsUtf8 (str_bytes c)
 chars_utf8 (Unique s) = IsUtf8-string_bytes s
 chars_utf8 (Shared a) = IsUtf8-string_bytes a.value
@@ -73,7 +73,7 @@ pieces_utf8 [] k = IsUtf8-nil
 pieces_utf8 (p ∷ ps) zero = chars_utf8 p.text
 pieces_utf8 (p ∷ ps) (suc k) = pieces_utf8 ps k
 
--- what is taken out
+-- a chunk with a removed range
 pub cut_piece_out : (ps : List RopeChunk) (p : RopeChunk) (k i j : ℕ) → k < length ps → chunk_bytes p ≡ remove_range (chunk_text (chunk_list_texts ps) k) i j → concat (chunk_list_texts (set ps k p)) ≡ bytes_before (chunk_list_texts ps) k i ++ bytes_after (chunk_list_texts ps) k j
 cut_piece_out ps p k i j h e = ap concat (map-set chunk_bytes ps k p ∙ ap (set (chunk_list_texts ps) k) e) ∙ gone_within (chunk_list_texts ps) k i j (omega (arith, h, length_of_texts ps))
 
@@ -94,12 +94,12 @@ empty_piece_out ps k h e =
     ∙ ap (λ x. x ++ chunk_list_texts (drop (suc k) ps)) (sym (take-map chunk_bytes k ps)) ∙ ap (λ x. take k (chunk_list_texts ps) ++ x) (sym (drop-map chunk_bytes (suc k) ps)) in
     ap concat cut ∙ gone_empty (chunk_list_texts ps) k (omega (arith, h, length_of_texts ps)) e
 
--- which are their owner's own
+-- the uniqueness of all chunks
 own_all_step : (b : Bool) (p : RopeChunk) (ps : List RopeChunk) → is_unique_rope_chunk p ≡ b → (b && all_rope_chunks_unique ps) ≡ true → (all_rope_chunks_unique ps ≡ true → All IsUniqueChunk ps) → All IsUniqueChunk (p ∷ ps)
 own_all_step true p ps e f rest = All-cons IsUniqueChunk p ps e (rest f)
 own_all_step false p ps e f rest = cc
 
--- what stands for pieces, and what they hold
+-- from the test to the uniqueness of each chunk
 pub own_all : (ps : List RopeChunk) → all_rope_chunks_unique ps ≡ true → All IsUniqueChunk ps
 own_all [] e = All-nil IsUniqueChunk
 own_all (p ∷ ps) e = own_all_step (is_unique_rope_chunk p) p ps refl e (λ f. own_all ps f)
@@ -130,7 +130,7 @@ same_seen (p ∷ ps) (q ∷ qs) e =
     let o : is_unique_rope_chunk p ≡ is_unique_rope_chunk q = ap (λ x. x.1) head in
     (ap (λ x. x ∷ chunk_list_texts ps) b ∙ ap (λ x. chunk_bytes q ∷ x) s.0, ap (λ x. x && all_rope_chunks_unique ps) o ∙ ap (λ x. is_unique_rope_chunk q && x) s.1)
 
--- pieces of at most 4096 bytes
+-- chunks of at most 4,096 bytes
 pub short_push : (ps : List RopeChunk) (p : RopeChunk) → length (chunk_bytes p) ≤ 4096 → AreBounded (chunk_list_texts ps) → AreBounded (chunk_list_texts (ps ++ p ∷ []))
 short_push ps p h a = rw (map_push chunk_bytes ps p) (All-push IsBounded (chunk_list_texts ps) (chunk_bytes p) a h)
 
@@ -146,7 +146,7 @@ short_take ps n a = rw (← take-map chunk_bytes n ps) (All-take IsBounded n (ch
 pub short_drop : (ps : List RopeChunk) (n : ℕ) → AreBounded (chunk_list_texts ps) → AreBounded (chunk_list_texts (drop n ps))
 short_drop ps n a = rw (← drop-map chunk_bytes n ps) (All-drop IsBounded n (chunk_list_texts ps) a)
 
--- what is left of a piece
+-- the rest of a chunk
 pub short_left : (ps : List RopeChunk) (p : RopeChunk) (k i j : ℕ) → k < length ps → i ≤ j → chunk_bytes p ≡ remove_range (chunk_text (chunk_list_texts ps) k) i j → AreBounded (chunk_list_texts ps) → AreBounded (chunk_list_texts (set ps k p))
 short_left ps p k i j h l e a =
     let q = chunk_text (chunk_list_texts ps) k in

@@ -1,4 +1,4 @@
--- Groups of pieces, and the text that they make.
+-- Groups of chunks and their text.
 use Rattle.std.proofs.Common.{◌≡◌, ℕ, zero, suc, ◌+◌, ◌<◌, List, [], ◌∷◌, ◌++◌, map, length, take, drop, get_or, set, Option, Some, None, option_map, Bool, true, false, nat_eq, refl, sym, ap, ◌∙◌, arith, append_assoc, subst}
 use Rattle.std.specs.Prelude.{if◌then◌else◌, option_and_then}
 use Rattle.std.specs.List.{concat, flat_map, insert_slice, remove_range, remove, starts_with}
@@ -21,7 +21,7 @@ use Rattle.sdb_rope.proofs.ChunkEdits.{cut_behind, cut_front, insert_text_is, no
 use Rattle.sdb_rope.proofs.ChunkListLemmas.{seen_of, same_seen, pieces_utf8}
 use Rattle.sdb_rope.proofs.PositionLemmas.{concat_before_after, after_is, append_of_starts_with, concat_append, concat_utf8, gone_within, length_before, put_in, concat_around_chunk}
 
--- ---- the groups' bytes
+-- ---- the bytes of groups
 
 pub bytes_by_group : (gs : List (Chunk RopeChunk)) → concat (texts_of_groups gs) ≡ concat (group_texts gs)
 bytes_by_group [] = refl
@@ -33,7 +33,7 @@ count_groups gs = length-map gs (λ g. concat (chunk_texts g))
 pub read_group : (gs : List (Chunk RopeChunk)) (k : ℕ) (g : Chunk RopeChunk) → k < length gs → g ≡ get_or gs k g → chunk_text (group_texts gs) k ≡ concat (chunk_texts g)
 read_group gs k g h e = get_or-map (λ g. concat (chunk_texts g)) gs k g [] h ∙ ap (λ g. concat (chunk_texts g)) (sym e)
 
--- another group in the place of one
+-- a group replaced by another
 pub bytes_set : (gs : List (Chunk RopeChunk)) (k : ℕ) (g : Chunk RopeChunk) → concat (texts_of_groups (set gs k g)) ≡ concat (set (group_texts gs) k (concat (chunk_texts g)))
 bytes_set gs k g = bytes_by_group (set gs k g) ∙ ap concat (map-set (λ g. concat (chunk_texts g)) gs k g)
 
@@ -43,7 +43,7 @@ group_utf8 (g ∷ gs) = subst_utf8 (concat_append (chunk_texts g) (texts_of_grou
   subst_utf8 : {xs ys : List ℕ} → xs ≡ ys → IsUtf8 ys → IsUtf8 xs
   subst_utf8 e u = rw e u
 
--- ---- what is seen of groups tells their texts
+-- ---- the views of groups determine their texts
 
 map_first : (ps : List RopeChunk) → map (λ x. x.0) (map seen_of ps) ≡ chunk_list_texts ps
 map_first [] = refl
@@ -73,7 +73,7 @@ same_groups (g ∷ gs) (h ∷ hs) e =
     let s = same_seen (items_of g) (items_of h) (ap (λ x. x.0) head) in
     ap (λ l. l ++ texts_of_groups gs) s.0 ∙ ap (λ l. chunk_texts h ++ l) (same_groups gs hs rest)
 
--- ---- texts one by one
+-- ---- the texts one by one
 
 pub texts_append : (gs hs : List (Chunk RopeChunk)) → texts_of_groups (gs ++ hs) ≡ texts_of_groups gs ++ texts_of_groups hs
 texts_append [] hs = refl
@@ -87,7 +87,7 @@ texts_without [] k d h e = absurd (omega (arith, h))
 texts_without (g ∷ gs) zero d h e = ap (λ l. l ++ texts_of_groups gs) (sym e)
 texts_without (g ∷ gs) (suc k) d h e = ap (λ l. chunk_texts g ++ l) (texts_without gs k d (omega (arith, h)) e)
 
--- group by group the same texts
+-- equal texts group by group
 pub texts_of_same : (gs hs : List (Chunk RopeChunk)) → map chunk_texts gs ≡ map chunk_texts hs → texts_of_groups gs ≡ texts_of_groups hs
 texts_of_same [] [] e = refl
 texts_of_same [] (h ∷ hs) e = cc
@@ -97,7 +97,7 @@ texts_of_same (g ∷ gs) (h ∷ hs) e =
     let rest : map chunk_texts gs ≡ map chunk_texts hs = cc in
     ap (λ l. l ++ texts_of_groups gs) head ∙ ap (λ l. chunk_texts h ++ l) (texts_of_same gs hs rest)
 
--- ---- pieces of at most 4096 bytes
+-- ---- chunks of at most 4,096 bytes
 
 all_left : (xs ys : List (List ℕ)) → AreBounded (xs ++ ys) → AreBounded xs
 all_left [] ys a = All-nil IsBounded
@@ -117,7 +117,7 @@ short_set_group [] k g s a = a
 short_set_group (h ∷ gs) zero g s a = All-append IsBounded (chunk_texts g) (texts_of_groups gs) s (all_right (chunk_texts h) (texts_of_groups gs) a)
 short_set_group (h ∷ gs) (suc k) g s a = All-append IsBounded (chunk_texts h) (texts_of_groups (set gs k g)) (all_left (chunk_texts h) (texts_of_groups gs) a) (short_set_group gs k g s (all_right (chunk_texts h) (texts_of_groups gs) a))
 
--- ---- an edit in one group is one of the whole
+-- ---- an edit of one group is an edit of the whole
 
 cut_there : (ts : List (List ℕ)) (k left : ℕ) → k < length ts → (suc k < length ts → left < units (chunk_text ts k)) → cut_at (chunk_text ts k ++ concat (drop (suc k) ts)) left ≡ cut_at (chunk_text ts k) left
 cut_there [] k left h w = absurd (omega (arith, h))
@@ -176,7 +176,7 @@ take_at_cut ts offset k left s g (Some i) p c e = take_there ts offset k left i 
 pub take_in_group : (ts : List (List ℕ)) (offset k left : ℕ) (s g : List ℕ) → IsGroupAtOffset ts offset k left → remove_text left s (chunk_text ts k) ≡ Some g → remove_text offset s (concat ts) ≡ Some (concat (set ts k g))
 take_in_group ts offset k left s g p e = take_at_cut ts offset k left s g (cut_at (chunk_text ts k) left) p refl e
 
--- a group in the place of one of the same texts
+-- a group replaced by one with equal texts
 pub same_group_set : (gs : List (Chunk RopeChunk)) (k : ℕ) (g h : Chunk RopeChunk) → k < length gs → h ≡ get_or gs k h → chunk_texts g ≡ chunk_texts h → map chunk_texts (set gs k g) ≡ map chunk_texts gs
 same_group_set gs k g h inside is e =
     map-set chunk_texts gs k g ∙ ap (set (map chunk_texts gs) k) (e ∙ sym (get_or-map chunk_texts gs k h [] inside ∙ ap chunk_texts (sym is))) ∙ set-get_or (map chunk_texts gs) k []
@@ -192,7 +192,7 @@ take_next (p ∷ ps) (suc i) m =
     let z : suc i + m ≡ suc (i + m) = omega arith in
     ap (λ k. take k (p ∷ ps)) z ∙ ap (λ l. p ∷ l) (take_next ps i m)
 
--- the next pieces in a group of their own
+-- the next chunks as a new group
 pub group_next : (gs all : List (Chunk RopeChunk)) (ps us : List RopeChunk) (g : Chunk RopeChunk) (i m n : ℕ) → texts_of_groups gs ≡ chunk_list_texts (take i ps) → all ≡ gs ++ g ∷ [] → items_of g ≡ us
     → chunk_list_texts us ≡ chunk_list_texts (take n (drop i ps)) → n ≡ m → texts_of_groups all ≡ chunk_list_texts (take (i + m) ps)
 group_next gs all ps us g i m n bytes_before pushed is texts count =
@@ -250,7 +250,7 @@ module _ (gs : List (Chunk RopeChunk)) (k : ℕ) (g h : Chunk RopeChunk) (inside
   take_group offset left s p e =
       ap (remove_text offset s) (bytes_by_group gs) ∙ take_in_group (group_texts gs) offset k left s (concat (chunk_texts g)) p (ap (remove_text left s) group_text_is ∙ e) ∙ ap Some (sym (bytes_set gs k g))
 
--- ---- the pieces one after the other
+-- ---- the chunks in order
 
 pub texts_flat : (gs : List (Chunk RopeChunk)) → chunk_list_texts (flat_map items_of gs) ≡ texts_of_groups gs
 texts_flat [] = refl

@@ -1,4 +1,4 @@
--- Texts cut at an offset, chunk by chunk.
+-- Positions of offsets, block by block.
 use Rattle.std.proofs.Common.{◌≡◌, ℕ, zero, suc, ◌+◌, ◌-◌, ◌<◌, ◌≤◌, List, [], ◌∷◌, length, take, drop, Option, Some, None, option_map, Bool, true, false, refl, sym, ap, ◌∙◌, subst, arith, length-drop}
 use Rattle.std.specs.Prelude.{if◌then◌else◌, nat_le, nat_eq, slice_index}
 use Rattle.std.specs.String.Boundary.{IsSplitPoint}
@@ -22,7 +22,7 @@ map_two : (o : Option ℕ) (j k : ℕ) → option_map (λ i. j + i) (option_map 
 map_two None j k = refl
 map_two (Some i) j k = let e : j + (k + i) ≡ j + k + i = omega arith in ap Some e
 
--- a cut that lies past the first k bytes is a cut of the rest
+-- a position after the first k bytes is one in the rest
 pub cut_past : (k : ℕ) (bs : List ℕ) (p : ℕ) → k ≤ length bs → units (take k bs) ≤ p → cut_at bs p ≡ option_map (λ i. k + i) (cut_at (drop k bs) (p - units (take k bs)))
 cut_past zero bs p h u = let e : p ≡ p - 0 = omega arith in map_none (cut_at bs p) ∙ ap (λ q. option_map (λ i. 0 + i) (cut_at bs q)) e
 cut_past (suc k) [] p h u = absurd (omega (arith, h))
@@ -39,7 +39,7 @@ next_cut j k bs p q h e u =
     let s : cut_at (drop j bs) q ≡ option_map (λ i. k + i) (cut_at (drop k (drop j bs)) rest) = cut_past k (drop j bs) q (omega (arith, length-drop j bs)) u in
     e ∙ ap (option_map (λ i. j + i)) s ∙ map_two (cut_at (drop k (drop j bs)) rest) j k ∙ ap (λ l. option_map (λ i. j + k + i) (cut_at l rest)) (drop-drop k j bs)
 
--- and one that lies past the next chunk too, which ends at m and has w units
+-- a position after the next block too, which ends at m and has w code units
 pub cut_more : (j m w : ℕ) (bs : List ℕ) (p q : ℕ) → j ≤ m → m ≤ length bs → w ≡ units (take (m - j) (drop j bs)) → w ≤ q → cut_at bs p ≡ option_map (λ i. j + i) (cut_at (drop j bs) q)
     → cut_at bs p ≡ option_map (λ i. m + i) (cut_at (drop m bs) (q - w))
 cut_more j m w bs p q before within is fits e =
@@ -47,7 +47,7 @@ cut_more j m w bs p q before within is fits e =
     let s = next_cut j (m - j) bs p q (omega (arith, before, within)) e (omega (arith, is, fits)) in
     s ∙ ap (λ x. option_map (λ i. x + i) (cut_at (drop x bs) (q - units (take (m - j) (drop j bs))))) sum ∙ ap (λ x. option_map (λ i. m + i) (cut_at (drop m bs) (q - x))) (sym is)
 
--- a byte that is wide begins a character
+-- a byte of positive width begins a character
 record IsCharStart (bs : List ℕ) (i : ℕ) : Type 0 where
   pub within : i ≤ length bs
   pub wide : i < length bs → 0 < utf16_width (slice_index bs i)
@@ -76,11 +76,11 @@ char_start_of_cut (b ∷ bs) p i h = starts_of (nat_le (utf16_width b) p) (nat_e
 wide_begins : (b : ℕ) → 0 < utf16_width b → 128 ≤ b → 192 ≤ b
 wide_begins b w h = grind (arith, nat_tests)
 
--- where a text is cut, it may be split
+-- a text can be split at a position
 pub cut_split : (bs : List ℕ) (p i : ℕ) → cut_at bs p ≡ Some i → IsSplitPoint bs i
 cut_split bs p i h = let g = char_start_of_cut bs p i h in (g.within, λ _ l. wide_begins (slice_index bs i) (g.wide l))
 
--- the same, where the text is cut after its first s bytes
+-- the position after the first s bytes
 pub split_after : (bs t : List ℕ) (p q s j : ℕ) → bs ≡ t → cut_at bs p ≡ option_map (λ i. s + i) (cut_at (drop s bs) q) → Some j ≡ cut_at (take (length bs - s) (drop s bs)) q → IsSplitPoint t (s + j)
 split_after bs t p q s j is same found =
     let e = found ∙ ap (λ l. cut_at l q) (to_end bs s) in
@@ -90,13 +90,13 @@ of_none : (k : ℕ) → units (take k []) ≡ 0
 of_none zero = refl
 of_none (suc k) = refl
 
--- the first bytes, and those of the next chunk, which ends at m
+-- the code units of the first bytes and of the next block, which ends at m
 pub units_more : (j m : ℕ) (bs : List ℕ) → j ≤ m → units (take m bs) ≡ units (take j bs) + units (take (m - j) (drop j bs))
 units_more zero m bs h = let e : m ≡ m - 0 = omega arith in let r : units (take m bs) ≡ units (take (m - 0) bs) = ap (λ k. units (take k bs)) e in omega (arith, r)
 units_more (suc j) zero bs h = absurd (omega (arith, h))
 units_more (suc j) (suc m) [] h = omega (arith, of_none (suc m - suc j))
 units_more (suc j) (suc m) (b ∷ bs) h = let r : units (take m bs) ≡ units (take j bs) + units (take (m - j) (drop j bs)) = units_more j m bs (omega (arith, h)) in let e : suc m - suc j ≡ m - j = omega arith in rw e (omega arith)
 
--- the first bytes, and those from there on
+-- the code units of the first bytes and of the rest
 pub units_all : (j : ℕ) (bs : List ℕ) → j ≤ length bs → units bs ≡ units (take j bs) + units (take (length bs - j) (drop j bs))
 units_all j bs h = ap units (sym (take_all (length bs) bs (omega arith))) ∙ units_more j (length bs) bs h

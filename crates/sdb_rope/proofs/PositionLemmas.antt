@@ -1,4 +1,4 @@
--- The pieces of a text, one after another.
+-- The chunks of a text in order.
 use Rattle.std.proofs.Common.{◌≡◌, ℕ, zero, suc, ◌+◌, ◌<◌, ◌≤◌, List, [], ◌∷◌, ◌++◌, length, take, drop, get_or, set, Some, None, option_map, Bool, true, false, nat_eq, refl, sym, ap, ◌∙◌, arith, append_assoc, length-append, length-take, length-drop, subst}
 use Rattle.std.specs.List.{concat, starts_with, insert_slice, remove_range, remove}
 use Rattle.std.specs.Cmp.Lexicographic.{pointwise}
@@ -39,7 +39,7 @@ pub concat_append : (xs ys : List (List ℕ)) → concat (xs ++ ys) ≡ concat x
 concat_append [] ys = refl
 concat_append (x ∷ xs) ys = ap (λ l. x ++ l) (concat_append xs ys) ∙ sym (append_assoc x (concat xs) (concat ys))
 
--- ---- where a cut is
+-- ---- the position of an offset
 
 pub length_before : (ts : List (List ℕ)) (k i : ℕ) → k < length ts → i ≤ length (chunk_text ts k) → length (bytes_before ts k i) ≡ length (concat (take k ts)) + i
 length_before ts k i h l =
@@ -79,7 +79,7 @@ cut_last ts q offset k last is sum =
       offset_is_length_before = at_end (concat ts) offset sum ∙ ap (λ l. Some (length l)) (sym (before_last ts k last));
     })
 
--- ---- where a text ends
+-- ---- the end of a text
 
 after_next : (ts : List (List ℕ)) (k n i : ℕ) → k < length ts → n ≡ suc k → bytes_after ts k i ≡ drop i (chunk_text ts k) ++ bytes_after ts n 0
 after_next [] k n i h e = absurd (omega (arith, h))
@@ -160,7 +160,7 @@ same_next ts s k n i h next e =
     let here = drop i (chunk_text ts k) in
     sym (both_begin here (bytes_after ts n 0) (drop (length here) s)) ∙ ap (starts_with nat_eq (here ++ bytes_after ts n 0)) (sym (append_of_starts_with s here e)) ∙ ap (λ y. starts_with nat_eq y s) (sym (after_next ts k n i h next))
 
--- ---- what is put in
+-- ---- an insert
 
 around_put : (t R s : List ℕ) (i : ℕ) → insert_slice t i s ++ R ≡ take i t ++ (s ++ (drop i t ++ R))
 around_put t R s i = append_assoc (take i t ++ s) (drop i t) R ∙ append_assoc (take i t) s (drop i t ++ R)
@@ -171,7 +171,7 @@ put_in [] us s k i h e = absurd (omega (arith, h))
 put_in (t ∷ ts) us s zero i h e = concat_append us ts ∙ ap (λ l. l ++ concat ts) e ∙ around_put t (concat ts) s i
 put_in (t ∷ ts) us s (suc k) i h e = ap (λ l. t ++ l) (put_in ts us s k i (omega (arith, h)) e) ∙ sym (append_assoc t (bytes_before ts k i) (s ++ bytes_after ts k i))
 
--- ---- what is taken out
+-- ---- a removal
 
 pub gone_within : (ts : List (List ℕ)) (k i j : ℕ) → k < length ts → concat (set ts k (remove_range (chunk_text ts k) i j)) ≡ bytes_before ts k i ++ bytes_after ts k j
 gone_within [] k i j h = absurd (omega (arith, h))
@@ -203,7 +203,7 @@ gone_empty [] k h e = absurd (omega (arith, h))
 gone_empty (t ∷ ts) zero h e = ap (λ l. l ++ concat ts) (sym e)
 gone_empty (t ∷ ts) (suc k) h e = ap (λ l. t ++ l) (gone_empty ts k (omega (arith, h)) e)
 
--- ---- between characters
+-- ---- character boundaries
 
 pub concat_utf8 : (ts : List (List ℕ)) → ((k : ℕ) → IsUtf8 (chunk_text ts k)) → IsUtf8 (concat ts)
 concat_utf8 [] u = IsUtf8-nil

@@ -1,4 +1,4 @@
--- Characters, encoded in UTF-8 and in UTF-16.
+-- Characters in UTF-8 and in UTF-16.
 use Rattle.std.proofs.Common.{◌≡◌, ℕ, ◌+◌, ◌<◌, ◌≤◌, List, [], ◌∷◌, ◌++◌, length, cond, Bool, true, false, refl, sym, ap, ◌∙◌, arith, length-append}
 use Rattle.std.specs.Prelude.{◌/◌, ◌%◌, nat_lt}
 use Rattle.std.proofs.lemmas.Bool.Decides.{nat_tests}
@@ -23,7 +23,7 @@ pair_width b h = grind (arith, nat_tests)
 next_width : (bits : ℕ) → utf16_width (128 + bits % 64) ≡ 0
 next_width bits = following_width (128 + bits % 64) (omega arith) (omega arith)
 
--- of a character's bytes and its units, by the tests on it
+-- the bytes and the code units of a character, by its range
 encode_cases : (one two three : Bool) (c u v : ℕ) (bs : List ℕ) → nat_lt c 128 ≡ one → nat_lt c 2048 ≡ two → nat_lt c 65536 ≡ three
     → units (cond one (c ∷ []) (cond two ((192 + c / 64) ∷ (128 + c % 64) ∷ []) (cond three ((224 + c / 4096) ∷ (128 + c / 64 % 64) ∷ (128 + c % 64) ∷ []) ((240 + c / 262144) ∷ (128 + c / 4096 % 64) ∷ (128 + c / 64 % 64) ∷ (128 + c % 64) ∷ []))) ++ bs)
     ≡ length (cond three (c ∷ []) (u ∷ v ∷ [])) + units bs
@@ -46,7 +46,7 @@ pub units_of_char : (c : ℕ) (bs : List ℕ) → units (encode_utf8 c ++ bs) �
 unfolding encode_utf8
 units_of_char c bs = encode_cases (nat_lt c 128) (nat_lt c 2048) (nat_lt c 65536) c _ _ bs refl refl refl
 
--- a text has as many units as its characters are encoded in
+-- a text has as many code units as the UTF-16 encoding of its characters
 pub units_of_chars : (cs : List ℕ) → units (encode_utf8_all cs) ≡ length (flat_map encode_utf16 cs)
 units_of_chars [] = refl
 units_of_chars (c ∷ cs) = units_of_char c (encode_utf8_all cs) ∙ ap (λ n. length (encode_utf16 c) + n) (units_of_chars cs) ∙ sym (length-append (encode_utf16 c) (flat_map encode_utf16 cs))

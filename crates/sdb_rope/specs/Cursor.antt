@@ -1,4 +1,4 @@
--- What is left of the pieces of a text that is gone through.
+-- A cursor over the chunks of a text.
 use Rattle.std.specs.Prelude.{ℕ, List, ◌++◌}
 use Rattle.std.specs.List.{concat}
 use Rattle.sdb_chunks.specs.Iter.{remaining_items}

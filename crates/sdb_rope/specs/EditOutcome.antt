@@ -1,7 +1,7 @@
--- What an edit that can be refused answers.
+-- The outcome of an edit that may be refused.
 use Rattle.std.specs.Prelude.{◌≡◌, Bool, true, false, Option, Some, None}
 
--- done, and the part is what it has to be; or there is no such part, and it is as it was
+-- done, with the required result; or refused because there is no result, and unchanged
 abbrev pub EditOutcome : {A : Type 0} → Bool → Option A → A → A → Type 0
 EditOutcome true o before after = o ≡ Some after
 EditOutcome false o before after = (o ≡ None) × (after ≡ before)

@@ -1,4 +1,4 @@
--- What a text holds, and whether it is its owner's own.
+-- The contents and the uniqueness of a rope.
 use Rattle.std.specs.Prelude.{ℕ, List, [], ◌∷◌, Bool, false}
 use Rattle.std.specs.List.{concat}
 use Rattle.sdb_chunks.specs.Chunk.{items_of, is_chunk_shared}
@@ -15,7 +15,7 @@ repr_texts (Flat c) = str_bytes c ∷ []
 repr_texts (Chunks b) = chunk_texts b
 repr_texts (Groups b) = texts_of_groups (items_of b)
 
--- the bytes of each piece, in order
+-- the bytes of each chunk in order
 abbrev pub rope_texts : Rope → List (List ℕ)
 rope_texts t = repr_texts t.repr
 
@@ -28,7 +28,7 @@ is_unique_rope_repr (Flat c) = is_unique_str c
 is_unique_rope_repr (Chunks b) = is_unique_chunk b
 is_unique_rope_repr (Groups b) = false
 
--- nothing of it is shared; groups are made where a text is shared
+-- no part is shared; groups exist only in texts that were frozen
 abbrev pub is_unique_rope : Rope → Bool
 is_unique_rope t = is_unique_rope_repr t.repr
 
@@ -37,10 +37,10 @@ is_shared_rope_repr (Flat c) = is_shared_str c
 is_shared_rope_repr (Chunks b) = is_chunk_shared b
 is_shared_rope_repr (Groups b) = is_chunk_shared b
 
--- a copy of it is a pointer
+-- a clone is a pointer
 abbrev pub is_shared_rope : Rope → Bool
 is_shared_rope t = is_shared_rope_repr t.repr
 
--- each piece has at most 4096 bytes
+-- each chunk has at most 4,096 bytes
 abbrev pub HasBoundedChunks : Rope → Type 0
 HasBoundedChunks t = AreBounded (rope_texts t)

@@ -1,4 +1,4 @@
--- What pieces hold, and which are their owner's own.
+-- The contents and the uniqueness of chunks.
 use Rattle.std.specs.Prelude.{◌≡◌, ℕ, List, Bool, true, map}
 use Rattle.sdb_rope.specs.SharedStr.{str_bytes, is_unique_str}
 use Rattle.sdb_rope.specs.declared.rope_chunk.RopeChunk.{RopeChunk}
@@ -12,6 +12,6 @@ is_unique_rope_chunk p = is_unique_str p.text
 abbrev pub IsUniqueChunk : RopeChunk → Type 0
 IsUniqueChunk p = is_unique_rope_chunk p ≡ true
 
--- the bytes of each
+-- the bytes of each chunk
 abbrev pub chunk_list_texts : List RopeChunk → List (List ℕ)
 chunk_list_texts ps = map chunk_bytes ps

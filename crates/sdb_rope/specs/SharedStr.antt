@@ -1,4 +1,4 @@
--- The bytes of a piece, and whether they are its owner's own.
+-- The bytes of a chunk, and their uniqueness.
 use Rattle.std.specs.Prelude.{ℕ, List, Bool, true, false, string_bytes}
 use Rattle.sdb_rope.specs.declared.shared_str.SharedStr.{SharedStr}
 use Rattle.sdb_rope.specs.declared.shared_str.SharedStr.TheVariants.{Unique, Shared}

@@ -1,4 +1,4 @@
-//! Edits of a text of many pieces.
+//! Edits of a text in a list of chunks.
 ghost use Rattle.std.specs.Prelude.{◌≡◌, true, false, IfOk, OnOk, OnErr};
 ghost use Rattle.std.specs.List.{concat};
 ghost use Rattle.sdb_chunks.specs.Chunk.{is_chunk_shared};
@@ -15,114 +15,121 @@ use crate::rope_chunk::RopeChunk;
 use sdb_chunks::Chunk;
 use std::alloc::{AllocError, Global};
 
-/// Puts a text at an offset of UTF-16 units. `false`, with the text unchanged, where the offset is inside
-/// a pair or past the end.
+/// Inserts a text at an offset in UTF-16 code units. Returns `false`, with the text unchanged, if
+/// the offset is inside a surrogate pair or after the end.
+///
+/// # Errors
+///
+/// [`AllocError`] if an allocation fails. The text is then unchanged.
 pub(crate) fn insert_into_chunks(
     alloc: Global,
-    block: &mut Chunk<RopeChunk>,
+    chunk_list: &mut Chunk<RopeChunk>,
     offset: u64,
     new: &str,
 ) -> Result<bool, AllocError>
     ensures ok { IfOk result (λ done. EditOutcome done (texts.insert_text offset new.now (concat
-        (chunk_texts block.old)))
-        (concat (chunk_texts block.old)) (concat (chunk_texts block.new))) }
-    ensures err { OnErr result (concat (chunk_texts block.new) ≡ concat (chunk_texts block.old)) }
-    ensures unique { is_unique_chunk block.old ≡ true → is_unique_chunk block.new ≡ true }
-    ensures short { AreBounded (chunk_texts block.old) → AreBounded (chunk_texts block.new) }
+        (chunk_texts chunk_list.old)))
+        (concat (chunk_texts chunk_list.old)) (concat (chunk_texts chunk_list.new))) }
+    ensures err { OnErr result (concat (chunk_texts chunk_list.new) ≡ concat (chunk_texts chunk_list.old)) }
+    ensures unique { is_unique_chunk chunk_list.old ≡ true → is_unique_chunk chunk_list.new ≡ true }
+    ensures short { AreBounded (chunk_texts chunk_list.old) → AreBounded (chunk_texts chunk_list.new) }
 {
-    block.make_unique(alloc)?;
-    match block {
-        Chunk::Unique(parts) => {
-            let done = insert(alloc, parts, offset, new)?;
+    chunk_list.make_unique(alloc)?;
+    match chunk_list {
+        Chunk::Unique(chunks) => {
+            let done = insert(alloc, chunks, offset, new)?;
             Ok(done)
         }
         Chunk::Shared(_) => unreachable!(),
     }
 }
 
-/// Takes a text out at an offset of UTF-16 units. `false`, with the text unchanged, where the offset is inside
-/// a pair or past the end, or another text stands there.
+/// Removes a text at an offset in UTF-16 code units. Returns `false`, with the text unchanged, if
+/// the offset is inside a surrogate pair or after the end, or another text is there.
 pub(crate) fn remove_from_chunks(
     alloc: Global,
-    block: &mut Chunk<RopeChunk>,
+    chunk_list: &mut Chunk<RopeChunk>,
     offset: u64,
     old: &str,
 ) -> Result<bool, AllocError>
     ensures ok { IfOk result (λ done. EditOutcome done (texts.remove_text offset old.now (concat
-        (chunk_texts block.old)))
-        (concat (chunk_texts block.old)) (concat (chunk_texts block.new))) }
-    ensures err { OnErr result (concat (chunk_texts block.new) ≡ concat (chunk_texts block.old)) }
-    ensures unique { is_unique_chunk block.old ≡ true → is_unique_chunk block.new ≡ true }
-    ensures chunks_bounded { AreBounded (chunk_texts block.old) → AreBounded (chunk_texts block.new) }
-    ensures shared_on_err { OnErr result (is_unique_chunk block.old ≡ false) }
+        (chunk_texts chunk_list.old)))
+        (concat (chunk_texts chunk_list.old)) (concat (chunk_texts chunk_list.new))) }
+    ensures err { OnErr result (concat (chunk_texts chunk_list.new) ≡ concat (chunk_texts chunk_list.old)) }
+    ensures unique { is_unique_chunk chunk_list.old ≡ true → is_unique_chunk chunk_list.new ≡ true }
+    ensures chunks_bounded { AreBounded (chunk_texts chunk_list.old) → AreBounded (chunk_texts chunk_list.new) }
+    ensures shared_on_err { OnErr result (is_unique_chunk chunk_list.old ≡ false) }
 {
-    if block.items().is_empty() {
+    if chunk_list.items().is_empty() {
         return Ok(offset == 0 && old.is_empty());
     }
-    let Some(span) = find_span(block.items(), offset, old) else {
+    let Some(span) = find_span(chunk_list.items(), offset, old) else {
         return Ok(false);
     };
-    block.make_unique(alloc)?;
-    match block {
-        Chunk::Unique(parts) => {
-            remove_span(alloc, parts, span)?;
+    chunk_list.make_unique(alloc)?;
+    match chunk_list {
+        Chunk::Unique(chunks) => {
+            remove_span(alloc, chunks, span)?;
             Ok(true)
         }
         Chunk::Shared(_) => unreachable!(),
     }
 }
 
-/// The same pieces, shared, and the list of them: at the cost of a pointer where it is already.
+/// Clones the list of chunks so that it is shared; by pointer if it is shared already.
 pub(crate) fn clone_shared_chunks(
     alloc: Global,
-    block: &Chunk<RopeChunk>,
+    chunk_list: &Chunk<RopeChunk>,
 ) -> Result<Chunk<RopeChunk>, AllocError>
-    ensures equal { IfOk result (λ b. chunk_texts b ≡ chunk_texts block.now) }
+    ensures equal { IfOk result (λ b. chunk_texts b ≡ chunk_texts chunk_list.now) }
     ensures shared { IfOk result (λ b. is_chunk_shared b ≡ true) }
 {
-    if let Some(copy) = block.clone_shared()? {
+    if let Some(copy) = chunk_list.clone_shared()? {
         return Ok(copy);
     }
-    let parts = clone_chunk_list(alloc, block.items())?;
-    Chunk::Unique(parts).into_frozen(alloc)
+    let chunks = clone_chunk_list(alloc, chunk_list.items())?;
+    Chunk::Unique(chunks).into_frozen(alloc)
 }
 
 pub(crate) fn clone_chunk_list(
     alloc: Global,
-    parts: &[RopeChunk],
+    chunks: &[RopeChunk],
 ) -> Result<Vec<RopeChunk>, AllocError>
-    ensures { IfOk result (λ v. chunk_list_texts v.items ≡ chunk_list_texts parts.now) }
+    ensures { IfOk result (λ v. chunk_list_texts v.items ≡ chunk_list_texts chunks.now) }
 {
-    let mut copies = Vec::with_capacity(alloc, parts.len())?;
-    for part in parts {
-        copies.push(part.frozen_clone(alloc)?)?;
+    let mut copies = Vec::with_capacity(alloc, chunks.len())?;
+    for chunk in chunks {
+        copies.push(chunk.frozen_clone(alloc)?)?;
     }
     Ok(copies)
 }
 
-/// Makes the pieces shared in place, and the list of them. What is shared already is left as it is.
-pub(crate) fn freeze_chunks(alloc: Global, block: &mut Chunk<RopeChunk>) -> Result<(), AllocError>
-    ensures unchanged { chunk_texts block.new ≡ chunk_texts block.old }
-    ensures shared { OnOk result (is_chunk_shared block.new ≡ true) }
+/// Freezes the chunks and their list in place. Shared parts are skipped.
+pub(crate) fn freeze_chunks(
+    alloc: Global,
+    chunk_list: &mut Chunk<RopeChunk>,
+) -> Result<(), AllocError>
+    ensures unchanged { chunk_texts chunk_list.new ≡ chunk_texts chunk_list.old }
+    ensures shared { OnOk result (is_chunk_shared chunk_list.new ≡ true) }
 {
-    freeze_within(alloc, block)?;
-    block.freeze(alloc)
+    freeze_within(alloc, chunk_list)?;
+    chunk_list.freeze(alloc)
 }
 
-fn freeze_within(alloc: Global, block: &mut Chunk<RopeChunk>) -> Result<(), AllocError>
-    ensures { chunk_texts block.new ≡ chunk_texts block.old }
+fn freeze_within(alloc: Global, chunk_list: &mut Chunk<RopeChunk>) -> Result<(), AllocError>
+    ensures { chunk_texts chunk_list.new ≡ chunk_texts chunk_list.old }
 {
-    match block {
-        Chunk::Unique(parts) => freeze_chunk_list(alloc, parts),
+    match chunk_list {
+        Chunk::Unique(chunks) => freeze_chunk_list(alloc, chunks),
         Chunk::Shared(_) => Ok(()),
     }
 }
 
-fn freeze_chunk_list(alloc: Global, parts: &mut Vec<RopeChunk>) -> Result<(), AllocError>
-    ensures { chunk_list_texts parts.new.items ≡ chunk_list_texts parts.old.items }
+fn freeze_chunk_list(alloc: Global, chunks: &mut Vec<RopeChunk>) -> Result<(), AllocError>
+    ensures { chunk_list_texts chunks.new.items ≡ chunk_list_texts chunks.old.items }
 {
-    for at in 0..parts.len() {
-        parts[at].freeze(alloc)?;
+    for at in 0..chunks.len() {
+        chunks[at].freeze(alloc)?;
     }
     Ok(())
 }

@@ -1,4 +1,4 @@
-//! Whether texts in pieces are the same.
+//! Equality of chunked texts.
 ghost use Rattle.std.specs.Prelude.{◌≡◌, ◌++◌, [], ℕ, List, IsTrue, IsFalse};
 ghost use Rattle.std.specs.List.{concat};
 ghost use Rattle.sdb_chunks.specs.Iter.{remaining_items};
@@ -8,23 +8,23 @@ ghost use Rattle.sdb_rope.specs.RopeChunk.{chunk_list_texts};
 use crate::rope_chunk::RopeChunk;
 use sdb_chunks::Iter;
 
-/// Whether the pieces make this text.
-pub(crate) fn chunks_equal_str(parts: Iter<'_, RopeChunk>, text: &str) -> bool
-    ensures on_true { IsTrue result → concat (chunk_list_texts (remaining_items parts.entry)) ≡ text.now }
-    ensures on_false { IsFalse result → concat (chunk_list_texts (remaining_items parts.entry)) ≡ text.now → ⊥ }
+/// Returns whether the concatenated chunks equal the text.
+pub(crate) fn chunks_equal_str(chunks: Iter<'_, RopeChunk>, text: &str) -> bool
+    ensures on_true { IsTrue result → concat (chunk_list_texts (remaining_items chunks.entry)) ≡ text.now }
+    ensures on_false { IsFalse result → concat (chunk_list_texts (remaining_items chunks.entry)) ≡ text.now → ⊥ }
 {
-    let mut left = ChunkCursor::new(parts);
+    let mut left = ChunkCursor::new(chunks);
     left.advance(text) && left.is_end()
 }
 
-/// Whether the pieces make the same text, cut in whatever way.
-pub(crate) fn chunks_equal(parts: Iter<'_, RopeChunk>, others: Iter<'_, RopeChunk>) -> bool
-    ensures on_true { IsTrue result → concat (chunk_list_texts (remaining_items parts.entry))
+/// Returns whether two lists of chunks concatenate to the same text.
+pub(crate) fn chunks_equal(chunks: Iter<'_, RopeChunk>, others: Iter<'_, RopeChunk>) -> bool
+    ensures on_true { IsTrue result → concat (chunk_list_texts (remaining_items chunks.entry))
         ≡ concat (chunk_list_texts (remaining_items others.entry)) }
-    ensures other { IsFalse result → concat (chunk_list_texts (remaining_items parts.entry))
+    ensures other { IsFalse result → concat (chunk_list_texts (remaining_items chunks.entry))
         ≡ concat (chunk_list_texts (remaining_items others.entry)) → ⊥ }
 {
-    let mut left = ChunkCursor::new(parts);
+    let mut left = ChunkCursor::new(chunks);
     for other in others {
         if !left.advance(other.as_str()) {
             return false;
@@ -33,26 +33,26 @@ pub(crate) fn chunks_equal(parts: Iter<'_, RopeChunk>, others: Iter<'_, RopeChun
     left.is_end()
 }
 
-// What is left of the pieces of a text that is gone through.
+// A cursor over the chunks of a text.
 #[derive(Drop)]
 struct ChunkCursor<'a> {
-    // of the piece at hand
+    // the rest of the current chunk
     current: &'a [u8],
-    // the pieces behind it
+    // the chunks after it
     rest: Iter<'a, RopeChunk>,
 }
 
 impl<'a> ChunkCursor<'a> {
-    fn new(parts: Iter<'a, RopeChunk>) -> ChunkCursor<'a>
-        ensures { remaining_bytes result ≡ concat (chunk_list_texts (remaining_items parts.entry)) }
+    fn new(chunks: Iter<'a, RopeChunk>) -> ChunkCursor<'a>
+        ensures { remaining_bytes result ≡ concat (chunk_list_texts (remaining_items chunks.entry)) }
     {
         ChunkCursor {
             current: &[],
-            rest: parts,
+            rest: chunks,
         }
     }
 
-    // Goes past the text. `false` where another text stands there.
+    // Advances by the text. Returns `false` if another text is there.
     fn advance(&mut self, text: &str) -> bool
         ensures yes { IsTrue result → remaining_bytes self.old ≡ text.now ++ remaining_bytes self.new }
         ensures no { IsFalse result → (more : List ℕ) → remaining_bytes self.old ≡ text.now ++ more → ⊥ }
@@ -62,11 +62,11 @@ impl<'a> ChunkCursor<'a> {
             let Some(others) = wanted.strip_prefix(self.current) else {
                 return false;
             };
-            let Some(part) = self.rest.next() else {
+            let Some(chunk) = self.rest.next() else {
                 return false;
             };
             wanted = others;
-            self.current = part.as_str().as_bytes();
+            self.current = chunk.as_str().as_bytes();
         }
         let Some(others) = self.current.strip_prefix(wanted) else {
             return false;
@@ -75,7 +75,7 @@ impl<'a> ChunkCursor<'a> {
         true
     }
 
-    // Whether nothing is left.
+    // Returns whether the cursor is at the end.
     fn is_end(self) -> bool
         ensures yes { IsTrue result → remaining_bytes self.entry ≡ [] }
         ensures no { IsFalse result → remaining_bytes self.entry ≡ [] → ⊥ }
@@ -83,8 +83,8 @@ impl<'a> ChunkCursor<'a> {
         if !self.current.is_empty() {
             return false;
         }
-        for part in self.rest {
-            if !part.as_str().is_empty() {
+        for chunk in self.rest {
+            if !chunk.as_str().is_empty() {
                 return false;
             }
         }

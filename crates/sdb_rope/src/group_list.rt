@@ -1,4 +1,4 @@
-//! Edits of a text whose pieces are in groups.
+//! Edits of a text in groups of chunks.
 ghost use Rattle.std.specs.Prelude.{◌≡◌, ◌<◌, true, false, [], Some, None, length, IfOk, IfSome, IfNone, OnOk, OnErr};
 ghost use Rattle.std.specs.List.{concat};
 ghost use Rattle.sdb_chunks.specs.Chunk.{items_of};
@@ -16,8 +16,8 @@ use crate::rope_chunk::RopeChunk;
 use sdb_chunks::{Chunk, split_chunk};
 use std::alloc::{AllocError, Global};
 
-// The group with the unit at the offset, or the last one, and what is left of the offset there. `None` where there is
-// no group.
+// Returns the group that contains the offset, or the last one, with the offset inside it. Returns
+// `None` without groups.
 fn group_at_offset(groups: &[Chunk<RopeChunk>], offset: u64) -> Option<(usize, u64)>
     ensures some { IfSome result (λ r. IsGroupAtOffset (group_texts groups.now) offset r.0 r.1) }
     ensures none { IfNone result (groups.now ≡ []) }
@@ -36,8 +36,12 @@ fn group_at_offset(groups: &[Chunk<RopeChunk>], offset: u64) -> Option<(usize, u
     None
 }
 
-/// Puts a text at an offset of UTF-16 units. `false`, with the text unchanged, where the offset is inside
-/// a pair or past the end.
+/// Inserts a text at an offset in UTF-16 code units. Returns `false`, with the text unchanged, if
+/// the offset is inside a surrogate pair or after the end.
+///
+/// # Errors
+///
+/// [`AllocError`] if an allocation fails. The text is then unchanged.
 pub(crate) fn insert_into_groups(
     alloc: Global,
     groups: &mut Chunk<Chunk<RopeChunk>>,
@@ -85,7 +89,8 @@ fn insert_in_group_list(
     }
 }
 
-// Makes two groups of the one at the offset, where it has as many pieces as there are groups, but not of a few.
+// Splits the group at the offset if it has as many chunks as there are groups, and at least
+// `MIN_GROUP`.
 #[tactic(auto, using(crate::proofs::GroupLemmas::same_joined))]
 fn split_long_chunk(
     alloc: Global,
@@ -102,7 +107,7 @@ fn split_long_chunk(
     Ok(())
 }
 
-// Sees to it that there is a group.
+// Adds an empty group if there is none.
 fn ensure_group(alloc: Global, groups: &mut Vec<Chunk<RopeChunk>>) -> Result<(), AllocError>
     ensures unchanged { texts_of_groups groups.new.items ≡ texts_of_groups groups.old.items }
     ensures some { OnOk result (0 < length groups.new.items) }
@@ -113,8 +118,8 @@ fn ensure_group(alloc: Global, groups: &mut Vec<Chunk<RopeChunk>>) -> Result<(),
     Ok(())
 }
 
-/// Takes a text out that stands in one group at an offset of UTF-16 units. `false`, with the text unchanged, where
-/// it doesn't.
+/// Removes a text that is in one group, at an offset in UTF-16 code units. Returns `false`, with
+/// the text unchanged, if it isn't.
 pub(crate) fn remove_from_groups(
     alloc: Global,
     groups: &mut Chunk<Chunk<RopeChunk>>,
@@ -164,7 +169,7 @@ fn remove_in_group_list(
     Ok(done)
 }
 
-// Takes a group out that has nothing left.
+// Removes the group if it is empty.
 fn remove_empty_group(groups: &mut Vec<Chunk<RopeChunk>>, at: usize)
     requires { at < length groups.old.items }
     ensures { texts_of_groups groups.new.items ≡ texts_of_groups groups.old.items }
@@ -174,8 +179,8 @@ fn remove_empty_group(groups: &mut Vec<Chunk<RopeChunk>>, at: usize)
     }
 }
 
-/// The pieces that are left where a text is taken out that may stand in several groups. `None` where the offset is
-/// inside a pair or past the end, or another text stands there.
+/// Returns the chunks that remain after a text in any groups is removed. Returns `None` if the
+/// offset is inside a surrogate pair or after the end, or another text is there.
 pub(crate) fn remove_across_groups(
     alloc: Global,
     groups: &[Chunk<RopeChunk>],
@@ -189,9 +194,9 @@ pub(crate) fn remove_across_groups(
     ensures chunks_bounded { IfOk result (λ o. IfSome o
         (λ b. AreBounded (texts_of_groups groups.now) → AreBounded (chunk_texts b))) }
 {
-    let mut parts = Chunk::Unique(ungroup_chunks(alloc, groups)?);
-    if remove_from_chunks(alloc, &mut parts, offset, old)? {
-        return Ok(Some(parts));
+    let mut chunks = Chunk::Unique(ungroup_chunks(alloc, groups)?);
+    if remove_from_chunks(alloc, &mut chunks, offset, old)? {
+        return Ok(Some(chunks));
     }
     Ok(None)
 }

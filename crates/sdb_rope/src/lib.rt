@@ -1,4 +1,5 @@
-//! A text in pieces of bounded size, each its owner's own or shared with copies, measured in UTF-16 units.
+//! A rope: a text in chunks of bounded size, unique or shared with clones, measured in UTF-16 code
+//! units.
 #![tactic(auto)]
 
 mod chunk_list;

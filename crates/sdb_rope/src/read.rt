@@ -1,4 +1,4 @@
-//! Reads the pieces of a text.
+//! Reads of the chunks of a text.
 ghost use Rattle.std.specs.Prelude.{◌≡◌, is_some, length, min, nat_eq, string_bytes, IfOk, IfSome};
 ghost use Rattle.std.specs.List.{concat};
 ghost use Rattle.sdb_chunks.specs.Chunk.{items_of};
@@ -11,51 +11,54 @@ use crate::rope_chunk::RopeChunk;
 use sdb_chunks::{Chunk, Iter};
 use std::alloc::{AllocError, Global};
 
-/// How many bytes the pieces have, up to the limit. Where there are more, the rest isn't looked at.
-pub(crate) fn bytes_up_to(parts: Iter<'_, RopeChunk>, limit: u64) -> u64
-    ensures { result ≡ min limit (length (concat (chunk_list_texts (remaining_items parts.entry)))) }
+/// Returns the number of bytes, at most the limit. It stops at the limit.
+pub(crate) fn bytes_up_to(chunks: Iter<'_, RopeChunk>, limit: u64) -> u64
+    ensures { result ≡ min limit (length (concat (chunk_list_texts (remaining_items chunks.entry)))) }
 {
     let mut left = limit;
-    for part in parts {
+    for chunk in chunks {
         if left == 0 {
             return limit;
         }
-        left -= (part.as_str().len() as u64).min(left);
+        left -= (chunk.as_str().len() as u64).min(left);
     }
     limit - left
 }
 
-/// The bytes of the pieces, in memory of their own.
-pub(crate) fn concat_chunks(alloc: Global, parts: Iter<'_, RopeChunk>) -> Result<String, AllocError>
-    ensures { IfOk result (λ s. string_bytes s ≡ concat (chunk_list_texts (remaining_items parts.entry))) }
+/// Concatenates the chunks.
+pub(crate) fn concat_chunks(
+    alloc: Global,
+    chunks: Iter<'_, RopeChunk>,
+) -> Result<String, AllocError>
+    ensures { IfOk result (λ s. string_bytes s ≡ concat (chunk_list_texts (remaining_items chunks.entry))) }
 {
     let mut whole = String::new(alloc);
-    for part in parts {
-        whole.push_str(part.as_str())?;
+    for chunk in chunks {
+        whole.push_str(chunk.as_str())?;
     }
     Ok(whole)
 }
 
-/// The text of the only piece. `None` where there is none, or more than one.
-pub(crate) fn single_chunk_str<'a>(mut parts: Iter<'a, RopeChunk>) -> Option<&'a str>
-    ensures text { IfSome result (λ s. s.now ≡ concat (chunk_list_texts (remaining_items parts.entry))) }
-    ensures found { is_some result ≡ nat_eq (length (chunk_list_texts (remaining_items parts.entry))) 1 }
+/// Returns the text of a single chunk, or `None` for none or several.
+pub(crate) fn single_chunk_str<'a>(mut chunks: Iter<'a, RopeChunk>) -> Option<&'a str>
+    ensures text { IfSome result (λ s. s.now ≡ concat (chunk_list_texts (remaining_items chunks.entry))) }
+    ensures found { is_some result ≡ nat_eq (length (chunk_list_texts (remaining_items chunks.entry))) 1 }
 {
-    let first = parts.next()?;
-    match parts.next() {
+    let first = chunks.next()?;
+    match chunks.next() {
         Some(_) => None,
         None => Some(first.as_str()),
     }
 }
 
-/// The pieces, in order.
-pub(crate) fn iter_chunks(parts: &Chunk<RopeChunk>) -> Iter<'_, RopeChunk>
-    ensures { chunk_list_texts (remaining_items result) ≡ chunk_texts parts.now }
+/// Iterates over the chunks in order.
+pub(crate) fn iter_chunks(chunks: &Chunk<RopeChunk>) -> Iter<'_, RopeChunk>
+    ensures { chunk_list_texts (remaining_items result) ≡ chunk_texts chunks.now }
 {
-    Iter::new(parts.items(), &[])
+    Iter::new(chunks.items(), &[])
 }
 
-/// The pieces of all groups, in order.
+/// Iterates over the chunks of all groups in order.
 pub(crate) fn iter_groups(groups: &Chunk<Chunk<RopeChunk>>) -> Iter<'_, RopeChunk>
     ensures { chunk_list_texts (remaining_items result) ≡ texts_of_groups (items_of groups.now) }
 {

@@ -1,4 +1,4 @@
-//! Pieces put into groups, and groups that are shared.
+//! Groups of chunks.
 ghost use Rattle.std.specs.Prelude.{◌≡◌, ◌<◌, ◌++◌, true, IfOk, OnOk};
 ghost use Rattle.sdb_chunks.specs.Chunk.{items_of, is_chunk_shared};
 ghost use Rattle.sdb_rope.specs.ChunkModel.{chunk_texts};
@@ -10,10 +10,10 @@ use crate::rope_chunk::RopeChunk;
 use sdb_chunks::{Chunk, TryClone};
 use std::alloc::{AllocError, Global};
 
-/// How many pieces a text may have that is shared without groups, and a group of few.
+/// Minimal number of chunks of a text with groups, and of a group that is split.
 pub(crate) const MIN_GROUP: usize = 16;
 
-// How many pieces the groups get that so many pieces are put into: they have room for as many again.
+// Returns the number of chunks per new group. Each group can grow to twice that number.
 fn chunks_per_group(pieces: usize) -> usize
     ensures { 0 < result }
 {
@@ -24,65 +24,65 @@ fn chunks_per_group(pieces: usize) -> usize
     size
 }
 
-/// The same pieces, shared, in groups that are shared.
+/// Clones the chunks into shared groups.
 pub(crate) fn into_groups(
     alloc: Global,
-    parts: &[RopeChunk],
+    chunks: &[RopeChunk],
 ) -> Result<Chunk<Chunk<RopeChunk>>, AllocError>
-    ensures equal { IfOk result (λ g. texts_of_groups (items_of g) ≡ chunk_list_texts parts.now) }
+    ensures equal { IfOk result (λ g. texts_of_groups (items_of g) ≡ chunk_list_texts chunks.now) }
     ensures shared { IfOk result (λ g. is_chunk_shared g ≡ true) }
 {
-    let groups = split_into_groups(alloc, parts)?;
+    let groups = split_into_groups(alloc, chunks)?;
     Chunk::Unique(groups).into_frozen(alloc)
 }
 
 fn split_into_groups(
     alloc: Global,
-    parts: &[RopeChunk],
+    chunks: &[RopeChunk],
 ) -> Result<Vec<Chunk<RopeChunk>>, AllocError>
-    ensures { IfOk result (λ v. texts_of_groups v.items ≡ chunk_list_texts parts.now) }
+    ensures { IfOk result (λ v. texts_of_groups v.items ≡ chunk_list_texts chunks.now) }
 {
-    let size = chunks_per_group(parts.len());
-    let mut groups = Vec::with_capacity(alloc, parts.len() / size + 1)?;
+    let size = chunks_per_group(chunks.len());
+    let mut groups = Vec::with_capacity(alloc, chunks.len() / size + 1)?;
     let mut start = 0;
-    while start < parts.len() {
-        let end = start + (parts.len() - start).min(size);
-        let group = clone_chunk_list(alloc, &parts[start..end])?;
+    while start < chunks.len() {
+        let end = start + (chunks.len() - start).min(size);
+        let group = clone_chunk_list(alloc, &chunks[start..end])?;
         groups.push(Chunk::Unique(group).into_frozen(alloc)?)?;
         start = end;
     }
     Ok(groups)
 }
 
-/// The pieces of all groups: pointers to them, where they are shared.
+/// Clones the chunks of all groups, shared ones by pointer.
 pub(crate) fn ungroup_chunks(
     alloc: Global,
     groups: &[Chunk<RopeChunk>],
 ) -> Result<Vec<RopeChunk>, AllocError>
     ensures { IfOk result (λ v. chunk_list_texts v.items ≡ texts_of_groups groups.now) }
 {
-    let mut parts = Vec::new(alloc);
+    let mut chunks = Vec::new(alloc);
     for group in groups {
-        push_chunks(alloc, &mut parts, group.items())?;
+        push_chunks(alloc, &mut chunks, group.items())?;
     }
-    Ok(parts)
+    Ok(chunks)
 }
 
 fn push_chunks(
     alloc: Global,
-    parts: &mut Vec<RopeChunk>,
+    chunks: &mut Vec<RopeChunk>,
     group: &[RopeChunk],
 ) -> Result<(), AllocError>
-    ensures { OnOk result (chunk_list_texts parts.new.items
-        ≡ chunk_list_texts parts.old.items ++ chunk_list_texts group.now) }
+    ensures { OnOk result (chunk_list_texts chunks.new.items
+        ≡ chunk_list_texts chunks.old.items ++ chunk_list_texts group.now) }
 {
-    for part in group {
-        parts.push(part.try_clone(alloc)?)?;
+    for chunk in group {
+        chunks.push(chunk.try_clone(alloc)?)?;
     }
     Ok(())
 }
 
-/// The same groups, shared, and the list of them: at the cost of a pointer where it is already.
+/// Clones the groups so that they are shared; by pointer if they are shared already.
 pub(crate) fn clone_shared_groups(
     alloc: Global,
     groups: &Chunk<Chunk<RopeChunk>>,
@@ -110,7 +110,7 @@ fn clone_each(
     Ok(copies)
 }
 
-/// Makes the groups shared in place, and the list of them. What is shared already is left as it is.
+/// Freezes the groups and their list in place. Shared parts are skipped.
 pub(crate) fn freeze_groups(
     alloc: Global,
     groups: &mut Chunk<Chunk<RopeChunk>>,

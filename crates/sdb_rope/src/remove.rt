@@ -1,4 +1,4 @@
-//! What is taken out of the pieces of a text.
+//! Removals from the chunks of a text.
 ghost use Rattle.std.specs.Prelude.{◌≡◌, ◌≤◌, ◌<◌, ◌+◌, ◌++◌, ℕ, All, length, OnOk, OnErr};
 ghost use Rattle.std.specs.List.{concat, remove_range, HoldsAt};
 ghost use Rattle.std.specs.String.Boundary.{IsSplitPoint};
@@ -9,104 +9,109 @@ use crate::position::Span;
 use crate::rope_chunk::RopeChunk;
 use std::alloc::{AllocError, Global};
 
-/// Takes out what stands at a place. Fails only where a piece was shared and memory is wanting, and the text
-/// is then as it was.
+/// Removes a range. Fails only if a chunk is shared and an allocation fails; the text is then
+/// unchanged.
 pub(crate) fn remove_span(
     alloc: Global,
-    parts: &mut Vec<RopeChunk>,
+    chunks: &mut Vec<RopeChunk>,
     span: Span,
 ) -> Result<(), AllocError>
-    requires { IsByteRange (chunk_list_texts parts.old.items) span.first span.from span.last span.to }
-    ensures ok { OnOk result (concat (chunk_list_texts parts.new.items)
-        ≡ bytes_before (chunk_list_texts parts.old.items) span.first span.from
-        ++ bytes_after (chunk_list_texts parts.old.items) span.last span.to) }
-    ensures err { OnErr result (concat (chunk_list_texts parts.new.items) ≡ concat (chunk_list_texts parts.old.items)) }
-    ensures unique { All IsUniqueChunk parts.old.items → All IsUniqueChunk parts.new.items }
-    ensures chunks_bounded { AreBounded (chunk_list_texts parts.old.items)
-        → AreBounded (chunk_list_texts parts.new.items) }
-    ensures shared_on_err { OnErr result (All IsUniqueChunk parts.old.items → ⊥) }
+    requires { IsByteRange (chunk_list_texts chunks.old.items) span.first span.from span.last span.to }
+    ensures ok { OnOk result (concat (chunk_list_texts chunks.new.items)
+        ≡ bytes_before (chunk_list_texts chunks.old.items) span.first span.from
+        ++ bytes_after (chunk_list_texts chunks.old.items) span.last span.to) }
+    ensures err { OnErr result (concat (chunk_list_texts chunks.new.items)
+        ≡ concat (chunk_list_texts chunks.old.items)) }
+    ensures unique { All IsUniqueChunk chunks.old.items → All IsUniqueChunk chunks.new.items }
+    ensures chunks_bounded { AreBounded (chunk_list_texts chunks.old.items)
+        → AreBounded (chunk_list_texts chunks.new.items) }
+    ensures shared_on_err { OnErr result (All IsUniqueChunk chunks.old.items → ⊥) }
 {
-    make_chunk_unique(alloc, parts, span.first)?;
-    make_chunk_unique(alloc, parts, span.last)?;
+    make_chunk_unique(alloc, chunks, span.first)?;
+    make_chunk_unique(alloc, chunks, span.last)?;
     if span.first == span.last {
-        remove_within_chunk(parts, span.first, span.from, span.to);
+        remove_within_chunk(chunks, span.first, span.from, span.to);
     } else {
-        remove_across_chunks(parts, span);
+        remove_across_chunks(chunks, span);
     }
     Ok(())
 }
 
-// Makes a piece this owner's own.
-fn make_chunk_unique(alloc: Global, parts: &mut Vec<RopeChunk>, at: usize) -> Result<(), AllocError>
-    requires { at < length parts.old.items }
-    ensures unchanged { chunk_list_texts parts.new.items ≡ chunk_list_texts parts.old.items }
-    ensures here { OnOk result (HoldsAt IsUniqueChunk parts.new.items at) }
-    ensures others_unchanged { (k : ℕ) → HoldsAt IsUniqueChunk parts.old.items k
-        → HoldsAt IsUniqueChunk parts.new.items k }
-    ensures unique { All IsUniqueChunk parts.old.items → All IsUniqueChunk parts.new.items }
-    ensures chunks_bounded { AreBounded (chunk_list_texts parts.old.items)
-        → AreBounded (chunk_list_texts parts.new.items) }
-    ensures shared_on_err { OnErr result (All IsUniqueChunk parts.old.items → ⊥) }
+// Makes a chunk unique.
+fn make_chunk_unique(
+    alloc: Global,
+    chunks: &mut Vec<RopeChunk>,
+    at: usize,
+) -> Result<(), AllocError>
+    requires { at < length chunks.old.items }
+    ensures unchanged { chunk_list_texts chunks.new.items ≡ chunk_list_texts chunks.old.items }
+    ensures here { OnOk result (HoldsAt IsUniqueChunk chunks.new.items at) }
+    ensures others_unchanged { (k : ℕ) → HoldsAt IsUniqueChunk chunks.old.items k
+        → HoldsAt IsUniqueChunk chunks.new.items k }
+    ensures unique { All IsUniqueChunk chunks.old.items → All IsUniqueChunk chunks.new.items }
+    ensures chunks_bounded { AreBounded (chunk_list_texts chunks.old.items)
+        → AreBounded (chunk_list_texts chunks.new.items) }
+    ensures shared_on_err { OnErr result (All IsUniqueChunk chunks.old.items → ⊥) }
 {
-    let done = parts[at].make_unique(alloc)?;
+    let done = chunks[at].make_unique(alloc)?;
     Ok(done)
 }
 
-// Takes bytes out of one piece.
-fn remove_within_chunk(parts: &mut Vec<RopeChunk>, at: usize, from: usize, to: usize)
-    requires range { IsByteRange (chunk_list_texts parts.old.items) at from at to }
-    requires unique { HoldsAt IsUniqueChunk parts.old.items at }
-    ensures bytes { concat (chunk_list_texts parts.new.items)
-        ≡ bytes_before (chunk_list_texts parts.old.items) at from ++ bytes_after
-        (chunk_list_texts parts.old.items) at to }
-    ensures unique { All IsUniqueChunk parts.old.items → All IsUniqueChunk parts.new.items }
-    ensures chunks_bounded { AreBounded (chunk_list_texts parts.old.items)
-        → AreBounded (chunk_list_texts parts.new.items) }
+// Removes bytes of one chunk.
+fn remove_within_chunk(chunks: &mut Vec<RopeChunk>, at: usize, from: usize, to: usize)
+    requires range { IsByteRange (chunk_list_texts chunks.old.items) at from at to }
+    requires unique { HoldsAt IsUniqueChunk chunks.old.items at }
+    ensures bytes { concat (chunk_list_texts chunks.new.items)
+        ≡ bytes_before (chunk_list_texts chunks.old.items) at from ++ bytes_after
+        (chunk_list_texts chunks.old.items) at to }
+    ensures unique { All IsUniqueChunk chunks.old.items → All IsUniqueChunk chunks.new.items }
+    ensures chunks_bounded { AreBounded (chunk_list_texts chunks.old.items)
+        → AreBounded (chunk_list_texts chunks.new.items) }
 {
-    parts[at].remove(from, to);
-    remove_empty_chunk(parts, at);
+    chunks[at].remove(from, to);
+    remove_empty_chunk(chunks, at);
 }
 
-// Takes the end of one piece, the beginning of a later one, and those in between.
-fn remove_across_chunks(parts: &mut Vec<RopeChunk>, span: Span)
-    requires range { IsByteRange (chunk_list_texts parts.old.items) span.first span.from span.last span.to }
+// Removes the end of one chunk, the beginning of a later one, and the chunks between them.
+fn remove_across_chunks(chunks: &mut Vec<RopeChunk>, span: Span)
+    requires range { IsByteRange (chunk_list_texts chunks.old.items) span.first span.from span.last span.to }
     requires apart { span.first < span.last }
-    requires first { HoldsAt IsUniqueChunk parts.old.items span.first }
-    requires last { HoldsAt IsUniqueChunk parts.old.items span.last }
-    ensures bytes { concat (chunk_list_texts parts.new.items)
-        ≡ bytes_before (chunk_list_texts parts.old.items) span.first span.from
-        ++ bytes_after (chunk_list_texts parts.old.items) span.last span.to }
-    ensures unique { All IsUniqueChunk parts.old.items → All IsUniqueChunk parts.new.items }
-    ensures chunks_bounded { AreBounded (chunk_list_texts parts.old.items)
-        → AreBounded (chunk_list_texts parts.new.items) }
+    requires first { HoldsAt IsUniqueChunk chunks.old.items span.first }
+    requires last { HoldsAt IsUniqueChunk chunks.old.items span.last }
+    ensures bytes { concat (chunk_list_texts chunks.new.items)
+        ≡ bytes_before (chunk_list_texts chunks.old.items) span.first span.from
+        ++ bytes_after (chunk_list_texts chunks.old.items) span.last span.to }
+    ensures unique { All IsUniqueChunk chunks.old.items → All IsUniqueChunk chunks.new.items }
+    ensures chunks_bounded { AreBounded (chunk_list_texts chunks.old.items)
+        → AreBounded (chunk_list_texts chunks.new.items) }
 {
-    let len = parts[span.first].as_str().len();
-    parts[span.first].remove(span.from, len);
-    parts[span.last].remove(0, span.to);
-    remove_chunks_between(parts, span.first + 1, span.last);
-    remove_empty_chunk(parts, span.first + 1);
-    remove_empty_chunk(parts, span.first);
+    let len = chunks[span.first].as_str().len();
+    chunks[span.first].remove(span.from, len);
+    chunks[span.last].remove(0, span.to);
+    remove_chunks_between(chunks, span.first + 1, span.last);
+    remove_empty_chunk(chunks, span.first + 1);
+    remove_empty_chunk(chunks, span.first);
 }
 
-// Takes pieces out.
-fn remove_chunks_between(parts: &mut Vec<RopeChunk>, from: usize, to: usize)
+// Removes a range of chunks.
+fn remove_chunks_between(chunks: &mut Vec<RopeChunk>, from: usize, to: usize)
     requires order { from ≤ to }
-    requires in_range { to ≤ length parts.old.items }
-    ensures { parts.new.items ≡ remove_range parts.old.items from to }
+    requires in_range { to ≤ length chunks.old.items }
+    ensures { chunks.new.items ≡ remove_range chunks.old.items from to }
 {
-    drop(parts.drain(from..to));
+    drop(chunks.drain(from..to));
 }
 
-// Takes a piece out that has nothing left.
-fn remove_empty_chunk(parts: &mut Vec<RopeChunk>, at: usize)
-    requires { at < length parts.old.items }
-    ensures unchanged { concat (chunk_list_texts parts.new.items) ≡ concat (chunk_list_texts parts.old.items) }
-    ensures count { length parts.old.items ≤ length parts.new.items + 1 }
-    ensures unique { All IsUniqueChunk parts.old.items → All IsUniqueChunk parts.new.items }
-    ensures chunks_bounded { AreBounded (chunk_list_texts parts.old.items)
-        → AreBounded (chunk_list_texts parts.new.items) }
+// Removes the chunk if it is empty.
+fn remove_empty_chunk(chunks: &mut Vec<RopeChunk>, at: usize)
+    requires { at < length chunks.old.items }
+    ensures unchanged { concat (chunk_list_texts chunks.new.items) ≡ concat (chunk_list_texts chunks.old.items) }
+    ensures count { length chunks.old.items ≤ length chunks.new.items + 1 }
+    ensures unique { All IsUniqueChunk chunks.old.items → All IsUniqueChunk chunks.new.items }
+    ensures chunks_bounded { AreBounded (chunk_list_texts chunks.old.items)
+        → AreBounded (chunk_list_texts chunks.new.items) }
 {
-    if parts[at].as_str().is_empty() {
-        let _gone = parts.remove(at);
+    if chunks[at].as_str().is_empty() {
+        let _gone = chunks.remove(at);
     }
 }

@@ -1,4 +1,4 @@
-//! A text in pieces.
+//! The rope.
 ghost use Rattle.std.specs.Prelude.{◌≡◌, ◌<◌, true, false, is_some, length, min, nat_eq, string_bytes};
 ghost use Rattle.std.specs.Prelude.{IfOk, OnOk, OnErr, IfSome, IsTrue, IsFalse};
 ghost use Rattle.std.specs.List.{concat};
@@ -22,26 +22,31 @@ use crate::utf16::cut_at;
 use sdb_chunks::{Chunk, Iter, TryClone};
 use std::alloc::{AllocError, Global};
 
-/// A text in pieces of a few thousand bytes, each its owner's own or shared with copies. Offsets count UTF-16
-/// units.
+/// A text in chunks of at most 4,096 bytes, unique or shared with clones. Offsets are in UTF-16
+/// code units.
 #[derive(Drop)]
 pub struct Rope {
     repr: RopeRepr,
 }
 
-/// A short text is in one piece.
+/// The representation of a rope. A short text is in one chunk.
 #[derive(Drop)]
 pub enum RopeRepr {
-    /// One piece.
+    /// One chunk.
     Flat(SharedStr),
-    /// Any number of pieces.
+    /// A list of chunks.
     Chunks(Chunk<RopeChunk>),
-    /// Any number of pieces in groups, some of them shared.
+    /// Groups of chunks, some of them shared.
     Groups(Chunk<Chunk<RopeChunk>>),
 }
 
 impl Rope {
-    /// The text of these bytes. One of more than 4096 bytes is cut into pieces, for which memory is taken.
+    /// Creates a rope. A text of more than 4,096 bytes is split into chunks; a shorter one keeps
+    /// its memory.
+    ///
+    /// # Errors
+    ///
+    /// [`AllocError`] if an allocation fails, for a text of more than 4,096 bytes.
     pub fn new(alloc: Global, text: String) -> Result<Rope, AllocError>
         ensures ok { IfOk result (λ t. rope_bytes t ≡ string_bytes text) }
         ensures unique { IfOk result (λ t. is_unique_rope t ≡ true) }
@@ -49,9 +54,9 @@ impl Rope {
         ensures long { OnErr result (4096 < length (string_bytes text)) }
     {
         if text.len() > MAX_CHUNK_LEN {
-            let parts = split_chunks(alloc, text.as_str())?;
+            let chunks = split_chunks(alloc, text.as_str())?;
             return Ok(Rope {
-                repr: RopeRepr::Chunks(Chunk::Unique(parts)),
+                repr: RopeRepr::Chunks(Chunk::Unique(chunks)),
             });
         }
         Ok(Rope {
@@ -59,16 +64,20 @@ impl Rope {
         })
     }
 
-    /// A copy of this text, in pieces where it has more than 4096 bytes.
+    /// Creates a rope from a copy of the text, in chunks if it has more than 4,096 bytes.
+    ///
+    /// # Errors
+    ///
+    /// [`AllocError`] if an allocation fails.
     pub fn from_str(alloc: Global, text: &str) -> Result<Rope, AllocError>
         ensures ok { IfOk result (λ t. rope_bytes t ≡ text.now) }
         ensures unique { IfOk result (λ t. is_unique_rope t ≡ true) }
         ensures bound { IfOk result HasBoundedChunks }
     {
         if text.len() > MAX_CHUNK_LEN {
-            let parts = split_chunks(alloc, text)?;
+            let chunks = split_chunks(alloc, text)?;
             return Ok(Rope {
-                repr: RopeRepr::Chunks(Chunk::Unique(parts)),
+                repr: RopeRepr::Chunks(Chunk::Unique(chunks)),
             });
         }
         let chars = String::from_str(alloc, text)?;
@@ -77,39 +86,43 @@ impl Rope {
         })
     }
 
-    /// The allocator of its memory.
+    /// Returns the allocator.
     pub fn allocator(&self) -> Global {
         match &self.repr {
             RopeRepr::Flat(chars) => chars.allocator(),
-            RopeRepr::Chunks(parts) => parts.allocator(),
+            RopeRepr::Chunks(chunks) => chunks.allocator(),
             RopeRepr::Groups(groups) => groups.allocator(),
         }
     }
 
-    /// How many bytes it has, up to the limit. Where it has more, the rest isn't looked at.
+    /// Returns the number of bytes, at most the limit. It stops at the limit.
     pub fn bytes_up_to(&self, limit: u64) -> u64
         ensures { result ≡ min limit (length (rope_bytes self.now)) }
     {
         match &self.repr {
             RopeRepr::Flat(chars) => (chars.as_str().len() as u64).min(limit),
-            RopeRepr::Chunks(parts) => bytes_up_to(iter_chunks(parts), limit),
+            RopeRepr::Chunks(chunks) => bytes_up_to(iter_chunks(chunks), limit),
             RopeRepr::Groups(groups) => bytes_up_to(iter_groups(groups), limit),
         }
     }
 
-    /// The whole text, where it is in one piece; `None` where it isn't.
+    /// Returns the whole text if it is in one chunk, or `None`.
     pub fn as_str(&self) -> Option<&str>
         ensures text { IfSome result (λ s. s.now ≡ rope_bytes self.now) }
         ensures found { is_some result ≡ nat_eq (length (rope_texts self.now)) 1 }
     {
         match &self.repr {
             RopeRepr::Flat(chars) => Some(chars.as_str()),
-            RopeRepr::Chunks(parts) => single_chunk_str(iter_chunks(parts)),
+            RopeRepr::Chunks(chunks) => single_chunk_str(iter_chunks(chunks)),
             RopeRepr::Groups(groups) => single_chunk_str(iter_groups(groups)),
         }
     }
 
-    /// The whole text, in memory of its own.
+    /// Copies the whole text.
+    ///
+    /// # Errors
+    ///
+    /// [`AllocError`] if an allocation fails.
     pub fn to_string(&self, alloc: Global) -> Result<String, AllocError>
         ensures { IfOk result (λ s. string_bytes s ≡ rope_bytes self.now) }
     {
@@ -118,8 +131,8 @@ impl Rope {
                 let copy = String::from_str(alloc, chars.as_str())?;
                 Ok(copy)
             }
-            RopeRepr::Chunks(parts) => {
-                let copy = concat_chunks(alloc, iter_chunks(parts))?;
+            RopeRepr::Chunks(chunks) => {
+                let copy = concat_chunks(alloc, iter_chunks(chunks))?;
                 Ok(copy)
             }
             RopeRepr::Groups(groups) => {
@@ -129,8 +142,12 @@ impl Rope {
         }
     }
 
-    /// Puts a text at an offset of UTF-16 units. `false`, with the text unchanged, where the offset is inside
-    /// a pair or past the end.
+    /// Inserts a text at an offset in UTF-16 code units. Returns `false`, with the text unchanged,
+    /// if the offset is inside a surrogate pair or after the end.
+    ///
+    /// # Errors
+    ///
+    /// [`AllocError`] if an allocation fails. The text is then unchanged.
     pub fn insert(&mut self, alloc: Global, offset: u64, new: &str) -> Result<bool, AllocError>
         ensures ok { IfOk result (λ done. EditOutcome done (texts.insert_text offset new.now (rope_bytes self.old))
             (rope_bytes self.old) (rope_bytes self.new)) }
@@ -147,12 +164,12 @@ impl Rope {
                     chars.insert(alloc, at, new)?;
                     return Ok(true);
                 }
-                let parts = split_chunks_with(alloc, chars.as_str(), at, new)?;
-                self.repr = RopeRepr::Chunks(Chunk::Unique(parts));
+                let chunks = split_chunks_with(alloc, chars.as_str(), at, new)?;
+                self.repr = RopeRepr::Chunks(Chunk::Unique(chunks));
                 Ok(true)
             }
-            RopeRepr::Chunks(parts) => {
-                let done = insert_into_chunks(alloc, parts, offset, new)?;
+            RopeRepr::Chunks(chunks) => {
+                let done = insert_into_chunks(alloc, chunks, offset, new)?;
                 Ok(done)
             }
             RopeRepr::Groups(groups) => {
@@ -162,8 +179,13 @@ impl Rope {
         }
     }
 
-    /// Takes a text out at an offset of UTF-16 units. `false`, with the text unchanged, where the offset is
-    /// inside a pair or past the end, or another text stands there. Takes memory only where something was shared.
+    /// Removes a text at an offset in UTF-16 code units. Returns `false`, with the text unchanged,
+    /// if the offset is inside a surrogate pair or after the end, or another text is there. It
+    /// allocates only if a part is shared.
+    ///
+    /// # Errors
+    ///
+    /// [`AllocError`] if an allocation fails. The text is then unchanged.
     pub fn remove(&mut self, alloc: Global, offset: u64, old: &str) -> Result<bool, AllocError>
         ensures ok { IfOk result (λ done. EditOutcome done (texts.remove_text offset old.now (rope_bytes self.old))
             (rope_bytes self.old) (rope_bytes self.new)) }
@@ -177,8 +199,8 @@ impl Rope {
                 let done = chars.remove_text(alloc, offset, old)?;
                 Ok(done)
             }
-            RopeRepr::Chunks(parts) => {
-                let done = remove_from_chunks(alloc, parts, offset, old)?;
+            RopeRepr::Chunks(chunks) => {
+                let done = remove_from_chunks(alloc, chunks, offset, old)?;
                 Ok(done)
             }
             RopeRepr::Groups(groups) => {
@@ -186,8 +208,8 @@ impl Rope {
                     return Ok(true);
                 }
                 match remove_across_groups(alloc, groups.items(), offset, old)? {
-                    Some(parts) => {
-                        self.repr = RopeRepr::Chunks(parts);
+                    Some(chunks) => {
+                        self.repr = RopeRepr::Chunks(chunks);
                         Ok(true)
                     }
                     None => Ok(false),
@@ -196,14 +218,14 @@ impl Rope {
         }
     }
 
-    /// Whether both are the same text, without memory.
+    /// Returns whether both texts are equal. It doesn't allocate.
     pub fn equals(&self, other: &Rope) -> bool
         ensures on_true { IsTrue result → rope_bytes self.now ≡ rope_bytes other.now }
         ensures on_false { IsFalse result → rope_bytes self.now ≡ rope_bytes other.now → ⊥ }
     {
         match &self.repr {
             RopeRepr::Flat(chars) => other.is_str(chars.as_str()),
-            RopeRepr::Chunks(parts) => other.is_concat_of(iter_chunks(parts)),
+            RopeRepr::Chunks(chunks) => other.is_concat_of(iter_chunks(chunks)),
             RopeRepr::Groups(groups) => other.is_concat_of(iter_groups(groups)),
         }
     }
@@ -214,29 +236,34 @@ impl Rope {
     {
         match &self.repr {
             RopeRepr::Flat(chars) => text == chars.as_str(),
-            RopeRepr::Chunks(parts) => chunks_equal_str(iter_chunks(parts), text),
+            RopeRepr::Chunks(chunks) => chunks_equal_str(iter_chunks(chunks), text),
             RopeRepr::Groups(groups) => chunks_equal_str(iter_groups(groups), text),
         }
     }
 
-    fn is_concat_of(&self, parts: Iter<'_, RopeChunk>) -> bool
-        ensures on_true { IsTrue result → concat (chunk_list_texts (remaining_items parts.entry))
+    fn is_concat_of(&self, chunks: Iter<'_, RopeChunk>) -> bool
+        ensures on_true { IsTrue result → concat (chunk_list_texts (remaining_items chunks.entry))
             ≡ rope_bytes self.now }
         ensures on_false { IsFalse result
-            → concat (chunk_list_texts (remaining_items parts.entry)) ≡ rope_bytes self.now
+            → concat (chunk_list_texts (remaining_items chunks.entry)) ≡ rope_bytes self.now
             → ⊥ }
     {
         match &self.repr {
-            RopeRepr::Flat(chars) => chunks_equal_str(parts, chars.as_str()),
-            RopeRepr::Chunks(others) => chunks_equal(parts, iter_chunks(others)),
-            RopeRepr::Groups(groups) => chunks_equal(parts, iter_groups(groups)),
+            RopeRepr::Flat(chars) => chunks_equal_str(chunks, chars.as_str()),
+            RopeRepr::Chunks(others) => chunks_equal(chunks, iter_chunks(others)),
+            RopeRepr::Groups(groups) => chunks_equal(chunks, iter_groups(groups)),
         }
     }
 
-    /// The same text, all of it shared, so that the next copy is a pointer. It costs what isn't shared yet.
+    /// Clones the rope so that the clone is frozen: its next clone is a pointer. Only parts that
+    /// aren't shared yet are copied.
+    ///
+    /// # Errors
+    ///
+    /// [`AllocError`] if an allocation fails.
     pub fn frozen_clone(&self, alloc: Global) -> Result<Rope, AllocError>
         ensures bytes { IfOk result (λ t. rope_bytes t ≡ rope_bytes self.now) }
-        ensures parts { IfOk result (λ t. rope_texts t ≡ rope_texts self.now) }
+        ensures chunks { IfOk result (λ t. rope_texts t ≡ rope_texts self.now) }
         ensures shared { IfOk result (λ t. is_shared_rope t ≡ true) }
     {
         match &self.repr {
@@ -246,8 +273,8 @@ impl Rope {
                     repr: RopeRepr::Flat(copy),
                 })
             }
-            RopeRepr::Chunks(parts) => {
-                let copy = clone_shared_chunks(alloc, parts)?;
+            RopeRepr::Chunks(chunks) => {
+                let copy = clone_shared_chunks(alloc, chunks)?;
                 Ok(Rope {
                     repr: RopeRepr::Chunks(copy),
                 })
@@ -261,19 +288,22 @@ impl Rope {
         }
     }
 
-    /// Makes all of it shared in place, so that a copy of it is a pointer. Each piece that isn't shared yet is
-    /// moved, and takes memory for a pointer alone; many pieces are put into groups. After want of memory the text is
-    /// the same.
+    /// Freezes the rope in place, so that a clone is a pointer. Each chunk that isn't shared yet
+    /// takes one allocation for its pointer; many chunks are grouped.
+    ///
+    /// # Errors
+    ///
+    /// [`AllocError`] if an allocation fails. The text is then equal, but may be frozen in part.
     pub fn freeze(&mut self, alloc: Global) -> Result<(), AllocError>
-        ensures parts { rope_texts self.new ≡ rope_texts self.old }
+        ensures chunks { rope_texts self.new ≡ rope_texts self.old }
         ensures shared { OnOk result (is_shared_rope self.new ≡ true) }
     {
         match &mut self.repr {
             RopeRepr::Flat(chars) => chars.freeze(alloc),
-            RopeRepr::Chunks(parts) => {
-                freeze_chunks(alloc, parts)?;
-                if parts.len() > MIN_GROUP {
-                    let groups = into_groups(alloc, parts.items())?;
+            RopeRepr::Chunks(chunks) => {
+                freeze_chunks(alloc, chunks)?;
+                if chunks.len() > MIN_GROUP {
+                    let groups = into_groups(alloc, chunks.items())?;
                     self.repr = RopeRepr::Groups(groups);
                 }
                 Ok(())
@@ -282,13 +312,13 @@ impl Rope {
         }
     }
 
-    /// Whether a copy of it is a pointer.
+    /// Returns whether a clone is a pointer.
     pub fn is_shared(&self) -> bool
         ensures { result ≡ is_shared_rope self.now }
     {
         match &self.repr {
             RopeRepr::Flat(chars) => chars.is_shared(),
-            RopeRepr::Chunks(parts) => !parts.is_unique(),
+            RopeRepr::Chunks(chunks) => !chunks.is_unique(),
             RopeRepr::Groups(groups) => !groups.is_unique(),
         }
     }
@@ -310,8 +340,8 @@ impl TryClone for Rope {
                     repr: RopeRepr::Flat(copy),
                 })
             }
-            RopeRepr::Chunks(parts) => {
-                let copy = parts.try_clone(alloc)?;
+            RopeRepr::Chunks(chunks) => {
+                let copy = chunks.try_clone(alloc)?;
                 Ok(Rope {
                     repr: RopeRepr::Chunks(copy),
                 })

@@ -1,4 +1,4 @@
-//! One piece of a text.
+//! A chunk of a rope.
 ghost use Rattle.std.specs.Prelude.{◌≡◌};
 ghost use Rattle.sdb_rope.specs.SharedStr.{str_bytes};
 ghost use Rattle.sdb_rope.specs.Utf16 as texts;
@@ -8,7 +8,7 @@ use crate::utf16::units;
 use sdb_chunks::TryClone;
 use std::alloc::{AllocError, Global};
 
-/// Some of a text, and how many UTF-16 units it has.
+/// A part of a text with its length in UTF-16 code units.
 #[derive(Drop)]
 pub struct RopeChunk {
     units: u64,
@@ -44,7 +44,7 @@ impl RopeChunk {
         self.units
     }
 
-    /// Makes the bytes this owner's own. Fails only where they were shared and memory is wanting.
+    /// Makes the bytes unique. Fails only if they are shared and an allocation fails.
     pub(crate) fn make_unique(&mut self, alloc: Global) -> Result<(), AllocError>
         ensures same { chunk_bytes self.new ≡ chunk_bytes self.old }
         ensures unique { OnOk result (is_unique_rope_chunk self.new ≡ true) }
@@ -55,7 +55,7 @@ impl RopeChunk {
         done
     }
 
-    /// Puts a text before a byte.
+    /// Inserts a text at a byte.
     pub(crate) fn insert(&mut self, alloc: Global, at: usize, new: &str) -> Result<(), AllocError>
         requires { IsSplitPoint (chunk_bytes self.old) at }
         ensures ok { OnOk result (chunk_bytes self.new ≡ insert_slice (chunk_bytes self.old) at new.now) }
@@ -67,7 +67,7 @@ impl RopeChunk {
         Ok(())
     }
 
-    /// Takes the bytes from one place to another out.
+    /// Removes a range of bytes.
     pub(crate) fn remove(&mut self, from: usize, to: usize)
         requires unique { is_unique_rope_chunk self.old ≡ true }
         requires order { from ≤ to }
@@ -81,7 +81,7 @@ impl RopeChunk {
         self.units -= gone;
     }
 
-    /// The same bytes, shared.
+    /// Clones the chunk so that the clone is shared.
     pub(crate) fn frozen_clone(&self, alloc: Global) -> Result<RopeChunk, AllocError>
         ensures { IfOk result (λ p. chunk_bytes p ≡ chunk_bytes self.now) }
     {
@@ -91,7 +91,7 @@ impl RopeChunk {
         })
     }
 
-    /// Makes the bytes shared in place.
+    /// Freezes the bytes in place.
     pub(crate) fn freeze(&mut self, alloc: Global) -> Result<(), AllocError>
         ensures { chunk_bytes self.new ≡ chunk_bytes self.old }
     {

@@ -1,4 +1,4 @@
-//! The bytes of a piece.
+//! The bytes of a chunk.
 ghost use Rattle.std.specs.Prelude.{length, ◌≡◌, ◌≤◌, true, false, string_bytes, IfOk, OnOk, OnErr};
 ghost use Rattle.std.specs.List.{insert_slice, remove_range};
 ghost use Rattle.std.specs.String.Boundary.{IsSplitPoint};
@@ -12,16 +12,16 @@ use std::alloc::{AllocError, Global};
 use std::mem::replace;
 use std::sync::Arc;
 
-/// Some of a text.
+/// A part of a text, unique or shared.
 #[derive(Drop)]
 pub enum SharedStr {
-    /// Of one owner.
+    /// Unique.
     Unique(String),
-    /// Of as many as have the pointer.
+    /// Shared by reference count.
     Shared(Arc<String>),
 }
 
-// The same bytes, with room for so many more.
+// Copies the bytes, with spare capacity.
 fn with_capacity_of(alloc: Global, text: &str, room: usize) -> Result<String, AllocError>
     ensures { IfOk result (λ s. string_bytes s ≡ text.now) }
 {
@@ -40,7 +40,7 @@ impl SharedStr {
         }
     }
 
-    /// Makes the bytes this owner's own. Fails only where they were shared and memory is wanting.
+    /// Makes the bytes unique. Fails only if they are shared and an allocation fails.
     pub(crate) fn make_unique(&mut self, alloc: Global) -> Result<(), AllocError>
         ensures same { str_bytes self.new ≡ str_bytes self.old }
         ensures unique { OnOk result (is_unique_str self.new ≡ true) }
@@ -50,7 +50,7 @@ impl SharedStr {
         self.make_unique_with_capacity(alloc, 0)
     }
 
-    // The same, where so many bytes are going to be put in: a copy has room for them.
+    // Makes the bytes unique; a copy has this spare capacity.
     fn make_unique_with_capacity(&mut self, alloc: Global, room: usize) -> Result<(), AllocError>
         ensures unchanged { str_bytes self.new ≡ str_bytes self.old }
         ensures unique { OnOk result (is_unique_str self.new ≡ true) }
@@ -77,7 +77,7 @@ impl SharedStr {
         }
     }
 
-    /// Puts a text before a byte.
+    /// Inserts a text at a byte.
     pub(crate) fn insert(&mut self, alloc: Global, at: usize, new: &str) -> Result<(), AllocError>
         requires { IsSplitPoint (str_bytes self.old) at }
         ensures ok { OnOk result (str_bytes self.new ≡ insert_slice (str_bytes self.old) at new.now) }
@@ -92,7 +92,7 @@ impl SharedStr {
         Ok(())
     }
 
-    /// Takes the bytes from one place to another out.
+    /// Removes a range of bytes.
     pub(crate) fn remove(&mut self, from: usize, to: usize)
         requires unique { is_unique_str self.old ≡ true }
         requires order { from ≤ to }
@@ -109,8 +109,8 @@ impl SharedStr {
         }
     }
 
-    /// Takes a text out at an offset of UTF-16 units. `false`, with the bytes unchanged, where the offset is
-    /// inside a pair or past the end, or another text stands there.
+    /// Removes a text at an offset in UTF-16 code units. Returns `false`, with the bytes unchanged,
+    /// if the offset is inside a surrogate pair or after the end, or another text is there.
     pub(crate) fn remove_text(
         &mut self,
         alloc: Global,
@@ -135,7 +135,7 @@ impl SharedStr {
         Ok(true)
     }
 
-    /// The same bytes, shared: at the cost of a pointer where they are already.
+    /// Clones the bytes so that the clone is shared; by pointer if they are shared already.
     pub(crate) fn frozen_clone(&self, alloc: Global) -> Result<SharedStr, AllocError>
         ensures equal { IfOk result (λ c. str_bytes c ≡ str_bytes self.now) }
         ensures shared { IfOk result (λ c. is_shared_str c ≡ true) }
@@ -149,8 +149,8 @@ impl SharedStr {
         }
     }
 
-    /// Makes the bytes shared in place: they are moved, and memory is taken for the pointer alone, where they had
-    /// one owner.
+    /// Freezes the bytes in place. Unique bytes are moved, which takes one allocation for the
+    /// pointer.
     pub(crate) fn freeze(&mut self, alloc: Global) -> Result<(), AllocError>
         ensures unchanged { str_bytes self.new ≡ str_bytes self.old }
         ensures shared { OnOk result (is_shared_str self.new ≡ true) }
@@ -173,7 +173,7 @@ impl SharedStr {
         }
     }
 
-    /// Whether a copy of the bytes is a pointer.
+    /// Returns whether a clone is a pointer.
     pub(crate) fn is_shared(&self) -> bool
         ensures { result ≡ is_shared_str self.now }
     {
@@ -183,7 +183,7 @@ impl SharedStr {
         }
     }
 
-    /// The allocator of the bytes.
+    /// Returns the allocator of the bytes.
     pub(crate) fn allocator(&self) -> Global {
         match self {
             SharedStr::Unique(text) => *text.allocator(),

@@ -1,4 +1,4 @@
-//! Texts measured in UTF-16 units.
+//! Texts measured in UTF-16 code units.
 ghost use Rattle.std.specs.Prelude.{◌≡◌, ◌+◌, ◌*◌, ◌≤◌, ℕ, List, length, drop, IfSome, option_map};
 ghost use Rattle.std.specs.Char.Escape.{encode_utf16};
 ghost use Rattle.std.specs.List.{flat_map};
@@ -6,12 +6,10 @@ ghost use Rattle.std.specs.Str.{encode_utf8_all};
 ghost use Rattle.std.specs.String.Boundary.{IsSplitPoint};
 ghost use Rattle.sdb_rope.specs.Utf16.{utf16_width, units, cut_at};
 
-// How many bytes are measured at once: few enough that their units fit a `u16`, so that the loop
-// over them runs on many bytes at a time.
+// Number of bytes measured at once. Their code units fit a `u16`, so the loop can be vectorized.
 const SCAN_LEN: usize = 4096;
 
-/// How many UTF-16 units the text has: 1 for a character, 2 for one past U+FFFF. They are as many as
-/// its characters are encoded in.
+/// Returns the number of UTF-16 code units of a text: 1 for each character, 2 for one above U+FFFF.
 pub fn units(text: &str) -> u64
     ensures value { result ≡ units text.now }
     ensures encoded { (cs : List ℕ) → encode_utf8_all cs ≡ text.now → result ≡ length (flat_map encode_utf16 cs) }
@@ -27,10 +25,10 @@ pub fn units(text: &str) -> u64
     count + units_in(&bytes[start..])
 }
 
-/// The byte, from 0 to the text's length in bytes, where the character at an offset of UTF-16 units
-/// begins; the text may be split there. `None` where the offset is inside a pair or past the end.
+/// Returns the byte position of an offset in UTF-16 code units, which is a character boundary.
+/// Returns `None` if the offset is inside a surrogate pair or after the end.
 pub fn cut_at(text: &str, offset: u64) -> Option<usize>
-    ensures place { result ≡ cut_at text.now offset }
+    ensures position { result ≡ cut_at text.now offset }
     ensures boundary { IfSome result (λ at. IsSplitPoint text.now at) }
 {
     let bytes = text.as_bytes();
@@ -38,7 +36,7 @@ pub fn cut_at(text: &str, offset: u64) -> Option<usize>
     Some(start + walk_chars(&bytes[start..], left)?)
 }
 
-// The units of the characters that the bytes of a chunk begin.
+// Returns the code units of the characters that begin in these bytes.
 fn units_in(chunk: &[u8]) -> u64
     requires { length chunk.now ≤ 4096 }
     ensures value { result ≡ units chunk.now }
@@ -51,8 +49,8 @@ fn units_in(chunk: &[u8]) -> u64
     u64::from(count)
 }
 
-// Goes past whole chunks while their units are at most what is left of the offset: how many bytes,
-// and what is left then.
+// Skips whole blocks of `SCAN_LEN` bytes before the offset. Returns the bytes skipped and the
+// remaining offset.
 fn skip(bytes: &[u8], offset: u64) -> (usize, u64)
     ensures in_range { result.0 ≤ length bytes.now }
     ensures equal { cut_at bytes.now offset
@@ -71,9 +69,9 @@ fn skip(bytes: &[u8], offset: u64) -> (usize, u64)
     (start, left)
 }
 
-// The place of the cut, byte by byte.
+// Finds the position byte by byte.
 fn walk_chars(bytes: &[u8], offset: u64) -> Option<usize>
-    ensures place { result ≡ cut_at bytes.now offset }
+    ensures position { result ≡ cut_at bytes.now offset }
     ensures in_range { IfSome result (λ at. at ≤ length bytes.now) }
 {
     let mut left = offset;
@@ -87,7 +85,7 @@ fn walk_chars(bytes: &[u8], offset: u64) -> Option<usize>
     if left == 0 { Some(bytes.len()) } else { None }
 }
 
-// The units of the character that the byte begins, 0 where it begins none.
+// Returns the code units of the character that begins with this byte, 0 for a continuation byte.
 fn utf16_width(byte: u8) -> u16
     ensures value { result ≡ utf16_width byte }
     ensures bound { result ≤ 2 }

@@ -234,14 +234,14 @@ where
             ≡ self.old.pass_count + next_pass_number host.new }
         ensures pass_count { self.old.pass_count ≤ self.new.pass_count }
     {
-        let place = self.sessions.slot_for(state, stream)?;
+        let thread_slot = self.sessions.slot_for(state, stream)?;
         let Some(pass) = self.new_pass(state, host) else {
-            return Err(self.sessions.cancel_slot(place));
+            return Err(self.sessions.cancel_slot(thread_slot));
         };
         if state.is_logging() {
             log_begin(&rt, pass.number());
         }
-        if !self.sessions.start(rt, alloc, place, pass) {
+        if !self.sessions.start(rt, alloc, thread_slot, pass) {
             log_no_thread(&rt);
         }
         Ok(())

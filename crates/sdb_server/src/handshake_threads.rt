@@ -50,8 +50,8 @@ impl HandshakeThreads {
         };
         match spawn(rt, alloc, state, slot, stream, visit) {
             Some(handle) => {
-                if let Some(place) = self.handles.get_mut(slot) {
-                    *place = Some(handle);
+                if let Some(thread_slot) = self.handles.get_mut(slot) {
+                    *thread_slot = Some(handle);
                 }
                 true
             }

@@ -78,7 +78,7 @@ impl<R: Wait + Drop> SessionThreads<R> {
         state: &Arc<ServerState<R>, Global>,
         stream: TcpStream,
     ) -> Result<ThreadSlot<R>, TcpStream>
-        ensures state { IfOk result (λ place. place.state.value ≡ state.now.value) }
+        ensures state { IfOk result (λ thread_slot. thread_slot.state.value ≡ state.now.value) }
         ensures backend { SameBackends self.old self.new }
     {
         if !self.has_room() {
@@ -106,10 +106,10 @@ impl<R: Wait + Drop> SessionThreads<R> {
     }
 
     /// Frees the slot and returns its stream.
-    pub(crate) fn cancel_slot(&mut self, place: ThreadSlot<R>) -> TcpStream
+    pub(crate) fn cancel_slot(&mut self, thread_slot: ThreadSlot<R>) -> TcpStream
         ensures backend { SameBackends self.old self.new }
     {
-        let ThreadSlot { slot, stream, .. } = place;
+        let ThreadSlot { slot, stream, .. } = thread_slot;
         self.return_slot(slot);
         stream
     }
@@ -123,20 +123,26 @@ impl<R: Wait + Drop> SessionThreads<R> {
 
     /// Starts a thread that serves the client with the pass. Returns `false` and closes the
     /// connection if none can be started.
-    pub(crate) fn start(&mut self, rt: R, alloc: Global, place: ThreadSlot<R>, pass: Pass) -> bool
+    pub(crate) fn start(
+        &mut self,
+        rt: R,
+        alloc: Global,
+        thread_slot: ThreadSlot<R>,
+        pass: Pass,
+    ) -> bool
     where
         R: Net<Listener = TcpListener, Stream = TcpStream>,
         R: Threads + Clock + Copy + Send + Sync + 'static,
-        requires pass { IsPassOfBackend pass place.state.value.backend }
-        ensures backend { ThreadsOfBackend self.old place.state.value.backend
-            → ThreadsOfBackend self.new place.state.value.backend }
+        requires pass { IsPassOfBackend pass thread_slot.state.value.backend }
+        ensures backend { ThreadsOfBackend self.old thread_slot.state.value.backend
+            → ThreadsOfBackend self.new thread_slot.state.value.backend }
     {
         let ThreadSlot {
             slot,
             state: theirs,
             stream,
             spare,
-        } = place;
+        } = thread_slot;
         let promise = BackendPromise(Snapshot::of(&theirs.backend));
         let run = move || -> Served
             requires { IsPassOfBackend pass theirs.value.backend }
@@ -160,8 +166,8 @@ impl<R: Wait + Drop> SessionThreads<R> {
     fn insert_thread(&mut self, slot: usize, handle: PromisedHandle<Served, BackendPromise<R>>)
         ensures { ThreadsOfBackend self.old handle.promise.0.value → ThreadsOfBackend self.new handle.promise.0.value }
     {
-        if let Some(place) = self.handles.get_mut(slot) {
-            *place = Some(handle);
+        if let Some(thread_slot) = self.handles.get_mut(slot) {
+            *thread_slot = Some(handle);
         }
     }
 
@@ -203,7 +209,8 @@ impl<R: Wait + Drop> SessionThreads<R> {
     }
 
     fn take(&mut self, slot: usize) -> Option<PromisedHandle<Served, BackendPromise<R>>>
-        ensures handle { IfSome result (λ t. (b : BackendState R) → ThreadsOfBackend self.old b → t.promise.0.value ≡ b) }
+        ensures handle { IfSome result (λ t. (b : BackendState R) → ThreadsOfBackend self.old b
+            → t.promise.0.value ≡ b) }
         ensures backend { SameBackends self.old self.new }
     {
         self.handles.get_mut(slot)?.take()

@@ -1,4 +1,4 @@
-//! Clients at an address, for as long as it is asked for.
+//! Serving WebSocket clients at an address until a stop condition holds.
 ghost use Rattle.std.specs.Prelude.{IfOk};
 ghost use Rattle.sdb_backend.specs.AuditModel.{audit_logs};
 ghost use Rattle.sdb_backend.specs.PassModel.{IsHostOfBackend};
@@ -20,24 +20,24 @@ use std::thread::Threads;
 use std::time::Clock;
 use std::{io, thread};
 
-// How many bytes of an input are thrown away at a time.
+// The number of bytes of standard input discarded per read.
 const INPUT_CHUNK: usize = 4_096;
 
-/// How long clients are served.
+/// The condition that ends the serving of clients.
 #[derive(Clone, Copy, PartialEq, Eq, Drop)]
 pub enum StopCondition {
-    /// Without end.
+    /// No end.
     Never,
-    /// Until so many were served, from 1 to 1,000,000, and have gone.
+    /// The end of so many connections, from 1 to 1,000,000 on the command line.
     Served(u64),
-    /// Until the end of standard input.
+    /// The end of standard input.
     Eof {
-        /// Whether the dump of what is stored is written then.
+        /// Whether the dump of the stored documents is written at the end.
         is_dumping: bool,
     },
 }
 
-// Serves clients at the address.
+// Binds the address and serves clients there.
 pub(crate) fn serve_clients<R>(
     rt: R,
     address: SocketAddr,
@@ -60,7 +60,13 @@ where
     serve_at(rt, &listener, until, is_logging, table)
 }
 
-/// Serves the clients that come to the listener, for so long.
+/// Serves the clients of the listener until the stop condition holds, and returns the exit status.
+///
+/// # Errors
+///
+/// [`AllocError`] if an allocation fails before clients are served or for the count of the
+/// documents. The [`io::Error`](std::io::Error) of the listener, of starting a thread, or of
+/// printing a line.
 pub fn serve_at<R>(
     rt: R,
     listener: &TcpListener,
@@ -82,7 +88,7 @@ where
     }
 }
 
-// Serves so many clients, or without end.
+// Serves so many connections, or without end if there is no number.
 fn serve_count<R>(
     rt: R,
     listener: &TcpListener,
@@ -103,8 +109,13 @@ where
     Ok(STATUS_OK)
 }
 
-/// Serves the clients that come to the listener until the input ends, and tells on standard error how much was
-/// stored. Where a dump of it is asked for, that is all that is written to standard output.
+/// Serves the clients of the listener until the input ends, and prints the number of stored
+/// documents and operations to standard error. Returns the exit status. If a dump is requested,
+/// standard output holds the dump only.
+///
+/// # Errors
+///
+/// As [`serve_at`].
 pub fn serve_until_end<R, I>(
     rt: R,
     listener: &TcpListener,
@@ -136,7 +147,7 @@ where
     }
 }
 
-// Tells where clients are waited for: on standard error where a dump is all of standard output.
+// Prints the address of the listener, to standard error if standard output is for the dump.
 fn print_address<R: Print + Eprint>(
     rt: &R,
     listener: &TcpListener,
@@ -151,7 +162,7 @@ fn print_address<R: Print + Eprint>(
     Ok(())
 }
 
-// The server, with a log where one is asked for.
+// Creates the state of the server, with a log if requested.
 fn server<R: Wait + Drop>(
     alloc: Global,
     backend: Backend<R>,
@@ -164,7 +175,7 @@ fn server<R: Wait + Drop>(
     Ok(Arc::new(alloc, state)?)
 }
 
-// Reads to the end of the input, or to a failure.
+// Discards the input up to its end or a failed read.
 fn read_to_end<I: Read + Drop>(mut input: I) {
     let mut bytes = [0; INPUT_CHUNK];
     for _ in 0..u64::MAX {
@@ -177,7 +188,7 @@ fn read_to_end<I: Read + Drop>(mut input: I) {
     }
 }
 
-// Tells how a backend was closed, and gives the status.
+// Prints the outcome of closing a backend, and returns the exit status.
 fn print_close<R: AllocGlobal + Print + Eprint, W: Wait + Drop>(
     rt: &R,
     closed: Result<Audit, CloseRefused<W>>,
@@ -192,7 +203,8 @@ fn print_close<R: AllocGlobal + Print + Eprint, W: Wait + Drop>(
     }
 }
 
-// Tells how much is stored, writes its dump where that is asked for, and gives the status.
+// Prints the number of stored documents and operations, writes the dump if requested, and returns
+// the exit status.
 fn print_stored<R>(rt: &R, audit: &Audit, is_dumping: bool) -> anyhow::Result<u8>
 where
     R: AllocGlobal + Print + Eprint,
@@ -209,7 +221,7 @@ where
     }
 }
 
-// The documents of an audit.
+// The documents of a closed backend.
 #[derive(Drop)]
 struct AuditDocuments<'a> {
     audit: &'a Audit,
@@ -232,7 +244,7 @@ fn print_close_fault(rt: &impl Eprint, why: &str) -> anyhow::Result<u8> {
     Ok(STATUS_FAULT)
 }
 
-// How many documents there are, and how many operations are stored of them.
+// Returns the number of documents and of stored operations.
 fn count_stored(audit: &Audit) -> Result<(usize, u64), AllocError> {
     let keys = audit.documents()?;
     let mut operations: u64 = 0;

@@ -1,4 +1,4 @@
-//! The command line, and what it asks for.
+//! The command line and its options.
 use crate::clients::{StopCondition, serve_clients};
 use crate::projection_option::{ProjectionOptionError, table_of};
 use clap::builder::ValueParser;
@@ -15,10 +15,10 @@ use std::sync::Wait;
 use std::thread::Threads;
 use std::time::Clock;
 
-// The version that `--version` tells.
+// The version that `--version` prints.
 const VERSION: &str = "1.0.0";
 
-// The most connections that can be asked for.
+// The maximum of `--connections`.
 const CONNECTION_LIMIT: u64 = 1_000_000;
 
 fn command<'a>(alloc: Global) -> Result<Command<'a>, AllocError> {
@@ -100,48 +100,52 @@ fn projection_option<'a>(alloc: Global) -> Arg<'a> {
         .action(ArgAction::Append)
 }
 
-// One of the two jobs has to be asked for.
+// Exactly one of `--lines` and `--listen` is required.
 fn job_group<'a>(alloc: Global) -> Result<ArgGroup<'a>, AllocError> {
     let job = ArgGroup::new(alloc, "job").required(true);
     job.arg("lines")?.arg("listen")
 }
 
-/// What a command line asks for.
+/// The mode in which the server runs.
 #[derive(Clone, Copy, PartialEq, Eq, Drop)]
 pub enum RunMode {
-    /// The lines of one session.
+    /// One session of lines on standard input and output.
     Lines,
-    /// Clients at an address.
+    /// WebSocket clients at an address.
     Listen {
-        /// Where to listen.
+        /// The address to listen at.
         address: SocketAddr,
-        /// How long.
+        /// The condition that ends the run.
         until: StopCondition,
-        /// Whether the begin and the end of each session are told.
+        /// Whether the begin and the end of each session are logged.
         is_logging: bool,
     },
 }
 
-/// What the options of a command line are.
+/// The options of a command line.
 #[derive(Drop)]
 pub struct Options {
-    /// The job, or `None` where `--listen` has no address.
+    /// The mode, or `None` if `--listen` has no valid address.
     pub job: Option<RunMode>,
-    /// The projections, or why one of them is refused.
+    /// The projections, or the reason why one of them is refused.
     pub table: Result<Table, ProjectionOptionError>,
 }
 
-/// A run that is asked for, or the status where none is.
+/// The outcome of parsing a command line.
 #[derive(Drop)]
 pub enum ParsedArgs {
-    /// This job, with these projections.
+    /// A run in this mode with these projections.
     Run(RunMode, Table),
-    /// Nothing more, and the program is to end with this status.
+    /// No run; the program ends with this exit status.
     Help(u8),
 }
 
-/// The options of a command line, whose first word is the program's name. An error is what `clap` refuses,
-/// a call for help or for the version, or want of memory.
+/// Parses the options of a command line whose first word is the name of the program.
+///
+/// # Errors
+///
+/// The [`Error`] of `clap` for a refused command line, for `--help` and `--version`, and if an
+/// allocation fails.
 pub fn parse_options(alloc: Global, words: &[String]) -> Result<Options, Error> {
     let matches = command(alloc)?.try_get_matches_from(words)?;
     Ok(Options {
@@ -173,9 +177,13 @@ fn parse_stop_condition(matches: &ArgMatches<'_>) -> StopCondition {
     }
 }
 
-/// Does what the words of a command line ask for, and gives the status: 0 for a good end, for help and for the
-/// version, 1 for a fault, 2 for words that are refused. It fails where memory is wanting before the run, or a
-/// line can't be printed.
+/// Runs the program with the words of a command line, and returns the exit status. It is 0 for a
+/// complete run, help and version, 1 for a run that failed, and 2 for a refused command line.
+///
+/// # Errors
+///
+/// [`AllocError`] if an allocation fails before the run. The errors of [`serve_at`], or of printing
+/// a line.
 pub fn run<R>(rt: R, words: &[String]) -> anyhow::Result<u8>
 where
     R: AllocGlobal + Input<Reader = StdinLock<'static>> + Print + Eprint,
@@ -188,7 +196,12 @@ where
     }
 }
 
-/// What the words ask for. Words that are refused, or ask for no run, are answered.
+/// Parses the words of a command line. Prints help, the version or the refusal if they start no
+/// run.
+///
+/// # Errors
+///
+/// [`AllocError`] if an allocation fails, or the error of printing a line.
 pub fn parse_run<R>(rt: &R, words: &[String]) -> anyhow::Result<ParsedArgs>
 where
     R: AllocGlobal + Print + Eprint,
@@ -223,7 +236,7 @@ where
     }
 }
 
-// Says why the projections are refused. Want of memory is no refusal.
+// Prints the reason why the projections are refused, or returns an allocation failure as an error.
 fn refuse_projections<R>(rt: &R, refusal: ProjectionOptionError) -> anyhow::Result<u8>
 where
     R: AllocGlobal + Eprint,
@@ -235,7 +248,8 @@ where
     Ok(print_refusal(rt, text.as_str())?)
 }
 
-/// Answers the input, lines of one session, on standard output, by this clock, and gives the status.
+/// Serves one session whose messages are the lines of the input, writes the responses to standard
+/// output, and returns the exit status.
 pub fn answer_input<R, C, I>(rt: &R, clock: C, input: I, table: &Table) -> u8
 where
     R: AllocGlobal + Print,

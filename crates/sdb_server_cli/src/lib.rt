@@ -1,5 +1,5 @@
-//! The server's command line: what it asks for, how it is refused, and the run of it. The program is a few
-//! lines over this.
+//! The command line of the server: its options, its refusals, and the run of it. The program
+//! `sdb_server_main` calls only [`run`].
 #![tactic(auto)]
 
 mod clients;

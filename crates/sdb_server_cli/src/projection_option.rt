@@ -1,20 +1,20 @@
-//! The projections that a command line names.
+//! The projections given on a command line.
 use sdb_projection::{Projection, Table, TableFault};
 use sdb_wire::NAME_LIMIT;
 use std::alloc::{AllocError, Global};
 use std::collections::BTreeSet;
 use thiserror::Error;
 
-/// Why the projections of a command line are refused.
+/// The reason why the projections of a command line are refused.
 #[derive(Clone, Copy, Debug, PartialEq, Eq, Drop, Error)]
 pub enum ProjectionOptionError {
-    /// One is not of the form.
+    /// A projection that is not of the form `NAME=COLLECTION:FIELD,..`.
     #[error("error: a projection is NAME=COLLECTION:FIELD,..")]
     Form,
-    /// A name is empty or too long.
+    /// A name that is empty or longer than 200 bytes.
     #[error("error: the name of a projection and that of its collection have 1 to 200 bytes")]
     Name,
-    /// The table refuses it, or memory is wanting.
+    /// A projection that the table refuses, or an allocation failure.
     #[error("error: {0}")]
     Table(#[from] TableFault),
 }
@@ -25,8 +25,12 @@ impl From<AllocError> for ProjectionOptionError {
     }
 }
 
-/// The table of these projections, each `NAME=COLLECTION:FIELD,..`, or why the first of them that is refused
-/// is so.
+/// Returns the table of these projections, each of the form `NAME=COLLECTION:FIELD,..`.
+///
+/// # Errors
+///
+/// The [`ProjectionOptionError`] of the first refused projection: `Form`, `Name` or `Table`.
+/// `Table` holds [`TableFault::OutOfMemory`] if an allocation fails.
 pub fn table_of(alloc: Global, texts: &[&str]) -> Result<Table, ProjectionOptionError> {
     let mut table = Table::new(alloc);
     for text in texts {
@@ -35,7 +39,7 @@ pub fn table_of(alloc: Global, texts: &[&str]) -> Result<Table, ProjectionOption
     Ok(table)
 }
 
-// A projection as it is named: cut at the first `=`, then the first `:`, then each `,`.
+// Splits a projection at the first `=`, then at the first `:`, then at each `,`.
 fn projection_of(alloc: Global, text: &str) -> Result<Projection, ProjectionOptionError> {
     let Some((name, rest)) = text.split_once('=') else {
         return Err(ProjectionOptionError::Form);
@@ -57,7 +61,7 @@ fn name_of(alloc: Global, text: &str) -> Result<String, ProjectionOptionError> {
     Ok(String::from_str(alloc, text)?)
 }
 
-// An empty piece is no field.
+// Empty pieces are skipped.
 fn fields_of(alloc: Global, text: &str) -> Result<BTreeSet<String>, AllocError> {
     let mut fields = BTreeSet::new(alloc);
     for piece in text.split(',') {

@@ -1,4 +1,4 @@
-//! Command lines, what they are answered, and the statuses of runs.
+//! Tests of command lines, their output and the exit statuses of runs.
 use sdb_cli::terminal::{TerminalBuffer, argument_list};
 use sdb_cli::{STATUS_FAULT, STATUS_OK, STATUS_USAGE};
 use sdb_projection::{Projection, Table, TableFault};
@@ -21,7 +21,7 @@ fn asked(rt: &impl Abort, alloc: Global, line: &str) -> Option<Options> {
     parse_options(alloc, words_of(rt, alloc, line).as_slice()).ok()
 }
 
-// How many fields the projection shows.
+// Returns the number of fields of a projection.
 fn shown_by(table: &Table, name: &str) -> Option<usize> {
     let projection: Option<&Projection> = table.find(name);
     Some(projection?.fields.len())
@@ -36,7 +36,7 @@ fn command_lines(rt: HostRuntime) {
     assert!(rt; shown_by(&table, "t") == Some(2) && shown_by(&table, "u") == Some(1));
 }
 
-// The port, how long, and whether with a log, where a command line asks to listen.
+// Returns the port, the stop condition and the log flag of a command line with `--listen`.
 fn asked_to_listen(
     rt: &impl Abort,
     alloc: Global,
@@ -99,14 +99,14 @@ fn addresses_and_how_long(rt: HostRuntime) {
     }
 }
 
-// The text, with so many times this letter behind it.
+// Appends a letter so many times.
 fn add(rt: &impl Abort, text: &mut String, letter: char, count: usize) {
     for _ in 0..count {
         text.push(letter).expect(rt, "out of memory");
     }
 }
 
-// A projection whose name and whose collection's name are so long, and that shows the field x.
+// Returns a projection with the field x and names of these lengths in bytes.
 fn named(rt: &impl Abort, alloc: Global, name: usize, collection: usize) -> String {
     let mut text = String::new(alloc);
     add(rt, &mut text, 'p', name);
@@ -117,7 +117,7 @@ fn named(rt: &impl Abort, alloc: Global, name: usize, collection: usize) -> Stri
     text
 }
 
-// Why a projection is refused.
+// Returns the reason why a projection is refused.
 fn refusal_of(alloc: Global, text: &str) -> Option<ProjectionOptionError> {
     table_of(alloc, &[text]).err()
 }
@@ -160,7 +160,7 @@ const NO_FORM: &str = "error: a projection is NAME=COLLECTION:FIELD,..\n";
 const NO_NAME: &str =
     "error: the name of a projection and that of its collection have 1 to 200 bytes\n";
 
-// The status of a command line that asks for no run.
+// Returns the exit status of a command line that starts no run.
 fn status_of(rt: &impl Abort, terminal: &TerminalBuffer, words: &[String]) -> Option<u8> {
     match parse_run(terminal, words).expect(rt, "out of memory") {
         ParsedArgs::Run(..) => None,
@@ -168,8 +168,7 @@ fn status_of(rt: &impl Abort, terminal: &TerminalBuffer, words: &[String]) -> Op
     }
 }
 
-// How a command line that asks for no run is answered: the status, and what is printed on standard output and on
-// standard error.
+// Returns the exit status, standard output and standard error of a command line that starts no run.
 fn answered(rt: &impl Abort, alloc: Global, line: &str) -> (Option<u8>, String, String) {
     let given = words_of(rt, alloc, line);
     let terminal = TerminalBuffer::new(alloc);
@@ -177,8 +176,8 @@ fn answered(rt: &impl Abort, alloc: Global, line: &str) -> (Option<u8>, String, 
     (status, terminal.out.into_inner(), terminal.err.into_inner())
 }
 
-// A refused command line is one line on standard error, which begins like this. The command line is looked at first,
-// then the address, then the projections in their order.
+// Each refusal is one line on standard error. The options are checked first, then the address, then
+// the projections in order.
 #[test]
 fn command_lines_that_are_refused(rt: HostRuntime) {
     for (line, told) in [
@@ -232,7 +231,7 @@ fn help_and_the_version_are_printed(rt: HostRuntime) {
 
 const TWO_LINES: &[u8] = b"one\ntwo\n";
 
-// A server that nobody is to come to, and one whose input has ended.
+// A server for 0 connections, and one whose input has ended.
 #[test]
 fn servers_that_end(rt: HostRuntime) {
     let listener = TcpListener::bind(&rt, "127.0.0.1:0").expect(&rt, "a port");
@@ -265,7 +264,7 @@ fn a_port_that_is_taken(rt: HostRuntime) {
     assert!(rt; run(rt, given.as_slice()).ok() == Some(STATUS_FAULT));
 }
 
-// An input and an output that fail at once.
+// An input and an output on which each call fails.
 #[derive(Drop)]
 struct Broken {
     alloc: Global,
@@ -299,7 +298,7 @@ impl Alloc for Broken {
     }
 }
 
-// A clock that tells 0.
+// Returns a clock that always reads 0.
 fn no_clock(alloc: Global) -> ListClock {
     ListClock::new(Vec::new(alloc))
 }
@@ -309,7 +308,7 @@ const LINE: &[u8] = br#"{"a":"f","c":"b","d":"1"}"#;
 const FETCHED: &str = r#"{"a":"f","c":"b","d":"1","data":{"type":null,"v":0}}
 "#;
 
-// Whether the run over the input ends with this status, and what is printed ends like this.
+// Returns whether the run on the input ends with this status and its output with this text.
 fn ends_with(alloc: Global, input: impl io::Read + Drop, status: u8, told: &str) -> bool {
     let terminal = TerminalBuffer::new(alloc);
     answer_input(&terminal, no_clock(alloc), input, &Table::new(alloc)) == status

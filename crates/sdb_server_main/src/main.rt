@@ -1,5 +1,5 @@
-//! The server as a program: `--listen ADDR` serves WebSocket clients, `--lines` answers the lines of one
-//! session on standard input and output.
+//! The server program: `--listen ADDR` serves WebSocket clients, `--lines` serves one session of
+//! lines on standard input and output.
 #![tactic(auto)]
 
 #[cfg(test)]

@@ -1,4 +1,5 @@
-//! Clients over sockets. What can't be had, and what isn't answered as it has to be, ends the test.
+//! WebSocket clients over TCP sockets, for the tests. Each failure, and each response other than
+//! the expected one, ends the test.
 use std::alloc::Global;
 use std::net::{SocketAddr, TcpStream};
 use std::process::Abort;
@@ -11,11 +12,10 @@ pub(crate) const FIRST_OPENING: &str =
 
 pub(crate) type Client = WebSocket<TcpStream, RandomKeys<HostRuntime>>;
 
-// How long a client waits for a server that says nothing, in seconds. One that is right is never waited
-// for so long.
+// The read timeout of a client, in seconds, far above the time a correct server needs.
 const PATIENCE: u64 = 20;
 
-// A connection to the address, over which nothing was sent yet.
+// Opens a TCP connection to the address, with a read timeout.
 pub(crate) fn connect(abort: &impl Abort, rt: HostRuntime, address: SocketAddr) -> TcpStream {
     let stream = TcpStream::connect(&rt, address).expect(abort, "a connection");
     let patience = Some(Duration::from_secs(PATIENCE));
@@ -23,7 +23,7 @@ pub(crate) fn connect(abort: &impl Abort, rt: HostRuntime, address: SocketAddr) 
     stream
 }
 
-// A client at the address, whose handshake is done.
+// Connects a client to the address and completes the handshake.
 pub(crate) fn reach(
     abort: &impl Abort,
     rt: HostRuntime,
@@ -38,7 +38,8 @@ pub(crate) fn reach(
     }
 }
 
-// A client at the address, which has read the opening text. None where it is told to come again.
+// Connects a client and reads the opening message. Returns `None` if the server closes with code
+// 1013.
 pub(crate) fn come(
     abort: &impl Abort,
     rt: HostRuntime,
@@ -55,7 +56,7 @@ pub(crate) fn come(
     None
 }
 
-// A client at the address, which has read the opening text.
+// Connects a client and reads the opening message.
 pub(crate) fn enter(
     abort: &impl Abort,
     rt: HostRuntime,
@@ -70,7 +71,7 @@ pub(crate) fn next_message(abort: &impl Abort, socket: &mut Client) -> Message {
     socket.read().ok().expect(abort, "a message")
 }
 
-// Whether a message is this text.
+// Returns whether a message is this text.
 fn is_text(message: &Message, wanted: &str) -> bool {
     match message {
         Message::Text(text) => text.as_str() == wanted,
@@ -78,7 +79,7 @@ fn is_text(message: &Message, wanted: &str) -> bool {
     }
 }
 
-// Whether a message is a close with this code.
+// Returns whether a message is a close with this code.
 fn is_close(message: &Message, wanted: CloseCode) -> bool {
     match message {
         Message::Close(Some(frame)) => frame.code == wanted,
@@ -86,12 +87,12 @@ fn is_close(message: &Message, wanted: CloseCode) -> bool {
     }
 }
 
-// Reads the next message, which has to be this text.
+// Reads the next message and requires that it is this text.
 pub(crate) fn expect(abort: &impl Abort, socket: &mut Client, wanted: &str) {
     assert!(abort; is_text(&next_message(abort, socket), wanted), "{wanted}");
 }
 
-// Reads the next message, which has to be a close with this code.
+// Reads the next message and requires that it is a close with this code.
 pub(crate) fn expect_close(abort: &impl Abort, socket: &mut Client, wanted: CloseCode) {
     assert!(abort; is_close(&next_message(abort, socket), wanted));
 }
@@ -101,7 +102,7 @@ pub(crate) fn say(abort: &impl Abort, alloc: Global, socket: &mut Client, text: 
     assert!(abort; socket.send(message).is_ok());
 }
 
-// Sends each text, and expects its answer.
+// Sends each text and requires the given response.
 pub(crate) fn ask(abort: &impl Abort, alloc: Global, socket: &mut Client, texts: &[(&str, &str)]) {
     for (text, answer) in texts {
         say(abort, alloc, socket, text);

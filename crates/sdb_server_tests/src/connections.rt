@@ -1,4 +1,5 @@
-//! Clients over sockets: two, many, large messages, requests that are no handshake, and when the server ends.
+//! Tests with clients over sockets: two or more clients, large messages, requests without a
+//! handshake, and the end of the server.
 ghost use Rattle.std.specs.Prelude.{IfOk};
 ghost use Rattle.sdb_backend.specs.PassModel.{IsHostOfBackend};
 ghost use Rattle.sdb_backend.specs.declared.pass.Host.{Host as HostState};
@@ -25,15 +26,15 @@ use std::time::{Clock, Duration};
 use std::{io, thread};
 use tungstenite::CloseCode;
 
-// How many clients are served at once, and how many come in all.
+// The number of clients served at once, and the number of connections in all.
 const SLOTS: u64 = 64;
 
 const ALL: u64 = 128;
 
-// How often a client comes to a server that has a slot for it before long.
+// The maximum number of attempts of a client to be served, or of reads until a close.
 const TRY_LIMIT: u64 = 1_000;
 
-// How many messages a client sends whose server must not end.
+// The number of requests during which the server must not end.
 const ROUNDS: u64 = 200;
 
 pub(crate) const FETCH: &str = r#"{"a":"f","c":"b","d":"1"}"#;
@@ -43,7 +44,8 @@ pub(crate) const FETCHED: &str = r#"{"a":"f","c":"b","d":"1","data":{"type":null
 const BADLY_FORMED: &str =
     r#"{"error":{"code":"ERR_MESSAGE_BADLY_FORMED","message":"message is badly formed"}}"#;
 
-// A server without documents and projections, whose sessions wait for so long at most.
+// Creates the state of a server without projections, with this maximum wait of a session in
+// milliseconds.
 fn server<R: Wait + Drop>(
     alloc: Global,
     backend: Backend<R>,
@@ -57,7 +59,7 @@ fn server<R: Wait + Drop>(
     Ok(Arc::new(alloc, state)?)
 }
 
-// Serves so many clients that come to the listener, by sessions that wait for so long at most.
+// Serves so many connections, with this maximum wait of a session in milliseconds.
 fn serve_clients<R>(
     rt: R,
     listener: &TcpListener,
@@ -103,7 +105,7 @@ pub(crate) const EDITED: &str = r#"{"a":"op","c":"b","d":"1","seq":1,"src":"y","
 pub(crate) const FOLLOWED: &str =
     r#"{"a":"op","c":"b","d":"1","op":[{"na":1,"p":["n"]}],"seq":1,"src":"y","v":1}"#;
 
-// The first client, which has created the document and follows it.
+// Connects the first client, which creates the document and subscribes to it.
 pub(crate) fn follow(
     abort: &impl Abort,
     rt: HostRuntime,
@@ -116,7 +118,7 @@ pub(crate) fn follow(
     client
 }
 
-// The second client edits the document that the first one follows, and goes.
+// Connects the second client, which edits the document of the subscriber and disconnects.
 fn edit(
     abort: &impl Abort,
     rt: HostRuntime,
@@ -129,7 +131,7 @@ fn edit(
     expect(abort, follower, FOLLOWED);
 }
 
-// A client that comes until it is served.
+// Connects a client, again and again until it is served.
 fn come_again(
     abort: &impl Abort,
     rt: HostRuntime,
@@ -156,7 +158,7 @@ fn leave(abort: &impl Abort, mut client: Client) {
     panic!(abort; "not closed by the server");
 }
 
-// A client in each slot.
+// Connects a client for each slot.
 fn enter_all(
     abort: &impl Abort,
     rt: HostRuntime,
@@ -172,14 +174,14 @@ fn enter_all(
     clients
 }
 
-// Some come while all slots are taken.
+// Checks that more clients are rejected while all slots are taken.
 fn be_sent_away(abort: &impl Abort, rt: HostRuntime, alloc: Global, address: SocketAddr) {
     for _ in 0..3 {
         assert!(abort; come(abort, rt, alloc, address, "").is_none());
     }
 }
 
-// Each leaves, and another one takes the slot and keeps it.
+// Closes each connection, and connects another client that takes and keeps the slot.
 fn take_turns(
     abort: &impl Abort,
     rt: HostRuntime,
@@ -196,14 +198,14 @@ fn take_turns(
     }
 }
 
-// All slots are taken, some are rejected, and then each slot is left and taken by another one.
+// Takes all slots, checks that more clients are rejected, and then replaces each client.
 fn fill_all_slots(abort: &impl Abort, rt: HostRuntime, alloc: Global, address: SocketAddr) {
     let clients = enter_all(abort, rt, alloc, address);
     be_sent_away(abort, rt, alloc, address);
     take_turns(abort, rt, alloc, address, clients);
 }
 
-// Sends a fetch of so many bytes.
+// Sends a fetch that is padded to this length in bytes.
 fn ask_padded(abort: &impl Abort, alloc: Global, client: &mut Client, length: usize, answer: &str) {
     let mut text = String::from_str(alloc, FETCH).expect(abort, "out of memory");
     for _ in text.len()..length {
@@ -225,7 +227,7 @@ fn send_large_messages(abort: &impl Abort, rt: HostRuntime, alloc: Global, addre
     expect_close(abort, &mut client, CloseCode::Size);
 }
 
-// Sends messages to a server that must not end meanwhile.
+// Sends requests to a server that must not end meanwhile.
 fn stay(
     abort: &impl Abort,
     rt: HostRuntime,
@@ -242,7 +244,7 @@ fn stay(
 
 const PLAIN_REQUEST: &[u8] = b"GET / HTTP/1.1\r\nHost: localhost\r\n\r\n";
 
-// What a request for no WebSocket is answered.
+// Returns the response to an HTTP request without an upgrade.
 fn answered_plainly(
     abort: &impl Abort,
     rt: HostRuntime,
@@ -256,7 +258,7 @@ fn answered_plainly(
     io::read_to_string(alloc, stream).expect(abort, "an answer")
 }
 
-// It is answered what this is, and the connection is closed.
+// The response is 426 with a text about the server, and the connection is then closed.
 fn ask_plainly(abort: &impl Abort, rt: HostRuntime, alloc: Global, address: SocketAddr) {
     let answer = answered_plainly(abort, rt, alloc, address);
     let parts = answer.as_str().split_once("\r\n\r\n");
@@ -268,7 +270,7 @@ fn ask_plainly(abort: &impl Abort, rt: HostRuntime, alloc: Global, address: Sock
     assert!(abort; is_said && is_refused && is_named && head.contains(length.as_str()));
 }
 
-// Who sends nothing, or no handshake, takes no number.
+// Connections without bytes or without a handshake do not count as sessions.
 fn come_oddly(abort: &impl Abort, rt: HostRuntime, alloc: Global, address: SocketAddr) {
     let silent = connect(abort, rt, address);
     ask_plainly(abort, rt, alloc, address);
@@ -278,7 +280,7 @@ fn come_oddly(abort: &impl Abort, rt: HostRuntime, alloc: Global, address: Socke
     drop(silent);
 }
 
-// What the clients of a server do.
+// The behavior of the clients of one server.
 #[derive(Clone, Copy, Drop)]
 enum Visit {
     EditAndFollow,
@@ -321,9 +323,9 @@ impl Visit {
     }
 }
 
-// Two clients edit one document; at most 64 are served, and each slot is given back; a message of a
-// megabyte is taken, and one of a byte more refused; the server waits for its clients, and for nobody else; who is
-// silent is told at once what is stored, and asked for a sign of life.
+// Covers edits by two clients, the limit of 64 clients and the reuse of slots. Also covers messages
+// of 1,048,576 bytes and of one byte more, the end of the server, and silent clients: they receive
+// operations at once, and pings.
 #[test]
 fn clients_over_sockets(rt: HostRuntime) {
     let alloc = rt.alloc();
@@ -350,7 +352,7 @@ fn clients_over_sockets(rt: HostRuntime) {
     }
 }
 
-// One client is silent, one follows what a third one edits, and the server is stopped, which doesn't wait for them.
+// Stops a server with one silent client and one subscriber, without a wait for either.
 fn be_stopped<R: Wait + Drop>(
     abort: &impl Abort,
     rt: HostRuntime,
@@ -368,7 +370,7 @@ fn be_stopped<R: Wait + Drop>(
     drop(silent);
 }
 
-// All passes come back from a server that is stopped, no queue is left, and what was stored is there.
+// A stopped server returns all passes, leaves no queue and keeps the stored operations.
 #[test]
 fn a_server_that_is_stopped(rt: HostRuntime) -> Result<(), Fail> {
     let alloc = rt.alloc();

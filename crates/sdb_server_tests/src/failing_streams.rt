@@ -1,5 +1,5 @@
-//! Sessions whose streams fail at any of their calls: what was stored stays, once, and no queue is left. And those
-//! whose streams bring a byte at a time.
+//! Tests of sessions whose streams fail at each call: an operation is stored once, and no queue is
+//! left. Also of streams that return one byte per read.
 ghost use Rattle.sdb_backend.specs.PassModel.{IsHostOfBackend, IsPassOfBackend};
 
 use crate::websocket_session::{
@@ -13,8 +13,7 @@ use std::io::{ErrorKind, Read, Write};
 use std::process::Abort;
 use std::sync::Wait;
 
-// The stream of a client that sends these bytes and takes what it is told, so many at a time, and fails
-// after so many calls.
+// A client's stream that transfers at most `at_once` bytes per call and fails after `calls` calls.
 #[derive(Drop)]
 struct Stream<'a> {
     bytes: &'a [u8],
@@ -33,7 +32,7 @@ impl<'a> Stream<'a> {
         }
     }
 
-    // Counts a call, unless it is one that fails.
+    // Counts a call, or fails if none is left.
     fn call(&mut self) -> io::Result<()> {
         if self.calls == 0 {
             return Err(io::Error::from(ErrorKind::ConnectionReset));
@@ -67,7 +66,7 @@ const CREATE: &str =
 
 const CREATED: &str = r#"{"a":"op","c":"b","d":"1","seq":1,"src":"x","v":0}"#;
 
-// The audit, once both are handed back.
+// Closes the backend with its host and both passes, and returns the audit.
 fn ended<R: Wait + Drop>(
     rt: &impl Abort,
     alloc: Global,
@@ -89,20 +88,20 @@ fn ended<R: Wait + Drop>(
     }
 }
 
-// Whether the document is made, by one entry, and no queue is open.
+// Returns whether the document has one entry and no queue is open.
 fn is_made_once(rt: &impl Abort, alloc: Global, audit: &Audit) -> bool {
     let key = document(rt, alloc);
     let log = audit.log(&key).expect(rt, "a document");
     log.len() == 1 && audit.queues() == 0
 }
 
-// Whether the one is a front of the other: behind the whole a close may be told.
+// Returns whether one list is a prefix of the other: a close may follow the complete output.
 fn agree(whole: &[u8], told: &[u8]) -> bool {
     whole.starts_with(told) || told.starts_with(whole)
 }
 
-// Whether a client is told a front of the whole, another one then has the same document acknowledged, and
-// it is stored once.
+// Returns whether a failing client receives a prefix of the output, a retry by another client is
+// acknowledged, and one entry is stored.
 fn is_stored_once<R: Wait + Drop + Copy>(
     abort: &impl Abort,
     alloc: Global,
@@ -140,7 +139,7 @@ fn a_client_whose_stream_fails(rt: HostRuntime) {
     }
 }
 
-// A text of so many bytes, as a client sends it, with the mask 0.
+// Returns a text frame of this payload length, as a client sends it, with mask 0.
 fn long_text(rt: &impl Abort, alloc: Global, length: u16) -> Vec<u8> {
     let mut frame = Vec::new(alloc);
     let (high, low) = ((length >> 8) as u8, (length % 256) as u8);
@@ -151,7 +150,7 @@ fn long_text(rt: &impl Abort, alloc: Global, length: u16) -> Vec<u8> {
     frame
 }
 
-// A client sends a message of so many bytes, a byte at a time.
+// The client sends a message one byte at a time.
 #[test]
 fn a_message_takes_a_thousand_reads_at_most(rt: HostRuntime) {
     let alloc = rt.alloc();

@@ -1,5 +1,5 @@
-//! Tests of the server's public calls, a module for each file of `sdb_server`. They stand in a crate of their own, so
-//! that the server isn't proved a second time for its tests.
+//! Tests of the public functions of the server, one module for each file of `sdb_server`. They are
+//! a separate crate so that the server is not proved again for its tests.
 #![tactic(auto)]
 
 #[cfg(test)]

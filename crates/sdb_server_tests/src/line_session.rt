@@ -1,5 +1,5 @@
-//! Sessions over lines whose streams fail, and by a clock that is known. What else they are answered is in the lines of
-//! the program.
+//! Tests of line sessions with failing streams and a list clock. Their other responses are tested
+//! by the lines of the program.
 use sdb_lines::{CountingReader, CountingWriter, RunFault};
 use sdb_oplog::Moment;
 use sdb_projection::Table;
@@ -8,7 +8,8 @@ use std::alloc::Global;
 use std::io;
 use std::io::{ErrorKind, Read, Write};
 
-// An output that takes seven bytes at a time, and fails after so many calls, as a full disk does.
+// An output that accepts seven bytes per call, and writes 0 bytes after so many calls, as with a
+// full disk.
 #[derive(Drop)]
 struct Output {
     bytes: Vec<u8>,
@@ -29,7 +30,7 @@ impl io::Write for Output {
     }
 }
 
-// An input that gives seven bytes at a time, and fails after so many calls.
+// An input that returns seven bytes per call and fails after so many calls.
 #[derive(Drop)]
 struct Input {
     bytes: &'static [u8],
@@ -54,7 +55,8 @@ const WHOLE: &str =
 {"a":"f","c":"b","d":"1","data":{"type":null,"v":0}}
 "#;
 
-// What is written for the fetch where the streams fail after so many calls, and the fault that ended the run.
+// Returns the output for the fetch, if the streams fail after so many calls, and the fault that
+// ended the run.
 fn run(alloc: Global, reads: usize, calls: usize) -> (Vec<u8>, Option<RunFault>) {
     let bytes = FETCH.as_bytes();
     let mut reader = CountingReader::new(Input {
@@ -68,7 +70,7 @@ fn run(alloc: Global, reads: usize, calls: usize) -> (Vec<u8>, Option<RunFault>)
     (writer.stream.bytes, ended.err())
 }
 
-// Whether the run ends with this fault, and a front of the whole is written.
+// Returns whether the run ends with this fault and the output is a prefix of the complete one.
 fn ends_with(alloc: Global, reads: usize, calls: usize, fault: RunFault) -> bool {
     let (written, ended) = run(alloc, reads, calls);
     ended == Some(fault) && WHOLE.as_bytes().starts_with(written.as_slice())
@@ -92,7 +94,8 @@ fn streams_that_fail(rt: HostRuntime) {
     assert!(rt; fault.is_none() && written.as_slice() == WHOLE.as_bytes());
 }
 
-// Three submissions, and reads at moments: the second one comes at a moment below that of the first.
+// Three submissions, the second with a clock reading below that of the first, and fetches by
+// timestamp.
 const MOMENTS: &str =
     r#"{"a":"op","c":"b","d":"1","src":"w","seq":1,"create":{"type":"json0","data":{"n":0}}}
 {"a":"op","c":"b","d":"1","src":"w","seq":2,"op":[{"p":["n"],"na":1}]}
@@ -112,7 +115,7 @@ const READS: &str = r#"{"a":"op","c":"b","d":"1","seq":3,"src":"w","v":2}
 {"a":"nt","data":{"n":2},"id":5,"type":"http://sharejs.org/types/JSONv0","v":3}
 "#;
 
-// What is written for lines at these moments.
+// Returns the output for these lines with this clock.
 fn written_by(alloc: Global, clock: ListClock, lines: &str) -> Vec<u8> {
     let mut reader = CountingReader::new(lines.as_bytes());
     let mut writer = CountingWriter::new(Vec::new(alloc));

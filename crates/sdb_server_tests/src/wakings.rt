@@ -1,4 +1,4 @@
-//! What clients see of how long a session waits.
+//! Tests of the wait of a session, as a client observes it.
 use crate::clients::{FIRST_OPENING, ask, enter, expect, next_message, reach, say};
 use crate::connections::{EDIT, EDITED, FETCH, FETCHED, FOLLOWED, SECOND_OPENING, follow};
 use std::alloc::Global;
@@ -7,22 +7,22 @@ use std::process::Abort;
 use std::time::{Duration, Instant};
 use tungstenite::Message;
 
-// How long sessions wait that nobody wakes, in milliseconds: for so long that a client sees it, or as they do by
-// themselves.
+// The maximum wait of a session in milliseconds: one long enough to be observed, the default, and a
+// short one.
 pub(crate) const LONG_WAIT_MS: u64 = 10_000;
 
 pub(crate) const USUAL_WAIT_MS: u64 = 20;
 
 pub(crate) const SHORT_WAIT_MS: u64 = 1;
 
-// Within this a session does what it has not to wait for.
+// The time within which a session does all that needs no wait.
 const SOON_MS: u64 = 4_000;
 
 pub(crate) fn now(abort: &impl Abort, rt: HostRuntime) -> Instant {
     Instant::now(&rt).expect(abort, "a clock")
 }
 
-// That little time has passed.
+// Checks that little time has passed.
 pub(crate) fn be_soon(abort: &impl Abort, rt: HostRuntime, began: Instant) {
     assert!(abort; now(abort, rt).duration_since(began) < Duration::from_millis(SOON_MS));
 }
@@ -35,7 +35,7 @@ const SECOND_EDITED: &str = r#"{"a":"op","c":"b","d":"1","seq":2,"src":"y","v":2
 const SECOND_FOLLOWED: &str =
     r#"{"a":"op","c":"b","d":"1","op":[{"na":2,"p":["n"]}],"seq":2,"src":"y","v":2}"#;
 
-// Who says nothing and follows a document is told of each edit when it is stored.
+// A silent subscriber receives each edit as soon as it is stored.
 pub(crate) fn be_told_at_once(
     abort: &impl Abort,
     rt: HostRuntime,
@@ -52,13 +52,14 @@ pub(crate) fn be_told_at_once(
     be_soon(abort, rt, began);
 }
 
-// Who says nothing is asked for a sign of life.
+// A silent client receives a ping.
 pub(crate) fn be_pinged(abort: &impl Abort, rt: HostRuntime, alloc: Global, address: SocketAddr) {
     let mut client = enter(abort, rt, alloc, address, FIRST_OPENING);
     assert!(abort; matches!(next_message(abort, &mut client), Message::Ping(_)));
 }
 
-// Who sends a text and the end of all that it sends at once is answered, and its session ends.
+// A client that sends a text and closes its sending side at once receives the response, and its
+// session ends.
 pub(crate) fn end_behind_a_message(
     abort: &impl Abort,
     rt: HostRuntime,

@@ -1,4 +1,4 @@
-//! Sessions whose clients are no sockets. What can't be had ends the test.
+//! Tests of WebSocket sessions over streams in memory. Each failure ends the test.
 ghost use Rattle.sdb_backend.specs.PassModel.{IsPassOfBackend};
 
 use sdb_backend::{Backend, Pass};
@@ -14,8 +14,8 @@ use std::process::Abort;
 use std::sync::Wait;
 use tungstenite::{NoMask, Role, WebSocket};
 
-// The stream of a client that is silent for so many reads, sends these bytes, is silent for so many
-// reads again, and is gone then. Before each read the reader is woken, or never.
+// A client's stream with `before` reads without bytes, then these bytes, then `behind` reads
+// without bytes, and then a reset. If `wakes` is set, each read is interrupted once before it.
 #[derive(Drop)]
 struct Peer<'a> {
     before: u64,
@@ -81,27 +81,27 @@ pub(crate) const SUBSCRIBED: &str = r#"{"a":"s","c":"b","d":"1","data":{"type":n
 pub(crate) const BADLY_FORMED: &str =
     r#"{"error":{"code":"ERR_MESSAGE_BADLY_FORMED","message":"message is badly formed"}}"#;
 
-// The first byte of a frame that is a whole message.
+// The first byte of an unfragmented text frame (RFC 6455).
 pub(crate) const TEXT: u8 = 0x81;
 
 const BINARY: u8 = 0x82;
 
 const PING_FRAME: &[u8] = &[0x89, 0];
 
-// A close with the code 1001.
+// A close frame with code 1001.
 pub(crate) const AWAY_FRAME: &[u8] = &[0x88, 2, 0x03, 0xE9];
 
-// A ping, and such a close.
+// A ping frame, and a close frame with code 1001.
 const PING_AND_AWAY: &[u8] = &[0x89, 0, 0x88, 2, 0x03, 0xE9];
 
-// A pong as a client sends it, with the mask 0.
+// A pong frame as a client sends it, with mask 0.
 const PONG_FRAME: &[u8] = &[0x8A, 0x80, 0, 0, 0, 0];
 
 pub(crate) fn add(rt: &impl Abort, frames: &mut Vec<u8>, bytes: &[u8]) {
     frames.extend_from_slice(bytes).expect(rt, "out of memory");
 }
 
-// Adds a frame with this first byte. What a client sends is masked, with the mask 0.
+// Appends a frame with this first byte, masked with mask 0 if a client sends it.
 fn add_frame(rt: &impl Abort, frames: &mut Vec<u8>, head: u8, is_sent: bool, payload: &str) {
     let length = u8::try_from(payload.len()).expect(rt, "a short payload");
     if is_sent {
@@ -112,7 +112,7 @@ fn add_frame(rt: &impl Abort, frames: &mut Vec<u8>, head: u8, is_sent: bool, pay
     add(rt, frames, payload.as_bytes());
 }
 
-// A frame for each, as a client sends it.
+// Returns one frame for each message, as a client sends them.
 pub(crate) fn sent(rt: &impl Abort, alloc: Global, messages: &[(u8, &str)]) -> Vec<u8> {
     let mut frames = Vec::new(alloc);
     for (head, text) in messages {
@@ -121,7 +121,7 @@ pub(crate) fn sent(rt: &impl Abort, alloc: Global, messages: &[(u8, &str)]) -> V
     frames
 }
 
-// A text for each, as a server sends it, and these bytes behind them.
+// Returns a text frame for each text, as a server sends them, followed by these bytes.
 pub(crate) fn told(rt: &impl Abort, alloc: Global, texts: &[&str], behind: &[u8]) -> Vec<u8> {
     let mut frames = Vec::new(alloc);
     for text in texts {
@@ -131,7 +131,7 @@ pub(crate) fn told(rt: &impl Abort, alloc: Global, texts: &[&str], behind: &[u8]
     frames
 }
 
-// A clock that tells these milliseconds, and 0 then.
+// Returns a clock that reads these milliseconds in order, and then 0.
 pub(crate) fn clock_of(rt: &impl Abort, alloc: Global, told: &[u64]) -> ListClock {
     let mut moments = Vec::new(alloc);
     for milliseconds in told {
@@ -141,7 +141,7 @@ pub(crate) fn clock_of(rt: &impl Abort, alloc: Global, told: &[u64]) -> ListCloc
     ListClock::new(moments)
 }
 
-// Serves a client with the pass by this clock, and gives back the pass and the client's stream.
+// Serves a client with the pass and this clock; returns the pass and the client's stream.
 pub(crate) fn attend<R: Wait + Drop, S: Read + Write + Drop>(
     rt: &R,
     alloc: Global,
@@ -160,7 +160,7 @@ pub(crate) fn attend<R: Wait + Drop, S: Read + Write + Drop>(
     (pass, socket.into_inner().into_inner())
 }
 
-// Serves the first client of a server by this clock, and gives back its stream.
+// Serves the first client of a new backend with this clock; returns the client's stream.
 pub(crate) fn attend_first<R: Wait + Drop + Copy, S: Read + Write + Drop>(
     abort: &impl Abort,
     alloc: Global,
@@ -173,7 +173,7 @@ pub(crate) fn attend_first<R: Wait + Drop + Copy, S: Read + Write + Drop>(
     attend(&rt, alloc, clock, &backend, pass, stream).1
 }
 
-// A wake-up is neither a silence nor a sign of life.
+// A wake-up counts neither as a silent read nor as a message.
 #[test]
 fn silent_clients(rt: HostRuntime) {
     let alloc = rt.alloc();
@@ -209,12 +209,12 @@ const ADD: &str =
 
 const READ: &str = r#"{"a":"nt","c":"b","d":"1","id":1,"ts":100}"#;
 
-// A binary message and the same as a text.
+// The same request as a binary and as a text message.
 const TWICE: &[(u8, &str)] = &[(BINARY, SUBSCRIBE), (TEXT, SUBSCRIBE)];
 
 const TOLD_OF_TWICE: &[&str] = &[OPENING, BADLY_FORMED, SUBSCRIBED];
 
-// An operation, a binary message, another operation, and a read at a moment.
+// An operation, a binary message, another operation, and a fetch by timestamp.
 const AT_MOMENTS: &[(u8, &str)] = &[
     (TEXT, CREATE),
     (BINARY, SUBSCRIBE),
@@ -222,7 +222,7 @@ const AT_MOMENTS: &[(u8, &str)] = &[
     (TEXT, READ),
 ];
 
-// The last operation is at a later moment than the one that is read at.
+// The last operation is later than the timestamp of the fetch.
 const TOLD_AT_MOMENTS: &[&str] = &[
     OPENING,
     r#"{"a":"op","c":"b","d":"1","seq":1,"src":"x","v":0}"#,
@@ -231,8 +231,8 @@ const TOLD_AT_MOMENTS: &[&str] = &[
     r#"{"a":"nt","data":{"n":0},"id":1,"type":"http://sharejs.org/types/JSONv0","v":1}"#,
 ];
 
-// A binary message is refused, and the clock is asked for it too: in the second row it is that one whose moment
-// is 90.
+// A binary message is refused, but the session reads the clock for it too. In the second row it
+// gets the moment 90.
 #[test]
 fn binary_messages_and_moments(rt: HostRuntime) {
     let alloc = rt.alloc();
@@ -249,7 +249,7 @@ fn binary_messages_and_moments(rt: HostRuntime) {
     }
 }
 
-// It tells milliseconds, of this century.
+// The system clock counts milliseconds since the beginning of 1970.
 #[test]
 fn the_clock_of_the_machine(rt: HostRuntime) {
     let milliseconds = SystemClock::new(&rt).now().milliseconds();
@@ -263,7 +263,7 @@ pub(crate) fn document(rt: &impl Abort, alloc: Global) -> Key {
     }
 }
 
-// The queue that is opened at the present.
+// Subscribes at the current version, and returns the queue.
 fn opened<R: Wait + Drop>(
     rt: &impl Abort,
     backend: &Backend<R>,
@@ -276,7 +276,7 @@ fn opened<R: Wait + Drop>(
     backend.subscribe(pass, key, None).expect(rt, "a queue").id
 }
 
-// Whether the queue is open.
+// Returns whether the queue is open.
 fn is_open<R: Wait + Drop>(
     rt: &impl Abort,
     backend: &Backend<R>,
@@ -291,14 +291,14 @@ fn is_open<R: Wait + Drop>(
     taken.expect(rt, "out of memory").is_some()
 }
 
-// The number of the first queue of a document, which is the same at every backend.
+// Returns the number of the first queue of a document, equal for all backends.
 fn first_queue<R: Wait + Drop>(abort: &impl Abort, alloc: Global, rt: R, key: &Key) -> SubId {
     let (backend, mut host) = Backend::new(alloc, rt).expect(abort, "out of memory");
     let mut pass = backend.enter(&mut host).expect(abort, "a pass");
     opened(abort, &backend, &mut pass, key)
 }
 
-// Its queue is gone, and another one is opened.
+// The queue of the session is closed, and a new one gets another number.
 #[test]
 fn a_session_that_has_ended_has_no_queue(rt: HostRuntime) {
     let (alloc, key) = (rt.alloc(), document(&rt, rt.alloc()));

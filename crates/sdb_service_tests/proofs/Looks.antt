@@ -1,4 +1,4 @@
--- Looks stay looks while logs grow.
+-- Looks stay valid while logs grow.
 use Rattle.std.proofs.Common.{◌≡◌, ℕ, List, inl, inr, sym, ◌∙◌, subst}
 use Rattle.sdb_oplog.specs.Plain.{PlainEntry, PlainSubmission}
 use Rattle.sdb_oplog.specs.Keys.{PlainKey, Logs, with_log}
@@ -19,13 +19,13 @@ grown_stays logs new k s now a e h =
     subst (λ (l : List PlainEntry). IsLook l a) (sym (value_of_updated logs new k (decide (logs k) s now).log e ∙ g.1))
     (is_look_extended (logs k) g.0 a h)
 
--- a decision makes a log longer, or leaves it
+-- a decision extends a log or leaves it unchanged
 pub decided_stays : (logs new : Logs) (k : PlainKey) (s : PlainSubmission) (now : ℕ) (r : PlainReply) (a : PlainAttempt)
     → DecidesOrOutOfMemory logs k s now r new → IsLook (logs k) a → IsLook (new k) a
 decided_stays logs new k s now r a (inl d) h = same_stays logs new k a d.1 h
 decided_stays logs new k s now r a (inr d) h = grown_stays logs new k s now a d.1 h
 
--- so does a commit that decides, and the work is the one that it was
+-- a commit that decides also keeps looks valid, and the work is unchanged
 pub committed_stays : (logs new : Logs) (k : PlainKey) (a w : PlainAttempt) (now : ℕ) (r : PlainReply)
     → CommitsOrOutOfMemory logs k a now (decided r) new → w ≡ a → IsLook (logs k) a → IsLook (new k) w
 committed_stays logs new k a w now r (inl d) e h =
@@ -33,7 +33,7 @@ committed_stays logs new k a w now r (inl d) e h =
 committed_stays logs new k a w now r (inr d) e h =
     subst (λ (x : PlainAttempt). IsLook (new k) x) (sym e) (grown_stays logs new k a.submission now a d.2 h)
 
--- a look that was taken
+-- a look at the present log is valid
 pub seen_now : (log : List PlainEntry) (s : PlainSubmission) (l : PlainLook) → l ≡ look_at log s
     → IsLook log (record { submission = s; look = l })
 seen_now log s l e = subst (λ (x : PlainLook). IsLook log (record { submission = s; look = x })) (sym e) (is_look_now log s)

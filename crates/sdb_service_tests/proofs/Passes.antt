@@ -1,4 +1,4 @@
--- Passes that are put behind others.
+-- Passes appended to a list of passes.
 use Rattle.std.proofs.Common.{List, [], ◌∷◌, ◌++◌}
 use Rattle.sdb_growlock.specs.LockRule.{ForEach}
 

@@ -1,4 +1,4 @@
-//! `sdb_backend`: what threads do at a backend.
+//! Tests of `sdb_backend`, also from several threads.
 ghost use Rattle.std.specs.Prelude.{◌≡◌};
 ghost use Rattle.sdb_backend.specs.PassModel.{pass_number, IsHostOfBackend, IsPassOfBackend};
 
@@ -16,18 +16,18 @@ use std::sync::Wait;
 use std::sync::atomic::{AtomicU64, Ordering};
 use std::thread;
 
-// How many edits each thread stores.
+// The number of edits of each thread.
 const EDITS: u64 = 10;
 
-// How many it stores where a queue follows them.
+// The number of edits of each thread when a queue receives them.
 const MANY: u64 = 100;
 
-// How many entries are taken at once there, at most, and how often.
+// The maximum number of entries per call of `take`, and the number of calls.
 const AT_ONCE: u64 = 7;
 
 const TAKES: u64 = 29;
 
-// A submission through the pass, whose source has the pass's number.
+// Returns a submission of the pass, whose source is x and the number of the pass.
 fn through(
     rt: &impl Abort,
     alloc: Global,
@@ -43,7 +43,7 @@ fn through(
     submission(rt, alloc, source.as_str(), seq, version, content, by)
 }
 
-// A backend, and two who have come.
+// A backend with its host and two passes.
 #[derive(Drop)]
 struct Room<R: Wait> {
     backend: Backend<R>,
@@ -68,7 +68,7 @@ fn opened<R: Wait + Drop>(abort: &impl Abort, alloc: Global, rt: R) -> Room<R>
     }
 }
 
-// Stores the document, as the first submission of the pass.
+// Stores the document as the first submission of the pass.
 fn create<R: Wait + Drop>(
     rt: &impl Abort,
     alloc: Global,
@@ -92,7 +92,7 @@ fn create<R: Wait + Drop>(
     assert!(rt; stored(&reply) == Some((0, 0)));
 }
 
-// The number of the document that is fetched.
+// Fetches the document and returns its number.
 fn fetched<R: Wait + Drop>(
     rt: &impl Abort,
     backend: &Backend<R>,
@@ -106,7 +106,7 @@ fn fetched<R: Wait + Drop>(
     counted(fetched.snapshot.as_ref())
 }
 
-// Adds one at this moment.
+// Adds 1 at this moment.
 fn add_at<R: Wait + Drop>(
     rt: &impl Abort,
     alloc: Global,
@@ -125,7 +125,7 @@ fn add_at<R: Wait + Drop>(
     assert!(rt; stored(&reply).is_some());
 }
 
-// The version at a moment, and the number there.
+// Returns the version at a moment and the number of the document there.
 fn at<R: Wait + Drop>(
     rt: &impl Abort,
     backend: &Backend<R>,
@@ -142,7 +142,7 @@ fn at<R: Wait + Drop>(
     (fetched.version, counted(fetched.snapshot.as_ref()))
 }
 
-// An old moment is replayed without the lock, the present one is lent whole.
+// An old version is replayed without the lock; the present one is a clone of the snapshot.
 #[test]
 fn documents_at_moments(rt: HostRuntime) {
     let alloc = rt.alloc();
@@ -164,8 +164,8 @@ fn documents_at_moments(rt: HostRuntime) {
     );
 }
 
-// Holds the first try until another submission was answered, for so many turns at most, and notes the
-// number of the last try.
+// A gate that records the number of the last try. It blocks the first try until another submission
+// is answered, with a bounded wait.
 #[derive(Drop)]
 struct Held<'a> {
     answered: &'a AtomicU64,
@@ -181,7 +181,7 @@ impl Gate for Held<'_> {
     }
 }
 
-// Waits until the number is as wanted, for so many turns at most.
+// Waits until the number has this value, for at most 1,000,000 iterations.
 fn wait_for(number: &AtomicU64, wanted: u64) {
     for _ in 0..1_000_000 {
         if number.load(Ordering::SeqCst) == wanted {
@@ -191,7 +191,8 @@ fn wait_for(number: &AtomicU64, wanted: u64) {
     }
 }
 
-// Submits while the other is held, and tells that it was answered. The pass, and where it is stored.
+// Submits while the other submission is blocked, and then releases it. Returns the pass, and the
+// version with the number of missed entries.
 fn submit_quick<R: Wait + Drop>(
     alloc: Global,
     backend: &Backend<R>,
@@ -219,7 +220,7 @@ fn submit_quick<R: Wait + Drop>(
     (pass, stored(&reply))
 }
 
-// Submits, held before the first try until the other was answered.
+// Submits with a gate that blocks the first try until the other submission is answered.
 fn submit_held<R: Wait + Drop>(
     alloc: Global,
     backend: &Backend<R>,
@@ -286,7 +287,7 @@ fn is_of(entry: &Entry, source: &str, seq: u64) -> bool {
     entry.arrived().src() == source && entry.arrived().seq() == seq
 }
 
-// Asserts that a fetch shows a later version, and the stored operations the submission's entry.
+// Checks that a fetch returns a later version, and that the log has the entry of the submission.
 fn read_back<R: Wait + Drop>(
     rt: &impl Abort,
     backend: &Backend<R>,
@@ -327,7 +328,7 @@ fn edit<R: Wait + Drop>(
     reply
 }
 
-// Stores the edits of one thread, made at version 1. The pass, and the replies.
+// Stores the edits of one thread, all with base version 1. Returns the pass and the replies.
 fn edit_all<R: Wait + Drop>(
     rt: &impl Abort,
     alloc: Global,
@@ -347,7 +348,7 @@ fn edit_all<R: Wait + Drop>(
     (pass, replies)
 }
 
-// Asserts that these are the log's entries from version 1 on.
+// Checks that these are the entries of the log from version 1 on.
 fn assert_missed(rt: &impl Abort, log: &Log, entries: &[Entry]) {
     let mut version: u64 = 0;
     for entry in entries {
@@ -357,7 +358,8 @@ fn assert_missed(rt: &impl Abort, log: &Log, entries: &[Entry]) {
     }
 }
 
-// Asserts that the log has the submission where the reply says, behind the entries that it had missed.
+// Checks that the log has the submission at the version of the reply, after the entries that the
+// reply lists as missed.
 fn assert_told(rt: &impl Abort, log: &Log, source: &str, seq: u64, reply: &Reply) {
     let Reply::Stored { v, missed } = reply else {
         panic!(rt; "not stored");
@@ -367,7 +369,7 @@ fn assert_told(rt: &impl Abort, log: &Log, source: &str, seq: u64, reply: &Reply
     assert_missed(rt, log, missed);
 }
 
-// Asserts that each reply is told by the log.
+// Checks each reply against the log.
 fn assert_all_told(rt: &impl Abort, log: &Log, source: &str, replies: &[Reply]) {
     let mut seq: u64 = 1;
     for reply in replies {
@@ -377,13 +379,13 @@ fn assert_all_told(rt: &impl Abort, log: &Log, source: &str, replies: &[Reply]) 
     assert!(rt; replies.len() as u64 == EDITS);
 }
 
-// The number that the log makes.
+// Replays the log and returns the number of the document.
 fn replayed(rt: &impl Abort, log: &Log) -> Option<i64> {
     let document = log.replay(log.len()).expect(rt, "out of memory");
     counted(document.as_ref())
 }
 
-// Asserts that the document has the edits of both, each as its replies tell.
+// Checks that the log has the edits of both threads, and checks each reply against it.
 fn assert_edited(rt: &impl Abort, audit: &Audit, key: &Key, ones: &[Reply], twos: &[Reply]) {
     let keys = audit.documents().expect(rt, "out of memory");
     assert!(rt; keys.len() == 1);
@@ -419,7 +421,7 @@ fn what_threads_store_is_read_back(rt: HostRuntime) {
     assert_edited(&rt, &audit, &key, ones.as_slice(), twos.as_slice());
 }
 
-// The audit, after a close without one of the passes that is refused.
+// Closes the backend, first without one of the passes, which is refused. Returns the audit.
 fn closed<R: Wait + Drop>(
     rt: &impl Abort,
     alloc: Global,
@@ -469,7 +471,7 @@ fn create_all<R: Wait + Drop>(
     }
 }
 
-// Asserts that the audit lists these ids, in this order, each with the log of one operation.
+// Checks that the audit has these ids, in this order, each with a log of one entry.
 fn assert_listed(rt: &impl Abort, audit: &Audit, ids: &[&str]) {
     let keys = audit.documents().expect(rt, "out of memory");
     assert!(rt; keys.len() == ids.len());
@@ -494,7 +496,7 @@ fn the_documents_of_all_shards_are_listed_in_order(rt: HostRuntime) {
     assert!(rt; audit.log(&key(&rt, alloc, "3")).is_none());
 }
 
-// A queue of the pass that takes all from the first entry on.
+// Opens a queue of the pass that starts at version 0.
 fn subscribed<R: Wait + Drop>(
     rt: &impl Abort,
     backend: &Backend<R>,
@@ -508,7 +510,7 @@ fn subscribed<R: Wait + Drop>(
     opened.expect(rt, "a queue").id
 }
 
-// Stores many edits of one thread, each at what is there now. The pass.
+// Stores many edits of one thread, without a base version. Returns the pass.
 fn store_many<R: Wait + Drop>(
     rt: &impl Abort,
     alloc: Global,
@@ -535,7 +537,7 @@ fn store_many<R: Wait + Drop>(
     pass
 }
 
-// Asserts that the entries are those from the version on: the version behind them.
+// Checks that the entries have consecutive versions, and returns the version after them.
 fn passed(rt: &impl Abort, entries: &[Entry], from: u64) -> u64 {
     let mut next = from;
     for entry in entries {
@@ -545,7 +547,7 @@ fn passed(rt: &impl Abort, entries: &[Entry], from: u64) -> u64 {
     next
 }
 
-// Takes some entries, which are those from the version on: the version behind them.
+// Takes entries, checks that they start at the version, and returns the version after them.
 fn take_some<R: Wait + Drop>(
     rt: &impl Abort,
     backend: &Backend<R>,
@@ -561,7 +563,7 @@ fn take_some<R: Wait + Drop>(
     passed(rt, taken.expect(rt, "a queue").as_slice(), from)
 }
 
-// Asserts that the queue gives all versions in order.
+// Checks that the queue returns all versions in order.
 fn take_all<R: Wait + Drop>(
     rt: &impl Abort,
     backend: &Backend<R>,
@@ -579,7 +581,7 @@ fn take_all<R: Wait + Drop>(
     assert!(rt; next == 2 * MANY + 1);
 }
 
-// Whether the pass has no such queue.
+// Returns whether the pass has no such queue.
 fn is_unknown<R: Wait + Drop>(backend: &Backend<R>, pass: &mut Pass, key: &Key, id: SubId) -> bool
     requires { IsPassOfBackend pass.old backend.now }
     ensures { IsPassOfBackend pass.new backend.now }
@@ -587,7 +589,7 @@ fn is_unknown<R: Wait + Drop>(backend: &Backend<R>, pass: &mut Pass, key: &Key, 
     matches!(take_is_fifo(backend, pass, key, id, 1), Ok(None))
 }
 
-// How many entries are of the source.
+// Returns the number of entries of the source.
 fn count_of(log: &Log, source: &str) -> u64 {
     let mut count: u64 = 0;
     for version in 0..log.len() {
@@ -600,7 +602,7 @@ fn count_of(log: &Log, source: &str) -> u64 {
     count
 }
 
-// Asserts that the document has all edits of both.
+// Checks that the document has all edits of both threads.
 fn assert_both(rt: &impl Abort, audit: &Audit, key: &Key) {
     let log = audit.log(key).expect(rt, "a log");
     assert!(rt;
@@ -644,7 +646,7 @@ fn what_threads_store_is_taken_in_order(rt: HostRuntime) {
     assert!(rt; audit.queues() == 1);
 }
 
-// The audit, once all three are handed back.
+// Closes the backend with its host and three passes, and returns the audit.
 fn ended<R: Wait + Drop>(
     rt: &impl Abort,
     alloc: Global,

@@ -1,4 +1,5 @@
-//! `sdb_desk`: what the lines of the steps do not show of works, commits, reads and queues.
+//! Tests of `sdb_desk`: the behavior of works, commits, reads and queues that the step format does
+//! not cover.
 ghost use Rattle.std.specs.Prelude.{◌≡◌};
 ghost use Rattle.sdb_oplog.specs.Keys.{plain_key};
 ghost use Rattle.sdb_desk.specs.View.{plain_attempt};
@@ -11,7 +12,7 @@ use sdb_subscribe::SubId;
 use std::alloc::Global;
 use std::process::Abort;
 
-// A document of a shard.
+// A shard and the key of one document.
 #[derive(Drop)]
 pub(crate) struct Board {
     pub(crate) alloc: Global,
@@ -20,7 +21,7 @@ pub(crate) struct Board {
 }
 
 impl Board {
-    // The document isn't made yet.
+    // Creates a shard without the document.
     pub(crate) fn empty(rt: &impl Abort, alloc: Global) -> Board {
         Board {
             alloc,
@@ -29,14 +30,14 @@ impl Board {
         }
     }
 
-    // The document is the number 0.
+    // Creates a shard whose document is the number 0.
     fn new(rt: &impl Abort, alloc: Global) -> Board {
         let mut board = Board::empty(rt, alloc);
         board.make(rt);
         board
     }
 
-    // Makes the document.
+    // Creates the document.
     fn make(&mut self, rt: &impl Abort) {
         let zero = content(rt, self.alloc, r#"{"create":{"type":"json0","data":0}}"#);
         self.put(rt, submission(rt, self.alloc, "w", 1, None, zero, 0));
@@ -50,7 +51,7 @@ impl Board {
         stored(&reply).expect(rt, "out of memory, or not stored");
     }
 
-    // An edit by the source, of this number, made at the version.
+    // Returns an edit with this source, sequence number and base version.
     fn edit(
         &self,
         rt: &impl Abort,
@@ -63,14 +64,14 @@ impl Board {
         submission(rt, self.alloc, src, seq, version, edit, 0)
     }
 
-    // Adds one for each number from the first to the last.
+    // Stores an edit that adds 1 for each sequence number of the range.
     fn count_up(&mut self, rt: &impl Abort, first: u64, last: u64) {
         for seq in first..=last {
             self.put(rt, self.edit(rt, ("x", seq), None, 1));
         }
     }
 
-    // The submission, with a look at the document.
+    // Returns the submission with a look at the document.
     pub(crate) fn attempt(&self, rt: &impl Abort, submission: Submission) -> Attempt
         ensures seen { IsSeen (plain_key self.now.key) self.now.shard (plain_attempt result) }
         ensures submission { result.submission ≡ submission }
@@ -82,7 +83,7 @@ impl Board {
         Attempt { submission, look }
     }
 
-    // An edit of the source y, made at version 1, worked on what is there now.
+    // Returns an edit with source y and base version 1, rebased to the present version.
     fn work(&self, rt: &impl Abort, amount: i64) -> Work
         ensures { IsSeen (plain_key self.now.key) self.now.shard result }
     {
@@ -107,7 +108,7 @@ impl Board {
         self.shard.commit_last(&self.key, work, Moment::zero())
     }
 
-    // The version, and the number there.
+    // Returns the version and the number of the document.
     fn present(&mut self, rt: &impl Abort) -> (u64, Option<i64>) {
         let fetched = self.shard.fetch(&self.key).expect(rt, "out of memory");
         (fetched.version, number(fetched.snapshot.as_ref()))
@@ -145,7 +146,7 @@ fn an_attempt_is_worked_and_given_back(rt: HostRuntime) {
     assert!(rt; is_worked && attempt.submission.src() == "y" && attempt.look.version == 1);
 }
 
-// A delete made at version 1, where nothing is missed.
+// Returns a work that deletes the document at version 1 and has missed no entry.
 fn deleting(rt: &impl Abort, board: &Board) -> Work
     ensures { IsSeen (plain_key board.now.key) board.now.shard result }
 {
@@ -163,7 +164,7 @@ fn a_work_of_ones_own_is_committed(rt: HostRuntime) {
     assert!(rt; decided(&board.commit(work)) == Some((1, 0)) && board.present(&rt) == (2, None));
 }
 
-// After the work another edit is stored.
+// Another edit is stored after the edit was rebased.
 #[test]
 fn a_work_is_decided_at_last(rt: HostRuntime) {
     let mut board = Board::new(&rt, rt.alloc());
@@ -173,7 +174,7 @@ fn a_work_is_decided_at_last(rt: HostRuntime) {
     assert!(rt; stored(&reply) == Some((2, 1)) && board.present(&rt) == (3, Some(11)));
 }
 
-// The log, the version, and where a queue may start: up to the present.
+// Checks the log, the version, and the versions at which a queue may start.
 #[test]
 fn a_document_is_shown(rt: HostRuntime) {
     let board = Board::new(&rt, rt.alloc());
@@ -191,7 +192,7 @@ fn a_document_is_shown(rt: HostRuntime) {
     }
 }
 
-// How many operations are stored from the version on.
+// Returns the number of entries from the version on.
 fn listed(board: &Board, version: u64) -> Result<usize, Code> {
     match board.shard.ops_from(&board.key, version) {
         Ok(ops) => Ok(ops.len()),
@@ -215,7 +216,7 @@ fn number_at(rt: &impl Abort, board: &mut Board, version: u64) -> Option<i64> {
     number(fetched.expect(rt, "a snapshot").snapshot.as_ref())
 }
 
-// From which version the document at another is to be replayed, and by how many operations.
+// Returns the version at which the replay starts, and the number of entries to apply.
 fn lent(rt: &impl Abort, board: &mut Board, version: u64) -> (u64, usize) {
     let lent = board
         .shard
@@ -224,7 +225,7 @@ fn lent(rt: &impl Abort, board: &mut Board, version: u64) -> (u64, usize) {
     (lent.version, lent.entries.len())
 }
 
-// The number at a version, replayed beside the shard.
+// Replays the document to a version outside of the shard, and returns its number.
 fn replayed(rt: &impl Abort, board: &mut Board, version: u64) -> Option<i64> {
     let lent = board
         .shard
@@ -250,7 +251,7 @@ fn a_version_is_lent_from_the_nearest_that_is_kept(rt: HostRuntime) {
     );
 }
 
-// A queue that starts at the version.
+// Opens a queue that starts at the version.
 fn opened(rt: &impl Abort, board: &mut Board, version: u64) -> SubId {
     let opened = board.shard.subscribe(&board.key, 0, Some(version));
     opened.expect(rt, "a queue").id
@@ -261,7 +262,7 @@ fn is_known(rt: &impl Abort, board: &mut Board, by: u64, id: SubId) -> bool {
     taken.expect(rt, "out of memory").is_some()
 }
 
-// The second commit of one work finds it stored.
+// The second commit of one work is a duplicate.
 #[test]
 fn a_work_is_stored_once(rt: HostRuntime) {
     let mut board = Board::new(&rt, rt.alloc());
@@ -277,7 +278,7 @@ fn a_work_is_stored_once(rt: HostRuntime) {
     );
 }
 
-// How many snapshots are kept after a read at the version, and the number there.
+// Fetches a version; returns the number of cached snapshots and the number of the document.
 fn kept_after(rt: &impl Abort, board: &mut Board, version: u64) -> (usize, Option<i64>) {
     let found = number_at(rt, board, version);
     (board.shard.cached_count(&board.key), found)
@@ -307,7 +308,7 @@ fn ringed(board: &Board, id: SubId) -> Option<u64> {
     board.shard.ring_entries(&board.key, id)
 }
 
-// How many entries the queue gives, and the version of the first.
+// Takes from the queue; returns the number of entries and the version of the first.
 fn front(rt: &impl Abort, board: &mut Board, id: SubId, max: u64) -> (usize, Option<u64>) {
     let taken = board.shard.take(&board.key, 0, id, max);
     let entries = taken.expect(rt, "out of memory").expect(rt, "a queue");
@@ -330,7 +331,8 @@ fn a_commit_fills_the_rings(rt: HostRuntime) {
     assert!(rt; front(&rt, &mut board, id, 200) == (128, Some(1)) && ringed(&board, id) == Some(0));
 }
 
-// A queue is unknown under another number than its own, under which it can't be closed either.
+// A queue exists only under the number of its pass: another pass can neither take from it nor close
+// it.
 #[test]
 fn a_queue_is_closed_under_its_number(rt: HostRuntime) {
     let mut board = Board::new(&rt, rt.alloc());

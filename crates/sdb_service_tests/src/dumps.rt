@@ -1,4 +1,4 @@
-//! `sdb_dump`: what is stored, written and checked.
+//! Tests of `sdb_dump`: dumps that are written and checked.
 use crate::parts::{key, text};
 use sdb_dump::{DumpFault, check_dump};
 use sdb_lines::{CountingReader, CountingWriter};
@@ -53,8 +53,8 @@ const CREATED_TWICE: &str = r#"{"dump":2}
 {"entries":2}
 "#;
 
-// The steps of worked rows: an edit that is worked again, one that was stored meanwhile, edits without a version, one
-// that the ninth commit decides.
+// Steps with rebased edits: a retry, a duplicate, edits without a base version, and an edit that
+// the ninth commit decides.
 const RETRY: &str =
     r#"{"s":0,"do":"begin","c":"b","d":"1","src":"w","seq":1,"create":{"type":"http://sharejs.org/types/JSONv0","data":{"n":0}}}
 {"s":0,"do":"commit"}
@@ -133,13 +133,13 @@ const NINTH: &str =
 {"s":2,"do":"commit"}
 {"s":1,"do":"commit"}"#;
 
-// A document is made.
+// The steps that create a document.
 const MADE: &str =
     r#"{"s":0,"do":"begin","c":"b","d":"1","src":"w","seq":1,"create":{"type":"http://sharejs.org/types/JSONv0","data":{"n":0}}}
 {"s":0,"do":"commit"}
 "#;
 
-// The dump of what these steps leave.
+// Returns the dump after these steps.
 fn dump_of(rt: &impl Abort, alloc: Global, steps: &str) -> Vec<u8> {
     let mut reader = CountingReader::new(steps.as_bytes());
     let mut writer = CountingWriter::new(Vec::new(alloc));
@@ -147,14 +147,14 @@ fn dump_of(rt: &impl Abort, alloc: Global, steps: &str) -> Vec<u8> {
     writer.stream
 }
 
-// How many documents and entries a dump has, or why it isn't accepted.
+// Returns the number of documents and entries of a dump, or the reason why it is refused.
 fn checked(alloc: Global, dump: &[u8]) -> Result<(u64, u128), DumpFault> {
     let mut reader = CountingReader::new(dump);
     let checked = check_dump(alloc, &mut reader)?;
     Ok((checked.documents, checked.entries))
 }
 
-// The steps of a document that 74 edits are made of.
+// Returns the steps of a document with 74 edits.
 fn edited_often(rt: &impl Abort, alloc: Global) -> String {
     let mut steps = text(rt, alloc, MADE);
     for seq in 2..76 {

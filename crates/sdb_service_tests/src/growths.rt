@@ -1,5 +1,5 @@
-//! Calls that find no memory: all is as before, and the same call with memory answers. Run as they stand,
-//! these tests find memory at once; `tests/growths.py` refuses each allocation of each in turn.
+//! Tests of calls in which an allocation fails: the state is unchanged, and a retry succeeds. Run
+//! directly, no allocation fails; `tests/growths.py` fails each allocation of each test in turn.
 ghost use Rattle.std.specs.Prelude.{IfNone};
 ghost use Rattle.sdb_oplog.specs.Keys.{plain_key};
 ghost use Rattle.sdb_service_tests.specs.Seen.{IsSeen, StaySeen};
@@ -18,25 +18,26 @@ use sdb_value::Json;
 use std::alloc::Global;
 use std::process::Abort;
 
-// The call that is tried stands between two of these, which that program knows by their size.
+// Allocates a buffer of 7,919 bytes. The script recognizes the size, and fails only allocations
+// between two marks.
 fn mark(rt: &impl Abort, alloc: Global) -> usize {
-    let block: Vec<u8> = Vec::with_capacity(alloc, 7_919).expect(rt, "out of memory");
-    block.capacity()
+    let chunk: Vec<u8> = Vec::with_capacity(alloc, 7_919).expect(rt, "out of memory");
+    chunk.capacity()
 }
 
-// Makes the document a list of one null.
+// Returns a submission that creates a list of one null.
 fn creating(rt: &impl Abort, alloc: Global, src: &str) -> Submission {
     let content = content(rt, alloc, r#"{"create":{"type":"json0","data":[null]}}"#);
     submission(rt, alloc, src, 1, None, content, 0)
 }
 
-// Puts one more null into that list.
+// Returns a submission that inserts one null into that list.
 fn adding(rt: &impl Abort, alloc: Global, src: &str, version: Option<u64>) -> Submission {
     let content = content(rt, alloc, r#"{"op":[{"p":[0],"li":null}]}"#);
     submission(rt, alloc, src, 1, version, content, 0)
 }
 
-// The document is a list of four nulls and its log has four entries: there is no room for a fifth.
+// Returns a document of four nulls whose log has four entries and no spare capacity.
 fn full(rt: &impl Abort, alloc: Global) -> Board {
     let mut board = Board::empty(rt, alloc);
     board.put(rt, creating(rt, alloc, "w"));
@@ -46,21 +47,21 @@ fn full(rt: &impl Abort, alloc: Global) -> Board {
     board
 }
 
-// The submission, worked on what is there now.
+// Returns the submission, rebased to the present version.
 fn work_on(rt: &impl Abort, board: &Board, submission: Submission) -> Work
     ensures { IsSeen (plain_key board.now.key) board.now.shard result }
 {
     worked(rt, board.alloc, board.attempt(rt, submission))
 }
 
-// An edit made one version ago, worked on what is there now.
+// Returns an edit with base version 3, rebased to the present version.
 fn late_work(rt: &impl Abort, board: &Board) -> Work
     ensures { IsSeen (plain_key board.now.key) board.now.shard result }
 {
     work_on(rt, board, adding(rt, board.alloc, "x", Some(3)))
 }
 
-// What is there: the version, and how many items.
+// The version of the document and its number of items.
 type State = (u64, Option<usize>);
 
 fn present(rt: &impl Abort, board: &mut Board) -> State
@@ -81,7 +82,8 @@ fn count(document: Option<&Json>) -> Option<usize> {
     Some(count)
 }
 
-// The version that is stored at or shown, and how many entries were missed. None for want of memory.
+// The version of the entry or of the look, and the number of missed entries. `None` if an
+// allocation failed.
 type Answered = Option<(u64, usize)>;
 
 fn commit(board: &mut Board, work: &mut Work) -> Answered
@@ -96,7 +98,7 @@ fn commit(board: &mut Board, work: &mut Work) -> Answered
     }
 }
 
-// Commits between marks, and once more where there was no memory and all was as before then.
+// Commits between two marks, and again if an allocation failed and the state is unchanged.
 fn commit_again(rt: &impl Abort, board: &mut Board, work: &mut Work) -> Answered
     requires { IsSeen (plain_key board.old.key) board.old.shard work.old }
 {
@@ -113,7 +115,7 @@ fn commit_again(rt: &impl Abort, board: &mut Board, work: &mut Work) -> Answered
     commit(board, work)
 }
 
-// Asserts what a commit of the work answers, and what is there then.
+// Checks the reply to a commit of the work, and the state after it.
 fn assert_commit(
     rt: &impl Abort,
     board: &mut Board,
@@ -142,7 +144,7 @@ fn a_commit(rt: HostRuntime) {
     assert_commit(&rt, &mut board, work, (4, 1), (5, Some(5)));
 }
 
-// After the work another edit is stored.
+// Another edit is stored after the edit was rebased.
 #[test]
 fn a_commit_to_a_log_that_has_moved(rt: HostRuntime) {
     let mut board = full(&rt, rt.alloc());
@@ -159,7 +161,8 @@ fn commit_now(board: &mut Board, submission: &Submission) -> Answered {
     )
 }
 
-// Commits in one step between marks, and once more where there was no memory and all was as before then.
+// Commits in one call between two marks, and again if an allocation failed and the state is
+// unchanged.
 fn commit_now_again(rt: &impl Abort, board: &mut Board, submission: &Submission) -> Answered {
     let before = present(rt, board);
     mark(rt, board.alloc);
@@ -194,7 +197,7 @@ fn a_commit_in_one_step(rt: HostRuntime) {
     );
 }
 
-// Decides a work at last between marks, and its submission once more where there was no memory.
+// Calls `commit_last` between two marks, and commits its submission again if an allocation failed.
 fn commit_last_again(rt: &impl Abort, board: &mut Board, work: Work) -> Answered {
     let submission = work.submission().try_clone().expect(rt, "out of memory");
     let before = present(rt, board);
@@ -210,7 +213,7 @@ fn commit_last_again(rt: &impl Abort, board: &mut Board, work: Work) -> Answered
     commit_now(board, &submission)
 }
 
-// After the work another edit is stored.
+// Another edit is stored after the edit was rebased.
 #[test]
 fn a_last_commit(rt: HostRuntime) {
     let mut board = full(&rt, rt.alloc());
@@ -222,7 +225,7 @@ fn a_last_commit(rt: HostRuntime) {
     );
 }
 
-// The document at version 3, replayed between marks, and once more where there was no memory.
+// Replays version 3 between two marks, and again if an allocation failed.
 fn replay_again(rt: &impl Abort, board: &mut Board) -> Option<usize> {
     mark(rt, board.alloc);
     let first = replayed(board);
@@ -247,7 +250,7 @@ fn a_replay(rt: HostRuntime) {
     );
 }
 
-// Opens a queue at version 1 between marks, at the second time where the first one finds no memory.
+// Subscribes at version 1 between two marks, and again if an allocation failed.
 fn subscribe_again(rt: &impl Abort, board: &mut Board) -> SubscribeResult {
     mark(rt, board.alloc);
     let first = board.shard.subscribe(&board.key, 0, Some(1));
@@ -261,14 +264,14 @@ fn subscribe_again(rt: &impl Abort, board: &mut Board) -> SubscribeResult {
     }
 }
 
-// Takes up to ten entries: how many.
+// Takes at most ten entries, and returns their number.
 fn take(rt: &impl Abort, board: &mut Board, id: SubId) -> usize {
     let taken = board.shard.take(&board.key, 0, id, 10);
     let entries = taken.expect(rt, "out of memory");
     entries.expect(rt, "a queue").len()
 }
 
-// The same between marks, at the second time where the first one finds no memory.
+// Takes at most ten entries between two marks, and again if an allocation failed.
 fn take_again(rt: &impl Abort, board: &mut Board, id: SubId) -> usize {
     mark(rt, board.alloc);
     let first = board.shard.take(&board.key, 0, id, 10);
@@ -298,7 +301,7 @@ fn a_take(rt: HostRuntime) {
     assert!(rt; take_again(&rt, &mut board, id) == 4 && take(&rt, &mut board, id) == 0);
 }
 
-// Adds a projection between marks, at the second time where the first one finds no memory.
+// Adds a projection between two marks, and again if an allocation failed.
 #[test]
 fn a_projection(rt: HostRuntime) {
     let mut table = Table::new(rt.alloc());
@@ -315,14 +318,14 @@ fn a_projection(rt: HostRuntime) {
     assert!(rt; table.find("t").is_some());
 }
 
-// Whether the session has ended by a message.
+// Handles a message and returns whether the session has ended.
 fn ends(session: &mut Session, room: &mut Room, message: &str) -> bool {
     session
         .handle(&Solo, &mut room.shard, &room.table, message, Moment::zero())
         .is_err()
 }
 
-// A session that finds no memory for a message has ended in each later call too, and leaves no queue.
+// A session in which an allocation failed has ended for each later call too, and leaves no queue.
 #[test]
 fn a_message(rt: HostRuntime) {
     let mut room = Room::new(rt.alloc());

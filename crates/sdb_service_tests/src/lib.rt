@@ -1,5 +1,5 @@
-//! Tests of the public calls of the libraries from the desk on, a module for each. They stand in a crate
-//! above all of these, so that none is proved a second time for its tests.
+//! Tests of the public functions of the libraries from `sdb_desk` upwards, one module for each
+//! library. They are a separate crate so that no library is proved again for its tests.
 #![tactic(auto)]
 
 #[cfg(test)]

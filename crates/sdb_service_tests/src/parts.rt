@@ -1,5 +1,5 @@
-//! Texts, keys, contents and submissions that the tests are made of, and what replies and documents show. What
-//! can't be had, for want of memory or by a fault of the test, ends the test where it is asked for.
+//! Texts, keys, contents and submissions for the tests, and views of replies and documents. A
+//! failed allocation or a malformed text ends the test.
 ghost use Rattle.std.specs.Prelude.{◌≡◌};
 
 use sdb_desk::Reply;
@@ -14,7 +14,7 @@ pub(crate) fn text(rt: &impl Abort, alloc: Global, text: &str) -> String {
     String::from_str(alloc, text).expect(rt, "out of memory")
 }
 
-// A key of the collection b.
+// Returns a key of the collection b.
 pub(crate) fn key(rt: &impl Abort, alloc: Global, id: &str) -> Key {
     Key {
         collection: text(rt, alloc, "b"),
@@ -22,24 +22,24 @@ pub(crate) fn key(rt: &impl Abort, alloc: Global, id: &str) -> Key {
     }
 }
 
-// The content that a text of JSON is.
+// Parses the content of a submission from JSON.
 pub(crate) fn content(rt: &impl Abort, alloc: Global, text: &str) -> Content {
     let value = Value::from_str(alloc, text).expect(rt, "out of memory or no JSON");
     read_content(alloc, &value).expect(rt, "out of memory or no content")
 }
 
-// Adds to the number at `n`.
+// Returns an edit that adds to the number at `n`.
 pub(crate) fn adding(rt: &impl Abort, alloc: Global, amount: i64) -> Content {
     let edit = format!(in alloc; r#"{{"op":[{{"p":["n"],"na":{amount}}}]}}"#);
     content(rt, alloc, edit.expect(rt, "out of memory").as_str())
 }
 
-// Makes the document `{"n":0}`.
+// Returns a content that creates the document `{"n":0}`.
 pub(crate) fn creating(rt: &impl Abort, alloc: Global) -> Content {
     content(rt, alloc, r#"{"create":{"type":"json0","data":{"n":0}}}"#)
 }
 
-// A submission of the source, through b and the pass of the number.
+// Returns a submission of the source, addressed to b and made by the pass of this number.
 pub(crate) fn submission(
     rt: &impl Abort,
     alloc: Global,
@@ -63,7 +63,7 @@ pub(crate) fn number(document: Option<&Json>) -> Option<i64> {
     }
 }
 
-// The number at `n`.
+// Returns the number at `n`.
 pub(crate) fn counted(document: Option<&Json>) -> Option<i64> {
     match document {
         Some(Json::Object(members)) => number(members.get("n")),
@@ -71,7 +71,7 @@ pub(crate) fn counted(document: Option<&Json>) -> Option<i64> {
     }
 }
 
-// The version that it is stored at, and how many entries it had missed.
+// Returns the version of a stored submission and the number of entries that it missed.
 pub(crate) fn stored(reply: &Reply) -> Option<(u64, usize)> {
     match reply {
         Reply::Stored { v, missed } => Some((*v, missed.len())),

@@ -1,4 +1,5 @@
-//! `sdb_projection`: tables that refuse, and an operation alone. All else is in the lines of the server.
+//! Tests of `sdb_projection`: refused tables, and the projection of one operation. The lines of the
+//! server test the rest.
 use crate::parts::text;
 use sdb_component::read_op;
 use sdb_projection::{Projection, Table, TableFault, project_op};
@@ -7,7 +8,7 @@ use std::alloc::Global;
 use std::collections::BTreeSet;
 use std::process::Abort;
 
-// A projection that shows `title`.
+// Returns a projection with the field `title`.
 pub(crate) fn titles(rt: &impl Abort, alloc: Global, name: &str, base: &str) -> Projection {
     let mut projection = no_fields(rt, alloc, name, base);
     let title = text(rt, alloc, "title");
@@ -33,7 +34,7 @@ fn an_operation_shows_what_leads_to_fields(rt: HostRuntime) {
     assert!(rt; shown.components().len() == 1);
 }
 
-// Asserts that a table that has t of b refuses each of these.
+// Checks that a table with the projection t of b refuses each of these.
 fn assert_refusals(rt: &impl Abort, alloc: Global, table: &mut Table) {
     for (name, base, fault) in [
         ("t", "c", TableFault::DuplicateName),

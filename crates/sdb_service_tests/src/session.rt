@@ -1,5 +1,5 @@
-//! `sdb_session`: what no line shows of a session: answers as texts, and how many entries a pump takes. That its
-//! end closes its queues is in the tests of the server.
+//! Tests of `sdb_session`: long responses, batches, and the number of entries per call of `pump`.
+//! The tests of the server cover the end of a session.
 use crate::parts::text;
 use sdb_desk::Shard;
 use sdb_oplog::Moment;
@@ -14,7 +14,7 @@ pub(crate) fn named(rt: &impl Abort, alloc: Global, source: &str) -> Session {
     Session::new(alloc, text(rt, alloc, source))
 }
 
-// A shard, and no projections.
+// A shard, and a table without projections.
 #[derive(Drop)]
 pub(crate) struct Room {
     pub(crate) table: Table,
@@ -29,7 +29,7 @@ impl Room {
         }
     }
 
-    // Whether the message is answered by this text alone.
+    // Returns whether this text is the only response to the message.
     fn answers(&mut self, session: &mut Session, text: &str, wanted: &str) -> bool {
         match session.handle(&Solo, &mut self.shard, &self.table, text, Moment::zero()) {
             Ok(texts) => matches!(texts.as_slice(), [only] if only.as_str() == wanted),
@@ -37,7 +37,7 @@ impl Room {
         }
     }
 
-    // The texts that answer the message.
+    // Returns the responses to the message.
     fn texts(&mut self, rt: &impl Abort, session: &mut Session, text: &str) -> Vec<String> {
         session
             .handle(&Solo, &mut self.shard, &self.table, text, Moment::zero())
@@ -45,7 +45,7 @@ impl Room {
             .expect(rt, "out of memory")
     }
 
-    // Whether the session takes one entry, and is sent this text of it.
+    // Returns whether one entry is pending and its message is this text.
     fn is_told(&mut self, session: &mut Session, wanted: &str) -> bool {
         match session.pump(&Solo, &mut self.shard, &self.table, 64) {
             Ok(pumped) => matches!(pumped.texts.as_slice(), [only] if only.as_str() == wanted),
@@ -53,7 +53,7 @@ impl Room {
         }
     }
 
-    // How many entries the session takes, and how many texts it is sent.
+    // Returns the number of entries taken and of messages sent.
     fn pumped(&mut self, session: &mut Session) -> Option<(u128, usize)> {
         match session.pump(&Solo, &mut self.shard, &self.table, 64) {
             Ok(pumped) => Some((pumped.taken, pumped.texts.len())),
@@ -71,7 +71,7 @@ const SUBSCRIBED: &str = r#"{"a":"s","c":"b","d":"1","data":{"type":null,"v":0}}
 
 pub(crate) const FETCH: &str = r#"{"a":"f","c":"b","d":"1"}"#;
 
-// The front, 100,000 letters, and the back.
+// Returns the prefix, 100,000 letters and the suffix as one text.
 fn long(rt: &impl Abort, alloc: Global, front: &str, back: &str) -> String {
     let mut text = text(rt, alloc, front);
     for _ in 0..100_000 {
@@ -81,7 +81,7 @@ fn long(rt: &impl Abort, alloc: Global, front: &str, back: &str) -> String {
     text
 }
 
-// Stores a document of a long text.
+// Stores a document that is a string of 100,000 letters.
 fn store(rt: &impl Abort, alloc: Global, room: &mut Room, session: &mut Session) {
     let create = r#"{"a":"op","c":"b","d":"1","seq":1,"create":{"type":"json0","data":""#;
     let create = long(rt, alloc, create, r#""}}"#);
@@ -89,7 +89,7 @@ fn store(rt: &impl Abort, alloc: Global, room: &mut Room, session: &mut Session)
     assert!(rt; room.answers(session, create.as_str(), created));
 }
 
-// Fetches it.
+// Fetches that document and checks the response.
 fn fetch(rt: &impl Abort, alloc: Global, room: &mut Room, session: &mut Session) {
     let front = r#"{"a":"f","c":"b","d":"1","data":{"data":""#;
     let shown = long(rt, alloc, front, r#"","v":1}}"#);
@@ -111,7 +111,7 @@ fn a_session_takes_what_is_stored(rt: HostRuntime) {
     fetch(&rt, rt.alloc(), &mut room, &mut second);
 }
 
-// Adds to the number once for each of these numbers of its source.
+// Stores an edit that adds 1 for each sequence number of the range.
 fn count_up(
     rt: &impl Abort,
     alloc: Global,
@@ -127,7 +127,8 @@ fn count_up(
     }
 }
 
-// Asserts that all operations are listed, and that those in the middle and at the end are what a list from there shows.
+// Checks that all operations are listed, and that lists from a later version are suffixes of the
+// list.
 fn assert_list(
     rt: &impl Abort,
     alloc: Global,
@@ -153,7 +154,7 @@ fn assert_list(
     }
 }
 
-// Lists that end before, at and behind a batch's end.
+// Covers lists that end before, at and after the end of a batch.
 #[test]
 fn long_lists_are_written_in_batches(rt: HostRuntime) {
     let alloc = rt.alloc();
@@ -179,8 +180,8 @@ fn long_lists_are_written_in_batches(rt: HostRuntime) {
     }
 }
 
-// Adds to the number once for each of 20 sources, and asserts that each is answered by its name. So many are stored
-// before.
+// Stores an edit for each of 20 sources, after `before` earlier ones, and checks that each response
+// names its source.
 fn count_by_sources(
     rt: &impl Abort,
     alloc: Global,
@@ -202,7 +203,7 @@ fn count_by_sources(
     }
 }
 
-// There are more sources than a session keeps the names of.
+// There are more sources than names in the cache of a session.
 #[test]
 fn each_source_is_answered_by_its_name(rt: HostRuntime) {
     let alloc = rt.alloc();
@@ -218,11 +219,11 @@ const CREATE: &str = r#"{"a":"op","c":"b","d":"1","seq":1,"create":{"type":"json
 
 const CREATED: &str = r#"{"a":"op","c":"b","d":"1","seq":1,"src":"s1","v":0}"#;
 
-// What others are told of it.
+// The message of that operation to other subscribers.
 const TOLD: &str =
     r#"{"a":"op","c":"b","create":{"data":0,"type":"http://sharejs.org/types/JSONv0"},"d":"1","seq":1,"src":"s1","v":0}"#;
 
-// Sessions that share texts are told the same as one that doesn't.
+// Sessions that share a text cache send the messages of a session without one.
 #[test]
 fn each_session_is_told_the_same(rt: HostRuntime) {
     let alloc = rt.alloc();

@@ -1,4 +1,5 @@
-//! `sdb_steps`: steps in lists, and streams that fail. All else is in the lines of the program.
+//! Tests of `sdb_steps`: lists of steps, and streams that fail. The lines of the program test the
+//! rest.
 use sdb_desk::Reply;
 use sdb_lines::{CountingReader, CountingWriter, RunFault};
 use sdb_steps::{Step, StepAnswer, read_step, run, run_steps};
@@ -7,7 +8,7 @@ use std::io;
 use std::io::{Read, Write};
 use std::process::Abort;
 
-// The steps of lines that are steps.
+// Parses each line as a step.
 fn steps_of(rt: &impl Abort, alloc: Global, lines: &[&str]) -> Vec<Step> {
     let mut steps = Vec::new(alloc);
     for line in lines {
@@ -23,7 +24,7 @@ const THREE: [&str; 3] = [
     r#"{"s":9,"do":"fetch","c":"b","d":"1"}"#,
 ];
 
-// Whether the answers are those to these three steps.
+// Returns whether these are the responses to the three steps.
 fn are_three(answers: &[StepAnswer]) -> bool {
     match answers {
         [
@@ -35,7 +36,7 @@ fn are_three(answers: &[StepAnswer]) -> bool {
     }
 }
 
-// A reader that gives seven bytes at a time, and fails after so many calls.
+// A reader that returns seven bytes per call and fails after so many calls.
 #[derive(Drop)]
 struct Torn {
     bytes: &'static [u8],
@@ -53,7 +54,7 @@ impl Read for Torn {
     }
 }
 
-// A writer that takes seven bytes at a time, and none after so many calls.
+// A writer that accepts seven bytes per call, and writes 0 bytes after so many calls.
 #[derive(Drop)]
 struct Full {
     taken: Vec<u8>,
@@ -74,14 +75,14 @@ impl Write for Full {
     }
 }
 
-// The first has twenty bytes with its line feed, the second nineteen without one.
+// The first line has twenty bytes with its line feed, the second nineteen without one.
 const LINES: &[u8] = b"{\"s\":3,\"do\":\"work\"}\n{\"s\":5,\"do\":\"work\"}";
 
 const FIRST: &[u8] = b"{\"do\":\"idle\",\"s\":3}\n";
 
 const BOTH: &[u8] = b"{\"do\":\"idle\",\"s\":3}\n{\"do\":\"idle\",\"s\":5}\n";
 
-// What ended a run over streams that fail after so many calls, and what was written.
+// Runs over streams that fail after so many calls; returns the fault and the output.
 fn run_over(alloc: Global, reads: u64, writes: u64) -> (Option<RunFault>, Vec<u8>) {
     let mut reader = CountingReader::new(Torn {
         bytes: LINES,

@@ -1,4 +1,4 @@
-//! `sdb_submit`: tries that are counted, and a desk at which others store too.
+//! Tests of `sdb_submit`: the number of tries, and a desk with concurrent submissions.
 ghost use Rattle.std.specs.Prelude.{◌≡◌, ℕ, ⊤};
 ghost use Rattle.sdb_oplog.specs.Keys.{Logs};
 ghost use Rattle.sdb_desk.specs.Looks.{IsLook};
@@ -17,7 +17,7 @@ use std::alloc::{AllocError, Global};
 use std::cell::Cell;
 use std::process::Abort;
 
-// Notes the numbers of the tries, as the digits of one number.
+// A gate that records the numbers of the tries as decimal digits.
 #[derive(Drop)]
 struct Tries {
     digits: Cell<u64>,
@@ -38,19 +38,20 @@ impl Gate for Tries {
     }
 }
 
-// A shard, and what others store in it, the last first.
+// A shard, and the concurrent submissions, the last one first.
 #[derive(Drop)]
 struct Shared {
     shard: Shard,
     others: Vec<Submission>,
 }
 
-// A desk at which others store before each commit, and not before a commit that has to decide.
+// A desk that stores a concurrent submission before each `commit`, but not before `commit_last` or
+// `commit_now`.
 #[derive(Drop)]
 struct Meddling;
 
 impl Shared {
-    // What another one stores.
+    // Stores the next concurrent submission.
     fn meddle(&mut self, key: &Key)
         ensures { StaySeen (plain_key key.now) self.old.shard (plain_key key.now) self.new.shard }
     {
@@ -67,7 +68,7 @@ impl Desk for Meddling {
 
     ghost pass_number = { λ d p. 0 };
 
-    // as the machine, at some logs and queues
+    // a step of the machine, at some logs and queues
     ghost step = { λ d k c p a q.
         (l : Logs) × ((n : QueuesByKey) × MachineStep 0 (record { logs = l; queues = n }) k c a (machine_of q.shard)) };
 
@@ -173,14 +174,14 @@ impl Desk for Meddling {
     }
 }
 
-// The submission that is tried: it adds 100, at version 1.
+// Returns the submission under test, which adds 100 and has base version 1.
 fn hundred(rt: &impl Abort, alloc: Global) -> Submission
     ensures { result.by ≡ 0 }
 {
     submission(rt, alloc, "x", 1, Some(1), adding(rt, alloc, 100), 0)
 }
 
-// A shard with the document whose `n` is 0.
+// Returns a shard with the document `{"n":0}`.
 fn started(rt: &impl Abort, alloc: Global, key: &Key) -> Shard {
     let mut shard = Shard::new(alloc);
     let create = submission(rt, alloc, "w", 0, None, creating(rt, alloc), 0);
@@ -188,7 +189,7 @@ fn started(rt: &impl Abort, alloc: Global, key: &Key) -> Shard {
     shard
 }
 
-// Nine submissions, each of which adds 1.
+// Returns nine submissions that each add 1.
 fn nine(rt: &impl Abort, alloc: Global) -> Vec<Submission> {
     let mut others = Vec::new(alloc);
     for seq in 1..=9 {
@@ -223,13 +224,13 @@ fn with_others(rt: &impl Abort, alloc: Global, key: &Key) -> Shared {
     }
 }
 
-// What is answered to the submission, where others store before each try.
+// Submits with a concurrent submission before each try, and returns the reply.
 fn submitted(rt: &impl Abort, alloc: Global, pass: &mut Shared, key: &Key, gate: &Tries) -> Reply {
     let now = Moment::zero();
     submit(alloc, &Meddling, pass, key, &hundred(rt, alloc), now, gate)
 }
 
-// The version, and the number at `n`.
+// Returns the version and the number at `n`.
 fn present(rt: &impl Abort, shard: &mut Shard, key: &Key) -> (u64, Option<i64>) {
     let fetched = shard.fetch(key).expect(rt, "out of memory");
     (fetched.version, counted(fetched.snapshot.as_ref()))

@@ -1,5 +1,5 @@
-//! `sdb_wire`: what no program calls, and what none of their lines can show. All else is in the lines of the
-//! two programs.
+//! Tests of `sdb_wire`: functions that no program calls, and responses that their lines cannot
+//! cover. The lines of the two programs test the rest.
 use crate::parts::{content, key, submission, text};
 use sdb_oplog::{Code, Content, Entry, Moment};
 use sdb_wire::{
@@ -8,7 +8,7 @@ use sdb_wire::{
 use std::alloc::Global;
 use std::process::Abort;
 
-// The version of the fetch that the text is, or the code that refuses it.
+// Parses a fetch and returns its version, or the code of the refusal.
 fn fetched(alloc: Global, text: &str) -> Result<Option<u64>, Code> {
     match read_message(alloc, text) {
         Ok(Request::Fetch { version, .. }) => Ok(version),
@@ -17,7 +17,7 @@ fn fetched(alloc: Global, text: &str) -> Result<Option<u64>, Code> {
     }
 }
 
-// A fetch from version 3, with spaces behind it up to so many bytes.
+// Returns a fetch from version 3, padded with spaces to this length in bytes.
 fn padded(rt: &impl Abort, alloc: Global, length: usize) -> String {
     let mut text = text(rt, alloc, r#"{"a":"f","c":"b","d":"1","v":3}"#);
     for _ in text.len()..length {
@@ -38,13 +38,13 @@ fn texts_are_read_up_to_the_limit(rt: HostRuntime) {
     }
 }
 
-// Whether the error is told by this text.
+// Returns whether this text is the response for the error.
 fn is_told(rt: &impl Abort, alloc: Global, echo: &Echo, code: Code, wanted: &str) -> bool {
     let told = reply_text(alloc, &Answer::Failed { echo, code }).expect(rt, "out of memory");
     told.as_str() == wanted
 }
 
-// Whether the text is no message, and this is told of it.
+// Returns whether the text is refused with this response.
 fn is_refused(rt: &impl Abort, alloc: Global, text: &str, wanted: &str) -> bool {
     match read_message(alloc, text) {
         Ok(_) => false,
@@ -55,7 +55,7 @@ fn is_refused(rt: &impl Abort, alloc: Global, text: &str, wanted: &str) -> bool 
 const BADLY_FORMED: &str =
     r#"{"a":"f","c":"b","error":{"code":"ERR_MESSAGE_BADLY_FORMED","message":"message is badly formed"},"id":7}"#;
 
-// No line of a program finds no memory.
+// The response after a failed allocation, which the lines of the programs do not cover.
 const WANTING: &str = r#"{"error":{"code":"ERR_OUT_OF_MEMORY","message":"out of memory"}}"#;
 
 #[test]
@@ -67,7 +67,8 @@ fn errors_are_told(rt: HostRuntime) {
     );
 }
 
-// Whether what is stored at version 4 of submission 7 from x is this value.
+// Returns whether the entry at version 4 with this content, source x and sequence number 7 has this
+// JSON value.
 fn is_shown(rt: &impl Abort, alloc: Global, content: Content, wanted: &str) -> bool {
     let arrived = submission(rt, alloc, "x", 7, None, content, 7);
     let value = entry_value(alloc, &Entry::new(4, Moment::zero(), None, arrived)).expect(
@@ -99,14 +100,15 @@ fn entries_are_values(rt: HostRuntime) {
     assert!(rt; is_shown(&rt, rt.alloc(), edit, EDITED));
 }
 
-// An entry that creates the document.
+// Returns an entry that creates the document.
 fn an_entry(rt: &impl Abort, alloc: Global, version: u64) -> Entry {
     let create = content(rt, alloc, r#"{"create":{"type":"json0","data":0}}"#);
     let submission = submission(rt, alloc, "x", 1, None, create, 0);
     Entry::new(version, Moment::zero(), None, submission)
 }
 
-// The text of an op message is what the message is, and is that of no other entry or document.
+// The cached text of an op message is the text of the message, and belongs to no other entry or
+// document.
 #[test]
 fn the_text_of_an_op_message_is_kept(rt: HostRuntime) {
     let alloc = rt.alloc();

@@ -101,12 +101,12 @@ impl Session {
                 self.submit(desk, pass, table, message, &key, sent, out)
             }
             Request::Snapshot { key, version, id } => {
-                let asked = VersionQuery { key, version, id };
-                self.snapshot(desk, pass, table, message, asked, out)
+                let query = VersionQuery { key, version, id };
+                self.snapshot(desk, pass, table, message, query, out)
             }
             Request::SnapshotAtTime { key, moment, id } => {
-                let asked = MomentQuery { key, moment, id };
-                self.snapshot_at_time(desk, pass, table, message, asked, out)
+                let query = MomentQuery { key, moment, id };
+                self.snapshot_at_time(desk, pass, table, message, query, out)
             }
             Request::Subscribe { key, version } => {
                 self.subscribe(desk, pass, table, message, key, version, out)
@@ -307,7 +307,7 @@ impl Session {
         pass: &mut D::Pass,
         table: &Table,
         message: Option<&JsonTree<'_>>,
-        asked: VersionQuery,
+        query: VersionQuery,
         out: &mut O,
     ) -> Result<(), AllocError>
         requires accepted { D.accepts desk.now pass.old }
@@ -316,12 +316,12 @@ impl Session {
         ensures outcome { (t : ℕ) → OutcomeOrInterrupted result
             (RequestOutcome (D.step desk.now) (echo_of_message message.entry) table.now
             (D.pass_number desk.now pass.old) t
-            (plain_session self.now) (snapshot (plain_key asked.key) asked.version asked.id) pass.old)
-            (RequestInterrupted (D.step desk.now) table.now (snapshot (plain_key asked.key) asked.version asked.id))
+            (plain_session self.now) (snapshot (plain_key query.key) query.version query.id) pass.old)
+            (RequestInterrupted (D.step desk.now) table.now (snapshot (plain_key query.key) query.version query.id))
             (WroteAnswers O.items (O.contents out.old) (O.contents out.new))
             (plain_session self.now) pass.old (plain_session self.now) pass.new }
     {
-        let VersionQuery { key, version, id } = asked;
+        let VersionQuery { key, version, id } = query;
         let projection = table.find(key.collection.as_str());
         let moved = projected_base_key(projection, &key)?;
         let base = base_key_or(&moved, &key);
@@ -338,7 +338,7 @@ impl Session {
         pass: &mut D::Pass,
         table: &Table,
         message: Option<&JsonTree<'_>>,
-        asked: MomentQuery,
+        query: MomentQuery,
         out: &mut O,
     ) -> Result<(), AllocError>
         requires accepted { D.accepts desk.now pass.old }
@@ -347,13 +347,13 @@ impl Session {
         ensures outcome { (t : ℕ) → OutcomeOrInterrupted result
             (RequestOutcome (D.step desk.now) (echo_of_message message.entry) table.now
             (D.pass_number desk.now pass.old) t
-            (plain_session self.now) (snapshot_at_time (plain_key asked.key) asked.moment asked.id) pass.old)
+            (plain_session self.now) (snapshot_at_time (plain_key query.key) query.moment query.id) pass.old)
             (RequestInterrupted (D.step desk.now) table.now (snapshot_at_time
-            (plain_key asked.key) asked.moment asked.id))
+            (plain_key query.key) query.moment query.id))
             (WroteAnswers O.items (O.contents out.old) (O.contents out.new))
             (plain_session self.now) pass.old (plain_session self.now) pass.new }
     {
-        let MomentQuery { key, moment, id } = asked;
+        let MomentQuery { key, moment, id } = query;
         let projection = table.find(key.collection.as_str());
         let moved = projected_base_key(projection, &key)?;
         let base = base_key_or(&moved, &key);

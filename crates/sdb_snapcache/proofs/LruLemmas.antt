@@ -39,7 +39,7 @@ used_entry : (v : ℕ) (es : List CacheEntry) (o : Option CacheEntry) → option
 used_entry v es None = refl
 used_entry v es (Some e) = ap (λ l. plain_snapshot e ∷ l) (without_entries v es)
 
--- what is used goes first
+-- a used snapshot goes first
 pub used_entries : (v : ℕ) (es : List CacheEntry) → promote_version v (plain_snapshots es) ≡ plain_snapshots (promoted (nat_eq v) es)
 used_entries v es = ap (λ o. option_map_or (λ s. s ∷ without_version v (plain_snapshots es)) o (plain_snapshots es)) (at_entries v es) ∙ used_entry v es (lookup_entry (nat_eq v) es)
 
@@ -70,11 +70,11 @@ few_promoted : (v : ℕ) (es : List CacheEntry) (o : Option CacheEntry) → look
 few_promoted v es None h few = few
 few_promoted v es (Some e) h few = let n = (found_entry v es e h).less in omega (arith, n, few)
 
--- a cache of eight, after a use
+-- a cache of capacity eight after a use
 pub eight_used : (v : ℕ) (es fs : List CacheEntry) → fs ≡ promoted (nat_eq v) es → length es ≤ 8 → length fs ≤ 8
 eight_used v es fs is few = let n = few_promoted v es (lookup_entry (nat_eq v) es) refl few in let m : length fs ≡ length (promoted (nat_eq v) es) = ap length is in omega (arith, n, m)
 
--- ---- what is put
+-- ---- inserts
 
 put_at : (v : ℕ) (d : Json) (es : List CacheEntry) (o : Option CacheEntry) → lookup_entry (nat_eq v) es ≡ o → length es ≤ 8
     → plain_snapshots (option_map_or (λ e. (e.0, d) ∷ remove_entry (nat_eq v) es) o ((v, d) ∷ take 7 es)) ≡ insert_front v (value_of d) (plain_snapshots es)
@@ -89,7 +89,7 @@ put_at v d es (Some e) h few =
     let all : take 7 (plain_snapshots rest) ≡ plain_snapshots rest = take_all 7 (plain_snapshots rest) (let m : length (plain_snapshots rest) ≡ length rest = length-map rest plain_snapshot in omega (arith, n, m, few)) in
     ap (λ k. plain_snapshot (k, d) ∷ plain_snapshots rest) key ∙ ap (λ l. plain_snapshot (v, d) ∷ l) (sym all ∙ ap (take 7) (sym (without_entries v es)))
 
--- a cache of eight, after an offer
+-- a cache of capacity eight after an insert
 pub put_made : (v : ℕ) (d : Json) (c : LruCache ℕ Json) → HasCapacityEight c → plain_snapshots (put_entries nat_eq c v d) ≡ insert_front v (value_of d) (plain_snapshots c.entries)
 put_made v d c eight =
     ap (λ n. plain_snapshots (option_map_or (λ e. (e.0, d) ∷ remove_entry (nat_eq v) c.entries) (lookup_entry (nat_eq v) c.entries) ((v, d) ∷ take (n - 1) c.entries))) eight.0
@@ -102,7 +102,7 @@ eight_put v d c n eight cap is =
     let same : length (plain_snapshots n.entries) ≡ length (insert_front v (value_of d) (plain_snapshots c.entries)) = ap length is in
     (cap ∙ eight.0, omega (arith, few, long, same))
 
--- ---- a cache that is there
+-- ---- a cache that exists
 
 pub eight_of : (o : Option (LruCache ℕ Json)) (k : LruCache ℕ Json) → Some k ≡ o → HasCapacityEightOrNone o → HasCapacityEight k
 eight_of None k h eight = cc

@@ -39,24 +39,24 @@ greatest_joined o None (Some w) = refl
 greatest_joined None (Some v) (Some w) = refl
 greatest_joined (Some u) (Some v) (Some w) = let m : max (max u v) w ≡ max u (max v w) = omega arith in ap Some m
 
--- one more version is looked at
+-- one more version is compared
 pub one_nearer : (v : ℕ) (found : Option ℕ) (s : Snapshot) (kept : List Snapshot) → nat_le s.version v ≡ true → max_version (max_version found (Some s.version)) (version_for v kept) ≡ max_version found (version_for v (s ∷ kept))
 one_nearer v found s kept h = greatest_joined found (Some s.version) (version_for v kept) ∙ ap (max_version found) (ap (λ b. max_version (cond b (Some s.version) None) (version_for v kept)) (sym h) ∙ sym (nearer_version v s (nearest v kept)))
 
 pub one_past : (v : ℕ) (found : Option ℕ) (s : Snapshot) (kept : List Snapshot) → nat_le s.version v ≡ false → max_version found (version_for v kept) ≡ max_version found (version_for v (s ∷ kept))
 one_past v found s kept h = ap (max_version found) (sym (greatest_all (version_for v kept)) ∙ ap (λ b. max_version (cond b (Some s.version) None) (version_for v kept)) (sym h) ∙ sym (nearer_version v s (nearest v kept)))
 
--- ---- what is used
+-- ---- the used snapshot
 
 used_or : (o : Option Snapshot) (n : ℕ) (kept : List Snapshot) → Some n ≡ option_map version_of_snapshot o → option_map_or (λ s. promote_version s.version kept) o kept ≡ promote_version n kept
 used_or None n kept h = cc
 used_or (Some s) n kept h = let e : n ≡ s.version = cc in ap (λ v. promote_version v kept) (sym e)
 
--- the one of the version that is found
+-- the one of the found version
 pub used_version : (v n : ℕ) (kept : List Snapshot) → Some n ≡ version_for v kept → promote_nearest v kept ≡ promote_version n kept
 used_version v n kept h = used_or (nearest v kept) n kept h
 
--- what a look shows of the one that is found, where it was used
+-- the lookup of the found version after its use
 at_front : (n : ℕ) (kept : List Snapshot) (o : Option Snapshot) → snapshot_at_version n kept ≡ o → snapshot_at_version n (option_map_or (λ s. s ∷ without_version n kept) o kept) ≡ o
 at_front n kept None h = h
 at_front n kept (Some s) h = ap (λ b. cond b (Some s) (snapshot_at_version n (without_version n kept))) (eq-eqb n s.version (version_of_snapshot_at n kept s h))
@@ -74,7 +74,7 @@ both_or : (n : ℕ) (d : Value) (o : Option Snapshot) → Some n ≡ option_map 
 both_or n d None h k = cc
 both_or n d (Some s) h k = let e : n ≡ s.version = cc in let f : d ≡ s.value = cc in λ i. Some (record { version = e i; value = f i })
 
--- the version and the value of what is found
+-- version and value of the found snapshot
 pub nearest_and_promoted : (v n : ℕ) (d : Value) (kept l : List Snapshot) → Some n ≡ version_for v kept → l ≡ promote_nearest v kept → Some d ≡ option_map (λ s. s.value) (snapshot_at_version n l) → Some (record { version = n; value = d }) ≡ nearest v kept
 nearest_and_promoted v n d kept l h is k = both_or n d (nearest v kept) h (k ∙ ap (λ m. option_map (λ s. s.value) (snapshot_at_version n m)) is ∙ value_of_nearest v n kept h)
 
@@ -82,7 +82,7 @@ none_or : (n : ℕ) (o : Option Snapshot) → Some n ≡ option_map version_of_s
 none_or n None h k = cc
 none_or n (Some s) h k = cc
 
--- what is found is kept
+-- the found version is cached
 pub never_none : (v n : ℕ) (kept l : List Snapshot) → Some n ≡ version_for v kept → l ≡ promote_nearest v kept → None ≡ option_map (λ s. s.value) (snapshot_at_version n l) → ⊥
 never_none v n kept l h is k = none_or n (nearest v kept) h (k ∙ ap (λ m. option_map (λ s. s.value) (snapshot_at_version n m)) is ∙ value_of_nearest v n kept h)
 

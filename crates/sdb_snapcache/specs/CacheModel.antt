@@ -1,42 +1,42 @@
--- Snapshots that are kept of one document, the most recently used first.
+-- The snapshots of one document's cache, most recently used first.
 use Rattle.std.specs.Prelude.{ℕ, List, [], ◌∷◌, take, cond, ◌&&◌, if◌then◌else◌, nat_eq, nat_le, max, Option, Some, None}
 use Rattle.std.specs.Option.{option_map_or}
 use Rattle.sdb_value.specs.Value.{Value}
 
--- what a document holds at a version
+-- the document at a version
 pub record Snapshot : Type 0 where
   pub version : ℕ
   pub value : Value
 
--- s, where it is up to v and the other's version isn't greater
+-- s if its version is at most v and not less than the other's
 abbrev pub nearer_of : ℕ → Snapshot → Option Snapshot → Option Snapshot
 nearer_of v s None = if nat_le s.version v then Some s else None
 nearer_of v s (Some t) = if nat_le s.version v && nat_le t.version s.version then Some s else Some t
 
--- the kept snapshot of the greatest version up to v
+-- the snapshot with the greatest version up to v
 abbrev pub nearest : ℕ → List Snapshot → Option Snapshot
 nearest v [] = None
 nearest v (s ∷ kept) = nearer_of v s (nearest v kept)
 
--- the kept snapshot of this version
+-- the snapshot of this version
 abbrev pub snapshot_at_version : ℕ → List Snapshot → Option Snapshot
 snapshot_at_version v [] = None
 snapshot_at_version v (s ∷ kept) = cond (nat_eq v s.version) (Some s) (snapshot_at_version v kept)
 
--- the others
+-- the snapshots of other versions
 abbrev pub without_version : ℕ → List Snapshot → List Snapshot
 without_version v [] = []
 without_version v (s ∷ kept) = cond (nat_eq v s.version) kept (s ∷ without_version v kept)
 
--- the snapshot of this version is moved to the front
+-- the snapshot of this version moves to the front
 abbrev pub promote_version : ℕ → List Snapshot → List Snapshot
 promote_version v kept = option_map_or (λ s. s ∷ without_version v kept) (snapshot_at_version v kept) kept
 
--- the one that is found for v is moved to the front
+-- the snapshot found for v moves to the front
 abbrev pub promote_nearest : ℕ → List Snapshot → List Snapshot
 promote_nearest v kept = option_map_or (λ s. promote_version s.version kept) (nearest v kept) kept
 
--- the first eight of the one that is offered and the others
+-- the new snapshot and the others, the first eight
 abbrev pub insert_front : ℕ → Value → List Snapshot → List Snapshot
 insert_front v d kept = take 8 (record { version = v; value = d } ∷ without_version v kept)
 

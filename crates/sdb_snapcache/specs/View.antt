@@ -1,4 +1,4 @@
--- The snapshots that a cache keeps.
+-- The snapshots of a cache.
 use Rattle.std.specs.Prelude.{◌≡◌, ℕ, ◌≤◌, List, [], map, length, Option, Some, None, refl, ⊤}
 use Rattle.std.specs.Coded.{Coded, code_by, coded×, coded_ℕ, coded_list}
 use Rattle.lru.specs.LruCache.{LruCache}
@@ -22,12 +22,12 @@ plain_snapshot e = record { version = e.0; value = value_of e.1 }
 abbrev pub plain_snapshots : List (ℕ × Json) → List Snapshot
 plain_snapshots = map plain_snapshot
 
--- none before the first is offered
+-- `None` before the first snapshot
 abbrev pub snapshots_of : Option (LruCache ℕ Json) → List Snapshot
 snapshots_of None = []
 snapshots_of (Some c) = plain_snapshots c.entries
 
--- there is room for eight
+-- the capacity is eight
 abbrev pub HasCapacityEight : LruCache ℕ Json → Type 0
 HasCapacityEight c = (c.cap ≡ 8) × (length c.entries ≤ 8)
 

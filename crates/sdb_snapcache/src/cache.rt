@@ -1,4 +1,4 @@
-//! The kept snapshots of one document.
+//! The snapshot cache of one document.
 ghost use Rattle.std.specs.Prelude.{◌≡◌, ◌≤◌, [], length, map, nat_eq, Some, OnOk, OnErr, option_map};
 ghost use Rattle.std.specs.Borrow.{sem};
 ghost use Rattle.std.specs.List.{IsDistinct};
@@ -13,15 +13,15 @@ use std::alloc::{AllocError, Global};
 use std::marker::Model;
 use std::num::NonZeroUsize;
 
-/// The most snapshots that are kept.
+/// Maximal number of cached snapshots.
 pub const CACHE_CAPACITY: usize = 8;
 
-/// At most [`CACHE_CAPACITY`] snapshots of one document, in the order of their last use, each of another
-/// version.
+/// A cache of at most [`CACHE_CAPACITY`] snapshots of one document at different versions, least
+/// recently used first out.
 #[derive(Drop)]
 pub struct Cache {
     alloc: Global,
-    // none before the first is offered
+    // `None` before the first snapshot
     snapshots: Option<LruCache<u64, Json>>,
 }
 
@@ -42,8 +42,7 @@ impl Model for Cache {
 impl Cache {
     ghost use Rattle.sdb_snapcache.specs.Borrows.{borrow_ends_with_cache};
 
-    /// A cache without snapshots. It keeps the allocator, and takes no memory before the first snapshot
-    /// is offered.
+    /// Creates an empty cache. It keeps the allocator, and allocates with the first snapshot.
     pub fn new(alloc: Global) -> Cache
         ensures { result ≡ [] }
     {
@@ -53,7 +52,7 @@ impl Cache {
         }
     }
 
-    /// How many snapshots are kept.
+    /// Returns the number of cached snapshots.
     pub fn len(&self) -> usize
         ensures len { result ≡ length self.now }
         ensures bound { length self.now ≤ CACHE_CAPACITY }
@@ -65,8 +64,8 @@ impl Cache {
         }
     }
 
-    /// The kept snapshot of the greatest version up to `v`: that version, and what the document holds
-    /// there. It is then the most recently used. It takes no memory.
+    /// Returns the snapshot with the greatest version up to `v`, which becomes the most recently
+    /// used. It doesn't allocate.
     pub fn nearest(&mut self, v: u64) -> Option<(u64, &Json)>
         ensures* uses { sem 𝓛 (borrow_ends_with_cache self.entry (promote_nearest v self.old)) }
         ensures value { option_map (λ f. record { version = f.0; value = value_of f.1.now }) result
@@ -77,7 +76,7 @@ impl Cache {
         Some((version, value))
     }
 
-    // The greatest version up to `v`. Its snapshot is then the most recently used.
+    // Returns the greatest cached version up to `v`, and makes it the most recently used.
     fn promote(&mut self, v: u64) -> Option<u64>
         ensures version { result ≡ option_map (λ s. s.version) (nearest v self.old) }
         ensures used { self.new ≡ promote_nearest v self.old }
@@ -88,7 +87,7 @@ impl Cache {
         Some(version)
     }
 
-    // What the document holds at a version that is kept.
+    // Returns the document of a cached version.
     fn get(&self, version: u64) -> Option<&Json>
         ensures { option_map (λ d. value_of d.now) result
             ≡ option_map (λ s. s.value) (snapshot_at_version version self.now) }
@@ -96,8 +95,12 @@ impl Cache {
         self.snapshots.as_ref()?.peek(&version)
     }
 
-    /// Keeps a snapshot as the most recently used. An older one of the same version goes, and of
-    /// nine the least recently used. After want of memory the cache is unchanged.
+    /// Inserts a snapshot as the most recently used one. It replaces an older one of its version; a
+    /// ninth snapshot removes the least recently used one.
+    ///
+    /// # Errors
+    ///
+    /// [`AllocError`] if an allocation fails. The cache is then unchanged.
     pub fn offer(&mut self, version: u64, value: Json) -> Result<(), AllocError>
         ensures ok { OnOk result (self.new ≡ insert_front version (value_of value) self.old) }
         ensures err { OnErr result (self.new ≡ self.old) }
@@ -113,7 +116,7 @@ impl Cache {
         }
     }
 
-    /// Lets all snapshots go. It takes no memory.
+    /// Empties the cache. It doesn't allocate.
     pub fn forget(&mut self)
         ensures { self.new ≡ [] }
     {
@@ -121,14 +124,14 @@ impl Cache {
     }
 }
 
-// How many snapshots there is room for.
+// Returns the capacity in snapshots.
 fn cache_capacity() -> NonZeroUsize
     ensures { non_zero_usize_get result ≡ CACHE_CAPACITY }
 {
     NonZeroUsize::new(CACHE_CAPACITY).unwrap()
 }
 
-// Puts a snapshot first. After want of memory all is unchanged.
+// Inserts a snapshot at the front. If an allocation fails, all is unchanged.
 fn insert(kept: &mut LruCache<u64, Json>, version: u64, value: Json) -> Result<(), AllocError>
     requires { HasCapacityEight kept.old }
     ensures ok { OnOk result
@@ -140,7 +143,7 @@ fn insert(kept: &mut LruCache<u64, Json>, version: u64, value: Json) -> Result<(
     Ok(())
 }
 
-// The greatest of the kept versions up to `v`.
+// Returns the greatest cached version up to `v`.
 fn nearest_version(kept: &LruCache<u64, Json>, v: u64) -> Option<u64>
     ensures { result ≡ option_map (λ s. s.version) (nearest v (plain_snapshots kept.now.entries)) }
 {

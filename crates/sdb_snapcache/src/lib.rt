@@ -1,5 +1,4 @@
-//! Kept snapshots of one document, so that a document at a version can be had without replaying its
-//! whole log.
+//! A cache of a document's snapshots, so that a read at a version need not replay the whole log.
 #![tactic(auto)]
 
 mod cache;

@@ -1,4 +1,4 @@
--- Lists that are changed, and what calls answer.
+-- Changed lists, and the results of calls.
 use Rattle.std.proofs.Common.{◌≡◌, ℕ, zero, suc, ◌+◌, ◌-◌, ◌<◌, ◌≤◌, ◌^◌, List, [], ◌∷◌, ◌++◌, length, map, refl, sym, ap, ◌∙◌, subst, arith, length-append, Option, Some, None, Result, Ok, Err, OnOk, OnErr, IfOk, option_map, slice_get, slice_set, Bool, true, false, if◌then◌else◌, nat_le, MutBor}
 use Rattle.std.proofs.Math.ListN.{length-map}
 use Rattle.std.proofs.lemmas.Bool.{le-leb}
@@ -77,20 +77,20 @@ put_done done xs ys i x e d h =
     let yes : done ≡ true = d ∙ le-leb i (length xs) h in
     e ∙ ap (λ b. if b then insert xs i x else xs) yes
 
--- as many keys as members
+-- as many keys as entries
 pub count_texts : {X : Type 0} (bs : List (Chunk (MapEntry X))) → length (flatten_models entry_key bs) ≡ length (flat_map items_of bs)
 count_texts [] = refl
 count_texts (b ∷ bs) =
     omega (arith, count_texts bs, length-map (items_of b) entry_key, length-append (chunk_keys b) (flatten_models entry_key bs), length-append (items_of b) (flat_map items_of bs))
 
--- ---- a list of members, where a call changes it
+-- ---- a list of entries that a call changes
 
--- the keys after a change, by what is seen of the members
+-- the keys after a change, by the views of the entries
 pub texts_same : {X S : Type 0} (f : X → S) (l m : ChunkedVec (MapEntry X)) → vec_models (entry_model f) m ≡ vec_models (entry_model f) l → vec_keys m ≡ vec_keys l
 texts_same f l m e = sym (keys_of_vec_models f m) ∙ ap entry_keys e ∙ keys_of_vec_models f l
 
 module _ {X S : Type 0} (f : X → S) (l m : ChunkedVec (MapEntry X)) (k : List ℕ) (i : ℕ) where
-  -- the key is found among what is seen
+  -- the key is found in the views
   pub found_seen : IsKeyIndex (vec_keys l) k i → IsKeyIndex (entry_keys (vec_models (entry_model f) l)) k i
   found_seen g = subst (λ ts. IsKeyIndex ts k i) (sym (keys_of_vec_models f l)) g
 
@@ -125,7 +125,7 @@ module _ {X S : Type 0} (f : X → S) (l m : ChunkedVec (MapEntry X)) (k : List 
   pub ascending_less : vec_keys m ≡ remove (vec_keys l) i → IsAscending (vec_keys l) → IsAscending (vec_keys m)
   ascending_less e h = subst IsAscending (sym e) (ascending_taken (vec_keys l) i h)
 
--- the member that was there, and its value
+-- the removed entry and its value
 taken_value : {B X S : Type 0} (f : X → S) (h : B → MapEntry X) (o : Option B) → option_map (λ e. e.1) (option_map (λ b. entry_model f (h b)) o) ≡ option_map (λ b. f (h b).value) o
 taken_value f h None = refl
 taken_value f h (Some m) = refl
@@ -136,7 +136,7 @@ pub value_found : {B X S : Type 0} (f : X → S) (h : B → MapEntry X) (l : Chu
 value_found f h l k i o g e =
     sym (taken_value f h o) ∙ ap (option_map (λ d. d.1)) e ∙ sym (lookup_of_key_index k (vec_models (entry_model f) l) i (found_seen f l l k i g))
 
--- there is one
+-- there is an entry
 get_names : {X : Type 0} (es : List (List ℕ × X)) (i : ℕ) → slice_get es i ≡ None → slice_get (entry_keys es) i ≡ None
 get_names [] i e = refl
 get_names (d ∷ es) zero e = cc
@@ -149,7 +149,7 @@ none_found f l k i o g e is =
     let there : slice_get (entry_keys (vec_models (entry_model f) l)) i ≡ Some k = (found_seen f l l k i g).key_at_index in
     cc
 
--- ---- what calls leave, whether they were refused or not
+-- ---- the state after a call, for success and failure
 
 module _ {X S : Type 0} (f : X → S) (l m : ChunkedVec (MapEntry X)) (k b : List ℕ) (i : ℕ) (s : S) (q : b ≡ k) where
   abbrev entries_before : List (List ℕ × S)
@@ -203,7 +203,7 @@ pub on_err : {A E P : Type 0} (r : Result A E) → P → OnErr r P
 on_err (Ok x) p = tt
 on_err (Err e) p = p
 
--- ---- a member that is lent
+-- ---- a borrowed entry
 
 pub at_lent : {X S : Type 0} (f : X → S) (l : ChunkedVec (MapEntry X)) (i : ℕ) (o : Option (MutBor (MapEntry X))) (b : MutBor (MapEntry X)) → o ≡ Some b
     → IfSome o (λ x. slice_get (vec_models (entry_model f) l) i ≡ Some (entry_model f x.now)) → slice_get (vec_models (entry_model f) l) i ≡ Some (entry_model f b.now)
@@ -214,7 +214,7 @@ name_at [] i e h = cc
 name_at (d ∷ es) zero e h = let is : d ≡ e = cc in ap (λ x. Some x.0) is
 name_at (d ∷ es) (suc i) e h = name_at es i e h
 
--- its key stays
+-- its key is unchanged
 pub texts_lent : {X S : Type 0} (f : X → S) (l n : ChunkedVec (MapEntry X)) (i : ℕ) (o : Option (MutBor (MapEntry X))) (b : MutBor (MapEntry X)) (w : X) → o ≡ Some b
     → slice_get (vec_models (entry_model f) l) i ≡ Some (entry_model f b.now)
     → OnSome o (vec_models (entry_model f) n ≡ slice_set (vec_models (entry_model f) l) i (key_bytes b.now.key, f w)) → vec_keys n ≡ vec_keys l
@@ -225,7 +225,7 @@ texts_lent f l n i o b w is at h =
     sym (keys_of_vec_models f n) ∙ ap entry_keys e ∙ names_set (vec_models (entry_model f) l) i (k, f w)
     ∙ set_same (entry_keys (vec_models (entry_model f) l)) i k (name_at (vec_models (entry_model f) l) i (entry_model f b.now) at) ∙ keys_of_vec_models f l
 
--- a list that is its own is in no groups
+-- a unique list has no groups
 flat_form : {X : Type 0} (w : Repr X) → is_unique_repr w ≡ true → is_grouped w ≡ false
 flat_form (Flat b) e = refl
 flat_form (Chunks bs) e = refl

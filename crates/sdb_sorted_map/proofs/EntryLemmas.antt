@@ -1,4 +1,4 @@
--- Members that are made of a map, and gone through.
+-- Entries made from a map, and iterated.
 use Rattle.std.proofs.Common.{◌≡◌, ℕ, List, [], ◌∷◌, ◌++◌, map, refl, sym, ap, ◌∙◌, subst, String, string_bytes, Option, Some, None}
 use Rattle.std.specs.declared.alloc.Global.{Global}
 use Rattle.std.specs.Iterator.{YieldsFirstBy}
@@ -58,7 +58,7 @@ texts_entries f g (m ∷ ms) (d ∷ es) e =
     let rest : map key_value ms ≡ map (λ x. (f x, g x)) es = cc in
     ap (λ t. t ∷ entry_key_bytes ms) first ∙ ap (λ l. f d ∷ l) (texts_entries f g ms es rest)
 
--- lists of the same parts
+-- lists with equal parts
 pub items_of_shared : {X : Type 0} (o : Option (ChunkedVec X)) (l m : ChunkedVec X) → o ≡ Some m → IfSome o (λ n. vec_chunk_items n ≡ vec_chunk_items l) → vec_chunk_items m ≡ vec_chunk_items l
 items_of_shared o l m e h = subst (λ p. IfSome p (λ n. vec_chunk_items n ≡ vec_chunk_items l)) e h
 

@@ -1,4 +1,4 @@
--- Where a key stands among texts in order, and what that says of a map.
+-- The position of a key in sorted texts, and in a map.
 use Rattle.std.proofs.Common.{◌≡◌, ℕ, zero, suc, ◌<◌, ◌≤◌, List, [], ◌∷◌, length, take, drop, refl, sym, ap, ◌∙◌, arith, Some, slice_get, slice_set, cond}
 use Rattle.std.specs.List.{insert, remove}
 use Rattle.std.specs.List.Sorted.{IsStrictlySortedBy}
@@ -22,7 +22,7 @@ less_back x y e = bytes_order.antisymm y x ∙ ap ordering_reverse e
 pub greater_back : (x y : List ℕ) → compare_bytes x y ≡ Greater → compare_bytes y x ≡ Less
 greater_back x y e = bytes_order.antisymm y x ∙ ap ordering_reverse e
 
--- ---- texts in order
+-- ---- sorted texts
 
 pub below_along : (k t : List ℕ) (ts : List (List ℕ)) → compare_bytes k t ≡ Less → IsBelowAll t ts → IsBelowAll k ts
 below_along k t [] e b = tt
@@ -89,7 +89,7 @@ ascending_taken [] (suc i) s = tt
 ascending_taken (x ∷ xs) zero s = s.1
 ascending_taken (x ∷ xs) (suc i) s = (below_taken x xs i s.0, ascending_taken xs i s.1)
 
--- ---- the map that members are
+-- ---- the map of entries
 
 module _ {X : Type 0} (k : List ℕ) where
   found_put : (es : List (List ℕ × X)) (i : ℕ) (v : X) → slice_get (entry_keys es) i ≡ Some k → IsAboveAll k (take i (entry_keys es))
@@ -115,7 +115,7 @@ module _ {X : Type 0} (k : List ℕ) where
   pub found_remove : (es : List (List ℕ × X)) (i : ℕ) → IsKeyIndex (entry_keys es) k i → remove_entry (is_at (compare_bytes k)) es ≡ remove es i
   found_remove es i f = found_taken es i f.key_at_index f.above_all_before
 
-  -- a key that isn't there
+  -- a key that is absent
   kept_below : (es : List (List ℕ × X)) → IsBelowAll k (entry_keys es) → remove_entry (is_at (compare_bytes k)) es ≡ es
   kept_below [] b = refl
   kept_below (d ∷ es) b =

@@ -1,4 +1,4 @@
--- A key among keys in parts: blocks, or groups of blocks.
+-- A key in runs: chunks, or groups of chunks.
 use Rattle.std.proofs.Common.{◌≡◌, ℕ, zero, suc, ◌+◌, ◌<◌, ◌≤◌, List, [], ◌∷◌, ◌++◌, length, take, drop, refl, sym, ap, ◌∙◌, subst, arith, Some, None, slice_get, get_or, Bool, true, false, not, append_assoc, length-append}
 use Rattle.std.proofs.Math.ListN.{take-append-drop}
 use Rattle.std.proofs.lemmas.List.{take_more, drop_more}
@@ -17,7 +17,7 @@ use Rattle.sdb_sorted_map.proofs.OrderLemmas.{below_along, less_back, greater_ba
 bytes_order : IsTotalOrder compare_bytes
 bytes_order = nat_list_cmp_total
 
--- ---- the texts before a part, its own, and those behind it
+-- ---- the texts before a run, its own, and those after it
 
 pub append_none : {X : Type 0} (xs : List X) → xs ++ [] ≡ xs
 append_none [] = refl
@@ -50,7 +50,7 @@ module _ {P : Type 0} (t : P → List (List ℕ)) where
     pub length_to : length (keys_of_first_runs t ps e) + length (t p) ≤ length (flat_map t ps)
     length_to = omega (arith, ap length keys_split_around, length-append (keys_of_first_runs t ps e) (t p ++ keys_of_other_runs t ps (e + 1)), length-append (t p) (keys_of_other_runs t ps (e + 1)))
 
--- ---- texts in order, behind others
+-- ---- sorted texts after others
 
 ascending_behind : (fs gs : List (List ℕ)) → IsAscending (fs ++ gs) → IsAscending gs
 unfolding IsStrictlySortedBy
@@ -90,7 +90,7 @@ less_front : (f t : List ℕ) (fs gs : List (List ℕ)) → IsBelowAll f (fs ++ 
 less_front f t [] gs b = b.0
 less_front f t (x ∷ fs) gs b = less_front f t fs gs b.1
 
--- what is below t is below k
+-- a text less than t is less than k
 above_upto : (k t f : List ℕ) (o : Ordering) → compare_bytes k t ≡ o → not (is_lt o) ≡ true → compare_bytes f t ≡ Less → compare_bytes k f ≡ Greater
 above_upto k t f Less c e h = cc
 above_upto k t f Equal c e h = let same : k ≡ t = exact_bytes k t c in less_back f k (ap (compare_bytes f) same ∙ h)
@@ -115,19 +115,19 @@ module _ {P : Type 0} (t : P → List (List ℕ)) (ps : List P) (e : ℕ) (p : P
   pub ascending_part : IsAscending (t p)
   ascending_part = ascending_front (t p) (keys_of_other_runs t ps (e + 1)) run_ascending
 
-  -- the part begins above the key
+  -- the run begins above the key
   pub below_part : (k : List ℕ) → first_key_above k (slice_get (t p) 0) ≡ true → IsBelowAll k (keys_of_other_runs t ps e)
   below_part k a = subst (IsBelowAll k) (sym (other_keys_cons t ps e p w h)) (below_start k (t p) (keys_of_other_runs t ps (e + 1)) run_ascending a)
 
-  -- it does, or is empty
+  -- the run begins above the key or is empty
   pub below_or_none : (k : List ℕ) → first_key_at_most k (slice_get (t p) 0) ≡ false → IsBelowAll k (keys_of_other_runs t ps (e + 1)) → IsBelowAll k (keys_of_other_runs t ps e)
   below_or_none k a b = subst (IsBelowAll k) (sym (other_keys_cons t ps e p w h)) (below_no_start k (t p) (keys_of_other_runs t ps (e + 1)) run_ascending a b)
 
-  -- it begins with the key or below it
+  -- the run begins with the key or below it
   pub above_parts : (k : List ℕ) → first_key_at_most k (slice_get (t p) 0) ≡ true → IsAboveAll k (keys_of_first_runs t ps e)
   above_parts k a = above_start k (keys_of_first_runs t ps e) (t p) (keys_of_other_runs t ps (e + 1)) ordered_thirds a
 
--- ---- the place in a part, and the place in all
+-- ---- the index in a run, and the index in all
 
 all_joined : (P : List ℕ → Type 0) (xs ys : List (List ℕ)) → AllByRecursion P xs → AllByRecursion P ys → AllByRecursion P (xs ++ ys)
 all_joined P [] ys a b = b
@@ -203,12 +203,12 @@ module _ {P : Type 0} (t : P → List (List ℕ)) (ps : List P) (e : ℕ) (p : P
 pub found_within : (ts : List (List ℕ)) (k : List ℕ) (i : ℕ) → IsKeyIndex ts k i → i < length ts
 found_within ts k i g = get_within ts i k g.key_at_index
 
--- a key below all
+-- a key less than all
 pub gap_first : (k : List ℕ) (ts : List (List ℕ)) → IsBelowAll k ts → IsInsertIndex ts k 0
 gap_first k [] b = record { in_range = omega arith; above_all_before = tt; below = b }
 gap_first k (t ∷ ts) b = record { in_range = omega arith; above_all_before = tt; below = b }
 
--- the first text of all, where those before the part are none
+-- the first text of all, if there are none before the run
 pub first_text : {P : Type 0} (t : P → List (List ℕ)) (ps : List P) (e : ℕ) (p : P) (x : List ℕ) → e < length ps → p ≡ get_or ps e p
     → keys_of_first_runs t ps e ≡ [] → slice_get (t p) 0 ≡ Some x → slice_get (flat_map t ps) 0 ≡ Some x
 first_text t ps e p x w h none is =

@@ -1,4 +1,4 @@
--- What is left of members that are gone through.
+-- The remaining entries of an iterator.
 use Rattle.std.specs.Prelude.{ℕ, List, map}
 use Rattle.sdb_chunks.specs.Iter.{remaining_items}
 use Rattle.sdb_sorted_map.specs.MapEntry.{key_value}

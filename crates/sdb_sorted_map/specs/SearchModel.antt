@@ -1,4 +1,4 @@
--- The names of members in pieces.
+-- The keys of entries in a chunked list.
 use Rattle.std.specs.Prelude.{ℕ, List, map, take, drop, Option, Some, None, Bool, false, not}
 use Rattle.std.specs.List.{flat_map}
 use Rattle.std.specs.Ordering.{is_lt}
@@ -11,7 +11,7 @@ use Rattle.sdb_sorted_map.specs.MapEntry.{entry_key}
 use Rattle.sdb_sorted_map.specs.KeyOrder.{compare_bytes}
 use Rattle.sdb_sorted_map.specs.declared.map_entry.MapEntry.{MapEntry}
 
--- the keys of members, of a block's, of a group's, and of a list's
+-- the keys of entries, of a chunk, of a group, and of a list
 abbrev pub entry_key_bytes : {X : Type 0} → List (MapEntry X) → List (List ℕ)
 entry_key_bytes ms = map entry_key ms
 
@@ -24,19 +24,19 @@ group_keys g = group_models entry_key g
 abbrev pub vec_keys : {X : Type 0} → ChunkedVec (MapEntry X) → List (List ℕ)
 vec_keys l = vec_models entry_key l
 
--- of parts of which t sees the texts, those in the first, and those in the others
+-- the keys of the first n runs, and those of the others, by a view t
 abbrev pub keys_of_first_runs : {P : Type 0} → (P → List (List ℕ)) → List P → ℕ → List (List ℕ)
 keys_of_first_runs t ps n = flat_map t (take n ps)
 
 abbrev pub keys_of_other_runs : {P : Type 0} → (P → List (List ℕ)) → List P → ℕ → List (List ℕ)
 keys_of_other_runs t ps n = flat_map t (drop n ps)
 
--- there is a first text, and it is above the key
+-- there is a first text greater than the key
 abbrev pub first_key_above : List ℕ → Option (List ℕ) → Bool
 first_key_above k None = false
 first_key_above k (Some t) = is_lt (compare_bytes k t)
 
--- there is a first text, and it is the key or below it
+-- there is a first text, not greater than the key
 abbrev pub first_key_at_most : List ℕ → Option (List ℕ) → Bool
 first_key_at_most k None = false
 first_key_at_most k (Some t) = not (is_lt (compare_bytes k t))

@@ -1,4 +1,4 @@
-//! The members of an object, one after the other.
+//! The iterator over a sorted map.
 ghost use Rattle.std.specs.Prelude.{◌≡◌};
 ghost use Rattle.std.specs.Iterator.{YieldsFirstBy, item_count};
 ghost use Rattle.sdb_chunks.specs.Iter.{remaining_items};
@@ -6,7 +6,7 @@ ghost use Rattle.sdb_sorted_map.specs.Iter.{remaining_entries};
 
 use crate::map_entry::MapEntry;
 
-/// What is left of members that are gone through, in the order of their keys.
+/// An iterator over the entries, in the order of their keys.
 #[derive(Drop)]
 pub struct Iter<'a, V> {
     entries: sdb_chunks::Iter<'a, MapEntry<V>>,

@@ -1,4 +1,4 @@
-//! Members of an object, in the order of their keys' bytes, in pieces.
+//! A sorted map: the members of an object as one chunked list, sorted by the bytes of their keys.
 #![tactic(auto)]
 
 mod iter;

@@ -1,4 +1,4 @@
-//! One member.
+//! An entry of a sorted map.
 ghost use Rattle.std.specs.Prelude.{◌≡◌};
 
 use crate::map_key::MapKey;
@@ -10,7 +10,7 @@ use std::alloc::{AllocError, Global};
 pub struct MapEntry<V> {
     /// The key.
     pub key: MapKey,
-    /// Its value.
+    /// The value.
     pub value: V,
 }
 

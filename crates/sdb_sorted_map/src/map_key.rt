@@ -1,4 +1,4 @@
-//! One key.
+//! A key of a sorted map.
 ghost use Rattle.std.specs.Prelude.{◌≡◌, ◌≤◌, ◌<◌, ◌↔◌, length, take, string_bytes, IsUtf8};
 ghost use Rattle.std.specs.Prelude.{IsSome, IfSome, IfOk, OnErr};
 
@@ -6,10 +6,11 @@ use sdb_chunks::TryClone;
 use std::alloc::{AllocError, Global};
 use std::str;
 
-// The longest text that takes no memory: 36 bytes are a UUID's, and with 39 a key takes 48 bytes.
+// Maximal length in bytes of an inline key. A UUID has 36 bytes, and with 39 a key has a size of 48
+// bytes.
 const INLINE_LEN: usize = 39;
 
-// A text of at most `INLINE_LEN` bytes, in place.
+// A text of at most `INLINE_LEN` bytes, stored inline.
 #[derive(Clone, Copy)]
 struct InlineText {
     bytes: [u8; INLINE_LEN],
@@ -21,7 +22,7 @@ struct InlineText {
 impl InlineText {
     ghost use Rattle.sdb_sorted_map.specs.MapKey.{inline_bytes};
 
-    // The short text with these bytes, where they fit.
+    // Copies the text if it is short enough.
     fn new(text: &str) -> Option<InlineText>
         ensures some { IsSome result ↔ (length text.now ≤ 39) }
         ensures value { IfSome result (λ s. inline_bytes s ≡ text.now) }
@@ -38,7 +39,7 @@ impl InlineText {
         })
     }
 
-    // Its text.
+    // Returns the text.
     fn as_str(&self) -> &str
         ensures { result.now ≡ inline_bytes self.now }
     {
@@ -46,14 +47,14 @@ impl InlineText {
     }
 }
 
-// Where the text of a key stands.
+// The representation of a key.
 #[derive(Drop)]
 enum KeyRepr {
     Inline(InlineText),
     Heap(String),
 }
 
-/// The key of a member. One of at most 39 bytes stands in place, without memory of its own.
+/// A key. A text of at most 39 bytes is stored inline.
 #[derive(Drop)]
 pub struct MapKey {
     repr: KeyRepr,
@@ -64,7 +65,7 @@ const _: () = prove!(size_of::<MapKey>() == 48);
 impl MapKey {
     ghost use Rattle.sdb_sorted_map.specs.MapKey.{key_bytes};
 
-    /// The key of this text. A short one is copied into the key, and its memory given back.
+    /// Creates a key. A short text is copied into the key and its memory is freed.
     pub fn new(text: String) -> MapKey
         ensures { key_bytes result ≡ string_bytes text }
     {
@@ -78,7 +79,11 @@ impl MapKey {
         }
     }
 
-    /// The key of a copy of this text. It takes memory only where the text is longer than 39 bytes.
+    /// Creates a key from a copy of the text. It allocates only for more than 39 bytes.
+    ///
+    /// # Errors
+    ///
+    /// [`AllocError`] if an allocation fails.
     pub fn from_str(alloc: Global, text: &str) -> Result<MapKey, AllocError>
         ensures value { IfOk result (λ k. key_bytes k ≡ text.now) }
         ensures memory { OnErr result (39 < length text.now) }
@@ -93,7 +98,7 @@ impl MapKey {
         }
     }
 
-    /// Its text.
+    /// Returns the text.
     pub fn as_str(&self) -> &str
         ensures { result.now ≡ key_bytes self.now }
     {

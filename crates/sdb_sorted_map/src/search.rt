@@ -1,4 +1,4 @@
-//! Where a key stands among members in pieces.
+//! The search for a key in a chunked list.
 ghost use Rattle.std.specs.List.{flat_map};
 ghost use Rattle.std.specs.Prelude.{◌≡◌, ◌≤◌, ◌<◌, ◌-◌, ◌^◌, ℕ, List, length, slice_get, option_map, IfOk, IfErr};
 ghost use Rattle.sdb_sorted_map.specs.KeyOrder.{IsAscending, IsAboveAll, IsBelowAll, IsKeyIndex, IsInsertIndex};
@@ -8,20 +8,20 @@ use crate::map_entry::MapEntry;
 use sdb_chunks::{Chunk, ChunkGroup, ChunkedVec, Repr};
 use std::cmp::Ordering;
 
-// A run of members: a block, or a group of blocks.
+// A run of sorted entries: a chunk or a group of chunks.
 trait SortedRun {
-    // Their keys.
+    // The keys of the run.
     ghost keys: { Self → List (List ℕ) };
 
-    // The first key, or `None` where there is no member.
+    // Returns the first key, or `None` for an empty run.
     fn first_key(&self) -> Option<&str>
         ensures { option_map (λ t. t.now) result ≡ slice_get (keys self.now) 0 };
 
-    // How many members.
+    // Returns the number of entries.
     fn count(&self) -> u128
         ensures { result ≡ length (keys self.now) };
 
-    // The place of a key in it.
+    // Returns the index of a key, or the index at which to insert it.
     fn find(&self, key: &str) -> Result<usize, usize>
         requires ascending { IsAscending (keys self.now) }
         requires bound { length (keys self.now) < 2 ^ 64 }
@@ -56,8 +56,8 @@ impl<V> SortedRun for ChunkGroup<MapEntry<V>> {
     ghost keys = { group_keys };
 
     fn first_key(&self) -> Option<&str> {
-        for block in self.chunks() {
-            if let Some(first) = block.first_key() {
+        for chunk in self.chunks() {
+            if let Some(first) = chunk.first_key() {
                 return Some(first);
             }
         }
@@ -73,7 +73,7 @@ impl<V> SortedRun for ChunkGroup<MapEntry<V>> {
     }
 }
 
-// Whether there is a first key, and it is above this one.
+// Returns whether there is a first key greater than this one.
 fn is_before(key: &str, first: Option<&str>) -> bool
     ensures { result ≡ first_key_above key.now (option_map (λ t. t.now) first.entry) }
 {
@@ -83,7 +83,7 @@ fn is_before(key: &str, first: Option<&str>) -> bool
     }
 }
 
-// Whether there is a first key, and it is this one or below it.
+// Returns whether there is a first key, not greater than this one.
 fn is_not_before(key: &str, first: Option<&str>) -> bool
     ensures { result ≡ first_key_at_most key.now (option_map (λ t. t.now) first.entry) }
 {
@@ -93,7 +93,7 @@ fn is_not_before(key: &str, first: Option<&str>) -> bool
     }
 }
 
-// The place of a key in one block.
+// Finds a key in one chunk by binary search.
 fn find_in_run<V>(members: &[MapEntry<V>], key: &str) -> Result<usize, usize>
     requires { IsAscending (entry_key_bytes members.now) }
     ensures key_index { IfOk result (λ i. IsKeyIndex (entry_key_bytes members.now) key.now i) }
@@ -112,17 +112,17 @@ fn find_in_run<V>(members: &[MapEntry<V>], key: &str) -> Result<usize, usize>
     Err(low)
 }
 
-// The keys in the parts from the answer on are above this one.
-fn first_run_above<P: SortedRun>(parts: &[P], key: &str) -> usize
-    requires { IsAscending (flat_map P.keys parts.now) }
-    ensures in_range { result ≤ length parts.now }
-    ensures below { IsBelowAll key.now (keys_of_other_runs P.keys parts.now result) }
+// Returns the first run such that all keys from it on are greater.
+fn first_run_above<P: SortedRun>(runs: &[P], key: &str) -> usize
+    requires { IsAscending (flat_map P.keys runs.now) }
+    ensures in_range { result ≤ length runs.now }
+    ensures below { IsBelowAll key.now (keys_of_other_runs P.keys runs.now result) }
 {
     let mut low = 0;
-    let mut high = parts.len();
+    let mut high = runs.len();
     while low < high {
         let middle = low + (high - low) / 2;
-        if is_before(key, parts[middle].first_key()) {
+        if is_before(key, runs[middle].first_key()) {
             high = middle;
         } else {
             low = middle + 1;
@@ -131,17 +131,17 @@ fn first_run_above<P: SortedRun>(parts: &[P], key: &str) -> usize
     high
 }
 
-// The keys in the parts from the answer on are above this one, and those in the parts but one before it
-// are below it.
-fn run_end<P: SortedRun>(parts: &[P], key: &str) -> usize
-    requires { IsAscending (flat_map P.keys parts.now) }
-    ensures in_range { result ≤ length parts.now }
-    ensures above { IsAboveAll key.now (keys_of_first_runs P.keys parts.now (result - 1)) }
-    ensures below { IsBelowAll key.now (keys_of_other_runs P.keys parts.now result) }
+// Returns the run after the one that may contain the key: keys from it on are greater, and keys
+// before that one are less.
+fn run_end<P: SortedRun>(runs: &[P], key: &str) -> usize
+    requires { IsAscending (flat_map P.keys runs.now) }
+    ensures in_range { result ≤ length runs.now }
+    ensures above { IsAboveAll key.now (keys_of_first_runs P.keys runs.now (result - 1)) }
+    ensures below { IsBelowAll key.now (keys_of_other_runs P.keys runs.now result) }
 {
-    let mut end = first_run_above(parts, key);
+    let mut end = first_run_above(runs, key);
     while end > 0 {
-        if is_not_before(key, parts[end - 1].first_key()) {
+        if is_not_before(key, runs[end - 1].first_key()) {
             return end;
         }
         end -= 1;
@@ -149,49 +149,49 @@ fn run_end<P: SortedRun>(parts: &[P], key: &str) -> usize
     end
 }
 
-// How many members stand in parts.
-fn count_in<P: SortedRun>(parts: &[P]) -> usize
-    requires { length (flat_map P.keys parts.now) < 2 ^ 64 }
-    ensures { result ≡ length (flat_map P.keys parts.now) }
+// Returns the number of entries in the runs.
+fn count_in<P: SortedRun>(runs: &[P]) -> usize
+    requires { length (flat_map P.keys runs.now) < 2 ^ 64 }
+    ensures { result ≡ length (flat_map P.keys runs.now) }
 {
     let mut count = 0;
-    for part in parts {
-        count += part.count();
+    for run in runs {
+        count += run.count();
     }
     count as usize
 }
 
-// The place of a key among parts.
-fn find_in_runs<P: SortedRun>(parts: &[P], key: &str) -> Result<usize, usize>
-    requires ascending { IsAscending (flat_map P.keys parts.now) }
-    requires bound { length (flat_map P.keys parts.now) < 2 ^ 64 }
-    ensures found { IfOk result (λ i. IsKeyIndex (flat_map P.keys parts.now) key.now i) }
-    ensures insert_index { IfErr result (λ i. IsInsertIndex (flat_map P.keys parts.now) key.now i) }
+// Finds a key in runs.
+fn find_in_runs<P: SortedRun>(runs: &[P], key: &str) -> Result<usize, usize>
+    requires ascending { IsAscending (flat_map P.keys runs.now) }
+    requires bound { length (flat_map P.keys runs.now) < 2 ^ 64 }
+    ensures found { IfOk result (λ i. IsKeyIndex (flat_map P.keys runs.now) key.now i) }
+    ensures insert_index { IfErr result (λ i. IsInsertIndex (flat_map P.keys runs.now) key.now i) }
 {
-    let end = run_end(parts, key);
+    let end = run_end(runs, key);
     if end == 0 {
         return Err(0);
     }
-    let start = count_in(&parts[..end - 1]);
-    match parts[end - 1].find(key) {
+    let start = count_in(&runs[..end - 1]);
+    match runs[end - 1].find(key) {
         Ok(at) => Ok(start + at),
         Err(at) => Err(start + at),
     }
 }
 
-/// How many members there are.
+/// Returns the number of entries.
 pub(crate) fn count_keys<V>(entries: &ChunkedVec<MapEntry<V>>) -> usize
     requires { length (vec_keys entries.now) < 2 ^ 64 }
     ensures { result ≡ length (vec_keys entries.now) }
 {
     match entries.repr() {
-        Repr::Flat(block) => block.len(),
-        Repr::Chunks(blocks) => count_in(blocks.items()),
+        Repr::Flat(chunk) => chunk.len(),
+        Repr::Chunks(chunks) => count_in(chunks.items()),
         Repr::Groups(groups) => count_in(groups.items()),
     }
 }
 
-/// The index of the key's member, or the one where it can be put.
+/// Returns the index of a key, or the index at which to insert it.
 pub(crate) fn find_key<V>(entries: &ChunkedVec<MapEntry<V>>, key: &str) -> Result<usize, usize>
     requires ascending { IsAscending (vec_keys entries.now) }
     requires bound { length (vec_keys entries.now) < 2 ^ 64 }
@@ -199,8 +199,8 @@ pub(crate) fn find_key<V>(entries: &ChunkedVec<MapEntry<V>>, key: &str) -> Resul
     ensures insert_index { IfErr result (λ i. IsInsertIndex (vec_keys entries.now) key.now i) }
 {
     match entries.repr() {
-        Repr::Flat(block) => block.find(key),
-        Repr::Chunks(blocks) => find_in_runs(blocks.items(), key),
+        Repr::Flat(chunk) => chunk.find(key),
+        Repr::Chunks(chunks) => find_in_runs(chunks.items(), key),
         Repr::Groups(groups) => find_in_runs(groups.items(), key),
     }
 }

@@ -1,4 +1,4 @@
-//! The members of an object.
+//! The sorted map.
 ghost use Rattle.std.specs.Prelude.{◌≡◌, ◌<◌, ◌^◌, [], map, true, false, None, length, string_bytes, option_map, is_some, IfOk, IfErr, IfSome, OnOk, OnErr};
 ghost use Rattle.std.proofs.Props.{props};
 ghost use Rattle.std.specs.Map.{lookup, remove_entry};
@@ -17,7 +17,7 @@ use sdb_chunks::{ChunkedVec, TryClone};
 use std::alloc::{AllocError, Global};
 use std::collections::BTreeMap;
 
-/// Members in the order of their keys' bytes, no key twice.
+/// A map sorted by the bytes of its keys, in one chunked list of entries.
 #[derive(Drop)]
 pub struct SortedMap<V> {
     entries: ChunkedVec<MapEntry<V>>,
@@ -28,7 +28,7 @@ pub struct SortedMap<V> {
 impl<V> SortedMap<V> {
     ghost use Rattle.sdb_sorted_map.specs.SortedMap.{map_entries, is_unique_map, is_shared_map, entry_keys, map_keys, map_chunks};
 
-    /// No members.
+    /// Creates an empty map.
     pub fn new(alloc: Global) -> SortedMap<V>
         ensures members { map_entries result ≡ [] }
         ensures unique { is_unique_map result ≡ true }
@@ -38,7 +38,7 @@ impl<V> SortedMap<V> {
         }
     }
 
-    /// The members of a list in which their keys ascend.
+    /// Creates a map from a list of entries that is sorted by key.
     pub fn from_entries(entries: ChunkedVec<MapEntry<V>>) -> SortedMap<V>
         requires bound { length (vec_keys entries) < 2 ^ 64 }
         requires ascending { IsAscending (vec_keys entries) }
@@ -47,7 +47,7 @@ impl<V> SortedMap<V> {
         SortedMap { entries }
     }
 
-    /// The list of the members.
+    /// Returns the list of entries.
     pub fn into_chunks(self) -> ChunkedVec<MapEntry<V>>
         ensures equal { result ≡ map_chunks self }
         ensures bound { length (vec_keys result) < 2 ^ 64 }
@@ -57,7 +57,7 @@ impl<V> SortedMap<V> {
         entries
     }
 
-    /// The list of the members.
+    /// Returns the list of entries.
     pub fn chunks(&self) -> &ChunkedVec<MapEntry<V>>
         ensures equal { result.now ≡ map_chunks self.now }
         ensures bound { length (vec_keys result.now) < 2 ^ 64 }
@@ -66,7 +66,7 @@ impl<V> SortedMap<V> {
         &self.entries
     }
 
-    /// The members, in the order of their keys.
+    /// Iterates over the entries, in the order of their keys.
     pub fn iter(&self) -> Iter<'_, V>
         ensures members { remaining_entries result ≡ map_entries self.now }
         ensures ordered { IsAscending (entry_keys (map_entries self.now)) }
@@ -74,14 +74,18 @@ impl<V> SortedMap<V> {
         Iter::new(self.entries.iter())
     }
 
-    /// How many members.
+    /// Returns the number of entries.
     pub fn len(&self) -> usize
         ensures { result ≡ length (map_keys self.now) }
     {
         count_keys(&self.entries)
     }
 
-    /// The index of the key's member, or else the one where it can be put.
+    /// Returns the index of a key.
+    ///
+    /// # Errors
+    ///
+    /// The index at which to insert the key, if it is absent.
     pub fn position_of(&self, key: &str) -> Result<usize, usize>
         ensures found { IfOk result (λ i. IsKeyIndex (map_keys self.now) key.now i) }
         ensures insert_index { IfErr result (λ i. IsInsertIndex (map_keys self.now) key.now i) }
@@ -89,15 +93,18 @@ impl<V> SortedMap<V> {
         find_key(&self.entries, key)
     }
 
-    /// Whether a copy of them is a pointer.
+    /// Returns whether a clone is a pointer.
     pub fn is_shared(&self) -> bool
         ensures { result ≡ is_shared_map self.now }
     {
         self.entries.is_shared()
     }
 
-    /// The same members again, as a pointer to them, where they are shared; `None` where they aren't. Fails only
-    /// where no more pointers can be counted.
+    /// Clones the map by pointer if it is shared, or returns `None`.
+    ///
+    /// # Errors
+    ///
+    /// [`AllocError`] if the reference count is at its maximum.
     pub fn clone_shared(&self) -> Result<Option<SortedMap<V>>, AllocError>
         ensures equal { IfOk result (λ o. IfSome o (λ m. map_entries m ≡ map_entries self.now)) }
         ensures shared { IfOk result (λ o. IfSome o (λ m. is_shared_map m ≡ true)) }
@@ -113,8 +120,12 @@ impl<V> SortedMap<V> {
 impl<V: Drop> SortedMap<V> {
     ghost use Rattle.sdb_sorted_map.specs.SortedMap.{map_entries, is_unique_map};
 
-    /// The members of a vector in which their keys ascend: up to 20 in the vector's own memory, more in blocks. Fails
-    /// only where memory is wanting.
+    /// Creates a map from entries that are sorted by key. Up to 20 entries keep the vector's
+    /// memory, more are chunked.
+    ///
+    /// # Errors
+    ///
+    /// [`AllocError`] if an allocation fails.
     pub fn from_sorted(alloc: Global, entries: Vec<MapEntry<V>>) -> Result<SortedMap<V>, AllocError>
         requires { IsAscending (entry_key_bytes entries.items) }
         ensures members { IfOk result (λ m. map_entries m ≡ map key_value entries.items) }
@@ -125,7 +136,11 @@ impl<V: Drop> SortedMap<V> {
         })
     }
 
-    /// The members of a map. Fails only where memory is wanting.
+    /// Creates a map from a `BTreeMap`.
+    ///
+    /// # Errors
+    ///
+    /// [`AllocError`] if an allocation fails.
     pub fn from_map(alloc: Global, entries: BTreeMap<String, V>) -> Result<SortedMap<V>, AllocError>
         ensures members { IfOk result (λ m. map_entries m
             ≡ map (λ e. (string_bytes e.0, e.1)) entries.entries) }
@@ -145,7 +160,7 @@ impl<V: Drop> SortedMap<V> {
 impl<V: TryClone> SortedMap<V> {
     ghost use Rattle.sdb_sorted_map.specs.SortedMap.{map_entry_models, is_unique_map};
 
-    /// The value of the key, or `None` where no member has it.
+    /// Returns the value of a key, or `None` if it is absent.
     pub fn get(&self, key: &str) -> Option<&V>
         ensures { option_map (λ v. V.model v.now) result
             ≡ lookup (is_at (compare_bytes key.now)) (map_entry_models V.model self.now) }
@@ -156,8 +171,8 @@ impl<V: TryClone> SortedMap<V> {
         }
     }
 
-    /// The value of the key, to be changed, or `None` where no member has it, and where its block is shared or the
-    /// members are in groups.
+    /// Borrows the value of a key mutably. Returns `None` if the key is absent, its chunk is shared
+    /// or the entries are in groups.
     pub fn get_mut(&mut self, key: &str) -> Option<&mut V>
         ensures { is_unique_map self.old ≡ true → option_map (λ v. V.model v.now) result
             ≡ lookup (is_at (compare_bytes key.now)) (map_entry_models V.model self.old) }
@@ -168,8 +183,12 @@ impl<V: TryClone> SortedMap<V> {
         }
     }
 
-    /// Gives the key this value, whether it was there before or not, and answers the value that it had. `Err`, with
-    /// the members unchanged, where memory is wanting: the key is new, or something is shared.
+    /// Sets the value of a key and returns its old value. It allocates only if the key is new or a
+    /// part is shared.
+    ///
+    /// # Errors
+    ///
+    /// [`AllocError`] if an allocation fails. The map is then unchanged.
     pub fn insert(&mut self, alloc: Global, key: String, value: V) -> Result<Option<V>, AllocError>
         ensures ok { OnOk result (map_entry_models V.model self.new
             ≡ insert_entry compare_bytes (map_entry_models V.model self.old) (string_bytes key) (V.model value)) }
@@ -205,8 +224,11 @@ impl<V: TryClone> SortedMap<V> {
         }
     }
 
-    /// Takes the key and its value out, if it is there, and answers the value. `Err`, with the members unchanged,
-    /// where memory is wanting: it takes some only where something is shared.
+    /// Removes a key and returns its value, if present. It allocates only if a part is shared.
+    ///
+    /// # Errors
+    ///
+    /// [`AllocError`] if an allocation fails. The map is then unchanged.
     pub fn remove(&mut self, alloc: Global, key: &str) -> Result<Option<V>, AllocError>
         ensures ok { OnOk result (map_entry_models V.model self.new
             ≡ remove_entry (is_at (compare_bytes key.now)) (map_entry_models V.model self.old)) }

@@ -1,4 +1,4 @@
-//! The value of a member, lent for a change.
+//! A mutable borrow of a value.
 ghost use Rattle.std.specs.Prelude.{◌≡◌, option_map, slice_get, true, false};
 ghost use Rattle.std.specs.Borrow.{LendsSo, sem};
 ghost use Rattle.sdb_chunks.specs.ChunkedVec.{vec_models, is_grouped, is_unique_vec_at};
@@ -9,7 +9,7 @@ ghost use Rattle.sdb_sorted_map.specs.SearchModel.{vec_keys};
 use crate::map_entry::MapEntry;
 use sdb_chunks::{ChunkedVec, TryClone};
 
-// The value of the member at an index, where its block is the list's own. The keys stay as they are.
+// Borrows the value at an index mutably, if its chunk is unique. The keys are unchanged.
 pub(crate) fn entry_value_mut<V: TryClone>(
     entries: &mut ChunkedVec<MapEntry<V>>,
     index: usize,

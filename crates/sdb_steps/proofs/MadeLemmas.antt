@@ -119,7 +119,7 @@ repeats_all before later e again now h src seq = repeat_of before later e again 
 -- the stored entry and its version
 record IsStoredAt (log : List PlainEntry) (s : PlainSubmission) (v : ℕ) (d : Decision) : Type 0 where
   pub none : stored_at s.src s.seq log ≡ None
-  pub place : v ≡ length log
+  pub at_end : v ≡ length log
   pub entry : PlainEntry
   pub more : d.log ≡ log ++ entry ∷ []
   pub from : entry.arrived ≡ s
@@ -128,7 +128,7 @@ stores_by : (log not_seen : List PlainEntry) (s : PlainSubmission) (now v : ℕ)
     → (option_map_or (λ i. record { reply = repeated i; log = log }) o (append_decided log s now r)).reply ≡ stored v not_seen → IsStoredAt log s v (option_map_or (λ i. record { reply = repeated i; log = log }) o (append_decided log s now r))
 stores_by log not_seen s now v (Some i) r is h = absurd (cc)
 stores_by log not_seen s now v None (Err c) is h = absurd (cc)
-stores_by log not_seen s now v None (Ok m) is h = let k : v ≡ length log = cc in record { none = is; place = k; entry = new_entry log s now m; more = refl; from = refl }
+stores_by log not_seen s now v None (Ok m) is h = let k : v ≡ length log = cc in record { none = is; at_end = k; entry = new_entry log s now m; more = refl; from = refl }
 
 stored_at_of_reply : (log not_seen : List PlainEntry) (s : PlainSubmission) (now v : ℕ) → (decide log s now).reply ≡ stored v not_seen → IsStoredAt log s v (decide log s now)
 stored_at_of_reply log not_seen s now v h = stores_by log not_seen s now v (stored_at s.src s.seq log) (rebased_content log s) refl h
@@ -142,4 +142,4 @@ resent_all log not_seen more s again now later v h src seq =
     let none : stored_at e.arrived.src e.arrived.seq log ≡ None = ap (λ (x : PlainSubmission). stored_at x.src x.seq log) t.from ∙ t.none in
     let first : decide (log ++ e ∷ more) again later ≡ record { reply = repeated (length log); log = log ++ e ∷ more } =
     repeat_of log more e again later none (src ∙ sym (ap (λ (x : PlainSubmission). x.src) t.from)) (seq ∙ sym (ap (λ (x : PlainSubmission). x.seq) t.from)) in
-    ap (λ (l : List PlainEntry). decide l again later) whole ∙ first ∙ ap (λ (n : ℕ). record { reply = repeated n; log = log ++ e ∷ more }) (sym t.place) ∙ ap (λ (l : List PlainEntry). record { reply = repeated v; log = l }) (sym whole)
+    ap (λ (l : List PlainEntry). decide l again later) whole ∙ first ∙ ap (λ (n : ℕ). record { reply = repeated n; log = log ++ e ∷ more }) (sym t.at_end) ∙ ap (λ (l : List PlainEntry). record { reply = repeated v; log = l }) (sym whole)

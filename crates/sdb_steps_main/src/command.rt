@@ -1,4 +1,4 @@
-//! The command line, and what it asks for.
+//! The command line and its options.
 use clap::{Arg, ArgAction, Command, Error};
 use sdb_cli::{STATUS_FAULT, STATUS_OK, exit_status, print_help_or_error};
 use sdb_dump::{CheckedDump, DumpFault, check_dump};
@@ -6,14 +6,14 @@ use sdb_lines::{CountingReader, CountingWriter, RunFault};
 use std::alloc::{AllocError, Global};
 use std::io;
 
-// What a command line asks for.
+// The mode in which the program runs.
 #[derive(Clone, Copy, PartialEq, Eq, Drop)]
 pub(crate) enum Job {
-    // The answers to steps.
+    // Writes the responses to the steps.
     Run,
-    // What is stored after them, as a dump.
+    // Writes the dump of the documents after the steps.
     Dump,
-    // Whether the input is such a dump.
+    // Checks whether the input is such a dump.
     Check,
 }
 
@@ -35,7 +35,7 @@ fn command<'a>(alloc: Global) -> Result<Command<'a>, AllocError> {
         .arg(check)
 }
 
-// What a command line asks for. Help and what is refused are errors.
+// Parses a command line; help and refusals are errors.
 pub(crate) fn parse_job(alloc: Global, words: &[String]) -> Result<Job, Error> {
     let matches = command(alloc)?.try_get_matches_from(words)?;
     if matches.get_flag("dump") {
@@ -47,7 +47,7 @@ pub(crate) fn parse_job(alloc: Global, words: &[String]) -> Result<Job, Error> {
     Ok(Job::Run)
 }
 
-// Does what the words ask for, and gives the status.
+// Runs the program with these words, and returns the exit status.
 pub(crate) fn run<R>(rt: &R, words: &[String]) -> anyhow::Result<u8>
 where
     R: AllocGlobal + Input + Print + Eprint,
@@ -59,7 +59,7 @@ where
     }
 }
 
-// Takes the steps on standard input, and writes the dump of what they store, or their answers.
+// Executes the steps of standard input, and writes the responses or the dump.
 fn run_input<R: AllocGlobal + Input + Print>(rt: &R, is_dumping: bool) -> u8 {
     let mut reader = CountingReader::new(rt.reader());
     let mut writer = CountingWriter::new(io::writer(rt));
@@ -74,13 +74,13 @@ fn run_input<R: AllocGlobal + Input + Print>(rt: &R, is_dumping: bool) -> u8 {
     }
 }
 
-// Tells whether standard input is a dump.
+// Checks whether standard input is a dump.
 fn check_input<R: AllocGlobal + Input + Print>(rt: &R) -> u8 {
     let mut reader = CountingReader::new(rt.reader());
     print_check(rt, check_dump(rt.alloc(), &mut reader))
 }
 
-// Tells what came of a check, and gives the status.
+// Prints the outcome of a check, and returns the exit status.
 pub(crate) fn print_check(rt: &impl Print, checked: Result<CheckedDump, DumpFault>) -> u8 {
     match checked {
         Ok(

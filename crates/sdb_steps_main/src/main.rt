@@ -1,5 +1,5 @@
-//! The steps of up to 64 sessions on one set of documents: `sdb_steps_main` answers the lines on
-//! standard input, each a step, with a line each on standard output.
+//! The program that executes the steps of up to 64 sessions on shared documents. Each line of
+//! standard input is a step, and each has one response line on standard output.
 #![tactic(auto)]
 
 mod command;

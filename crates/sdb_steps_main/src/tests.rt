@@ -1,11 +1,11 @@
-//! Command lines.
+//! Tests of command lines.
 use crate::command::{Job, parse_job};
 use sdb_cli::terminal::{TerminalBuffer, argument_list};
 use sdb_cli::{STATUS_OK, STATUS_USAGE, print_help_or_error};
 use std::alloc::Global;
 use std::test::Fail;
 
-// How a command line that asks for no run ends; `None` if it asks for one.
+// Returns the exit status of a command line that starts no run.
 fn ended(alloc: Global, terminal: &TerminalBuffer, words: &[String]) -> Option<u8> {
     match parse_job(alloc, words) {
         Ok(_) => None,

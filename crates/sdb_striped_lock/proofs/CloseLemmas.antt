@@ -1,4 +1,4 @@
--- The seats of the first caller and of all others at one place.
+-- The seats of the first caller and of all others at one index.
 use Rattle.std.proofs.Common.{◌≡◌, ℕ, zero, suc, ◌+◌, ◌<◌, ◌≤◌, inl, inr, List, [], ◌∷◌, map, slice_index_or, refl, sym, ap, ◌∙◌, subst, arith}
 use Rattle.sdb_growlock.specs.LockRule.{ForEach, IsAmong, sum_of}
 use Rattle.sdb_growlock.specs.SeatModel.{BelongsTo, HasSeen, HasNumber, seat_count}
@@ -33,7 +33,7 @@ module _ {T : Type 0} (i : ℕ) (d : Seat T) where
   is_among_numbers l k (c ∷ cs) h (inl e) = inl (h.0.1 ∙ e)
   is_among_numbers l k (c ∷ cs) h (inr a) = inr (is_among_numbers l k cs h.1 a)
 
-  -- all seats of the lock at this place are there
+  -- all seats of the lock at this index are present
   has_number : (l : GrowLock T) (k next : ℕ) (first : Seat T) (cs : List (SeatSet T)) → IsRootSeat next first l → ForEach (λ c. IsSeatNumbered c.number (seat_at c) l) cs
       → ((k : ℕ) → 0 < k → k < next → IsAmong k (map (λ c. c.number) cs)) → k < next → HasNumber k (first ∷ seats_at cs)
   has_number l zero next first cs f h all lt = inl f.1
@@ -48,7 +48,7 @@ module _ {T : Type 0} (i : ℕ) (d : Seat T) where
       let n = count_of_seats l next first cs f h in
       (omega (arith, n, some), λ k lt. has_number l k next first cs f h all (omega (arith, n, lt)))
 
--- what is said of the locks, at one place
+-- the facts of all locks at one index
 pub for_each_at_index : {T : Type 0} (locks : StripedLock T) (cs : List (SeatSet T)) (i : ℕ) (d : Seat T) (l : GrowLock T) → i < 8 → ForEach (λ c. SeatSetBelongsTo c locks) cs
     → ForEach (λ c. IsSeatNumbered c.number (slice_index_or c.seats.items i d) (slice_index_or locks.locks.items i l)) cs
 for_each_at_index locks [] i d l lt h = tt

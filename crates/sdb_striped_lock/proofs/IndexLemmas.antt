@@ -1,16 +1,16 @@
--- Items that are put at a place of a list, or behind the others.
+-- Items that are set at an index of a list, or appended.
 use Rattle.std.proofs.Common.{◌≡◌, ◌≢◌, ℕ, ◌+◌, ◌<◌, ◌≤◌, ◌⊎◌, inl, inr, true, false, nat_eq, List, [], ◌∷◌, ◌++◌, length, length-append, slice_index_or, slice_set, sym, ap, ◌∙◌, subst, arith}
 use Rattle.std.proofs.Math.Seq.{get_or-append_seam}
 use Rattle.std.proofs.lemmas.Bool.Decides.{eqb_tells}
 use Rattle.std.proofs.lemmas.List.{get_or_default, get_or-set_same, get_or-set_other, get_or_append_left}
 use Rattle.sdb_striped_lock.specs.AtIndex.{AtEachIndex}
 
--- the item that was read, whatever stands in for none
+-- the item at an index, for any default
 pub get_or_is : {A : Type 0} (xs : List A) (i : ℕ) (x d : A) → i < length xs → x ≡ slice_index_or xs i x → slice_index_or xs i d ≡ x
 get_or_is xs i x d lt is = get_or_default xs i d x lt ∙ sym is
 
 module _ {A : Type 0} (P : ℕ → A → Type 0) where
-  -- what holds of each item from n on and below m
+  -- a property of each item from index n up to, and without, m
   abbrev pub AtEachItem : List A → ℕ → ℕ → Type 0
   AtEachItem xs n m = (i : ℕ) (x : A) → n ≤ i → i < m → P i (slice_index_or xs i x)
 
@@ -20,7 +20,7 @@ module _ {A : Type 0} (P : ℕ → A → Type 0) where
       subst (λ (k : ℕ). P k (slice_index_or (slice_set xs i t) k x)) (sym at.1) (subst (P i) (sym (get_or-set_same xs i t x within)) here)
   get_or_set xs n m i t j x (inr at) from below within same other here = subst (P j) (sym (get_or-set_other xs i j t x at.1)) (other at.1)
 
-  -- an item that is put at i
+  -- an item that is set at i
   pub each_item_of_set : (xs : List A) (n m i : ℕ) (t : A) → i < length xs → ((j : ℕ) (x : A) → n ≤ j → j < m → j ≢ i → P j (slice_index_or xs j x)) → P i t → AtEachItem (slice_set xs i t) n m
   each_item_of_set xs n m i t within others here j x from below =
       get_or_set xs n m i t j x (eqb_tells j i) from below within (λ e no. absurd no) (λ ne. others j x from below ne) here
@@ -34,11 +34,11 @@ module _ {A : Type 0} (P : ℕ → A → Type 0) where
       let below : j < m = omega (arith, lt, ne) in
       subst (P j) (sym (get_or_append_left xs (t ∷ []) x j (omega (arith, below, long)))) (h j x (omega arith) below)
 
-  -- an item that is put behind the others
+  -- an item that is appended
   pub each_item_of_push : (xs : List A) (m : ℕ) (t : A) → length xs ≡ m → AtEachItem xs 0 m → P m t → AtEachItem (xs ++ t ∷ []) 0 (m + 1)
   each_item_of_push xs m t long h here j x from lt = get_or_push xs m t j x (eqb_tells j m) lt long h here
 
--- ---- a list whose last item was taken out, and that had the first items of another
+-- ---- a list whose last item was removed, and that began with the items of another
 
 module _ {A : Type 0} (xs init orig : List A) (x : A) (e : xs ≡ init ++ x ∷ []) (same : (i : ℕ) (d : A) → i < length xs → slice_index_or xs i d ≡ slice_index_or orig i d) where
   pub length_of_pop : length xs ≡ length init + 1
@@ -54,7 +54,7 @@ module _ {A : Type 0} (xs init orig : List A) (x : A) (e : xs ≡ init ++ x ∷ 
       let n = length_of_pop in
       sym (get_or_append_left init (x ∷ []) d i lt) ∙ ap (λ (l : List A). slice_index_or l i d) (sym e) ∙ same i d (omega (arith, n, lt))
 
--- two items that are put behind two lists of one length
+-- two items that are appended to two lists of one length
 pub at_each_of_push : {A B : Type 0} (P : A → B → Type 0) (xs : List A) (ys : List B) (m : ℕ) (x : A) (y : B) → length xs ≡ m → length ys ≡ m → AtEachIndex P xs ys 0 m → P x y
     → AtEachIndex P (xs ++ x ∷ []) (ys ++ y ∷ []) 0 (m + 1)
 at_each_of_push P xs ys m x y long_xs long_ys h here i s d from lt =

@@ -1,4 +1,4 @@
--- What is known of the values that a close gives.
+-- The values that a close returns.
 use Rattle.std.specs.Prelude.{ℕ, ◌<◌, ◌≤◌, List}
 use Rattle.sdb_growlock.specs.LockRule.{ForEach}
 use Rattle.sdb_growlock.specs.declared.grow_lock.Seat.{Seat}
@@ -13,18 +13,18 @@ abbrev pub HasEverySeat : {T : Type 0} → List (Seat T) → Type 0
 HasEverySeat seats = (0 < seat_count seats) × ((k : ℕ) → k < seat_count seats → HasNumber k seats)
 
 module _ {T : Type 0} (extends : T → T → Type 0) (same : ℕ → T → T → Type 0) (blank : ℕ → T → Type 0) where
-  -- the value extends what the seat at a place has seen, and holds under the number just what it has seen there
+  -- the value extends what the seat at an index has observed, and has the same part of the number
   abbrev pub ExtendsAndKeeps : ℕ → ℕ → List (Seat T) → T → Type 0
   ExtendsAndKeeps i n seats v = (x : T) → HasSeenAt seats i x → extends v x × same n x v
 
-  -- the value at a place extends what each caller has seen there, holds under the number of each just what that one has
-  -- seen, and nothing under a number of no caller
+  -- the value at an index extends what each caller has observed there, has each caller's part unchanged, and has no
+  -- part of any other number
   pub record IsCloseResult (first : RootSeats T) (callers : List (SeatSet T)) (i : ℕ) (v : T) : Type 0 where
     pub extends_root : ExtendsAndKeeps i 0 first.seats.items v
     pub others : ForEach (λ c. ExtendsAndKeeps i c.number c.seats.items v) callers
     pub blank_elsewhere : (k : ℕ) → first.next ≤ k → blank k v
 
-  -- what one lock gives for its seats
+  -- the value that one lock returns for its seats
   abbrev pub IsValueAfterClose : List (Seat T) → T → Type 0
   IsValueAfterClose seats v =
       ForEach (λ s. (x : T) → HasSeen s x → extends v x × same (one.number s) x v) seats

@@ -1,4 +1,4 @@
-//! Room for what a close gathers.
+//! Buffers for the seats and values of a close.
 ghost use Rattle.std.specs.Prelude.{◌≡◌, ℕ, ◌+◌, ◌<◌, ◌≤◌, ◌++◌, ◌∷◌, [], List, Vec, IfOk, length, map, slice_index_or, vec_len, vec_capacity};
 ghost use Rattle.std.specs.Global.{Global};
 ghost use Rattle.sdb_growlock.specs.declared.grow_lock.Seat.{Seat as LockSeat};
@@ -8,11 +8,11 @@ use crate::striped_lock::{RootSeats, SeatSet};
 use sdb_growlock::Seat;
 use std::alloc::{AllocError, Global};
 
-// How many locks there are.
+// Number of locks.
 pub(crate) const STRIPES: usize = 8;
 
-/// Room for all seats of some callers, and for the values of the locks. It is made before a close, which takes no
-/// memory itself.
+/// Buffers for the seats of all callers and the values of all locks. They are allocated before a
+/// close, which itself doesn't allocate.
 #[derive(Drop)]
 pub struct CloseBuffers<T> {
     pub(crate) seats_by_stripe: Vec<Vec<Seat<T>>>,
@@ -20,7 +20,11 @@ pub struct CloseBuffers<T> {
 }
 
 impl<T> CloseBuffers<T> {
-    /// Room for the first seats and those of so many callers.
+    /// Allocates buffers for the first seats and the seats of `callers` callers.
+    ///
+    /// # Errors
+    ///
+    /// [`AllocError`] if an allocation fails.
     pub fn new(alloc: Global, callers: usize) -> Result<CloseBuffers<T>, AllocError>
         ensures { IfOk result (λ p. HasCapacity callers p) }
     {
@@ -39,24 +43,26 @@ impl<T> CloseBuffers<T> {
     }
 }
 
-// Puts each seat behind those of its lock.
+// Appends each seat to the seats of its lock.
 pub(crate) fn gather_stripe<T>(columns: &mut Vec<Vec<Seat<T>>>, mut seats: Vec<Seat<T>>)
     requires length { (length columns.old.items ≡ 8) × (length seats.items ≡ 8) }
     requires room { (i : ℕ) (d : Vec (LockSeat T) Global) → i < 8 → vec_len (slice_index_or columns.old.items i d) <
         vec_capacity (slice_index_or columns.old.items i d) }
     ensures length { length columns.new.items ≡ 8 }
-    ensures capacity { (i : ℕ) (d : Vec (LockSeat T) Global) → i < 8 → vec_capacity (slice_index_or columns.new.items i d) ≡
+    ensures capacity { (i : ℕ) (d : Vec (LockSeat T) Global) → i < 8
+        → vec_capacity (slice_index_or columns.new.items i d) ≡
         vec_capacity (slice_index_or columns.old.items i d) }
-    ensures each { (i : ℕ) (d : Vec (LockSeat T) Global) (s : LockSeat T) → i < 8 → (slice_index_or columns.new.items i d).items ≡
+    ensures each { (i : ℕ) (d : Vec (LockSeat T) Global) (s : LockSeat T) → i < 8
+        → (slice_index_or columns.new.items i d).items ≡
         (slice_index_or columns.old.items i d).items ++ slice_index_or seats.items i s ∷ [] }
 {
     while let Some(seat) = seats.pop() {
-        let place = seats.len();
-        columns[place].push_reserved(seat);
+        let index = seats.len();
+        columns[index].push_reserved(seat);
     }
 }
 
-// Puts the seats of all callers behind the first ones.
+// Appends the first seats, and then the seats of all callers.
 pub(crate) fn gather_stripes<T>(
     columns: &mut Vec<Vec<Seat<T>>>,
     first: RootSeats<T>,
@@ -64,7 +70,8 @@ pub(crate) fn gather_stripes<T>(
 )
     requires room { ColumnsHaveCapacity (length callers.items) columns.old.items }
     ensures length { length columns.new.items ≡ 8 }
-    ensures each { (i : ℕ) (d : Vec (LockSeat T) Global) (s : LockSeat T) → i < 8 → (slice_index_or columns.new.items i d).items ≡
+    ensures each { (i : ℕ) (d : Vec (LockSeat T) Global) (s : LockSeat T) → i < 8
+        → (slice_index_or columns.new.items i d).items ≡
         slice_index_or first.seats.items i s ∷ map (λ c. slice_index_or c.seats.items i s) callers.items }
 {
     gather_stripe(columns, first.into_seats());

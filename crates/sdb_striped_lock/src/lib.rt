@@ -1,7 +1,8 @@
-//! Eight locks round values that only grow, and callers who have a seat of each.
+//! Eight locks around values that only grow, and callers with one seat per lock.
 //!
-//! A value that would be under one lock is parted into eight, so that callers of different parts don't wait for each
-//! other. What a caller knows of each part is what [`GrowLock::with`](sdb_growlock::GrowLock::with) says of one lock.
+//! Lock striping: a value is split in eight parts, so that callers of different parts don't wait
+//! for each other. Each part has the guarantees of
+//! [`GrowLock::with`](sdb_growlock::GrowLock::with).
 #![tactic(auto)]
 
 mod close_buffers;

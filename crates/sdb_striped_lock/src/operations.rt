@@ -1,4 +1,4 @@
-//! Eight locks.
+//! The operations of eight locks.
 ghost use Rattle.std.specs.Prelude.{◌≡◌, ◌≢◌, ℕ, ◌+◌, ◌<◌, ◌≤◌, [], List, Vec, IfOk, IfErr, OnErr, length, slice_index_or, vec_len, vec_capacity};
 ghost use Rattle.std.specs.Global.{Global};
 ghost use Rattle.sdb_growlock.specs.LockRule.{ForEach};
@@ -16,24 +16,28 @@ use sdb_growlock::{GrowLock, Grows, Job, Seat};
 use std::alloc::{AllocError, Global};
 use std::sync::Wait;
 
-/// A value that grows and can be made anew.
+/// A growing value with an empty one.
 pub trait Empty: Grows {
-    /// A value that holds nothing under any number.
+    /// Returns a value without a part of any number.
     fn empty(alloc: Global) -> Self
         ensures { (k : ℕ) → Self.blank k result };
 }
 
-/// Why no seats were split off.
+/// The reason why a split fails.
 #[derive(Clone, Copy, PartialEq, Eq, Debug, Drop)]
 pub enum SplitFault {
-    /// All numbers below the greatest u64 are given.
+    /// All numbers below the greatest `u64` are used up.
     OutOfNumbers,
-    /// Memory was wanting for the list of seats.
+    /// The allocation of the list of seats failed.
     OutOfMemory,
 }
 
 impl<T: Empty + Drop> StripedLock<T> {
-    /// Eight locks, each round a fresh value, and their first seats.
+    /// Creates eight locks, each around an empty value, and their first seats.
+    ///
+    /// # Errors
+    ///
+    /// [`AllocError`] if an allocation fails.
     pub fn new(alloc: Global) -> Result<(StripedLock<T>, RootSeats<T>), AllocError>
         ensures belongs { IfOk result (λ made. AreRootSeatsOf made.1 made.0 × (next_seat_set_number made.1 ≡ 1)) }
         ensures seen { IfOk result (λ made. (i : ℕ) → i < 8 → (x : T) × RootSeatsHaveSeen made.1 i x
@@ -55,34 +59,39 @@ impl<T: Empty + Drop> StripedLock<T> {
 }
 
 impl<T: Grows> StripedLock<T> {
-    /// Runs the job once, on the value of the lock at a place. That value extends what the seat of this lock
-    /// has seen, and holds under the number of the seats just what it has seen there. The seat has then seen
-    /// what the job left, and the other seats are as they were. Waits until no other caller has that value.
+    /// Runs the job once, on the value of the lock at an index. It extends the value that the seat
+    /// of this lock observed last and has the same part of the seats' number. This seat then
+    /// observes the job's result; the other seats are unchanged. Waits until the lock is free.
     pub fn with<J: Job<T>, R: Wait>(
         &self,
         rt: &R,
         seats: &mut SeatSet<T>,
-        place: usize,
+        index: usize,
         job: J,
     ) -> J::Answer
-        requires place { place < 8 }
+        requires index { index < 8 }
         requires belongs { SeatSetBelongsTo seats.old self.now }
-        requires ready { (x v : T) → SeatSetHasSeen seats.old place x → T.extends v x
+        requires ready { (x v : T) → SeatSetHasSeen seats.old index x → T.extends v x
             → T.same (seat_set_number seats.old) x v
             → J.precondition job (seat_set_number seats.old) v }
         ensures belongs { SeatSetBelongsTo seats.new self.now }
         ensures number_unchanged { seat_set_number seats.new ≡ seat_set_number seats.old }
-        ensures others_unchanged { ChangedOnlyAt place seats.old seats.new }
-        ensures ran { (x v w : T) × SeatSetHasSeen seats.old place x × T.extends v x
+        ensures others_unchanged { ChangedOnlyAt index seats.old seats.new }
+        ensures ran { (x v w : T) × SeatSetHasSeen seats.old index x × T.extends v x
             × T.same (seat_set_number seats.old) x v
             × J.postcondition job (seat_set_number seats.old) v w result × T.extends w v
-            × ((k : ℕ) → k ≢ seat_set_number seats.old → T.same k v w) × SeatSetHasSeen seats.new place w }
+            × ((k : ℕ) → k ≢ seat_set_number seats.old → T.same k v w) × SeatSetHasSeen seats.new index w }
     {
-        self.locks[place].with(rt, &mut seats.seats[place], job)
+        self.locks[index].with(rt, &mut seats.seats[index], job)
     }
 
-    /// By the first seats: those of a new caller, with the next number. Each has seen what the first one has
-    /// seen, which holds nothing under the new number. Where there are none, nothing has changed.
+    /// Creates the seats of a new caller, with the next number, from the first seats. Each has
+    /// observed what the first seat of its lock has, a value without a part of the new number.
+    ///
+    /// # Errors
+    ///
+    /// [`SplitFault::OutOfNumbers`] if all numbers are used up, [`SplitFault::OutOfMemory`] if an
+    /// allocation fails. The first seats are then unchanged.
     pub fn split(&self, alloc: Global, first: &mut RootSeats<T>) -> Result<SeatSet<T>, SplitFault>
         requires { AreRootSeatsOf first.old self.now }
         ensures belongs { AreRootSeatsOf first.new self.now }
@@ -108,7 +117,7 @@ impl<T: Grows> StripedLock<T> {
         Ok(SeatSet { number, seats })
     }
 
-    // The seats that each of the first ones gives, with this number, put into the empty list.
+    // Splits each first seat and puts the new seats into the empty list.
     fn split_stripes(
         &self,
         number: u64,
@@ -122,11 +131,12 @@ impl<T: Grows> StripedLock<T> {
         ensures length { (length firsts.new.items ≡ 8) × (length result.items ≡ 8) }
         ensures first { AtEachIndex (IsRootSeat (number + 1)) firsts.new.items self.now.locks.items 0 8 }
         ensures split_seat { AtEachIndex (IsSeatNumbered number) result.items self.now.locks.items 0 8 }
-        ensures seen { (i : ℕ) (s : LockSeat T) → i < 8 → SeeSameBlankValue T.blank (slice_index_or firsts.old.items i s)
+        ensures seen { (i : ℕ) (s : LockSeat T) → i < 8
+            → SeeSameBlankValue T.blank (slice_index_or firsts.old.items i s)
             (slice_index_or firsts.new.items i s) (slice_index_or result.items i s) }
     {
-        for place in 0..STRIPES {
-            let Ok(seat) = self.locks[place].split(&mut firsts[place]) else {
+        for index in 0..STRIPES {
+            let Ok(seat) = self.locks[index].split(&mut firsts[index]) else {
                 unreachable!()
             };
             seats.push_reserved(seat);
@@ -134,9 +144,9 @@ impl<T: Grows> StripedLock<T> {
         seats
     }
 
-    /// Gives the values back, to whoever has all seats: of each lock, in order. Each extends what every caller
-    /// has seen there, holds under the number of each just what that one has seen, and nothing under a number
-    /// of no caller. It takes no memory: there is room already for what it gathers.
+    /// Returns the values of all locks in order, given all seats. Each extends what the callers
+    /// have observed, has each caller's part unchanged, and has no part of any other number. It
+    /// doesn't allocate.
     pub fn close(
         self,
         first: RootSeats<T>,
@@ -161,7 +171,7 @@ impl<T: Grows> StripedLock<T> {
     }
 }
 
-// Closes each lock with its seats. The values are put into the empty list.
+// Closes each lock with its seats, and puts the values into the empty list.
 fn close_stripes<T: Grows>(
     mut locks: Vec<GrowLock<T>>,
     mut columns: Vec<Vec<Seat<T>>>,
@@ -170,7 +180,8 @@ fn close_stripes<T: Grows>(
     requires length { (length locks.items ≡ 8) × (length columns.items ≡ 8) }
     requires capacity { (vec_len values ≡ 0) × (8 ≤ vec_capacity values) }
     requires belongs { AtEachIndex (λ l c. ForEach (λ s. BelongsTo s l) c.items) locks.items columns.items 0 8 }
-    requires all { (i : ℕ) (c : Vec (LockSeat T) Global) → i < 8 → HasEverySeat (slice_index_or columns.items i c).items }
+    requires all { (i : ℕ) (c : Vec (LockSeat T) Global) → i < 8
+        → HasEverySeat (slice_index_or columns.items i c).items }
     ensures length { length result.items ≡ 8 }
     ensures gives { AtEachIndex (λ c v. IsValueAfterClose T.extends T.same T.blank c.items v) columns.items result.items 0 8 }
 {
@@ -186,7 +197,7 @@ fn close_stripes<T: Grows>(
 }
 
 impl<T> SeatSet<T> {
-    /// The number under which the jobs of these seats are run.
+    /// Returns the number under which jobs of these seats run.
     pub fn number(&self) -> u64
         ensures { result ≡ seat_set_number self.now }
     {
@@ -195,7 +206,7 @@ impl<T> SeatSet<T> {
 }
 
 impl<T> RootSeats<T> {
-    /// The number that the next caller is given.
+    /// Returns the number of the next caller.
     pub fn next(&self) -> u64
         ensures { result ≡ next_seat_set_number self.now }
     {

@@ -3,14 +3,14 @@ ghost use Rattle.std.specs.Prelude.{◌≡◌, length};
 
 use sdb_growlock::{GrowLock, Grows, Seat};
 
-/// Eight locks, each round a value that only grows.
+/// Eight locks, each around a value that only grows.
 #[derive(Drop)]
 pub struct StripedLock<T: Grows> {
     pub(crate) locks: Vec<GrowLock<T>>,
     ghost has_every_stripe: { length locks.items ≡ 8 },
 }
 
-/// The seats of one caller: one of each lock, all with one number.
+/// The seats of one caller: one per lock, all with one number.
 #[derive(Drop)]
 pub struct SeatSet<T> {
     pub(crate) number: u64,
@@ -19,7 +19,7 @@ pub struct SeatSet<T> {
 }
 
 impl<T> SeatSet<T> {
-    // The seats, one after the other.
+    // Returns the seats in order.
     pub(crate) fn into_seats(self) -> Vec<Seat<T>>
         ensures { result ≡ self.seats }
     {
@@ -28,7 +28,7 @@ impl<T> SeatSet<T> {
     }
 }
 
-/// The first seats: one of each lock, all with the number 0. They give the seats of all other callers.
+/// The first seats: one per lock, all with number 0. All other seats are split from them.
 #[derive(Drop)]
 pub struct RootSeats<T> {
     pub(crate) next: u64,
@@ -37,7 +37,7 @@ pub struct RootSeats<T> {
 }
 
 impl<T> RootSeats<T> {
-    // The seats, one after the other.
+    // Returns the seats in order.
     pub(crate) fn into_seats(self) -> Vec<Seat<T>>
         ensures { result ≡ self.seats }
     {

@@ -17,7 +17,7 @@ use Rattle.sdb_subscribe.specs.Ring.{RingedQueue, queues_without_rings}
 abbrev pub QueueEntry : Type 0
 QueueEntry = ℕ × RingedQueue
 
--- ---- the test of a number
+-- ---- the comparison of numbers
 
 nat_cmp_not_eq : (o : Ordering) (n k : ℕ) → nat_cmp n k ≡ o → (n ≡ k → ⊥) → is_eq o ≡ false
 nat_cmp_not_eq Less n k is h = refl
@@ -40,12 +40,12 @@ set_by_cmp n w es = ap (λ t. set_value t es w) (same_test n)
 pub remove_by_cmp : (n : ℕ) (es : List QueueEntry) → remove_entry (is_at (nat_cmp n)) es ≡ remove_entry (nat_eq n) es
 remove_by_cmp n es = ap (λ t. remove_entry t es) (same_test n)
 
--- a new number stands behind the others
+-- a new number goes last
 pub insert_new_last : (n : ℕ) (w : RingedQueue) (es : List QueueEntry) → AreBelowNext n (keys_of es) → insert_entry nat_cmp es n w ≡ es ++ (n, w) ∷ []
 insert_new_last n w [] h = refl
 insert_new_last n w (e ∷ es) h = ap (λ o. match_ordering o ((n, w) ∷ e ∷ es) ((e.0, w) ∷ es) (e ∷ insert_entry nat_cmp es n w)) (sym (nat_cmp_is n e.0 Greater h.0)) ∙ ap (λ l. e ∷ l) (insert_new_last n w es h.1)
 
--- ---- the queues without their rings
+-- ---- the queues without their ring buffers
 
 at_or : (b : Bool) (q : RingedQueue) (x : Option PlainQueue) (y : Option RingedQueue) → x ≡ option_map (λ w. w.queue) y → cond b (Some q.queue) x ≡ option_map (λ w. w.queue) (cond b (Some q) y)
 at_or true q x y h = refl

@@ -1,4 +1,4 @@
--- Rings that fit their log, and what a take gives out of both.
+-- Ring buffers of a log, and the entries that a take reads from both.
 use Rattle.std.proofs.Common.{◌≡◌, ℕ, zero, suc, ◌+◌, ◌-◌, ◌<◌, ◌≤◌, min, ◌⊎◌, inl, inr, Bool, true, false, cond, List, [], ◌∷◌, ◌++◌, take, drop, length, Option, Some, slice_get, nat_eq, refl, sym, ap, ◌∙◌, subst, arith, drop-drop, length-append, length-drop}
 use Rattle.std.specs.Map.{keys_of, lookup, remove_entry, set_value}
 use Rattle.std.specs.Map.Calls.{RetainsPairs}
@@ -9,7 +9,7 @@ use Rattle.sdb_subscribe.specs.Queue.{PlainQueue, pending_entries, advance}
 use Rattle.sdb_subscribe.specs.Ring.{RingedQueue, next_version, queues_without_rings, IsRingOfLog, AreRingsOfLog, IsPushed, ArePushed, advance_ringed_queue}
 use Rattle.sdb_subscribe.proofs.QueueMapLemmas.{QueueEntry}
 
--- ---- rings that fit
+-- ---- ring buffers of a log
 
 pub fits_empty : (log : List PlainEntry) (q : RingedQueue) → q.ring ≡ [] → IsRingOfLog log q
 fits_empty log q e =
@@ -17,7 +17,7 @@ fits_empty log q e =
     let all : length log ≤ length log - length q.ring = omega (arith, z) in
     record { at_most_64 = omega (arith, z); not_longer_than_log = omega (arith, z); is_log_suffix = e ∙ sym (drop_all (length log - length q.ring) log all); not_before_position = λ some. absurd (omega (arith, z, some)) }
 
--- what stands at a later position is what is left of the ring
+-- the ring buffer at a later position is the rest of it
 pub fits_dropped : (log : List PlainEntry) (q : RingedQueue) (w : PlainQueue) → IsRingOfLog log q → IsRingOfLog log (record { queue = w; ring = keep_last (length log - next_version w) q.ring })
 fits_dropped log q w f =
     let n = length log in
@@ -52,7 +52,7 @@ beyond_or : (k p n : ℕ) → (k ≡ 0) ⊎ (p + k ≤ n) → n < p → k ≡ 0
 beyond_or k p n (inl z) beyond = z
 beyond_or k p n (inr f) beyond = omega arith
 
--- a ring that took in the entry behind the log
+-- a ring buffer after a push of the newest entry
 ring_after_push : (log : List PlainEntry) (e : PlainEntry) (q new : RingedQueue) → IsRingOfLog log q → next_version new.queue ≤ length log → (0 < length q.ring → next_version new.queue + length q.ring ≤ length log) → new.ring ≡ keep_last 64 (q.ring ++ e ∷ []) → IsRingOfLog (log ++ e ∷ []) new
 ring_after_push log e q new f at ahead is =
     let n = length log in
@@ -94,7 +94,7 @@ noted_or log e q new f at same (inr h) =
 pub fits_noted : (log : List PlainEntry) (e : PlainEntry) (q new : RingedQueue) → IsRingOfLog log q → e.version ≡ length log → IsPushed e q new → IsRingOfLog (log ++ e ∷ []) new
 fits_noted log e q new f at is = noted_or log e q new f at is.queue is.ring
 
--- ---- all rings
+-- ---- all ring buffers
 
 some_is : (x q : RingedQueue) → Some x ≡ Some q → x ≡ q
 some_is x q e = cc
@@ -125,7 +125,7 @@ pub fit_added : (log : List PlainEntry) (es : List QueueEntry) (e : QueueEntry) 
 fit_added log [] e f g = (g, tt)
 fit_added log (x ∷ es) e f g = (f.0, fit_added log es e f.1 g)
 
--- ---- rings that took in an entry
+-- ---- ring buffers after a push
 
 pub noted_bare : (e : PlainEntry) (es ns : List QueueEntry) → ArePushed e es ns → queues_without_rings ns ≡ queues_without_rings es
 noted_bare e [] ns h = ap queues_without_rings h
@@ -144,7 +144,7 @@ noted_fit log e [] ns f at h = subst (AreRingsOfLog (log ++ e ∷ [])) (sym h) t
 noted_fit log e (x ∷ es) [] f at h = absurd h
 noted_fit log e (x ∷ es) (w ∷ ns) f at h = (fits_noted log e x.1 w.1 f.0 at h.1, noted_fit log e es ns f.1 at h.2)
 
--- a closure that notes each queue and keeps it
+-- a closure that pushes to each queue and keeps it
 pub noted_pairs : {F : Type 0} (T : F → ℕ → RingedQueue → Bool → RingedQueue → F → Type 0) (e : PlainEntry) (f : F)
     → ((k : ℕ) (v : RingedQueue) (b : Bool) (w : RingedQueue) (g : F) → T f k v b w g → (b ≡ true) × IsPushed e v w × (g ≡ f))
     → (es ns : List QueueEntry) → RetainsPairs T f es ns → ArePushed e es ns
@@ -155,12 +155,12 @@ noted_pairs T e f each (x ∷ es) ns r =
     let is : ns ≡ (x.0, r.1) ∷ r.3 = r.6 ∙ ap (λ b. cond b ((x.0, r.1) ∷ r.3) r.3) one.0 in
     subst (ArePushed e (x ∷ es)) (sym is) (refl, one.1, noted_pairs T e f each es r.3 rest)
 
--- ---- what a take gives
+-- ---- the entries of a take
 
 some_entry : (x y : PlainEntry) → Some x ≡ Some y → x ≡ y
 some_entry x y e = cc
 
--- one entry more that left the ring
+-- one more entry popped from the ring buffer
 pub moved_more : (xs : List PlainEntry) (m : ℕ) (x : PlainEntry) → Some x ≡ slice_get (drop m xs) 0 → take (m + 1) xs ≡ take m xs ++ x ∷ []
 moved_more [] zero x h = cc
 moved_more [] (suc m) x h = cc
@@ -177,7 +177,7 @@ drop_of_take (suc i) zero xs = let e : 0 - suc i ≡ 0 = omega arith in ap (λ n
 drop_of_take {A} (suc i) (suc c) [] = sym (take_nothing {A = A} (suc c - suc i))
 drop_of_take (suc i) (suc c) (x ∷ xs) = let e : suc c - suc i ≡ c - i = omega arith in drop_of_take i c xs ∙ ap (λ n. take n (drop i xs)) (sym e)
 
--- something waits, so the ring ends where the log does
+-- an entry is pending, so the ring buffer ends with the log
 within_or : (k p n : ℕ) → (k ≡ 0) ⊎ (p + k ≤ n) → p < n → p + k ≤ n
 within_or k p n (inl z) some = omega arith
 within_or k p n (inr f) some = f
@@ -189,7 +189,7 @@ take_reaches_ring log max q f some =
     let left : length (drop p log) ≡ length log - p = length-drop p log in
     within_or (length q.ring) p (length log) (ahead_or (length q.ring) p (length log) f.not_before_position) (omega (arith, len, left, some))
 
--- the first of what waits, from the log, and the rest from the ring
+-- the first pending entries come from the log, and the rest from the ring buffer
 pub taken_out : (log : List PlainEntry) (max b : ℕ) (q : RingedQueue) → IsRingOfLog log q → 0 < length (pending_entries log max q.queue)
     → b ≡ min (length log - length q.ring - next_version q.queue) (length (pending_entries log max q.queue))
     → take b (pending_entries log max q.queue) ++ take (length (pending_entries log max q.queue) - b) q.ring ≡ pending_entries log max q.queue
@@ -214,7 +214,7 @@ taken_out log max b q f some is =
     ap (λ j. take j q.ring) more ∙ ap (take (c - i)) ring ∙ sym (drop_of_take i c rest) ∙ ap (drop i) all in
     ap (λ l. l ++ take (c - b) q.ring) first ∙ ap (λ l. take i w ++ l) second ∙ take-append-drop i w
 
--- and what stays in it
+-- the entries that stay in the ring buffer
 pub left_in : (log : List PlainEntry) (max b : ℕ) (q : RingedQueue) → IsRingOfLog log q → 0 < length (pending_entries log max q.queue)
     → b ≡ min (length log - length q.ring - next_version q.queue) (length (pending_entries log max q.queue))
     → drop (length (pending_entries log max q.queue) - b) q.ring ≡ keep_last (length log - next_version (advance log max q.queue)) q.ring
@@ -234,7 +234,7 @@ none_or : (k p n r : ℕ) → (k ≡ 0) ⊎ (p + k ≤ n) → r ≡ n - p → k 
 none_or k p n r (inl z) is = omega arith
 none_or k p n r (inr f) is = omega arith
 
--- where nothing waits the ring stays
+-- without pending entries the ring buffer is unchanged
 pub kept_in : (log : List PlainEntry) (max : ℕ) (q : RingedQueue) → IsRingOfLog log q → length (pending_entries log max q.queue) ≡ 0 → q ≡ advance_ringed_queue log max q
 kept_in log max q f none =
     let n = length log in

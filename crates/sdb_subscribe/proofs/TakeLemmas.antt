@@ -1,4 +1,4 @@
--- A queue that is taken from.
+-- A take from a queue.
 use Rattle.std.proofs.Common.{◌≡◌, ℕ, ◌<◌, List, [], length, Option, Some, None, option_map, unwrap_or, Result, Ok, Err, OnOk, OnErr, nat_eq, refl, sym, ap, ◌∙◌, subst}
 use Rattle.std.specs.Ordering.{nat_cmp}
 use Rattle.std.specs.Option.{option_map_or}
@@ -16,7 +16,7 @@ on_ok (Ok x) f p = f p
 on_ok (Err e) f p = tt
 
 module _ (log : List PlainEntry) (n max : ℕ) (es : List QueueEntry) where
-  -- the queue that was found, without its ring
+  -- the queue that was found, without its ring buffer
   queue_found : (o : Option RingedQueue) → o ≡ lookup (is_at (nat_cmp n)) es → option_map (λ q. q.queue) o ≡ queue_at n (queues_without_rings es)
   queue_found o h = ap (option_map (λ q. q.queue)) (h ∙ lookup_by_cmp n es) ∙ sym (at_bare n es)
 
@@ -42,7 +42,7 @@ module _ (log : List PlainEntry) (n max : ℕ) (es : List QueueEntry) where
   pub fits_found : (q : RingedQueue) → AreRingsOfLog log es → Some q ≡ lookup (is_at (nat_cmp n)) es → IsRingOfLog log q
   fits_found q f h = fit_at log n es q f (sym (h ∙ lookup_by_cmp n es))
 
-  -- the queues after a take, without their rings
+  -- the queues after a take, without their ring buffers
   bare_or : (o : Option RingedQueue) → queues_without_rings (option_map_or (λ q. set_value (nat_eq n) es (advance_ringed_queue log max q)) o es) ≡ option_map_or (λ w. replace_queue n (advance log max w) (queues_without_rings es)) (option_map (λ q. q.queue) o) (queues_without_rings es)
   bare_or None = refl
   bare_or (Some q) = set_bare n (advance_ringed_queue log max q) es
@@ -57,7 +57,7 @@ module _ (log : List PlainEntry) (n max : ℕ) (es : List QueueEntry) where
   pub fit_taken : AreRingsOfLog log es → AreRingsOfLog log (ringed_queues_after_take log n max es)
   fit_taken f = fit_or (lookup (nat_eq n) es) refl f
 
-  -- the rings after a take that may have found no memory
+  -- the ring buffers after a take whose allocation may have failed
   pub fit_after : {A E : Type 0} (ns : List QueueEntry) (r : Result A E) → OnOk r (ns ≡ ringed_queues_after_take log n max es) → OnErr r (ns ≡ es) → AreRingsOfLog log es → AreRingsOfLog log ns
   fit_after ns (Ok x) ok err f = subst (AreRingsOfLog log) (sym ok) (fit_taken f)
   fit_after ns (Err e) ok err f = subst (AreRingsOfLog log) (sym err) f

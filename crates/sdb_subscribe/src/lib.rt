@@ -1,4 +1,4 @@
-//! The queues of one document: each gives the stored entries from its version on, once and in order.
+//! The queues of one document: each gives the entries from its start version on, once and in order.
 #![tactic(auto)]
 
 mod queue;

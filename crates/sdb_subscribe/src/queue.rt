@@ -1,4 +1,4 @@
-//! One queue, and its ring.
+//! One queue and its ring buffer.
 ghost use Rattle.std.specs.Prelude.{◌≡◌, ◌+◌, ◌-◌, ◌<◌, ◌≤◌, [], ◌++◌, length, take, drop, vec_len, vec_capacity, IfOk, OnOk, OnErr};
 ghost use Rattle.circular_buffer.specs.Buffer.{buffer};
 ghost use Rattle.sdb_subscribe.specs.Queue.{queue, pending_entries};
@@ -10,11 +10,11 @@ use sdb_value::MAX;
 use std::alloc::{AllocError, Global};
 use std::marker::Model;
 
-// How many entries a ring holds at most.
+// Capacity of a ring buffer in entries.
 const RING_CAPACITY: usize = 64;
 
-// Where a queue starts, how many entries were taken of it, the number that it was opened under, and those
-// of the next entries that it has at hand.
+// A queue: its start version, the number of entries read, its owner number, and a ring buffer of
+// the next entries.
 #[derive(Drop)]
 pub(crate) struct Queue {
     start: u64,
@@ -37,12 +37,12 @@ impl Model for Queue {
       ring = q.ring.items;
     } };
 
-    // what is taken stood in a log, so the sum of both fits
+    // the entries read were in a log, so the sum of both fits in 64 bits
     ghost invariant = { λ q. (q.start + q.taken < 2 ^ 64) × (q.ring.capacity ≡ 64) };
 }
 
 impl Queue {
-    // A queue of this number from this version on, with nothing at hand.
+    // Creates a queue for this owner from this version on, with an empty ring buffer.
     pub(crate) fn new(alloc: Global, by: u64, start: u64) -> Result<Queue, AllocError>
         ensures { IfOk result
             (λ q. q ≡ record { queue = record { start = start; taken = 0; by = by }; ring = [] }) }
@@ -56,22 +56,22 @@ impl Queue {
         })
     }
 
-    // The number that it was opened under.
+    // Returns the owner number.
     pub(crate) fn by(&self) -> u64
         ensures { result ≡ self.now.queue.by }
     {
         self.by
     }
 
-    // How many entries are at hand.
+    // Returns the number of entries in the ring buffer.
     pub(crate) fn ring_entries(&self) -> u64
         ensures { result ≡ length self.now.ring }
     {
         self.ring.len() as u64
     }
 
-    // Takes in the entry that was just added to the log, unless the position is beyond it. Where memory
-    // is wanting for the copy, nothing stays at hand.
+    // Pushes the newest entry of the log, unless the position is after it. If its clone fails to
+    // allocate, the ring buffer is emptied.
     pub(crate) fn push_entry(&mut self, entry: &Entry)
         ensures { IsPushed entry.now self.old self.new }
     {
@@ -84,8 +84,9 @@ impl Queue {
         }
     }
 
-    // Takes the next entries, at most `max`: copies of what stands in the log before the ring, then what
-    // is at hand. Where there are none it takes no memory; after want of memory nothing is taken.
+    // Reads the next entries, at most `max`: clones from the log up to the ring buffer, then the
+    // entries of the ring buffer. Without pending entries it doesn't allocate. If an allocation
+    // fails, the queue is unchanged.
     pub(crate) fn take(
         &mut self,
         alloc: Global,
@@ -113,7 +114,7 @@ impl Queue {
     }
 }
 
-// The first `max` entries from this one on.
+// Returns the first `max` entries from version `from` on.
 fn entries_from_log(log: &Log, from: u64, max: u64) -> &[Entry]
     ensures entries { result.now ≡ queue log.now from max }
     ensures in_range { 0 < length result.now → from + length result.now ≤ length log.now }
@@ -124,7 +125,7 @@ fn entries_from_log(log: &Log, from: u64, max: u64) -> &[Entry]
     &entries[..count as usize]
 }
 
-// Copies of the entries, with room for `length_in_range` entries in all.
+// Clones the entries into a vector with capacity for `room`.
 fn clone_entries(alloc: Global, entries: &[Entry], room: usize) -> Result<Vec<Entry>, AllocError>
     requires { length entries.now ≤ room }
     ensures copies { IfOk result (λ v. v.items ≡ entries.now) }
@@ -137,7 +138,7 @@ fn clone_entries(alloc: Global, entries: &[Entry], room: usize) -> Result<Vec<En
     Ok(copies)
 }
 
-// Moves the first `count` entries of the ring behind those that were taken. There is room for them.
+// Moves the first `count` entries of the ring buffer to the vector, which has capacity for them.
 fn drain_ring(ring: &mut HeapCircularBuffer<Entry>, entries: &mut Vec<Entry>, count: usize)
     requires held { count ≤ length ring.old.items }
     requires capacity { vec_len entries.old + count ≤ vec_capacity entries.old }

@@ -14,7 +14,7 @@ use std::alloc::{AllocError, Global};
 use std::collections::BTreeMap;
 use std::marker::Model;
 
-/// The number of a queue, given once for each document.
+/// The number of a queue, unique in its document.
 #[derive(Clone, Copy, PartialEq, Eq, PartialOrd, Ord, Debug, Drop)]
 pub struct SubId {
     number: u64,
@@ -30,8 +30,8 @@ impl Model for SubId {
     ghost inverse = { λ n. record { number = n } };
 }
 
-/// The queues of one document: which numbers were given, where each open queue stands, and its ring of
-/// entries at hand, at most 64. Each call that reads the log is lent it.
+/// The queues of one document: the next number, and each open queue with its position and its ring
+/// buffer of at most 64 entries. A call that reads the log borrows it.
 #[derive(Drop)]
 pub struct Queues {
     alloc: Global,
@@ -55,7 +55,7 @@ impl Model for Queues {
 }
 
 impl Queues {
-    /// No queue, and no number given. It keeps the allocator, and takes no memory.
+    /// Creates an empty set of queues. It keeps the allocator and doesn't allocate.
     pub fn new(alloc: Global) -> Queues
         ensures { result ≡ record { next = 0; queues = [] } }
     {
@@ -66,7 +66,7 @@ impl Queues {
         }
     }
 
-    /// How many numbers were given: each below it, once, and no other.
+    /// Returns the number of the next queue, which is the count of numbers issued.
     pub fn next_id(&self) -> u64
         ensures given { result ≡ (without_rings self.now).next }
         ensures below { AreBelowNext (without_rings self.now).next (queue_ids (without_rings self.now).queues) }
@@ -74,7 +74,7 @@ impl Queues {
         self.next
     }
 
-    /// How many queues are open. It takes no memory.
+    /// Returns the number of open queues. It doesn't allocate.
     pub fn count(&self) -> u64
         ensures count { result ≡ length (without_rings self.now).queues }
         ensures distinct { IsDistinct nat_eq (queue_ids (without_rings self.now).queues) }
@@ -82,8 +82,8 @@ impl Queues {
         self.queues.len() as u64
     }
 
-    /// How many entries the queue has at hand, at most 64: `None` where no open queue has the number. It
-    /// takes no memory.
+    /// Returns the number of entries in the queue's ring buffer, at most 64, or `None` if no open
+    /// queue has this number. It doesn't allocate.
     pub fn ringed(&self, id: SubId) -> Option<u64>
         ensures { result ≡ option_map length (ring_at id self.now.queues) }
     {
@@ -93,9 +93,13 @@ impl Queues {
         }
     }
 
-    /// Opens a queue of a number from the version on, which may be above the length of the log: then
-    /// nothing comes before the log is as long. Its ring is empty. E11 where the numbers of queues are
-    /// used up, after 18446744073709551615 of them, and E10 for want of memory; nothing has changed then.
+    /// Opens a queue for an owner number from a version on, which may be above the log's length.
+    /// Its ring buffer is empty.
+    ///
+    /// # Errors
+    ///
+    /// [`Code::E11`] if all 18,446,744,073,709,551,615 queue numbers are used up, [`Code::E10`] if
+    /// an allocation fails. The queues are then unchanged.
     pub fn open(&mut self, by: u64, from: u64) -> Result<SubId, Code>
         ensures id { IfOk result (λ id. id ≡ (without_rings self.old).next) }
         ensures ok { OnOk result (open_queue by from (without_rings self.old) ≡ Ok (without_rings self.new)) }
@@ -122,9 +126,9 @@ impl Queues {
         Ok(SubId { number })
     }
 
-    /// Puts the entry that was just added to the log into each ring, unless the position of its queue is
-    /// beyond the entry: the oldest entry leaves a full ring. A ring that the copy finds no memory for is
-    /// emptied, and its queue is served from the log.
+    /// Pushes the newest entry of the log to each ring buffer, unless its queue's position is after
+    /// the entry. A full ring buffer drops its oldest entry. If the clone fails to allocate, that
+    /// ring buffer is emptied and its queue reads from the log.
     pub fn push_entry(&mut self, entry: &Entry)
         ensures noted { ArePushed entry.now self.old.queues self.new.queues }
         ensures bare { without_rings self.new ≡ without_rings self.old }
@@ -143,10 +147,13 @@ impl Queues {
         );
     }
 
-    /// Takes the next entries of a queue, at most `max`, fewer where the log ends: those before its ring
-    /// are copied from the log, the others leave the ring. `None` where no open queue has the number `id`,
-    /// or where it was opened under another number than `by`. Where nothing waits it takes no memory;
-    /// after want of memory nothing is taken.
+    /// Returns the next entries of a queue, at most `max`; fewer if the log ends before. Returns
+    /// `None` if no open queue has this number, or if it belongs to another number than `by`.
+    /// Without pending entries it doesn't allocate.
+    ///
+    /// # Errors
+    ///
+    /// [`AllocError`] if an allocation fails. The queues are then unchanged.
     pub fn take(
         &mut self,
         by: u64,
@@ -172,7 +179,7 @@ impl Queues {
         self.take_as_owner(log, id, max)
     }
 
-    // Takes the next entries of a queue, whoever opened it.
+    // Reads the next entries of a queue of any owner.
     fn take_as_owner(
         &mut self,
         log: &Log,
@@ -194,8 +201,8 @@ impl Queues {
         take_from_queue(&mut self.queues, self.alloc, log, id.number, max)
     }
 
-    /// Closes a queue, which isn't found afterwards. It takes no memory, and where no queue is left none is
-    /// held. A number that no open queue has, or one that was opened under another number, does nothing.
+    /// Closes a queue. It has no effect if no open queue has this number, or if it belongs to
+    /// another number than `by`. It doesn't allocate.
     pub fn close(&mut self, by: u64, id: SubId)
         ensures queues { (without_rings self.new).queues ≡ remove_queue_by by id (without_rings self.old).queues }
         ensures removed { is_open_by by id (without_rings self.old).queues ≡ true
@@ -210,8 +217,8 @@ impl Queues {
         }
     }
 
-    /// The number that an open queue was opened under: `None` where no open queue has the number `id`. It
-    /// takes no memory.
+    /// Returns the owner number of an open queue, or `None` if no open queue has this number. It
+    /// doesn't allocate.
     pub fn owner(&self, id: SubId) -> Option<u64>
         ensures { result ≡ option_map (λ w. w.by) (queue_at id (without_rings self.now).queues) }
     {
@@ -221,7 +228,7 @@ impl Queues {
         }
     }
 
-    // Whether the queue is open, and was opened under the number.
+    // Returns whether the queue is open and belongs to the number.
     fn owns(&self, by: u64, id: SubId) -> bool
         ensures { result ≡ is_open_by by id (without_rings self.now).queues }
     {
@@ -231,7 +238,7 @@ impl Queues {
         }
     }
 
-    // Closes a queue, whoever opened it.
+    // Closes a queue of any owner.
     fn remove(&mut self, id: SubId)
         ensures removed { queue_at id (without_rings self.new).queues ≡ None }
         ensures queues { (without_rings self.new).queues ≡ remove_queue id (without_rings self.old).queues }
@@ -245,7 +252,7 @@ impl Queues {
     }
 }
 
-// A map that was emptied keeps a block until it is cleared.
+// Frees the map's memory if it is empty: a map keeps its allocation until it is cleared.
 fn release_if_empty(queues: &mut BTreeMap<u64, Queue>)
     ensures { queues.new.entries ≡ queues.old.entries }
 {
@@ -254,7 +261,7 @@ fn release_if_empty(queues: &mut BTreeMap<u64, Queue>)
     }
 }
 
-// Takes the next entries of the queue of this number. After want of memory all is unchanged.
+// Reads the next entries of the queue of this number. If an allocation fails, all is unchanged.
 fn take_from_queue(
     queues: &mut BTreeMap<u64, Queue>,
     alloc: Global,

@@ -1,4 +1,4 @@
--- What is known of an act or a step beforehand is known of its component.
+-- The kind of an act's or a step's transform is that of its component.
 use Rattle.std.proofs.Common.{◌≡◌, ◌<◌, length, get_or, List, [], ◌∷◌, ◌++◌, map, Some, None, option_map, false, refl, sym, ap, ◌∙◌, arith}
 use Rattle.std.specs.Option.{is_none}
 use Rattle.sdb_value.specs.Value.{PlainStep}
@@ -35,13 +35,13 @@ of_step Rewritten c o s rest (Some t) e h = refl
 pub foreseen_below : (r : TransformKind) (side : Side) (c o : PlainComponent) (s : PlainStep) (rest : List PlainStep) → strip_prefix o.path c.path ≡ Some (s ∷ rest) → IsKindOfStep r s (transform_step o.act s) → IsKindOfComponent r c (transform side c o)
 foreseen_below r side c o s rest e h = rw e (of_step r c o s rest (transform_step o.act s) (sym (behind_is o.path c.path (s ∷ rest) e)) h)
 
--- the same of the first of the steps that lie behind
+-- for the first step after the prefix
 pub foreseen_first : (r : TransformKind) (side : Side) (c o : PlainComponent) (items : List Step) (d : Step) → 0 < length items → d ≡ get_or items 0 d → strip_prefix o.path c.path ≡ Some (plain_path items) → IsKindOfStep r (plain_step d) (transform_step o.act (plain_step d)) → IsKindOfComponent r c (transform side c o)
 foreseen_first r side c o [] d h is e f = absurd (omega arith)
 foreseen_first r side c o (s ∷ items) d h is e f =
     foreseen_below r side c o (plain_step d) (plain_path items) (e ∙ ap (λ x. Some (plain_step x ∷ plain_path items)) (sym is)) f
 
--- what isn't refused beforehand isn't refused
+-- a kind other than `Refused` means that the transform exists
 pub foreseen_made : (r : TransformKind) (c : PlainComponent) (o : TransformResult) → IsKindOfComponent r c o → (r ≡ Refused → ⊥) → is_none o ≡ false
 foreseen_made Refused c o h k = absurd (k refl)
 foreseen_made (PositionOnly m) c o h k = rw h refl

@@ -1,4 +1,4 @@
--- Acts at one container, each on the result of the one before, and two that meet there.
+-- Acts at one container, applied in sequence, and two concurrent ones.
 use Rattle.std.proofs.Common.{◌≡◌, List, [], ◌∷◌, Option, Some, option_and_then, ap, ◌∙◌}
 use Rattle.sdb_value.specs.Value.{Value}
 use Rattle.sdb_component.specs.Plain.{PlainAct}
@@ -10,7 +10,7 @@ abbrev pub apply_acts : List PlainAct → Value → Option Value
 apply_acts [] u = Some u
 apply_acts (a ∷ rest) u = option_and_then (apply_acts rest) (apply_act a u)
 
--- a then what stands for b, and b then what stands for a, make one value of u. s is the side of a, and t that of b
+-- both orders make one value of u; s is the side of a, and t that of b
 pub record ActsConverge (s t : Side) (u : Value) (a b : PlainAct) : Type 0 where
   pub left : List PlainAct
   pub right : List PlainAct
@@ -20,14 +20,14 @@ pub record ActsConverge (s t : Side) (u : Value) (a b : PlainAct) : Type 0 where
   pub by_left : apply_acts (a ∷ right) u ≡ Some result
   pub by_right : apply_acts (b ∷ left) u ≡ Some result
 
--- one act, and then one or none
+-- one act, followed by one or none
 pub then_one : (a b : PlainAct) (u v e : Value) → apply_act a u ≡ Some v → apply_act b v ≡ Some e → apply_acts (a ∷ b ∷ []) u ≡ Some e
 then_one a b u v e h k = ap (option_and_then (apply_acts (b ∷ []))) h ∙ ap (option_and_then (apply_acts [])) k
 
 pub then_none : (a : PlainAct) (u e : Value) → apply_act a u ≡ Some e → apply_acts (a ∷ []) u ≡ Some e
 then_none a u e h = ap (option_and_then (apply_acts [])) h
 
--- the other way round
+-- for the exchanged sides
 pub acts_converge_symm : (s t : Side) (u : Value) (a b : PlainAct) → ActsConverge s t u a b → ActsConverge t s u b a
 acts_converge_symm s t u a b m = record {
   left = m.right;

@@ -1,4 +1,4 @@
--- A component below the container of another.
+-- A component inside the container of another.
 use Rattle.std.proofs.Common.{◌≡◌, ℕ, zero, suc, ◌+◌, ◌<◌, ◌≤◌, List, [], ◌∷◌, Option, Some, None, option_and_then, Bool, true, false, ◌⊎◌, inl, inr, Ordering, Less, Equal, Greater, refl, sym, ap, ◌∙◌, subst, arith, true≢false}
 use Rattle.sdb_value.specs.Value.{Value, null, truth, whole, text, list, object, Items, no_items, item, Members, no_members, member, PlainStep, key, index, item_count, item_at, set_item, member_at, set_member, texts_equal, put_member, without_member, child, with_child}
 use Rattle.sdb_value.specs.WellFormed.{IsWellFormed, IsKeyBelowAll, MembersWellFormed}
@@ -11,11 +11,11 @@ use Rattle.sdb_value.proofs.DisjointLemmas.{item_other, item_exchange, equal_tex
 use Rattle.sdb_transform.proofs.ConvergeLists.{inserted_at, deleted_at, ins_set, set_ins, del_set, set_del, del_same, li_does, ld_does, lr_does, li_fits, ld_fits, lr_fits, count_set, le_true, lt_true, le_false, lt_false, eq_true, eq_false, le_or_lt, trichotomy, one_more, less_one}
 use Rattle.sdb_transform.proofs.ConvergeObjects.{compare_keys, order_same, below_all, same_turned}
 
--- what of a path that begins with the step t lies under the value that a removes
+-- the rest of a path that begins with step t, inside the value that a removes
 abbrev pub lies_under : PlainAct → PlainStep → List PlainStep → Option (List PlainStep)
 lies_under a t q = option_and_then (λ s. strip_prefix (s ∷ []) (t ∷ q)) (removed_step a)
 
--- the act a makes u1 of u, and c, which stood at the step t, stands at another step then, whatever was written there
+-- a makes u1 of u and moves the value c from step t to another step, for any value written there
 pub record ShiftsStep (a : PlainAct) (t : PlainStep) (u u1 c : Value) : Type 0 where
   pub to : PlainStep
   pub step : transform_step a t ≡ Some (Some to)
@@ -23,7 +23,7 @@ pub record ShiftsStep (a : PlainAct) (t : PlainStep) (u u1 c : Value) : Type 0 w
   pub there : child to u1 ≡ Some c
   pub carries : (v : Value) → apply_act a (with_child t u v) ≡ Some (with_child to u1 v)
 
--- or what stood there is removed, whatever was written there
+-- a removes the value at the step, for any value written there
 pub record DropsStep (a : PlainAct) (t : PlainStep) (u u1 : Value) : Type 0 where
   pub step : transform_step a t ≡ Some None
   pub under : (q : List PlainStep) → lies_under a t q ≡ Some q
@@ -190,7 +190,7 @@ at_without : (k l : List ℕ) (ms : Members) → texts_equal k l ≡ false → m
 at_without k l no_members n = refl
 at_without k l (member m d ms) n = at_without_at (texts_equal k m) (texts_equal l m) k l m d ms refl refl n (at_without k l ms n)
 
--- a member that is written, and then taken out or put
+-- a member that is written, and then removed or set
 without_written_at : (b : Bool) (k m : List ℕ) (w d : Value) (ms : Members) → texts_equal k m ≡ b → without_member k (set_member k ms w) ≡ without_member k ms
     → without_member k (set_member k (member m d ms) w) ≡ without_member k (member m d ms)
 without_written_at true k m w d ms e below = simp e

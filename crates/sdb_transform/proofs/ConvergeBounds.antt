@@ -1,4 +1,4 @@
--- Where a transform is made, nothing in it passes the greatest index or offset.
+-- Transforms that exist stay in range.
 use Rattle.std.proofs.Common.{◌≡◌, ℕ, ◌+◌, ◌<◌, ◌≤◌, ◌-◌, List, [], ◌∷◌, map, Option, Some, None, option_map, Bool, true, false, leb, inl, inr, refl, sym, ◌∙◌, arith}
 use Rattle.std.specs.Prelude.{if◌then◌else◌}
 use Rattle.std.specs.Option.{option_map_or}
@@ -17,7 +17,7 @@ raised_if : {A : Type 0} (b : Bool) (n : ℕ) (o : Option A) (x : A) → leb n 9
 raised_if true n o x e h = le_of n 9007199254740991 e
 raised_if false n o x e h = cc
 
--- what is raised and not refused is an index
+-- a raised position that isn't refused is in range
 raised_fits : (n more : ℕ) (f : ℕ → ActTransform) (xs : List PlainAct) → at_shifted_position n more f ≡ Some xs → IsSafeInteger (n + more)
 raised_fits n more f xs h = raised_if (leb (n + more) 9007199254740991) (n + more) (f (n + more)) xs refl h
 
@@ -131,7 +131,7 @@ act_made side (oi a0 a1) o xs e = tt
 act_made side (od a0 a1) o xs e = tt
 act_made side (or a0 a1 a2) o xs e = tt
 
--- ---- below a step of the other's container
+-- ---- inside a step of the other's container
 
 step_raised : (i j : ℕ) (v : Value) (m : Option PlainStep) → transform_step (li i v) (index j) ≡ Some m → i ≤ j → IsSafeInteger (j + 1)
 step_raised i j v m e h =

@@ -1,4 +1,4 @@
--- Acts that meet at one list.
+-- Concurrent acts at one list.
 use Rattle.std.proofs.Common.{◌≡◌, ℕ, zero, suc, ◌+◌, ◌-◌, ◌<◌, ◌≤◌, [], ◌∷◌, Some, None, option_map, Bool, true, false, eqb, ltb, leb, ◌⊎◌, inl, inr, refl, sym, ap, ◌∙◌, subst, arith}
 use Rattle.std.specs.Prelude.{if◌then◌else◌}
 use Rattle.std.proofs.lemmas.Bool.Decides.{nat_tests}
@@ -13,7 +13,7 @@ use Rattle.sdb_transform.specs.Transform.{transform_act}
 use Rattle.sdb_transform.proofs.ConvergeActs.{ActsConverge, then_one, then_none, acts_converge_symm}
 use Rattle.sdb_transform.specs.Convergence.{ActStaysInRange, IsSafeInteger}
 
--- ---- an insert and a removal by recursion, with nothing done past the end
+-- ---- insert and removal by recursion, without effect after the end
 
 abbrev pub inserted_at : ℕ → Value → Items → Items
 inserted_at zero v ds = item v ds
@@ -69,14 +69,14 @@ del_del zero j (item d ds) h = refl
 del_del (suc i) zero (item d ds) h = absurd (omega (arith, h))
 del_del (suc i) (suc j) (item d ds) h = ap (item d) (del_del i j ds (omega (arith, h)))
 
--- the insert stands at or before the removal
+-- the insert is at or before the removal
 ins_del : (i j : ℕ) (u : Value) (ds : Items) → i ≤ j → deleted_at (suc j) (inserted_at i u ds) ≡ inserted_at i u (deleted_at j ds)
 ins_del zero j u ds h = refl
 ins_del (suc i) zero u ds h = absurd (omega (arith, h))
 ins_del (suc i) (suc j) u no_items h = refl
 ins_del (suc i) (suc j) u (item d ds) h = ap (item d) (ins_del i j u ds (omega (arith, h)))
 
--- the removal stands before the insert
+-- the removal is before the insert
 del_ins : (i j : ℕ) (u : Value) (ds : Items) → j ≤ i → j < item_count ds → deleted_at j (inserted_at (suc i) u ds) ≡ inserted_at i u (deleted_at j ds)
 del_ins i j u no_items h k = absurd (omega (arith, k))
 del_ins i zero u (item d ds) h k = refl
@@ -165,14 +165,14 @@ ld_fits i x ds e h = lt_of i (item_count ds) (in_range_of_some (ltb i (item_coun
 pub lr_fits : (i : ℕ) (x y : Value) (ds : Items) (e : Value) → apply_act (lr i x y) (list ds) ≡ Some e → i < item_count ds
 lr_fits i x y ds e h = lt_of i (item_count ds) (in_range_of_some (ltb i (item_count ds)) _ e h)
 
--- ---- the tests on two indices
+-- ---- comparisons of two indices
 
 pub trichotomy : (i j : ℕ) → (i < j) ⊎ ((i ≡ j) ⊎ (j < i))
 trichotomy i j = grind (arith, nat_tests)
 
 -- ---- two inserts
 
--- i is before j, or equal and the left one
+-- i is less than j, or equal and on the left side
 li_li_before : (s t : Side) (i j : ℕ) (v w : Value) (ds : Items) → transform_act s (li i v) (li j w) ≡ Some (li i v ∷ []) → transform_act t (li j w) (li i v) ≡ Some (li (suc j) w ∷ [])
     → i ≤ j → j ≤ item_count ds → ActsConverge s t (list ds) (li i v) (li j w)
 li_li_before s t i j v w ds e f h k = record {

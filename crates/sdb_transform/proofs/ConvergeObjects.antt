@@ -1,4 +1,4 @@
--- Acts that meet at one object.
+-- Concurrent acts at one object.
 use Rattle.std.proofs.Common.{◌≡◌, ℕ, List, [], ◌∷◌, Option, Some, None, Bool, true, false, Ordering, Less, Equal, Greater, is_eq, nat_cmp, IsSome, refl, sym, ap, ◌∙◌, subst, true≢false}
 use Rattle.std.specs.Cmp.Lexicographic.{slice_cmp}
 use Rattle.std.specs.Ordering.{ordering_reverse}
@@ -42,7 +42,7 @@ pub below_all : (k l : List ℕ) (ms : Members) → compare_keys k l ≡ Less �
 below_all k l no_members e h = tt
 below_all k l (member n d ms) e h = (nat_list_cmp_total.trans k l n e h.0, below_all k l ms e h.1)
 
--- ---- a key put twice, or below all others
+-- ---- a key set twice, or less than all others
 
 put_again_at : (o : Ordering) (k l : List ℕ) (u v d : Value) (ms : Members) → compare_keys k l ≡ o → put_member k v (put_member k u ms) ≡ put_member k v ms
     → put_member k v (put_member k u (member l d ms)) ≡ put_member k v (member l d ms)
@@ -127,7 +127,7 @@ pub put_without : (k l : List ℕ) (u : Value) (ms : Members) → MembersWellFor
 put_without k l u no_members w n = let g = same_turned k l n in simp g
 put_without k l u (member m d ms) w n = put_without_at (compare_keys k m) (compare_keys l m) k l m u d ms refl refl n w.2 (put_without k l u ms w.3 n)
 
--- a key that is taken out and put again
+-- a key that is removed and set again
 put_back_at : (o : Ordering) (k m : List ℕ) (u d : Value) (ms : Members) → compare_keys k m ≡ o → IsKeyBelowAll m ms → put_member k u (without_member k ms) ≡ put_member k u ms
     → put_member k u (without_member k (member m d ms)) ≡ put_member k u (member m d ms)
 put_back_at Less k m u d ms e h below = simp e (ap (λ x. member k u (member m d x)) (without_below k ms (below_all k m ms e h)))
@@ -149,12 +149,12 @@ not_there k l ms s a b = absurd (none_not_some (member_at l ms) (ap (λ x. membe
     none_not_some None e h = cc
     none_not_some (Some x) e h = cc
 
--- both stay as they are
+-- both are unchanged
 converge_unchanged : (s t : Side) (a b : PlainAct) (u x : Value) → transform_act s a b ≡ Some (a ∷ []) → transform_act t b a ≡ Some (b ∷ []) → apply_acts (a ∷ b ∷ []) u ≡ Some x → apply_acts (b ∷ a ∷ []) u ≡ Some x
     → ActsConverge s t u a b
 converge_unchanged s t a b u x e f g h = record { left = a ∷ []; right = b ∷ []; result = x; on_left = e; on_right = f; by_left = g; by_right = h }
 
--- what puts v at the key k
+-- an act that sets key k to v
 abbrev PutsMember : PlainAct → List ℕ → Value → Type 0
 PutsMember a k v = (ms : Members) → apply_act a (object ms) ≡ Some (object (put_member k v ms))
 

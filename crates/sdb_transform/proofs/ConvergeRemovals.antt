@@ -1,4 +1,4 @@
--- Removed values, after a change in them.
+-- Removed values after a change inside them.
 use Rattle.std.proofs.Common.{◌≡◌, List, [], ◌∷◌, ◌++◌, Option, Some, None, option_map, option_and_then, refl, sym, ap, ◌∙◌, append_assoc}
 use Rattle.std.specs.Option.{option_map_or}
 use Rattle.sdb_value.specs.Value.{Value, PlainStep, value_at, with_value_at}
@@ -22,7 +22,7 @@ removed_with f (oi a0 a1) = refl
 removed_with f (od a0 a1) = refl
 removed_with f (or a0 a1 a2) = refl
 
--- a path isn't behind a longer one
+-- a path doesn't begin with a longer one
 not_behind : (p : List PlainStep) (w : PlainStep) (rest : List PlainStep) → strip_prefix (p ++ w ∷ rest) p ≡ None
 not_behind [] w rest = refl
 not_behind (s ∷ p) w rest = behind_front s (p ++ w ∷ rest) p ∙ not_behind p w rest
@@ -44,7 +44,7 @@ map_some_elim : {A B : Type 0} (f : A → B) (o : Option A) (y : B) → option_m
 map_some_elim f None y e = cc
 map_some_elim f (Some x) y e = (x, refl, cc)
 
--- what stands at the place after a change in it
+-- the value at the path after a change inside it
 stands_after : (d e x : Value) (o : PlainComponent) (p rest : List PlainStep) → value_at d p ≡ Some x → o.path ≡ p ++ rest → apply_one o d ≡ Some e
     → value_at e p ≡ Some (updated_value (component_at rest o.act) x)
 stands_after d e x o p rest found is done =

@@ -1,4 +1,4 @@
--- Acts that meet at one text.
+-- Concurrent acts at one text.
 use Rattle.std.proofs.Common.{◌≡◌, ℕ, zero, suc, ◌+◌, ◌-◌, ◌<◌, ◌≤◌, min, List, [], ◌∷◌, ◌++◌, length, take, drop, Option, Some, None, option_map, option_and_then, Bool, true, false, eqb, leb, inl, inr, refl, sym, ap, ◌∙◌, subst, arith, append_assoc, append-nil, nat_eq}
 use Rattle.std.specs.Prelude.{if◌then◌else◌, ⊤}
 use Rattle.std.specs.List.{insert_slice, remove_range, starts_with}
@@ -31,11 +31,11 @@ begins_front : (s t : List ℕ) → IsCharStart (s ++ t) → IsCharStart s
 begins_front [] t h = tt
 begins_front (b ∷ s) t h = h
 
--- what begins with s, and goes on otherwise
+-- a text that begins with s and continues differently
 begins_other : (s t u : List ℕ) → IsCharStart (s ++ t) → IsCharStart u → IsCharStart (s ++ u)
 begins_other s t u h k = begins_append s u (begins_front s t h) k
 
--- ---- units
+-- ---- code units
 
 pub units_append : (s t : List ℕ) → units (s ++ t) ≡ units s + units t
 units_append [] t = omega arith
@@ -50,7 +50,7 @@ wide_units s t h (b ∷ u) e z = let k : IsCharStart (b ∷ u) = subst IsCharSta
 past_byte : (w n : ℕ) → w + n - w ≡ n
 past_byte w n = omega arith
 
--- the text is cut where one that begins with a character follows
+-- a text is cut before a text that begins with a character
 pub cut_here : (s t : List ℕ) → IsCharStart t → cut_at (s ++ t) (units s) ≡ Some (length s)
 cut_here [] [] h = refl
 cut_here [] (b ∷ t) h = rw (le_false (utf16_width b) 0 h)
@@ -59,14 +59,14 @@ cut_here (b ∷ s) t h = rw (le_true (utf16_width b) (utf16_width b + units s) (
 pub cut_where : (t a b : List ℕ) (p : ℕ) → t ≡ a ++ b → units a ≡ p → IsCharStart b → cut_at t p ≡ Some (length a)
 cut_where t a b p is at h = ap (λ x. cut_at x p) is ∙ ap (cut_at (a ++ b)) (sym at) ∙ cut_here a b h
 
--- and it is cut nowhere else
+-- it is cut at no other position
 pub record IsCutAt (t : List ℕ) (p i : ℕ) : Type 0 where
   pub front : List ℕ
   pub rest : List ℕ
   pub is : t ≡ front ++ rest
   pub far : units front ≡ p
   pub begins : IsCharStart rest
-  pub place : length front ≡ i
+  pub position : length front ≡ i
 
 cut_none : (u : Bool) (p i : ℕ) → eqb p 0 ≡ u → (if u then Some 0 else None) ≡ Some i → (p ≡ 0) × (i ≡ 0)
 cut_none true p i e h = let z : i ≡ 0 = cc in (grind (arith, nat_tests), z)
@@ -80,16 +80,16 @@ cut_byte true u (Some k) b p i bs e f g h below =
     let c = below k g in
     let z : i ≡ suc k = cc in
     let w : utf16_width b ≤ p = le_of (utf16_width b) p e in
-    record { front = b ∷ c.front; rest = c.rest; is = ap (λ x. b ∷ x) c.is; far = omega (arith, w, c.far); begins = c.begins; place = ap suc c.place ∙ sym z }
+    record { front = b ∷ c.front; rest = c.rest; is = ap (λ x. b ∷ x) c.is; far = omega (arith, w, c.far); begins = c.begins; position = ap suc c.position ∙ sym z }
 cut_byte false true o b p i bs e f g h below =
     let z : p ≡ 0 = grind (arith, nat_tests) in
     let w : p < utf16_width b = grind (arith, nat_tests) in
     let n : i ≡ 0 = cc in
-    record { front = []; rest = b ∷ bs; is = refl; far = sym z; begins = omega (arith, w); place = sym n }
+    record { front = []; rest = b ∷ bs; is = refl; far = sym z; begins = omega (arith, w); position = sym n }
 cut_byte false false o b p i bs e f g h below = cc
 
 pub cut_found : (t : List ℕ) (p i : ℕ) → cut_at t p ≡ Some i → IsCutAt t p i
-cut_found [] p i h = let e = cut_none (eqb p 0) p i refl h in record { front = []; rest = []; is = refl; far = sym (e.0); begins = tt; place = sym (e.1) }
+cut_found [] p i h = let e = cut_none (eqb p 0) p i refl h in record { front = []; rest = []; is = refl; far = sym (e.0); begins = tt; position = sym (e.1) }
 cut_found (b ∷ bs) p i h = cut_byte (leb (utf16_width b) p) (eqb p 0) (cut_at bs (p - utf16_width b)) b p i bs refl refl refl h (λ k e. cut_found bs (p - utf16_width b) k e)
 
 -- ---- two parts of one text
@@ -99,7 +99,7 @@ pub record TextBetween (a b c d : List ℕ) : Type 0 where
   pub far : c ≡ a ++ mid
   pub near : b ≡ mid ++ d
 
--- the cut that has fewer units before it is the earlier
+-- the cut with fewer code units before it is the earlier one
 pub text_between : (a b c d : List ℕ) → a ++ b ≡ c ++ d → IsCharStart d → units a ≤ units c → TextBetween a b c d
 text_between [] b c d e h k = record { mid = c; far = refl; near = e }
 text_between (x ∷ a) b [] d e h k = let w : IsCharStart (x ∷ (a ++ b)) = subst IsCharStart (sym e) h in absurd (omega (arith, w, k))
@@ -254,7 +254,7 @@ si_sd_behind s t p r x d tx c m b is at on h bm bd bb bx = record {
       (si_does (r + units m) x (c ++ (m ++ b)) (c ++ m) b (c ++ (m ++ (x ++ b))) (simp append_assoc) (omega (arith, units_append c m, at)) bb (simp append_assoc));
 }
 
--- the insert falls inside what is deleted, which goes in two pieces
+-- the insert is inside the deleted text, which is split in two
 split_is : (r q n : ℕ) (f g : List ℕ) → units f ≡ n → IsCharStart g → split_delete r (f ++ g) n q ≡ Some (sd r f ∷ sd q g ∷ [])
 split_is r q n f g e h =
     ap (option_map (λ i. sd r (take i (f ++ g)) ∷ sd q (drop i (f ++ g)) ∷ [])) (cut_where (f ++ g) f g n refl e h)
@@ -282,7 +282,7 @@ si_sd_inside s t p r x tx c f g e is at on wf wg bf bg be bx k = record {
       (si_does r x (c ++ e) c e (c ++ (x ++ e)) refl at be refl);
 }
 
--- what is deleted, between two cuts
+-- the deleted text between two cuts
 pub record DeletedRange (t d : List ℕ) (p : ℕ) : Type 0 where
   pub front : List ℕ
   pub rest : List ℕ
@@ -326,7 +326,7 @@ si_sd s t p r i x d tx c k bx m =
 
 -- ---- two deletions
 
--- what is left of a deletion from whose text a part was taken
+-- the rest of a deletion from whose text a part was removed
 without_is : (p before after : ℕ) (f g h : List ℕ) → units f ≡ before → units f + units g ≡ after → IsCharStart g → IsCharStart h → delete_without_overlap p (f ++ (g ++ h)) before after ≡ Some (delete_unless_empty p (f ++ h))
 without_is p before after f g h e k bg bh =
     let d = f ++ (g ++ h) in
@@ -369,7 +369,7 @@ min_first p r h = omega (arith, h)
 min_other : (p r : ℕ) → p ≤ r → min r p ≡ p
 min_other p r h = omega (arith, h)
 
--- the second lies inside the first
+-- the second is inside the first
 sd_sd_inside : (s t : Side) (p r : ℕ) (tx a f d2 h b : List ℕ) → tx ≡ a ++ (f ++ (d2 ++ (h ++ b))) → units a ≡ p → p + units f ≡ r → 0 < units d2
     → IsCharStart f → IsCharStart d2 → IsCharStart h → IsCharStart b → ActsConverge s t (text tx) (sd p (f ++ (d2 ++ h))) (sd r d2)
 sd_sd_inside s t p r tx a f d2 h b is at on wide bf b2 bh bb =
@@ -395,7 +395,7 @@ sd_sd_inside s t p r tx a f d2 h b is at on wide bf b2 bh bb =
           (unless_does p (f ++ h) (a ++ (f ++ (h ++ b))) a b (simp append_assoc) at (begins_append f h bf bh) bb);
     }
 
--- the second begins inside the first, and goes on
+-- the second begins inside the first and ends after it
 sd_sd_over : (s t : Side) (p r : ℕ) (tx a f x y e : List ℕ) → tx ≡ a ++ (f ++ (x ++ (y ++ e))) → units a ≡ p → p + units f ≡ r → 0 < units x
     → IsCharStart f → IsCharStart x → IsCharStart y → IsCharStart e → ActsConverge s t (text tx) (sd p (f ++ x)) (sd r (x ++ y))
 sd_sd_over s t p r tx a f x y e is at on wide bf bx by be =
@@ -465,7 +465,7 @@ sd_sd s t p r d d2 tx k l =
       | inr h ↦ acts_converge_symm t s (text tx) (sd r d2) (sd p d) (sd_sd_at t s r p d2 d tx l k (omega (arith, h)))
     ]
 
--- ---- what an act that has an effect finds
+-- ---- the value that an applicable act finds
 
 cut_there : (o : Option ℕ) (t s : List ℕ) (e : Value) → option_map text (option_map (λ i. insert_slice t i s) o) ≡ Some e → (i : ℕ) × (o ≡ Some i)
 cut_there None t s e h = cc
@@ -519,7 +519,7 @@ pub sd_finds : (p : ℕ) (d t : List ℕ) (e : Value) → IsUtf8 t → IsUtf8 d 
 sd_finds p d t e ut ud n h =
     let c = sd_there (cut_at t p) t d e h in
     let k = cut_found t p c.0 (c.1) in
-    let here : drop c.0 t ≡ k.rest = ap (drop c.0) k.is ∙ ap (λ i. drop i (k.front ++ k.rest)) (sym k.place) ∙ drop_front k.front k.rest in
+    let here : drop c.0 t ≡ k.rest = ap (drop c.0) k.is ∙ ap (λ i. drop i (k.front ++ k.rest)) (sym k.position) ∙ drop_front k.front k.rest in
     let same : d ≡ take (length d) (drop c.0 t) = (bytes_eq-Decides d (take (length d) (drop c.0 t))).0 (c.2) in
     let b = drop (length d) k.rest in
     let rest : k.rest ≡ d ++ b = take_drop (length d) k.rest ∙ ap (λ z. z ++ b) (sym (same ∙ ap (take (length d)) here)) in

@@ -1,4 +1,4 @@
--- Components that meet: each pass carried to any path, and all of them.
+-- Convergence of concurrent components, from their containers to any path.
 use Rattle.std.proofs.Common.{◌≡◌, ℕ, zero, suc, ℤ, ◌+ℤ◌, List, [], ◌∷◌, ◌++◌, map, Option, Some, None, option_map, option_and_then, Bool, true, false, ◌⊎◌, inl, inr, IsSome, refl, sym, ap, ◌∙◌, subst, append_assoc, append-nil, true≢false}
 use Rattle.std.specs.Prelude.{if◌then◌else◌}
 use Rattle.std.specs.Option.{option_map_or}
@@ -24,7 +24,7 @@ use Rattle.sdb_transform.proofs.ConvergeObjects.{objects_meet}
 use Rattle.sdb_transform.proofs.ConvergeNumbers.{numbers_meet}
 use Rattle.sdb_transform.proofs.ConvergeBelow.{ShiftsStep, DropsStep, shifts_or_drops}
 
--- ---- two that agree
+-- ---- two equal results
 
 pub agrees_turned : (s t : Side) (d : Value) (a b : PlainComponent) → Converges s t d a b → Converges t s d b a
 agrees_turned s t d a b m = record {
@@ -71,9 +71,9 @@ do_two a b d e f h k = ap (option_and_then (apply (b ∷ []))) h ∙ do_one b e 
 same_value : (a b : Value) → Some a ≡ Some b → a ≡ b
 same_value a b e = cc
 
--- ---- one component at its place
+-- ---- one component at its path
 
--- the act has an effect on u, and its key and texts are as they have to be
+-- the act applies to u, and its key and texts are as required
 pub record ActApplies (x : PlainAct) (u : Value) : Type 0 where
   pub after : Value
   pub changed : apply_act x u ≡ Some after
@@ -82,11 +82,11 @@ pub record ActApplies (x : PlainAct) (u : Value) : Type 0 where
 
 stands_at : (p : List PlainStep) (x : PlainAct) (d u : Value) → value_at d p ≡ Some u → WellMade (component_at p x) d → HasValidTexts x → ActApplies x u
 stands_at p x d u is w t =
-    let same : w.place ≡ u = same_value w.place u (sym w.found ∙ is) in
+    let same : w.position ≡ u = same_value w.position u (sym w.found ∙ is) in
     let e = has_effect (apply_act x u) (with_value_at d p) w.result (sym (ap (option_and_then (λ u. option_map (with_value_at d p) (apply_act x u))) is) ∙ w.accepted) in
     record { after = e.0; changed = e.1; key = subst (HasExpectedKey x) same w.key; texts = t }
 
--- ---- values at places
+-- ---- values at paths
 
 item_formed : (i : ℕ) (ds : Items) (c : Value) → AreWellFormed ds → item_at i ds ≡ Some c → IsWellFormed c
 item_formed i no_items c w e = cc
@@ -119,12 +119,12 @@ step_there : (o : Option Value) (q : List PlainStep) (u : Value) → option_and_
 step_there None q u e = cc
 step_there (Some c) q u e = (c, refl, e)
 
--- what stands in a well-formed value is well formed
+-- a value inside a well-formed value is well formed
 at_formed : (p : List PlainStep) (d u : Value) → IsWellFormed d → value_at d p ≡ Some u → IsWellFormed u
 at_formed [] d u w e = subst IsWellFormed (same_value d u e) w
 at_formed (s ∷ p) d u w e = let c = step_there (child s d) p u e in at_formed p c.0 u (one_formed s d c.0 w c.1) c.2
 
--- ---- below a path that both begin with
+-- ---- inside a common prefix
 
 pub behind_front : (s : PlainStep) (p q : List PlainStep) → strip_prefix (s ∷ p) (s ∷ q) ≡ strip_prefix p q
 behind_front s p q = rw (step_itself s)
@@ -162,7 +162,7 @@ onto_all side p q r x y None u = ap Some (onto_above p q r x y u)
 onto_all side p q r x y (Some []) u = onto_acts p q (transform_act side x y)
 onto_all side p q r x y (Some (w ∷ rest)) u = onto_moved p q r rest x y (transform_step y w)
 
--- the transform of two is that of what is left of both
+-- the transform of two components is that of their rests after the prefix
 transform_under : (side : Side) (p q r : List PlainStep) (x y : PlainAct)
     → transform side (component_at (p ++ q) x) (component_at (p ++ r) y) ≡ option_map (map (with_path_prefix p)) (transform side (component_at q x) (component_at r y))
 transform_under side p q r x y =
@@ -210,7 +210,7 @@ meets_under p q r x y d u h m =
       ends = subst (λ o. IsSome o ⊎ SumOverflows d (component_at (p ++ q) x) (component_at (p ++ r) y)) (sym by_a) (ends_under p q r x y d u (apply (component_at q x ∷ m.right) u) h m.ends);
     }
 
--- ---- places that don't touch
+-- ---- disjoint paths
 
 front_apart : (p q : List PlainStep) (o : Option (List PlainStep)) → strip_prefix p q ≡ o → ((rest : List PlainStep) → p ++ rest ≡ q → ⊥) → o ≡ None
 front_apart p q None e h = refl
@@ -238,7 +238,7 @@ apart_meet s t d a b m h =
       by_right = do_two b a d m.b_made.result c.0 m.b_made.accepted c.2;
     }
 
--- ---- one place under the other
+-- ---- one path inside the other
 
 does_here : (x : PlainAct) (d : Value) → apply_one (component_at [] x) d ≡ apply_act x d
 does_here x d = with_root (apply_act x d)
@@ -247,7 +247,7 @@ does_here x d = with_root (apply_act x d)
     with_root None = refl
     with_root (Some v) = refl
 
--- what is done below a step
+-- an act inside a step
 does_step : (s : PlainStep) (q : List PlainStep) (y : PlainAct) (d c u u1 : Value) → child s d ≡ Some c → value_at c q ≡ Some u → apply_act y u ≡ Some u1
     → apply_one (component_at (s ∷ q) y) d ≡ Some (with_child s d (with_value_at c q u1))
 does_step s q y d c u u1 e f g = does_is (component_at (s ∷ q) y) d u u1 (at_step s q d c e ∙ f) g ∙ ap Some (with_step s q d c u1 e)
@@ -296,13 +296,13 @@ under_here s t x y w q d u wf a is b m =
 step_fits : (side : Side) (c o : PlainComponent) (s : PlainStep) (rest : List PlainStep) → strip_prefix o.path c.path ≡ Some (s ∷ rest) → StaysInRange side c o → StepStaysInRange o.act s
 step_fits side c o s rest e f = subst (SuffixStaysInRange side c o) e f
 
--- the first at p, the second at p and further down
+-- the first at p, the second inside p
 under_at : (s t : Side) (p q : List PlainStep) (w : PlainStep) (x y : PlainAct) (d : Value) → ConcurrentPair s t d (component_at p x) (component_at (p ++ w ∷ q) y)
     → Converges s t d (component_at p x) (component_at (p ++ w ∷ q) y)
 under_at s t p q w x y d m =
-    let u = m.a_made.place in
+    let u = m.a_made.position in
     let is : value_at d p ≡ Some u = m.a_made.found in
-    let v = m.b_made.place in
+    let v = m.b_made.position in
     let deep : value_at u (w ∷ q) ≡ Some v = sym (at_append d p (w ∷ q) ∙ ap (option_and_then (λ c. value_at c (w ∷ q))) is) ∙ m.b_made.found in
     let a = stands_at p x d u is m.a_made m.a_texts in
     let b = stands_at (p ++ w ∷ q) y d v m.b_made.found m.b_made m.b_texts in
@@ -337,7 +337,7 @@ converge_at_root s t d x y m = record {
   by_right = applies_here (y ∷ m.left) d ∙ m.by_right;
 }
 
--- what both find at one place
+-- both apply to the value at one path
 pub record BothApply (x y : PlainAct) (u : Value) : Type 0 where
   pub formed : IsWellFormed u
   pub a : ActApplies x u
@@ -358,7 +358,7 @@ both_at p x y d u m is = record {
   b_fits = act_fits Right p y x m.b_fits;
 }
 
--- what is so of acts at one place is so of components at any
+-- convergence of acts at one container gives that of components at any path
 agrees_at : (d u : Value) (a b : PlainComponent) → ConcurrentPair Left Right d a b → a.path ≡ b.path → value_at d a.path ≡ Some u
     → (BothApply a.act b.act u → ActsConverge Left Right u a.act b.act) → Converges Left Right d a b
 agrees_at d u a b m e is meet =
@@ -436,7 +436,7 @@ numbers_agree d a b number m e is =
 
 -- ---- the law
 
--- nothing has an effect on null or a truth value
+-- no act applies to null or a boolean
 not_null : {G : Type 0} (x : PlainAct) (u : Value) → apply_act x null ≡ Some u → G
 not_null (na a0) u e = cc
 not_null (si a0 a1) u e = cc
@@ -459,7 +459,7 @@ not_truth b (oi a0 a1) u e = cc
 not_truth b (od a0 a1) u e = cc
 not_truth b (or a0 a1 a2) u e = cc
 
--- at one path, by the kind of the value there
+-- at one path, by the kind of its value
 same_meet : (u d : Value) (a b : PlainComponent) → ConcurrentPair Left Right d a b → a.path ≡ b.path → value_at d a.path ≡ Some u → ConvergesOrOverflows d a b
 same_meet null d a b m e is = let h = stands_at a.path a.act d null is m.a_made m.a_texts in not_null a.act h.after h.changed
 same_meet (truth x) d a b m e is = let h = stands_at a.path a.act d (truth x) is m.a_made m.a_texts in not_truth x a.act h.after h.changed
@@ -468,7 +468,7 @@ same_meet (text t) d a b m e is = agrees_meet d a b (texts_agree d a b t m e is)
 same_meet (list ds) d a b m e is = agrees_meet d a b (lists_agree d a b ds m e is)
 same_meet (object ms) d a b m e is = agrees_meet d a b (objects_agree d a b ms m e is)
 
--- q goes on behind p
+-- p is a prefix of q
 pub record PathExtends (p q : List PlainStep) : Type 0 where
   pub step : PlainStep
   pub rest : List PlainStep
@@ -510,7 +510,7 @@ all_meet d a b m = converge_by_paths (path_relation a.path b.path)
   where
     converge_by_paths : PathRelation a.path b.path → ConvergesOrOverflows d a b
     converge_by_paths (inl h) = agrees_meet d a b (apart_meet Left Right d a b m h)
-    converge_by_paths (inr (inl h)) = same_meet m.a_made.place d a b m h m.a_made.found
+    converge_by_paths (inr (inl h)) = same_meet m.a_made.position d a b m h m.a_made.found
     converge_by_paths (inr (inr (inl h))) = agrees_meet d a b (under_meet Left Right d a b h.step h.rest m h.is)
     converge_by_paths (inr (inr (inr h))) =
         agrees_meet d a b

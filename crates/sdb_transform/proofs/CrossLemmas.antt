@@ -1,9 +1,9 @@
--- The laws of the grid over any table whose rows raise no weight.
+-- The laws of crossings for any table that increases no weight.
 use Rattle.std.proofs.Common.{◌≡◌, ℕ, zero, suc, pred, ◌+◌, ◌*◌, ◌-◌, ◌^◌, min, ◌<◌, ◌≤◌, List, [], ◌∷◌, ◌++◌, Option, Some, None, ◌⊎◌, inl, inr, refl, sym, ap, ◌∙◌, subst, arith, append_assoc, append-nil}
 use Rattle.sdb_transform.specs.CrossMachine.{WorkItem, LeftChanges, RightChange, right_frames, run_work, add_done, step_bound, StateInvariant}
 use Rattle.sdb_transform.specs.Cross.{IsWeighted, IsWithinWeight, TransformTable, Crossing, sum_weight, and_then, join_crossings, cross_in, cross, append_right, append_left}
 
--- under a step that went well
+-- congruence after a step that succeeded
 pub and_then_cong : {A B : Type 0} (o p : Option A) (f g : A → Option B) → o ≡ p → ((a : A) → p ≡ Some a → f a ≡ g a) → and_then o f ≡ and_then p g
 and_then_cong o None f g e h = ap (λ q. and_then q f) e
 and_then_cong o (Some a) f g e h = ap (λ q. and_then q f) e ∙ h a refl
@@ -25,7 +25,7 @@ and_then_id (Some a) f h = ap Some (h a)
 some_same : {A : Type 0} (x y : A) → Some x ≡ Some y → x ≡ y
 some_same x y e = cc
 
--- a step that went well has a first part that did
+-- a step that succeeded has a first part that did
 pub and_then_some : {A B P : Type 0} (o : Option A) (f : A → Option B) (x : B) → and_then o f ≡ Some x → ((a : A) → o ≡ Some a → f a ≡ Some x → P) → P
 and_then_some None f x e k = elim (none_some x e) [ ]
   where
@@ -63,7 +63,7 @@ same_row u a b c d = same_crossing _ _ _ _ _ _ (sym (append_assoc u.left c.left 
 beside_twice : {C : Type 0} (x y z : Crossing C) → append_right (append_right x y) z ≡ append_right x (append_right y z)
 beside_twice x y z = same_crossing _ _ _ _ _ _ refl (append_assoc x.right y.right z.right) (omega arith)
 
--- once a pair has been met
+-- with one pair counted
 abbrev pub with_one_pair : {C : Type 0} → Crossing C → Crossing C
 with_one_pair y = record { left = y.left; right = y.right; pairs = suc y.pairs }
 
@@ -110,7 +110,7 @@ module _ {C : Type 0} {tl tr : TransformTable C} {weigh : C → ℕ} (ok : IsWei
       and_then_some _ _ x f4 (λ w e5 f5.
       light_step l r L R l1 r1 u v w x e1 e2 (cross_within_weight n l1 R u e3) (cross_within_weight n L r1 v e4) (cross_within_weight n v.left u.right w e5) (some_same _ _ f5))))))
 
-  -- with fuel for the weights of both sides, more of it changes nothing
+  -- a depth above both weights changes nothing
   cross_fuel_irrelevant : (n m : ℕ) (L R : List C) → sum_weight weigh L + sum_weight weigh R ≤ n → sum_weight weigh L + sum_weight weigh R ≤ m → cross_in tl tr n L R ≡ cross_in tl tr m L R
   unfolding cross_in
   cross_fuel_irrelevant n m [] R h k = refl
@@ -139,7 +139,7 @@ module _ {C : Type 0} {tl tr : TransformTable C} {weigh : C → ℕ} (ok : IsWei
   cross_right_empty [] = refl
   cross_right_empty (l ∷ L) = refl
 
-  -- the rule for a pair, with no fuel
+  -- the rule for a pair, without a depth
   pub cross_pair : (l r : C) (L R : List C) → cross tl tr weigh (l ∷ L) (r ∷ R) ≡
       and_then (tl l r) (λ l1. and_then (tr r l) (λ r1. and_then (cross tl tr weigh l1 R) (λ u. and_then (cross tl tr weigh L r1) (λ v.
       and_then (cross tl tr weigh v.left u.right) (λ w. Some (join_crossings u v w))))))
@@ -168,7 +168,7 @@ module _ {C : Type 0} {tl tr : TransformTable C} {weigh : C → ℕ} (ok : IsWei
   abbrev CrossOf : List C → List C → Option (Crossing C)
   CrossOf L R = cross tl tr weigh L R
 
-  -- the right side in two parts, and the left side in two parts, up to a weight
+  -- the laws of appending on the right and on the left, up to a weight
   record CrossLaws (n : ℕ) : Type 0 where
     column : (L Ra Rb : List C) → sum_weight weigh L + sum_weight weigh Ra + sum_weight weigh Rb < n → CrossOf L (Ra ++ Rb) ≡ and_then (CrossOf L Ra) (λ x. and_then (CrossOf x.left Rb) (λ y. Some (append_right x y)))
     row : (L1 L2 R : List C) → sum_weight weigh L1 + sum_weight weigh L2 + sum_weight weigh R < n → CrossOf (L1 ++ L2) R ≡ and_then (CrossOf L1 R) (λ x. and_then (CrossOf L2 x.right) (λ y. Some (append_left x y)))
@@ -305,14 +305,14 @@ module _ {C : Type 0} {tl tr : TransformTable C} {weigh : C → ℕ} (ok : IsWei
       ∙ sym (and_then_assoc (CrossOf L (r ∷ [])) _ _)
       ∙ sym (ap (λ o. and_then o (λ x. and_then (RunOf x.left ts) (λ y. Some (append_right x y)))) (cross_column L (r ∷ []) R))
 
-  -- all the work at first
+  -- all the work at the start
   pub through_all : (L R : List C) → run_work tl tr weigh L (right_frames R) ≡ cross tl tr weigh L R
   through_all L R =
       ap (λ ts. RunOf L ts) (sym (append-nil (right_frames R)))
       ∙ through_moves L R []
       ∙ and_then_id (CrossOf L R) _ (λ x. same_crossing _ _ _ _ _ _ refl (append-nil x.right) (omega arith))
 
-  -- nothing waits
+  -- no left change is left
   pub through_none : (r : C) (ts : List (WorkItem C)) → run_work tl tr weigh [] (RightChange r ∷ ts) ≡ and_then (run_work tl tr weigh [] ts) (λ y. Some (add_done (r ∷ []) 0 y))
   unfolding cross cross_in
   through_none r ts = refl
@@ -405,7 +405,7 @@ module _ {C : Type 0} {tl tr : TransformTable C} {weigh : C → ℕ} (ok : IsWei
   told_end goal W ts done p e h =
       (h.pair_count, h.rest ∙ ap (λ v. and_then (RunOf W v) (λ y. Some (add_done done h.pair_count y))) e ∙ ap Some (same_crossing _ _ _ _ _ _ refl (append-nil done) (omega arith)), h.pairs_saturated)
 
-  -- the turns run out
+  -- the bound on the steps
   turns_moves : (n : ℕ) (R : List C) (ts : List (WorkItem C)) → step_bound weigh n (right_frames R ++ ts) ≡ sum_weight weigh R * (1 + 2 * n) + step_bound weigh n ts
   turns_moves n [] ts = omega arith
   turns_moves n (r ∷ R) ts = omega (arith, turns_moves n R ts)

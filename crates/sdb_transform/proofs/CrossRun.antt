@@ -1,4 +1,4 @@
--- One turn of the loop of a crossing.
+-- One step of the loop of a crossing.
 use Rattle.std.proofs.Common.{◌≡◌, ℕ, ◌+◌, ◌-◌, ◌*◌, ◌^◌, ◌<◌, ◌≤◌, arith, min, List, [], ◌∷◌, ◌++◌, Result, Ok, Err, Some, ap, ◌∙◌, append-nil}
 use Rattle.std.specs.Prelude.{IfOk, OnOk, IfErr}
 use Rattle.sdb_component.specs.Plain.{PlainComponent}
@@ -30,7 +30,7 @@ if_err_then (Err e) h k = k e h
 abbrev pub InvariantAt : CrossResult → List PlainComponent → List (WorkItem PlainComponent) → List PlainComponent → ℕ → Type 0
 InvariantAt goal W S done p = StateInvariant (transform Left) (transform Right) component_weight goal W S done p
 
--- a right change past none, and past one that waits
+-- a right change against no left one, and against one
 module _ (goal : CrossResult) (r : PlainComponent) (W W' : List PlainComponent) (S S' : List (WorkItem PlainComponent)) (done : List PlainComponent) (p : ℕ) where
   pub none_keeps : (done' : List PlainComponent) → W ≡ [] → W' ≡ [] → done' ≡ done ++ r ∷ [] → InvariantAt goal W (RightChange r ∷ S) done p → InvariantAt goal W' S done' p
   none_keeps done' e e' f h = told_none transform_is_weighted goal W W' r S done done' p e e' f h
@@ -48,14 +48,14 @@ meet_falls l r W W' S S' ls rs e on_left on_right g = turns_pair transform_is_we
 pub waits_falls : (next : Frame) (W W' ls : List PlainComponent) (S : List (WorkItem PlainComponent)) → work_item_of next ≡ LeftChanges ls → W' ≡ ls ++ W → step_bound component_weight (sum_weight component_weight W') S < step_bound component_weight (sum_weight component_weight W) (work_item_of next ∷ S)
 waits_falls next W W' ls S is e = rw is (turns_waits transform_is_weighted W W' ls S e)
 
--- at first all of the left side waits and all of the right one is on its way
+-- at the start all left components are pushed and all right ones are work
 pub invariant_at_start : (L L' R R' W0 W : List PlainComponent) (S0 S : List (WorkItem PlainComponent)) (done : List PlainComponent) → W0 ≡ [] → W ≡ L' ++ W0 → L' ≡ L → S0 ≡ [] → S ≡ right_frames R' ++ S0 → R' ≡ R → done ≡ [] → InvariantAt (cross_ops L R) W S done 0
 invariant_at_start L L' R R' W0 W S0 S done a e f b g h d =
     let e' : W ≡ L = e ∙ ap (λ w. L' ++ w) a ∙ append-nil L' ∙ f in
     let g' : S ≡ right_frames R = g ∙ ap (λ w. right_frames R' ++ w) b ∙ append-nil (right_frames R') ∙ ap right_frames h in
     rw d (told_start transform_is_weighted L W R S e' g')
 
--- at the end the pairs are few
+-- at the end the number of pairs is in range
 pub ends_few : (L R W : List PlainComponent) (S : List (WorkItem PlainComponent)) (done : List PlainComponent) (p : ℕ) → S ≡ [] → InvariantAt (cross_ops L R) W S done p → p ≤ weight L * weight R
 ends_few L R W S done p e h =
     let (k, shown, n) = told_end transform_is_weighted (cross_ops L R) W S done p e h in

@@ -4,17 +4,17 @@ use Rattle.std.specs.Prelude.{if◌then◌else◌}
 use Rattle.std.proofs.lemmas.Bool.Decides.{nat_tests}
 use Rattle.sdb_rope.specs.Utf16.{utf16_width, units, cut_at}
 
--- the cut goes past the byte, or is before it
+-- the cut is after the character, or before it
 record IsPastCut (b a : ℕ) (bs : List ℕ) (i : ℕ) : Type 0 where
   pub rest : ℕ
   pub fits : utf16_width b ≤ a
   pub found : cut_at bs (a - utf16_width b) ≡ Some rest
-  pub place : i ≡ suc rest
+  pub position : i ≡ suc rest
 
 record IsCutHere (b a i : ℕ) : Type 0 where
   pub start : a ≡ 0
   pub wide : 0 < utf16_width b
-  pub place : i ≡ 0
+  pub position : i ≡ 0
 
 le_of : (w a : ℕ) → leb w a ≡ true → w ≤ a
 le_of w a e = grind (arith, nat_tests)
@@ -28,12 +28,12 @@ eq_of a b e = grind (arith, nat_tests)
 cases_of : (t u : Bool) (o : Option ℕ) (b a : ℕ) (bs : List ℕ) (i : ℕ) → leb (utf16_width b) a ≡ t → eqb a 0 ≡ u → cut_at bs (a - utf16_width b) ≡ o
     → (if t then option_map suc o else (if u then Some 0 else None)) ≡ Some i → IsPastCut b a bs i ⊎ IsCutHere b a i
 cases_of true u None b a bs i e f g h = cc
-cases_of true u (Some k) b a bs i e f g h = let p : i ≡ suc k = cc in inl (record { rest = k; fits = le_of (utf16_width b) a e; found = g; place = p })
+cases_of true u (Some k) b a bs i e f g h = let p : i ≡ suc k = cc in inl (record { rest = k; fits = le_of (utf16_width b) a e; found = g; position = p })
 cases_of false true o b a bs i e f g h =
     let z : a ≡ 0 = eq_of a 0 f in
     let w : a < utf16_width b = lt_of (utf16_width b) a e in
     let p : i ≡ 0 = cc in
-    inr (record { start = z; wide = omega arith; place = p })
+    inr (record { start = z; wide = omega arith; position = p })
 cases_of false false o b a bs i e f g h = cc
 
 cut_cases : (b a : ℕ) (bs : List ℕ) (i : ℕ) → cut_at (b ∷ bs) a ≡ Some i → IsPastCut b a bs i ⊎ IsCutHere b a i
@@ -43,13 +43,13 @@ at_end : (u : Bool) (a i : ℕ) → eqb a 0 ≡ u → (if u then Some 0 else Non
 at_end true a i e h = let p : i ≡ 0 = cc in (eq_of a 0 e, p)
 at_end false a i e h = cc
 
--- what lies before a cut has so many units
+-- the part before a cut has this number of code units
 pub cut_front : (d : List ℕ) (a i : ℕ) → cut_at d a ≡ Some i → units (take i d) ≡ a
 cut_front [] a i h = let e = at_end (eqb a 0) a i refl h in rw e.1 (sym e.0)
 cut_front (b ∷ d) a i h =
     elim (cut_cases b a d i h) [
-      | inl p ↦ let r : units (take p.rest d) ≡ a - utf16_width b = cut_front d (a - utf16_width b) p.rest p.found in let s : units (take i (b ∷ d)) ≡ utf16_width b + units (take p.rest d) = rw p.place refl in omega (arith, p.fits)
-      | inr q ↦ rw q.place (sym q.start)
+      | inl p ↦ let r : units (take p.rest d) ≡ a - utf16_width b = cut_front d (a - utf16_width b) p.rest p.found in let s : units (take i (b ∷ d)) ≡ utf16_width b + units (take p.rest d) = rw p.position refl in omega (arith, p.fits)
+      | inr q ↦ rw q.position (sym q.start)
     ]
 
 pub units_split : (i : ℕ) (d : List ℕ) → units (take i d) + units (drop i d) ≡ units d
@@ -57,14 +57,14 @@ units_split zero d = omega arith
 units_split (suc i) [] = refl
 units_split (suc i) (b ∷ d) = let r : units (take i d) + units (drop i d) ≡ units d = units_split i d in omega arith
 
--- a cut further on is no earlier place
+-- a cut at a greater offset isn't earlier
 pub cut_mono : (d : List ℕ) (a b i j : ℕ) → cut_at d a ≡ Some i → cut_at d b ≡ Some j → a ≤ b → i ≤ j
 cut_mono [] a b i j g h l = let e = at_end (eqb a 0) a i refl g in omega (arith, e.1)
 cut_mono (x ∷ d) a b i j g h l =
     elim (cut_cases x a d i g) [
-      | inr q ↦ omega (arith, q.place)
+      | inr q ↦ omega (arith, q.position)
       | inl p ↦ elim (cut_cases x b d j h) [
-        | inl q ↦ let r : p.rest ≤ q.rest = cut_mono d (a - utf16_width x) (b - utf16_width x) p.rest q.rest p.found q.found (omega arith) in omega (arith, p.place, q.place)
+        | inl q ↦ let r : p.rest ≤ q.rest = cut_mono d (a - utf16_width x) (b - utf16_width x) p.rest q.rest p.found q.found (omega arith) in omega (arith, p.position, q.position)
         | inr q ↦ absurd (omega (arith, p.fits, q.start, q.wide))
       ]
     ]

@@ -13,7 +13,7 @@ use Rattle.sdb_transform.proofs.CrossLemmas.{cross_left_empty, cross_right_empty
 use Rattle.sdb_transform.proofs.WeightLemmas.{transform_is_weighted}
 
 module _ (l r : PlainComponent) where
-  -- what comes of both where nothing else is there
+  -- the crossing of the results if nothing follows
   abbrev CrossOfRest : List PlainComponent → List PlainComponent → CrossResult
   CrossOfRest ls rs =
       and_then (cross_ops ls []) (λ u.
@@ -44,7 +44,7 @@ module _ (l r : PlainComponent) where
   right_fault NotTransformed h = right_refused h
   right_fault OutOfMemory h = tt
 
-  -- a fault of one of them is a refusal of both
+  -- a fault of one transform refuses both
   pub refused_left : (f : Fault) → IsTransformFault f (transform Left l r) → IsCrossFault l r f
   refused_left NotTransformed h = inl h
   refused_left OutOfMemory h = tt

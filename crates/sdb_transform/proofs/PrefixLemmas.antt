@@ -1,4 +1,4 @@
--- Paths that lead on below another.
+-- Paths that continue inside another.
 use Rattle.std.proofs.Common.{◌≡◌, ℕ, suc, ◌+◌, ◌<◌, List, [], ◌∷◌, ◌++◌, length, get_or, set, Option, Some, None, option_map, Bool, true, false, refl, sym, ap, ◌∙◌, arith, length-append}
 use Rattle.std.proofs.lemmas.List.{length-map}
 use Rattle.std.specs.Prelude.{if◌then◌else◌}
@@ -18,13 +18,13 @@ behind_or : (b : Bool) (s t : PlainStep) (front path rest : List PlainStep) → 
 behind_or true s t front path rest same e below = let p : path ≡ front ++ rest = below e in let q : s ≡ t = equal_steps s t same in rw (p, q) refl
 behind_or false s t front path rest same e below = cc
 
--- a path is the front and what lies behind it
+-- a path is its prefix and the rest
 pub behind_is : (front path rest : List PlainStep) → strip_prefix front path ≡ Some rest → path ≡ front ++ rest
 behind_is [] path rest e = let p : path ≡ rest = cc in p
 behind_is (s ∷ front) [] rest e = cc
 behind_is (s ∷ front) (t ∷ path) rest e = behind_or (steps_equal s t) s t front path rest refl e (behind_is front path rest)
 
--- the path goes on below the front
+-- the path continues after the prefix
 pub path_continues : (items front : List Step) (o : List PlainStep) (s : PlainStep) (rest : List PlainStep) → plain_path front ≡ o → plain_path items ≡ o ++ s ∷ rest → length front < length items
 path_continues items front o s rest f e =
     let a : length (plain_path items) ≡ length items = length-map items plain_step in
@@ -53,7 +53,7 @@ set_front (y ∷ items) (t ∷ o) s rest x e = let h : plain_path items ≡ o ++
 pub set_there : (items front : List Step) (o : List PlainStep) (s : PlainStep) (rest : List PlainStep) (x : Step) → plain_path front ≡ o → plain_path items ≡ o ++ s ∷ rest → plain_path (set items (length front) x) ≡ o ++ plain_step x ∷ rest
 set_there items front o s rest x f e = ap (λ n. plain_path (set items n x)) (front_len front o f) ∙ set_front items o s rest x e
 
--- below the other's container the step alone decides
+-- inside the other's container the step alone decides
 pub below_is : (side : Side) (c o : PlainComponent) (s t : PlainStep) (rest : List PlainStep) (m : Option (Option PlainStep)) → strip_prefix o.path c.path ≡ Some (s ∷ rest) → t ≡ s → transform_step o.act t ≡ m → transform side c o ≡ option_map (with_moved_step c o rest) m
 below_is side c o s t rest m e same h = rw (e, ← same, h) refl
 
@@ -72,7 +72,7 @@ gone_below side c o s t rest e same h = below_is side c o s t rest (Some None) e
 pub set_below : (side : Side) (c o : PlainComponent) (s t u : PlainStep) (rest path : List PlainStep) → strip_prefix o.path c.path ≡ Some (s ∷ rest) → t ≡ s → transform_step o.act t ≡ Some (Some u) → path ≡ o.path ++ u ∷ rest → Some (component_at path c.act ∷ []) ≡ transform side c o
 set_below side c o s t u rest path e same h p = sym (below_is side c o s t rest (Some (Some u)) e same h ∙ ap (λ q. Some (component_at q c.act ∷ [])) (sym p))
 
--- steps are left behind the front
+-- steps remain after the prefix
 pub some_left : (o : Option (List PlainStep)) (n : ℕ) → Some n ≡ option_map length o → (n ≡ 0 → ⊥) → (s : PlainStep) × (rest : List PlainStep) × (o ≡ Some (s ∷ rest))
 some_left None n e h = cc
 some_left (Some []) n e h = let z : n ≡ 0 = cc in absurd (h z)

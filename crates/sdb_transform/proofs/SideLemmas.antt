@@ -1,4 +1,4 @@
--- One component past an operation, component by component.
+-- One component against an operation, component by component.
 use Rattle.std.proofs.Common.{◌≡◌, List, [], ◌∷◌, Option, Some, None, option_map, false, refl, ap, ◌∙◌}
 use Rattle.std.proofs.lemmas.List.{append-nil}
 use Rattle.std.specs.Option.{is_none}
@@ -16,7 +16,7 @@ use Rattle.sdb_transform.proofs.WeightLemmas.{transform_is_weighted}
 abbrev ComponentList : Type 0
 ComponentList = List PlainComponent
 
--- u is what comes of the pieces, and none of the left side is left for what comes of the right component
+-- u crosses the transformed left components, and no left component remains
 abbrev LeftRemainder : ComponentList → CrossResult → CrossResult
 LeftRemainder rs o = and_then o (λ u. and_then (cross_ops [] rs) (λ v. and_then (cross_ops v.left u.right) (λ w. Some (join_crossings u v w))))
 
@@ -24,7 +24,7 @@ left_rest : (rs : ComponentList) (o : CrossResult) → option_map (λ x. x.left)
 left_rest rs None = refl
 left_rest rs (Some u) = rw (cross_left_empty transform_is_weighted rs, cross_left_empty transform_is_weighted u.right, append-nil u.left)
 
--- the same with the sides exchanged
+-- with the sides exchanged
 abbrev RightRemainder : ComponentList → CrossResult → CrossResult
 RightRemainder ls o = and_then (cross_ops ls []) (λ u. and_then o (λ v. and_then (cross_ops v.left u.right) (λ w. Some (join_crossings u v w))))
 
@@ -53,7 +53,7 @@ module _ (c o : PlainComponent) (R : ComponentList) where
   transform_refused_iff Left cs e h = let (rs, f) = is_some (transform Right o c) h in ap (option_map (λ x. x.left)) (left_goes cs rs e f) ∙ left_rest rs (cross_ops cs R)
   transform_refused_iff Right cs e h = let (ls, f) = is_some (transform Left o c) h in ap (option_map (λ x. x.right)) (right_goes cs ls e f) ∙ right_rest ls (cross_ops R cs)
 
-  -- refused where the component's own transform is
+  -- refused if the component's own transform is
   own_refused : (side : Side) → transform side c o ≡ None → transform_op side (c ∷ []) (o ∷ R) ≡ None
   own_refused Left e = ap (option_map (λ x. x.left)) (left_rule ∙ ap (λ p. and_then p (λ ls. and_then (transform Right o c) (λ rs. LeftRemainder rs (cross_ops ls R)))) e)
   own_refused Right e = ap (option_map (λ x. x.right)) (right_rule ∙ and_then_none (transform Left o c) _ (λ ls. ap (λ p. and_then p (λ rs. RightRemainder ls (cross_ops R rs))) e))
@@ -62,7 +62,7 @@ module _ (c o : PlainComponent) (R : ComponentList) where
   own_fault side NotTransformed h = own_refused side h
   own_fault side OutOfMemory h = tt
 
-  -- refused where the other's is
+  -- refused if the other's is
   pub other_refused : (side : Side) → transform (opposite side) o c ≡ None → transform_op side (c ∷ []) (o ∷ R) ≡ None
   other_refused Left e = ap (option_map (λ x. x.left)) (left_rule ∙ and_then_none (transform Left c o) _ (λ ls. ap (λ p. and_then p (λ rs. LeftRemainder rs (cross_ops ls R))) e))
   other_refused Right e = ap (option_map (λ x. x.right)) (right_rule ∙ ap (λ p. and_then p (λ ls. and_then (transform Right c o) (λ rs. RightRemainder ls (cross_ops R rs)))) e)

@@ -41,7 +41,7 @@ unfolding work_from_top
 pop_stack old new None n m e i h = ap work_from_top (empty_list old (sym e ∙ h.0))
 pop_stack old new (Some c) n m e i h = ap work_from_top i ∙ stack_push new c
 
--- one more on its way
+-- one more right change
 pub moves_push : (xs : List PlainComponent) (c : PlainComponent) (s : List (WorkItem PlainComponent)) → right_frames (xs ++ c ∷ []) ++ s ≡ right_frames xs ++ (RightChange c ∷ s)
 moves_push [] c s = refl
 moves_push (x ∷ xs) c s = ap (λ l. RightChange x ∷ l) (moves_push xs c s)
@@ -50,7 +50,7 @@ pub top_reversed : (xs : List PlainComponent) → reverse xs ≡ from_top xs
 unfolding from_top
 top_reversed xs = refl
 
--- a first stack
+-- an empty stack
 pub top_none : from_top [] ≡ []
 unfolding from_top
 top_none = refl

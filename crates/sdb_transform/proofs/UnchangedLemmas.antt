@@ -1,4 +1,4 @@
--- Operations that stay as they are past one another.
+-- Operations that leave each other unchanged.
 use Rattle.std.proofs.Common.{◌≡◌, not, ℕ, zero, suc, get_or, subst, ◌+◌, ◌<◌, ◌≤◌, length, List, [], ◌∷◌, Some, option_map, ap, ◌∙◌, arith, Option, None, Bool, true, false, sym, refl}
 use Rattle.std.specs.List.{All, AllWithin}
 use Rattle.std.specs.Option.{option_map_or}
@@ -20,7 +20,7 @@ use Rattle.sdb_transform.proofs.WeightLemmas.{transform_is_weighted}
 abbrev ComponentList : Type 0
 ComponentList = List PlainComponent
 
--- the crossing leaves both as they are
+-- the crossing leaves both unchanged
 abbrev CrossUnchanged : ComponentList → ComponentList → Type 0
 CrossUnchanged L R = (n : ℕ) × (cross_ops L R ≡ Some (record { left = L; right = R; pairs = n }))
 
@@ -30,7 +30,7 @@ behind_first P c cs h = λ k d within. h (suc k) d (omega (arith, within))
 first_of : (P : PlainComponent → Type 0) (c : PlainComponent) (cs : ComponentList) → All P (c ∷ cs) → P c
 first_of P c cs h = h 0 c (omega arith)
 
--- a pair that stays, with what comes of the rest
+-- an unchanged pair, followed by the crossing of the rest
 cross_pair_unchanged : (l r : PlainComponent) (L R : ComponentList) → CommuteUnchanged Left l r → CrossUnchanged (l ∷ []) R → CrossUnchanged L (r ∷ []) → CrossUnchanged L R → CrossUnchanged (l ∷ L) (r ∷ R)
 cross_pair_unchanged l r L R s u v w = (
   suc (u.0 + v.0 + w.0),
@@ -73,7 +73,7 @@ pub stays_carried : (side : Side) (L R : ComponentList) → All (λ c. All (Comm
 stays_carried Left L R h = ap (option_map (λ x. x.left)) (cross_all_unchanged L R h).1
 stays_carried Right L R h = ap (option_map (λ x. x.right)) (cross_all_unchanged R L (λ j e m k d n. ((h k d n j e m).1, (h k d n j e m).0))).1
 
--- what holds of the first i components holds of one more
+-- a property of the first i components extends to one more
 pub one_more : (P : PlainComponent → Type 0) (cs : ComponentList) (i : ℕ) (x : PlainComponent) → i < length cs → x ≡ get_or cs i x → P x
     → AllWithin P cs 0 i → (k : ℕ) (d : PlainComponent) → 0 ≤ k → k < i + 1 → P (get_or cs k d)
 one_more P [] i x within is p h k d low high = absurd (omega (arith, within))
@@ -83,7 +83,7 @@ one_more P (c ∷ cs) (suc i) x within is p h zero d low high = h 0 d (omega ari
 one_more P (c ∷ cs) (suc i) x within is p h (suc k) d low high =
     one_more P cs i x (omega (arith, within)) is p (λ j e from to. h (suc j) e (omega arith) (omega (arith, to))) k d (omega arith) (omega (arith, high))
 
--- ---- paths that part
+-- ---- paths that differ
 
 none_under : (r : Option PlainStep) → option_and_then (λ s. option_and_then (strip_prefix (s ∷ [])) None) r ≡ None
 none_under None = refl

@@ -1,4 +1,4 @@
--- No row of the table raises the weight.
+-- No row of the table increases the weight.
 use Rattle.std.proofs.Common.{◌≡◌, ℕ, ◌+◌, ◌-◌, ◌*◌, ◌<◌, ◌≤◌, Bool, true, false, min, max, List, [], ◌∷◌, ◌++◌, map, take, drop, Option, Some, None, option_map, refl, sym, subst, arith}
 use Rattle.std.specs.Prelude.{if◌then◌else◌, nat_le, nat_lt, nat_eq, option_and_then, ⊤}
 use Rattle.std.specs.Option.{option_map_or}
@@ -18,7 +18,7 @@ abbrev acts_weight : List PlainAct → ℕ
 acts_weight [] = 0
 acts_weight (a ∷ xs) = act_weight a + acts_weight xs
 
--- what comes of it, if anything, weighs at most n
+-- the transformed acts, if any, weigh at most n
 abbrev ActsWithinWeight : ℕ → ActTransform → Type 0
 ActsWithinWeight n None = ⊤
 ActsWithinWeight n (Some xs) = acts_weight xs ≤ n
@@ -86,7 +86,7 @@ sd_over_sd_light p r d t =
     let f' = leb-false (p + units d) r f in
     without_at (min p r) (r - p) after d (cut_at d (r - p)) (cut_at d after) refl refl (omega arith)))
 
--- ---- the table
+-- ---- the table of transforms
 
 put_light : (side : Side) (l k : List ℕ) (z y : Value) (c : PlainAct) → act_weight c ≡ 1 → ActsWithinWeight 1 (put_after_put side l z c k y)
 put_light side l k z y c e = if_both 1 (texts_equal k l) (left_wins_or side (one_act (or l y z)) no_acts) (one_act c) (side_light 1 side (one_act (or l y z)) no_acts (omega arith) (omega arith)) (omega (arith, e))
@@ -229,7 +229,7 @@ some_light n r cs h e = subst (ComponentsWithinWeight n) e h
 pub never_rises : (side : Side) (c o : PlainComponent) (cs : List PlainComponent) → transform side c o ≡ Some cs → weight cs ≤ component_weight c
 never_rises side c o cs e = some_light (component_weight c) (transform side c o) cs (all_light side c o (strip_prefix o.path c.path)) e
 
--- ---- for the grid
+-- ---- for crossings
 
 pub total_weight : (cs : List PlainComponent) → sum_weight component_weight cs ≡ weight cs
 total_weight [] = refl
@@ -249,7 +249,7 @@ heavy_act (or l w z) = omega arith
 rises_not : (side : Side) (c o : PlainComponent) (cs : List PlainComponent) → transform side c o ≡ Some cs → sum_weight component_weight cs ≤ component_weight c
 rises_not side c o cs e = omega (arith, total_weight cs, never_rises side c o cs e)
 
--- the table is one that the grid's laws hold for
+-- the table fulfils the premises of the laws of crossings
 pub transform_is_weighted : IsWeighted (transform Left) (transform Right) component_weight
 transform_is_weighted = record { positive = λ c. heavy_act c.act; on_left = rises_not Left; on_right = rises_not Right }
 

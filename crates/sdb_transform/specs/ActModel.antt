@@ -1,4 +1,4 @@
--- What the code's results stand for.
+-- The views of the transforms' results.
 use Rattle.std.specs.Prelude.{◌≡◌, ℕ, min, List, [], ◌∷◌, Option, Some, None, Result, Ok, Err, Vec, ⊤}
 use Rattle.std.specs.declared.alloc.Global.{Global}
 use Rattle.sdb_component.specs.Plain.{PlainAct, PlainComponent}
@@ -24,22 +24,22 @@ abbrev pub opposite : Side → Side
 opposite Left = Right
 opposite Right = Left
 
--- no transform exists, or memory was wanting
+-- no transform exists, or an allocation failed
 abbrev pub IsTransformFault : {A : Type 0} → Fault → Option A → Type 0
 IsTransformFault NotTransformed o = o ≡ None
 IsTransformFault OutOfMemory o = ⊤
 
--- the acts, or a fault where there are none
+-- the acts, or the fault if there are none
 abbrev pub MatchesActs : Result RemainingActs Fault → Option (List PlainAct) → Type 0
 MatchesActs (Ok remaining) o = o ≡ Some (remaining_acts remaining)
 MatchesActs (Err fault) o = IsTransformFault fault o
 
--- the components, or a fault where there are none
+-- the components, or the fault if there are none
 abbrev pub MatchesComponents : Result (Vec Component Global) Fault → Option (List PlainComponent) → Type 0
 MatchesComponents (Ok v) o = o ≡ Some v.items
 MatchesComponents (Err fault) o = IsTransformFault fault o
 
--- the step that takes the place of s
+-- the step that replaces s
 abbrev pub step_after : PlainStep → StepChange → Option PlainStep
 step_after s Unchanged = Some s
 step_after s Removed = None
@@ -49,6 +49,6 @@ abbrev pub MatchesStep : PlainStep → Result StepChange Fault → StepTransform
 MatchesStep s (Ok after) m = m ≡ Some (step_after s after)
 MatchesStep s (Err fault) m = IsTransformFault fault m
 
--- a size, as far as a number of 64 bits reaches
+-- a size, saturated at 64 bits
 abbrev pub saturated_size : ℕ → ℕ
 saturated_size n = min 18446744073709551615 n

@@ -1,4 +1,4 @@
--- Components that meet: two that were each made for one value, and what stands for each after the other.
+-- Convergence of concurrent components (TP1): both orders make one value.
 use Rattle.std.specs.Prelude.{◌≡◌, ℕ, ◌+◌, ◌<◌, ◌≤◌, length, ℤ, ◌+ℤ◌, List, [], ◌∷◌, Option, Some, None, IsSome, ◌⊎◌, ⊤}
 use Rattle.std.specs.Str.{IsUtf8}
 use Rattle.sdb_value.specs.Value.{Value, whole, object, PlainStep, index, value_at, member_at}
@@ -11,40 +11,40 @@ use Rattle.sdb_transform.specs.declared.side.Side.{Side}
 use Rattle.sdb_transform.specs.declared.side.Side.TheVariants.{Left, Right}
 use Rattle.sdb_transform.specs.Transform.{transform, strip_prefix}
 
--- ---- made for a value
+-- ---- components made for a value
 
--- of the value at its place: an Oi stands on an absent key, an Od or Or on a present one
+-- for the value at the path: an Oi needs an absent key, an Od or Or a present one
 abbrev pub HasExpectedKey : PlainAct → Value → Type 0
 HasExpectedKey (oi k v) (object ms) = member_at k ms ≡ None
 HasExpectedKey (od k x) (object ms) = IsSome (member_at k ms)
 HasExpectedKey (or k x y) (object ms) = IsSome (member_at k ms)
 HasExpectedKey _ u = ⊤
 
--- `WellMade`: the component has an effect on d, and its key stands as its shape asks
+-- `WellMade`: the component applies to d, and its key is absent or present as its shape needs
 pub record WellMade (c : PlainComponent) (d : Value) : Type 0 where
-  pub place : Value
+  pub position : Value
   pub result : Value
-  pub found : value_at d c.path ≡ Some place
+  pub found : value_at d c.path ≡ Some position
   pub accepted : apply_one c d ≡ Some result
-  pub key : HasExpectedKey c.act place
+  pub key : HasExpectedKey c.act position
 
--- a text is UTF-8, and what is deleted isn't empty
+-- a text is UTF-8, and a deleted text isn't empty
 abbrev pub HasValidTexts : PlainAct → Type 0
 HasValidTexts (si p s) = IsUtf8 s
 HasValidTexts (sd p d) = IsUtf8 d × (0 < length d)
 HasValidTexts _ = ⊤
 
--- ---- no index or offset passes the greatest
+-- ---- no index or offset exceeds the maximum
 
 abbrev pub IsSafeInteger : ℕ → Type 0
 IsSafeInteger n = n ≤ 9007199254740991
 
--- what the other inserts at i comes before what the one of this side inserts at j
+-- the other's insert at i goes before this side's insert at j
 abbrev pub InsertsBefore : Side → ℕ → ℕ → Type 0
 InsertsBefore Left i j = i < j
 InsertsBefore Right i j = i ≤ j
 
--- at one container: where o raises the index or offset of c, it is still one
+-- at one container: an index or offset of c that o raises stays in range
 abbrev pub ActStaysInRange : Side → PlainAct → PlainAct → Type 0
 ActStaysInRange side (si p s) (si r s2) = InsertsBefore side r p → IsSafeInteger (p + units s2)
 ActStaysInRange side (sd p d) (si r s2) = r < p + units d → IsSafeInteger (p + units s2)
@@ -53,24 +53,24 @@ ActStaysInRange side (ld j x) (li i u) = i ≤ j → IsSafeInteger (j + 1)
 ActStaysInRange side (lr j w z) (li i u) = i ≤ j → IsSafeInteger (j + 1)
 ActStaysInRange side c o = ⊤
 
--- below a step of o's container: where o raises the step, it is still an index
+-- inside o's container: a step that o raises stays an index in range
 abbrev pub StepStaysInRange : PlainAct → PlainStep → Type 0
 StepStaysInRange (li i v) (index j) = i ≤ j → IsSafeInteger (j + 1)
 StepStaysInRange o s = ⊤
 
--- by what of c's path lies behind o's, where it begins with it
+-- by the rest of c's path after o's, if it begins with it
 abbrev pub SuffixStaysInRange : Side → PlainComponent → PlainComponent → Option (List PlainStep) → Type 0
 SuffixStaysInRange side c o None = ⊤
 SuffixStaysInRange side c o (Some []) = ActStaysInRange side c.act o.act
 SuffixStaysInRange side c o (Some (s ∷ rest)) = StepStaysInRange o.act s
 
--- no row raises an index or offset of c past 9007199254740991, where c comes after o
+-- transforming c against o raises no index or offset above 9007199254740991
 abbrev pub StaysInRange : Side → PlainComponent → PlainComponent → Type 0
 StaysInRange side c o = SuffixStaysInRange side c o (strip_prefix o.path c.path)
 
--- ---- what comes of two that meet. s is the side of a, and t that of b
+-- ---- results of two concurrent components; s is the side of a, and t that of b
 
--- both are made for the well-formed d, and nothing passes the greatest
+-- both components are made for the well-formed value d, and all positions stay in range
 pub record ConcurrentPair (s t : Side) (d : Value) (a b : PlainComponent) : Type 0 where
   pub formed : IsWellFormed d
   pub a_texts : HasValidTexts a.act
@@ -80,7 +80,7 @@ pub record ConcurrentPair (s t : Side) (d : Value) (a b : PlainComponent) : Type
   pub a_fits : StaysInRange s a b
   pub b_fits : StaysInRange t b a
 
--- neither transform is E8; a then what stands for b, and b then what stands for a, make one value
+-- neither transform is E8, and both orders make one value
 pub record Converges (s t : Side) (d : Value) (a b : PlainComponent) : Type 0 where
   pub left : List PlainComponent
   pub right : List PlainComponent
@@ -101,7 +101,7 @@ pub record SumOverflows (d : Value) (a b : PlainComponent) : Type 0 where
   pub found : value_at d a.path ≡ Some (whole number)
   pub leaves : checked_whole ((number +ℤ x) +ℤ y) ≡ None
 
--- neither transform is E8; both ways make equal values, or both are refused, for a sum that leaves the range
+-- neither transform is E8, and both orders make one value or are refused because a sum leaves the range
 pub record ConvergesOrOverflows (d : Value) (a b : PlainComponent) : Type 0 where
   pub left : List PlainComponent
   pub right : List PlainComponent

@@ -1,4 +1,4 @@
--- Laws of components that meet.
+-- Laws of convergence.
 use Rattle.std.specs.Prelude.{◌≡◌, ℕ, ℤ, List, [], ◌∷◌, ◌++◌, Option, Some, None}
 use Rattle.sdb_value.specs.Value.{Value, whole, text, list, object, Items, Members, PlainStep, value_at}
 use Rattle.sdb_value.specs.Disjoint.{AreDisjointPaths}
@@ -9,12 +9,12 @@ use Rattle.sdb_transform.specs.declared.side.Side.TheVariants.{Left, Right}
 use Rattle.sdb_transform.specs.Transform.{transform, removed_step}
 use Rattle.sdb_transform.specs.Convergence.{StaysInRange, ConcurrentPair, Converges, ConvergesOrOverflows}
 
--- places that don't touch
+-- disjoint paths
 abbrev pub DisjointConverge : Type 0
 DisjointConverge =
     (s t : Side) (d : Value) (a b : PlainComponent) → ConcurrentPair s t d a b → AreDisjointPaths a.path b.path → Converges s t d a b
 
--- b lies below the step w of a's container: cases 1 and 2 of `transform`
+-- b is inside the step w of a's container: cases 1 and 2 of `transform`
 abbrev pub BelowConverge : Type 0
 BelowConverge =
     (s t : Side) (d : Value) (a b : PlainComponent) (w : PlainStep) (rest : List PlainStep)
@@ -42,11 +42,11 @@ NumbersConverge =
     (d : Value) (a b : PlainComponent) (number : ℤ) → ConcurrentPair Left Right d a b → a.path ≡ b.path
     → value_at d a.path ≡ Some (whole number) → ConvergesOrOverflows d a b
 
--- the law, over every value and component of the definitions
+-- convergence for every value and component of the definitions
 abbrev pub AllConverge : Type 0
 AllConverge = (d : Value) (a b : PlainComponent) → ConcurrentPair Left Right d a b → ConvergesOrOverflows d a b
 
--- a pair of which no transform is E8 has no index or offset that passes the greatest
+-- a pair whose transforms exist stays in range
 abbrev pub InRangeWhereWellMade : Type 0
 InRangeWhereWellMade =
     (side : Side) (c o : PlainComponent) (cs : List PlainComponent) → transform side c o ≡ Some cs → StaysInRange side c o
@@ -59,7 +59,7 @@ removed_value (od k x) = Some x
 removed_value (or k x y) = Some x
 removed_value _ = None
 
--- c removes what stands at its step w, and o changes something in it: what c removes after o stands there then
+-- c removes the value at its step w and o changes something in it: after o, c removes the changed value
 abbrev pub RemovedValueIsCurrent : Type 0
 RemovedValueIsCurrent =
     (side : Side) (d e x : Value) (c o : PlainComponent) (w : PlainStep) (rest : List PlainStep)

@@ -1,10 +1,11 @@
--- Two operations carried past one another: `Crossing`, over any table of transforms, and with this project's table.
+-- Two operations transformed against each other, component by component: `Crossing`, for any table of transforms and
+-- for this project's table.
 --
---   X([], R) = ([], R)     X(L, []) = (L, [])
---   X(l::L, r::R) = (l2 ++ L2, r2 ++ Rb), where l1 = T(l, r, left) and r1 = T(r, l, right),
---     (l2, Ra) = X(l1, R), (L1, r2) = X(L, r1), and (L2, Rb) = X(L1, Ra)
+-- - `X([], R) = ([], R)` and `X(L, []) = (L, [])`
+-- - `X(l::L, r::R) = (l2 ++ L2, r2 ++ Rb)`, where `l1 = T(l, r, left)`, `r1 = T(r, l, right)`, `(l2, Ra) = X(l1, R)`,
+--   `(L1, r2) = X(L, r1)` and `(L2, Rb) = X(L1, Ra)`
 --
--- Each use of the rule for a pair counts one pair. Where one transform is refused, so is the whole: None.
+-- Each use of the rule for a pair counts one pair. If one transform is refused, the crossing is `None`.
 use Rattle.std.specs.Prelude.{◌≡◌, ℕ, zero, suc, ◌+◌, ◌*◌, ◌<◌, ◌≤◌, List, [], ◌∷◌, ◌++◌, Option, Some, None, option_map}
 use Rattle.sdb_component.specs.Plain.{PlainComponent}
 use Rattle.sdb_component.specs.Weight.{component_weight}
@@ -12,11 +13,11 @@ use Rattle.sdb_transform.specs.Transform.{transform}
 use Rattle.sdb_transform.specs.declared.side.Side.{Side}
 use Rattle.sdb_transform.specs.declared.side.Side.TheVariants.{Left, Right}
 
--- what stands for the first change after the second, or none where that is refused
+-- the first change transformed against the second, or `None` if that is refused
 abbrev pub TransformTable : Type 0 → Type 0
 TransformTable C = C → C → Option (List C)
 
--- both results, and how many pairs were met
+-- both results, and the number of pairs
 pub record Crossing (C : Type 0) : Type 0 where
   pub left : List C
   pub right : List C
@@ -32,11 +33,11 @@ abbrev pub and_then : {A B : Type 0} → Option A → (A → Option B) → Optio
 and_then None f = None
 and_then (Some a) f = f a
 
--- u is X(l1, R), v is X(L, r1), and w is what is left of both past one another
+-- u is X(l1, R), v is X(L, r1), and w is the crossing of their rests
 abbrev pub join_crossings : {C : Type 0} → Crossing C → Crossing C → Crossing C → Crossing C
 join_crossings u v w = record { left = u.left ++ w.left; right = v.right ++ w.right; pairs = suc (u.pairs + v.pairs + w.pairs) }
 
--- at most n pairs deep
+-- the crossing with at most n nested pairs
 unfoldable pub cross_in : {C : Type 0} → TransformTable C → TransformTable C → ℕ → List C → List C → Option (Crossing C)
 cross_in tl tr n [] R = Some (record { left = []; right = R; pairs = 0 })
 cross_in tl tr n (l ∷ L) [] = Some (record { left = l ∷ L; right = []; pairs = 0 })
@@ -49,25 +50,25 @@ cross_in tl tr (suc n) (l ∷ L) (r ∷ R) =
     and_then (cross_in tl tr n v.left u.right) (λ w.
     Some (join_crossings u v w))))))
 
--- no step raises a weight, so the weights of both sides are deep enough
+-- the crossing; no step increases a weight, so the sum of both weights bounds its depth
 unfoldable pub cross : {C : Type 0} → TransformTable C → TransformTable C → (C → ℕ) → List C → List C → Option (Crossing C)
 cross tl tr component_weight L R = cross_in tl tr (sum_weight component_weight L + sum_weight component_weight R) L R
 
--- x, and then y: the same left side past more of the right one
+-- x followed by y: the left side crosses more of the right one
 abbrev pub append_right : {C : Type 0} → Crossing C → Crossing C → Crossing C
 append_right x y = record { left = y.left; right = x.right ++ y.right; pairs = x.pairs + y.pairs }
 
--- x, and then y: more of the left side past the same right one
+-- x followed by y: more of the left side crosses the right one
 abbrev pub append_left : {C : Type 0} → Crossing C → Crossing C → Crossing C
 append_left x y = record { left = x.left ++ y.left; right = y.right; pairs = x.pairs + y.pairs }
 
--- tables that raise no weight, over changes that each weigh something
+-- tables that increase no weight, for changes of positive weight
 pub record IsWeighted {C : Type 0} (tl tr : TransformTable C) (weigh : C → ℕ) : Type 0 where
   pub positive : (c : C) → 0 < weigh c
   pub on_left : (c o : C) (cs : List C) → tl c o ≡ Some cs → sum_weight weigh cs ≤ weigh c
   pub on_right : (c o : C) (cs : List C) → tr c o ≡ Some cs → sum_weight weigh cs ≤ weigh c
 
--- no side gains weight, and the pairs are at most the product
+-- no side gains weight, and the pairs are at most the product of the weights
 pub record IsWithinWeight {C : Type 0} (weigh : C → ℕ) (L R : List C) (x : Crossing C) : Type 0 where
   pub on_left : sum_weight weigh x.left ≤ sum_weight weigh L
   pub on_right : sum_weight weigh x.right ≤ sum_weight weigh R
@@ -82,7 +83,7 @@ CrossResult = Option (Crossing PlainComponent)
 abbrev pub cross_ops : List PlainComponent → List PlainComponent → CrossResult
 cross_ops L R = cross (transform Left) (transform Right) component_weight L R
 
--- what stands for the operation after the other one, both made at one version
+-- the operation transformed against a concurrent one
 abbrev pub transform_op : Side → List PlainComponent → List PlainComponent → Option (List PlainComponent)
 transform_op Left op other = option_map (λ x. x.left) (cross_ops op other)
 transform_op Right op other = option_map (λ x. x.right) (cross_ops other op)

@@ -1,4 +1,4 @@
--- Laws of the table and of the grid.
+-- Laws of the table of transforms and of crossings.
 use Rattle.std.specs.Prelude.{◌≡◌, ◌*◌, ◌≤◌, List, [], ◌∷◌, Some}
 use Rattle.sdb_component.specs.Plain.{PlainComponent}
 use Rattle.sdb_component.specs.Weight.{component_weight, weight}
@@ -10,7 +10,7 @@ use Rattle.sdb_transform.specs.Transform.{transform}
 abbrev Components : Type 0
 Components = List PlainComponent
 
--- what stands for a component weighs no more than it
+-- a transform doesn't increase a component's weight
 abbrev pub WeightNotIncreased : Type 0
 WeightNotIncreased = (side : Side) (c o : PlainComponent) (cs : Components) → transform side c o ≡ Some cs → weight cs ≤ component_weight c
 
@@ -22,7 +22,7 @@ LeftEmpty = (R : Components) → cross_ops [] R ≡ Some (record { left = []; ri
 abbrev pub RightEmpty : Type 0
 RightEmpty = (L : Components) → cross_ops L [] ≡ Some (record { left = L; right = []; pairs = 0 })
 
--- X(l::L, r::R), with no bound on the depth
+-- X(l::L, r::R), without a bound on the depth
 abbrev pub PairRule : Type 0
 PairRule =
     (l r : PlainComponent) (L R : Components) → cross_ops (l ∷ L) (r ∷ R) ≡

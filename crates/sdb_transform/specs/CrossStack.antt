@@ -1,4 +1,4 @@
--- Vectors as stacks, by what they hold from the top, and what the code shows of a crossing.
+-- Vectors as stacks, from the top, and the view of a crossing.
 use Rattle.std.specs.Prelude.{◌⊎◌, ◌≡◌, ℕ, ◌-◌, ◌^◌, min, List, ◌++◌, map, reverse, Some, None, ⊤}
 use Rattle.sdb_component.specs.Plain.{PlainComponent}
 use Rattle.sdb_component.specs.Weight.{component_weight}
@@ -24,7 +24,7 @@ from_top cs = reverse cs
 unfoldable pub work_from_top : List Frame → List (WorkItem PlainComponent)
 work_from_top ps = reverse (map work_item_of ps)
 
--- where the loop stands on the way to a goal, with this work on top
+-- the state of the loop for a goal, with this work on top
 abbrev pub StateInvariantWith : List (WorkItem PlainComponent) → CrossResult → CrossState → Type 0
 StateInvariantWith next goal p =
     StateInvariant (transform Left) (transform Right) component_weight goal (from_top p.left.items)
@@ -33,13 +33,13 @@ StateInvariantWith next goal p =
 abbrev pub step_bound_with : List (WorkItem PlainComponent) → CrossState → ℕ
 step_bound_with next p = step_bound component_weight (sum_weight component_weight (from_top p.left.items)) (next ++ work_from_top p.right.items)
 
--- the crossing exists, and these are its parts; the pairs as far as a number of 128 bits reaches
+-- the crossing exists and has these parts, with the number of pairs saturated at 128 bits
 abbrev pub IsResultOfCross : Crossed → CrossResult → Type 0
 IsResultOfCross c o =
     (x : Crossing PlainComponent) × (o ≡ Some x) × (c.left ≡ x.left) × (c.right ≡ x.right)
     × (c.pairs ≡ min x.pairs (2 ^ 128 - 1))
 
--- one of both transforms is refused, or memory was wanting
+-- one of both transforms is refused, or an allocation failed
 abbrev pub IsCrossFault : PlainComponent → PlainComponent → Fault → Type 0
 IsCrossFault l r OutOfMemory = ⊤
 IsCrossFault l r NotTransformed = (transform Left l r ≡ None) ⊎ (transform Right r l ≡ None)

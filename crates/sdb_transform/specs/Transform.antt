@@ -1,5 +1,5 @@
--- What stands for a component after another one was applied: `Transform`. json0's README tells which pairs meet;
--- the choices on ties are this project's own. None is E8. Offsets and lengths of texts count UTF-16 units.
+-- A component transformed against a concurrent one: `Transform`. json0's README says which pairs interact; the choices
+-- on ties are this project's own. `None` is E8. Offsets and lengths of texts count UTF-16 code units.
 use Rattle.std.specs.Prelude.{ℕ, ◌+◌, ◌-◌, min, Bool, false, if◌then◌else◌, nat_lt, nat_le, nat_eq, List, [], ◌∷◌, ◌++◌, take, drop, map, Option, Some, None, option_map, option_and_then}
 use Rattle.std.specs.Option.{option_map_or}
 use Rattle.sdb_value.specs.Value.{Value, PlainStep, key, index, texts_equal, steps_equal}
@@ -11,7 +11,7 @@ use Rattle.sdb_transform.specs.declared.side.Side.TheVariants.{Left, Right}
 
 -- ---- paths
 
--- what of the path lies behind the front, if it begins with it
+-- the steps after the prefix, if the path begins with it
 abbrev pub strip_prefix : List PlainStep → List PlainStep → Option (List PlainStep)
 strip_prefix [] path = Some path
 strip_prefix (s ∷ front) [] = None
@@ -28,7 +28,7 @@ one_act a = Some (a ∷ [])
 abbrev pub no_acts : ActTransform
 no_acts = Some []
 
--- an index or offset that is raised past the greatest is refused
+-- a raised index or offset that exceeds the maximum is refused
 abbrev pub at_shifted_position : ℕ → ℕ → (ℕ → ActTransform) → ActTransform
 at_shifted_position n by f = if nat_le (n + by) 9007199254740991 then f (n + by) else None
 
@@ -52,7 +52,7 @@ si_after_sd p s r d2 =
 
 -- ---- text: c deletes d at p
 
--- what is deleted, cut at this many units. A cut inside a pair is refused
+-- the deletion split after this number of code units; a split inside a surrogate pair is refused
 abbrev pub split_delete : ℕ → List ℕ → ℕ → ℕ → ActTransform
 split_delete p d before q = option_map (λ i. sd p (take i d) ∷ sd q (drop i d) ∷ []) (cut_at d before)
 
@@ -66,7 +66,7 @@ abbrev pub delete_unless_empty : ℕ → List ℕ → List PlainAct
 delete_unless_empty p [] = []
 delete_unless_empty p (b ∷ bs) = sd p (b ∷ bs) ∷ []
 
--- what of d lies before so many units, followed by what lies from so many on
+-- the deletion of d without the code units from `before` up to `after`
 abbrev pub delete_without_overlap : ℕ → List ℕ → ℕ → ℕ → ActTransform
 delete_without_overlap p d before after =
     option_and_then (λ i. option_map (λ j. delete_unless_empty p (take i d ++ drop j d)) (cut_at d after)) (cut_at d before)
@@ -108,13 +108,13 @@ abbrev pub lr_after_ld : ℕ → Value → Value → ℕ → ActTransform
 lr_after_ld j w z i =
     if nat_lt i j then one_act (lr (j - 1) w z) else (if nat_eq i j then one_act (li i z) else one_act (lr j w z))
 
--- o put y there
+-- o has replaced the item by y
 abbrev pub lr_after_lr : Side → ℕ → Value → Value → ℕ → Value → ActTransform
 lr_after_lr side j w z i y = if nat_eq i j then left_wins_or side (one_act (lr i y z)) no_acts else one_act (lr j w z)
 
 -- ---- objects: o changed the key k
 
--- o put y at k, and c puts z at l
+-- o has set k to y, and c sets l to z
 abbrev pub put_after_put : Side → List ℕ → Value → PlainAct → List ℕ → Value → ActTransform
 put_after_put side l z c k y = if texts_equal k l then left_wins_or side (one_act (or l y z)) no_acts else one_act c
 
@@ -124,7 +124,7 @@ od_after_removal l x k = if texts_equal k l then no_acts else one_act (od l x)
 abbrev pub or_after_od : List ℕ → Value → Value → List ℕ → ActTransform
 or_after_od l w z k = if texts_equal k l then one_act (oi l z) else one_act (or l w z)
 
--- ---- case 3: both at one container. c after o, by the shape of c
+-- ---- case 3: both at one container; c transformed against o, by the shape of c
 
 abbrev pub transform_si : Side → ℕ → List ℕ → PlainAct → ActTransform
 transform_si side p s (si r s2) = si_after_si side p s r s2
@@ -180,7 +180,7 @@ transform_act side (oi l z) o = transform_oi side l z o
 transform_act side (od l x) o = transform_od l x o
 transform_act side (or l w z) o = transform_or side l w z o
 
--- ---- case 2: c lies below the step j of o's container. The step that takes its place, if any
+-- ---- case 2: c is inside the step j of o's container; the step that replaces j, if any
 
 abbrev pub StepTransform : Type 0
 StepTransform = Option (Option PlainStep)
@@ -203,7 +203,7 @@ abbrev pub transform_step : PlainAct → PlainStep → StepTransform
 transform_step o (index j) = transform_index o j
 transform_step o (key l) = transform_key o l
 
--- ---- case 1: o lies below the value that c removes. That value is brought up to date
+-- ---- case 1: o is inside the value that c removes, which is updated
 
 abbrev pub removed_step : PlainAct → Option PlainStep
 removed_step (ld i x) = Some (index i)
@@ -212,7 +212,7 @@ removed_step (od k x) = Some (key k)
 removed_step (or k x y) = Some (key k)
 removed_step _ = None
 
--- whether the act removes the value that the step leads to
+-- whether the act removes the value of the step
 abbrev pub removes_step : PlainAct → PlainStep → Bool
 removes_step a s = option_map_or (λ r. steps_equal r s) (removed_step a) false
 
@@ -226,7 +226,7 @@ map_removed f (od k x) = od k (f x)
 map_removed f (or k x y) = or k (f x) y
 map_removed f a = a
 
--- what of the path lies behind c's container path followed by c's last step: under the value that c removes
+-- the steps after c's container path and c's last step: inside the value that c removes
 abbrev pub strip_removed_path : PlainComponent → List PlainStep → Option (List PlainStep)
 strip_removed_path c path = option_and_then (λ s. option_and_then (strip_prefix (s ∷ [])) (strip_prefix c.path path)) (removed_step c.act)
 
@@ -242,16 +242,16 @@ abbrev pub with_moved_step : PlainComponent → PlainComponent → List PlainSte
 with_moved_step c o rest None = []
 with_moved_step c o rest (Some s) = component_at (o.path ++ s ∷ rest) c.act ∷ []
 
--- by what of c's path lies behind o's, where it begins with it
+-- by the rest of c's path after o's, if it begins with it
 abbrev pub transform_below : Side → PlainComponent → PlainComponent → List PlainStep → TransformResult
 transform_below side c o [] = option_map (map (component_at c.path)) (transform_act side c.act o.act)
 transform_below side c o (s ∷ rest) = option_map (with_moved_step c o rest) (transform_step o.act s)
 
--- by what of o's path lies under the value that c removes, if it lies there
+-- by the rest of o's path inside the value that c removes, if it is there
 abbrev pub update_removed : PlainComponent → PlainComponent → Option (List PlainStep) → List PlainComponent
 update_removed c o None = c ∷ []
 update_removed c o (Some rest) = component_at c.path (map_removed (updated_value (component_at rest o.act)) c.act) ∷ []
 
--- `Transform`: the components that stand for c after o
+-- `Transform`: the components that replace c after o
 abbrev pub transform : Side → PlainComponent → PlainComponent → TransformResult
 transform side c o = option_map_or (transform_below side c o) (strip_prefix o.path c.path) (Some (update_removed c o (strip_removed_path c o.path)))

@@ -1,5 +1,5 @@
-//! What is known of a transform beforehand, by the paths and the numbers of both components: whether it
-//! is refused, and whether it leaves the component's text and values as they are.
+//! Classification of a transform by the paths and positions of both components: whether it is
+//! refused, and whether it changes only the component's position.
 ghost use Rattle.std.specs.Prelude.{◌≡◌, Some, IfOk, IfErr};
 ghost use Rattle.sdb_component.specs.View.{plain_act};
 ghost use Rattle.sdb_value.specs.View.{plain_step};
@@ -17,21 +17,21 @@ use sdb_component::{Act, Component};
 use sdb_value::Step;
 use std::alloc::Global;
 
-// What becomes of a component whose text and values stay as they are.
+// The change of a component whose texts and values are unchanged.
 #[derive(Drop)]
 pub(crate) enum PositionChange {
     Dropped,
     Unchanged,
-    // At this offset or index.
+    // To this offset or index.
     MovedTo(u64),
 }
 
-// What is known of a transform beforehand.
+// The kind of a transform.
 #[derive(Drop)]
 pub(crate) enum TransformKind {
     Refused,
     PositionOnly(PositionChange),
-    // Something else stands for the component: more than its offset or index changes.
+    // More than the offset or index changes.
     Rewritten,
 }
 
@@ -47,7 +47,8 @@ pub(crate) fn classify(component: &Component, other: &Component, side: Side) -> 
     }
 }
 
-// Apart from the other's container, only the removal of a value in which the other works is reworked.
+// Without a common container, only the removal of a value in which the other component works is
+// rewritten.
 fn classify_disjoint(component: &Component, other: &Component) -> TransformKind
     ensures { IsKindOfComponent result component.now
         (Some (update_removed component.now other.now (strip_removed_path component.now other.now.path))) }
@@ -61,7 +62,7 @@ fn classify_disjoint(component: &Component, other: &Component) -> TransformKind
     }
 }
 
-// Below the other's container the path's step there decides.
+// Inside the other's container, the path's step there decides.
 fn classify_below(step: &Step, other: &Act) -> TransformKind
     ensures { IsKindOfStep result (plain_step step.now) (transform_step (plain_act other.now) (plain_step step.now)) }
 {
@@ -73,7 +74,7 @@ fn classify_below(step: &Step, other: &Act) -> TransformKind
     }
 }
 
-// What the move leaves of a component.
+// Applies a position change to a component.
 pub(crate) fn reposition_component(
     alloc: Global,
     component: Component,
@@ -84,27 +85,27 @@ pub(crate) fn reposition_component(
     match to {
         PositionChange::Dropped => Transformed::Many(Vec::new(alloc)),
         PositionChange::Unchanged => Transformed::One(component),
-        PositionChange::MovedTo(place) => {
+        PositionChange::MovedTo(position) => {
             let (path, act) = component.into_parts();
-            Transformed::One(Component::new(path, with_position(act, place)))
+            Transformed::One(Component::new(path, with_position(act, position)))
         }
     }
 }
 
-fn with_position(act: Act, place: u64) -> Act
-    ensures { plain_act result ≡ with_position place (plain_act act) }
+fn with_position(act: Act, position: u64) -> Act
+    ensures { plain_act result ≡ with_position position (plain_act act) }
 {
     match act {
-        Act::Si(_, s) => Act::Si(place, s),
-        Act::Sd(_, d) => Act::Sd(place, d),
-        Act::Li(_, v) => Act::Li(place, v),
-        Act::Ld(_, x) => Act::Ld(place, x),
-        Act::Lr(_, w, z) => Act::Lr(place, w, z),
+        Act::Si(_, s) => Act::Si(position, s),
+        Act::Sd(_, d) => Act::Sd(position, d),
+        Act::Li(_, v) => Act::Li(position, v),
+        Act::Ld(_, x) => Act::Ld(position, x),
+        Act::Lr(_, w, z) => Act::Lr(position, w, z),
         other => other,
     }
 }
 
-// What stands for a component after another one.
+// Transforms a component against another one.
 pub(crate) fn transform_against(
     alloc: Global,
     component: Component,

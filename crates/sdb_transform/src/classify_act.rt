@@ -1,4 +1,4 @@
-//! What is known beforehand of an act after another one at the same container.
+//! Classification of an act against another one at the same container.
 ghost use Rattle.std.specs.Prelude.{◌≡◌, ℕ, List, if◌then◌else◌};
 ghost use Rattle.sdb_component.specs.Plain.{si, sd, li, ld, lr, oi, od, or};
 ghost use Rattle.sdb_component.specs.View.{plain_act};
@@ -243,7 +243,7 @@ fn classify_or(key: &str, other: &Act, side: Side) -> TransformKind
     }
 }
 
-// Both put a value at one place: the left one replaces the other's, the right one is dropped.
+// Both set one position: the left one overwrites the other's value, the right one is dropped.
 fn classify_overwrite(side: Side) -> TransformKind
     ensures { result ≡ overwrite_kind side }
 {
@@ -253,7 +253,7 @@ fn classify_overwrite(side: Side) -> TransformKind
     }
 }
 
-// Whether an insert at this offset or index goes behind another one's.
+// Returns whether an insert at this offset or index goes after the other one's.
 fn inserts_after(at: u64, other: u64, side: Side) -> bool
     ensures { result ≡ inserts_after at other side }
 {
@@ -267,7 +267,7 @@ fn shift_up(at: u64, by: u64) -> TransformKind
     ensures { result ≡ shift_up at by }
 {
     match shifted_offset(at, by) {
-        Some(place) => TransformKind::PositionOnly(PositionChange::MovedTo(place)),
+        Some(position) => TransformKind::PositionOnly(PositionChange::MovedTo(position)),
         None => TransformKind::Refused,
     }
 }

@@ -1,4 +1,4 @@
-//! Whether an operation stays as it is after another one.
+//! Operations that commute unchanged.
 ghost use Rattle.std.specs.Prelude.{◌≡◌, All, IsTrue, None, Some};
 ghost use Rattle.sdb_value.specs.View.{plain_path};
 ghost use Rattle.sdb_transform.specs.Cross.{transform_op};
@@ -13,7 +13,7 @@ use sdb_component::{Act, Component};
 use sdb_value::{Step, paths_equal};
 use std::slice;
 
-// Whether both operations are known to stay as they are, each past the other.
+// Returns `true` only if transforming leaves both operations unchanged.
 pub(crate) fn commute_unchanged(components: &[Component], others: &[Component], side: Side) -> bool
     ensures { IsTrue result → transform_op side components.now others.now ≡ Some components.now }
 {
@@ -25,7 +25,8 @@ pub(crate) fn commute_unchanged(components: &[Component], others: &[Component], 
     true
 }
 
-// The same of one component and of others. Edits of one text move one another nearly always, so they aren't looked at.
+// Returns `true` only if the component and the others leave each other unchanged. Text edits nearly
+// always move each other, so they aren't checked.
 fn unchanged_against(component: &Component, others: &[Component], side: Side) -> bool
     ensures { IsTrue result → All (CommuteUnchanged side component.now) others.now }
 {
@@ -40,7 +41,7 @@ fn unchanged_against(component: &Component, others: &[Component], side: Side) ->
     true
 }
 
-// The same of two components.
+// Returns `true` only if both components leave each other unchanged.
 #[tactic(auto, using(crate::proofs::UnchangedLemmas::apart_stays))]
 fn commute(component: &Component, other: &Component, side: Side) -> bool
     ensures { IsTrue result → CommuteUnchanged side component.now other.now }
@@ -52,7 +53,8 @@ fn commute(component: &Component, other: &Component, side: Side) -> bool
         && is_unchanged(&classify(other, component, side.opposite()))
 }
 
-// Whether the paths part at the last step that both have: then neither leads below the other.
+// Returns `true` only if the paths differ at the last step that both have, so that neither is a
+// prefix of the other.
 fn paths_diverge(path: &[Step], other: &[Step]) -> bool
     ensures front { IsTrue result → strip_prefix (plain_path path.now) (plain_path other.now) ≡ None }
     ensures back { IsTrue result → strip_prefix (plain_path other.now) (plain_path path.now) ≡ None }

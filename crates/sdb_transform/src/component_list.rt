@@ -6,7 +6,7 @@ use crate::side::Fault;
 use sdb_component::Component;
 use std::alloc::Global;
 
-// The components that stand for one. One alone takes no allocation.
+// The components that replace one. A single one doesn't allocate.
 #[derive(Drop)]
 pub(crate) enum Transformed {
     One(Component),

@@ -1,4 +1,4 @@
-//! Components, carried past one another.
+//! Transforms of single components.
 ghost use Rattle.std.specs.Prelude.{◌≡◌, ◌∷◌, [], List, Some, None, IfOk, IfErr, length, option_map, ◌≤◌};
 ghost use Rattle.sdb_value.specs.Value.{PlainStep};
 ghost use Rattle.sdb_value.specs.View.{plain_path};
@@ -16,12 +16,15 @@ use sdb_component::{Act, Component, Path};
 use sdb_value::Step;
 use std::alloc::Global;
 
-/// The components that stand for one after another was applied, both made at one version: none, one
-/// or two. Offsets and lengths of texts count UTF-16 units. The component is given up, and nothing of
-/// it is copied that the other doesn't change; the other is lent.
+/// Transforms a component against a concurrent one that was applied before it. Returns no, one or
+/// two components. Offsets and lengths of texts count UTF-16 code units.
 ///
-/// It is `Fault::NotTransformed` where a deletion would have to be cut inside a character, or an index
-/// or offset would pass 9007199254740991, and `Fault::OutOfMemory` where an allocation fails.
+/// The component is consumed, and only what the other changes is copied.
+///
+/// # Errors
+///
+/// [`Fault::NotTransformed`] if a deletion would be cut inside a surrogate pair, or an index or
+/// offset would exceed 9007199254740991. [`Fault::OutOfMemory`] if an allocation fails.
 pub fn transform_one(
     alloc: Global,
     component: Component,
@@ -51,14 +54,15 @@ fn transform_at_paths(
     }
 }
 
-// How many steps of the path lie behind the front, if it begins with it.
+// Returns the number of steps after the prefix, if the path begins with it.
 fn suffix_len(front: &[Step], path: &[Step]) -> Option<usize>
     ensures { result ≡ option_map length (strip_prefix (plain_path front.now) (plain_path path.now)) }
 {
     Some(strip_prefix(front, path)?.len())
 }
 
-// Neither is at or below the other's container, or the other lies under the value that this removes.
+// Transforms a component without a common container, or one that removes a value in which the other
+// works.
 fn transform_disjoint(
     alloc: Global,
     path: Path,
@@ -76,7 +80,7 @@ fn transform_disjoint(
     single(alloc, path, act)
 }
 
-// Both are at one container.
+// Transforms a component at the other's container.
 fn transform_same_container(
     alloc: Global,
     path: Path,
@@ -101,7 +105,7 @@ fn transform_same_container(
     }
 }
 
-// The path leads on below the other's container.
+// Transforms a component inside the other's container.
 fn transform_below(
     alloc: Global,
     path: Path,

@@ -1,4 +1,4 @@
-//! The work of a crossing, turn by turn.
+//! The state of a crossing and one step of it.
 ghost use Rattle.std.specs.Prelude.{◌≡◌, ◌<◌, nat_le, ◌∷◌, [], ◌++◌, MatchOption, IfOk, OnOk, IfErr, Some};
 ghost use Rattle.sdb_component.specs.Size.{component_size};
 ghost use Rattle.sdb_transform.specs.ActModel.{IsTransformFault, saturated_size};
@@ -17,15 +17,15 @@ use crate::side::{Fault, Side};
 use sdb_component::Component;
 use std::alloc::Global;
 
-// Left components that wait from here on, or a right one on its way past those that wait.
+// Left components to push, or a right component to transform against the left ones.
 #[derive(Drop)]
 pub(crate) enum Frame {
     LeftFrame(Transformed),
     RightFrame(Component),
 }
 
-// A crossing that goes on. Of the waiting components and of the work the last comes first. Done are
-// the right components that have passed all that waited.
+// The state of a crossing. The last items of `left` and `right` come first. `right_done` has the
+// right components that were transformed against all left ones.
 #[derive(Drop)]
 pub(crate) struct CrossState {
     pub(crate) left: Vec<Component>,
@@ -35,7 +35,7 @@ pub(crate) struct CrossState {
 }
 
 impl CrossState {
-    // Carries the next piece of work on.
+    // Processes the next frame.
     pub(crate) fn step(&mut self, alloc: Global, next: Frame) -> Result<(), Fault>
         ensures keeps { OnOk result ((goal : CrossResult)
             → StateInvariantWith (work_item_of next ∷ []) goal self.old → StateInvariantWith [] goal self.new) }
@@ -49,7 +49,7 @@ impl CrossState {
         }
     }
 
-    // Carries a right component past those that wait, as long as a single one stands for it.
+    // Transforms a right component against the left ones, while it stays a single component.
     fn transform_next(&mut self, alloc: Global, mut right: Component) -> Result<(), Fault>
         ensures keeps { OnOk result ((goal : CrossResult)
             → StateInvariantWith (RightChange right ∷ []) goal self.old → StateInvariantWith [] goal self.new) }
@@ -85,7 +85,7 @@ fn push_transformed(waiting: &mut Vec<Component>, pieces: Transformed) -> Result
     }
 }
 
-// Puts the components on top, the first one first.
+// Pushes the components so that the first one is on top.
 pub(crate) fn push_split(
     waiting: &mut Vec<Component>,
     mut pieces: Vec<Component>,
@@ -106,7 +106,7 @@ fn pop_left(waiting: &mut Vec<Component>) -> Option<Component>
     waiting.pop()
 }
 
-// The components from the top, without room for more.
+// Returns the components from the top, without spare capacity.
 pub(crate) fn stack_order(mut waiting: Vec<Component>) -> Vec<Component>
     ensures { result.items ≡ from_top waiting.items }
 {
@@ -142,7 +142,7 @@ pub(crate) fn push_right(work: &mut Vec<Frame>, mut run: Vec<Component>) -> Resu
     Ok(())
 }
 
-// What stands for each of two components after the other. Nothing is copied but where both are reworked.
+// Transforms each of two components against the other. Nothing is cloned unless both are rewritten.
 fn transform_pair(
     alloc: Global,
     left: Component,
@@ -162,7 +162,7 @@ fn transform_pair(
     }
 }
 
-// The same where the right one is reworked.
+// Transforms both if the right one is rewritten.
 fn transform_rewritten(
     alloc: Global,
     left: Component,
@@ -188,7 +188,7 @@ fn transform_rewritten(
     }
 }
 
-// The same where both are reworked: the one of which there is less to copy is copied.
+// Transforms both if both are rewritten. The smaller one is cloned.
 fn rewrite_pair(
     alloc: Global,
     left: Component,
@@ -211,9 +211,8 @@ fn rewrite_pair(
     }
 }
 
-// Whether there is no more to copy of the left one than of the right one. Both are measured up to a
-// limit that is doubled until one of them stays below it, so the larger one is never walked far past
-// the size of the smaller.
+// Returns whether the left component isn't larger than the right one. Both are measured up to a
+// limit that doubles, so the cost is that of the smaller one.
 fn weight_not_larger(left: &Component, right: &Component) -> bool
     ensures { result ≡ nat_le (saturated_size (component_size left.now)) (saturated_size (component_size right.now)) }
 {

@@ -1,5 +1,5 @@
-//! Operations made at one version, carried past one another: `transform_one` for two components,
-//! `cross` and `transform` for two operations, and the laws that hold of them.
+//! Operational transformation of json0: `transform_one` for two components, `cross` and `transform`
+//! for two operations, and their laws.
 #![tactic(auto)]
 
 mod classify;

@@ -1,4 +1,4 @@
-//! Operations, carried past one another.
+//! Transforms of operations.
 ghost use Rattle.std.specs.Arc.{arc_value};
 ghost use Rattle.std.specs.Prelude.{◌≡◌, ◌≤◌, ◌*◌, List, ◌∷◌, [], IfOk, IfErr, Some, unwrap_or};
 ghost use Rattle.sdb_component.specs.Plain.{PlainComponent};
@@ -19,26 +19,27 @@ use sdb_component::{Component, Op};
 use std::alloc::Global;
 use std::sync::Arc;
 
-/// Two operations that were carried past one another.
+/// Two operations transformed against each other.
 #[derive(Drop)]
 pub struct Crossed {
-    /// What stands for the left operation after the right one.
+    /// The left operation transformed against the right one.
     pub left: Op,
-    /// What stands for the right operation after the left one.
+    /// The right operation transformed against the left one.
     pub right: Op,
-    /// How many pairs of components met. Where more than 2^128 - 1 did, this is 2^128 - 1.
+    /// Number of pairs that were transformed, at most 2^128 - 1.
     pub pairs: u128,
 }
 
-/// Carries two operations past one another, both made at one version. Each pair of components that
-/// meet is transformed by the rule of `transform_one`, the left operation's as `Side::Left`, and what
-/// comes of them meets the components behind. Both operations are lent.
+/// Transforms two concurrent operations against each other. Each pair of components is transformed
+/// by `transform_one`, the left operation's as `Side::Left`; the results are transformed against
+/// the following components. The number of pairs is at most the product of both weights.
 ///
-/// It is `Fault::NotTransformed` where one transform of a pair that meets is, and `Fault::OutOfMemory`
-/// where an allocation fails.
+/// Each component is cloned once, and one of two overlapping deletions once more.
 ///
-/// Each component is copied once, and of two deletions of one text that overlap one once more. Apart from
-/// that the cost is the transforms of the pairs, at most as many as the product of both weights.
+/// # Errors
+///
+/// [`Fault::NotTransformed`] if the transform of a pair is, [`Fault::OutOfMemory`] if an allocation
+/// fails.
 pub fn cross(alloc: Global, left: &Op, right: &Op) -> Result<Crossed, Fault>
     ensures ok { IfOk result (λ c. IsResultOfCross c (cross_ops left.now right.now)) }
     ensures err { IfErr result (λ f. IsTransformFault f (cross_ops left.now right.now)) }
@@ -54,7 +55,7 @@ pub fn cross(alloc: Global, left: &Op, right: &Op) -> Result<Crossed, Fault>
     }
 }
 
-// Two operations of one component each.
+// Crosses two operations of one component each.
 #[tactic(auto, using(crate::proofs::PairLemmas::left_fault, crate::proofs::PairLemmas::right_fault))]
 fn cross_one(alloc: Global, left: &Component, right: &Component) -> Result<Crossed, Fault>
     ensures ok { IfOk result (λ c. IsResultOfCross c (cross_ops (left.now ∷ []) (right.now ∷ []))) }
@@ -70,7 +71,7 @@ fn cross_one(alloc: Global, left: &Component, right: &Component) -> Result<Cross
     })
 }
 
-// What stands for a component after another one; both are lent.
+// Transforms a borrowed component against another one.
 fn transform_borrowed(
     alloc: Global,
     component: &Component,
@@ -83,7 +84,7 @@ fn transform_borrowed(
     transform_one(alloc, component.try_clone()?, other, side)
 }
 
-// Operations of any components, given up.
+// Crosses owned operations of any length.
 fn cross_many(alloc: Global, left: Vec<Component>, right: Vec<Component>) -> Result<Crossed, Fault>
     ensures ok { IfOk result (λ c. IsResultOfCross c (cross_ops left.items right.items)) }
     ensures err { IfErr result (λ f. IsTransformFault f (cross_ops left.items right.items)) }
@@ -107,10 +108,12 @@ fn cross_many(alloc: Global, left: Vec<Component>, right: Vec<Component>) -> Res
     })
 }
 
-/// What stands for an operation after another one was applied, both made at one version: the
-/// operation's part of what `cross` answers where it stands on this side. Both are lent. The errors
-/// are those of `cross`, and the cost at most its cost: nothing is copied of the other one while a single
-/// component stands for the operation.
+/// Transforms an operation against a concurrent one that was applied before it: the part of `cross`
+/// for this side. The other operation isn't cloned while the transformed one is a single component.
+///
+/// # Errors
+///
+/// As [`cross`].
 pub fn transform(alloc: Global, op: &Op, other: &Op, side: Side) -> Result<Op, Fault>
     ensures ok { IfOk result (λ t. transform_op side op.now other.now ≡ Some t) }
     ensures err { IfErr result (λ f. IsTransformFault f (transform_op side op.now other.now)) }
@@ -129,7 +132,12 @@ pub fn transform(alloc: Global, op: &Op, other: &Op, side: Side) -> Result<Op, F
     }
 }
 
-/// As [`transform`], but `None` where both operations are known to stay as they are: nothing is copied then.
+/// Transforms an operation as [`transform`] does, or returns `None` if both operations are known to
+/// be unchanged. Nothing is cloned then.
+///
+/// # Errors
+///
+/// As [`cross`].
 pub fn transform_if_changed(
     alloc: Global,
     op: &Op,
@@ -146,8 +154,12 @@ pub fn transform_if_changed(
     Ok(Some(carried))
 }
 
-/// As [`transform`], but the operation is given up. Where both are known to stay as they are, it is the same one, and
-/// one that [`Op::single`] made and that nothing else has isn't copied.
+/// Transforms an owned operation as [`transform`] does. It is returned as it is if both are known
+/// to be unchanged. A unique operation made by [`Op::one`] isn't cloned.
+///
+/// # Errors
+///
+/// As [`cross`].
 pub fn transform_owned(alloc: Global, op: Arc<Op>, other: &Op, side: Side) -> Result<Arc<Op>, Fault>
     ensures ok { IfOk result (λ t. transform_op side (arc_value op) other.now ≡ Some (arc_value t)) }
     ensures err { IfErr result (λ f. IsTransformFault f (transform_op side (arc_value op) other.now)) }
@@ -162,7 +174,7 @@ pub fn transform_owned(alloc: Global, op: Arc<Op>, other: &Op, side: Side) -> Re
     Ok(Arc::new(alloc, carried)?)
 }
 
-// What stands for an operation after the other one. One that `Op::single` made isn't copied.
+// Transforms an owned operation. One made by `Op::one` isn't cloned.
 fn transform_owned_against(alloc: Global, op: Op, other: &Op, side: Side) -> Result<Op, Fault>
     ensures ok { IfOk result (λ t. transform_op side op other.now ≡ Some t) }
     ensures err { IfErr result (λ f. IsTransformFault f (transform_op side op other.now)) }
@@ -173,7 +185,7 @@ fn transform_owned_against(alloc: Global, op: Op, other: &Op, side: Side) -> Res
     }
 }
 
-// What stands for one component after the others, one by one.
+// Transforms one component against the others in order.
 fn transform_one_against_all(
     alloc: Global,
     component: Component,
@@ -197,7 +209,7 @@ fn transform_one_against_all(
     Ok(Op::one(current))
 }
 
-// What stands for a component after another one, if what stands for the other one exists too.
+// Transforms a component against another one, if the other's transform exists too.
 fn transform_borrowed_against(
     alloc: Global,
     component: Component,
@@ -215,7 +227,7 @@ fn transform_borrowed_against(
     }
 }
 
-// What stands for components after the others.
+// Transforms components against the others.
 fn transform_all_against_all(
     alloc: Global,
     components: Vec<Component>,

@@ -1,4 +1,4 @@
-//! Paths.
+//! Transforms of paths.
 ghost use Rattle.std.specs.Prelude.{◌≡◌, Some, IfErr, option_map};
 ghost use Rattle.sdb_value.specs.View.{plain_step, plain_path};
 ghost use Rattle.sdb_transform.specs.Transform.{strip_prefix, transform_step, transform_index, transform_key};
@@ -13,7 +13,7 @@ use crate::side::Fault;
 use sdb_component::Act;
 use sdb_value::Step;
 
-// What of the path lies behind the front, if it begins with it.
+// Returns the steps after the prefix, if the path begins with it.
 pub(crate) fn strip_prefix<'p>(front: &[Step], path: &'p [Step]) -> Option<&'p [Step]>
     ensures { option_map (λ rest. plain_path rest.now) result
         ≡ strip_prefix (plain_path front.now) (plain_path path.now) }
@@ -21,7 +21,7 @@ pub(crate) fn strip_prefix<'p>(front: &[Step], path: &'p [Step]) -> Option<&'p [
     path.strip_prefix(front)
 }
 
-// What becomes of a step that lies below the container of an act.
+// The change of a step inside the container of an act.
 #[derive(Drop)]
 pub(crate) enum StepChange {
     Unchanged,
@@ -29,7 +29,7 @@ pub(crate) enum StepChange {
     MovedTo(u64),
 }
 
-// Where the step of a path through the act's container leads after the act.
+// Transforms the step of a path through the act's container.
 pub(crate) fn transform_step(over: &Act, step: &Step) -> Result<StepChange, Fault>
     ensures moved { MatchesStep (plain_step step.now) result (transform_step (plain_act over.now)
         (plain_step step.now)) }

@@ -1,4 +1,4 @@
-//! Removed values, brought up to date.
+//! Updates of removed values.
 ghost use Rattle.std.specs.Arc.{arc_value};
 ghost use Rattle.std.specs.Prelude.{◌≡◌, IfOk, IfErr, option_map};
 ghost use Rattle.sdb_value.specs.View.{value_of, plain_step, plain_path};
@@ -17,7 +17,7 @@ use sdb_value::{Json, Step};
 use std::alloc::{AllocError, Global};
 use std::sync::Arc;
 
-// Whether the act removes the value that the step leads to.
+// Returns whether the act removes the value of this step.
 fn removed_step(act: &Act, step: &Step) -> bool
     ensures { result ≡ removes_step (plain_act act.now) (plain_step step.now) }
 {
@@ -30,7 +30,7 @@ fn removed_step(act: &Act, step: &Step) -> bool
     }
 }
 
-// Whether the act removes a value.
+// Returns whether the act removes a value.
 pub(crate) fn removed_value(act: &Act) -> bool
     ensures { result ≡ is_some (removed_step (plain_act act.now)) }
 {
@@ -58,7 +58,7 @@ fn removes_key(name: &str, step: &Step) -> bool
     }
 }
 
-// What of the other path lies under the value that the act at this path removes.
+// Returns the rest of the other path inside the value that the act at this path removes.
 pub(crate) fn strip_removed_path<'p>(
     path: &[Step],
     act: &Act,
@@ -79,7 +79,7 @@ pub(crate) fn strip_removed_path<'p>(
     }
 }
 
-// The act with the value that it removes changed at the path.
+// Returns the act with its removed value changed at the path.
 pub(crate) fn update_removed(
     alloc: Global,
     act: Act,
@@ -99,7 +99,7 @@ pub(crate) fn update_removed(
     }
 }
 
-// The value with the act done at the path, where it is accepted there.
+// Returns the value with the act applied at the path, or unchanged if it doesn't apply.
 fn updated_value(
     alloc: Global,
     value: Arc<Json>,
@@ -117,7 +117,7 @@ fn updated_value(
     }
 }
 
-// The value, copied where others have it too.
+// Returns the value, cloned unless it is unique.
 fn make_unique(alloc: Global, value: Arc<Json>) -> Result<Json, AllocError>
     ensures { IfOk result (λ v. value_of v ≡ value_of (arc_value value)) }
 {

@@ -1,4 +1,4 @@
-//! Lists.
+//! Rewrites of list acts.
 ghost use Rattle.std.specs.Arc.{arc_value};
 ghost use Rattle.std.specs.Prelude.{◌≡◌, ◌+◌, ◌≤◌, ◌<◌, IfSome, IfNone};
 ghost use Rattle.sdb_component.specs.View.{plain_act};
@@ -123,7 +123,7 @@ fn rewrite_lr_after_lr(
     }
 }
 
-// The next index, unless it passes the greatest.
+// Returns the next index, or `None` if it exceeds the maximum.
 pub(crate) fn next_index(index: u64) -> Option<u64>
     ensures some { IfSome result (λ at. (at ≡ index + 1) × (index + 1 ≤ MAX)) }
     ensures none { IfNone result (MAX < index + 1) }

@@ -1,4 +1,4 @@
-//! Objects.
+//! Rewrites of object acts.
 ghost use Rattle.std.specs.Prelude.{◌≡◌, string_bytes};
 ghost use Rattle.sdb_component.specs.View.{plain_act, arc_json_value};
 ghost use Rattle.sdb_value.specs.Value.{texts_equal};
@@ -11,7 +11,7 @@ use sdb_component::Act;
 use sdb_value::Json;
 use std::sync::Arc;
 
-// Whether both keys are the same.
+// Returns whether both keys are equal.
 pub(crate) fn keys_equal(key: &str, other: &str) -> bool
     ensures { result ≡ texts_equal key.now other.now }
 {
@@ -45,7 +45,7 @@ pub(crate) fn rewrite_oi(
     }
 }
 
-// Both put a value at the key: the left one replaces the other's.
+// Transforms a set against another set of the key: the left one replaces the other's value.
 fn rewrite_put_after_put(
     key: String,
     z: Arc<Json>,

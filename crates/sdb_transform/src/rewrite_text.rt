@@ -1,4 +1,4 @@
-//! Texts.
+//! Rewrites of text acts.
 ghost use Rattle.std.specs.Prelude.{◌≡◌, ◌+◌, ◌≤◌, min, IfSome, IfNone, ◌<◌};
 ghost use Rattle.sdb_component.specs.View.{plain_act};
 ghost use Rattle.sdb_rope.specs.Utf16.{units};
@@ -97,7 +97,7 @@ fn rewrite_sd_after_si(
     }
 }
 
-// Deletes the text in two pieces, the first of so many units, the second at another offset.
+// Splits a deletion after `before` code units; the second part is at another offset.
 fn split_delete(p: u64, d: NonEmptyText, before: u64, q: u64) -> Result<RemainingActs, Fault>
     requires some { 0 < before }
     requires rest { before < units d }
@@ -141,7 +141,7 @@ fn rewrite_sd_after_sd(
     without_overlap(p.min(r), d, r.saturating_sub(p), after.min(width))
 }
 
-// Deletes what lies before so many units, and what lies from so many on.
+// Deletes the text without the code units from `before` up to `after`.
 fn without_overlap(p: u64, d: NonEmptyText, before: u64, after: u64) -> Result<RemainingActs, Fault>
     requires { before ≤ after }
     ensures { MatchesActs result (delete_without_overlap p d before after) }
@@ -160,7 +160,7 @@ fn without_overlap(p: u64, d: NonEmptyText, before: u64, after: u64) -> Result<R
     }
 }
 
-// The offset moved up, unless it passes the greatest.
+// Returns the offset moved up, or `None` if it exceeds the maximum.
 pub(crate) fn shifted_offset(offset: u64, by: u64) -> Option<u64>
     ensures some { IfSome result (λ at. (at ≡ offset + by) × (offset + by ≤ MAX)) }
     ensures none { IfNone result (MAX < offset + by) }

@@ -1,4 +1,4 @@
-//! Sides, faults, and what comes of one act.
+//! Sides, faults, and the result of one act's transform.
 ghost use Rattle.std.specs.Prelude.{◌≡◌};
 ghost use Rattle.sdb_transform.specs.ActModel.{opposite};
 
@@ -6,17 +6,17 @@ use sdb_component::Act;
 use std::alloc::{AllocError, AllocFailed};
 use thiserror::Error;
 
-/// Which of two that were made at one version this is.
+/// The side of one of two concurrent operations.
 #[derive(Clone, Copy, PartialEq, Eq, Debug, Drop)]
 pub enum Side {
-    /// The one that is put first, or that wins, where both contend for a place.
+    /// The one that goes first, or that wins a tie.
     Left,
-    /// The one that is put behind, or that gives way, there.
+    /// The one that goes second, or that loses a tie.
     Right,
 }
 
 impl Side {
-    // The other one of the two.
+    // Returns the other side.
     pub(crate) fn opposite(self) -> Side
         ensures { result ≡ opposite self }
     {
@@ -27,13 +27,14 @@ impl Side {
     }
 }
 
-/// Why nothing was transformed.
+/// The reason why a transform fails.
 #[derive(Clone, Copy, PartialEq, Eq, Debug, Drop, Error)]
 pub enum Fault {
-    /// A cut falls inside a pair of UTF-16, or an index or offset passes 9007199254740991: E8.
+    /// A deletion would be cut inside a surrogate pair, or an index or offset would exceed
+    /// 9007199254740991 (E8).
     #[error("operation can not be applied")]
     NotTransformed,
-    /// A growth was refused: E10.
+    /// An allocation failed (E10).
     #[error("out of memory")]
     OutOfMemory,
 }
@@ -60,7 +61,7 @@ impl<T: Drop> From<AllocFailed<T>> for Fault {
     }
 }
 
-// What remains of one act after another.
+// The acts that remain of one after a transform.
 #[derive(Drop)]
 pub(crate) enum RemainingActs {
     Dropped,

@@ -1,4 +1,4 @@
--- Copies in their three manners.
+-- Clones in the three modes.
 use Rattle.std.proofs.Common.{◌≡◌, ℕ, ◌<◌, ◌^◌, length, subst, List, [], ◌∷◌, ◌++◌, map, Option, Some, None, Bool, true, false, cond, Result, Ok, Err, IfOk, true≢false, refl, sym, ap, ◌∙◌, append_assoc}
 use Rattle.std.specs.List.{flat_map}
 use Rattle.std.specs.Option.{is_some, IfSome, IfNone}
@@ -21,7 +21,7 @@ use Rattle.sdb_value.specs.Uniqueness.{all_true, is_unique, is_frozen, items_uni
 use Rattle.sdb_value.specs.View.{value_of, entries_value, items_value, list_value, members_value, object_value}
 use Rattle.sdb_value.specs.Value.{list, object, item, append_items, Members, no_members, member}
 use Rattle.sdb_value.specs.declared.clone_modes.CloneMode.{CloneMode}
-use Rattle.sdb_value.specs.declared.clone_modes.CloneMode.TheVariants as manner
+use Rattle.sdb_value.specs.declared.clone_modes.CloneMode.TheVariants as mode
 use Rattle.sdb_value.specs.declared.value.Json.{Json}
 use Rattle.sdb_value.specs.declared.value.Json as json
 use Rattle.sdb_value.proofs.UniquenessLemmas.{items_parts, owned_list, owned_object, pointer_list, pointer_object}
@@ -29,16 +29,16 @@ use Rattle.sdb_value.proofs.ViewLemmas.{seen_list, seen_object}
 
 -- ---- a pointer
 
-copied_pointer : (m : CloneMode) (was now pointer : Bool) → (m ≡ manner.Unique → ⊥) → was ≡ false → now ≡ false → pointer ≡ true → HasUniquenessOfMode m was now pointer
-copied_pointer manner.Preserve was now pointer h w n p = n ∙ sym w
-copied_pointer manner.Unique was now pointer h w n p = absurd (h refl)
-copied_pointer manner.Frozen was now pointer h w n p = p
+copied_pointer : (m : CloneMode) (was now pointer : Bool) → (m ≡ mode.Unique → ⊥) → was ≡ false → now ≡ false → pointer ≡ true → HasUniquenessOfMode m was now pointer
+copied_pointer mode.Preserve was now pointer h w n p = n ∙ sym w
+copied_pointer mode.Unique was now pointer h w n p = absurd (h refl)
+copied_pointer mode.Frozen was now pointer h w n p = p
 
--- what an option holds
+-- the value of an option
 pub if_some_at : {A : Type 0} (P : A → Type 0) (o : Option A) (x : A) → o ≡ Some x → IfSome o P → P x
 if_some_at P o x e h = subst (λ p. IfSome p P) e h
 
--- what an option of a result holds
+-- the value of an option in a result
 pub some_of : {A E : Type 0} {P Q : A → Type 0} (r : Result (Option A) E) → ((x : A) → P x → Q x) → IfOk r (λ o. IfSome o P) → IfOk r (λ o. IfSome o Q)
 some_of (Ok (Some x)) h p = h x p
 some_of (Ok None) h p = tt
@@ -65,7 +65,7 @@ shared_form_not_own (Groups gs) h = refl
 pub list_again : (l new : ChunkedVec Json) → vec_chunk_items new ≡ vec_chunk_items l → list_value new ≡ list_value l
 list_again l new e = ap items_value (items_parts new ∙ ap (flat_map (λ xs. xs)) e ∙ sym (items_parts l))
 
--- of items of which q tells whether they are their owner's own
+-- for items whose uniqueness q decides
 module _ {X : Type 0} (q : X → Bool) where
   abbrev list_all_own : ChunkedVec X → Bool
   list_all_own l = cond (is_unique_vec l) (all_true (map q (vec_items l))) false
@@ -76,7 +76,7 @@ module _ {X : Type 0} (q : X → Bool) where
   pub shared_list_own : (l : ChunkedVec X) → is_shared_vec l ≡ true → list_all_own l ≡ false
   shared_list_own l h = ap (λ b. cond b (all_true (map q (vec_items l))) false) (shared_form_not_own l.repr h)
 
-  pub list_pointed : (m : CloneMode) (l new : ChunkedVec X) → (m ≡ manner.Unique → ⊥) → is_shared_vec l ≡ true → is_shared_vec new ≡ true
+  pub list_pointed : (m : CloneMode) (l new : ChunkedVec X) → (m ≡ mode.Unique → ⊥) → is_shared_vec l ≡ true → is_shared_vec new ≡ true
       → HasUniquenessOfMode m (list_all_own l) (list_all_own new) (is_shared_vec new)
   list_pointed m l new h was now = copied_pointer m (list_all_own l) (list_all_own new) (is_shared_vec new) h (shared_list_own l was) (shared_list_own new now) now
 
@@ -84,7 +84,7 @@ module _ {X : Type 0} (q : X → Bool) where
   shared_block_own (Unique v) h = absurd (true≢false (sym h))
   shared_block_own (Shared a) h = refl
 
-  pub block_pointed : (m : CloneMode) (b new : Chunk X) → (m ≡ manner.Unique → ⊥) → is_chunk_shared b ≡ true → is_chunk_shared new ≡ true
+  pub block_pointed : (m : CloneMode) (b new : Chunk X) → (m ≡ mode.Unique → ⊥) → is_chunk_shared b ≡ true → is_chunk_shared new ≡ true
       → HasUniquenessOfMode m (each_own b) (each_own new) (is_chunk_shared new)
   block_pointed m b new h was now = copied_pointer m (each_own b) (each_own new) (is_chunk_shared new) h (shared_block_own b was) (shared_block_own new now) now
 
@@ -98,18 +98,18 @@ and_both : (a b c d : Bool) → a ≡ c → b ≡ d → cond a b false ≡ cond 
 and_both a b c d h k = ap (λ x. cond x b false) h ∙ ap (λ x. cond c x false) k
 
 pub copied_more : (m : CloneMode) (a b p c d q : Bool) → HasUniquenessOfMode m a b p → HasUniquenessOfMode m c d q → HasUniquenessOfMode m (cond a c false) (cond b d false) (cond p q false)
-copied_more manner.Preserve a b p c d q h k = and_both b d a c h k
-copied_more manner.Unique a b p c d q h k = and_both b d true true h k
-copied_more manner.Frozen a b p c d q h k = and_both p q true true h k
+copied_more mode.Preserve a b p c d q h k = and_both b d a c h k
+copied_more mode.Unique a b p c d q h k = and_both b d true true h k
+copied_more mode.Frozen a b p c d q h k = and_both p q true true h k
 
 and_assoc : (a b c : Bool) → cond a (cond b c false) false ≡ cond (cond a b false) c false
 and_assoc true b c = refl
 and_assoc false b c = refl
 
 both_of : (m : CloneMode) (a b c d x y p : Bool) → x ≡ cond a c false → y ≡ cond b d false → HasUniquenessOfMode m a b true → HasUniquenessOfMode m c d p → HasUniquenessOfMode m x y true
-both_of manner.Preserve a b c d x y p e f h k = f ∙ and_both b d a c h k ∙ sym e
-both_of manner.Unique a b c d x y p e f h k = f ∙ and_both b d true true h k
-both_of manner.Frozen a b c d x y p e f h k = refl
+both_of mode.Preserve a b c d x y p e f h k = f ∙ and_both b d a c h k ∙ sym e
+both_of mode.Unique a b c d x y p e f h k = f ∙ and_both b d true true h k
+both_of mode.Frozen a b c d x y p e f h k = refl
 
 pub all_more : (bs : List Bool) (b : Bool) → all_true (bs ++ b ∷ []) ≡ cond (all_true bs) b false
 all_more [] true = refl
@@ -121,7 +121,7 @@ shared_more [] (Unique v) = refl
 shared_more [] (Shared a) = refl
 shared_more (c ∷ bs) b = ap (λ x. cond (is_chunk_shared c) x false) (shared_more bs b) ∙ and_assoc (is_chunk_shared c) (all_shared bs) (is_chunk_shared b)
 
--- ---- a list of blocks
+-- ---- a list of chunks
 
 map_append : {A B : Type 0} (f : A → B) (xs ys : List A) → map f (xs ++ ys) ≡ map f xs ++ map f ys
 map_append f [] ys = refl
@@ -164,7 +164,7 @@ module _ {X : Type 0} (q : X → Bool) where
       ∙ swap_and (is_chunk_unique b) (all_unique bs) (all_true (map q (items_of b))) (all_true (map q (flat_map items_of bs)))
       ∙ ap (λ x. cond (each_own q b) x false) (blocks_own bs)
 
-  -- a list whose blocks tell whether it is its own
+  -- a list whose chunks decide its uniqueness
   list_of_blocks : (l : ChunkedVec X) (bs : List (Chunk X)) → vec_chunks l ≡ bs → is_unique_vec l ≡ all_unique bs → list_all_own q l ≡ blocks_each bs
   list_of_blocks l bs e o =
       ap (λ x. cond x (all_true (map q (vec_items l))) false) o ∙ ap (λ x. cond (all_unique bs) (all_true (map q (flat_map items_of x))) false) e ∙ blocks_own bs
@@ -172,27 +172,27 @@ module _ {X : Type 0} (q : X → Bool) where
   unshared_list : (l : ChunkedVec X) → is_grouped l.repr ≡ false → is_shared_vec l ≡ false → list_all_own q l ≡ blocks_each (vec_chunks l)
   unshared_list l g h = list_of_blocks l (vec_chunks l) refl (unshared_form l.repr g h)
 
-  -- one in groups isn't its own
+  -- a list in groups isn't unique
   pub in_groups_own : (l : ChunkedVec X) → is_grouped l.repr ≡ true → list_all_own q l ≡ false
   in_groups_own l h = ap (λ b. cond b (all_true (map q (vec_items l))) false) (grouped_own l.repr h)
 
-  -- a list made of copied blocks
-  pub made_of_blocks : (m : CloneMode) (l new : ChunkedVec X) (bs : List (Chunk X)) → (m ≡ manner.Frozen → ⊥) → (m ≡ manner.Preserve → is_grouped l.repr ≡ false)
-      → (m ≡ manner.Preserve → is_shared_vec l ≡ false) → vec_chunks new ≡ bs → is_unique_vec new ≡ all_unique bs
+  -- a list made of cloned chunks
+  pub made_of_blocks : (m : CloneMode) (l new : ChunkedVec X) (bs : List (Chunk X)) → (m ≡ mode.Frozen → ⊥) → (m ≡ mode.Preserve → is_grouped l.repr ≡ false)
+      → (m ≡ mode.Preserve → is_shared_vec l ≡ false) → vec_chunks new ≡ bs → is_unique_vec new ≡ all_unique bs
       → HasUniquenessOfMode m (blocks_each (vec_chunks l)) (blocks_each bs) (all_shared bs) → HasUniquenessOfMode m (list_all_own q l) (list_all_own q new) (is_shared_vec new)
-  made_of_blocks manner.Preserve l new bs h g k e o c = list_of_blocks new bs e o ∙ c ∙ sym (unshared_list l (g refl) (k refl))
-  made_of_blocks manner.Unique l new bs h g k e o c = list_of_blocks new bs e o ∙ c
-  made_of_blocks manner.Frozen l new bs h g k e o c = absurd (h refl)
+  made_of_blocks mode.Preserve l new bs h g k e o c = list_of_blocks new bs e o ∙ c ∙ sym (unshared_list l (g refl) (k refl))
+  made_of_blocks mode.Unique l new bs h g k e o c = list_of_blocks new bs e o ∙ c
+  made_of_blocks mode.Frozen l new bs h g k e o c = absurd (h refl)
 
--- a copy in blocks of a list, which is shared where the list is in groups
+-- a clone in chunks, which is shared if the list is in groups
 pub by_manner : (inner m : CloneMode) (groups was now pointer : Bool) → ((was now pointer : Bool) → (groups ≡ true → was ≡ false) → (pointer ≡ true → now ≡ false)
     → HasUniquenessOfMode inner was now pointer → HasUniquenessOfMode m was now pointer) → (groups ≡ true → was ≡ false) → (pointer ≡ true → now ≡ false) → HasUniquenessOfMode inner was now pointer → HasUniquenessOfMode m was now pointer
 by_manner inner m groups was now pointer h g p c = h was now pointer g p c
 
 pub copied_by : (m : CloneMode) (a b p c d q : Bool) → c ≡ a → d ≡ b → q ≡ p → HasUniquenessOfMode m a b p → HasUniquenessOfMode m c d q
-copied_by manner.Preserve a b p c d q e f g h = f ∙ h ∙ sym e
-copied_by manner.Unique a b p c d q e f g h = f ∙ h
-copied_by manner.Frozen a b p c d q e f g h = g ∙ h
+copied_by mode.Preserve a b p c d q e f g h = f ∙ h ∙ sym e
+copied_by mode.Unique a b p c d q e f g h = f ∙ h
+copied_by mode.Frozen a b p c d q e f g h = g ∙ h
 
 -- a value that is a list, or an object
 pub value_list : (v : Json) (l new : ChunkedVec Json) → v ≡ json.List l → list_value new ≡ list_value l → value_of (json.List new) ≡ value_of v
@@ -216,7 +216,7 @@ copied_object m v s new is h =
 pub made_view : (l new : ChunkedVec Json) (bs : List (Chunk Json)) → vec_chunks new ≡ bs → items_value (flat_map items_of bs) ≡ list_value l → list_value new ≡ list_value l
 made_view l new bs e h = ap (λ b. items_value (flat_map items_of b)) e ∙ h
 
--- ---- one more block, one more item
+-- ---- one more chunk, one more item
 
 pub join_view : (xs ys : List Json) → items_value (xs ++ ys) ≡ append_items (items_value xs) (items_value ys)
 join_view [] ys = refl
@@ -238,7 +238,7 @@ flat_more : {X : Type 0} (bs : List (Chunk X)) (b : Chunk X) → flat_map items_
 flat_more [] b = append_none (items_of b)
 flat_more (c ∷ bs) b = ap (λ l. items_of c ++ l) (flat_more bs b) ∙ sym (append_assoc (items_of c) (flat_map items_of bs) (items_of b))
 
--- of lists that V sees, and J joins
+-- for a view V of lists and its concatenation J
 module _ {X M : Type 0} (V : List X → M) (J : M → M → M) (join_of : (xs ys : List X) → V (xs ++ ys) ≡ J (V xs) (V ys)) where
   pub blocks_more : (bs cs : List (Chunk X)) (b c : Chunk X) → V (flat_map items_of cs) ≡ V (flat_map items_of bs)
       → V (items_of c) ≡ V (items_of b) → V (flat_map items_of (cs ++ c ∷ [])) ≡ V (flat_map items_of (bs ++ b ∷ []))
@@ -280,7 +280,7 @@ module _ {X : Type 0} (q : X → Bool) where
       both_of m (all_true (map q vs)) (all_true (map q cs)) (q v) (q c) (all_true (map q (vs ++ v ∷ []))) (all_true (map q (cs ++ c ∷ []))) p
       (ap all_true (map_append q vs (v ∷ [])) ∙ all_more (map q vs) (q v)) (ap all_true (map_append q cs (c ∷ [])) ∙ all_more (map q cs) (q c)) h k
 
--- the keys of members, by what is seen of them
+-- the keys of members, by their view
 abbrev member_keys : Members → List (List ℕ)
 member_keys no_members = []
 member_keys (member k d ms) = k ∷ member_keys ms

@@ -1,4 +1,4 @@
--- A value nests as deep as what it is read from.
+-- A value has the depth of the data from which it is made.
 use Rattle.std.proofs.Common.{◌≡◌, ℕ, suc, max, ◌<◌, List, Option, Some, None, true, nat_lt, ℤ, refl, ap, arith}
 use Rattle.std.proofs.lemmas.Bool.Decides.{nat_tests}
 use Rattle.std.specs.Option.{option_map, option_and_then}
@@ -57,7 +57,7 @@ none_deep (Some v) n e h = let a : depth v ≡ n = cc in let b : nat_lt 50 n ≡
 no_value : (o : Option Value) → o ≡ None → option_and_then (λ v. if nat_lt 50 (depth v) then None else Some v) o ≡ None
 no_value o e = rw e refl
 
--- what is refused for a cause is no value of the profile
+-- data that are refused for a reason are no value of the profile
 pub read_fault_of_depth : (d : raw.Data) (f : ValueFault) → IsReadFault 50 d f → FaultMeansNone (bounded_value_of_data d) f
 read_fault_of_depth d NumberOutOfRange h = no_value (value_of_data d) h
 read_fault_of_depth d TooDeep h = none_deep (value_of_data d) (raw.depth d) (same_depth d) h

@@ -1,4 +1,4 @@
--- Places of which neither lies in the other.
+-- Disjoint paths.
 use Rattle.std.proofs.Common.{◌≡◌, ℕ, zero, suc, List, [], ◌∷◌, Option, Some, None, Bool, true, false, eqb, is_eq, refl, sym, ap, ◌∙◌, arith, subst, true≢false}
 use Rattle.std.specs.Option.{option_and_then, option_map_or}
 use Rattle.std.proofs.lemmas.Bool.Decides.{nat_tests}
@@ -134,12 +134,12 @@ at_step s p d c e = ap (option_and_then (λ c. value_at c p)) e
 pub with_step : (s : PlainStep) (p : List PlainStep) (d c u : Value) → child s d ≡ Some c → with_value_at d (s ∷ p) u ≡ with_child s d (with_value_at c p u)
 with_step s p d c u e = ap (λ o. option_map_or (λ c. with_child s d (with_value_at c p u)) o d) e
 
--- the one is as it was, and both orders make one value
+-- the value at the other path is unchanged, and both orders make one value
 pub record WritesCommute (p q : List PlainStep) (d u v y : Value) : Type 0 where
   pub stays : value_at (with_value_at d p u) q ≡ Some y
   pub same : with_value_at (with_value_at d p u) q v ≡ with_value_at (with_value_at d q v) p u
 
--- both below one step
+-- both inside one step
 stays_below : (s : PlainStep) (p q : List PlainStep) (d c u y : Value) → child s d ≡ Some c → value_at (with_value_at c p u) q ≡ Some y → value_at (with_value_at d (s ∷ p) u) (s ∷ q) ≡ Some y
 stays_below s p q d c u y e h =
     ap (λ f. value_at f (s ∷ q)) (with_step s p d c u e)
@@ -158,7 +158,7 @@ exchange_same s p q d c u v y e h = record {
   same = twice_below s p q d c u v e ∙ ap (with_child s d) h.same ∙ sym (twice_below s q p d c v u e);
 }
 
--- below two steps
+-- inside two steps
 stays_beside : (s t : PlainStep) (p q : List PlainStep) (d c e u : Value) → steps_equal s t ≡ false → child s d ≡ Some c → child t d ≡ Some e → child t (with_value_at d (s ∷ p) u) ≡ Some e
 stays_beside s t p q d c e u n f g = ap (child t) (with_step s p d c u f) ∙ one_other s t d (with_value_at c p u) n ∙ g
 
@@ -187,7 +187,7 @@ false_turned s t true e h =
 pub apart_turned : (s t : PlainStep) → steps_equal s t ≡ false → steps_equal t s ≡ false
 apart_turned s t h = false_turned s t (steps_equal t s) refl h
 
--- what is left of both paths behind a step that they share
+-- the rests of both paths after a common step
 apart_below : (s t : PlainStep) (p q : List PlainStep) → s ≡ t → AreDisjointPaths (s ∷ p) (t ∷ q) → AreDisjointPaths p q
 apart_below s t p q st h = record {
   not_prefix = λ r e. h.not_prefix r (ap (λ x. s ∷ x) e ∙ ap (λ w. w ∷ q) st);

@@ -52,7 +52,7 @@ module _ (k : List ℕ) where
   pub set_found : (ts : List (List ℕ)) (ds : Items) (i : ℕ) (u : Value) → IsKeyIndex ts k i → set_member k (members_of_pairs ts ds) u ≡ members_of_pairs ts (set_item i ds u)
   set_found ts ds i u f = set_in ts ds i u f.key_at_index f.above_all_before
 
-  -- a key that isn't there
+  -- a key that is absent
   none_below : (ts : List (List ℕ)) (ds : Items) → IsBelowAll k ts → member_at k (members_of_pairs ts ds) ≡ None
   none_below [] ds b = refl
   none_below (t ∷ ts) no_items b = refl
@@ -67,7 +67,7 @@ module _ (k : List ℕ) where
   pub member_missing : (ts : List (List ℕ)) (ds : Items) (i : ℕ) → IsInsertIndex ts k i → member_at k (members_of_pairs ts ds) ≡ None
   member_missing ts ds i g = none_in ts ds i g.above_all_before g.below
 
-  -- what is done at the index of a list of values is done at the key of the object
+  -- a write at an index of the values is a write at the key of the object
   placed_in : (o : Option Value) (ts : List (List ℕ)) (ds es : Items) (i : ℕ) (p : List PlainStep) (u : Value) → IsKeyIndex ts k i
       → list es ≡ option_map_or (λ c. list (set_item i ds (with_value_at c p u))) o (list ds)
       → object (members_of_pairs ts es) ≡ option_map_or (λ c. object (set_member k (members_of_pairs ts ds) (with_value_at c p u))) o (object (members_of_pairs ts ds))
@@ -100,7 +100,7 @@ module _ (k : List ℕ) where
       → AbsentAt (object (members_of_pairs ts ds)) (key k ∷ p) (object (members_of_pairs ts ds))
   nothing_there ts ds i p g = record { absent = ap (option_and_then (λ d. value_at d p)) (member_missing ts ds i g); same = refl }
 
--- ---- the same of an object of a value
+-- ---- for an object in a value
 
 module _ {O E : Type 0} (r : Result (Option O) E) (R : O → Value → Value → Type 0) (k : List ℕ) (i : ℕ) (p : List PlainStep) where
   set_in_pairs : (ts : List (List ℕ)) (ds es : Items) → IsKeyIndex ts k i
@@ -130,7 +130,7 @@ module _ {O E : Type 0} (r : Result (Option O) E) (R : O → Value → Value →
       let after : object_value new ≡ members_of_pairs ts es = object_pairs new ∙ ap (λ us. members_of_pairs us es) e in
       subst (λ ms. P ms (object_value new)) (sym (object_pairs s)) (subst (P (members_of_pairs ts ds)) (sym after) (set_in_pairs ts ds es f h))
 
-  -- the same of lists of members that were taken out and put back
+  -- for lists of members that were taken out and put back
   abbrev PairsUpdated : ChunkedVec (MapEntry Json) → ChunkedVec (MapEntry Json) → Type 0
   PairsUpdated l n = IfOk r (λ o. MatchOption o (AbsentAt (list (values_of_entries l)) (index i ∷ p) (list (values_of_entries n)))
       (λ x. ReplacedAt (R x) (list (values_of_entries l)) (index i ∷ p) (list (values_of_entries n))))

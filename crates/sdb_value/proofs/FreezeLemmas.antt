@@ -1,4 +1,4 @@
--- What sharing in place leaves as it was, and how much a walk through a value has still to go.
+-- What freezing leaves unchanged, and the measure of its recursion.
 use Rattle.std.proofs.Common.{◌≡◌, ℕ, zero, suc, ◌+◌, ◌≤◌, ◌<◌, List, [], ◌∷◌, ◌++◌, length, map, get_or, set, refl, sym, ap, ◌∙◌, append_assoc, arith}
 use Rattle.std.proofs.lemmas.List.{get_or-map, map-set, set-get_or}
 use Rattle.std.specs.List.{flat_map}
@@ -20,7 +20,7 @@ use Rattle.sdb_value.specs.declared.value.Json.{Json}
 use Rattle.sdb_value.proofs.CloneLemmas.{join_entries, join_members, join_view}
 use Rattle.sdb_value.proofs.ViewLemmas.{seen_list, seen_object}
 
--- ---- an item, and a block or a group, in place of one that is seen the same
+-- ---- an item, chunk or group replaced by one with an equal view
 
 pub same_item : (vs : List Json) (k : ℕ) (v w : Json) → k < length vs → v ≡ get_or vs k v → value_of w ≡ value_of v → items_value (set vs k w) ≡ items_value vs
 same_item vs k v w h is e =
@@ -35,7 +35,7 @@ same_part f (z ∷ xs) zero x y h is e =
 same_part f (z ∷ xs) (suc k) x y h is e =
     join_view (f z) (flat_map f (set xs k y)) ∙ ap (append_items (items_value (f z))) (same_part f xs k x y (omega (arith, h)) is e) ∙ sym (join_view (f z) (flat_map f xs))
 
--- ---- the items of groups are those of their blocks
+-- ---- the items of groups are those of their chunks
 
 flat_append : {X : Type 0} (bs cs : List (Chunk X)) → flat_map items_of (bs ++ cs) ≡ flat_map items_of bs ++ flat_map items_of cs
 flat_append [] cs = refl
@@ -45,7 +45,7 @@ pub group_parts : {X : Type 0} (gs : List (ChunkGroup X)) → flat_map items_of 
 group_parts [] = refl
 group_parts (g ∷ gs) = flat_append (group_chunks g) (flat_map group_chunks gs) ∙ ap (λ l. flat_map items_of (group_chunks g) ++ l) (group_parts gs)
 
--- ---- a list whose items are seen the same
+-- ---- a list with equal views of its items
 
 views_seen : (vs : List Json) → map value_of vs ≡ map (λ s. s.0) (map value_model vs)
 views_seen [] = refl
@@ -59,7 +59,7 @@ form_views w =
 pub same_form : (w x : Repr Json) → repr_models value_model x ≡ repr_models value_model w → repr_value x ≡ repr_value w
 same_form w x e = form_views x ∙ ap (λ ss. items_from_list (map (λ s. s.0) ss)) e ∙ sym (form_views w)
 
--- ---- one of several is no greater than all
+-- ---- one of several isn't larger than all
 
 pub item_within : (vs : List Json) (k : ℕ) (v : Json) → k < length vs → v ≡ get_or vs k v → size (value_of v) ≤ items_size (items_value vs)
 item_within [] k v h is = absurd (omega (arith, h))
@@ -85,7 +85,7 @@ part_within f (z ∷ xs) (suc k) x h is =
     let all = first_size (f z) (flat_map f xs) in
     omega (arith, rest, all)
 
--- ---- the same of members
+-- ---- for members
 
 pub same_value : (ms : List (MapEntry Json)) (k : ℕ) (m n : MapEntry Json) → k < length ms → m ≡ get_or ms k m → entry_key n ≡ entry_key m → value_of n.value ≡ value_of m.value
     → entries_value (set ms k n) ≡ entries_value ms
@@ -139,5 +139,5 @@ member_part_within f (z ∷ xs) (suc k) x h is =
     let all = first_members_size (f z) (flat_map f xs) in
     omega (arith, rest, all)
 
--- one level of a list, and of an object: what it is
+-- one level of a list and of an object
 pub ruleset levels = (seen_list, seen_object)

@@ -1,4 +1,4 @@
--- Edits of a list, beside those of the values that its items stand for.
+-- Edits of a list and of the values of its items.
 use Rattle.std.proofs.Common.{◌≡◌, ℕ, zero, suc, ◌<◌, List, [], ◌∷◌, ◌++◌, length, take, drop, map, set, Option, Some, None, option_map, Bool, true, false, cond, ltb, leb, slice_get, if◌then◌else◌, nat_le, Result, Ok, Err, IfOk, OnOk, OnErr, true≢false, refl, sym, ap, ◌∙◌, arith}
 use Rattle.std.specs.List.{insert, remove}
 use Rattle.std.specs.Option.{is_some, IfSome, IfNone}
@@ -16,7 +16,7 @@ use Rattle.sdb_value.specs.declared.value.Json.{Json}
 use Rattle.sdb_value.specs.declared.value.Json as json
 use Rattle.sdb_value.proofs.ViewLemmas.{seen_null}
 
--- ---- edits of the items that values make
+-- ---- edits of the items of values
 
 count_of : (ds : List Value) → item_count (items_from_list ds) ≡ length ds
 count_of [] = refl
@@ -72,7 +72,7 @@ set_of [] i u = refl
 set_of (d ∷ ds) zero u = refl
 set_of (d ∷ ds) (suc i) u = ap (item d) (set_of ds i u)
 
--- ---- past the end nothing changes
+-- ---- no effect after the end
 
 not_past : (n : ℕ) → ltb 0 (suc n) ≡ false → ⊥
 not_past n h = grind (arith, nat_tests)
@@ -100,7 +100,7 @@ remove_past [] (suc i) h = refl
 remove_past (y ∷ xs) zero h = absurd (not_past (length xs) h)
 remove_past (y ∷ xs) (suc i) h = ap (λ l. y ∷ l) (remove_past xs i (past_too i (length xs) h))
 
--- ---- what is seen of the items
+-- ---- the views of the items
 
 abbrev ItemModels : Type 0
 ItemModels = Value × Bool
@@ -191,7 +191,7 @@ pub list_kept : {E : Type 0} (r : Result Bool E) (old new : ChunkedVec Json) →
 list_kept (Ok x) old new h = tt
 list_kept (Err e) old new h = list_same old new h
 
--- ---- what is own
+-- ---- uniqueness
 
 both_first : (a b : Bool) → cond a b false ≡ true → a ≡ true
 both_first true b e = refl
@@ -238,7 +238,7 @@ if_owns : (b : Bool) (ps qs : List ItemModels) → model_unique (if b then ps el
 if_owns true ps qs = refl
 if_owns false ps qs = refl
 
--- a list of items that are own, in blocks that are own
+-- a list with unique items in unique chunks
 own_made : (old new : ChunkedVec Json) → (is_unique_vec old ≡ true → is_unique_vec new ≡ true) → (all_true (model_unique (vec_models value_model old)) ≡ true → all_true (model_unique (vec_models value_model new)) ≡ true)
     → list_unique old ≡ true → list_unique new ≡ true
 own_made old new h k own =
@@ -303,7 +303,7 @@ pub own_replaced : (old new : ChunkedVec Json) (i : ℕ) (y : Json) → vec_mode
 own_replaced old new i y e o own fresh =
     own_made old new o (λ before. ap (λ l. all_true (model_unique l)) e ∙ ap all_true (map_set (λ p. p.1) (vec_models value_model old) i (value_model y)) ∙ own_set (model_unique (vec_models value_model old)) i (is_unique y) before fresh) own
 
--- ---- an item that is taken out for a change, and put back
+-- ---- an item that is taken out for a change and put back
 
 option_map_twice : {A B C : Type 0} (f : B → C) (g : A → B) (o : Option A) → option_map f (option_map g o) ≡ option_map (λ x. f (g x)) o
 option_map_twice f g None = refl
@@ -334,7 +334,7 @@ pub own_taken : (x : Option Json) (old : ChunkedVec Json) (i : ℕ) → option_m
 own_taken x old i h own =
     own_one x (vec_models value_model old) i h (both_second (is_unique_vec old) (all_true (model_unique (vec_models value_model old))) (sym (list_owns old) ∙ own))
 
--- the same by the results of the calls
+-- by the results of the calls
 pub taken_result : {E : Type 0} (r : Result (Option Json) E) (old : ChunkedVec Json) (i : ℕ) → IfOk r (λ x. option_map value_model x ≡ slice_get (vec_models value_model old) i)
     → IfOk r (λ o. option_map value_of o ≡ item_at i (list_value old))
 taken_result (Ok x) old i h = item_taken x old i h
@@ -360,7 +360,7 @@ pub taken_own : {E : Type 0} (r : Result (Option Json) E) (old : ChunkedVec Json
 taken_own (Ok x) old i h own = own_taken x old i h own
 taken_own (Err e) old i h own = tt
 
--- where the item's part is own, a replacement is done
+-- a replacement succeeds if the item's part is unique
 pub surely_set : {E : Type 0} (r : Result (Option Json) E) (old new : ChunkedVec Json) (i : ℕ) (y : Json)
     → OnOk r (vec_models value_model new ≡ set (vec_models value_model old) i (value_model y)) → OnErr r (is_unique_vec_at old i ≡ false) → is_unique_vec_at old i ≡ true
     → list_value new ≡ set_item i (list_value old) (value_of y)
@@ -372,7 +372,7 @@ pub null_left : {E : Type 0} (r : Result (Option Json) E) (old new : ChunkedVec 
 null_left (Ok x) old new i e = list_set old new i json.Null e ∙ ap (set_item i (list_value old)) seen_null
 null_left (Err e) old new i k = tt
 
--- ---- an item that is lent
+-- ---- a borrowed item
 
 pub found_view : {B : Type 0} (r : Option B) (n : B → Json) (l : ChunkedVec Json) (i : ℕ) → option_map (λ x. value_model (n x)) r ≡ slice_get (vec_models value_model l) i
     → option_map (λ x. value_of (n x)) r ≡ item_at i (list_value l)

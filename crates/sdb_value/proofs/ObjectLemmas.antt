@@ -26,7 +26,7 @@ seen_of l = vec_models (entry_model value_model) l
 abbrev model_values : List EntryModels → Items
 model_values es = items_from_list (map (λ (e : EntryModels). e.1.0) es)
 
--- ---- the values and the keys of what is seen
+-- ---- values and keys of the views
 
 values_each : (ms : List (MapEntry Json)) → model_values (map (entry_model value_model) ms) ≡ items_from_list (map (λ m. value_of m.value) ms)
 values_each [] = refl
@@ -81,7 +81,7 @@ none_there : (o : Option (MapEntry Json)) (l m : MemberEntries) (i : ℕ) (n : M
 none_there None l m i n e h = h ∙ set_past (seen_of l) i (entry_model value_model n) (sym e)
 none_there (Some x) l m i n e h = tt
 
--- ---- a list of which one member is another
+-- ---- a list with one member replaced
 
 values_set : (l m : MemberEntries) (i : ℕ) (n : MapEntry Json) → seen_of m ≡ slice_set (seen_of l) i (entry_model value_model n) → values_of_entries m ≡ set_item i (values_of_entries l) (value_of n.value)
 values_set l m i n e =
@@ -97,7 +97,7 @@ values_same l m e = values_seen m ∙ ap model_values e ∙ sym (values_seen l)
 names_same : (l m : MemberEntries) → seen_of m ≡ seen_of l → vec_keys m ≡ vec_keys l
 names_same l m e = sym (keys_of_vec_models value_model m) ∙ ap entry_keys e ∙ keys_of_vec_models value_model l
 
--- ---- the same of what a call answers
+-- ---- by the result of a call
 
 pub value_taken : {E : Type 0} (r : Result (Option (MapEntry Json)) E) (l : MemberEntries) (i : ℕ) → IfOk r (λ x. option_map (entry_model value_model) x ≡ slice_get (seen_of l) i)
     → IfOk r (λ o. option_map (λ m. value_of m.value) o ≡ item_at i (values_of_entries l))
@@ -155,7 +155,7 @@ pub surely_named : {O E : Type 0} (r : Result O E) (l m : MemberEntries) (i : �
 surely_named (Ok o) l m i n h e own = names_set l m i n h
 surely_named (Err x) l m i n h e own = absurd (not_both (is_unique_vec_at l i) own e)
 
--- ---- whose the values are
+-- ---- uniqueness of the values
 
 abbrev model_unique : List EntryModels → List Bool
 model_unique es = map (λ (e : EntryModels). e.1.1) es
@@ -190,7 +190,7 @@ pub own_taken : {E : Type 0} (r : Result (Option (MapEntry Json)) E) (l : Member
 own_taken (Ok o) l i e own = own_there o l i e own
 own_taken (Err x) l i e own = tt
 
--- something of the list that is shared on the way to a member
+-- a shared part of the list on the path to a member
 shared_or : (b : Bool) (l : MemberEntries) (i : ℕ) → entries_unique l ≡ b → is_unique_vec_at l i ≡ false → b ≡ false
 shared_or true l i own e =
     absurd (not_both (is_unique_vec_at l i) (unique_vec_at_of_all l i (both_first (is_unique_vec l) (all_true (model_unique (seen_of l))) (sym (entries_owns l) ∙ own))) e)

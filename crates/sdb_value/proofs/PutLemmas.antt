@@ -1,4 +1,4 @@
--- Members that are put in and taken out, and the object that they make.
+-- Members that are inserted and removed, and the object that they make.
 use Rattle.std.proofs.Common.{◌≡◌, ℕ, List, [], ◌∷◌, map, Option, Some, None, option_map, Result, Ok, Err, OnOk, OnErr, Bool, true, false, cond, Ordering, Less, Equal, Greater, is_eq, refl, sym, ap, ◌∙◌}
 use Rattle.std.specs.Option.{IfSome}
 use Rattle.std.specs.Map.{lookup, remove_entry}
@@ -21,7 +21,7 @@ use Rattle.sdb_value.specs.declared.value.Json.{Json}
 abbrev pub EntryModels : Type 0
 EntryModels = List ℕ × (Value × Bool)
 
--- the object of what is seen of entries
+-- the object of the views of entries
 abbrev pub values_of : List EntryModels → Members
 values_of es = members_from_list (map (λ (e : EntryModels). (e.0, e.1.0)) es)
 
@@ -83,7 +83,7 @@ object_found r n m k e =
     lookup_twice None n = refl
     lookup_twice (Some x) n = refl
 
--- ---- whose the values are
+-- ---- uniqueness of the values
 
 abbrev model_unique : List EntryModels → List Bool
 model_unique es = map (λ (e : EntryModels). e.1.1) es
@@ -107,7 +107,7 @@ and_intro : (a b : Bool) → a ≡ true → b ≡ true → cond a b false ≡ tr
 and_intro true b p q = q
 and_intro false b p q = p
 
--- a list of members whose values stay their owner's own
+-- a list of members whose values stay unique
 pub own_kept : (l m : ChunkedVec (MapEntry Json)) → (is_unique_vec l ≡ true → is_unique_vec m ≡ true)
     → (all_true (model_unique (vec_models (entry_model value_model) l)) ≡ true → all_true (model_unique (vec_models (entry_model value_model) m)) ≡ true) → entries_unique l ≡ true → entries_unique m ≡ true
 own_kept l m keeps all own =
@@ -138,7 +138,7 @@ own_taken [] k h = refl
 own_taken (d ∷ es) k h =
     own_or (is_eq (compare_bytes k d.0)) d es (remove_entry (is_at (compare_bytes k)) es) h (own_taken es k (both_second d.1.1 (all_true (model_unique es)) h))
 
--- one that is put in or taken out, or nothing where memory is wanting
+-- an insert or removal, or no change if an allocation fails
 pub own_inserted : {O E : Type 0} (r : Result O E) (m n : SortedMap Json) (k : List ℕ) (v : Json) → OnOk r (map_entry_models value_model n ≡ insert_entry compare_bytes (map_entry_models value_model m) k (value_model v))
     → OnErr r (map_entry_models value_model n ≡ map_entry_models value_model m) → (is_unique_map m ≡ true → is_unique_map n ≡ true) → object_unique m ≡ true → is_unique v ≡ true → object_unique n ≡ true
 own_inserted (Ok x) m n k v p e keeps own new =
@@ -155,11 +155,11 @@ contrapositive : (a b : Bool) → (a ≡ true → b ≡ true) → b ≡ false �
 contrapositive true b h e = let t : b ≡ true = h refl in cc
 contrapositive false b h e = refl
 
--- where something of the list of members is shared, the object isn't its owner's own
+-- an object with a shared part of its members isn't unique
 pub not_held : (m : SortedMap Json) → is_unique_map m ≡ false → object_unique m ≡ false
 not_held m h = contrapositive (object_unique m) (is_unique_map m) (both_first (is_unique_map m) (members_unique (vec_items (map_chunks m)))) h
 
--- the value of a key of an object that is its own
+-- the value of a key of a unique object
 own_either : (b : Bool) (d s : Value × Bool) (o : Option (Value × Bool)) → d.1 ≡ true → (o ≡ Some s → s.1 ≡ true) → cond b (Some d) o ≡ Some s → s.1 ≡ true
 own_either true d s o own rest e = let is : d ≡ s = cc in ap (λ t. t.1) (sym is) ∙ own
 own_either false d s o own rest e = rest e

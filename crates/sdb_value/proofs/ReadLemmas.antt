@@ -1,4 +1,4 @@
--- What is read of a list or an object, part by part.
+-- A list or an object, parsed part by part.
 use Rattle.std.proofs.Common.{◌≡◌, ℕ, ◌<◌, ◌≤◌, List, [], ◌∷◌, ◌++◌, map, Option, Some, None, option_map, Bool, true, false, cond, nat_cmp, Ordering, Less, refl, sym, ap, ◌∙◌, subst, arith}
 use Rattle.std.specs.Bool.{⊤}
 use Rattle.std.specs.Borrow.{Bor}
@@ -32,7 +32,7 @@ join_all : (vs : List Json) (j : Json) (o : Option Items) → option_map (append
 join_all vs j None = refl
 join_all vs j (Some es) = ap Some (sym (join_push vs j es))
 
--- one more item is read
+-- one more item is converted
 pub read_more : (vs : List Json) (j : Json) (all rest : raw.Items) (d : raw.Data) → value_of_data d ≡ Some (value_of j)
     → items_of_data all ≡ option_map (append_items (items_value vs)) (items_of_data (raw.item d rest)) → items_of_data all ≡ option_map (append_items (items_value (vs ++ j ∷ []))) (items_of_data rest)
 read_more vs j all rest d e h = h ∙ rw e (join_all vs j (items_of_data rest))
@@ -56,14 +56,14 @@ text_cmp k l = slice_cmp nat_cmp k.now l.now
 abbrev pub read_names : {D : Type 0} → List (ReadEntry D) → List (List ℕ)
 read_names es = map (λ e. e.0.now) es
 
--- each entry is read: its key is the member's, and its value too
+-- each entry is converted, with its key and its value
 abbrev pub AreReadMembers : {D : Type 0} → (D → raw.Data) → List (ReadEntry D) → List (List ℕ × Json) → Type 0
 AreReadMembers f [] [] = ⊤
 AreReadMembers f [] (m ∷ ms) = ⊥
 AreReadMembers f (e ∷ es) [] = ⊥
 AreReadMembers f (e ∷ es) (m ∷ ms) = (m.0 ≡ e.0.now) × (value_of_data (f e.1.now) ≡ Some (value_of m.1)) × AreReadMembers f es ms
 
--- all values are their owner's own
+-- all values are unique
 abbrev pub entries_own : List (List ℕ × Json) → Bool
 entries_own es = all_true (map (λ e. is_unique e.1) es)
 
@@ -119,14 +119,14 @@ append_none (e ∷ es) = ap (λ l. e ∷ l) (append_none es)
 all_done : {E : Type 0} (es done left : List E) → es ≡ done ++ left → left ≡ [] → done ≡ es
 all_done es done left e n = sym (e ∙ ap (λ l. done ++ l) n ∙ append_none done)
 
--- the keys of all entries of a map ascend
+-- the keys of all entries of a map are sorted
 pub all_ascend : {D : Type 0} (es done left : List (ReadEntry D)) (ts : List (List ℕ)) → es ≡ done ++ left → left ≡ [] → ts ≡ read_names done
     → IsStrictlySortedBy text_cmp (keys_of es) → IsAscending ts
 all_ascend es done left ts split none keys sorted =
     subst IsAscending (sym (keys ∙ ap read_names (all_done es done left split none))) (ascending_names es sorted)
 
 module _ {D : Type 0} (f : D → raw.Data) where
-  -- one more member is read
+  -- one more member is converted
   pub member_more : (es : List (ReadEntry D)) (ms : List (List ℕ × Json)) (e : ReadEntry D) (v : Json) → AreReadMembers f es ms → value_of_data (f e.1.now) ≡ Some (value_of v)
       → AreReadMembers f (es ++ e ∷ []) (ms ++ (e.0.now, v) ∷ [])
   member_more [] [] e v r h = (refl, h, tt)
@@ -148,7 +148,7 @@ module _ {D : Type 0} (f : D → raw.Data) where
   object_made es done left ms ns split none reads made =
       ap (λ ds. members_of_data (sorted_members f ds)) (sym (all_done es done left split none)) ∙ object_read done ms reads ∙ ap (λ l. Some (members_value l)) (sym made)
 
-  -- and their keys
+  -- the keys of the members
   pub members_names : (es : List (ReadEntry D)) (ms : List (MapEntry Json)) → AreReadMembers f es (map key_value ms) → entry_key_bytes ms ≡ read_names es
   members_names [] [] r = refl
   members_names [] (m ∷ ms) r = absurd r
@@ -163,7 +163,7 @@ module _ {D : Type 0} (f : D → raw.Data) where
   member_deep [] e more n k = omega arith
   member_deep (first ∷ done) e more n k = let r : n < raw.members_depth (sorted_members f (done ++ e ∷ more)) = member_deep done e more n k in omega arith
 
--- ---- what a kind of JSON says of the data
+-- ---- the data of each kind of JSON
 
 pub is_list : (d : raw.Data) (ds : raw.Items) → Some ds ≡ as_array d → d ≡ raw.array ds
 is_list raw.null ds e = absurd (cc)

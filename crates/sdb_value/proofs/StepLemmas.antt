@@ -1,10 +1,10 @@
--- One step down a path, and a change below it.
+-- One step of a path, and a change inside it.
 use Rattle.std.proofs.Common.{◌≡◌, ℕ, zero, suc, List, ◌∷◌, Option, Some, None, MatchOption, Result, Ok, Err, IfOk, Bool, true, false, true≢false, refl, sym, ap, ◌∙◌}
 use Rattle.sdb_value.specs.Value.{Value, null, no_items, item, list, Items, PlainStep, index, item_at, set_item, as_list, child, with_child}
 use Rattle.sdb_value.specs.Change.{ReplacedAt, AbsentAt}
 use Rattle.sdb_value.specs.laws.ValueLaws.{eq_list_of_as_list, set_item_same}
 
--- a change below a step is a change
+-- a change inside a step is a change of the whole
 step_down : {O : Type 0} (r : Option O) (R : O → Value → Value → Type 0) (d e : Value) (w : PlainStep) (p q : List PlainStep) (c c2 : Value)
     → q ≡ w ∷ p → child w d ≡ Some c → e ≡ with_child w d c2 → with_child w d c ≡ d
     → MatchOption r (AbsentAt c p c2) (λ o. ReplacedAt (R o) c p c2) → MatchOption r (AbsentAt d q e) (λ o. ReplacedAt (R o) d q e)
@@ -30,7 +30,7 @@ list_step r R d e ds es i p q c c2 way kind put found set h =
 
 -- ---- by the results of the calls
 
--- the same change, told of the same values
+-- the change of equal values
 pub told_of : {O E : Type 0} (r : Result (Option O) E) (R : O → Value → Value → Type 0) (d d2 e e2 : Value) (p p2 : List PlainStep)
     → d2 ≡ d → p2 ≡ p → e2 ≡ e
     → IfOk r (λ o. MatchOption o (AbsentAt d p e) (λ x. ReplacedAt (R x) d p e)) → IfOk r (λ o. MatchOption o (AbsentAt d2 p2 e2) (λ x. ReplacedAt (R x) d2 p2 e2))
@@ -48,7 +48,7 @@ set_again i no_items u v = refl
 set_again zero (item d ds) u v = refl
 set_again (suc i) (item d ds) u v = ap (item d) (set_again i ds u v)
 
--- what was taken out and put back unchanged
+-- a value taken out and put back unchanged
 pub put_same : (i : ℕ) (ds : Items) (c : Value) → Some c ≡ item_at i ds → set_item i (set_item i ds null) c ≡ ds
 put_same i ds c h = set_again i ds null c ∙ set_item_same i ds c h
 

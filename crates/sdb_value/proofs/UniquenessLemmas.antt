@@ -1,4 +1,4 @@
--- What is its owner's own, and of what a copy is a pointer, level by level.
+-- Uniqueness and freezing, level by level.
 use Rattle.std.proofs.Common.{◌≡◌, List, [], ◌∷◌, ◌++◌, map, Bool, true, false, cond, Vec, Global, refl, ap, ◌∙◌, rules}
 use Rattle.std.specs.declared.sync.Arc.{Arc}
 use Rattle.std.specs.List.{flat_map}
@@ -23,7 +23,7 @@ use Rattle.sdb_value.specs.declared.value.Json.{Json, the_lemmas}
 use Rattle.sdb_value.specs.declared.value.Json as json
 use Rattle.sdb_value.proofs.ViewLemmas.{former_seen, former_entries, map_members, seen_list, seen_object}
 
--- ---- through the fold
+-- ---- by the fold
 
 all_own_once : {X Y : Type 0} (g : Chunk X → Chunk Y) (bs : List (Chunk X)) → ((v : Vec X Global) → is_chunk_unique (g (Unique v)) ≡ true)
     → ((a : Arc (Vec X Global) Global) → is_chunk_unique (g (Shared a)) ≡ false) → all_unique (map g bs) ≡ all_unique bs
@@ -108,7 +108,7 @@ owned_object m =
 pub pointer_object : (m : SortedMap Json) → is_frozen (json.Object m) ≡ is_shared_map m
 pointer_object m = search (rules, the_lemmas, mapped_shared)
 
--- ---- blocks
+-- ---- chunks
 
 flat_blocks : {X : Type 0} (bs : List (Chunk X)) → flat_map items_of bs ≡ flat_map (λ xs. xs) (map items_of bs)
 flat_blocks [] = refl
@@ -121,9 +121,9 @@ append_none : {X : Type 0} (xs : List X) → xs ++ [] ≡ xs
 append_none [] = refl
 append_none (x ∷ xs) = ap (λ l. x ∷ l) (append_none xs)
 
--- a list of one block
+-- a list of one chunk
 pub of_one : {X : Type 0} (l : ChunkedVec X) (xs : List X) → vec_chunk_items l ≡ xs ∷ [] → vec_items l ≡ xs
 of_one l xs e = items_parts l ∙ ap (flat_map (λ xs. xs)) e ∙ append_none xs
 
--- one level of a list, and of an object: what it is, and whether it is its owner's own
+-- one level of a list and of an object, with its uniqueness
 pub ruleset levels = (seen_list, seen_object, owned_list, owned_object)

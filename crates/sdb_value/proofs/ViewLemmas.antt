@@ -1,4 +1,4 @@
--- A `Json`, level by level, beside the value that it stands for.
+-- A `Json`, level by level, and its value.
 use Rattle.std.proofs.Common.{◌≡◌, ℕ, zero, suc, ◌<◌, List, [], ◌∷◌, ◌++◌, length, get_or, Option, Some, option_map, String, Vec, Global, Less, string_bytes, string_cmp, cond, Bool, true, false, map, refl, ap, ◌∙◌, arith, rules}
 use Rattle.std.specs.declared.sync.Arc.{Arc}
 use Rattle.std.specs.Map.{keys_of}
@@ -29,7 +29,7 @@ use Rattle.sdb_value.specs.declared.value.Json as json
 abbrev pub ViewEntry : Type 0
 ViewEntry = String Global × Json
 
--- ---- a list in pieces, and an object, as the fold sees them
+-- ---- a chunked list and an object, as the fold has them
 
 map_once : {X Y : Type 0} (f : X → Y) (xs : List X) → map (λ d. d) (map f xs) ≡ map f xs
 map_once f [] = refl
@@ -49,7 +49,7 @@ groups_once f g [] h = refl
 groups_once f g (x ∷ gs) h = ap (λ l. l ++ flatten_group_models (λ d. d) (map g gs)) (h x) ∙ ap (λ l. group_models f x ++ l) (groups_once f g gs h)
 
 group_once : {X Y : Type 0} (f : X → Y) (n : ℕ) (bs : Chunk (Chunk X)) (e : n ≡ length (flat_map items_of (items_of bs)))
-    → group_models (λ d. d) ((the_former this).map X Y f (record { count = n; blocks = bs; count_is_sum = e })) ≡ flatten_models f (items_of bs)
+    → group_models (λ d. d) ((the_former this).map X Y f (record { count = n; chunks = bs; count_is_sum = e })) ≡ flatten_models f (items_of bs)
 group_once f n (Unique v) e = blocks_once f _ v.items (λ w. map_once f w.items) (λ w. map_once f w.value.items)
 group_once f n (Shared a) e = blocks_once f _ a.value.items (λ w. map_once f w.items) (λ w. map_once f w.value.items)
 
@@ -59,8 +59,8 @@ form_once f (Flat (Unique v)) = map_once f v.items
 form_once f (Flat (Shared a)) = map_once f a.value.items
 form_once f (Chunks (Unique v)) = blocks_once f _ v.items (λ w. map_once f w.items) (λ w. map_once f w.value.items)
 form_once f (Chunks (Shared a)) = blocks_once f _ a.value.items (λ w. map_once f w.items) (λ w. map_once f w.value.items)
-form_once f (Groups (Unique v)) = groups_once f _ v.items (λ g. group_once f g.count g.blocks g.count_is_sum)
-form_once f (Groups (Shared a)) = groups_once f _ a.value.items (λ g. group_once f g.count g.blocks g.count_is_sum)
+form_once f (Groups (Unique v)) = groups_once f _ v.items (λ g. group_once f g.count g.chunks g.count_is_sum)
+form_once f (Groups (Shared a)) = groups_once f _ a.value.items (λ g. group_once f g.count g.chunks g.count_is_sum)
 
 pub former_seen : {X Y : Type 0} (f : X → Y) (l : ChunkedVec X) → vec_models (λ d. d) ((json.TheShapes.former-Json-List-0).map X Y f l) ≡ vec_models f l
 former_seen f l = form_once f l.repr
@@ -72,7 +72,7 @@ pub seen_list : (l : ChunkedVec Json) → value_of (json.List l) ≡ list (list_
 seen_list l = let e : value_of (json.List l) ≡ list (items_from_list (vec_models value_of l)) = search (rules, the_lemmas, former_seen) in
     e ∙ ap (λ ds. list (items_from_list ds)) (vec_models_of_items value_of l)
 
--- members, each value mapped
+-- members with each value mapped
 abbrev pub map_members : {X Y : Type 0} → (X → Y) → SortedMap X → SortedMap Y
 map_members {X} {Y} f m = (json.TheShapes.former-Json-Object-0).map X Y f m
 
@@ -102,7 +102,7 @@ grouped_once f g [] h = refl
 grouped_once f g (x ∷ gs) h = ap (λ l. l ++ flatten_group_models (entry_model (λ d. d)) (map g gs)) (h x) ∙ ap (λ l. group_models (entry_model f) x ++ l) (grouped_once f g gs h)
 
 member_group : {X Y : Type 0} (f : X → Y) (n : ℕ) (bs : Chunk (Chunk (MapEntry X))) (e : n ≡ length (flat_map items_of (items_of bs)))
-    → group_models (entry_model (λ d. d)) ((the_former (member_former this)).map X Y f (record { count = n; blocks = bs; count_is_sum = e })) ≡ flatten_models (entry_model f) (items_of bs)
+    → group_models (entry_model (λ d. d)) ((the_former (member_former this)).map X Y f (record { count = n; chunks = bs; count_is_sum = e })) ≡ flatten_models (entry_model f) (items_of bs)
 member_group f n (Unique v) e = parts_once f _ v.items (λ w. members_once f w.items) (λ w. members_once f w.value.items)
 member_group f n (Shared a) e = parts_once f _ a.value.items (λ w. members_once f w.items) (λ w. members_once f w.value.items)
 
@@ -111,8 +111,8 @@ entries_once f (Flat (Unique v)) = members_once f v.items
 entries_once f (Flat (Shared a)) = members_once f a.value.items
 entries_once f (Chunks (Unique v)) = parts_once f _ v.items (λ w. members_once f w.items) (λ w. members_once f w.value.items)
 entries_once f (Chunks (Shared a)) = parts_once f _ a.value.items (λ w. members_once f w.items) (λ w. members_once f w.value.items)
-entries_once f (Groups (Unique v)) = grouped_once f _ v.items (λ g. member_group f g.count g.blocks g.count_is_sum)
-entries_once f (Groups (Shared a)) = grouped_once f _ a.value.items (λ g. member_group f g.count g.blocks g.count_is_sum)
+entries_once f (Groups (Unique v)) = grouped_once f _ v.items (λ g. member_group f g.count g.chunks g.count_is_sum)
+entries_once f (Groups (Shared a)) = grouped_once f _ a.value.items (λ g. member_group f g.count g.chunks g.count_is_sum)
 
 pub former_entries : {X Y : Type 0} (f : X → Y) (m : SortedMap X) → map_entry_models (λ d. d) (map_members f m) ≡ map_entry_models f m
 former_entries f m = entries_once f (map_chunks m).repr
@@ -121,7 +121,7 @@ pub seen_object : (m : SortedMap Json) → value_of (json.Object m) ≡ object (
 seen_object m = let e : value_of (json.Object m) ≡ object (members_from_list (map_entry_models value_of m)) = search (rules, the_lemmas, former_entries) in
     e ∙ ap (λ es. object (members_from_list es)) (map_models_of_entries value_of m)
 
--- of a value that is a list, or an object
+-- for a value that is a list, or an object
 pub is_list : (v : Json) (l : ChunkedVec Json) → v ≡ json.List l → value_of v ≡ list (list_value l)
 is_list v l e = ap value_of e ∙ seen_list l
 

@@ -1,4 +1,4 @@
--- How much there is of a value: what a walk through it goes down by.
+-- The measure of a recursion over a value.
 use Rattle.std.proofs.Common.{◌≡◌, ℕ, zero, suc, ◌+◌, ◌≤◌, ◌<◌, List, [], ◌∷◌, ◌++◌, length, get_or, map, refl, ap, ◌∙◌, arith, rules}
 use Rattle.std.specs.List.{flat_map}
 use Rattle.sdb_chunks.specs.Chunk.{items_of}
@@ -63,7 +63,7 @@ rest_below vs ws v n e h = let s : term_weights vs ≡ term_weight v + term_weig
 pub members_rest_below : (es fs : List (List ℕ × Json)) (e : List ℕ × Json) (n : ℕ) → es ≡ e ∷ fs → members_weight es ≤ n → members_weight fs ≤ n
 members_rest_below es fs e n h k = let s : members_weight es ≡ term_weight e.1 + members_weight fs = ap members_weight h in omega (arith, s, k)
 
--- one of a list, and the first of a list of blocks, weighs no more than all; nor do the others
+-- an item of a list, and the first chunk, isn't larger than all; nor is the rest
 pub item_fits : (vs : List Json) (k : ℕ) (v : Json) → k < length vs → v ≡ get_or vs k v → term_weight v ≤ term_weights vs
 item_fits [] k v h is = absurd (omega (arith, h))
 item_fits (x ∷ vs) zero v h is = let same : term_weight v ≡ term_weight x = ap term_weight is in omega (arith, same)
@@ -85,7 +85,7 @@ blocks_below bs cs b n e h =
     let all = weights_join (items_of b) (flat_map items_of cs) in
     omega (arith, s, all, h)
 
--- ---- the same of members
+-- ---- for members
 
 abbrev pub entries_weight : List (MapEntry Json) → ℕ
 entries_weight ms = members_weight (map key_value ms)
@@ -112,5 +112,5 @@ parts_below bs cs b n e h =
     let all = entries_join (items_of b) (flat_map items_of cs) in
     omega (arith, s, all, h)
 
--- one level of a list, and of an object: what it is, and what it weighs
+-- one level of a list and of an object, with its measure
 pub ruleset levels = (seen_list, seen_object, weigh_list, weigh_object)

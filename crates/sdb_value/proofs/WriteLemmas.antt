@@ -1,4 +1,4 @@
--- What is written of a list or an object.
+-- The output for a list or an object.
 use Rattle.std.proofs.Common.{◌≡◌, List, [], ◌∷◌, ◌++◌, ℕ, map, Less, Greater, Result, Ok, Err, OnOk, OnErr, refl, sym, ap, ◌∙◌, append_assoc}
 use Rattle.std.proofs.lemmas.Cmp.{nat_list_cmp_total}
 use Rattle.std.specs.Ordering.{ordering_reverse}
@@ -28,7 +28,7 @@ below_middle : (k : List ℕ) (es : List NamedEntry) (e : NamedEntry) (more : Li
 below_middle k [] e more h = h.0
 below_middle k (x ∷ es) e more h = below_middle k es e more h.1
 
--- a key that is above those before it goes last
+-- the greatest key goes last
 pub put_last_data : (done : List NamedEntry) (e : NamedEntry) (more : List NamedEntry) → IsAscending (entry_keys (done ++ e ∷ more))
     → raw.put e.0 (data_of_value (value_of e.1)) (data_of_members (members_value done)) ≡ data_of_members (members_value (done ++ e ∷ []))
 put_last_data [] e more h = refl
@@ -41,14 +41,14 @@ map_append : {A B : Type 0} (f : A → B) (xs ys : List A) → map f (xs ++ ys) 
 map_append f [] ys = refl
 map_append f (x ∷ xs) ys = ap (λ l. f x ∷ l) (map_append f xs ys)
 
--- one more item that is made
+-- one more item
 pub made_more : (ms : List raw-value.Value) (done : List Json) (m : raw-value.Value) (v : Json) → map data-view.view ms ≡ map (λ j. data_of_value (value_of j)) done
     → data-view.view m ≡ data_of_value (value_of v) → map data-view.view (ms ++ m ∷ []) ≡ map (λ j. data_of_value (value_of j)) (done ++ v ∷ [])
 made_more ms done m v h e =
     map_append data-view.view ms (m ∷ []) ∙ ap (λ l. l ++ data-view.view m ∷ []) h ∙ ap (λ d. map (λ j. data_of_value (value_of j)) done ++ d ∷ []) e
     ∙ sym (map_append (λ j. data_of_value (value_of j)) done (v ∷ []))
 
--- a list or an object behind its bracket
+-- a list or an object after its opening bracket
 pub array_written : {A E : Type 0} (r : Result A E) (v : Json) (l : ChunkedVec Json) (old mid new : List Token) → v ≡ json.List l → mid ≡ old ++ begin_array ∷ []
     → OnOk r (new ≡ mid ++ array_tail_tokens (data_of_items (list_value l))) → OnOk r (new ≡ old ++ data_tokens (data_of_value (value_of v)))
 array_written (Err e) v l old mid new is first_is_least h = tt

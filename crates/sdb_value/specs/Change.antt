@@ -1,8 +1,8 @@
--- A change of one place of a value: what stands there goes to another value by the relation R, and all else stays.
+-- A change at one path of a value: the value there is related by R to its new one, and all other parts are unchanged.
 use Rattle.std.specs.Prelude.{◌≡◌, List, Some, None}
 use Rattle.sdb_value.specs.Value.{Value, PlainStep, value_at, with_value_at}
 
--- e is d with the value u at p replaced by a value v that R gives for u
+-- e is d with the value u at p replaced by a value v that R relates to u
 pub record ReplacedAt (R : Value → Value → Type 0) (d : Value) (p : List PlainStep) (e : Value) : Type 0 where
   pub before : Value
   pub after : Value
@@ -10,7 +10,7 @@ pub record ReplacedAt (R : Value → Value → Type 0) (d : Value) (p : List Pla
   pub related : R before after
   pub placed : e ≡ with_value_at d p after
 
--- nothing is at p, and e is d
+-- there is no value at p, and e is d
 pub record AbsentAt (d : Value) (p : List PlainStep) (e : Value) : Type 0 where
   pub absent : value_at d p ≡ None
   pub same : e ≡ d

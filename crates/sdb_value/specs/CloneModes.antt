@@ -1,4 +1,4 @@
--- What of a copy is its owner's own.
+-- The uniqueness of a clone.
 use Rattle.std.specs.Prelude.{◌≡◌, List, map, Bool, true, false, cond}
 use Rattle.sdb_chunks.specs.Chunk.{items_of, is_chunk_unique}
 use Rattle.sdb_chunks.specs.declared.chunk.Chunk.{Chunk}
@@ -8,20 +8,20 @@ use Rattle.sdb_value.specs.declared.clone_modes.CloneMode.{CloneMode}
 use Rattle.sdb_value.specs.declared.clone_modes.CloneMode.TheVariants.{Preserve, Unique, Frozen}
 use Rattle.sdb_value.specs.declared.value.Json.{Json}
 
--- by whether the original was its own, whether the copy is, and whether the next copy of it is a pointer
+-- by mode: whether the original was unique, whether the clone is, and whether the next clone is a pointer
 abbrev pub HasUniquenessOfMode : CloneMode → Bool → Bool → Bool → Type 0
 HasUniquenessOfMode Preserve was now pointer = now ≡ was
 HasUniquenessOfMode Unique was now pointer = now ≡ true
 HasUniquenessOfMode Frozen was now pointer = pointer ≡ true
 
--- a block and all its items, blocks and all theirs
+-- a unique chunk with unique items, and a list of such chunks
 abbrev pub is_deep_unique_chunk : Chunk Json → Bool
 is_deep_unique_chunk b = cond (is_chunk_unique b) (items_unique (items_of b)) false
 
 abbrev pub are_deep_unique_chunks : List (Chunk Json) → Bool
 are_deep_unique_chunks bs = all_true (map is_deep_unique_chunk bs)
 
--- the same of members
+-- for chunks of members
 abbrev pub is_deep_unique_member_chunk : Chunk (MapEntry Json) → Bool
 is_deep_unique_member_chunk b = cond (is_chunk_unique b) (members_unique (items_of b)) false
 

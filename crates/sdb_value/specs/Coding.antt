@@ -1,4 +1,4 @@
--- Codes of values and paths, by which a proof tells them apart. A type with an `impl Model` over them names one.
+-- Codes of values and paths, which decide their equality; an `impl Model` names one.
 use Rattle.std.specs.Prelude.{◌≡◌, ℕ, zero, suc, ℤ, List, [], ◌∷◌, ◌⊎◌, refl}
 use Rattle.std.specs.Coded.{Coded, code_by, coded⊎, coded_ℕ, coded_list}
 use Rattle.std.proofs.Common.{inl, inr, sym, ap, ◌∙◌, Bool, true, false, pos, negsuc}

@@ -1,5 +1,5 @@
--- Which data, as `serde_json` reads them, are values of the profile: every number is whole, from -9007199254740991 to
--- 9007199254740991.
+-- The values of the profile among the data that `serde_json` parses (RFC 8259): all numbers are integers from
+-- -9007199254740991 to 9007199254740991.
 use Rattle.std.specs.Prelude.{◌≡◌, ℕ, ◌<◌, nat_lt, ℤ, pos, negsuc, int_lt, if◌then◌else◌, Option, Some, None, option_map, option_and_then, ⊤}
 use Rattle.serde_json.specs.Data as raw
 use Rattle.serde_json.specs.Find.{as_integer, as_number, as_u64, of_integer}
@@ -14,7 +14,7 @@ checked_whole z =
 abbrev pub whole_of : raw.Num → Option ℤ
 whole_of n = option_and_then checked_whole (as_integer n)
 
--- a whole number from 0 to 9007199254740991
+-- an integer from 0 to 9007199254740991
 abbrev pub count_of : raw.Data → Option ℕ
 count_of d =
     option_and_then (λ n. if nat_lt 9007199254740991 n then None else Some n) (option_and_then as_u64 (as_number d))
@@ -36,16 +36,16 @@ abbrev mutual
   members_of_data raw.no_members = Some no_members
   members_of_data (raw.member k d ms) = option_and_then (λ v. option_map (member k v) (members_of_data ms)) (value_of_data d)
 
--- a value of the profile that an operation may bring: at most 50 deep
+-- a value of the profile that an operation may contain, of depth 50 at most
 abbrev pub bounded_value_of_data : raw.Data → Option Value
 bounded_value_of_data d = option_and_then (λ v. if nat_lt 50 (depth v) then None else Some v) (value_of_data d)
 
--- no value, but for want of memory
+-- there is no value, or an allocation failed
 abbrev pub FaultMeansNone : {A : Type 0} → Option A → ValueFault → Type 0
 FaultMeansNone o OutOfMemory = ⊤
 FaultMeansNone o _ = o ≡ None
 
--- why d, whose nesting may be n, is refused
+-- the reason why d, of allowed depth n, is refused
 abbrev pub IsReadFault : ℕ → raw.Data → ValueFault → Type 0
 IsReadFault n d NumberOutOfRange = value_of_data d ≡ None
 IsReadFault n d TooDeep = n < raw.depth d

@@ -1,6 +1,6 @@
--- The types that a `Json` holds, as the logic holds them, for the clauses on what a `&mut` lends.
+-- The types inside a `Json`, for clauses about mutable borrows.
 use denote.RattleType.{RattleType}
-use Rattle.sdb_chunks.specs.contracts.chunked_vec.ChunkedVec as pieces
+use Rattle.sdb_chunks.specs.contracts.chunked_vec.ChunkedVec as chunked_vec
 use Rattle.sdb_sorted_map.specs.contracts.sorted_map.SortedMap as members
 use Rattle.sdb_rope.specs.contracts.rope.Rope as text
 use Rattle.sdb_value.specs.contracts.value.Json.{the_row}
@@ -9,7 +9,7 @@ abbrev pub json_row : RattleType
 json_row = the_row
 
 abbrev pub list_row : RattleType
-list_row = pieces.the_row the_row
+list_row = chunked_vec.the_row the_row
 
 abbrev pub text_row : RattleType
 text_row = text.the_row

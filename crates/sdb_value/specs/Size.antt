@@ -1,4 +1,4 @@
--- How much there is to copy of a value: each value in it counts 1, and each byte of its texts and keys.
+-- The size of a value: the number of values in it, and the bytes of its texts and keys.
 use Rattle.std.specs.Prelude.{ℕ, suc, ◌+◌, length}
 use Rattle.sdb_value.specs.Value.{Value, null, truth, whole, text, list, object, Items, no_items, item, Members, no_members, member}
 

@@ -1,4 +1,4 @@
--- Whether a `Json` is its owner's own: nothing in it is shared with copies.
+-- Uniqueness of a `Json`: no part is shared with clones.
 use Rattle.std.specs.Prelude.{List, [], ◌∷◌, map, Bool, true, false, cond, String}
 use Rattle.std.specs.declared.alloc.Global.{Global}
 use Rattle.sdb_chunks.specs.ChunkedVec.{vec_models, vec_items, is_unique_vec, is_shared_vec}
@@ -16,11 +16,11 @@ abbrev pub all_true : List Bool → Bool
 all_true [] = true
 all_true (b ∷ bs) = cond b (all_true bs) false
 
--- of members, with the answer for each value already known
+-- of members, given the uniqueness of each value
 abbrev pub members_unique_step : SortedMap Bool → Bool
 members_unique_step m = cond (is_unique_map m) (all_true (map (λ e. e.1) (map_entry_models (λ b. b) m))) false
 
--- one level, with the answer for each value inside already known
+-- one level, given the uniqueness of each value inside
 abbrev pub unique_step : Json-F Bool → Bool
 unique_step (Json-F.Text t) = is_unique_rope t
 unique_step (Json-F.List l) = cond (is_unique_vec l) (all_true (vec_models (λ b. b) l)) false
@@ -30,7 +30,7 @@ unique_step _ = true
 abbrev pub is_unique : Json → Bool
 is_unique = fold-Json Bool unique_step
 
--- of a list and all its items, of a map's values
+-- of a list and all its items, and of a map's values
 abbrev pub items_unique : List Json → Bool
 items_unique vs = all_true (map is_unique vs)
 
@@ -40,7 +40,7 @@ list_unique l = cond (is_unique_vec l) (items_unique (vec_items l)) false
 abbrev pub map_unique : List (String Global × Json) → Bool
 map_unique es = all_true (map (λ e. is_unique e.1) es)
 
--- of the values of members, of a list of members and all their values, of an object's
+-- of the values of members, of a list of members with all values, and of an object's members
 abbrev pub members_unique : List (MapEntry Json) → Bool
 members_unique ms = all_true (map (λ m. is_unique m.value) ms)
 
@@ -50,7 +50,7 @@ entries_unique l = cond (is_unique_vec l) (members_unique (vec_items l)) false
 abbrev pub object_unique : SortedMap Json → Bool
 object_unique m = entries_unique (map_chunks m)
 
--- a copy of it is a pointer, or as little
+-- a clone is a pointer, or as cheap
 abbrev pub frozen_step : Json-F Bool → Bool
 frozen_step (Json-F.Text t) = is_shared_rope t
 frozen_step (Json-F.List l) = is_shared_vec l
@@ -60,10 +60,10 @@ frozen_step _ = true
 abbrev pub is_frozen : Json → Bool
 is_frozen = fold-Json Bool frozen_step
 
--- shared as a whole: a text, a list or an object of which a copy is a pointer
+-- a text, list or object whose clone is a pointer
 abbrev pub is_shared_json : Json → Bool
 is_shared_json v = cond (is_unique v) false (is_frozen v)
 
--- what copies of a `Json` have in common
+-- the properties that clones of a `Json` share
 abbrev pub value_model : Json → Value × Bool
 value_model v = (value_of v, is_unique v)

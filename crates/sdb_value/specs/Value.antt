@@ -1,5 +1,5 @@
--- What a value is (RFC 8259, section 3, with whole numbers alone), its parts, and its places.
--- A text is its bytes in UTF-8 (RFC 8259, section 8.1); `Text` says how it is measured.
+-- Values (RFC 8259, section 3, with integers only), their parts, and paths in them. A text is its bytes in UTF-8 (RFC
+-- 8259, section 8.1), and its offsets count UTF-16 code units.
 use Rattle.std.specs.Prelude.{ℕ, zero, suc, max, ℤ, Bool, false, List, [], ◌∷◌, cond, if◌then◌else◌, nat_lt, nat_le, nat_eq, Option, Some, None, option_and_then}
 use Rattle.std.specs.Option.{option_map_or}
 use Rattle.std.specs.Ordering.{nat_cmp, is_eq, match_ordering}
@@ -22,7 +22,7 @@ mutual
     no_members : Members
     member : List ℕ → Value → Members → Members
 
--- a step of a path: to the member of a key, or to the item of an index
+-- a step of a path: to the member of a key, or to the item at an index
 pub data PlainStep : Type 0 where
   key : List ℕ → PlainStep
   index : ℕ → PlainStep
@@ -45,7 +45,7 @@ abbrev pub member_at : List ℕ → Members → Option Value
 member_at k no_members = None
 member_at k (member l d ms) = cond (texts_equal k l) (Some d) (member_at k ms)
 
--- the same, with u in its place
+-- the items, or members, with u in its position
 abbrev pub set_item : ℕ → Items → Value → Items
 set_item i no_items u = no_items
 set_item zero (item d ds) u = item u ds
@@ -55,7 +55,7 @@ abbrev pub set_member : List ℕ → Members → Value → Members
 set_member k no_members u = no_members
 set_member k (member l d ms) u = cond (texts_equal k l) (member l u ms) (member l d (set_member k ms u))
 
--- the members, with u at k: an equal key takes u, and a new one goes to its place in the order of bytes
+-- the members with k set to u; a new key is inserted in byte order
 abbrev pub put_member : List ℕ → Value → Members → Members
 put_member k u no_members = member k u no_members
 put_member k u (member l d ms) =
@@ -66,7 +66,7 @@ abbrev pub without_member : List ℕ → Members → Members
 without_member k no_members = no_members
 without_member k (member l d ms) = cond (texts_equal k l) ms (member l d (without_member k ms))
 
--- ---- lists, as joined pieces
+-- ---- lists, as concatenated parts
 
 abbrev pub item_count : Items → ℕ
 item_count no_items = 0
@@ -87,20 +87,20 @@ abbrev pub append_items : Items → Items → Items
 append_items no_items es = es
 append_items (item d ds) es = item d (append_items ds es)
 
--- u stands at i, and the items from i on follow; i is up to the length
+-- u inserted at i, which is at most the length
 abbrev pub insert_item : ℕ → Value → Items → Option Items
 insert_item i u ds = if nat_le i (item_count ds) then Some (append_items (take_items i ds) (item u (drop_items i ds))) else None
 
--- the item at i is taken out
+-- the item at i removed
 abbrev pub remove_item : ℕ → Items → Option Items
 remove_item i ds = if nat_lt i (item_count ds) then Some (append_items (take_items i ds) (drop_items (suc i) ds)) else None
 
--- the item at i becomes u
+-- the item at i replaced by u
 abbrev pub replace_item : ℕ → Value → Items → Option Items
 replace_item i u ds =
     if nat_lt i (item_count ds) then Some (append_items (take_items i ds) (item u (drop_items (suc i) ds))) else None
 
--- how deep lists and objects nest
+-- the nesting depth of lists and objects
 abbrev mutual
   pub depth : Value → ℕ
   depth null = 0
@@ -131,24 +131,24 @@ abbrev pub as_object : Value → Option Members
 as_object (object ms) = Some ms
 as_object _ = None
 
--- one step down
+-- the value of one step
 abbrev pub child : PlainStep → Value → Option Value
 child (index i) (list ds) = item_at i ds
 child (key k) (object ms) = member_at k ms
 child _ _ = None
 
--- d with what lies one step down replaced
+-- d with the value of one step replaced
 abbrev pub with_child : PlainStep → Value → Value → Value
 with_child (index i) (list ds) u = list (set_item i ds u)
 with_child (key k) (object ms) u = object (set_member k ms u)
 with_child _ d u = d
 
--- `ThreadSlot`: the value at the path p, if any
+-- `Place`: the value at the path p, if any
 abbrev pub value_at : Value → List PlainStep → Option Value
 value_at d [] = Some d
 value_at d (w ∷ p) = option_and_then (λ c. value_at c p) (child w d)
 
--- `ThreadSlot`: d with the one place at p replaced by u
+-- `Place`: d with the value at p replaced by u
 abbrev pub with_value_at : Value → List PlainStep → Value → Value
 with_value_at d [] u = u
 with_value_at d (w ∷ p) u = option_map_or (λ c. with_child w d (with_value_at c p u)) (child w d) d

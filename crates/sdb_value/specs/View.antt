@@ -1,4 +1,4 @@
--- The value that a `Json` stands for.
+-- The value of a `Json`.
 use Rattle.std.specs.Prelude.{ℕ, List, [], ◌∷◌, map, String, string_bytes}
 use Rattle.std.specs.declared.alloc.Global.{Global}
 use Rattle.std.specs.List.{flat_map}
@@ -27,7 +27,7 @@ abbrev pub members_from_list : List (List ℕ × Value) → Members
 members_from_list [] = no_members
 members_from_list (m ∷ ms) = member m.0 m.1 (members_from_list ms)
 
--- one level, with each value inside already seen
+-- one level, given each value inside
 abbrev pub view_step : Json-F Value → Value
 view_step Json-F.Null = null
 view_step (Json-F.Bool b) = truth b
@@ -45,25 +45,25 @@ items_value vs = items_from_list (map value_of vs)
 abbrev pub members_value : List (List ℕ × Json) → Members
 members_value ms = members_from_list (map (λ m. (m.0, value_of m.1)) ms)
 
--- of a map's entries
+-- the members of a map's entries
 abbrev pub map_value : List (String Global × Json) → Members
 map_value ms = members_value (map (λ m. (string_bytes m.0, m.1)) ms)
 
--- of a list in pieces, and of an object's members
+-- of a chunked list, and of an object's members
 abbrev pub list_value : ChunkedVec Json → Items
 list_value l = items_value (vec_items l)
 
 abbrev pub repr_value : Repr Json → Items
 repr_value w = items_value (flat_map items_of (repr_chunks w))
 
--- the items of a group of blocks
+-- the items of a group of chunks
 abbrev pub items_of_group : ChunkGroup Json → List Json
 items_of_group g = flat_map items_of (group_chunks g)
 
 abbrev pub object_value : SortedMap Json → Members
 object_value m = members_value (map_entries m)
 
--- of members one after the other, of those of a form and of a group
+-- the members of entries in order, and of a representation and a group
 abbrev pub entries_value : List (MapEntry Json) → Members
 entries_value ms = members_value (map key_value ms)
 

@@ -1,5 +1,5 @@
--- Which values a `Json` can be: its numbers are in range, its texts and keys are UTF-8, and the keys of an
--- object ascend by their bytes, so that each is there once.
+-- Well-formed values: numbers are in range, texts and keys are UTF-8 (RFC 3629), and the keys of an object are sorted
+-- by bytes and unique.
 use Rattle.std.specs.Prelude.{◌≡◌, List, ℕ, ℤ, ◌≤ℤ◌, pos, negsuc, ⊤}
 use Rattle.std.specs.Cmp.Lexicographic.{slice_cmp}
 use Rattle.std.specs.Ordering.{nat_cmp}
@@ -11,7 +11,7 @@ use Rattle.sdb_value.specs.Value.{Value, null, truth, whole, text, list, object,
 abbrev pub IsInRange : ℤ → Type 0
 IsInRange z = (negsuc 9007199254740990 ≤ℤ z) × (z ≤ℤ pos 9007199254740991)
 
--- the key is below each of the members' keys
+-- the key is less than each of the members' keys
 abbrev pub IsKeyBelowAll : List ℕ → Members → Type 0
 IsKeyBelowAll k no_members = ⊤
 IsKeyBelowAll k (member l d ms) = (slice_cmp nat_cmp k l ≡ Less) × IsKeyBelowAll k ms

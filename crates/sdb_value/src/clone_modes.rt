@@ -1,4 +1,4 @@
-//! Copies.
+//! Clones of values in three modes.
 ghost use Rattle.std.specs.Prelude.{◌≡◌, Bool, map, true, false, IfOk, IfSome, IfNone};
 ghost use Rattle.std.specs.List.{flat_map};
 ghost use Rattle.sdb_chunks.specs.Chunk.{items_of, is_chunk_unique, is_chunk_shared};
@@ -20,18 +20,18 @@ use sdb_rope::Rope;
 use sdb_sorted_map::{MapEntry, MapKey};
 use std::alloc::{AllocError, Global};
 
-/// Of whom a copy is.
+/// The mode of a clone.
 #[derive(Clone, Copy, Drop)]
 pub(crate) enum CloneMode {
-    /// What is shared is a pointer, all else in memory of its own.
+    /// Shared parts are cloned by pointer, all others are copied.
     Preserve,
-    /// All of it is in memory of its own.
+    /// All parts are copied, so the clone is unique.
     Unique,
-    /// All of it is shared: what is shared already is a pointer.
+    /// All parts of the clone are shared. Parts that are shared already are cloned by pointer.
     Frozen,
 }
 
-// A pointer to the value, where it is an object that is shared, as most are that are copied.
+// Clones a shared object by pointer, the most frequent case.
 #[inline(always)]
 fn clone_shared_object(value: &Json) -> Result<Option<Json>, AllocError>
     ensures value { IfOk result (λ o. IfSome o (λ v. value_of v ≡ value_of value.now)) }
@@ -47,7 +47,7 @@ fn clone_shared_object(value: &Json) -> Result<Option<Json>, AllocError>
     }
 }
 
-// What is shared at the cost of a pointer, all else in memory of its own.
+// Clones shared parts by pointer, and copies all others.
 #[inline(always)]
 pub(crate) fn clone_preserving(alloc: Global, value: &Json) -> Result<Json, AllocError>
     ensures value { IfOk result (λ v. value_of v ≡ value_of value.now) }
@@ -59,7 +59,7 @@ pub(crate) fn clone_preserving(alloc: Global, value: &Json) -> Result<Json, Allo
     }
 }
 
-// All of it shared, at the cost of what isn't yet.
+// Clones a value so that the clone is frozen. Only parts that aren't shared yet are copied.
 #[inline(always)]
 pub(crate) fn clone_frozen(alloc: Global, value: &Json) -> Result<Json, AllocError>
     ensures value { IfOk result (λ v. value_of v ≡ value_of value.now) }
@@ -72,25 +72,26 @@ pub(crate) fn clone_frozen(alloc: Global, value: &Json) -> Result<Json, AllocErr
 }
 
 #[cycle(copy)]
-pub(crate) fn copy(alloc: Global, value: &Json, manner: CloneMode) -> Result<Json, AllocError>
+pub(crate) fn copy(alloc: Global, value: &Json, mode: CloneMode) -> Result<Json, AllocError>
     ensures value { IfOk result (λ v. value_of v ≡ value_of value.now) }
-    ensures unique { IfOk result (λ v. HasUniquenessOfMode manner (is_unique value.now) (is_unique v) (is_frozen v)) }
+    ensures unique { IfOk result (λ v. HasUniquenessOfMode mode (is_unique value.now) (is_unique v) (is_frozen v)) }
 {
     match value {
         Json::Null => Ok(Json::Null),
         Json::Bool(b) => Ok(Json::Bool(*b)),
         Json::Int(n) => Ok(Json::Int(*n)),
-        Json::Text(text) => Ok(Json::Text(clone_text(alloc, text, manner)?)),
-        Json::List(items) => Ok(Json::List(clone_list(alloc, items, manner)?)),
-        Json::Object(members) => Ok(Json::Object(clone_members(alloc, members, manner)?)),
+        Json::Text(text) => Ok(Json::Text(clone_text(alloc, text, mode)?)),
+        Json::List(items) => Ok(Json::List(clone_list(alloc, items, mode)?)),
+        Json::Object(members) => Ok(Json::Object(clone_members(alloc, members, mode)?)),
     }
 }
 
-fn clone_text(alloc: Global, text: &Rope, manner: CloneMode) -> Result<Rope, AllocError>
+fn clone_text(alloc: Global, text: &Rope, mode: CloneMode) -> Result<Rope, AllocError>
     ensures bytes { IfOk result (λ t. rope_bytes t ≡ rope_bytes text.now) }
-    ensures unique { IfOk result (λ t. HasUniquenessOfMode manner (is_unique_rope text.now) (is_unique_rope t) (is_shared_rope t)) }
+    ensures unique { IfOk result (λ t. HasUniquenessOfMode mode (is_unique_rope text.now) (is_unique_rope t)
+        (is_shared_rope t)) }
 {
-    match manner {
+    match mode {
         CloneMode::Preserve => text.try_clone(alloc),
         CloneMode::Unique => Rope::new(alloc, text.to_string(alloc)?),
         CloneMode::Frozen => text.frozen_clone(alloc),
@@ -98,15 +99,15 @@ fn clone_text(alloc: Global, text: &Rope, manner: CloneMode) -> Result<Rope, All
 }
 
 #[cycle(copy)]
-fn clone_list(alloc: Global, items: &List, manner: CloneMode) -> Result<List, AllocError>
+fn clone_list(alloc: Global, items: &List, mode: CloneMode) -> Result<List, AllocError>
     ensures items { IfOk result (λ l. list_value l ≡ list_value items.now) }
-    ensures unique { IfOk result (λ l. HasUniquenessOfMode manner (list_unique items.now) (list_unique l)
+    ensures unique { IfOk result (λ l. HasUniquenessOfMode mode (list_unique items.now) (list_unique l)
         (is_shared_vec l)) }
 {
-    if let Some(list) = clone_list_pointer(items, manner)? {
+    if let Some(list) = clone_list_pointer(items, mode)? {
         return Ok(list);
     }
-    let inner = chunk_clone_mode(items, manner);
+    let inner = chunk_clone_mode(items, mode);
     let copies = clone_chunks(alloc, items, inner)?;
     match inner {
         CloneMode::Frozen => ChunkedVec::from_shared_chunks(alloc, copies),
@@ -114,46 +115,47 @@ fn clone_list(alloc: Global, items: &List, manner: CloneMode) -> Result<List, Al
     }
 }
 
-// A pointer to the list, where it is shared and a copy may be one.
-fn clone_list_pointer(items: &List, manner: CloneMode) -> Result<Option<List>, AllocError>
+// Clones a shared list by pointer, unless the mode is `Unique`.
+fn clone_list_pointer(items: &List, mode: CloneMode) -> Result<Option<List>, AllocError>
     ensures items { IfOk result (λ o. IfSome o (λ l. list_value l ≡ list_value items.now)) }
     ensures unique { IfOk result (λ o. IfSome o
-        (λ l. HasUniquenessOfMode manner (list_unique items.now) (list_unique l) (is_shared_vec l))) }
-    ensures none { IfOk result (λ o. IfNone o (manner ≡ Preserve → is_shared_vec items.now ≡ false)) }
+        (λ l. HasUniquenessOfMode mode (list_unique items.now) (list_unique l) (is_shared_vec l))) }
+    ensures none { IfOk result (λ o. IfNone o (mode ≡ Preserve → is_shared_vec items.now ≡ false)) }
 {
-    match manner {
+    match mode {
         CloneMode::Unique => Ok(None),
         _ => items.clone_shared(),
     }
 }
 
-// How the blocks of a list are copied. A list in groups isn't its own, and so its copy in blocks is shared.
-fn chunk_clone_mode<T>(items: &ChunkedVec<T>, manner: CloneMode) -> CloneMode
+// Returns the mode for the chunks of a list. A list in groups isn't unique, so its clone in chunks
+// is shared.
+fn chunk_clone_mode<T>(items: &ChunkedVec<T>, mode: CloneMode) -> CloneMode
     ensures copied { (was now pointer : Bool) → (is_grouped items.now.repr ≡ true → was ≡ false)
         → (pointer ≡ true → now ≡ false) → HasUniquenessOfMode result was now pointer
-        → HasUniquenessOfMode manner was now pointer }
-    ensures equal { result ≡ Preserve → manner ≡ Preserve }
+        → HasUniquenessOfMode mode was now pointer }
+    ensures equal { result ≡ Preserve → mode ≡ Preserve }
     ensures in_blocks { result ≡ Preserve → is_grouped items.now.repr ≡ false }
 {
-    if items.is_grouped() && matches!(manner, CloneMode::Preserve) {
+    if items.is_grouped() && matches!(mode, CloneMode::Preserve) {
         return CloneMode::Frozen;
     }
-    manner
+    mode
 }
 
 #[cycle(copy)]
 fn clone_chunks(
     alloc: Global,
     items: &List,
-    manner: CloneMode,
+    mode: CloneMode,
 ) -> Result<Vec<Chunk<Json>>, AllocError>
     ensures items { IfOk result (λ v. items_value (flat_map items_of v.items) ≡ list_value items.now) }
-    ensures unique { IfOk result (λ v. HasUniquenessOfMode manner
+    ensures unique { IfOk result (λ v. HasUniquenessOfMode mode
         (are_deep_unique_chunks (vec_chunks items.now)) (are_deep_unique_chunks v.items) (all_shared v.items)) }
 {
     let mut copies = Vec::new(alloc);
-    for block in items.chunks() {
-        copies.push(clone_chunk(alloc, block, manner)?)?;
+    for chunk in items.chunks() {
+        copies.push(clone_chunk(alloc, chunk, mode)?)?;
     }
     Ok(copies)
 }
@@ -161,63 +163,60 @@ fn clone_chunks(
 #[cycle(copy)]
 fn clone_chunk(
     alloc: Global,
-    block: &Chunk<Json>,
-    manner: CloneMode,
+    chunk: &Chunk<Json>,
+    mode: CloneMode,
 ) -> Result<Chunk<Json>, AllocError>
-    ensures items { IfOk result (λ b. items_value (items_of b) ≡ items_value (items_of block.now)) }
-    ensures unique { IfOk result (λ b. HasUniquenessOfMode manner
-        (is_deep_unique_chunk block.now) (is_deep_unique_chunk b) (is_chunk_shared b)) }
+    ensures items { IfOk result (λ b. items_value (items_of b) ≡ items_value (items_of chunk.now)) }
+    ensures unique { IfOk result (λ b. HasUniquenessOfMode mode
+        (is_deep_unique_chunk chunk.now) (is_deep_unique_chunk b) (is_chunk_shared b)) }
 {
-    if let Some(block) = clone_chunk_pointer(block, manner)? {
-        return Ok(block);
+    if let Some(chunk) = clone_chunk_pointer(chunk, mode)? {
+        return Ok(chunk);
     }
-    let items = clone_items(alloc, block.items(), manner)?;
-    match manner {
+    let items = clone_items(alloc, chunk.items(), mode)?;
+    match mode {
         CloneMode::Frozen => Chunk::Unique(items).into_frozen(alloc),
         _ => Ok(Chunk::Unique(items)),
     }
 }
 
-// A pointer to the block, where it is shared and a copy may be one.
-fn clone_chunk_pointer<T>(
-    block: &Chunk<T>,
-    manner: CloneMode,
-) -> Result<Option<Chunk<T>>, AllocError>
-    ensures equal { IfOk result (λ o. IfSome o (λ b. items_of b ≡ items_of block.now)) }
+// Clones a shared chunk by pointer, unless the mode is `Unique`.
+fn clone_chunk_pointer<T>(chunk: &Chunk<T>, mode: CloneMode) -> Result<Option<Chunk<T>>, AllocError>
+    ensures equal { IfOk result (λ o. IfSome o (λ b. items_of b ≡ items_of chunk.now)) }
     ensures shared { IfOk result (λ o. IfSome o (λ b. is_chunk_shared b ≡ true)) }
-    ensures was { IfOk result (λ o. IfSome o (λ _. is_chunk_shared block.now ≡ true)) }
-    ensures other { IfOk result (λ o. IfSome o (λ _. manner ≡ Unique → ⊥)) }
-    ensures none { IfOk result (λ o. IfNone o (manner ≡ Preserve → is_chunk_unique block.now ≡ true)) }
+    ensures was { IfOk result (λ o. IfSome o (λ _. is_chunk_shared chunk.now ≡ true)) }
+    ensures other { IfOk result (λ o. IfSome o (λ _. mode ≡ Unique → ⊥)) }
+    ensures none { IfOk result (λ o. IfNone o (mode ≡ Preserve → is_chunk_unique chunk.now ≡ true)) }
 {
-    match manner {
+    match mode {
         CloneMode::Unique => Ok(None),
-        _ => block.clone_shared(),
+        _ => chunk.clone_shared(),
     }
 }
 
 #[cycle(copy)]
-fn clone_items(alloc: Global, items: &[Json], manner: CloneMode) -> Result<Vec<Json>, AllocError>
+fn clone_items(alloc: Global, items: &[Json], mode: CloneMode) -> Result<Vec<Json>, AllocError>
     ensures items { IfOk result (λ v. items_value v.items ≡ items_value items.now) }
-    ensures unique { IfOk result (λ v. HasUniquenessOfMode manner (items_unique items.now)
+    ensures unique { IfOk result (λ v. HasUniquenessOfMode mode (items_unique items.now)
         (items_unique v.items) true) }
 {
     let mut copies = Vec::with_capacity(alloc, items.len())?;
     for item in items {
-        copies.push(copy(alloc, item, manner)?)?;
+        copies.push(copy(alloc, item, mode)?)?;
     }
     Ok(copies)
 }
 
 #[cycle(copy)]
-fn clone_members(alloc: Global, members: &Members, manner: CloneMode) -> Result<Members, AllocError>
+fn clone_members(alloc: Global, members: &Members, mode: CloneMode) -> Result<Members, AllocError>
     ensures members { IfOk result (λ m. object_value m ≡ object_value members.now) }
-    ensures unique { IfOk result (λ m. HasUniquenessOfMode manner (object_unique members.now) (object_unique m)
+    ensures unique { IfOk result (λ m. HasUniquenessOfMode mode (object_unique members.now) (object_unique m)
         (is_shared_map m)) }
 {
-    if let Some(copy) = clone_members_pointer(members, manner)? {
+    if let Some(copy) = clone_members_pointer(members, mode)? {
         return Ok(copy);
     }
-    let inner = chunk_clone_mode(members.chunks(), manner);
+    let inner = chunk_clone_mode(members.chunks(), mode);
     let copies = clone_member_chunks(alloc, members.chunks(), inner)?;
     match inner {
         CloneMode::Frozen => {
@@ -228,17 +227,14 @@ fn clone_members(alloc: Global, members: &Members, manner: CloneMode) -> Result<
     }
 }
 
-// A pointer to the members, where they are shared and a copy may be one.
-fn clone_members_pointer(
-    members: &Members,
-    manner: CloneMode,
-) -> Result<Option<Members>, AllocError>
+// Clones shared members by pointer, unless the mode is `Unique`.
+fn clone_members_pointer(members: &Members, mode: CloneMode) -> Result<Option<Members>, AllocError>
     ensures members { IfOk result (λ o. IfSome o (λ m. object_value m ≡ object_value members.now)) }
     ensures unique { IfOk result (λ o. IfSome o
-        (λ m. HasUniquenessOfMode manner (object_unique members.now) (object_unique m) (is_shared_map m))) }
-    ensures none { IfOk result (λ o. IfNone o (manner ≡ Preserve → is_shared_map members.now ≡ false)) }
+        (λ m. HasUniquenessOfMode mode (object_unique members.now) (object_unique m) (is_shared_map m))) }
+    ensures none { IfOk result (λ o. IfNone o (mode ≡ Preserve → is_shared_map members.now ≡ false)) }
 {
-    match manner {
+    match mode {
         CloneMode::Unique => Ok(None),
         _ => members.clone_shared(),
     }
@@ -248,17 +244,17 @@ fn clone_members_pointer(
 fn clone_member_chunks(
     alloc: Global,
     entries: &ChunkedVec<MapEntry<Json>>,
-    manner: CloneMode,
+    mode: CloneMode,
 ) -> Result<Vec<Chunk<MapEntry<Json>>>, AllocError>
     ensures members { IfOk result (λ v. entries_value (flat_map items_of v.items)
         ≡ entries_value (flat_map items_of (vec_chunks entries.now))) }
-    ensures unique { IfOk result (λ v. HasUniquenessOfMode manner
+    ensures unique { IfOk result (λ v. HasUniquenessOfMode mode
         (are_deep_unique_member_chunks (vec_chunks entries.now)) (are_deep_unique_member_chunks v.items)
         (all_shared v.items)) }
 {
     let mut copies = Vec::new(alloc);
-    for block in entries.chunks() {
-        copies.push(clone_member_chunk(alloc, block, manner)?)?;
+    for chunk in entries.chunks() {
+        copies.push(clone_member_chunk(alloc, chunk, mode)?)?;
     }
     Ok(copies)
 }
@@ -266,18 +262,18 @@ fn clone_member_chunks(
 #[cycle(copy)]
 fn clone_member_chunk(
     alloc: Global,
-    block: &Chunk<MapEntry<Json>>,
-    manner: CloneMode,
+    chunk: &Chunk<MapEntry<Json>>,
+    mode: CloneMode,
 ) -> Result<Chunk<MapEntry<Json>>, AllocError>
-    ensures members { IfOk result (λ b. entries_value (items_of b) ≡ entries_value (items_of block.now)) }
-    ensures unique { IfOk result (λ b. HasUniquenessOfMode manner (is_deep_unique_member_chunk block.now)
+    ensures members { IfOk result (λ b. entries_value (items_of b) ≡ entries_value (items_of chunk.now)) }
+    ensures unique { IfOk result (λ b. HasUniquenessOfMode mode (is_deep_unique_member_chunk chunk.now)
         (is_deep_unique_member_chunk b) (is_chunk_shared b)) }
 {
-    if let Some(block) = clone_chunk_pointer(block, manner)? {
-        return Ok(block);
+    if let Some(chunk) = clone_chunk_pointer(chunk, mode)? {
+        return Ok(chunk);
     }
-    let members = clone_each_member(alloc, block.items(), manner)?;
-    match manner {
+    let members = clone_each_member(alloc, chunk.items(), mode)?;
+    match mode {
         CloneMode::Frozen => Chunk::Unique(members).into_frozen(alloc),
         _ => Ok(Chunk::Unique(members)),
     }
@@ -287,21 +283,21 @@ fn clone_member_chunk(
 fn clone_each_member(
     alloc: Global,
     members: &[MapEntry<Json>],
-    manner: CloneMode,
+    mode: CloneMode,
 ) -> Result<Vec<MapEntry<Json>>, AllocError>
     ensures members { IfOk result (λ v. entries_value v.items ≡ entries_value members.now) }
-    ensures unique { IfOk result (λ v. HasUniquenessOfMode manner (members_unique members.now)
+    ensures unique { IfOk result (λ v. HasUniquenessOfMode mode (members_unique members.now)
         (members_unique v.items) true) }
 {
     let mut copies = Vec::with_capacity(alloc, members.len())?;
     for member in members {
-        let value = copy(alloc, &member.value, manner)?;
+        let value = copy(alloc, &member.value, mode)?;
         copies.push(clone_entry(alloc, &member.key, value)?)?;
     }
     Ok(copies)
 }
 
-// A member of this key and value.
+// Creates a member from a clone of the key and a value.
 fn clone_entry(alloc: Global, key: &MapKey, value: Json) -> Result<MapEntry<Json>, AllocError>
     ensures { IfOk result (λ m. key_value m ≡ (key_bytes key.now, value)) }
 {

@@ -1,4 +1,4 @@
-//! How deep a value nests, and how much there is of it.
+//! Depth and size of values.
 ghost use Rattle.std.specs.Prelude.{◌≡◌, min};
 ghost use Rattle.sdb_value.specs.Size.{size, items_size, members_size};
 ghost use Rattle.sdb_value.specs.Value.{depth, items_depth, members_depth};

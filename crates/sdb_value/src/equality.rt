@@ -1,12 +1,12 @@
-//! Whether values and paths are the same.
+//! Equality of values and paths.
 ghost use Rattle.std.specs.Prelude.{◌≡◌, IsTrue, IsFalse};
 ghost use Rattle.sdb_value.specs.View.{value_of, list_value, object_value, plain_step, plain_path};
 
 use crate::path::Step;
 use crate::value::{Json, List, Members};
 
-/// Whether the values are the same: of one kind, with the same parts, and the members of objects under the
-/// same keys. It walks both as far as they are the same, and takes no memory.
+/// Returns whether the values are equal: of one kind, with equal parts, and members under equal
+/// keys. It stops at the first difference and doesn't allocate.
 pub fn values_equal(a: &Json, b: &Json) -> bool
     ensures on_true { IsTrue result → value_of a.now ≡ value_of b.now }
     ensures on_false { IsFalse result → value_of a.now ≡ value_of b.now → ⊥ }
@@ -86,7 +86,7 @@ fn members_equal(a: &Members, b: &Members) -> bool
     others.next().is_none()
 }
 
-/// Whether the paths are the same, step by step. It takes no memory.
+/// Returns whether the paths are equal step by step. It doesn't allocate.
 pub fn paths_equal(a: &[Step], b: &[Step]) -> bool
     ensures on_true { IsTrue result → plain_path a.now ≡ plain_path b.now }
     ensures on_false { IsFalse result → plain_path a.now ≡ plain_path b.now → ⊥ }

@@ -1,4 +1,4 @@
-//! Values made shared in place.
+//! Freezing of values in place.
 ghost use Rattle.std.specs.Prelude.{◌≡◌, true, OnOk};
 ghost use Rattle.std.specs.List.{flat_map};
 ghost use Rattle.sdb_chunks.specs.Chunk.{items_of, is_chunk_shared};
@@ -14,7 +14,7 @@ use sdb_sorted_map::MapEntry;
 use std::alloc::{AllocError, Global};
 use std::mem::replace;
 
-// Makes all of a value shared: what is shared already is left as it is, and what is in it isn't looked at.
+// Freezes a value. Frozen parts are skipped.
 #[cycle(freeze_value)]
 #[inline(always)]
 pub(crate) fn freeze_value(alloc: Global, value: &mut Json) -> Result<(), AllocError>
@@ -27,7 +27,7 @@ pub(crate) fn freeze_value(alloc: Global, value: &mut Json) -> Result<(), AllocE
     freeze_list_parts(alloc, value)
 }
 
-// Makes each part shared, and then the value.
+// Freezes the parts, and then the value.
 #[cycle(freeze_value)]
 #[tactic(auto, using(crate::proofs::FreezeLemmas::levels))]
 fn freeze_list_parts(alloc: Global, value: &mut Json) -> Result<(), AllocError>
@@ -44,7 +44,7 @@ fn freeze_list_parts(alloc: Global, value: &mut Json) -> Result<(), AllocError>
     }
 }
 
-// Whether a copy of it is a pointer already, or as little.
+// Returns whether a clone is a pointer or as cheap.
 #[inline(always)]
 fn is_frozen(value: &Json) -> bool
     ensures { result ≡ is_frozen value.now }
@@ -62,34 +62,34 @@ fn freeze_list(alloc: Global, items: &mut List) -> Result<(), AllocError>
     ensures items { list_value items.new ≡ list_value items.old }
     ensures shared { OnOk result (is_shared_vec items.new ≡ true) }
 {
-    let mut form = replace(items, ChunkedVec::from_vec(Vec::new(alloc))).into_repr();
-    let done = freeze_list_repr(alloc, &mut form);
-    *items = ChunkedVec::from_repr(form);
+    let mut repr = replace(items, ChunkedVec::from_vec(Vec::new(alloc))).into_repr();
+    let done = freeze_list_repr(alloc, &mut repr);
+    *items = ChunkedVec::from_repr(repr);
     done
 }
 
 #[cycle(freeze_value)]
-fn freeze_list_repr(alloc: Global, form: &mut Repr<Json>) -> Result<(), AllocError>
-    ensures items { repr_value form.new ≡ repr_value form.old }
-    ensures shared { OnOk result (is_shared_repr form.new ≡ true) }
+fn freeze_list_repr(alloc: Global, repr: &mut Repr<Json>) -> Result<(), AllocError>
+    ensures items { repr_value repr.new ≡ repr_value repr.old }
+    ensures shared { OnOk result (is_shared_repr repr.new ≡ true) }
 {
-    freeze_unique_chunks(alloc, form)?;
-    form.freeze(alloc)
+    freeze_unique_chunks(alloc, repr)?;
+    repr.freeze(alloc)
 }
 
-// Makes what the list consists of shared, where the list isn't yet.
+// Freezes the parts of a list that isn't frozen.
 #[cycle(freeze_value)]
-fn freeze_unique_chunks(alloc: Global, form: &mut Repr<Json>) -> Result<(), AllocError>
-    ensures { repr_value form.new ≡ repr_value form.old }
+fn freeze_unique_chunks(alloc: Global, repr: &mut Repr<Json>) -> Result<(), AllocError>
+    ensures { repr_value repr.new ≡ repr_value repr.old }
 {
-    match form {
-        Repr::Flat(block) => freeze_unique_items(alloc, block),
-        Repr::Chunks(blocks) => freeze_unique_group_chunks(alloc, blocks),
+    match repr {
+        Repr::Flat(chunk) => freeze_unique_items(alloc, chunk),
+        Repr::Chunks(chunks) => freeze_unique_group_chunks(alloc, chunks),
         Repr::Groups(groups) => freeze_unique_groups(alloc, groups),
     }
 }
 
-// Makes the blocks of each group shared, where the list of the groups isn't yet.
+// Freezes the chunks of each group, unless the list of groups is shared.
 #[cycle(freeze_value)]
 fn freeze_unique_groups(
     alloc: Global,
@@ -115,7 +115,7 @@ fn freeze_each_group(alloc: Global, groups: &mut Vec<ChunkGroup<Json>>) -> Resul
     Ok(())
 }
 
-// Makes each block of a group shared, where the group isn't yet.
+// Freezes the chunks of a group, unless the group is shared.
 #[cycle(freeze_value)]
 fn freeze_group(alloc: Global, group: &mut ChunkGroup<Json>) -> Result<(), AllocError>
     ensures { items_value (items_of_group group.new) ≡ items_value (items_of_group group.old) }
@@ -124,52 +124,52 @@ fn freeze_group(alloc: Global, group: &mut ChunkGroup<Json>) -> Result<(), Alloc
         return Ok(());
     }
     let empty = ChunkGroup::new(Chunk::Unique(Vec::new(alloc)));
-    let mut blocks = replace(group, empty).into_chunks();
-    let done = freeze_unique_group_chunks(alloc, &mut blocks);
-    *group = ChunkGroup::new(blocks);
+    let mut chunks = replace(group, empty).into_chunks();
+    let done = freeze_unique_group_chunks(alloc, &mut chunks);
+    *group = ChunkGroup::new(chunks);
     done
 }
 
-// Makes each block shared, where the list of them isn't yet.
+// Freezes each chunk, unless the list of chunks is shared.
 #[cycle(freeze_value)]
 fn freeze_unique_group_chunks(
     alloc: Global,
-    blocks: &mut Chunk<Chunk<Json>>,
+    chunks: &mut Chunk<Chunk<Json>>,
 ) -> Result<(), AllocError>
-    ensures { items_value (flat_map items_of (items_of blocks.new))
-        ≡ items_value (flat_map items_of (items_of blocks.old)) }
+    ensures { items_value (flat_map items_of (items_of chunks.new))
+        ≡ items_value (flat_map items_of (items_of chunks.old)) }
 {
-    match blocks {
-        Chunk::Unique(blocks) => freeze_each_chunk(alloc, blocks),
+    match chunks {
+        Chunk::Unique(chunks) => freeze_each_chunk(alloc, chunks),
         Chunk::Shared(_) => Ok(()),
     }
 }
 
 #[cycle(freeze_value)]
-fn freeze_each_chunk(alloc: Global, blocks: &mut Vec<Chunk<Json>>) -> Result<(), AllocError>
-    ensures { items_value (flat_map items_of blocks.new.items) ≡ items_value (flat_map items_of blocks.old.items) }
+fn freeze_each_chunk(alloc: Global, chunks: &mut Vec<Chunk<Json>>) -> Result<(), AllocError>
+    ensures { items_value (flat_map items_of chunks.new.items) ≡ items_value (flat_map items_of chunks.old.items) }
 {
-    for at in 0..blocks.len() {
-        freeze_chunk(alloc, &mut blocks[at])?;
+    for at in 0..chunks.len() {
+        freeze_chunk(alloc, &mut chunks[at])?;
     }
     Ok(())
 }
 
 #[cycle(freeze_value)]
-fn freeze_chunk(alloc: Global, block: &mut Chunk<Json>) -> Result<(), AllocError>
-    ensures items { items_value (items_of block.new) ≡ items_value (items_of block.old) }
-    ensures shared { OnOk result (is_chunk_shared block.new ≡ true) }
+fn freeze_chunk(alloc: Global, chunk: &mut Chunk<Json>) -> Result<(), AllocError>
+    ensures items { items_value (items_of chunk.new) ≡ items_value (items_of chunk.old) }
+    ensures shared { OnOk result (is_chunk_shared chunk.new ≡ true) }
 {
-    freeze_unique_items(alloc, block)?;
-    block.freeze(alloc)
+    freeze_unique_items(alloc, chunk)?;
+    chunk.freeze(alloc)
 }
 
-// Makes each item shared, where the block isn't yet.
+// Freezes each item, unless the chunk is shared.
 #[cycle(freeze_value)]
-fn freeze_unique_items(alloc: Global, block: &mut Chunk<Json>) -> Result<(), AllocError>
-    ensures { items_value (items_of block.new) ≡ items_value (items_of block.old) }
+fn freeze_unique_items(alloc: Global, chunk: &mut Chunk<Json>) -> Result<(), AllocError>
+    ensures { items_value (items_of chunk.new) ≡ items_value (items_of chunk.old) }
 {
-    match block {
+    match chunk {
         Chunk::Unique(items) => freeze_each_item(alloc, items),
         Chunk::Shared(_) => Ok(()),
     }
@@ -190,39 +190,39 @@ fn freeze_members(alloc: Global, members: &mut Members) -> Result<(), AllocError
     ensures members_unchanged { object_value members.new ≡ object_value members.old }
     ensures shared { OnOk result (is_shared_map members.new ≡ true) }
 {
-    let mut form = replace(members, Members::new(alloc))
+    let mut repr = replace(members, Members::new(alloc))
         .into_chunks()
         .into_repr();
-    let done = freeze_member_repr(alloc, &mut form);
-    *members = Members::from_entries(ChunkedVec::from_repr(form));
+    let done = freeze_member_repr(alloc, &mut repr);
+    *members = Members::from_entries(ChunkedVec::from_repr(repr));
     done
 }
 
 #[cycle(freeze_value)]
-fn freeze_member_repr(alloc: Global, form: &mut Repr<MapEntry<Json>>) -> Result<(), AllocError>
-    ensures members { member_repr_value form.new ≡ member_repr_value form.old }
-    ensures shared { OnOk result (is_shared_repr form.new ≡ true) }
+fn freeze_member_repr(alloc: Global, repr: &mut Repr<MapEntry<Json>>) -> Result<(), AllocError>
+    ensures members { member_repr_value repr.new ≡ member_repr_value repr.old }
+    ensures shared { OnOk result (is_shared_repr repr.new ≡ true) }
 {
-    freeze_unique_member_chunks(alloc, form)?;
-    form.freeze(alloc)
+    freeze_unique_member_chunks(alloc, repr)?;
+    repr.freeze(alloc)
 }
 
-// Makes what the members consist of shared, where the list of them isn't yet.
+// Freezes the parts of members that aren't frozen.
 #[cycle(freeze_value)]
 fn freeze_unique_member_chunks(
     alloc: Global,
-    form: &mut Repr<MapEntry<Json>>,
+    repr: &mut Repr<MapEntry<Json>>,
 ) -> Result<(), AllocError>
-    ensures { member_repr_value form.new ≡ member_repr_value form.old }
+    ensures { member_repr_value repr.new ≡ member_repr_value repr.old }
 {
-    match form {
-        Repr::Flat(block) => freeze_unique_members(alloc, block),
-        Repr::Chunks(blocks) => freeze_unique_member_group_chunks(alloc, blocks),
+    match repr {
+        Repr::Flat(chunk) => freeze_unique_members(alloc, chunk),
+        Repr::Chunks(chunks) => freeze_unique_member_group_chunks(alloc, chunks),
         Repr::Groups(groups) => freeze_unique_member_groups(alloc, groups),
     }
 }
 
-// Makes the blocks of each group shared, where the list of the groups isn't yet.
+// Freezes the chunks of each group, unless the list of groups is shared.
 #[cycle(freeze_value)]
 fn freeze_unique_member_groups(
     alloc: Global,
@@ -251,7 +251,7 @@ fn freeze_each_member_group(
     Ok(())
 }
 
-// Makes each block of a group shared, where the group isn't yet.
+// Freezes the chunks of a group, unless the group is shared.
 #[cycle(freeze_value)]
 fn freeze_member_group(
     alloc: Global,
@@ -263,23 +263,23 @@ fn freeze_member_group(
         return Ok(());
     }
     let empty = ChunkGroup::new(Chunk::Unique(Vec::new(alloc)));
-    let mut blocks = replace(group, empty).into_chunks();
-    let done = freeze_unique_member_group_chunks(alloc, &mut blocks);
-    *group = ChunkGroup::new(blocks);
+    let mut chunks = replace(group, empty).into_chunks();
+    let done = freeze_unique_member_group_chunks(alloc, &mut chunks);
+    *group = ChunkGroup::new(chunks);
     done
 }
 
-// Makes each block shared, where the list of them isn't yet.
+// Freezes each chunk, unless the list of chunks is shared.
 #[cycle(freeze_value)]
 fn freeze_unique_member_group_chunks(
     alloc: Global,
-    blocks: &mut Chunk<Chunk<MapEntry<Json>>>,
+    chunks: &mut Chunk<Chunk<MapEntry<Json>>>,
 ) -> Result<(), AllocError>
-    ensures { entries_value (flat_map items_of (items_of blocks.new))
-        ≡ entries_value (flat_map items_of (items_of blocks.old)) }
+    ensures { entries_value (flat_map items_of (items_of chunks.new))
+        ≡ entries_value (flat_map items_of (items_of chunks.old)) }
 {
-    match blocks {
-        Chunk::Unique(blocks) => freeze_each_member_chunk(alloc, blocks),
+    match chunks {
+        Chunk::Unique(chunks) => freeze_each_member_chunk(alloc, chunks),
         Chunk::Shared(_) => Ok(()),
     }
 }
@@ -287,31 +287,31 @@ fn freeze_unique_member_group_chunks(
 #[cycle(freeze_value)]
 fn freeze_each_member_chunk(
     alloc: Global,
-    blocks: &mut Vec<Chunk<MapEntry<Json>>>,
+    chunks: &mut Vec<Chunk<MapEntry<Json>>>,
 ) -> Result<(), AllocError>
-    ensures { entries_value (flat_map items_of blocks.new.items) ≡ entries_value (flat_map items_of blocks.old.items) }
+    ensures { entries_value (flat_map items_of chunks.new.items) ≡ entries_value (flat_map items_of chunks.old.items) }
 {
-    for at in 0..blocks.len() {
-        freeze_member_chunk(alloc, &mut blocks[at])?;
+    for at in 0..chunks.len() {
+        freeze_member_chunk(alloc, &mut chunks[at])?;
     }
     Ok(())
 }
 
 #[cycle(freeze_value)]
-fn freeze_member_chunk(alloc: Global, block: &mut Chunk<MapEntry<Json>>) -> Result<(), AllocError>
-    ensures members { entries_value (items_of block.new) ≡ entries_value (items_of block.old) }
-    ensures shared { OnOk result (is_chunk_shared block.new ≡ true) }
+fn freeze_member_chunk(alloc: Global, chunk: &mut Chunk<MapEntry<Json>>) -> Result<(), AllocError>
+    ensures members { entries_value (items_of chunk.new) ≡ entries_value (items_of chunk.old) }
+    ensures shared { OnOk result (is_chunk_shared chunk.new ≡ true) }
 {
-    freeze_unique_members(alloc, block)?;
-    block.freeze(alloc)
+    freeze_unique_members(alloc, chunk)?;
+    chunk.freeze(alloc)
 }
 
-// Makes each value shared, where the block isn't yet.
+// Freezes each value, unless the chunk is shared.
 #[cycle(freeze_value)]
-fn freeze_unique_members(alloc: Global, block: &mut Chunk<MapEntry<Json>>) -> Result<(), AllocError>
-    ensures { entries_value (items_of block.new) ≡ entries_value (items_of block.old) }
+fn freeze_unique_members(alloc: Global, chunk: &mut Chunk<MapEntry<Json>>) -> Result<(), AllocError>
+    ensures { entries_value (items_of chunk.new) ≡ entries_value (items_of chunk.old) }
 {
-    match block {
+    match chunk {
         Chunk::Unique(members) => freeze_each_value(alloc, members),
         Chunk::Shared(_) => Ok(()),
     }

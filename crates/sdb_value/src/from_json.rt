@@ -1,4 +1,4 @@
-//! From JSON that is read.
+//! Values from parsed JSON.
 ghost use Rattle.std.specs.Prelude.{◌≡◌, ◌≤◌, ◌++◌, ◌∷◌, [], map, true, Some, None, IfOk, IfErr, OnOk};
 ghost use Rattle.sdb_value.specs.Value.{depth, items_depth, members_depth};
 ghost use Rattle.sdb_value.specs.Uniqueness.{is_unique, items_unique, object_unique};
@@ -20,16 +20,16 @@ use std::alloc::{AllocError, Global};
 use std::collections::BTreeMap;
 use thiserror::Error;
 
-/// Why a value is none of the profile.
+/// The reason why a JSON value isn't in the profile.
 #[derive(Debug, Drop, Error)]
 pub enum ValueFault {
-    /// A number has a point or an exponent, or is past 9007199254740991 in size: E3.
+    /// A number has a fraction or an exponent, or exceeds 9007199254740991 in size (E3).
     #[error("a number is not whole or too large")]
     NumberOutOfRange,
-    /// Lists and objects nest more than 50 deep: E3.
+    /// Lists and objects are nested more than 50 deep (E3).
     #[error("a value nests too deep")]
     TooDeep,
-    /// A growth was refused: E10.
+    /// An allocation failed (E10).
     #[error("out of memory")]
     OutOfMemory,
 }
@@ -44,9 +44,13 @@ impl From<AllocError> for ValueFault {
     }
 }
 
-/// The value of the profile that a JSON value is: each number whole, from -9007199254740991 to
-/// 9007199254740991, and lists and objects at most 50 deep. Where more than one thing is outside the
-/// profile, the error names the one that is met first.
+/// Converts a JSON value to a value of the profile: integers from -9007199254740991 to
+/// 9007199254740991, and lists and objects at most 50 deep. The result is unique.
+///
+/// # Errors
+///
+/// [`ValueFault::NumberOutOfRange`] or [`ValueFault::TooDeep`], the one that is found first, or
+/// [`ValueFault::OutOfMemory`] if an allocation fails.
 pub fn from_value<D: JsonData>(alloc: Global, value: &D) -> Result<Json, ValueFault>
     ensures ok { IfOk result (λ j. bounded_value_of_data (D.json value.now) ≡ Some (value_of j)) }
     ensures err { IfErr result (λ f. FaultMeansNone (bounded_value_of_data (D.json value.now)) f) }
@@ -78,7 +82,7 @@ fn read_value<D: JsonData>(alloc: Global, value: &D, left: u64) -> Result<Json, 
     read_leaf(alloc, value)
 }
 
-// Of what is neither an array nor an object.
+// Converts a value that is neither an array nor an object.
 fn read_leaf<D: JsonData>(alloc: Global, value: &D) -> Result<Json, ValueFault>
     requires no_list { as_array (D.json value.now) ≡ None }
     requires no_object { as_object (D.json value.now) ≡ None }
@@ -137,7 +141,7 @@ fn read_members<D: JsonData>(
     Ok(Members::from_sorted(alloc, entries)?)
 }
 
-// One more member, of this key and value.
+// Appends a member with this key and value.
 fn push_object_member(
     alloc: Global,
     entries: &mut Vec<MapEntry<Json>>,

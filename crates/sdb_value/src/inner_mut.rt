@@ -1,4 +1,4 @@
-//! The inside of a value, lent for a change.
+//! Mutable borrows of a value's inside.
 ghost use Rattle.std.specs.Prelude.{◌≡◌, option_map, IfSome};
 ghost use Rattle.std.specs.Option.{OnSome};
 ghost use Rattle.std.specs.Borrow.{LendsSo, sem};
@@ -11,7 +11,8 @@ ghost use Rattle.sdb_value.specs.View.{value_of, object_value, list_value};
 use crate::value::{Json, List, Members};
 use sdb_rope::Rope;
 
-/// The text, or `None` where the value is no text. What is left in it is the text afterwards.
+/// Borrows the text, or returns `None` for another kind of value. A change through the borrow
+/// changes the value.
 #[tactic(auto, using(crate::proofs::UniquenessLemmas::owned_text))]
 pub fn text_mut(value: &mut Json) -> Option<&mut Rope>
     ensures* writes_back { sem 𝓛 (LendsSo json_row text_row value.entry result
@@ -27,7 +28,8 @@ pub fn text_mut(value: &mut Json) -> Option<&mut Rope>
     }
 }
 
-/// The list, or `None` where the value is no list. What is left in it is the list afterwards.
+/// Borrows the list, or returns `None` for another kind of value. A change through the borrow
+/// changes the value.
 #[tactic(auto, using(crate::proofs::ViewLemmas::seen_list, crate::proofs::UniquenessLemmas::owned_list))]
 pub fn list_mut(value: &mut Json) -> Option<&mut List>
     ensures* writes_back { sem 𝓛 (LendsSo json_row list_row value.entry result
@@ -43,7 +45,8 @@ pub fn list_mut(value: &mut Json) -> Option<&mut List>
     }
 }
 
-/// The object, or `None` where the value is no object. What is left in it is the value afterwards.
+/// Borrows the object, or returns `None` for another kind of value. A change through the borrow
+/// changes the value.
 #[tactic(auto, using(crate::proofs::ViewLemmas::seen_object, crate::proofs::UniquenessLemmas::owned_object))]
 pub fn object_mut(value: &mut Json) -> Option<&mut Members>
     ensures* writes_back { sem 𝓛 (LendsSo json_row members_row value.entry result

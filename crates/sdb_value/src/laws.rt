@@ -1,5 +1,4 @@
-//! What holds of every value, proved of all that a `Json` can be, and of the places in values. The
-//! functions do nothing.
+//! Laws of values and of paths in them, as contracts of functions without effect.
 ghost use Rattle.std.specs.Str.{IsUtf8};
 ghost use Rattle.sdb_value.specs.Disjoint.{DisjointPathsCommute, DisjointStepsCommute, TextEqualityIsExact, StepEqualityIsExact};
 ghost use Rattle.sdb_value.specs.View.{value_of, list_value, object_value};
@@ -8,8 +7,8 @@ ghost use Rattle.sdb_value.specs.WellFormed.{IsInRange, IsWellFormed, AreWellFor
 use crate::value::{Json, List, Members, Whole};
 use sdb_rope::laws::text_is_utf8;
 
-/// The numbers of a value are in range, its texts and keys UTF-8, and the keys of each object in it
-/// ascend by their bytes, so that each is there once.
+/// States that the numbers of a value are in range, its texts and keys are UTF-8, and the keys of
+/// each object are sorted by bytes and unique.
 pub fn well_formed(value: &Json)
     ensures { IsWellFormed (value_of value.now) }
 {
@@ -49,18 +48,18 @@ fn members_well_formed(members: &Members)
     }
 }
 
-/// Changes of two places, neither of whose paths begins with the other: what stands at the one is as
-/// it was after the other was written, and both orders make one value.
+/// States that changes at two disjoint paths commute: neither changes the value at the other path,
+/// and both orders make one value.
 pub fn disjoint_paths_commute()
     ensures { DisjointPathsCommute }
 {}
 
-/// The same of two steps from one value.
+/// States that changes at two different steps of one value commute.
 pub fn disjoint_steps_commute()
     ensures { DisjointStepsCommute }
 {}
 
-/// Texts and steps are the same where they compare the same, and only there.
+/// States that texts and steps are equal if and only if their comparison succeeds.
 pub fn equality_is_exact()
     ensures texts { TextEqualityIsExact }
     ensures steps { StepEqualityIsExact }

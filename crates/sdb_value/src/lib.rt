@@ -1,4 +1,4 @@
-//! JSON values of whole numbers, the places in them, and texts measured in UTF-16 units.
+//! JSON values with integers, paths in them, and texts measured in UTF-16 code units.
 #![tactic(auto)]
 
 mod clone_modes;

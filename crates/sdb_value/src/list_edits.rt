@@ -18,9 +18,12 @@ pub(crate) fn push_item(items: &mut Vec<Json>, new: Json) -> Result<(), AllocErr
     Ok(())
 }
 
-/// Puts an item at the index, from 0 to the length, before those from there on. `false`, with the
-/// list unchanged, where the index is past the length, and `Err`, with the list unchanged, where memory is
-/// wanting.
+/// Inserts an item at an index from 0 to the length. Returns `false`, with the list unchanged, if
+/// the index is greater.
+///
+/// # Errors
+///
+/// [`AllocError`] if an allocation fails. The list is then unchanged.
 pub fn insert_item(
     alloc: Global,
     items: &mut List,
@@ -35,9 +38,12 @@ pub fn insert_item(
     items.insert(alloc, index as usize, new)
 }
 
-/// Takes the item at the index, below the length, out, and moves those behind it up. `false`, with
-/// the list unchanged, where there is none. It takes memory only where something of the list is shared; after
-/// want of memory the list is unchanged.
+/// Removes the item at an index. Returns `false`, with the list unchanged, if the index is out of
+/// range. It allocates only if a part of the list is shared.
+///
+/// # Errors
+///
+/// [`AllocError`] if an allocation fails. The list is then unchanged.
 pub fn remove_item(alloc: Global, items: &mut List, index: u64) -> Result<bool, AllocError>
     ensures ok { IfOk result (λ done. EditOutcome done
         (remove_item index (list_value items.old)) (list_value items.old) (list_value items.new)) }
@@ -48,16 +54,19 @@ pub fn remove_item(alloc: Global, items: &mut List, index: u64) -> Result<bool, 
     Ok(is_some(items.remove(alloc, index as usize)?))
 }
 
-// Whether there was an item, which is let go.
+// Returns whether there was an item, which is dropped.
 fn is_some(item: Option<Json>) -> bool
     ensures { result ≡ is_some item }
 {
     item.is_some()
 }
 
-/// Puts another value in the place of the item at the index, below the length. `false`, with the
-/// list unchanged, where there is none. It takes memory only where the item's part of the list is shared; after
-/// want of memory the list is unchanged.
+/// Replaces the item at an index. Returns `false`, with the list unchanged, if the index is out of
+/// range. It allocates only if the item's part of the list is shared.
+///
+/// # Errors
+///
+/// [`AllocError`] if an allocation fails. The list is then unchanged.
 pub fn replace_item(
     alloc: Global,
     items: &mut List,
@@ -73,8 +82,8 @@ pub fn replace_item(
     Ok(is_some(items.replace(alloc, index as usize, new)?))
 }
 
-// Takes the item at the index out, to be changed and put back: null stands in its place then, and its part of
-// the list is the list's own. `None` where there is none.
+// Takes the item at the index out for a change, leaving null, and makes its part of the list
+// unique. Returns `None` if the index is out of range.
 pub(crate) fn take_list_item(
     alloc: Global,
     items: &mut List,
@@ -92,8 +101,7 @@ pub(crate) fn take_list_item(
     items.replace(alloc, index as usize, Json::Null)
 }
 
-// Puts a value in the place of the item at the index, where its part of the list is the list's own: that takes
-// no memory.
+// Puts a value back at the index. Its part of the list is unique, so this doesn't allocate.
 pub(crate) fn put_item_back(alloc: Global, items: &mut List, index: u64, item: Json)
     requires { is_unique_vec_at items.old index ≡ true }
     ensures items { list_value items.new ≡ set_item index (list_value items.old) (value_of item) }

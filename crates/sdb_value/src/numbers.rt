@@ -1,4 +1,4 @@
-//! Whole numbers as JSON has them.
+//! Integers in JSON.
 ghost use Rattle.std.specs.Prelude.{◌≡◌};
 ghost use Rattle.sdb_value.specs.FromJson.{count_of, whole_of};
 ghost use Rattle.serde_json.specs.View.{number_view};
@@ -7,12 +7,12 @@ use crate::value::Whole;
 use sdb_json::JsonData;
 use serde_json::Number;
 
-/// The greatest number of the profile: integers to this size a double holds without loss (RFC 8259,
+/// The greatest number of the profile: a double holds integers up to this size exactly (RFC 8259,
 /// section 6).
 pub const MAX: u64 = 9007199254740991;
 
-/// The whole number from -9007199254740991 to 9007199254740991 that a JSON number is, or `None`
-/// where it has a point or an exponent, or is past them.
+/// Returns the integer of a JSON number, or `None` if it has a fraction or an exponent, or is
+/// outside the range from -9007199254740991 to 9007199254740991.
 pub fn whole_of(number: &Number) -> Option<Whole>
     ensures { result ≡ whole_of (number_view number.now) }
 {
@@ -23,8 +23,7 @@ pub fn whole_of(number: &Number) -> Option<Whole>
     Whole::new(n as i64)
 }
 
-/// The whole number from 0 to 9007199254740991 that a JSON value is, or `None` where it is another
-/// number or no number.
+/// Returns the integer of a JSON value, or `None` if it is no integer from 0 to 9007199254740991.
 pub fn count_of<D: JsonData>(value: &D) -> Option<u64>
     ensures { result ≡ count_of (D.json value.now) }
 {

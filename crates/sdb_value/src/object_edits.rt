@@ -13,8 +13,12 @@ use sdb_chunks::ChunkedVec;
 use sdb_sorted_map::{MapEntry, MapKey};
 use std::alloc::{AllocError, Global};
 
-/// Gives the key of an object this value, whether it was there before or not. `Err`, with the object unchanged,
-/// where memory is wanting: the key is new, or something of the list of members is shared.
+/// Sets the value of a key, present or not. It allocates only if the key is new or a part of the
+/// members is shared.
+///
+/// # Errors
+///
+/// [`AllocError`] if an allocation fails. The object is then unchanged.
 pub fn put_at_key(
     alloc: Global,
     members: &mut Members,
@@ -32,8 +36,11 @@ pub fn put_at_key(
     Ok(())
 }
 
-/// Takes the key and its value out of an object, if it is there. Else the object is unchanged. It takes memory only
-/// where something of the list of members is shared; after want of memory the object is unchanged.
+/// Removes a key and its value, if present. It allocates only if a part of the members is shared.
+///
+/// # Errors
+///
+/// [`AllocError`] if an allocation fails. The object is then unchanged.
 pub fn remove_at_key(alloc: Global, members: &mut Members, key: &str) -> Result<(), AllocError>
     ensures ok { OnOk result (object_value members.new ≡ without_member key.now (object_value members.old)) }
     ensures err { OnErr result (object_value members.new ≡ object_value members.old) }
@@ -45,7 +52,8 @@ pub fn remove_at_key(alloc: Global, members: &mut Members, key: &str) -> Result<
     Ok(())
 }
 
-// Takes the member at an index out of the list's own memory, to be put back: one without a key stands in its place.
+// Takes the member at an index out for a change, leaving one without a key, and makes its part
+// unique.
 pub(crate) fn take_member(
     alloc: Global,
     entries: &mut ChunkedVec<MapEntry<Json>>,
@@ -73,7 +81,7 @@ pub(crate) fn take_member(
     entries.replace(alloc, index, spare)
 }
 
-// Puts the member back, or another. Nothing of what it replaces is needed.
+// Puts a member back at an index; the one there is dropped.
 pub(crate) fn put_member_back(
     alloc: Global,
     entries: &mut ChunkedVec<MapEntry<Json>>,

@@ -1,4 +1,4 @@
-//! Places in a value.
+//! Paths in a value.
 ghost use Rattle.std.specs.Prelude.{◌≡◌, ◌∷◌, true, false, option_map, IfOk, IfSome, OnErr, MatchOption};
 ghost use Rattle.sdb_value.specs.Change.{ReplacedAt, AbsentAt};
 ghost use Rattle.sdb_sorted_map.specs.SearchModel.{vec_keys};
@@ -15,20 +15,20 @@ use sdb_sorted_map::MapEntry;
 use std::alloc::{AllocError, Global};
 use std::mem::replace;
 
-/// One step down: into a member of an object, or an item of a list.
+/// A step of a path: to a member of an object or an item of a list.
 #[derive(PartialEq, Drop)]
 pub enum Step {
-    /// The member of this key.
+    /// The member with this key.
     Key(String),
-    /// The item of this index, the first being 0.
+    /// The item at this index, from 0 on.
     Index(u64),
 }
 
-/// Steps from the root down.
+/// The steps from the root of a document.
 pub type Path = Vec<Step>;
 
-/// The value at the path. `None` where a key is missing, an index is out of range, or a step meets
-/// another kind of value.
+/// Returns the value at a path. Returns `None` if a key is missing, an index is out of range, or a
+/// step meets another kind of value.
 pub fn find<'v>(value: &'v Json, path: &[Step]) -> Option<&'v Json>
     ensures { option_map (λ v. value_of v.now) result ≡ value_at (value_of value.now) (plain_path path.now) }
 {
@@ -38,8 +38,8 @@ pub fn find<'v>(value: &'v Json, path: &[Step]) -> Option<&'v Json>
     }
 }
 
-/// The value at the path, to be changed, where nothing on the way is shared; `None` also where something is.
-/// What a change through it makes of the whole value is promised by [`change_at`] alone.
+/// Borrows the value at a path mutably, if no part on the path is shared; `None` otherwise. Only
+/// [`change_at`] states the effect of a change on the whole value.
 #[tactic(auto, using(crate::proofs::UniquenessLemmas::levels))]
 pub fn find_mut<'v>(value: &'v mut Json, path: &[Step]) -> Option<&'v mut Json>
     ensures { is_unique value.old ≡ true
@@ -54,7 +54,7 @@ pub fn find_mut<'v>(value: &'v mut Json, path: &[Step]) -> Option<&'v mut Json>
     }
 }
 
-// The member or the item that one step leads to.
+// Returns the member or the item of one step.
 #[tactic(auto, using(crate::proofs::ViewLemmas::seen_list, crate::proofs::ViewLemmas::seen_object))]
 fn child_at<'v>(value: &'v Json, step: &Step) -> Option<&'v Json>
     ensures { option_map (λ v. value_of v.now) result ≡ child (plain_step step.now) (value_of value.now) }
@@ -84,7 +84,7 @@ fn member<'v>(members: &'v Members, name: &str) -> Option<&'v Json>
     members.get(name)
 }
 
-// The item at an index, where it is the list's own.
+// Borrows the item at an index, if it is unique.
 fn item_mut(items: &mut List, number: u64) -> Option<&mut Json>
     ensures value { list_unique items.old ≡ true
         → option_map (λ v. value_of v.now) result ≡ item_at number (list_value items.old) }
@@ -93,7 +93,7 @@ fn item_mut(items: &mut List, number: u64) -> Option<&mut Json>
     items.get_mut(number as usize)
 }
 
-// The value of a key, where it is the object's own.
+// Borrows the value of a key, if it is unique.
 fn member_mut<'v>(members: &'v mut Members, name: &str) -> Option<&'v mut Json>
     ensures value { object_unique members.old ≡ true
         → option_map (λ v. value_of v.now) result ≡ member_at name.now (object_value members.old) }
@@ -102,32 +102,37 @@ fn member_mut<'v>(members: &'v mut Members, name: &str) -> Option<&'v mut Json>
     members.get_mut(name)
 }
 
-/// What is done to the value at a place.
+/// A change of the value at a path.
 pub trait Change {
-    /// What the change answers.
+    /// The result of the change.
     type Output;
 
-    // `relation self before after output`: from the value before, the change leaves the one after.
+    // `relation self before after output`: how the change relates the values before and after, and
+    // its output.
     ghost relation: { Self → Value → Value → Self.Output → Type 0 };
 
-    // that it leaves what is its owner's own so
+    // whether the change leaves a unique value unique
     ghost keeps_unique: { Self → Type 0 };
 
-    // what holds of the output where the value before was its owner's own
+    // a fact about the output if the value was unique
     ghost result_unique: { Self → Self.Output → Type 0 };
 
     /// Changes the value in place.
-    fn change(self, place: &mut Json) -> Self::Output
-        ensures made { relation self (value_of place.old) (value_of place.new) result }
-        ensures unique { keeps_unique self → is_unique place.old ≡ true → is_unique place.new ≡ true }
-        ensures result_unique { is_unique place.old ≡ true → result_unique self result };
+    fn change(self, target: &mut Json) -> Self::Output
+        ensures made { relation self (value_of target.old) (value_of target.new) result }
+        ensures unique { keeps_unique self → is_unique target.old ≡ true → is_unique target.new ≡ true }
+        ensures result_unique { is_unique target.old ≡ true → result_unique self result };
 }
 
-/// Does the change at the path's place, and leaves all else as it is. What is shared on the way becomes the
-/// value's own, for which its parts there are copied; where nothing is, nothing is copied, and no memory taken.
+/// Applies a change to the value at a path, and leaves all other parts unchanged. Shared parts on
+/// the path are copied. If no part on it is shared, it copies nothing and doesn't allocate.
 ///
-/// `None`, with the value unchanged, where a key is missing, an index is out of range, or a step
-/// meets another kind of value. After want of memory the value is unchanged.
+/// Returns `None`, with the value unchanged, if a key is missing, an index is out of range, or a
+/// step meets another kind of value.
+///
+/// # Errors
+///
+/// [`AllocError`] if an allocation fails. The value is then unchanged.
 #[cycle(change)]
 pub fn change_at<C: Change + Drop>(
     alloc: Global,
@@ -160,8 +165,8 @@ pub fn change_at<C: Change + Drop>(
     }
 }
 
-// The change below an item of a list. The item is taken out for it and put back, since what a list in pieces
-// lends carries no promise.
+// Applies the change inside an item. The item is taken out and put back, since the toolchain keeps
+// no promise for a borrow from a chunked list.
 #[cycle(change)]
 fn change_item<C: Change + Drop>(
     alloc: Global,
@@ -188,7 +193,7 @@ fn change_item<C: Change + Drop>(
     done
 }
 
-// The change below a member of an object.
+// Applies the change inside a member.
 #[cycle(change)]
 fn change_member<C: Change + Drop>(
     alloc: Global,
@@ -221,7 +226,7 @@ fn change_member<C: Change + Drop>(
     }
 }
 
-// The change below the value of a member. The member is taken out for it and put back.
+// Applies the change inside a member's value. The member is taken out and put back.
 #[cycle(change)]
 fn change_value<C: Change + Drop>(
     alloc: Global,

@@ -1,4 +1,4 @@
-//! To `serde_json`'s `Value`.
+//! Conversion to `serde_json`'s `Value`.
 ghost use Rattle.std.specs.Prelude.{◌≡◌, IfOk};
 ghost use Rattle.sdb_value.specs.FromJson.{data_of_value, data_of_items, data_of_members};
 ghost use Rattle.sdb_value.specs.View.{value_of, list_value, object_value};
@@ -9,8 +9,11 @@ use serde_json::{Map, Number, Value};
 use std::alloc::{AllocError, Global};
 use std::collections::BTreeMap;
 
-/// The JSON value that a value is, its members in the order of their keys' bytes. Fails only where
-/// memory is wanting.
+/// Converts a value to JSON, with members sorted by the bytes of their keys.
+///
+/// # Errors
+///
+/// [`AllocError`] if an allocation fails.
 pub fn to_value(alloc: Global, json: &Json) -> Result<Value, AllocError>
     ensures { IfOk result (λ v. raw.view v ≡ data_of_value (value_of json.now)) }
 {

@@ -1,4 +1,4 @@
-//! What a document holds.
+//! The values of documents.
 ghost use Rattle.std.specs.Prelude.{◌≡◌, ◌+ℤ◌, IfOk, IsFalse, IsTrue, OnOk, map, min, option_map, true};
 ghost use Rattle.sdb_value.specs.Uniqueness.{all_true, is_unique, is_frozen, is_shared_json, map_unique, object_unique};
 ghost use Rattle.sdb_value.specs.FromJson.{checked_whole};
@@ -16,8 +16,8 @@ use std::alloc::{AllocError, Global};
 use std::collections::BTreeMap;
 use std::marker::Model;
 
-/// A whole number from -9007199254740991 to 9007199254740991, the integers that a double holds
-/// without loss (RFC 8259, section 6).
+/// An integer from -9007199254740991 to 9007199254740991, the range that a double holds exactly
+/// (RFC 8259, section 6).
 #[derive(Clone, Copy, PartialEq, Eq, Debug, Drop)]
 pub struct Whole {
     value: i64,
@@ -36,10 +36,10 @@ impl Model for Whole {
 }
 
 impl Whole {
-    /// The greatest, 9007199254740991. The least is `-Whole::MAX`.
+    /// The greatest value, 9007199254740991. The least is `-Whole::MAX`.
     pub const MAX: i64 = MAX as i64;
 
-    /// The whole number of this value, or `None` where it is below -9007199254740991 or above
+    /// Creates the integer, or returns `None` if it is outside the range from -9007199254740991 to
     /// 9007199254740991.
     pub fn new(value: i64) -> Option<Whole>
         ensures { result ≡ checked_whole value }
@@ -50,14 +50,15 @@ impl Whole {
         Some(Whole { value })
     }
 
-    /// The number, from -9007199254740991 to 9007199254740991.
+    /// Returns the number.
     pub fn get(self) -> i64
         ensures { result ≡ self }
     {
         self.value
     }
 
-    /// The sum, or `None` where it is below -9007199254740991 or above 9007199254740991.
+    /// Returns the sum, or `None` if it is outside the range from -9007199254740991 to
+    /// 9007199254740991.
     pub fn checked_add(self, other: Whole) -> Option<Whole>
         ensures { result ≡ checked_whole (self +ℤ other) }
     {
@@ -65,30 +66,32 @@ impl Whole {
     }
 }
 
-/// The items of a list, in pieces that copies share.
+/// The items of a list, in chunks that clones share.
 pub type List = ChunkedVec<Json>;
 
-/// The members of an object, in the order of their keys' bytes, in pieces that copies share.
+/// The members of an object, sorted by the bytes of their keys, in chunks that clones share.
 pub type Members = sdb_sorted_map::SortedMap<Json>;
 
-/// A value of a document (RFC 8259, section 3), its numbers whole. Its texts, lists and objects are its own,
-/// or shared with copies: a change copies what is shared on its way, and changes what is own in place.
+/// The value of a document (RFC 8259, section 3), with integers only. Its texts, lists and objects
+/// are unique or shared with clones. A change is copy-on-write: it copies shared parts on its path
+/// and changes unique ones in place.
 pub enum Json {
     /// `null`.
     Null,
     /// `true` or `false`.
     Bool(bool),
-    /// A number, whole and within ±9007199254740991.
+    /// An integer within ±9007199254740991.
     Int(Whole),
-    /// A text. Its offsets count UTF-16 units ([`crate::units`]).
+    /// A text. Its offsets count UTF-16 code units ([`crate::units`]).
     Text(Rope),
-    /// A list, its items counted from 0.
+    /// A list, indexed from 0.
     List(List),
-    /// An object, its members in the order of their keys' bytes.
+    /// An object, with members sorted by the bytes of their keys.
     Object(Members),
 }
 
-// Written out: so whoever lets a value go calls this, and no proof opens each form of each part there.
+// Written by hand: a derived `Drop` would be unfolded over all kinds of values in each proof that
+// drops a value.
 impl Drop for Json {
     fn drop(self) {
         match self {
@@ -101,7 +104,7 @@ impl Drop for Json {
 }
 
 impl Json {
-    /// A list of these items, in the vector's own memory.
+    /// Creates a list that keeps the vector's memory.
     pub fn list(items: Vec<Json>) -> Json
         ensures value { value_of result ≡ list (items_value items.items) }
         ensures unique { all_true (map is_unique items.items) ≡ true → is_unique result ≡ true }
@@ -109,8 +112,11 @@ impl Json {
         Json::List(ChunkedVec::from_vec(items))
     }
 
-    /// A list of these items, in pieces. Up to 20 stand in the vector's own memory. Fails only where memory is
-    /// wanting.
+    /// Creates a list in chunks. Up to 20 items keep the vector's memory.
+    ///
+    /// # Errors
+    ///
+    /// [`AllocError`] if an allocation fails.
     pub fn from_items(alloc: Global, items: Vec<Json>) -> Result<Json, AllocError>
         ensures value { IfOk result (λ v. value_of v ≡ list (items_value items.items)) }
         ensures unique { all_true (map is_unique items.items) ≡ true → IfOk result (λ v. is_unique v ≡ true) }
@@ -118,7 +124,11 @@ impl Json {
         Ok(Json::List(ChunkedVec::from_vec_chunked(alloc, items)?))
     }
 
-    /// An object of the members of a map. Fails only where memory is wanting.
+    /// Creates an object from a map.
+    ///
+    /// # Errors
+    ///
+    /// [`AllocError`] if an allocation fails.
     pub fn object(alloc: Global, members: BTreeMap<String, Json>) -> Result<Json, AllocError>
         ensures value { IfOk result (λ v. value_of v ≡ object (map_value members.entries)) }
         ensures unique { map_unique members.entries ≡ true → IfOk result (λ v. is_unique v ≡ true) }
@@ -126,7 +136,7 @@ impl Json {
         Ok(Json::from_members(Members::from_map(alloc, members)?))
     }
 
-    /// An object of these members, as they are.
+    /// Creates an object from its members.
     pub fn from_members(members: Members) -> Json
         ensures value { value_of result ≡ object (object_value members) }
         ensures unique { is_unique result ≡ object_unique members }
@@ -134,7 +144,7 @@ impl Json {
         Json::Object(members)
     }
 
-    /// Whether it is `null`.
+    /// Returns whether the value is `null`.
     pub fn is_null(&self) -> bool
         ensures null { IsTrue result → value_of self.now ≡ null }
         ensures on_false { IsFalse result → value_of self.now ≡ null → ⊥ }
@@ -145,7 +155,7 @@ impl Json {
         }
     }
 
-    /// Whether it is a text, a list or an object that is shared as a whole, so that a copy of it is a pointer.
+    /// Returns whether a text, list or object is shared as a whole, so that a clone is a pointer.
     pub fn is_shared(&self) -> bool
         ensures { result ≡ is_shared_json self.now }
     {
@@ -157,7 +167,7 @@ impl Json {
         }
     }
 
-    /// The members, or `None` where the value is no object.
+    /// Returns the members, or `None` for another kind of value.
     #[tactic(auto, using(crate::proofs::ViewLemmas::seen_object))]
     pub fn members(&self) -> Option<&Members>
         ensures { option_map (λ m. object_value m.now) result ≡ as_object (value_of self.now) }
@@ -168,8 +178,11 @@ impl Json {
         }
     }
 
-    /// The same value again: what is shared at the cost of a pointer, all else in memory of its own. Fails
-    /// only where memory is wanting.
+    /// Clones the value. Shared parts are cloned by pointer, all others are copied.
+    ///
+    /// # Errors
+    ///
+    /// [`AllocError`] if an allocation fails.
     pub fn try_clone(&self, alloc: Global) -> Result<Json, AllocError>
         ensures value { IfOk result (λ v. value_of v ≡ value_of self.now) }
         ensures unique { IfOk result (λ v. is_unique v ≡ is_unique self.now) }
@@ -177,7 +190,11 @@ impl Json {
         clone_preserving(alloc, self)
     }
 
-    /// The same value again, all of it in memory of its own. Fails only where memory is wanting.
+    /// Copies the value, so that the copy is unique.
+    ///
+    /// # Errors
+    ///
+    /// [`AllocError`] if an allocation fails.
     pub fn deep_clone(&self, alloc: Global) -> Result<Json, AllocError>
         ensures value { IfOk result (λ v. value_of v ≡ value_of self.now) }
         ensures unique { IfOk result (λ v. is_unique v ≡ true) }
@@ -185,8 +202,12 @@ impl Json {
         copy(alloc, self, CloneMode::Unique)
     }
 
-    /// The same value again, all of it shared, so that the next copy of it is a pointer. It costs what isn't
-    /// shared yet. Fails only where memory is wanting.
+    /// Clones the value so that the clone is frozen: its next clone is a pointer. Only parts that
+    /// aren't shared yet are copied.
+    ///
+    /// # Errors
+    ///
+    /// [`AllocError`] if an allocation fails.
     pub fn frozen_clone(&self, alloc: Global) -> Result<Json, AllocError>
         ensures value { IfOk result (λ v. value_of v ≡ value_of self.now) }
         ensures frozen { IfOk result (λ v. is_frozen v ≡ true) }
@@ -194,9 +215,12 @@ impl Json {
         clone_frozen(alloc, self)
     }
 
-    /// Makes all of it shared in place, so that a copy of it is a pointer. It costs a pointer for each text, list
-    /// and object in it that isn't shared yet, and for each of their pieces, which are moved. What is shared already
-    /// isn't looked into. Fails only where memory is wanting; the value is the same then.
+    /// Freezes the value in place, so that a clone is a pointer. The cost is one allocation for
+    /// each text, list, object and chunk that isn't shared yet; shared parts are skipped.
+    ///
+    /// # Errors
+    ///
+    /// [`AllocError`] if an allocation fails. The value is then equal, but may be frozen in part.
     pub fn freeze(&mut self, alloc: Global) -> Result<(), AllocError>
         ensures value { value_of self.new ≡ value_of self.old }
         ensures frozen { OnOk result (is_frozen self.new ≡ true) }
@@ -204,16 +228,16 @@ impl Json {
         freeze_value(alloc, self)
     }
 
-    /// How deep lists and objects nest: 0 for a value that is neither, and for a list or an object
-    /// one more than the deepest value in it. `u64::MAX` where that is more.
+    /// Returns the nesting depth of lists and objects, at most `u64::MAX`: 0 for any other value,
+    /// and one more than the deepest item for a list or object.
     pub fn depth(&self) -> u64
         ensures { result ≡ min (depth (value_of self.now)) 18446744073709551615 }
     {
         depth_of(self)
     }
 
-    /// How much there is to copy, up to the limit: the number of values in it, itself too, and the
-    /// bytes of its texts and keys. Where that is more, it is the limit, and the rest isn't looked at.
+    /// Returns the size, at most the limit: the number of values in it, including itself, and the
+    /// bytes of its texts and keys. It stops at the limit.
     pub fn size(&self, limit: u64) -> u64
         ensures { result ≡ min limit (size (value_of self.now)) }
     {

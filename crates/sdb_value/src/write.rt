@@ -1,4 +1,4 @@
-//! Values as text, written token by token.
+//! The writer of values.
 ghost use Rattle.std.specs.Prelude.{◌≡◌, ◌∷◌, [], ◌++◌, OnOk, OnErr};
 ghost use Rattle.json.specs.Token.{string};
 ghost use Rattle.sdb_rope.specs.Rope.{rope_bytes};
@@ -12,8 +12,11 @@ use json::Writer;
 use sdb_rope::Rope;
 use std::alloc::AllocError;
 
-/// Writes a value behind what is written, compact, its members in the order of their keys' bytes. Fails
-/// only where memory is wanting, and a part of it may then be written.
+/// Writes a value as compact JSON, with members sorted by the bytes of their keys.
+///
+/// # Errors
+///
+/// [`AllocError`] if an allocation fails. A prefix of the tokens may then be written.
 pub fn write_value(value: &Json, out: &mut Writer) -> Result<(), AllocError>
     ensures tokens { OnOk result (out.new.tokens ≡ out.old.tokens ++ data_tokens (data_of_value (value_of value.now))) }
     ensures before_unchanged { out.new.before ≡ out.old.before }
@@ -47,7 +50,7 @@ fn write_json(value: &Json, out: &mut Writer) -> Result<(), AllocError>
     }
 }
 
-// One of several pieces is put together first.
+// A text of several chunks is concatenated first.
 fn write_text(text: &Rope, out: &mut Writer) -> Result<(), AllocError>
     ensures tokens { OnOk result (out.new.tokens ≡ out.old.tokens ++ string (rope_bytes text.now) ∷ []) }
     ensures before_unchanged { out.new.before ≡ out.old.before }

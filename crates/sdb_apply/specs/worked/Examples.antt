@@ -1,4 +1,4 @@
--- Rows: what each of the nine shapes, and operations of several, make of small values.
+-- Examples: the nine shapes and operations of several components on small values.
 use Rattle.std.specs.Prelude.{◌≡◌, ℕ, pos, negsuc, List, [], ◌∷◌, Some, None, codes, refl}
 use Rattle.sdb_value.specs.Value.{Value, whole, text, list, object, Items, no_items, item, no_members, member, key, index}
 use Rattle.sdb_component.specs.Plain.{PlainAct, na, si, sd, li, ld, lr, oi, od, or, PlainComponent}
@@ -13,7 +13,7 @@ one_two = item (int 1) (item (int 2) no_items)
 abbrev keyed : Value → Value
 keyed v = object (member (codes "k") v no_members)
 
--- a😀b, and the pair alone
+-- a😀b, and the surrogate pair alone
 abbrev smile : Value
 smile = text (97 ∷ 240 ∷ 159 ∷ 152 ∷ 128 ∷ 98 ∷ [])
 
@@ -96,7 +96,7 @@ row_or_absent = refl
 pub row_or_of_list : apply_one (here (or (codes "k") (int 1) (int 2))) (list no_items) ≡ None
 row_or_of_list = refl
 
--- ---- places, and operations of several components
+-- ---- paths, and operations of several components
 
 pub row_deep : apply_one (record { path = key (codes "k") ∷ index 1 ∷ []; act = na (pos 1) }) (keyed (list one_two))
     ≡ Some (keyed (list (item (int 1) (item (int 3) no_items))))
@@ -108,7 +108,7 @@ row_no_place = refl
 pub row_nothing : apply [] (int 5) ≡ Some (int 5)
 row_nothing = refl
 
--- the second is an insert into what the first made
+-- the second inserts into the result of the first
 pub row_in_turn : apply
     (here (oi (codes "k") (list no_items)) ∷ record { path = key (codes "k") ∷ []; act = li 0 (int 1) } ∷ [])
     (object no_members) ≡ Some (keyed (list (item (int 1) no_items)))

@@ -1,4 +1,4 @@
--- Laws of lists in pieces.
+-- Laws of chunked lists.
 use Rattle.std.specs.Prelude.{◌≡◌, ℕ, zero, suc, ◌-◌, List, [], ◌∷◌, ◌++◌, map, take, drop, length, Bool, true, false, cond, nat_lt, if◌then◌else◌, Some, slice_get, refl}
 use Rattle.std.proofs.Common.{ap, sym, ◌∙◌, append_assoc}
 use Rattle.std.specs.List.{flat_map}
@@ -11,7 +11,7 @@ use Rattle.sdb_chunks.specs.declared.chunked_vec.Repr.{Repr}
 use Rattle.sdb_chunks.specs.declared.chunked_vec.Repr.TheVariants.{Flat, Chunks, Groups}
 use Rattle.sdb_chunks.specs.declared.chunked_vec.ChunkedVec.{ChunkedVec}
 
--- ---- the list is that of its parts
+-- ---- a list is the concatenation of its parts
 
 map_append : {X S : Type 0} (f : X → S) (xs ys : List X) → map f (xs ++ ys) ≡ map f xs ++ map f ys
 map_append f [] ys = refl
@@ -30,7 +30,7 @@ flatten_models_append : {X S : Type 0} (f : X → S) (bs cs : List (Chunk X)) �
 flatten_models_append f [] cs = refl
 flatten_models_append f (b ∷ bs) cs = ap (λ l. map f (items_of b) ++ l) (flatten_models_append f bs cs) ∙ sym (append_assoc (map f (items_of b)) (flatten_models f bs) (flatten_models f cs))
 
--- what is seen of groups is what is seen of their blocks
+-- the views of groups are the views of their chunks
 pub group_models_of_chunks : {X S : Type 0} (f : X → S) (gs : List (ChunkGroup X)) → flatten_group_models f gs ≡ flatten_models f (flat_map group_chunks gs)
 group_models_of_chunks f [] = refl
 group_models_of_chunks f (g ∷ gs) = ap (λ l. group_models f g ++ l) (group_models_of_chunks f gs) ∙ sym (flatten_models_append f (group_chunks g) (flat_map group_chunks gs))
@@ -48,7 +48,7 @@ repr_models_of_chunks f (Flat b) = sym (append_nil (map f (items_of b)))
 repr_models_of_chunks f (Chunks bs) = refl
 repr_models_of_chunks f (Groups gs) = group_models_of_chunks f (items_of gs)
 
--- and that of its blocks
+-- the views of a list are those of its chunks
 pub vec_models_of_chunks : {X S : Type 0} (f : X → S) (l : ChunkedVec X) → vec_models f l ≡ flatten_models f (vec_chunks l)
 vec_models_of_chunks f l = repr_models_of_chunks f l.repr
 
@@ -57,11 +57,11 @@ flatten_models_items f [] = refl
 flatten_models_items f (b ∷ bs) =
     ap (λ l. map f (items_of b) ++ l) (flatten_models_items f bs) ∙ sym (map_append f (items_of b) (flat_map items_of bs))
 
--- what is seen of a list is what is seen of its items
+-- the views of a list are the views of its items
 pub vec_models_of_items : {X S : Type 0} (f : X → S) (l : ChunkedVec X) → vec_models f l ≡ map f (vec_items l)
 vec_models_of_items f l = vec_models_of_chunks f l ∙ flatten_models_items f (vec_chunks l)
 
--- ---- of a list that is its own, each block is
+-- ---- each chunk of a unique list is unique
 
 and_left : (a b : Bool) → cond a b false ≡ true → a ≡ true
 and_left true b e = refl
@@ -95,7 +95,7 @@ unique_repr_at_of_all (Groups gs) i e = cc
 pub unique_vec_at_of_all : {X : Type 0} (l : ChunkedVec X) (i : ℕ) → is_unique_vec l ≡ true → is_unique_vec_at l i ≡ true
 unique_vec_at_of_all l i e = unique_repr_at_of_all l.repr i e
 
--- ---- the blocks one after the other
+-- ---- the chunks in order
 
 pub take_succ : {X : Type 0} (xs : List X) (i : ℕ) (x : X) → slice_get xs i ≡ Some x → take (suc i) xs ≡ take i xs ++ x ∷ []
 take_succ [] i x e = cc
@@ -111,7 +111,7 @@ flat_map_append_one : {X : Type 0} (xss : List (List X)) (xs : List X) → flat_
 flat_map_append_one [] xs = append_nil xs
 flat_map_append_one (ys ∷ xss) xs = ap (λ l. ys ++ l) (flat_map_append_one xss xs) ∙ sym (append_assoc ys (flat_map (λ xs. xs) xss) xs)
 
--- what is seen of some blocks, and of one more
+-- the views of some chunks and one more
 pub flatten_models_append_one : {X S : Type 0} (f : X → S) (xss : List (List X)) (xs : List X)
     → map f (flat_map (λ xs. xs) (xss ++ xs ∷ [])) ≡ map f (flat_map (λ xs. xs) xss) ++ map f xs
 flatten_models_append_one f xss xs = ap (map f) (flat_map_append_one xss xs) ∙ map_append f (flat_map (λ xs. xs) xss) xs

@@ -1,4 +1,4 @@
--- Rows: texts with the operations that they are, and none that they are not.
+-- Examples: texts with their operations, and texts without one.
 use Rattle.std.specs.Prelude.{◌≡◌, ℕ, List, [], ◌∷◌, Option, Some, None, option_and_then, codes, pos, refl}
 use Rattle.serde_json.specs.Read.{read}
 use Rattle.serde_json.proofs.OnLiterals.{serde_json_on_literals}

@@ -1,4 +1,4 @@
--- Laws of decisions: what is stored, and logs that are made.
+-- Laws of decisions and of made logs.
 use Rattle.std.proofs.Common.{Bool, ◌||◌, ◌⊎◌, inl, inr, ◌≡◌, ℕ, suc, ◌+◌, ◌<◌, ◌≤◌, ◌++◌, List, [], ◌∷◌, length, true, false, cond, Option, Some, None, Result, Ok, Err, refl, sym, ap, ◌∙◌, subst, append_assoc, length-append, nat_eq, nat_lt, max, arith}
 use Rattle.std.proofs.lemmas.Bool.Decides.{nat_tests}
 use Rattle.std.specs.Option.{is_some, unwrap_or, option_and_then, option_map_or}
@@ -18,7 +18,7 @@ use Rattle.sdb_oplog.specs.Decide.{is_log_full, is_version_too_new, apply_to_cop
 
 -- ---- codes
 
--- a code that is not want of memory is the one that is due
+-- a code other than E10 is the one that is due
 pub code_of_refusal : {A : Type 0} (r : Result A Code) (c : Code) → (c ≡ E10 → ⊥) → IsRefusalOrOutOfMemory r c → r ≡ Err c
 code_of_refusal r E1 n h = h
 code_of_refusal r E2 n h = h
@@ -32,7 +32,7 @@ code_of_refusal r E9 n h = h
 code_of_refusal r E10 n h = absurd (n refl)
 code_of_refusal r E11 n h = h
 
--- memory was wanting, or the code is the one that is due
+-- an allocation failed, or the code is the one that is due
 pub out_of_memory_or_refusal : {A : Type 0} (r : Result A Code) (c : Code) → IsRefusalOrOutOfMemory r c → (c ≡ E10) ⊎ (r ≡ Err c)
 out_of_memory_or_refusal r E1 h = inr h
 out_of_memory_or_refusal r E2 h = inr h
@@ -70,16 +70,16 @@ some_of_is_some : (o : Option (Option Value)) → is_some o ≡ true → o ≡ S
 some_of_is_some None h = cc
 some_of_is_some (Some d) h = refl
 
--- the document of a log whose entries all have an effect
+-- the document of a log whose entries all apply
 pub document_of_snap : (log : List PlainEntry) (d : Option Value) → snap log ≡ Some d → document_of log ≡ d
 document_of_snap log d h = ap (λ o. unwrap_or o None) h
 
--- the document after what is stored
+-- the document after an append
 pub document_of_append : (log : List PlainEntry) (e : PlainEntry) (d n : Option Value) → snap log ≡ Some d
     → apply_content e.content d ≡ Ok n → snap (log ++ e ∷ []) ≡ Some n
 document_of_append log e d n lives makes = snap_one log e None d lives ∙ ap result_ok makes
 
--- ---- one submission, by its cases
+-- ---- one submission, by cases
 
 decide_of_stored_at : (log : List PlainEntry) (s : PlainSubmission) (now : ℕ) (o : Option ℕ) → stored_at s.src s.seq log ≡ o
     → decide log s now ≡ option_map_or (λ i. record { reply = repeated i; log = log }) o (append_decided log s now (rebased_content log s))
@@ -157,7 +157,7 @@ pub decides_stored : (log : List PlainEntry) (s : PlainSubmission) (now : ℕ) (
 decides_stored log s now m d first room seen e is =
     decides_settled log s now (Ok m) first (version_in_range log s (Ok m) room seen e ∙ ap (result_and_then (λ d. Ok m)) is)
 
--- ---- logs that are made
+-- ---- made logs
 
 append_nil : (es : List PlainEntry) → es ++ [] ≡ es
 append_nil [] = refl
@@ -172,7 +172,7 @@ made_from_append before (x ∷ es) e h k =
     let P : List PlainEntry → Type 0 = λ l. (decide l e.arrived e.moment).log ≡ l ++ e ∷ [] in
     (h.0, made_from_append (before ++ x ∷ []) es e h.1 (subst P (sym (append_assoc before (x ∷ []) es)) k))
 
--- the entry's own moment stores the same entry
+-- the entry's own moment stores an equal entry
 append_moment_idempotent : (log : List PlainEntry) (s : PlainSubmission) (now : ℕ) (m : PlainContent)
     → new_entry log s (max now (last_moment log)) m ≡ new_entry log s now m
 append_moment_idempotent log s now m =
@@ -193,11 +193,11 @@ made_of_stored_at log s now None h e =
     made_of_append_decided log s now (rebased_content log s) h
     (λ n. ap (λ o. option_map_or (λ i. record { reply = repeated i; log = log }) o (append_decided log s n (rebased_content log s))) e)
 
--- a decision keeps a log made
+-- a decision preserves that a log is made
 pub made_of_decide : (log : List PlainEntry) (s : PlainSubmission) (now : ℕ) → IsMade log → IsMade (decide log s now).log
 made_of_decide log s now h = made_of_stored_at log s now (stored_at s.src s.seq log) h refl
 
--- what is stored stays in front of what is stored later
+-- an append preserves the entries before it
 append_decided_extends : (log : List PlainEntry) (s : PlainSubmission) (now : ℕ) (r : Result PlainContent Code)
     → (rest : List PlainEntry) × ((append_decided log s now r).log ≡ log ++ rest)
 append_decided_extends log s now (Err c) = ([], sym (append_nil log))
@@ -209,7 +209,7 @@ decide_extends_at log s now (Some i) e = ([], ap (λ d. d.log) (decides_repeat l
 decide_extends_at log s now None e =
     let g = append_decided_extends log s now (rebased_content log s) in (g.0, ap (λ d. d.log) (decides_settled log s now (rebased_content log s) e refl) ∙ g.1)
 
--- a decision adds to a log, or leaves it
+-- a decision extends a log or leaves it unchanged
 pub decide_extends : (log : List PlainEntry) (s : PlainSubmission) (now : ℕ)
     → (rest : List PlainEntry) × ((decide log s now).log ≡ log ++ rest)
 decide_extends log s now = decide_extends_at log s now (stored_at s.src s.seq log) refl
@@ -220,7 +220,7 @@ last_moment_of_append : (m : ℕ) (es : List PlainEntry) (e : PlainEntry) → la
 last_moment_of_append m [] e = refl
 last_moment_of_append m (x ∷ es) e = last_moment_of_append x.moment es e
 
--- one more entry is in time where it isn't before the last one
+-- one more entry preserves the order if its moment isn't less than the last one
 pub moments_ordered_append : (m : ℕ) (es : List PlainEntry) (e : PlainEntry) → MomentsOrderedFrom m es → last_moment_or m es ≤ e.moment
     → MomentsOrderedFrom m (es ++ e ∷ [])
 moments_ordered_append m [] e h k = (k, tt)
@@ -253,7 +253,7 @@ made_from_moments_ordered before (e ∷ es) h = (
   subst (λ m. MomentsOrderedFrom m es) (last_moment_of_append 0 before e) (made_from_moments_ordered (before ++ e ∷ []) es h.1),
 )
 
--- moments never fall along a log that is made
+-- moments never decrease in a made log
 pub made_moments_ordered : (log : List PlainEntry) → IsMade log → MomentsOrderedFrom 0 log
 made_moments_ordered log h = made_from_moments_ordered [] log h
 
@@ -261,7 +261,7 @@ at_most_one_more : (b : Bool) (n k : ℕ) → n ≤ k → cond b n (suc n) ≤ s
 at_most_one_more true n k h = omega arith
 at_most_one_more false n k h = omega arith
 
--- the version at a moment is one of the log's
+-- the version at a moment is at most the log's length
 pub version_at_within : (log : List PlainEntry) (m : ℕ) → version_at log m ≤ length log
 version_at_within [] m = omega arith
 version_at_within (e ∷ es) m =
@@ -271,7 +271,7 @@ moments_ordered_prefix : (m : ℕ) (es more : List PlainEntry) → MomentsOrdere
 moments_ordered_prefix m [] more h = tt
 moments_ordered_prefix m (e ∷ es) more h = (h.0, moments_ordered_prefix e.moment es more h.1)
 
--- what is late isn't counted
+-- entries after the moment aren't counted
 version_at_below : (m : ℕ) (log : List PlainEntry) (t : ℕ) → MomentsOrderedFrom m log → t < m → version_at log t ≡ 0
 version_at_below m [] t h late = refl
 version_at_below m (e ∷ es) t h late =
@@ -291,14 +291,14 @@ version_at_append_cond true m e es more t is h below further =
     version_at_below e.moment (es ++ more) t h.1 late
     ∙ sym (version_at_below e.moment es t (moments_ordered_prefix e.moment es more h.1) late)
 
--- the version at a moment that isn't the present one stays the same as the log goes on
+-- a version at a moment that isn't the current one is unchanged in an extension
 pub version_at_append : (m : ℕ) (log more : List PlainEntry) (t : ℕ) → MomentsOrderedFrom m (log ++ more)
     → version_at log t < length log → version_at (log ++ more) t ≡ version_at log t
 version_at_append m [] more t h below = omega (arith, below)
 version_at_append m (e ∷ es) more t h below =
     version_at_append_cond (nat_lt t e.moment) m e es more t refl h below (λ b. version_at_append e.moment es more t h.1 b)
 
--- ---- along stored entries
+-- ---- rebasing
 
 rebase_append_result : (xs ys : List PlainEntry) (r : Result PlainContent Code)
     → ((k : PlainContent) → rebase k (xs ++ ys) ≡ result_and_then (λ m. rebase m ys) (rebase k xs))
@@ -306,13 +306,13 @@ rebase_append_result : (xs ys : List PlainEntry) (r : Result PlainContent Code)
 rebase_append_result xs ys (Ok k) h = h k
 rebase_append_result xs ys (Err e) h = refl
 
--- along two lists is along the one and then along the other
+-- rebasing on two lists is rebasing on the first and then on the second
 pub rebase_append : (xs ys : List PlainEntry) (m : PlainContent)
     → rebase m (xs ++ ys) ≡ result_and_then (λ k. rebase k ys) (rebase m xs)
 rebase_append [] ys m = refl
 rebase_append (x ∷ xs) ys m = rebase_append_result xs ys (over m x.content) (λ k. rebase_append xs ys k)
 
--- ---- want of memory: no definition ever refuses by E10
+-- ---- allocation failures: no definition refuses with E10
 
 abbrev IsNotOutOfMemory : {A : Type 0} → Result A Code → Type 0
 IsNotOutOfMemory r = r ≡ Err E10 → ⊥
@@ -380,12 +380,12 @@ never_first log s now None e h =
     never_stored log s now (rebased_content log s) (never_settled log s)
     (sym (ap (λ d. d.reply) (decides_settled log s now (rebased_content log s) e refl)) ∙ h)
 
--- a decision is never want of memory
+-- a decision never refuses with E10
 pub decide_not_out_of_memory : (log : List PlainEntry) (s : PlainSubmission) (now : ℕ)
     → (decide log s now).reply ≡ refused E10 → ⊥
 decide_not_out_of_memory log s now = never_first log s now (stored_at s.src s.seq log) refl
 
--- ---- memory
+-- ---- allocations
 
 or_right : (a b : Bool) → b ≡ true → (a || b) ≡ true
 or_right true b h = refl
@@ -394,7 +394,7 @@ or_right false b h = h
 or_left : (a b : Bool) → a ≡ true → (a || b) ≡ true
 or_left a b h = ap (λ c. c || b) h
 
--- a submission that is new, of a version that has been reached, in a log with room
+-- a new submission whose base version exists, in a log that isn't full
 abbrev submission_allocates : List PlainEntry → PlainSubmission → Bool
 submission_allocates log s =
     rebase_allocates s.content (missed_entries log s)
@@ -412,14 +412,14 @@ submission_allocates_open log s first room seen =
     ∙ ap (λ b. cond (b || is_version_too_new log s) false (submission_allocates log s)) full
     ∙ ap (λ b. cond b false (submission_allocates log s)) newer
 
--- takes memory to be carried
+-- it allocates if its rebase does
 pub rebase_allocates_decide : (log : List PlainEntry) (s : PlainSubmission) → stored_at s.src s.seq log ≡ None
     → length log < 9007199254740991 → base_version log s ≤ length log
     → rebase_allocates s.content (missed_entries log s) ≡ true → decide_allocates log s ≡ true
 rebase_allocates_decide log s first room seen h =
     submission_allocates_open log s first room seen ∙ or_left (rebase_allocates s.content (missed_entries log s)) _ h
 
--- or, carried, to be stored
+-- it allocates if its rebased content does when it is applied
 pub apply_allocates_decide : (log : List PlainEntry) (s : PlainSubmission) (m : PlainContent)
     → stored_at s.src s.seq log ≡ None → length log < 9007199254740991 → base_version log s ≤ length log
     → rebase s.content (missed_entries log s) ≡ Ok m → apply_to_copy_allocates m (document_of log) ≡ true
@@ -429,7 +429,7 @@ apply_allocates_decide log s m first room seen e h =
     ∙ or_right (rebase_allocates s.content (missed_entries log s)) _
     (ap (λ r. apply_rebased_allocates r (document_of log)) e ∙ h)
 
--- a content is never refused for want of memory by what is stored
+-- a rebase never refuses with E10
 pub rebase_not_out_of_memory : (m : PlainContent) (es : List PlainEntry) → rebase m es ≡ Err E10 → ⊥
 rebase_not_out_of_memory m es h = never_over_all es m h
 

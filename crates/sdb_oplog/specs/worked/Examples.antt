@@ -1,4 +1,4 @@
--- Rows worked by hand: what submissions do to a log.
+-- Examples: decisions of submissions on a log.
 use Rattle.std.specs.Prelude.{◌≡◌, ℕ, true, false, List, [], ◌∷◌, Option, Some, None, codes, refl, pos}
 use Rattle.sdb_value.specs.Value.{whole, text, list, object, item, no_items, member, no_members, key}
 use Rattle.sdb_component.specs.Plain.{PlainAct, na, li}
@@ -37,14 +37,14 @@ row_snap = refl
 pub row_made : IsMade two
 row_made = (refl, (refl, tt))
 
--- a repeat has its first version, whatever it asks and at whichever version
+-- a duplicate gets its first version, whatever its content and base version
 pub row_repeat : (decide two first 0).reply ≡ repeated 0
 row_repeat = refl
 
 pub row_repeat_other : (decide two (from (codes "x") 1 (Some 9) delete) 0).reply ≡ repeated 0
 row_repeat_other = refl
 
--- the greatest number; a version too new; a create on a document; an edit of none
+-- the greatest number; a version too new; a create on a document; an edit of an absent one
 pub row_greatest : (decide two (from (codes "y") 2 (Some 2) (at_n (na (pos 9007199254740991)))) 0).reply ≡ refused E8
 row_greatest = refl
 
@@ -57,7 +57,7 @@ row_created = refl
 pub row_absent : (decide [] (from (codes "y") 2 None (edit [])) 0).reply ≡ refused E7
 row_absent = refl
 
--- over a delete an edit is refused, and a delete passes
+-- against a delete an edit is refused, and a delete stays
 abbrev three : List PlainEntry
 three = (decide two (from (codes "y") 1 (Some 2) delete) 0).log
 
@@ -67,7 +67,7 @@ row_deleted = refl
 pub row_delete_again : document_of (decide three (from (codes "z") 2 (Some 2) delete) 0).log ≡ None
 row_delete_again = refl
 
--- the arriving side is left
+-- the submission is the left side
 abbrev insert_in : List ℕ → ℕ → List ℕ → PlainSubmission
 insert_in s n v = from s n (Some 1) (edit (record { path = []; act = li 0 (text v) } ∷ []))
 
@@ -82,8 +82,8 @@ pub row_left : document_of (decide met (insert_in (codes "z") 1 (codes "B")) 0).
 unfolding cross cross_in
 row_left = refl
 
--- without memory: a repeat, a version too new, a create on a document, an edit of none, an edit over a delete. To be
--- stored takes memory, and so does an edit that is carried over an edit
+-- without allocations: a duplicate, a version too new, a create on a document, an edit of an absent one, an edit
+-- against a delete; an append allocates, and so does an edit that is transformed
 pub row_repeat_free : decide_allocates two first ≡ false
 row_repeat_free = refl
 

@@ -1,4 +1,4 @@
--- Rows worked by hand: a projection that shows `title`, and a table.
+-- Examples: a projection to `title`, and a table.
 use Rattle.std.specs.Prelude.{◌≡◌, ℕ, List, [], ◌∷◌, true, false, Some, None, codes, refl, pos}
 use Rattle.std.specs.Option.{option_map}
 use Rattle.sdb_value.specs.Value.{Value, null, whole, text, object, no_members, member, list, no_items, key}
@@ -18,14 +18,14 @@ of_two n t = object (member (codes "n") n (member (codes "title") t no_members))
 abbrev of_title : Value → Value
 of_title t = object (member (codes "title") t no_members)
 
--- an object shows its title, a list null
+-- an object is projected to its title, a list to null
 pub row_object : proj title (of_two (whole (pos 1)) (text (codes "a"))) ≡ of_title (text (codes "a"))
 row_object = refl
 
 pub row_list : proj title (list no_items) ≡ null
 row_list = refl
 
--- an edit of the number isn't seen, one in the title is, as is one that puts another title
+-- an edit of the number isn't visible; one in the title is, as is one that replaces it
 abbrev counts : PlainComponent
 counts = record { path = key (codes "n") ∷ []; act = na (pos 1) }
 
@@ -45,7 +45,7 @@ row_applied = refl
 pub row_shown : apply (types ∷ []) (of_title (text (codes "a"))) ≡ Some (of_title (text (codes "ab")))
 row_shown = refl
 
--- what may be asked
+-- permitted contents
 pub row_create : allowed title (create (of_title null)) ≡ true
 row_create = refl
 
@@ -74,7 +74,7 @@ row_root = refl
 pub row_item : allowed title (edit (record { path = []; act = li 0 null } ∷ [])) ≡ false
 row_item = refl
 
--- ---- a table with t of b
+-- ---- a table with projection t of base b
 
 abbrev of : List ℕ → List ℕ → List (List ℕ) → PlainProjection
 of n b fields = record { name = n; base = b; fields = fields }

@@ -1,4 +1,4 @@
--- Laws of kept snapshots: which one is found, and that they stay snapshots of the log.
+-- Laws of the snapshot cache: which snapshot is found, and that all are snapshots of the log.
 use Rattle.std.proofs.Common.{◌≡◌, ℕ, zero, suc, ◌≤◌, ◌<◌, Bool, true, false, cond, ◌&&◌, List, [], ◌∷◌, ◌++◌, take, length, Option, Some, None, nat_eq, nat_le, refl, sym, ap, ◌∙◌, subst, arith, length-append}
 use Rattle.std.specs.List.{AllByRecursion}
 use Rattle.std.specs.Option.{option_map_or}
@@ -10,9 +10,9 @@ use Rattle.sdb_oplog.specs.Snap.{snap}
 use Rattle.sdb_snapcache.specs.SnapInvariant.{IsSnapOf, AreSnapsOf}
 use Rattle.sdb_snapcache.specs.CacheModel.{Snapshot, nearer_of, nearest, snapshot_at_version, without_version, promote_version, promote_nearest, insert_front}
 
--- ---- which one is found
+-- ---- the snapshot that is found
 
--- s is up to v, the first of its version, and no other that is up to v has a greater version
+-- s has the greatest version up to v, and is the first of it
 pub record IsNearest (v : ℕ) (kept : List Snapshot) (s : Snapshot) : Type 0 where
   pub not_above : s.version ≤ v
   pub first_of_version : snapshot_at_version s.version kept ≡ Some s
@@ -37,7 +37,7 @@ nearer_none true v s (Some t) is h =
 nearer_none false v s (Some t) is h =
     let k : Some t ≡ None = ap (λ b. cond (b && nat_le t.version s.version) (Some s) (Some t)) (sym is) ∙ h in cc
 
--- where none is found, each kept one is above v
+-- if none is found, each version is above v
 pub none_of_nearest : (v : ℕ) (kept : List Snapshot) → nearest v kept ≡ None → AllByRecursion (λ t. v < t.version) kept
 none_of_nearest v [] h = tt
 none_of_nearest v (s ∷ kept) h =
@@ -48,7 +48,7 @@ snapshot_at_other : (b : Bool) (n : ℕ) (s : Snapshot) (o : Option Snapshot) �
 snapshot_at_other true n s o is apart = absurd (apart (eqb-true n s.version is))
 snapshot_at_other false n s o is apart = refl
 
--- s comes before f, and is above v or below f
+-- s comes before f and is above v or less than f
 nearest_skip : (v : ℕ) (s f : Snapshot) (kept : List Snapshot) → (s.version ≤ v → s.version < f.version) → IsNearest v kept f
     → IsNearest v (s ∷ kept) f
 nearest_skip v s f kept apart n = let up = n.not_above in record {
@@ -58,7 +58,7 @@ nearest_skip v s f kept apart n = let up = n.not_above in record {
   greatest_below = (λ a. let h = apart a in omega (arith, h), n.greatest_below);
 }
 
--- s is up to v, and no other that is up to v has a greater version
+-- s has the greatest version up to v
 nearest_is : (v : ℕ) (s : Snapshot) (kept : List Snapshot) → s.version ≤ v
     → AllByRecursion (λ t. t.version ≤ v → t.version ≤ s.version) kept → IsNearest v (s ∷ kept) s
 nearest_is v s kept up rest = record {
@@ -102,7 +102,7 @@ nearest_of_cons v s f kept None e h below = nearest_of_single (nat_le s.version 
 nearest_of_cons v s f kept (Some t) e h below =
     nearest_of_two (nat_le s.version v) (nat_le t.version s.version) v s t f kept refl refl h (below t e)
 
--- what is found is the nearest
+-- the snapshot that is found is the nearest
 pub nearest_spec : (v : ℕ) (kept : List Snapshot) (s : Snapshot) → nearest v kept ≡ Some s → IsNearest v kept s
 nearest_spec v [] s h = cc
 nearest_spec v (x ∷ kept) s h = nearest_of_cons v x s kept (nearest v kept) refl h (nearest_spec v kept)
@@ -112,12 +112,12 @@ version_of_cond : (b : Bool) (n : ℕ) (x s : Snapshot) (o : Option Snapshot) �
 version_of_cond true n x s o is h below = let e : x ≡ s = cc in eqb-true n x.version is ∙ ap (λ y. y.version) e
 version_of_cond false n x s o is h below = below h
 
--- what is kept at a version is of that version
+-- the snapshot found for a version has this version
 pub version_of_snapshot_at : (n : ℕ) (kept : List Snapshot) (s : Snapshot) → snapshot_at_version n kept ≡ Some s → n ≡ s.version
 version_of_snapshot_at n [] s h = cc
 version_of_snapshot_at n (x ∷ kept) s h = version_of_cond (nat_eq n x.version) n x s (snapshot_at_version n kept) refl h (version_of_snapshot_at n kept s)
 
--- ---- what is kept are snapshots of the log
+-- ---- cached snapshots are snapshots of the log
 
 all_of_without : (P : Snapshot → Type 0) (n : ℕ) (kept : List Snapshot) → AllByRecursion P kept
     → AllByRecursion P (without_version n kept)
@@ -147,7 +147,7 @@ pub snap_of_snapshot_at : (log : List PlainEntry) (n : ℕ) (kept : List Snapsho
     → snapshot_at_version n kept ≡ Some s → IsSnapOf log s
 snap_of_snapshot_at log n kept s = all_of_snapshot_at (IsSnapOf log) n kept s
 
--- what is found is a snapshot of the log
+-- the snapshot that is found is a snapshot of the log
 pub snap_of_nearest : (log : List PlainEntry) (v : ℕ) (kept : List Snapshot) (s : Snapshot) → AreSnapsOf log kept
     → nearest v kept ≡ Some s → IsSnapOf log s
 snap_of_nearest log v kept s all h = snap_of_snapshot_at log s.version kept s all (nearest_spec v kept s h).first_of_version
@@ -173,7 +173,7 @@ pub snaps_of_promoted_nearest : (log : List PlainEntry) (v : ℕ) (kept : List S
     → AreSnapsOf log (promote_nearest v kept)
 snaps_of_promoted_nearest log v kept all = used_for_at log kept (nearest v kept) all
 
--- so are they after a snapshot of the log is offered
+-- after an insert of a snapshot of the log, all are
 pub snaps_of_inserted : (log : List PlainEntry) (v : ℕ) (d : Value) (kept : List Snapshot)
     → IsSnapOf log (record { version = v; value = d }) → AreSnapsOf log kept → AreSnapsOf log (insert_front v d kept)
 snaps_of_inserted log v d kept is all =
@@ -186,7 +186,7 @@ snap_of_extension log more s h = let w = h.within in record {
   is = ap snap (take-append-le s.version log more w) ∙ h.is;
 }
 
--- and of each longer log
+-- snapshots of a log are snapshots of each extension
 pub snaps_of_extension : (log more : List PlainEntry) (kept : List Snapshot) → AreSnapsOf log kept
     → AreSnapsOf (log ++ more) kept
 snaps_of_extension log more kept all = all_map (IsSnapOf log) (IsSnapOf (log ++ more)) (snap_of_extension log more) kept all

@@ -1,4 +1,4 @@
--- Rows worked by hand: snapshots of one log, offered and used.
+-- Examples: snapshots of one log, offered and used.
 use Rattle.std.specs.Prelude.{◌≡◌, ℕ, List, [], ◌∷◌, map, take, Some, None, unwrap_or, codes, refl, pos}
 use Rattle.sdb_value.specs.Value.{Value, null, whole}
 use Rattle.sdb_component.specs.Plain.{na}
@@ -25,7 +25,7 @@ log = entry 0 (create (whole (pos 1))) ∷ map plus_one (1 ∷ 2 ∷ 3 ∷ 4 ∷
 abbrev at_version : ℕ → Value
 at_version n = unwrap_or (document_of (take n log)) null
 
--- the snapshots of these versions are offered, one after the other
+-- the snapshots of these versions are offered in order
 abbrev offer : List ℕ → List Snapshot → List Snapshot
 offer [] kept = kept
 offer (n ∷ ns) kept = offer ns (insert_front n (at_version n) kept)
@@ -36,7 +36,7 @@ versions = map (λ s. s.version)
 abbrev nine : List Snapshot
 nine = offer (1 ∷ 2 ∷ 3 ∷ 4 ∷ 5 ∷ 6 ∷ 7 ∷ 8 ∷ 9 ∷ []) []
 
--- the first went as the least recently used
+-- the first was removed as the least recently used
 pub row_nine : versions nine ≡ 9 ∷ 8 ∷ 7 ∷ 6 ∷ 5 ∷ 4 ∷ 3 ∷ 2 ∷ []
 row_nine = refl
 
@@ -46,7 +46,7 @@ row_gone = refl
 pub row_second : nearest 2 nine ≡ Some (record { version = 2; value = whole (pos 2) })
 row_second = refl
 
--- the second was used, so that the third goes
+-- the second was used, so the third is removed
 abbrev ten : List Snapshot
 ten = offer (10 ∷ []) (promote_nearest 2 nine)
 
@@ -56,6 +56,6 @@ row_used = refl
 pub row_third : nearest 3 ten ≡ Some (record { version = 2; value = whole (pos 2) })
 row_third = refl
 
--- one that is offered again is the first, with the value that it is offered with
+-- one that is offered again is the first, with its new value
 pub row_again : versions (offer (5 ∷ []) ten) ≡ 5 ∷ 10 ∷ 2 ∷ 9 ∷ 8 ∷ 7 ∷ 6 ∷ 4 ∷ []
 row_again = refl

@@ -1,4 +1,4 @@
--- Laws of seats: what a seat has seen at a place, and seats that are put in the place of others.
+-- Laws of seats: the observed value at an index, and replaced seats.
 use Rattle.std.proofs.Common.{◌≡◌, ◌≢◌, ℕ, ◌+◌, ◌<◌, ◌≤◌, ◌⊎◌, inl, inr, true, false, nat_eq, List, [], ◌∷◌, ◌++◌, length, slice_index_or, slice_set, sym, ap, ◌∙◌, subst, arith}
 use Rattle.std.proofs.lemmas.List.{get_or_default}
 use Rattle.sdb_growlock.specs.declared.grow_lock.Seat.{Seat}
@@ -9,13 +9,13 @@ use Rattle.sdb_striped_lock.specs.SeatSetModel.{SeatSetHasSeen, RootSeatsHaveSee
 use Rattle.sdb_striped_lock.specs.declared.striped_lock.SeatSet.{SeatSet}
 use Rattle.sdb_striped_lock.specs.declared.striped_lock.RootSeats.{RootSeats}
 
--- an item of a list that has some
+-- an item of a list that isn't empty
 pub element_at : {A : Type 0} (xs : List A) (n : ℕ) → length xs ≡ n → 0 < n → A
 element_at [] n e lt = absurd (omega (arith, e, lt))
 element_at (x ∷ xs) n e lt = x
 
 module _ {T : Type 0} where
-  -- what the seat there has seen, whatever stands in for none
+  -- the observed value of the seat at an index, for any default
   pub seen_at_index : (seats : List (Seat T)) (i : ℕ) (s : Seat T) (x : T) → i < length seats
       → HasSeen (slice_index_or seats i s) x → HasSeenAt seats i x
   seen_at_index seats i s x lt h d = subst (λ (t : Seat T). HasSeen t x) (get_or_default seats i s d lt) h
@@ -30,7 +30,7 @@ module _ {T : Type 0} where
       let x = observation_exists (slice_index_or seats i s) in
       (x.0, seen_at_index seats i s x.0 (omega (arith, e, lt)) x.1)
 
-  -- the seats of a caller have seen one value at each place
+  -- the seats of a caller have observed one value at each index
   pub have_seen_unique : (s : SeatSet T) (i : ℕ) (x y : T) → SeatSetHasSeen s i x → SeatSetHasSeen s i y → x ≡ y
   have_seen_unique s i x y h k = seen_unique s.seats.items i x y s.has_every_stripe h k
 

@@ -1,4 +1,4 @@
--- Laws of queues: what one call changes of which queue, and takes that follow one another.
+-- Laws of queues: the frame of each call, and consecutive takes.
 use Rattle.std.proofs.Common.{◌≡◌, ℕ, zero, suc, ◌+◌, ◌≤◌, Bool, true, false, cond, List, [], ◌∷◌, ◌++◌, take, drop, length, Option, Some, None, nat_eq, refl, sym, ap, ◌∙◌, arith, drop-drop}
 use Rattle.std.specs.List.{IsDistinct, AllByRecursion}
 use Rattle.std.specs.Option.{option_map_or}
@@ -35,7 +35,7 @@ pub queue_at_opened_other : (k n : ℕ) (w : PlainQueue) (qs : List (ℕ × Plai
 queue_at_opened_other k n w [] h = cond_of_distinct (nat_eq k n) k n (Some w) None refl h
 queue_at_opened_other k n w (q ∷ qs) h = ap (cond (nat_eq k q.0) (Some q.1)) (queue_at_opened_other k n w qs h)
 
--- ---- a queue that moves
+-- ---- a queue that advances
 
 replace_found : (b : Bool) (n : ℕ) (q : ℕ × PlainQueue) (w : PlainQueue) (x : PlainQueue) (qs rest : List (ℕ × PlainQueue))
     → nat_eq n q.0 ≡ b → cond b (Some q.1) (queue_at n qs) ≡ Some x
@@ -111,7 +111,7 @@ queue_at_removed n (q ∷ qs) h =
     remove_found (nat_eq n q.0) n q qs (remove_queue n qs) refl (λ e. ap (λ k. queue_at k qs) e ∙ queue_at_none q.0 qs h.0)
     (queue_at_removed n qs h.1)
 
--- ---- takes that follow one another
+-- ---- consecutive takes
 
 take_of_nil : (n : ℕ) → let es : List PlainEntry = [] in take n es ≡ []
 take_of_nil zero = refl
@@ -126,7 +126,7 @@ take_append_drop (suc a) b (e ∷ es) =
     ap (λ n. e ∷ (take a es ++ take b (drop n (e ∷ es)))) long ∙ ap (λ l. e ∷ l) (take_append_drop a b es)
     ∙ ap (λ n. take n (e ∷ es)) (sym both)
 
--- they give what one take gives of as many
+-- two consecutive takes return what one take of both sizes returns
 pub takes_append : (log : List PlainEntry) (a b : ℕ) (w : PlainQueue)
     → pending_entries log a w ++ pending_entries log b (advance log a w) ≡ pending_entries log (a + b) w
 takes_append log a b w =

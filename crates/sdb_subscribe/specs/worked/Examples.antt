@@ -1,4 +1,4 @@
--- Rows worked by hand: queues of a log that grows.
+-- Examples: queues of a growing log.
 use Rattle.std.specs.Prelude.{◌≡◌, ℕ, List, [], ◌∷◌, map, take, Option, Some, None, Err, option_map, unwrap_or, codes, refl}
 use Rattle.std.specs.Result.{result_ok}
 use Rattle.sdb_oplog.specs.Plain.{delete, PlainEntry}
@@ -22,7 +22,7 @@ log n = take n (entry 0 ∷ entry 1 ∷ entry 2 ∷ [])
 abbrev versions : Option (List PlainEntry) → Option (List ℕ)
 versions = option_map (map (λ e. e.version))
 
--- two queues: of the number 3 from version 1 on, and of the number 4 from version 5 on
+-- two queues: owner 3 from version 1 on, and owner 4 from version 5 on
 abbrev none_open : PlainQueues
 none_open = record { next = 0; queues = [] }
 
@@ -38,7 +38,7 @@ start = two_open.queues
 pub row_numbers : two_open.next ≡ 2
 row_numbers = refl
 
--- the first is given version 1, then nothing, then version 2 once it is stored
+-- the first reads version 1, then nothing, then version 2 after it is stored
 pub row_first : versions (take_result (log 2) 0 10 start) ≡ Some (1 ∷ [])
 row_first = refl
 
@@ -51,7 +51,7 @@ row_none = refl
 pub row_next : versions (take_result (log 3) 0 10 later) ≡ Some (2 ∷ [])
 row_next = refl
 
--- at most as many as are asked for
+-- at most the requested number
 pub row_most : versions (take_result (log 3) 0 1 start) ≡ Some (1 ∷ [])
 row_most = refl
 
@@ -59,7 +59,7 @@ row_most = refl
 pub row_beyond : versions (take_result (log 3) 1 10 later) ≡ Some []
 row_beyond = refl
 
--- no queue has the number 2, nor 0 after it is closed
+-- no queue has number 2, nor number 0 after it is closed
 pub row_unknown : versions (take_result (log 3) 2 10 start) ≡ None
 row_unknown = refl
 
@@ -69,7 +69,7 @@ row_closed = refl
 pub row_other : versions (take_result (log 3) 1 10 (remove_queue 0 start)) ≡ Some []
 row_other = refl
 
--- the number 4 doesn't know the first: it takes nothing of it, and doesn't close it
+-- owner 4 doesn't know the first queue: it can neither read nor close it
 pub row_of_another : versions (take_result_by (log 3) 4 0 10 start) ≡ None
 row_of_another = refl
 
@@ -86,7 +86,7 @@ row_left_open = refl
 pub row_used_up : open_queue 3 0 (record { next = 18446744073709551615; queues = [] }) ≡ Err E11
 row_used_up = refl
 
--- a ring that holds versions 1 and 2 stays while version 0 is taken, and then gives its first
+-- a ring buffer with versions 1 and 2 is unchanged while version 0 is read, and then gives its first entry
 abbrev ringed : RingedQueue
 ringed = record { queue = record { start = 0; taken = 0; by = 3 }; ring = entry 1 ∷ entry 2 ∷ [] }
 

@@ -1,4 +1,4 @@
--- Rows: components that meet, and what both ways give.
+-- Examples: concurrent components and the values that both orders make.
 use Rattle.std.specs.Prelude.{◌≡◌, ℕ, ◌≤◌, ⊤, [], ◌∷◌, codes, pos, Option, Some, None, option_and_then, refl}
 use Rattle.sdb_value.specs.Value.{Value, text, list, object, whole, no_items, item, no_members, member, index, key}
 use Rattle.sdb_component.specs.Plain.{na, si, sd, li, ld, lr, od, or, PlainComponent}
@@ -7,7 +7,7 @@ use Rattle.sdb_transform.specs.declared.side.Side.TheVariants.{Left, Right}
 use Rattle.sdb_transform.specs.Transform.{transform, component_at}
 use Rattle.sdb_transform.specs.Convergence.{WellMade, StaysInRange}
 
--- a then what stands for b, and b then what stands for a
+-- a and then b transformed against it, and the other order
 abbrev pub apply_a_first : Value → PlainComponent → PlainComponent → Option Value
 apply_a_first d a b = option_and_then (λ right. apply (a ∷ right) d) (transform Right b a)
 
@@ -30,7 +30,7 @@ one_item v = list (item v no_items)
 abbrev keyed : Value → Value
 keyed v = object (member (codes "k") v no_members)
 
--- A stands before B, which the right one inserts at the same index
+-- A goes before B, which the right one inserts at the same index
 pub row_inserts : ConvergenceExample (one_item (letter 120)) (component_at [] (li 0 (letter 65))) (component_at [] (li 0 (letter 66)))
     (Some (list (item (letter 65) (item (letter 66) (item (letter 120) no_items)))))
 row_inserts = record { one_way = refl; other_way = refl }
@@ -73,13 +73,13 @@ row_sums = record { one_way = refl; other_way = refl }
 -- ---- the premises
 
 pub row_made : WellMade (component_at [] (od (codes "k") (int 9))) (keyed (int 1))
-row_made = record { place = keyed (int 1); result = object no_members; found = refl; accepted = refl; key = refl }
+row_made = record { position = keyed (int 1); result = object no_members; found = refl; accepted = refl; key = refl }
 
--- what stands for the right one is at 5
+-- the right one is transformed to offset 5
 pub row_bound : StaysInRange Right (component_at [] (si 3 (codes "x"))) (component_at [] (si 3 (codes "yz")))
     ≡ (3 ≤ 3 → 5 ≤ 9007199254740991)
 row_bound = refl
 
--- of two that are apart nothing is raised
+-- disjoint components raise nothing
 pub row_no_bound : StaysInRange Left (component_at (index 0 ∷ []) (na (pos 1))) (component_at (index 1 ∷ []) (na (pos 1))) ≡ ⊤
 row_no_bound = refl

@@ -1,4 +1,4 @@
--- Rows: components carried past one another, and operations.
+-- Examples: transforms of components and of operations.
 use Rattle.std.specs.Prelude.{◌≡◌, [], ◌∷◌, Some, None, codes, pos, refl}
 use Rattle.sdb_value.specs.Value.{whole, text}
 use Rattle.sdb_component.specs.Plain.{PlainAct, PlainComponent, si, sd, li, ld, lr}
@@ -10,14 +10,14 @@ use Rattle.sdb_transform.specs.Transform.{transform}
 abbrev at_root : PlainAct → PlainComponent
 at_root a = record { path = []; act = a }
 
--- ---- one component after another
+-- ---- one component against another
 
 pub row_split : (side : Side)
     → transform side (at_root (sd 1 (codes "bcde"))) (at_root (si 3 (codes "XYZ")))
     ≡ Some (at_root (sd 1 (codes "bc")) ∷ at_root (sd 4 (codes "de")) ∷ [])
 row_split side = refl
 
--- of "a" and U+1F600 the second is two units wide
+-- in "a" and U+1F600 the second character has two code units
 pub row_pair : (side : Side)
     → transform side (at_root (sd 0 (97 ∷ 240 ∷ 159 ∷ 152 ∷ 128 ∷ []))) (at_root (si 2 (codes "x"))) ≡ None
 row_pair side = refl
@@ -40,7 +40,7 @@ pub row_replaced : (side : Side)
     ≡ Some (at_root (li 0 (whole (pos 2))) ∷ [])
 row_replaced side = refl
 
--- ---- operations past one another
+-- ---- operations against each other
 
 pub row_lists : cross_ops (at_root (li 0 (text (codes "B"))) ∷ []) (at_root (li 0 (text (codes "A"))) ∷ []) ≡
     Some (record {

@@ -1,4 +1,4 @@
--- Laws of places: a path that goes on behind another, and a place that is written twice.
+-- Laws of paths: a concatenated path, and two writes at one path.
 use Rattle.std.specs.Prelude.{◌≡◌, ℕ, zero, suc, List, [], ◌∷◌, ◌++◌, Option, Some, None, Bool, true, false, cond, refl}
 use Rattle.std.proofs.Common.{ap, ◌∙◌}
 use Rattle.std.specs.Option.{option_and_then, option_map_or}
@@ -40,7 +40,7 @@ set_member_set_member : (k : List ℕ) (ms : Members) (u v : Value) → set_memb
 set_member_set_member k no_members u v = refl
 set_member_set_member k (member l d ms) u v = set_member_set_member_cond (texts_equal k l) k l d u v ms refl (set_member_set_member k ms u v)
 
--- what was written one step down stands there
+-- a written value is read back at its step
 pub child_with_child : (w : PlainStep) (d c u : Value) → child w d ≡ Some c → child w (with_child w d u) ≡ Some u
 child_with_child (index i) (list ds) c u e = item_at_set_item i ds c u e
 child_with_child (key k) (object ms) c u e = member_at_set_member k ms c u e
@@ -55,7 +55,7 @@ child_with_child (key k) (whole n) c u e = cc
 child_with_child (key k) (text s) c u e = cc
 child_with_child (key k) (list ds) c u e = cc
 
--- what is written one step down last stands there alone
+-- the last of two writes at one step remains
 pub with_child_with_child : (w : PlainStep) (d u v : Value) → with_child w (with_child w d u) v ≡ with_child w d v
 with_child_with_child (index i) (list ds) u v = ap list (set_item_set_item i ds u v)
 with_child_with_child (key k) (object ms) u v = ap object (set_member_set_member k ms u v)
@@ -78,7 +78,7 @@ at_append_step : (o : Option Value) (p q : List PlainStep)
 at_append_step None p q below = refl
 at_append_step (Some c) p q below = below c
 
--- what is at a path that goes on behind another
+-- the value at a concatenated path
 pub at_append : (d : Value) (p q : List PlainStep) → value_at d (p ++ q) ≡ option_and_then (λ u. value_at u q) (value_at d p)
 at_append d [] q = refl
 at_append d (w ∷ p) q = at_append_step (child w d) p q (λ c. at_append c p q)
@@ -91,7 +91,7 @@ with_append_step : (o : Option Value) (w : PlainStep) (d u v : Value) (p q : Lis
 with_append_step None w d u v p q e below = refl
 with_append_step (Some c) w d u v p q e below = ap (with_child w d) (below c e)
 
--- what is written at a path that goes on behind another
+-- a write at a concatenated path
 pub with_append : (d u v : Value) (p q : List PlainStep) → value_at d p ≡ Some u → with_value_at d (p ++ q) v ≡ with_value_at d p (with_value_at u q v)
 with_append d u v [] q e = let s : d ≡ u = cc in ap (λ x. with_value_at x q v) s
 with_append d u v (w ∷ p) q e = with_append_step (child w d) w d u v p q e (λ c h. with_append c u v p q h)
@@ -103,7 +103,7 @@ at_with_step None w d u v p is e below = cc
 at_with_step (Some c) w d u v p is e below =
     ap (option_and_then (λ x. value_at x p)) (child_with_child w d c (with_value_at c p v) is) ∙ below c e
 
--- what was written at a place stands there
+-- a written value is read back at its path
 pub at_with : (d u v : Value) (p : List PlainStep) → value_at d p ≡ Some u → value_at (with_value_at d p v) p ≡ Some v
 at_with d u v [] e = refl
 at_with d u v (w ∷ p) e = at_with_step (child w d) w d u v p refl e (λ c h. at_with c u v p h)
@@ -119,7 +119,7 @@ with_with_step (Some c) w d u v x p is e below =
     ∙ ap (with_child w f) (below c e)
     ∙ with_child_with_child w d (with_value_at c p v) (with_value_at c p x)
 
--- what is written at a place last stands there alone
+-- the last of two writes at one path remains
 pub with_with : (d u v x : Value) (p : List PlainStep) → value_at d p ≡ Some u → with_value_at (with_value_at d p v) p x ≡ with_value_at d p x
 with_with d u v x [] e = refl
 with_with d u v x (w ∷ p) e = with_with_step (child w d) w d u v x p refl e (λ c h. with_with c u v x p h)

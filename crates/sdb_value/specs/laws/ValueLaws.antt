@@ -1,15 +1,15 @@
--- Laws of values and of the places in them.
+-- Laws of values and of paths in them.
 use Rattle.std.specs.Prelude.{◌≡◌, ℕ, zero, suc, List, [], ◌∷◌, Option, Some, None, Bool, true, false, cond, refl}
 use Rattle.std.specs.Option.{OnSome, option_and_then, option_map_or}
 use Rattle.std.proofs.Common.{sym, ap, ◌∙◌, subst}
 use Rattle.sdb_value.specs.Value.{Value, null, truth, whole, text, list, object, Items, no_items, item, Members, no_members, member}
 use Rattle.sdb_value.specs.Value.{PlainStep, key, index, item_at, member_at, set_item, set_member, texts_equal, as_text, as_list, as_object, child, with_child, value_at, with_value_at}
 
--- what is said of a value that is there
+-- a fact about a present option
 pub of_some : {A P : Type 0} (r : Option A) (x : A) → r ≡ Some x → OnSome r P → P
 of_some {A} {P} r x e h = let Q : Option A → Type 0 = λ o. OnSome o P in subst Q e h
 
--- of which kind a value is, by what is inside
+-- the kind of a value, from its inside
 pub eq_text_of_as_text : (d : Value) (t : List ℕ) → Some t ≡ as_text d → d ≡ text t
 eq_text_of_as_text null t e = cc
 eq_text_of_as_text (truth b) t e = cc
@@ -34,7 +34,7 @@ eq_object_of_as_object (text s) ms e = cc
 eq_object_of_as_object (list es) ms e = cc
 eq_object_of_as_object (object ns) ms e = cc
 
--- what stands at a place, put back there
+-- a write of the value that is there changes nothing
 pub set_item_same : (i : ℕ) (ds : Items) (c : Value) → Some c ≡ item_at i ds → set_item i ds c ≡ ds
 set_item_same i no_items c e = refl
 set_item_same zero (item d ds) c e = let h : c ≡ d = cc in ap (λ v. item v ds) h
@@ -51,7 +51,7 @@ set_member_same k no_members c e = refl
 set_member_same k (member l d ms) c e =
     set_member_same_cond (texts_equal k l) l c d ms _ (member_at k ms) e (set_member_same k ms c)
 
--- the same one step down
+-- for one step
 with_child_same : (w : PlainStep) (d c : Value) → child w d ≡ Some c → with_child w d c ≡ d
 with_child_same (index i) (list ds) c e = ap list (set_item_same i ds c (sym e))
 with_child_same (key k) (object ms) c e = ap object (set_member_same k ms c (sym e))
@@ -72,7 +72,7 @@ with_same_at : (o : Option Value) (w : PlainStep) (p : List PlainStep) (d u : Va
 with_same_at None w p d u e h below = cc
 with_same_at (Some c) w p d u e h below = ap (with_child w d) (below c h) ∙ with_child_same w d c e
 
--- and at a path
+-- for a path
 pub with_same : (p : List PlainStep) (d u : Value) → value_at d p ≡ Some u → with_value_at d p u ≡ d
 with_same [] d u e = let s : u ≡ d = cc in s
 with_same (w ∷ p) d u e = with_same_at (child w d) w p d u refl e (λ c h. with_same p c u h)

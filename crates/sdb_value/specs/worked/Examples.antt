@@ -1,4 +1,4 @@
--- Rows: what the definitions make of small values.
+-- Examples: the definitions on small values.
 use Rattle.std.specs.Prelude.{◌≡◌, ℕ, pos, true, List, [], ◌∷◌, Some, None, codes, refl}
 use Rattle.serde_json.specs.Data as raw
 use Rattle.serde_json.specs.Find.{of_integer}
@@ -20,13 +20,13 @@ nested u =
     (member (codes "c") null no_members))
 
 -- a.1.b
-abbrev place : List PlainStep
-place = key (codes "a") ∷ index 1 ∷ key (codes "b") ∷ []
+abbrev target : List PlainStep
+target = key (codes "a") ∷ index 1 ∷ key (codes "b") ∷ []
 
-pub row_at : value_at (nested (truth true)) place ≡ Some (truth true)
+pub row_at : value_at (nested (truth true)) target ≡ Some (truth true)
 row_at = refl
 
-pub row_with : with_value_at (nested (truth true)) place (int 5) ≡ nested (int 5)
+pub row_with : with_value_at (nested (truth true)) target (int 5) ≡ nested (int 5)
 row_with = refl
 
 pub row_past_list : value_at (nested null) (key (codes "a") ∷ index 2 ∷ []) ≡ None

@@ -10,7 +10,7 @@ use Rattle.sdb_apply.proofs.act.delete_list_item.Goals as goal
 pub returns-in_err-remove_item-in-Some-clause-outcome : goal.returns-in_err-remove_item-in-Some-clause-outcome
 returns-in_err-remove_item-in-Some-clause-outcome c =
     let p = err_from_is_err_and c.from_residual.result c.from_residual.ensures.1 in
-    rw (p.1, p.2) (needs_shared false (is_unique c.args.place.now) (sym c.in-Some.ensures.unique ∙ list_shared c.in-Some.items.now c.in_err-remove_item-in-Some.ensures.shared_on_err), list_stays _ _ _ _ c.in-Some.ensures.value (of_some _ _ c.in-Some.is (c.list_mut.follows.holds _)).0 c.in_err-remove_item-in-Some.ensures.err)
+    rw (p.1, p.2) (needs_shared false (is_unique c.args.target.now) (sym c.in-Some.ensures.unique ∙ list_shared c.in-Some.items.now c.in_err-remove_item-in-Some.ensures.shared_on_err), list_stays _ _ _ _ c.in-Some.ensures.value (of_some _ _ c.in-Some.is (c.list_mut.follows.holds _)).0 c.in_err-remove_item-in-Some.ensures.err)
 
 pub returns-in_ok-remove_item-in-Some-clause-outcome : goal.returns-in_ok-remove_item-in-Some-clause-outcome
 returns-in_ok-remove_item-in-Some-clause-outcome c =

@@ -11,7 +11,7 @@ use Rattle.sdb_apply.proofs.act.insert_text.Goals as goal
 pub returns-in_err-insert-in-Some-clause-outcome : goal.returns-in_err-insert-in-Some-clause-outcome
 returns-in_err-insert-in-Some-clause-outcome c =
     let p = err_from_is_err_and c.from_residual.result c.from_residual.ensures.1 in
-    rw (p.1, p.2) (needs_put (is_unique c.args.place.now), text_stays _ _ _ _ c.in-Some.ensures.value (of_some _ _ c.in-Some.is (c.text_mut.follows.holds _)).0 c.in_err-insert-in-Some.ensures.err)
+    rw (p.1, p.2) (needs_put (is_unique c.args.target.now), text_stays _ _ _ _ c.in-Some.ensures.value (of_some _ _ c.in-Some.is (c.text_mut.follows.holds _)).0 c.in_err-insert-in-Some.ensures.err)
 
 pub returns-in_ok-insert-in-Some-clause-outcome : goal.returns-in_ok-insert-in-Some-clause-outcome
 returns-in_ok-insert-in-Some-clause-outcome c =

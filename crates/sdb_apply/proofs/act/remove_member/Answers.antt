@@ -9,7 +9,7 @@ use Rattle.sdb_apply.proofs.act.remove_member.Goals as goal
 pub returns-in_err-remove_at_key-in-Some-clause-outcome : goal.returns-in_err-remove_at_key-in-Some-clause-outcome
 returns-in_err-remove_at_key-in-Some-clause-outcome c =
     let p = err_from_is_err_and c.from_residual.result c.from_residual.ensures.1 in
-    rw (p.1, p.2) (needs_shared false (is_unique c.args.place.now) (sym c.in-Some.ensures.unique ∙ c.in_err-remove_at_key-in-Some.ensures.shared_on_err), object_stays _ _ _ _ c.in-Some.ensures.value (of_some _ _ c.in-Some.is (c.object_mut.follows.holds _)).0 c.in_err-remove_at_key-in-Some.ensures.err)
+    rw (p.1, p.2) (needs_shared false (is_unique c.args.target.now) (sym c.in-Some.ensures.unique ∙ c.in_err-remove_at_key-in-Some.ensures.shared_on_err), object_stays _ _ _ _ c.in-Some.ensures.value (of_some _ _ c.in-Some.is (c.object_mut.follows.holds _)).0 c.in_err-remove_at_key-in-Some.ensures.err)
 
 pub returns-in_ok-remove_at_key-in-Some-clause-outcome : goal.returns-in_ok-remove_at_key-in-Some-clause-outcome
 returns-in_ok-remove_at_key-in-Some-clause-outcome c =

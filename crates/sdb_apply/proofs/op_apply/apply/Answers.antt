@@ -11,11 +11,11 @@ use Rattle.sdb_apply.proofs.OutcomeLemmas.{needs_mono}
 use Rattle.sdb_apply.proofs.FoldLemmas.{take_append, none_more}
 use Rattle.sdb_apply.proofs.op_apply.apply.Goals as goal
 
--- the component at i of what is read comes next
+-- the component at index i is applied next
 next_is : (s op : List PlainComponent) (i : ℕ) (c : PlainComponent) (d e : Value) → s ≡ op → i < length s → c ≡ get_or s i c → apply (take i op) d ≡ Some e → apply (take (i + 1) op) d ≡ apply_one c e
 next_is s op i c d e same h is done = rw (← same) (take_append s i c d e h is (rw same done))
 
--- nothing comes of the whole where nothing comes of a front of it
+-- an operation doesn't apply if a prefix of it doesn't
 front_none : (op : List PlainComponent) (n : ℕ) (d : Value) → apply (take n op) d ≡ None → apply op d ≡ None
 front_none op n d h = ap (λ l. apply l d) (sym (take-append-drop n op)) ∙ none_more (take n op) (drop n op) d h
 
@@ -36,7 +36,7 @@ returns-in-Err-clause-refused c =
 pub returns-in-Err-clause-none : goal.returns-in-Err-clause-none
 returns-in-Err-clause-none c = λ no. front_none c.args.op.now (c.loop-at.at + 1) (value_of c.args.value.now) (returns-in-Err-clause-refused c no)
 
--- the component at i of what is read is the one that takes memory
+-- the component at index i is the one that allocates
 at_is : (s : List PlainComponent) (i : ℕ) (c : PlainComponent) → i < length s → c ≡ get_or s i c → act_allocates_at i s ≡ act_allocates c.act
 at_is [] i c h is = absurd (omega arith)
 at_is (x ∷ s) zero c h is = ap (λ y. act_allocates y.act) (sym is)

@@ -10,7 +10,7 @@ use Rattle.sdb_chunks.proofs.chunk_edit.item_mut.Goals as goal
 pub returns-in-Unique : goal.returns-in-Unique
 returns-in-Unique g c =
     let f = g.T.TryClone.model in
-    let bs = c.args.blocks.now.items in
+    let bs = c.args.chunks.now.items in
     let k = c.in_ok-at.at in
     let i = c.in_ok-at.inside in
     let d = c.in_ok-items.field-0.now in
@@ -32,7 +32,7 @@ returns-in-Unique g c =
 pub returns-in-Shared : goal.returns-in-Shared
 returns-in-Shared g c =
     let f = g.T.TryClone.model in
-    let bs = c.args.blocks.now.items in
+    let bs = c.args.chunks.now.items in
     let k = c.in_ok-at.at in
     let i = c.in_ok-at.inside in
     let d = c.in_ok-items.field-0.now in

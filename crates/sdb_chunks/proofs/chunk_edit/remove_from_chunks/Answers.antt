@@ -11,25 +11,25 @@ use Rattle.sdb_chunks.proofs.chunk_edit.remove_from_chunks.Goals as goal
 pub returns-in_err-item-clause-err : goal.returns-in_err-item-clause-err
 returns-in_err-item-clause-err g c =
     let f = g.T.TryClone.model in
-    let bs = c.args.blocks.now.items in
+    let bs = c.args.chunks.now.items in
     let k = c.in-Some.at in
     let d = c.index_mut.result.now in
     let at = subst (λ l. IsItemPosition (chunk_models f) l c.args.index k c.in-Some.inside) c.deref.ensures.value c.in-Some.ensures.item in
-    on_err c.from_residual.result (joined_same (chunk_models f) bs k c.chunk_remove.new.block d at.index_in_range (c.in_err-item.ensures.err ∙ ap (chunk_models f) c.index_mut.ensures.value))
+    on_err c.from_residual.result (joined_same (chunk_models f) bs k c.chunk_remove.new.chunk d at.index_in_range (c.in_err-item.ensures.err ∙ ap (chunk_models f) c.index_mut.ensures.value))
 
 pub returns-in_err-item-clause-unique : goal.returns-in_err-item-clause-unique
 returns-in_err-item-clause-unique g c =
     let f = g.T.TryClone.model in
-    let bs = c.args.blocks.now.items in
+    let bs = c.args.chunks.now.items in
     let k = c.in-Some.at in
     let d = c.index_mut.result.now in
     let at = subst (λ l. IsItemPosition (chunk_models f) l c.args.index k c.in-Some.inside) c.deref.ensures.value c.in-Some.ensures.item in
-    own_changed bs k c.chunk_remove.new.block d at.index_in_range c.index_mut.ensures.value c.in_err-item.ensures.unique
+    own_changed bs k c.chunk_remove.new.chunk d at.index_in_range c.index_mut.ensures.value c.in_err-item.ensures.unique
 
 pub returns-in_err-item-clause-shared_on_err : goal.returns-in_err-item-clause-shared_on_err
 returns-in_err-item-clause-shared_on_err g c =
     let f = g.T.TryClone.model in
-    let bs = c.args.blocks.now.items in
+    let bs = c.args.chunks.now.items in
     let k = c.in-Some.at in
     let d = c.index_mut.result.now in
     let at = subst (λ l. IsItemPosition (chunk_models f) l c.args.index k c.in-Some.inside) c.deref.ensures.value c.in-Some.ensures.item in
@@ -38,7 +38,7 @@ returns-in_err-item-clause-shared_on_err g c =
 pub returns-clause-item : goal.returns-clause-item
 returns-clause-item g c =
     let f = g.T.TryClone.model in
-    let bs = c.args.blocks.now.items in
+    let bs = c.args.chunks.now.items in
     let k = c.in-Some.at in
     let d = c.index_mut.result.now in
     let at = subst (λ l. IsItemPosition (chunk_models f) l c.args.index k c.in-Some.inside) c.deref.ensures.value c.in-Some.ensures.item in
@@ -47,26 +47,26 @@ returns-clause-item g c =
 pub returns-clause-ok : goal.returns-clause-ok
 returns-clause-ok g c =
     let f = g.T.TryClone.model in
-    let bs = c.args.blocks.now.items in
+    let bs = c.args.chunks.now.items in
     let k = c.in-Some.at in
     let d = c.index_mut.result.now in
     let at = subst (λ l. IsItemPosition (chunk_models f) l c.args.index k c.in-Some.inside) c.deref.ensures.value c.in-Some.ensures.item in
-    c.remove_empty_chunk.ensures.unchanged ∙ joined_remove (chunk_models f) bs c.args.index k c.in-Some.inside c.chunk_remove.new.block d at
+    c.remove_empty_chunk.ensures.unchanged ∙ joined_remove (chunk_models f) bs c.args.index k c.in-Some.inside c.chunk_remove.new.chunk d at
     (c.in_ok-item.ensures.ok ∙ ap (λ b. remove (chunk_models f b) c.in-Some.inside) c.index_mut.ensures.value)
 
 pub returns-clause-unique : goal.returns-clause-unique
 returns-clause-unique g c =
     let f = g.T.TryClone.model in
-    let bs = c.args.blocks.now.items in
+    let bs = c.args.chunks.now.items in
     let k = c.in-Some.at in
     let d = c.index_mut.result.now in
     let at = subst (λ l. IsItemPosition (chunk_models f) l c.args.index k c.in-Some.inside) c.deref.ensures.value c.in-Some.ensures.item in
-    λ all. c.remove_empty_chunk.ensures.unique (own_changed bs k c.chunk_remove.new.block d at.index_in_range c.index_mut.ensures.value c.in_ok-item.ensures.unique all)
+    λ all. c.remove_empty_chunk.ensures.unique (own_changed bs k c.chunk_remove.new.chunk d at.index_in_range c.index_mut.ensures.value c.in_ok-item.ensures.unique all)
 
 pub returns-in_err-item-clause-shared_there : goal.returns-in_err-item-clause-shared_there
 returns-in_err-item-clause-shared_there g c =
     let f = g.T.TryClone.model in
-    let bs = c.args.blocks.now.items in
+    let bs = c.args.chunks.now.items in
     let k = c.in-Some.at in
     let d = c.index_mut.result.now in
     let at = subst (λ l. IsItemPosition (chunk_models f) l c.args.index k c.in-Some.inside) c.deref.ensures.value c.in-Some.ensures.item in
@@ -76,18 +76,18 @@ returns-in_err-item-clause-shared_there g c =
 pub returns-in_err-item-clause-bound : goal.returns-in_err-item-clause-bound
 returns-in_err-item-clause-bound g c =
     let f = g.T.TryClone.model in
-    let bs = c.args.blocks.now.items in
+    let bs = c.args.chunks.now.items in
     let k = c.in-Some.at in
     let d = c.index_mut.result.now in
     let at = subst (λ l. IsItemPosition (chunk_models f) l c.args.index k c.in-Some.inside) c.deref.ensures.value c.in-Some.ensures.item in
-    longest_kept bs k c.chunk_remove.new.block d at.index_in_range c.index_mut.ensures.value c.in_err-item.ensures.bound
+    longest_kept bs k c.chunk_remove.new.chunk d at.index_in_range c.index_mut.ensures.value c.in_err-item.ensures.bound
 
 pub returns-clause-bound : goal.returns-clause-bound
 returns-clause-bound g c =
     let f = g.T.TryClone.model in
-    let bs = c.args.blocks.now.items in
+    let bs = c.args.chunks.now.items in
     let k = c.in-Some.at in
     let d = c.index_mut.result.now in
     let at = subst (λ l. IsItemPosition (chunk_models f) l c.args.index k c.in-Some.inside) c.deref.ensures.value c.in-Some.ensures.item in
-    let l = longest_kept bs k c.chunk_remove.new.block d at.index_in_range c.index_mut.ensures.value c.in_ok-item.ensures.bound in
+    let l = longest_kept bs k c.chunk_remove.new.chunk d at.index_in_range c.index_mut.ensures.value c.in_ok-item.ensures.bound in
     omega (arith, l, c.remove_empty_chunk.ensures.bound)

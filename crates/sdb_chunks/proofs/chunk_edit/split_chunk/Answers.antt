@@ -11,37 +11,37 @@ use Rattle.sdb_chunks.proofs.chunk_edit.split_chunk.Goals as goal
 pub returns-in_err-high-clause-unchanged : goal.returns-in_err-high-clause-unchanged
 returns-in_err-high-clause-unchanged g c =
     let f = g.T.TryClone.model in
-    let bs = c.args.blocks.now.items in
+    let bs = c.args.chunks.now.items in
     let k = c.args.at in
     let e = Unique c.new.result in
     let d = c.index_mut.result.now in
     let put : c.insert.new.self.items ≡ insert bs (k + 1) e = c.in_ok-insert.ensures.items in
     let is : d ≡ get_or bs k d = c.index_mut.ensures.value ∙ ap (λ l. get_or l k d) put ∙ get_before bs k e d c.requires in
-    let a = c.split_off_half.new.block in
+    let a = c.split_off_half.new.chunk in
     ap (λ l. flatten_models f (set l k a)) put ∙ joined_spare (chunk_models f) bs k a d e c.requires (ap (map f) c.new.ensures.items) (c.in_err-high.ensures.err ∙ ap (chunk_models f) is)
 
 pub returns-in_err-high-clause-unique : goal.returns-in_err-high-clause-unique
 returns-in_err-high-clause-unique g c =
     let f = g.T.TryClone.model in
-    let bs = c.args.blocks.now.items in
+    let bs = c.args.chunks.now.items in
     let k = c.args.at in
     let e = Unique c.new.result in
     let d = c.index_mut.result.now in
     let put : c.insert.new.self.items ≡ insert bs (k + 1) e = c.in_ok-insert.ensures.items in
     let is : d ≡ get_or bs k d = c.index_mut.ensures.value ∙ ap (λ l. get_or l k d) put ∙ get_before bs k e d c.requires in
-    let a = c.split_off_half.new.block in
+    let a = c.split_off_half.new.chunk in
     λ all. ap (λ l. all_unique (set l k a)) put ∙ own_inserted bs k a e d c.requires refl is c.in_err-high.ensures.unique all
 
 pub returns-clause-unchanged : goal.returns-clause-unchanged
 returns-clause-unchanged g c =
     let f = g.T.TryClone.model in
-    let bs = c.args.blocks.now.items in
+    let bs = c.args.chunks.now.items in
     let k = c.args.at in
     let e = Unique c.new.result in
     let d = c.index_mut.result.now in
     let put : c.insert.new.self.items ≡ insert bs (k + 1) e = c.in_ok-insert.ensures.items in
     let is : d ≡ get_or bs k d = c.index_mut.ensures.value ∙ ap (λ l. get_or l k d) put ∙ get_before bs k e d c.requires in
-    let a = c.split_off_half.new.block in
+    let a = c.split_off_half.new.chunk in
     let b = c.in_ok-high.high in
     let m = length (items_of d) / 2 in
     ap (λ l. flatten_models f (set (set l k a) (k + 1) b)) put
@@ -50,13 +50,13 @@ returns-clause-unchanged g c =
 pub returns-clause-unique : goal.returns-clause-unique
 returns-clause-unique g c =
     let f = g.T.TryClone.model in
-    let bs = c.args.blocks.now.items in
+    let bs = c.args.chunks.now.items in
     let k = c.args.at in
     let e = Unique c.new.result in
     let d = c.index_mut.result.now in
     let put : c.insert.new.self.items ≡ insert bs (k + 1) e = c.in_ok-insert.ensures.items in
     let is : d ≡ get_or bs k d = c.index_mut.ensures.value ∙ ap (λ l. get_or l k d) put ∙ get_before bs k e d c.requires in
-    let a = c.split_off_half.new.block in
+    let a = c.split_off_half.new.chunk in
     let b = c.in_ok-high.high in
     λ all. ap (λ l. all_unique (set (set l k a) (k + 1) b)) put
     ∙ own_set (set (insert bs (k + 1) e) k a) (k + 1) b c.in_ok-high.ensures.other (own_inserted bs k a e d c.requires refl is c.in_ok-high.ensures.unique all)
@@ -64,13 +64,13 @@ returns-clause-unique g c =
 pub returns-in_err-high-clause-bound : goal.returns-in_err-high-clause-bound
 returns-in_err-high-clause-bound g c =
     let f = g.T.TryClone.model in
-    let bs = c.args.blocks.now.items in
+    let bs = c.args.chunks.now.items in
     let k = c.args.at in
     let e = Unique c.new.result in
     let d = c.index_mut.result.now in
     let put : c.insert.new.self.items ≡ insert bs (k + 1) e = c.in_ok-insert.ensures.items in
     let is : d ≡ get_or bs k d = c.index_mut.ensures.value ∙ ap (λ l. get_or l k d) put ∙ get_before bs k e d c.requires in
-    let a = c.split_off_half.new.block in
+    let a = c.split_off_half.new.chunk in
     let n = max_chunk_length bs in
     let m = ap (λ l. max_chunk_length (set l k a)) put in
     let none = ap length c.new.ensures.items in
@@ -83,13 +83,13 @@ returns-in_err-high-clause-bound g c =
 pub returns-clause-bound : goal.returns-clause-bound
 returns-clause-bound g c =
     let f = g.T.TryClone.model in
-    let bs = c.args.blocks.now.items in
+    let bs = c.args.chunks.now.items in
     let k = c.args.at in
     let e = Unique c.new.result in
     let d = c.index_mut.result.now in
     let put : c.insert.new.self.items ≡ insert bs (k + 1) e = c.in_ok-insert.ensures.items in
     let is : d ≡ get_or bs k d = c.index_mut.ensures.value ∙ ap (λ l. get_or l k d) put ∙ get_before bs k e d c.requires in
-    let a = c.split_off_half.new.block in
+    let a = c.split_off_half.new.chunk in
     let b = c.in_ok-high.high in
     let n = max_chunk_length bs in
     let m = ap (λ l. max_chunk_length (set (set l k a) (k + 1) b)) put in
@@ -103,13 +103,13 @@ returns-clause-bound g c =
 pub returns-clause-half : goal.returns-clause-half
 returns-clause-half g c =
     let f = g.T.TryClone.model in
-    let bs = c.args.blocks.now.items in
+    let bs = c.args.chunks.now.items in
     let k = c.args.at in
     let e = Unique c.new.result in
     let d = c.index_mut.result.now in
     let put : c.insert.new.self.items ≡ insert bs (k + 1) e = c.in_ok-insert.ensures.items in
     let is : d ≡ get_or bs k d = c.index_mut.ensures.value ∙ ap (λ l. get_or l k d) put ∙ get_before bs k e d c.requires in
-    let a = c.split_off_half.new.block in
+    let a = c.split_off_half.new.chunk in
     let b = c.in_ok-high.high in
     let both = halves_count f (items_of a) (items_of b) (items_of d) c.in_ok-high.ensures.lower_half c.in_ok-high.ensures.high in
     let was = ap (λ b. length (items_of b)) is in

@@ -9,7 +9,7 @@ use Rattle.sdb_chunks.proofs.chunk_split.split_into_chunks.Goals as goal
 pub loop-left-preserved : goal.loop-left-preserved
 loop-left-preserved g c =
     let xs = c.loop-left.left.items in
-    let bs = c.loop-left.blocks.items in
+    let bs = c.loop-left.chunks.items in
     record {
       whole = cut_off xs c.split_off.new.self.items bs c.push.new.self.items (Unique c.in_ok-last.last) _
           c.in_ok-last.ensures.items c.in_ok-last.ensures.tail c.in_ok-push.ensures.items ∙ c.loop-left.invariant.whole;
@@ -20,12 +20,12 @@ loop-left-preserved g c =
 
 pub returns-clause-unique : goal.returns-clause-unique
 returns-clause-unique g c =
-    let bs = c.loop-left.blocks.items in
+    let bs = c.loop-left.chunks.items in
     ap all_unique c.reverse.ensures.items ∙ own_reverse c.push-2.new.self.items (ap all_unique c.in_ok-push-2.ensures.items ∙ own_more bs _ c.loop-left.invariant.own refl)
 
 pub returns-clause-bound : goal.returns-clause-bound
 returns-clause-bound g c =
-    let bs = c.loop-left.blocks.items in
+    let bs = c.loop-left.chunks.items in
     let all = c.push-2.new.self.items in
     let e = ap max_chunk_length c.reverse.ensures.items in
     let r = longest_reverse all in

@@ -6,9 +6,9 @@ use Rattle.sdb_chunks.proofs.chunk_split.split_into_chunks.Given as goal
 
 abbrev pub invariant-loop-left : goal.invariant-loop-left
 invariant-loop-left g l = record {
-  whole : l.left.items ++ flat_map items_of (reverse l.blocks.items) ≡ l.fn.items.items;
-  own : all_unique l.blocks.items ≡ true;
-  short : max_chunk_length l.blocks.items ≤ l.most;
+  whole : l.left.items ++ flat_map items_of (reverse l.chunks.items) ≡ l.fn.items.items;
+  own : all_unique l.chunks.items ≡ true;
+  short : max_chunk_length l.chunks.items ≤ l.most;
 }
 
 abbrev pub decreases-loop-left : goal.decreases-loop-left

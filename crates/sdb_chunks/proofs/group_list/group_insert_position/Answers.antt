@@ -5,8 +5,8 @@ use Rattle.sdb_chunks.specs.ChunkGroup.{group_chunks}
 use Rattle.sdb_chunks.proofs.GroupLemmas.{insert_position_in_group, offset_past_group}
 use Rattle.sdb_chunks.proofs.group_list.group_insert_position.Goals as goal
 
-pub returns-then-left-len-clause-place : goal.returns-then-left-len-clause-place
-returns-then-left-len-clause-place g c =
+pub returns-then-left-len-clause-position : goal.returns-then-left-len-clause-position
+returns-then-left-len-clause-position g c =
     let group = c.index-groups-at.result in
     let w : c.loop-at.left ≤ length (flat_map items_of (group_chunks group)) = omega (arith, c.if-left-len.true, c.len.ensures) in
     insert_position_in_group g.T.TryClone.model c.args.groups.now c.args.index c.loop-at.at c.loop-at.left group c.loop-at-test.true c.index-groups-at.is c.loop-at.invariant.sum w

@@ -17,7 +17,7 @@ returns-in_err-insert-in-Some-clause-err g c =
     let i = c.in-Some.inside in
     let d = c.index_mut.result.now in
     let was : d ≡ get_or gs k d = c.index_mut.ensures.value in
-    let at = subst (λ l. IsInsertPosition s l c.args.index k i) c.deref.ensures.value c.in-Some.ensures.place in
+    let at = subst (λ l. IsInsertPosition s l c.args.index k i) c.deref.ensures.value c.in-Some.ensures.position in
     on_err c.from_residual.result (joined_same s gs k c.insert.new.self d at.index_in_range (c.in_err-insert-in-Some.ensures.err ∙ ap s was))
 
 pub returns-in_ok-insert-in-Some-clause-ok : goal.returns-in_ok-insert-in-Some-clause-ok
@@ -29,7 +29,7 @@ returns-in_ok-insert-in-Some-clause-ok g c =
     let i = c.in-Some.inside in
     let d = c.index_mut.result.now in
     let was : d ≡ get_or gs k d = c.index_mut.ensures.value in
-    let at = subst (λ l. IsInsertPosition s l c.args.index k i) c.deref.ensures.value c.in-Some.ensures.place in
+    let at = subst (λ l. IsInsertPosition s l c.args.index k i) c.deref.ensures.value c.in-Some.ensures.position in
     joined_insert s gs c.args.index k i (f c.args.item) c.insert.new.self d at (c.in_ok-insert-in-Some.ensures.ok ∙ ap (λ b. insert (s b) i (f c.args.item)) was)
 
 pub returns-in_ok-insert-in-Some-clause-in_range : goal.returns-in_ok-insert-in-Some-clause-in_range
@@ -41,7 +41,7 @@ returns-in_ok-insert-in-Some-clause-in_range g c =
     let i = c.in-Some.inside in
     let d = c.index_mut.result.now in
     let was : d ≡ get_or gs k d = c.index_mut.ensures.value in
-    let at = subst (λ l. IsInsertPosition s l c.args.index k i) c.deref.ensures.value c.in-Some.ensures.place in
+    let at = subst (λ l. IsInsertPosition s l c.args.index k i) c.deref.ensures.value c.in-Some.ensures.position in
     sym (le-leb c.args.index (length (flatten_group_models f gs)) (place_within s gs c.args.index k i d at))
 
 pub returns-in_ok-insert-in-Some-clause-unique_after : goal.returns-in_ok-insert-in-Some-clause-unique_after
@@ -53,7 +53,7 @@ returns-in_ok-insert-in-Some-clause-unique_after g c =
     let i = c.in-Some.inside in
     let d = c.index_mut.result.now in
     let was : d ≡ get_or gs k d = c.index_mut.ensures.value in
-    let at = subst (λ l. IsInsertPosition s l c.args.index k i) c.deref.ensures.value c.in-Some.ensures.place in
+    let at = subst (λ l. IsInsertPosition s l c.args.index k i) c.deref.ensures.value c.in-Some.ensures.position in
     let a = c.insert.new.self in
     let put : s a ≡ insert (s (get_or gs k d)) i (f c.args.item) = c.in_ok-insert-in-Some.ensures.ok ∙ ap (λ b. insert (s b) i (f c.args.item)) was in
     let more = put_inside (s (get_or gs k d)) i (f c.args.item) (at.within d) in
@@ -66,7 +66,7 @@ returns-in_err-insert-in-Some-clause-bound g c =
     let gs = c.args.groups.now.items in
     let k = c.in-Some.at in
     let d = c.index_mut.result.now in
-    let at = subst (λ l. IsInsertPosition s l c.args.index k c.in-Some.inside) c.deref.ensures.value c.in-Some.ensures.place in
+    let at = subst (λ l. IsInsertPosition s l c.args.index k c.in-Some.inside) c.deref.ensures.value c.in-Some.ensures.position in
     let l = grouped_kept gs k c.insert.new.self d 20 at.index_in_range c.index_mut.ensures.value (omega (arith, c.in_err-insert-in-Some.ensures.bound)) in
     omega (arith, l)
 
@@ -76,6 +76,6 @@ returns-in_ok-insert-in-Some-clause-bound g c =
     let gs = c.args.groups.now.items in
     let k = c.in-Some.at in
     let d = c.index_mut.result.now in
-    let at = subst (λ l. IsInsertPosition s l c.args.index k c.in-Some.inside) c.deref.ensures.value c.in-Some.ensures.place in
+    let at = subst (λ l. IsInsertPosition s l c.args.index k c.in-Some.inside) c.deref.ensures.value c.in-Some.ensures.position in
     let l = grouped_kept gs k c.insert.new.self d 20 at.index_in_range c.index_mut.ensures.value (omega (arith, c.in_ok-insert-in-Some.ensures.bound)) in
     omega (arith, l)

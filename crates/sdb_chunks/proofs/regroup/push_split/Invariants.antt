@@ -5,8 +5,8 @@ use Rattle.sdb_chunks.proofs.regroup.push_split.Given as goal
 abbrev pub invariant-loop-start : goal.invariant-loop-start
 invariant-loop-start g l = record {
   within : l.start ≤ length l.items;
-  same : flatten_models g.T.TryClone.model l.blocks.items ≡ flatten_models g.T.TryClone.model l.initial.blocks.items ++ map g.T.TryClone.model (take l.start l.items);
-  short : max_chunk_length l.blocks.items ≤ max 20 (max_chunk_length l.initial.blocks.items);
+  same : flatten_models g.T.TryClone.model l.chunks.items ≡ flatten_models g.T.TryClone.model l.initial.chunks.items ++ map g.T.TryClone.model (take l.start l.items);
+  short : max_chunk_length l.chunks.items ≤ max 20 (max_chunk_length l.initial.chunks.items);
 }
 
 abbrev pub decreases-loop-start : goal.decreases-loop-start

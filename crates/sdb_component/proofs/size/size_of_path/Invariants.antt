@@ -3,7 +3,7 @@ use Rattle.sdb_value.specs.View.{plain_path}
 use Rattle.sdb_component.specs.Size.{path_size}
 use Rattle.sdb_component.proofs.size.size_of_path.Given as goal
 
--- what was counted, and what is left up to the limit
+-- the size so far and the rest up to the limit
 abbrev pub invariant-loop-step : goal.invariant-loop-step
 invariant-loop-step l = record {
   within : l.left ≤ l.limit;

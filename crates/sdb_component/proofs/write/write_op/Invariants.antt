@@ -4,7 +4,7 @@ use Rattle.sdb_value.specs.ToJson.{array_tail_tokens}
 use Rattle.sdb_component.specs.ToJson.{component_items}
 use Rattle.sdb_component.proofs.write.write_op.Given as goal
 
--- what is written and what is left are the whole
+-- the written part and the rest are the whole
 abbrev pub invariant-loop-component : goal.invariant-loop-component
 invariant-loop-component l = record {
   before : l.out.before ≡ l.fn.out.before;

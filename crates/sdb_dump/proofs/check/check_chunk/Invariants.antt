@@ -10,7 +10,7 @@ invariant-loop-at l = record {
   few : l.checker.entries + length l.rest ≤ l.initial.checker.entries + length l.initial.rest;
   taken : (s : PlainStage) → CheckerAtStage l.initial.checker s
       → (t : PlainStage) × CheckerAtStage l.checker t
-      × ((more : List ℕ) → check_result_from s l.initial.held.items (l.initial.rest ++ more) ≡ check_result_from t l.held.items (l.rest ++ more));
+      × ((more : List ℕ) → check_result_from s l.initial.partial.items (l.initial.rest ++ more) ≡ check_result_from t l.partial.items (l.rest ++ more));
 }
 
 abbrev pub decreases-loop-at : goal.decreases-loop-at

@@ -18,19 +18,19 @@ loop-turn-init g c = record {
   calls = omega arith;
   at_most = omega arith;
   reads = refl;
-  went = check_run_start (g.R.Source.remaining_input c.args.reader.now) c.new-checker.result c.new-held.result.items c.new-checker.ensures.checks c.new-held.ensures.items;
+  went = check_run_start (g.R.Source.remaining_input c.args.reader.now) c.new-checker.result c.new-partial.result.items c.new-checker.ensures.checks c.new-partial.ensures.items;
 }
 
 pub loop-turn-preserved : goal.loop-turn-preserved
 loop-turn-preserved g c =
-    let piece = take c.in-Ok.n c.read_into.new.buf in
+    let input = take c.in-Ok.n c.read_into.new.buf in
     record {
       room = omega (arith, c.loop-turn.invariant.room, c.read_into.auto.buf);
       few = omega (arith, c.in_ok-check_chunk-in-Ok.ensures.bound, c.loop-turn.invariant.few, c.loop-turn.invariant.room, c.read_into.auto.buf, length-take c.in-Ok.n c.read_into.new.buf);
       calls = omega (arith, c.loop-turn.invariant.calls, c.read_into.ensures.calls);
       at_most = omega (arith, c.loop-turn.invariant.at_most, c.read_into.ensures.calls);
       reads = c.in-Ok.ensures.failures ∙ c.loop-turn.invariant.reads;
-      went = check_run_step _ piece c.loop-turn.invariant.went c.in-Ok.ensures.bytes.0 c.in_ok-check_chunk-in-Ok.ensures.taken;
+      went = check_run_step _ input c.loop-turn.invariant.went c.in-Ok.ensures.bytes.0 c.in_ok-check_chunk-in-Ok.ensures.taken;
     }
 
 pub returns-in-Ok-eq0-clause-accepted : goal.returns-in-Ok-eq0-clause-accepted

@@ -9,5 +9,5 @@ invariant-loop-turn g l = record {
   calls : min (g.R.Source.calls l.fn.reader + l._turn) (2 ^ 64 - 1) ≤ g.R.Source.calls l.reader;
   at_most : g.R.Source.calls l.reader ≤ g.R.Source.calls l.fn.reader + l._turn;
   reads : g.R.Source.failures l.reader ≡ g.R.Source.failures l.fn.reader;
-  went : CheckRun (g.R.Source.remaining_input l.fn.reader) (g.R.Source.remaining_input l.reader) l.checker l.held.items;
+  went : CheckRun (g.R.Source.remaining_input l.fn.reader) (g.R.Source.remaining_input l.reader) l.checker l.partial.items;
 }

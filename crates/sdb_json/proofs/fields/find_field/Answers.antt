@@ -6,7 +6,7 @@ use Rattle.sdb_json.specs.JsonTree.{fields_view}
 use Rattle.sdb_json.proofs.ObjectLemmas.{FieldEntry, last_found, last_other}
 use Rattle.sdb_json.proofs.fields.find_field.Goals as goal
 
--- the fields up to the place before
+-- the fields up to an index, split at the last one
 cut : (fs : List FieldEntry) (at : ℕ) (f : FieldEntry) → 0 < at → at ≤ length fs → f ≡ get_or fs (at - 1) f → take at fs ≡ take (at - 1) fs ++ f ∷ []
 cut fs at f some within is =
     let on : at ≡ (at - 1) + 1 = omega arith in

@@ -120,7 +120,7 @@ parse_array-items-preserved t c =
     let done = c.in_ok-item.ensures in
     let v = c.in_ok-item.item in
     let r = c.parse_value.new.reader in
-    let less : length r < length l.reader = rw (← going.1) done.shorter in
+    let less : length r < length l.reader = rw (← going.1) done.bound in
     let turn = item_read p n l.reader r (view v) (omega (arith, l.invariant.1)) going.0 (rw (← going.1) done.ok) in (
       n - 1,
       omega (arith, l.invariant.1),
@@ -174,7 +174,7 @@ parse_object-members-preserved t c =
     let v = c.in_ok-member.member in
     let r = c.parse_value.new.reader in
     let less = read_key-shorter l.reader (Some k) s named in
-    let lesser = done.shorter in
+    let lesser = done.bound in
     let inserted = c.in_ok-push_object_field.ensures in (
       n - 1,
       omega (arith, l.invariant.1),

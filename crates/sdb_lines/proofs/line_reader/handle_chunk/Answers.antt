@@ -1,13 +1,13 @@
 use Rattle.std.proofs.lemmas.Result.{on_ok_weaker, on_err_weaker}
-use Rattle.sdb_lines.proofs.Runs.{pending-written, pending-front}
+use Rattle.sdb_lines.proofs.Runs.{line_buffer-written, line_buffer-front}
 use Rattle.sdb_lines.proofs.line_reader.handle_chunk.Goals as goal
 
 pub returns-clause-prefix_on_err : goal.returns-clause-prefix_on_err
 returns-clause-prefix_on_err g c =
-    let pending = rw c.requires.empty at c.in_ok-handle_chunk_lines.ensures.wrote_answers in
-    on_err_weaker c.write_and_flush.result (λ f. pending-front g.M.LineHandler.handles _ pending f) c.write_and_flush.ensures.prefix_on_err
+    let line_buffer = rw c.requires.empty at c.in_ok-handle_chunk_lines.ensures.wrote_answers in
+    on_err_weaker c.write_and_flush.result (λ f. line_buffer-front g.M.LineHandler.handles _ line_buffer f) c.write_and_flush.ensures.prefix_on_err
 
 pub returns-clause-wrote_answers : goal.returns-clause-wrote_answers
 returns-clause-wrote_answers g c =
-    let pending = rw c.requires.empty at c.in_ok-handle_chunk_lines.ensures.wrote_answers in
-    on_ok_weaker c.write_and_flush.result (λ w. pending-written g.M.LineHandler.handles _ pending w) c.write_and_flush.ensures.wrote
+    let line_buffer = rw c.requires.empty at c.in_ok-handle_chunk_lines.ensures.wrote_answers in
+    on_ok_weaker c.write_and_flush.result (λ w. line_buffer-written g.M.LineHandler.handles _ line_buffer w) c.write_and_flush.ensures.wrote

@@ -7,14 +7,14 @@ use Rattle.sdb_lines.proofs.line_reader.handle_chunk_lines.Given as goal
 
 abbrev pub invariant-loop-at : goal.invariant-loop-at
 invariant-loop-at g l = record {
-  room : l.pending.counts.lines + length l.rest ≤ l.initial.pending.counts.lines + length l.initial.rest;
+  room : l.line_buffer.counts.lines + length l.rest ≤ l.initial.line_buffer.counts.lines + length l.initial.rest;
   unfailed : g.W.Sink.failures l.writer ≡ g.W.Sink.failures l.initial.writer;
-  unended : partial_line_after l.initial.rest l.initial.pending.partial_line.items ≡ partial_line_after l.rest l.pending.partial_line.items;
+  unended : partial_line_after l.initial.rest l.initial.line_buffer.partial_line.items ≡ partial_line_after l.rest l.line_buffer.partial_line.items;
   taken : (lines : List (Option (List ℕ)))
-      × (lines_ended_by l.initial.rest l.initial.pending.partial_line.items ≡ lines ++ lines_ended_by l.rest l.pending.partial_line.items)
-      × (l.pending.counts ≡ counts_after g.M.LineHandler.counts_as_step l.initial.pending.counts lines)
-      × AppendsAnswersUpTo g.M.LineHandler.handles l.pending.out.items l.initial.machine lines l.machine
-      l.initial.pending.out.items (g.W.Sink.bytes_written l.initial.writer) (g.W.Sink.bytes_written l.writer);
+      × (lines_ended_by l.initial.rest l.initial.line_buffer.partial_line.items ≡ lines ++ lines_ended_by l.rest l.line_buffer.partial_line.items)
+      × (l.line_buffer.counts ≡ counts_after g.M.LineHandler.counts_as_step l.initial.line_buffer.counts lines)
+      × AppendsAnswersUpTo g.M.LineHandler.handles l.line_buffer.out.items l.initial.machine lines l.machine
+      l.initial.line_buffer.out.items (g.W.Sink.bytes_written l.initial.writer) (g.W.Sink.bytes_written l.writer);
 }
 
 abbrev pub decreases-loop-at : goal.decreases-loop-at

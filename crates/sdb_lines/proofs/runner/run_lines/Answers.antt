@@ -15,28 +15,28 @@ returns-in_err-write_opening-clause-prefix_on_err g c =
 
 pub loop-turn-init : goal.loop-turn-init
 loop-turn-init g c = record {
-  empty = c.new-pending.ensures.out;
+  empty = c.new-line_buffer.ensures.out;
   room = omega arith;
   few = omega arith;
   calls = omega arith;
   at_most = omega arith;
   reads = refl;
   writes = but-no_error _ _ c.in_ok-write_opening.ensures.write_failures;
-  went = progress-start g.M.LineHandler.handles g.M.LineHandler.counts_as_step _ _ _ _ _ _ _ c.in_ok-write_opening.ensures.wrote c.new-pending.ensures.partial_line c.new-pending.ensures.lines c.new-pending.ensures.steps;
+  went = progress-start g.M.LineHandler.handles g.M.LineHandler.counts_as_step _ _ _ _ _ _ _ c.in_ok-write_opening.ensures.wrote c.new-line_buffer.ensures.partial_line c.new-line_buffer.ensures.lines c.new-line_buffer.ensures.steps;
 }
 
 pub loop-turn-preserved : goal.loop-turn-preserved
 loop-turn-preserved g c =
-    let piece = take c.in-Ok.n c.read_into.new.buf in
+    let input = take c.in-Ok.n c.read_into.new.buf in
     record {
       empty = c.in_ok-handle_chunk-in-Ok.ensures.empty;
       room = omega (arith, c.loop-turn.invariant.room, c.read_into.auto.buf);
-      few = omega (arith, ap (λ n. n.lines) c.in_ok-handle_chunk-in-Ok.ensures.count, c.loop-turn.invariant.few, c.loop-turn.invariant.room, c.read_into.auto.buf, ended-few piece c.loop-turn.pending.partial_line.items, length-take c.in-Ok.n c.read_into.new.buf);
+      few = omega (arith, ap (λ n. n.lines) c.in_ok-handle_chunk-in-Ok.ensures.count, c.loop-turn.invariant.few, c.loop-turn.invariant.room, c.read_into.auto.buf, ended-few input c.loop-turn.line_buffer.partial_line.items, length-take c.in-Ok.n c.read_into.new.buf);
       calls = omega (arith, c.loop-turn.invariant.calls, c.read_into.ensures.calls);
       at_most = omega (arith, c.loop-turn.invariant.at_most, c.read_into.ensures.calls);
       reads = c.in-Ok.ensures.failures ∙ c.loop-turn.invariant.reads;
       writes = but-no_error _ _ c.in_ok-handle_chunk-in-Ok.ensures.write_failures ∙ c.loop-turn.invariant.writes;
-      went = progress-step g.M.LineHandler.handles g.M.LineHandler.counts_as_step _ piece _ _ c.loop-turn.invariant.went c.in-Ok.ensures.bytes.0 c.in_ok-handle_chunk-in-Ok.ensures.partial_line c.in_ok-handle_chunk-in-Ok.ensures.count c.in_ok-handle_chunk-in-Ok.ensures.wrote_answers;
+      went = progress-step g.M.LineHandler.handles g.M.LineHandler.counts_as_step _ input _ _ c.loop-turn.invariant.went c.in-Ok.ensures.bytes.0 c.in_ok-handle_chunk-in-Ok.ensures.partial_line c.in_ok-handle_chunk-in-Ok.ensures.count c.in_ok-handle_chunk-in-Ok.ensures.wrote_answers;
     }
 
 pub returns-clause-prefix_on_err : goal.returns-clause-prefix_on_err

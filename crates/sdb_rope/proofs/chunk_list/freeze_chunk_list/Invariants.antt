@@ -3,4 +3,4 @@ use Rattle.sdb_rope.specs.RopeChunk.{chunk_list_texts}
 use Rattle.sdb_rope.proofs.chunk_list.freeze_chunk_list.Given as goal
 
 abbrev pub invariant-loop-at : goal.invariant-loop-at
-invariant-loop-at l = chunk_list_texts l.parts.items ≡ chunk_list_texts l.initial.parts.items
+invariant-loop-at l = chunk_list_texts l.chunks.items ≡ chunk_list_texts l.initial.chunks.items

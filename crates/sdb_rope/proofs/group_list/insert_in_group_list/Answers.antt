@@ -16,7 +16,7 @@ returns-in_err-done-in-Some-clause-err c =
     let p = subst (λ (l : List (Chunk RopeChunk)). IsGroupAtOffset (group_texts l) c.args.offset at c.in-Some.left) c.deref.ensures.value c.in-Some.ensures.some in
     let inside : at < length gs = omega (arith, p.index_in_range, count_groups gs) in
     let same = c.ensure_group.ensures.unchanged ∙ c.split_long_chunk.ensures in
-    on_err c.from_residual-in_err-done-in-Some.result (keep_group gs at c.insert_into_chunks.new.block c.index_mut.result.now inside c.index_mut.ensures.value c.in_err-done-in-Some.ensures.err ∙ ap concat same)
+    on_err c.from_residual-in_err-done-in-Some.result (keep_group gs at c.insert_into_chunks.new.chunk_list c.index_mut.result.now inside c.index_mut.ensures.value c.in_err-done-in-Some.ensures.err ∙ ap concat same)
 
 pub returns-in_err-done-in-Some-clause-short : goal.returns-in_err-done-in-Some-clause-short
 returns-in_err-done-in-Some-clause-short c =
@@ -25,13 +25,13 @@ returns-in_err-done-in-Some-clause-short c =
     let p = subst (λ (l : List (Chunk RopeChunk)). IsGroupAtOffset (group_texts l) c.args.offset at c.in-Some.left) c.deref.ensures.value c.in-Some.ensures.some in
     let inside : at < length gs = omega (arith, p.index_in_range, count_groups gs) in
     let same : texts_of_groups gs ≡ texts_of_groups c.args.groups.now.items = c.ensure_group.ensures.unchanged ∙ c.split_long_chunk.ensures in
-    λ a. short_changed gs at c.insert_into_chunks.new.block c.index_mut.result.now inside c.index_mut.ensures.value c.insert_into_chunks.ensures.short (rw same a)
+    λ a. short_changed gs at c.insert_into_chunks.new.chunk_list c.index_mut.result.now inside c.index_mut.ensures.value c.insert_into_chunks.ensures.short (rw same a)
 
 pub returns-clause-ok : goal.returns-clause-ok
 returns-clause-ok c =
     let gs = c.ensure_group.new.groups.items in
     let at = c.in-Some.at in
-    let g = c.insert_into_chunks.new.block in
+    let g = c.insert_into_chunks.new.chunk_list in
     let p = subst (λ (l : List (Chunk RopeChunk)). IsGroupAtOffset (group_texts l) c.args.offset at c.in-Some.left) c.deref.ensures.value c.in-Some.ensures.some in
     let inside : at < length gs = omega (arith, p.index_in_range, count_groups gs) in
     let same = c.ensure_group.ensures.unchanged ∙ c.split_long_chunk.ensures in
@@ -45,4 +45,4 @@ returns-clause-short c =
     let p = subst (λ (l : List (Chunk RopeChunk)). IsGroupAtOffset (group_texts l) c.args.offset at c.in-Some.left) c.deref.ensures.value c.in-Some.ensures.some in
     let inside : at < length gs = omega (arith, p.index_in_range, count_groups gs) in
     let same : texts_of_groups gs ≡ texts_of_groups c.args.groups.now.items = c.ensure_group.ensures.unchanged ∙ c.split_long_chunk.ensures in
-    λ a. short_changed gs at c.insert_into_chunks.new.block c.index_mut.result.now inside c.index_mut.ensures.value c.insert_into_chunks.ensures.short (rw same a)
+    λ a. short_changed gs at c.insert_into_chunks.new.chunk_list c.index_mut.result.now inside c.index_mut.ensures.value c.insert_into_chunks.ensures.short (rw same a)

@@ -16,7 +16,7 @@ returns-in_err-done-clause-err c =
     let at = c.in-Some.at in
     let p = subst (λ (l : List (Chunk RopeChunk)). IsGroupAtOffset (group_texts l) c.args.offset at c.in-Some.left) c.deref.ensures.value c.in-Some.ensures.some in
     let inside : at < length gs = omega (arith, p.index_in_range, count_groups gs) in
-    on_err c.from_residual.result (keep_group gs at c.remove_from_chunks.new.block c.index_mut.result.now inside c.index_mut.ensures.value c.in_err-done.ensures.err)
+    on_err c.from_residual.result (keep_group gs at c.remove_from_chunks.new.chunk_list c.index_mut.result.now inside c.index_mut.ensures.value c.in_err-done.ensures.err)
 
 pub returns-in_err-done-clause-chunks_bounded : goal.returns-in_err-done-clause-chunks_bounded
 returns-in_err-done-clause-chunks_bounded c =
@@ -24,13 +24,13 @@ returns-in_err-done-clause-chunks_bounded c =
     let at = c.in-Some.at in
     let p = subst (λ (l : List (Chunk RopeChunk)). IsGroupAtOffset (group_texts l) c.args.offset at c.in-Some.left) c.deref.ensures.value c.in-Some.ensures.some in
     let inside : at < length gs = omega (arith, p.index_in_range, count_groups gs) in
-    λ a. short_changed gs at c.remove_from_chunks.new.block c.index_mut.result.now inside c.index_mut.ensures.value c.remove_from_chunks.ensures.chunks_bounded a
+    λ a. short_changed gs at c.remove_from_chunks.new.chunk_list c.index_mut.result.now inside c.index_mut.ensures.value c.remove_from_chunks.ensures.chunks_bounded a
 
 pub returns-clause-removed : goal.returns-clause-removed
 returns-clause-removed c =
     let gs = c.args.groups.now.items in
     let at = c.in-Some.at in
-    let g = c.remove_from_chunks.new.block in
+    let g = c.remove_from_chunks.new.chunk_list in
     let h = c.index_mut.result.now in
     let p = subst (λ (l : List (Chunk RopeChunk)). IsGroupAtOffset (group_texts l) c.args.offset at c.in-Some.left) c.deref.ensures.value c.in-Some.ensures.some in
     let inside : at < length gs = omega (arith, p.index_in_range, count_groups gs) in
@@ -43,7 +43,7 @@ pub returns-clause-same : goal.returns-clause-same
 returns-clause-same c =
     let gs = c.args.groups.now.items in
     let at = c.in-Some.at in
-    let g = c.remove_from_chunks.new.block in
+    let g = c.remove_from_chunks.new.chunk_list in
     let h = c.index_mut.result.now in
     let p = subst (λ (l : List (Chunk RopeChunk)). IsGroupAtOffset (group_texts l) c.args.offset at c.in-Some.left) c.deref.ensures.value c.in-Some.ensures.some in
     let inside : at < length gs = omega (arith, p.index_in_range, count_groups gs) in
@@ -57,4 +57,4 @@ returns-clause-chunks_bounded c =
     let at = c.in-Some.at in
     let p = subst (λ (l : List (Chunk RopeChunk)). IsGroupAtOffset (group_texts l) c.args.offset at c.in-Some.left) c.deref.ensures.value c.in-Some.ensures.some in
     let inside : at < length gs = omega (arith, p.index_in_range, count_groups gs) in
-    λ a. subst AreBounded (sym c.remove_empty_group.ensures) (short_changed gs at c.remove_from_chunks.new.block c.index_mut.result.now inside c.index_mut.ensures.value c.remove_from_chunks.ensures.chunks_bounded a)
+    λ a. subst AreBounded (sym c.remove_empty_group.ensures) (short_changed gs at c.remove_from_chunks.new.chunk_list c.index_mut.result.now inside c.index_mut.ensures.value c.remove_from_chunks.ensures.chunks_bounded a)

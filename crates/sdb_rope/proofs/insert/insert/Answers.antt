@@ -10,7 +10,7 @@ use Rattle.sdb_rope.proofs.insert.insert.Goals as goal
 
 pub returns-clause-ok : goal.returns-clause-ok
 returns-clause-ok c =
-    let ts = chunk_list_texts c.ensure_chunk.new.parts.items in
+    let ts = chunk_list_texts c.ensure_chunk.new.chunks.items in
     let at = c.in-Some.at in
     let byte = c.in-Some.byte in
     let cut = subst (λ (l : List RopeChunk). IsBytePosition (chunk_list_texts l) c.args.offset at byte) c.deref.ensures.value c.in-Some.ensures.some in

@@ -22,19 +22,19 @@ if_drains steps s xs d = (d.1.0, d.1.1, λ _. (d.0, d.1.2))
 
 pub returns-in_err-done-clause-err : goal.returns-in_err-done-clause-err
 returns-in_err-done-clause-err c =
-    let ps = c.args.parts.now.items in
+    let ps = c.args.chunks.now.items in
     on_err c.from_residual.result (ap concat (same_set ps c.args.at c.insert.new.self
     (c.in_err-done.ensures.err ∙ sym (text_at ps c.args.at c.index_mut.result.now c.requires.inside c.index_mut.ensures.value))))
 
 pub returns-then-as_str-new-le-MAX_CHUNK_LEN-clause-ok : goal.returns-then-as_str-new-le-MAX_CHUNK_LEN-clause-ok
 returns-then-as_str-new-le-MAX_CHUNK_LEN-clause-ok c =
-    let ps = c.args.parts.now.items in
+    let ps = c.args.chunks.now.items in
     put_piece ps c.insert.new.self c.args.new.now c.args.at c.args.byte c.requires.inside
     (c.in_ok-done.ensures.ok ∙ ap (λ l. insert_slice l c.args.byte c.args.new.now) (sym (text_at ps c.args.at c.index_mut.result.now c.requires.inside c.index_mut.ensures.value)))
 
 pub returns-clause-ok : goal.returns-clause-ok
 returns-clause-ok c =
-    let ps = c.args.parts.now.items in
+    let ps = c.args.chunks.now.items in
     let it = c.in_ok-_gone.ensures.items in
     let fresh = c.in_ok-fresh.fresh in
     let all : it.1 ≡ fresh.items = sym (map-id it.1) ∙ items_from_drains it.1 (if_drains (into_iter_steps {X = RopeChunk} {Z = Global}) it.0 it.1 it.3) (YieldsList-from_vec {s = it.0} fresh.items it.2.0 (it.2.1 ∙ fresh.ok.0)) in
@@ -45,7 +45,7 @@ returns-clause-ok c =
 
 pub returns-clause-unique : goal.returns-clause-unique
 returns-clause-unique c =
-    let ps = c.args.parts.now.items in
+    let ps = c.args.chunks.now.items in
     let it = c.in_ok-_gone.ensures.items in
     let fresh = c.in_ok-fresh.fresh in
     let all : it.1 ≡ fresh.items = sym (map-id it.1) ∙ items_from_drains it.1 (if_drains (into_iter_steps {X = RopeChunk} {Z = Global}) it.0 it.1 it.3) (YieldsList-from_vec {s = it.0} fresh.items it.2.0 (it.2.1 ∙ fresh.ok.0)) in
@@ -55,13 +55,13 @@ returns-clause-unique c =
 
 pub returns-in_err-done-clause-short : goal.returns-in_err-done-clause-short
 returns-in_err-done-clause-short c =
-    let ps = c.args.parts.now.items in
+    let ps = c.args.chunks.now.items in
     λ a. subst AreBounded (sym (same_set ps c.args.at c.insert.new.self
     (c.in_err-done.ensures.err ∙ sym (text_at ps c.args.at c.index_mut.result.now c.requires.inside c.index_mut.ensures.value)))) a
 
 pub returns-then-as_str-new-le-MAX_CHUNK_LEN-clause-short : goal.returns-then-as_str-new-le-MAX_CHUNK_LEN-clause-short
 returns-then-as_str-new-le-MAX_CHUNK_LEN-clause-short c =
-    let ps = c.args.parts.now.items in
+    let ps = c.args.chunks.now.items in
     let was = chunk_bytes c.index_mut.result.now in
     let same : was ≡ c.as_str.result.now = sym (text_at ps c.args.at c.index_mut.result.now c.requires.inside c.index_mut.ensures.value) ∙ text_at ps c.args.at c.index.result.now c.requires.inside c.index.ensures ∙ sym c.as_str.ensures in
     let size : length (chunk_bytes c.insert.new.self) ≤ 4096 = omega (arith, ap length c.in_ok-done.ensures.ok, length_put was c.args.new.now c.args.byte, ap length same, c.if-as_str-new-le-MAX_CHUNK_LEN.true) in
@@ -69,7 +69,7 @@ returns-then-as_str-new-le-MAX_CHUNK_LEN-clause-short c =
 
 pub returns-clause-short : goal.returns-clause-short
 returns-clause-short c =
-    let ps = c.args.parts.now.items in
+    let ps = c.args.chunks.now.items in
     let it = c.in_ok-_gone.ensures.items in
     let fresh = c.in_ok-fresh.fresh in
     let all : it.1 ≡ fresh.items = sym (map-id it.1) ∙ items_from_drains it.1 (if_drains (into_iter_steps {X = RopeChunk} {Z = Global}) it.0 it.1 it.3) (YieldsList-from_vec {s = it.0} fresh.items it.2.0 (it.2.1 ∙ fresh.ok.0)) in

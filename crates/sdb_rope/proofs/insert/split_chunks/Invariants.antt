@@ -8,9 +8,9 @@ use Rattle.sdb_rope.proofs.insert.split_chunks.Given as goal
 abbrev pub invariant-loop-start : goal.invariant-loop-start
 invariant-loop-start l = record {
   boundary : IsCharBoundary l.text l.start;
-  same : concat (chunk_list_texts l.parts.items) ≡ take l.start l.text;
-  own : All IsUniqueChunk l.parts.items;
-  short : AreBounded (chunk_list_texts l.parts.items);
+  same : concat (chunk_list_texts l.chunks.items) ≡ take l.start l.text;
+  own : All IsUniqueChunk l.chunks.items;
+  short : AreBounded (chunk_list_texts l.chunks.items);
 }
 
 abbrev pub decreases-loop-start : goal.decreases-loop-start

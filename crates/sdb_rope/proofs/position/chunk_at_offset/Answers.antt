@@ -3,4 +3,4 @@ use Rattle.sdb_rope.proofs.position.chunk_at_offset.Goals as goal
 
 pub loop-at-preserved : goal.loop-at-preserved
 loop-at-preserved c =
-    units_next c.args.parts.now c.loop-at.at c.loop-at.left c.units-units.result c.args.offset c.index-parts-at.result c.loop-at-test.true c.index-parts-at.is c.units-units.ensures c.if-left-units.false c.loop-at.invariant
+    units_next c.args.chunks.now c.loop-at.at c.loop-at.left c.units-units.result c.args.offset c.index-chunks-at.result c.loop-at-test.true c.index-chunks-at.is c.units-units.ensures c.if-left-units.false c.loop-at.invariant

@@ -16,13 +16,13 @@ longer H R x y h e s = omega (arith, ap length h, ap length e, s)
 
 pub returns-then-starts_with-clause-some : goal.returns-then-starts_with-clause-some
 returns-then-starts_with-clause-some c =
-    let ps = c.args.parts.now in
+    let ps = c.args.chunks.now in
     let bytes = c.as_bytes.result.now in
     let text = c.as_bytes-text.result.now in
     let at = c.loop-at.at in
     let start = c.loop-at.start in
     let inside : at < length (chunk_list_texts ps) = omega (arith, length_of_texts ps, c.loop-at-test.true) in
-    let q : bytes ≡ chunk_text (chunk_list_texts ps) at = c.as_bytes.ensures.value ∙ c.as_str.ensures ∙ sym (text_at ps at c.index-parts-at.result c.loop-at-test.true c.index-parts-at.is) in
+    let q : bytes ≡ chunk_text (chunk_list_texts ps) at = c.as_bytes.ensures.value ∙ c.as_str.ensures ∙ sym (text_at ps at c.index-chunks-at.result c.loop-at-test.true c.index-chunks-at.is) in
     let here = to_end bytes start ∙ ap (drop start) q in
     let rest = to_end text c.loop-at.done in
     let n : length (take (length text - c.loop-at.done) (drop c.loop-at.done text)) ≡ length (drop c.loop-at.done text) = ap length rest in
@@ -34,13 +34,13 @@ returns-then-starts_with-clause-some c =
 
 pub returns-else-starts_with-clause-none : goal.returns-else-starts_with-clause-none
 returns-else-starts_with-clause-none c =
-    let ps = c.args.parts.now in
+    let ps = c.args.chunks.now in
     let bytes = c.as_bytes.result.now in
     let text = c.as_bytes-text.result.now in
     let at = c.loop-at.at in
     let start = c.loop-at.start in
     let inside : at < length (chunk_list_texts ps) = omega (arith, length_of_texts ps, c.loop-at-test.true) in
-    let q : bytes ≡ chunk_text (chunk_list_texts ps) at = c.as_bytes.ensures.value ∙ c.as_str.ensures ∙ sym (text_at ps at c.index-parts-at.result c.loop-at-test.true c.index-parts-at.is) in
+    let q : bytes ≡ chunk_text (chunk_list_texts ps) at = c.as_bytes.ensures.value ∙ c.as_str.ensures ∙ sym (text_at ps at c.index-chunks-at.result c.loop-at-test.true c.index-chunks-at.is) in
     let here = to_end bytes start ∙ ap (drop start) q in
     let rest = to_end text c.loop-at.done in
     ap (starts_with nat_eq (bytes_after (chunk_list_texts ps) c.args.first c.args.from)) (sym c.as_bytes-text.ensures.value) ∙ sym c.loop-at.invariant.same
@@ -48,13 +48,13 @@ returns-else-starts_with-clause-none c =
 
 pub returns-then-not-starts_with-clause-none : goal.returns-then-not-starts_with-clause-none
 returns-then-not-starts_with-clause-none c =
-    let ps = c.args.parts.now in
+    let ps = c.args.chunks.now in
     let bytes = c.as_bytes.result.now in
     let text = c.as_bytes-text.result.now in
     let at = c.loop-at.at in
     let start = c.loop-at.start in
     let inside : at < length (chunk_list_texts ps) = omega (arith, length_of_texts ps, c.loop-at-test.true) in
-    let q : bytes ≡ chunk_text (chunk_list_texts ps) at = c.as_bytes.ensures.value ∙ c.as_str.ensures ∙ sym (text_at ps at c.index-parts-at.result c.loop-at-test.true c.index-parts-at.is) in
+    let q : bytes ≡ chunk_text (chunk_list_texts ps) at = c.as_bytes.ensures.value ∙ c.as_str.ensures ∙ sym (text_at ps at c.index-chunks-at.result c.loop-at-test.true c.index-chunks-at.is) in
     let here = to_end bytes start ∙ ap (drop start) q in
     let rest = to_end text c.loop-at.done in
     let less : length (drop start (chunk_text (chunk_list_texts ps) at)) < length (drop c.loop-at.done text) = omega (arith, ap length here, ap length rest, c.if-rest-here.false) in
@@ -63,7 +63,7 @@ returns-then-not-starts_with-clause-none c =
 
 pub loop-at-preserved : goal.loop-at-preserved
 loop-at-preserved c =
-    let ps = c.args.parts.now in
+    let ps = c.args.chunks.now in
     let ts = chunk_list_texts ps in
     let bytes = c.as_bytes.result.now in
     let text = c.as_bytes-text.result.now in
@@ -72,7 +72,7 @@ loop-at-preserved c =
     let done = c.loop-at.done in
     let H = take (length bytes - start) (drop start bytes) in
     let inside : at < length ts = omega (arith, length_of_texts ps, c.loop-at-test.true) in
-    let q : bytes ≡ chunk_text ts at = c.as_bytes.ensures.value ∙ c.as_str.ensures ∙ sym (text_at ps at c.index-parts-at.result c.loop-at-test.true c.index-parts-at.is) in
+    let q : bytes ≡ chunk_text ts at = c.as_bytes.ensures.value ∙ c.as_str.ensures ∙ sym (text_at ps at c.index-chunks-at.result c.loop-at-test.true c.index-chunks-at.is) in
     let here = to_end bytes start ∙ ap (drop start) q in
     let rest = to_end text done in
     let e : starts_with nat_eq (drop done text) (drop start (chunk_text ts at)) ≡ true = both _ _ _ _ true rest here (sym c.starts_with-in-loop-at.ensures.value ∙ c.if-not-starts_with.false) in
@@ -88,7 +88,7 @@ loop-at-preserved c =
 
 pub returns-clause-none : goal.returns-clause-none
 returns-clause-none c =
-    let ps = c.args.parts.now in
+    let ps = c.args.chunks.now in
     let ts = chunk_list_texts ps in
     let text = c.as_bytes-text.result.now in
     let past : length ts ≤ c.loop-at.at = omega (arith, length_of_texts ps, c.loop-at-test.false) in

@@ -5,9 +5,9 @@ use Rattle.sdb_rope.proofs.regroup.split_into_groups.Given as goal
 
 abbrev pub invariant-loop-start : goal.invariant-loop-start
 invariant-loop-start l = record {
-  within : l.start ≤ length l.parts;
-  same : texts_of_groups l.groups.items ≡ chunk_list_texts (take l.start l.parts);
+  within : l.start ≤ length l.chunks;
+  same : texts_of_groups l.groups.items ≡ chunk_list_texts (take l.start l.chunks);
 }
 
 abbrev pub decreases-loop-start : goal.decreases-loop-start
-decreases-loop-start l = length l.parts - l.start
+decreases-loop-start l = length l.chunks - l.start

@@ -4,4 +4,4 @@ use Rattle.sdb_rope.specs.RopeChunk.{chunk_list_texts}
 use Rattle.sdb_rope.proofs.regroup.ungroup_chunks.Given as goal
 
 abbrev pub invariant-loop-group : goal.invariant-loop-group
-invariant-loop-group l = chunk_list_texts l.parts.items ≡ texts_of_groups (take l.group-index l.groups)
+invariant-loop-group l = chunk_list_texts l.chunks.items ≡ texts_of_groups (take l.group-index l.groups)

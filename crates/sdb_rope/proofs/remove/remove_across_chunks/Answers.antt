@@ -11,13 +11,13 @@ use Rattle.sdb_rope.proofs.remove.remove_across_chunks.Goals as goal
 front : (q : List ℕ) (i n : ℕ) → n ≡ length q → remove_range q i n ≡ take i q
 front q i n e = ap (λ l. take i q ++ l) (drop_all n q (omega (arith, e))) ∙ append-nil (take i q)
 
--- the later piece, read after the earlier one has changed
+-- the later chunk, read after a change of the earlier one
 read_later : (ps : List RopeChunk) (p q : RopeChunk) (k m : ℕ) → k < m → m < length ps → q ≡ get_or (set ps k p) m q → chunk_text (chunk_list_texts ps) m ≡ chunk_bytes q
 read_later ps p q k m h l e = let apart : m ≢ k = omega (arith, h) in text_at ps m q l (e ∙ get_or-set_other ps k m p q apart)
 
 pub returns-clause-bytes : goal.returns-clause-bytes
 returns-clause-bytes c =
-    let ps = c.args.parts.now.items in
+    let ps = c.args.chunks.now.items in
     let k = c.args.span.first in
     let m = c.args.span.last in
     let last : m < length ps = omega (arith, c.requires.range.index_in_range, length_of_texts ps) in
@@ -31,7 +31,7 @@ returns-clause-bytes c =
 
 pub returns-clause-unique : goal.returns-clause-unique
 returns-clause-unique c =
-    let ps = c.args.parts.now.items in
+    let ps = c.args.chunks.now.items in
     let k = c.args.span.first in
     let m = c.args.span.last in
     let all = set (set ps k c.remove.new.self) m c.remove-2.new.self in
@@ -41,7 +41,7 @@ returns-clause-unique c =
 
 pub returns-clause-chunks_bounded : goal.returns-clause-chunks_bounded
 returns-clause-chunks_bounded c =
-    let ps = c.args.parts.now.items in
+    let ps = c.args.chunks.now.items in
     let k = c.args.span.first in
     let m = c.args.span.last in
     let last : m < length ps = omega (arith, c.requires.range.index_in_range, length_of_texts ps) in

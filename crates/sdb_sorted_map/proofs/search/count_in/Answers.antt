@@ -6,17 +6,17 @@ pub overflow_add-count : goal.overflow_add-count
 overflow_add-count g c =
     omega (
       arith,
-      c.loop-part.invariant,
+      c.loop-run.invariant,
       c.requires,
       c.count-count.ensures,
-      length_to g.P.SortedRun.keys c.args.parts.now c.loop-part.part-index c.part-item.result c.loop-part-test.true c.part-item.is,
+      length_to g.P.SortedRun.keys c.args.runs.now c.loop-run.run-index c.run-item.result c.loop-run-test.true c.run-item.is,
     )
 
-pub loop-part-preserved : goal.loop-part-preserved
-loop-part-preserved g c =
+pub loop-run-preserved : goal.loop-run-preserved
+loop-run-preserved g c =
     omega (
       arith,
-      c.loop-part.invariant,
+      c.loop-run.invariant,
       c.count-count.ensures,
-      length_more g.P.SortedRun.keys c.args.parts.now c.loop-part.part-index c.part-item.result c.loop-part-test.true c.part-item.is,
+      length_more g.P.SortedRun.keys c.args.runs.now c.loop-run.run-index c.run-item.result c.loop-run-test.true c.run-item.is,
     )

@@ -2,5 +2,5 @@ use Rattle.std.proofs.Common.{◌≡◌, length}
 use Rattle.sdb_sorted_map.specs.SearchModel.{keys_of_first_runs}
 use Rattle.sdb_sorted_map.proofs.search.count_in.Given as goal
 
-abbrev pub invariant-loop-part : goal.invariant-loop-part
-invariant-loop-part g l = l.count ≡ length (keys_of_first_runs g.P.SortedRun.keys l.parts l.part-index)
+abbrev pub invariant-loop-run : goal.invariant-loop-run
+invariant-loop-run g l = l.count ≡ length (keys_of_first_runs g.P.SortedRun.keys l.runs l.run-index)

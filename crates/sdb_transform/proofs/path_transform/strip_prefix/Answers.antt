@@ -24,7 +24,7 @@ text_turned k l = ap is_eq (nat_list_cmp_total.antisymm k l) ∙ reversed (slice
 number_turned : (i j : ℕ) → eqb i j ≡ eqb j i
 number_turned i j = grind (arith, nat_tests)
 
--- the code's `==` of two steps
+-- the derived `==` of two steps
 step_eq : (s t : Step) → eq-value.it t s ≡ steps_equal (plain_step s) (plain_step t)
 step_eq (Key k) (Key l) = sym (is_eq-slice_cmp (string_bytes l) (string_bytes k)) ∙ text_turned (string_bytes l) (string_bytes k)
 step_eq (Key k) (Index j) = refl

@@ -12,13 +12,13 @@ rest_filled d rest a i h l f e = let u : units (take i d) ≡ a = cut_front d a 
 pub unreachable-requires : goal.unreachable-requires
 unreachable-requires c =
     let d = c.args.d in
-    let found : cut_at d c.args.before ≡ Some c.in-Some.at = ap (λ t. cut_at t c.args.before) (sym c.as_str.ensures.value) ∙ sym c.in-Some.ensures.place in
+    let found : cut_at d c.args.before ≡ Some c.in-Some.at = ap (λ t. cut_at t c.args.before) (sym c.as_str.ensures.value) ∙ sym c.in-Some.ensures.position in
     let none : 0 < 0 = front_filled d _ c.args.before c.in-Some.at found c.requires.some (c.in_ok-rest.ensures.bytes ∙ ap (take c.in-Some.at) c.into_string-first.ensures.value) c.in_default-new.ensures.none in
     omega (arith, none)
 
 pub unreachable-requires-in_default-new-2 : goal.unreachable-requires-in_default-new-2
 unreachable-requires-in_default-new-2 c =
     let d = c.args.d in
-    let found : cut_at d c.args.before ≡ Some c.in-Some.at = ap (λ t. cut_at t c.args.before) (sym c.as_str.ensures.value) ∙ sym c.in-Some.ensures.place in
+    let found : cut_at d c.args.before ≡ Some c.in-Some.at = ap (λ t. cut_at t c.args.before) (sym c.as_str.ensures.value) ∙ sym c.in-Some.ensures.position in
     let none : 0 < 0 = rest_filled d _ c.args.before c.in-Some.at found c.requires.rest (c.in_ok-rest.ensures.tail ∙ ap (drop c.in-Some.at) c.into_string-first.ensures.value) c.in_default-new-2.ensures.none in
     omega (arith, none)

@@ -5,7 +5,7 @@ use Rattle.sdb_value.proofs.clone_modes.clone_chunk_pointer.Goals as goal
 
 pub returns-in_default : goal.returns-in_default
 returns-in_default g c =
-    let b = c.args.block.now in
+    let b = c.args.chunk.now in
     let e = c.clone_shared.ensures in
     record {
       same = e.same;

@@ -17,7 +17,7 @@ decreases-items_size l = suc (term_weights (vec_items l.items.now))
 abbrev pub decreases-members_size : goal.decreases-members_size
 decreases-members_size l = suc (members_weight (map_entries l.members.now))
 
--- what was counted, and what is left up to the limit
+-- the size so far and the rest up to the limit
 abbrev pub invariant-items_size-loop-item : goal.invariant-items_size-loop-item
 invariant-items_size-loop-item l = record {
   within : l.left ≤ l.limit;

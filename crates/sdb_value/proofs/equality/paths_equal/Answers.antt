@@ -3,7 +3,7 @@ use Rattle.sdb_value.specs.View.{plain_step}
 use Rattle.sdb_value.proofs.EqualityLemmas.{alike_at}
 use Rattle.sdb_value.proofs.equality.paths_equal.Goals as goal
 
--- paths of which one step is another are other paths
+-- paths that differ at a step are different
 pub returns-then-not-steps_equal-clause-on_false : goal.returns-then-not-steps_equal-clause-on_false
 returns-then-not-steps_equal-clause-on_false c f h =
     let a = c.args.a.now in

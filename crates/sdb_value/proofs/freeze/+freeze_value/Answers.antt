@@ -14,15 +14,15 @@ use Rattle.sdb_value.proofs.CloneLemmas.{ascending_viewed, small_viewed}
 use Rattle.sdb_value.proofs.FreezeLemmas.{group_parts, item_within, member_part_within, member_within, part_within, same_form, same_item, same_member_form, same_member_part, same_part, same_value}
 use Rattle.sdb_value.proofs.freeze.+freeze_value.Goals as goal
 
--- ---- the list of them
+-- ---- the list of groups
 
 pub freeze_list_repr-returns-clause-items : goal.freeze_list_repr-returns-clause-items
-freeze_list_repr-returns-clause-items t c = same_form c.freeze_unique_chunks.new.form c.freeze.new.self c.freeze.ensures.unchanged ∙ c.freeze_unique_chunks.ensures
+freeze_list_repr-returns-clause-items t c = same_form c.freeze_unique_chunks.new.repr c.freeze.new.self c.freeze.ensures.unchanged ∙ c.freeze_unique_chunks.ensures
 
 pub freeze_unique_chunks-freeze_unique_groups-requires : goal.freeze_unique_chunks-freeze_unique_groups-requires
 freeze_unique_chunks-freeze_unique_groups-requires t c =
     let gs = items_of c.in-Groups.groups in
-    let same : items_size (repr_value c.args.form.now) ≡ items_size (items_value (flat_map items_of_group gs)) =
+    let same : items_size (repr_value c.args.repr.now) ≡ items_size (items_value (flat_map items_of_group gs)) =
     ap (λ w. items_size (repr_value w)) c.in-Groups.is ∙ ap (λ vs. items_size (items_value vs)) (group_parts gs) in
     (omega (arith, same, c.decreases), tt)
 
@@ -56,29 +56,29 @@ freeze_each_group-loop-at-preserved t c =
       count = length-set gs c.loop-at.at c.freeze_group.new.group ∙ c.loop-at.invariant.count;
     }
 
--- ---- one block of several
+-- ---- one chunk of several
 
 pub freeze_each_chunk-freeze_chunk-requires : goal.freeze_each_chunk-freeze_chunk-requires
 freeze_each_chunk-freeze_chunk-requires t c =
-    let bs = c.loop-at.blocks.items in
+    let bs = c.loop-at.chunks.items in
     let inside : c.loop-at.at < length bs = omega (arith, c.loop-at-test.true, c.len-at-end.ensures, c.loop-at.invariant.count) in
     let below = part_within items_of bs c.loop-at.at c.index_mut.result.now inside c.index_mut.ensures.value in
-    let same : items_size (items_value (flat_map items_of bs)) ≡ items_size (items_value (flat_map items_of c.args.blocks.now.items)) = ap items_size c.loop-at.invariant.same in
+    let same : items_size (items_value (flat_map items_of bs)) ≡ items_size (items_value (flat_map items_of c.args.chunks.now.items)) = ap items_size c.loop-at.invariant.same in
     (omega (arith, below, same, c.decreases), tt)
 
 pub freeze_each_chunk-returns-in_err-freeze_chunk : goal.freeze_each_chunk-returns-in_err-freeze_chunk
 freeze_each_chunk-returns-in_err-freeze_chunk t c =
-    let bs = c.loop-at.blocks.items in
+    let bs = c.loop-at.chunks.items in
     let inside : c.loop-at.at < length bs = omega (arith, c.loop-at-test.true, c.len-at-end.ensures, c.loop-at.invariant.count) in
-    same_part items_of bs c.loop-at.at c.index_mut.result.now c.freeze_chunk.new.block inside c.index_mut.ensures.value c.freeze_chunk.ensures.items ∙ c.loop-at.invariant.same
+    same_part items_of bs c.loop-at.at c.index_mut.result.now c.freeze_chunk.new.chunk inside c.index_mut.ensures.value c.freeze_chunk.ensures.items ∙ c.loop-at.invariant.same
 
 pub freeze_each_chunk-loop-at-preserved : goal.freeze_each_chunk-loop-at-preserved
 freeze_each_chunk-loop-at-preserved t c =
-    let bs = c.loop-at.blocks.items in
+    let bs = c.loop-at.chunks.items in
     let inside : c.loop-at.at < length bs = omega (arith, c.loop-at-test.true, c.len-at-end.ensures, c.loop-at.invariant.count) in
     record {
-      same = same_part items_of bs c.loop-at.at c.index_mut.result.now c.freeze_chunk.new.block inside c.index_mut.ensures.value c.freeze_chunk.ensures.items ∙ c.loop-at.invariant.same;
-      count = length-set bs c.loop-at.at c.freeze_chunk.new.block ∙ c.loop-at.invariant.count;
+      same = same_part items_of bs c.loop-at.at c.index_mut.result.now c.freeze_chunk.new.chunk inside c.index_mut.ensures.value c.freeze_chunk.ensures.items ∙ c.loop-at.invariant.same;
+      count = length-set bs c.loop-at.at c.freeze_chunk.new.chunk ∙ c.loop-at.invariant.count;
     }
 
 -- ---- one item of several
@@ -109,12 +109,12 @@ freeze_each_item-loop-at-preserved t c =
 -- ---- the members of an object
 
 pub freeze_member_repr-returns-clause-members : goal.freeze_member_repr-returns-clause-members
-freeze_member_repr-returns-clause-members t c = same_member_form c.freeze_unique_member_chunks.new.form c.freeze.new.self c.freeze.ensures.unchanged ∙ c.freeze_unique_member_chunks.ensures
+freeze_member_repr-returns-clause-members t c = same_member_form c.freeze_unique_member_chunks.new.repr c.freeze.new.self c.freeze.ensures.unchanged ∙ c.freeze_unique_member_chunks.ensures
 
 pub freeze_unique_member_chunks-freeze_unique_member_groups-requires : goal.freeze_unique_member_chunks-freeze_unique_member_groups-requires
 freeze_unique_member_chunks-freeze_unique_member_groups-requires t c =
     let gs = items_of c.in-Groups.groups in
-    let same : members_size (member_repr_value c.args.form.now) ≡ members_size (entries_value (flat_map members_of_group gs)) =
+    let same : members_size (member_repr_value c.args.repr.now) ≡ members_size (entries_value (flat_map members_of_group gs)) =
     ap (λ w. members_size (member_repr_value w)) c.in-Groups.is ∙ ap (λ vs. members_size (entries_value vs)) (group_parts gs) in
     (omega (arith, same, c.decreases), tt)
 
@@ -123,7 +123,7 @@ freeze_unique_member_chunks-returns-in-Groups t c =
     ap entries_value (group_parts (items_of c.freeze_unique_member_groups.new.groups)) ∙ c.freeze_unique_member_groups.ensures
     ∙ sym (ap member_repr_value c.in-Groups.is ∙ ap entries_value (group_parts (items_of c.in-Groups.groups)))
 
--- ---- one group of theirs
+-- ---- one group of members
 
 pub freeze_each_member_group-freeze_member_group-requires : goal.freeze_each_member_group-freeze_member_group-requires
 freeze_each_member_group-freeze_member_group-requires t c =
@@ -148,32 +148,32 @@ freeze_each_member_group-loop-at-preserved t c =
       count = length-set gs c.loop-at.at c.freeze_member_group.new.group ∙ c.loop-at.invariant.count;
     }
 
--- ---- one block of theirs
+-- ---- one chunk of members
 
 pub freeze_each_member_chunk-freeze_member_chunk-requires : goal.freeze_each_member_chunk-freeze_member_chunk-requires
 freeze_each_member_chunk-freeze_member_chunk-requires t c =
-    let bs = c.loop-at.blocks.items in
+    let bs = c.loop-at.chunks.items in
     let inside : c.loop-at.at < length bs = omega (arith, c.loop-at-test.true, c.len-at-end.ensures, c.loop-at.invariant.count) in
     let below = member_part_within items_of bs c.loop-at.at c.index_mut.result.now inside c.index_mut.ensures.value in
-    let same : members_size (entries_value (flat_map items_of bs)) ≡ members_size (entries_value (flat_map items_of c.args.blocks.now.items)) = ap members_size c.loop-at.invariant.same in
+    let same : members_size (entries_value (flat_map items_of bs)) ≡ members_size (entries_value (flat_map items_of c.args.chunks.now.items)) = ap members_size c.loop-at.invariant.same in
     (omega (arith, below, same, c.decreases), tt)
 
 pub freeze_each_member_chunk-returns-in_err-freeze_member_chunk : goal.freeze_each_member_chunk-returns-in_err-freeze_member_chunk
 freeze_each_member_chunk-returns-in_err-freeze_member_chunk t c =
-    let bs = c.loop-at.blocks.items in
+    let bs = c.loop-at.chunks.items in
     let inside : c.loop-at.at < length bs = omega (arith, c.loop-at-test.true, c.len-at-end.ensures, c.loop-at.invariant.count) in
-    same_member_part items_of bs c.loop-at.at c.index_mut.result.now c.freeze_member_chunk.new.block inside c.index_mut.ensures.value c.freeze_member_chunk.ensures.members ∙ c.loop-at.invariant.same
+    same_member_part items_of bs c.loop-at.at c.index_mut.result.now c.freeze_member_chunk.new.chunk inside c.index_mut.ensures.value c.freeze_member_chunk.ensures.members ∙ c.loop-at.invariant.same
 
 pub freeze_each_member_chunk-loop-at-preserved : goal.freeze_each_member_chunk-loop-at-preserved
 freeze_each_member_chunk-loop-at-preserved t c =
-    let bs = c.loop-at.blocks.items in
+    let bs = c.loop-at.chunks.items in
     let inside : c.loop-at.at < length bs = omega (arith, c.loop-at-test.true, c.len-at-end.ensures, c.loop-at.invariant.count) in
     record {
-      same = same_member_part items_of bs c.loop-at.at c.index_mut.result.now c.freeze_member_chunk.new.block inside c.index_mut.ensures.value c.freeze_member_chunk.ensures.members ∙ c.loop-at.invariant.same;
-      count = length-set bs c.loop-at.at c.freeze_member_chunk.new.block ∙ c.loop-at.invariant.count;
+      same = same_member_part items_of bs c.loop-at.at c.index_mut.result.now c.freeze_member_chunk.new.chunk inside c.index_mut.ensures.value c.freeze_member_chunk.ensures.members ∙ c.loop-at.invariant.same;
+      count = length-set bs c.loop-at.at c.freeze_member_chunk.new.chunk ∙ c.loop-at.invariant.count;
     }
 
--- ---- one value of theirs
+-- ---- one value of members
 
 pub freeze_each_value-freeze_value-requires : goal.freeze_each_value-freeze_value-requires
 freeze_each_value-freeze_value-requires t c =
@@ -203,17 +203,17 @@ freeze_each_value-loop-at-preserved t c =
 pub freeze_members-from_entries-requires-clause-bound : goal.freeze_members-from_entries-requires-clause-bound
 freeze_members-from_entries-requires-clause-bound t c =
     small_viewed c.into_chunks.result c.from_repr.result
-    (ap member_repr_value c.from_repr.ensures ∙ c.freeze_member_repr-done.ensures.members ∙ ap member_repr_value c.into_repr-form.ensures) c.into_chunks.ensures.bound
+    (ap member_repr_value c.from_repr.ensures ∙ c.freeze_member_repr-done.ensures.members ∙ ap member_repr_value c.into_repr-repr.ensures) c.into_chunks.ensures.bound
 
 pub freeze_members-from_entries-requires-clause-ascending : goal.freeze_members-from_entries-requires-clause-ascending
 freeze_members-from_entries-requires-clause-ascending t c =
     ascending_viewed c.into_chunks.result c.from_repr.result
-    (ap member_repr_value c.from_repr.ensures ∙ c.freeze_member_repr-done.ensures.members ∙ ap member_repr_value c.into_repr-form.ensures) c.into_chunks.ensures.ascending
+    (ap member_repr_value c.from_repr.ensures ∙ c.freeze_member_repr-done.ensures.members ∙ ap member_repr_value c.into_repr-repr.ensures) c.into_chunks.ensures.ascending
 
 pub freeze_members-returns-clause-members_unchanged : goal.freeze_members-returns-clause-members_unchanged
 freeze_members-returns-clause-members_unchanged t c =
     ap (λ (q : ChunkedVec (MapEntry Json)). entries_value (vec_items q)) c.from_entries.ensures ∙ ap member_repr_value c.from_repr.ensures ∙ c.freeze_member_repr-done.ensures.members
-    ∙ ap member_repr_value c.into_repr-form.ensures ∙ ap (λ (q : ChunkedVec (MapEntry Json)). entries_value (vec_items q)) (c.into_chunks.ensures.equal ∙ ap map_chunks c.replace.ensures.value)
+    ∙ ap member_repr_value c.into_repr-repr.ensures ∙ ap (λ (q : ChunkedVec (MapEntry Json)). entries_value (vec_items q)) (c.into_chunks.ensures.equal ∙ ap map_chunks c.replace.ensures.value)
 
 pub freeze_members-returns-clause-shared : goal.freeze_members-returns-clause-shared
 freeze_members-returns-clause-shared t c =

@@ -18,7 +18,7 @@ decreases-items_well_formed l = suc (term_weights (vec_items l.items.now))
 abbrev pub decreases-members_well_formed : goal.decreases-members_well_formed
 decreases-members_well_formed l = suc (members_weight (map_entries l.members.now))
 
--- what is left being well formed, all is
+-- if the rest is well formed, all is
 abbrev pub invariant-items_well_formed-loop-item : goal.invariant-items_well_formed-loop-item
 invariant-items_well_formed-loop-item l = record {
   well_formed : AreWellFormed (items_value (remaining_items l.item-iterator)) → AreWellFormed (list_value l.items);

@@ -19,7 +19,7 @@ decreases-write_items l = suc (term_weights (vec_items l.items.now))
 abbrev pub decreases-write_members : goal.decreases-write_members
 decreases-write_members l = suc (members_weight (map_entries l.members.now))
 
--- what is written and what is left are the whole
+-- the written part and the rest are the whole
 abbrev pub invariant-write_items-loop-item : goal.invariant-write_items-loop-item
 invariant-write_items-loop-item l = record {
   before : l.out.before ≡ l.initial.out.before;

@@ -10,7 +10,7 @@ pub invariant_of-self : goal.invariant_of-self
 invariant_of-self g c =
     let f = g.T.TryClone.model in
     let old = group_chunks c.args.self.now in
-    let new = items_of c.replace_in_chunk_list.new.blocks in
+    let new = items_of c.replace_in_chunk_list.new.chunks in
     let e = c.replace_in_chunk_list.ensures in
     let n : length (flat_map items_of new) ≡ length (flat_map items_of old) =
     both_ways c.replace_in_chunk_list.result e.ok e.err (λ p. same_length f new old (ap length p ∙ length-set (flatten_models f old) c.args.index (f c.args.item))) (λ p. same_number f new old p) in

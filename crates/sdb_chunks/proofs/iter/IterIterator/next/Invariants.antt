@@ -6,4 +6,4 @@ abbrev pub invariant-loop-self : goal.invariant-loop-self
 invariant-loop-self g l = remaining_items l.self ≡ remaining_items l.initial.self
 
 abbrev pub decreases-loop-self : goal.decreases-loop-self
-decreases-loop-self g l = length (remaining_chunks l.self.blocks)
+decreases-loop-self g l = length (remaining_chunks l.self.chunks)

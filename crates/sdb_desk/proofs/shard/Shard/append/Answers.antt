@@ -13,7 +13,7 @@ use Rattle.sdb_desk.proofs.shard.Shard.append.Goals as goal
 pub returns-in-Some-clause-logs : goal.returns-in-Some-clause-logs
 returns-in-Some-clause-logs c =
     let es = c.args.self.now.slots.entries in
-    let old = c.in-Some.topic.now in
+    let old = c.in-Some.slot.now in
     let new = c.append.new.self in
     let k = plain_key c.args.key.now in
     let f = slots_of c.args.self.now in
@@ -26,7 +26,7 @@ returns-in-Some-clause-logs c =
 pub returns-in-Some-clause-unchanged_on_err : goal.returns-in-Some-clause-unchanged_on_err
 returns-in-Some-clause-unchanged_on_err c =
     let es = c.args.self.now.slots.entries in
-    let old = c.in-Some.topic.now in
+    let old = c.in-Some.slot.now in
     let new = c.append.new.self in
     let k = plain_key c.args.key.now in
     let f = slots_of c.args.self.now in
@@ -38,7 +38,7 @@ returns-in-Some-clause-unchanged_on_err c =
 pub returns-in-Some-clause-kept : goal.returns-in-Some-clause-kept
 returns-in-Some-clause-kept c =
     let es = c.args.self.now.slots.entries in
-    let old = c.in-Some.topic.now in
+    let old = c.in-Some.slot.now in
     let new = c.append.new.self in
     let k = plain_key c.args.key.now in
     let f = slots_of c.args.self.now in
@@ -54,7 +54,7 @@ returns-in-None-clause-kept c =
 pub returns-in-Some-clause-queues : goal.returns-in-Some-clause-queues
 returns-in-Some-clause-queues c =
     let es = c.args.self.now.slots.entries in
-    let old = c.in-Some.topic.now in
+    let old = c.in-Some.slot.now in
     let new = c.append.new.self in
     let k = plain_key c.args.key.now in
     let f = slots_of c.args.self.now in
@@ -70,7 +70,7 @@ returns-in-None-clause-queues c =
 pub returns-in-Some-clause-rings : goal.returns-in-Some-clause-rings
 returns-in-Some-clause-rings c =
     let es = c.args.self.now.slots.entries in
-    let old = c.in-Some.topic.now in
+    let old = c.in-Some.slot.now in
     let new = c.append.new.self in
     let k = plain_key c.args.key.now in
     let f = slots_of c.args.self.now in

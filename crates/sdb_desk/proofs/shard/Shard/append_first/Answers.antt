@@ -22,17 +22,17 @@ returns-in_err-insert_slot-clause-queues c =
 pub returns-clause-logs : goal.returns-clause-logs
 returns-clause-logs c =
     map_of_updated (λ t. t.document.log) (slots_of c.args.self.now) (slots_of c.insert_slot.new.self) (plain_key c.args.key.now) c.append.new.self c.in_ok-insert_slot.ensures.ok
-    ∙ ap (with_log (logs_of c.args.self.now) (plain_key c.args.key.now)) (c.in_ok-append.ensures.log ∙ ap (λ t. (decide t.document.log c.args.submission c.args.now).log) c.new-topic.ensures)
+    ∙ ap (with_log (logs_of c.args.self.now) (plain_key c.args.key.now)) (c.in_ok-append.ensures.log ∙ ap (λ t. (decide t.document.log c.args.submission c.args.now).log) c.new-slot.ensures)
 
 pub returns-clause-kept : goal.returns-clause-kept
 returns-clause-kept c =
     map_of_updated_same (λ t. t.document.cache) (slots_of c.args.self.now) (slots_of c.insert_slot.new.self) (plain_key c.args.key.now) c.append.new.self c.in_ok-insert_slot.ensures.ok
-    (c.append.ensures.kept ∙ ap (λ t. t.document.cache) (c.new-topic.ensures ∙ c.requires.nothing))
+    (c.append.ensures.kept ∙ ap (λ t. t.document.cache) (c.new-slot.ensures ∙ c.requires.nothing))
 
 pub returns-clause-queues : goal.returns-clause-queues
 returns-clause-queues c =
     map_of_updated_same (λ t. without_rings t.queues) (slots_of c.args.self.now) (slots_of c.insert_slot.new.self) (plain_key c.args.key.now) c.append.new.self c.in_ok-insert_slot.ensures.ok
-    (c.append.ensures.queues ∙ ap (λ t. without_rings t.queues) (c.new-topic.ensures ∙ c.requires.nothing))
+    (c.append.ensures.queues ∙ ap (λ t. without_rings t.queues) (c.new-slot.ensures ∙ c.requires.nothing))
 
 pub returns-in_err-insert_slot-clause-rings : goal.returns-in_err-insert_slot-clause-rings
 returns-in_err-insert_slot-clause-rings c =
@@ -41,5 +41,5 @@ returns-in_err-insert_slot-clause-rings c =
 
 pub returns-clause-rings : goal.returns-clause-rings
 returns-clause-rings c =
-    rings_noted (slots_of c.args.self.now) (slots_of c.insert_slot.new.self) (plain_key c.args.key.now) c.new-topic.result c.append.new.self (c.new-topic.ensures ∙ c.requires.nothing)
+    rings_noted (slots_of c.args.self.now) (slots_of c.insert_slot.new.self) (plain_key c.args.key.now) c.new-slot.result c.append.new.self (c.new-slot.ensures ∙ c.requires.nothing)
     c.in_ok-insert_slot.ensures.ok c.append.ensures.rings

@@ -11,7 +11,7 @@ use Rattle.sdb_desk.proofs.shard.Shard.forget.Goals as goal
 pub returns-in-Some-clause-logs_unchanged : goal.returns-in-Some-clause-logs_unchanged
 returns-in-Some-clause-logs_unchanged c =
     let es = c.args.self.now.slots.entries in
-    let old = c.in-Some.topic.now in
+    let old = c.in-Some.slot.now in
     let new = c.forget.new.self in
     let k = plain_key c.args.key.now in
     let f = slots_of c.args.self.now in
@@ -23,7 +23,7 @@ returns-in-Some-clause-logs_unchanged c =
 pub returns-in-Some-clause-kept : goal.returns-in-Some-clause-kept
 returns-in-Some-clause-kept c =
     let es = c.args.self.now.slots.entries in
-    let old = c.in-Some.topic.now in
+    let old = c.in-Some.slot.now in
     let new = c.forget.new.self in
     let k = plain_key c.args.key.now in
     let f = slots_of c.args.self.now in
@@ -42,7 +42,7 @@ returns-in_default-clause-kept c =
 pub returns-in-Some-clause-queues : goal.returns-in-Some-clause-queues
 returns-in-Some-clause-queues c =
     let es = c.args.self.now.slots.entries in
-    let old = c.in-Some.topic.now in
+    let old = c.in-Some.slot.now in
     let new = c.forget.new.self in
     let k = plain_key c.args.key.now in
     let f = slots_of c.args.self.now in
@@ -54,7 +54,7 @@ returns-in-Some-clause-queues c =
 pub returns-in-Some-clause-rings_unchanged : goal.returns-in-Some-clause-rings_unchanged
 returns-in-Some-clause-rings_unchanged c =
     let es = c.args.self.now.slots.entries in
-    let old = c.in-Some.topic.now in
+    let old = c.in-Some.slot.now in
     let new = c.forget.new.self in
     let k = plain_key c.args.key.now in
     let f = slots_of c.args.self.now in

@@ -11,7 +11,7 @@ use Rattle.sdb_desk.proofs.shard.Shard.freeze.Goals as goal
 pub returns-in-Some-clause-logs_unchanged : goal.returns-in-Some-clause-logs_unchanged
 returns-in-Some-clause-logs_unchanged c =
     let es = c.args.self.now.slots.entries in
-    let old = c.in-Some.topic.now in
+    let old = c.in-Some.slot.now in
     let new = c.freeze.new.self in
     let k = plain_key c.args.key.now in
     let f = slots_of c.args.self.now in
@@ -23,7 +23,7 @@ returns-in-Some-clause-logs_unchanged c =
 pub returns-in-Some-clause-caches_unchanged : goal.returns-in-Some-clause-caches_unchanged
 returns-in-Some-clause-caches_unchanged c =
     let es = c.args.self.now.slots.entries in
-    let old = c.in-Some.topic.now in
+    let old = c.in-Some.slot.now in
     let new = c.freeze.new.self in
     let k = plain_key c.args.key.now in
     let f = slots_of c.args.self.now in
@@ -35,7 +35,7 @@ returns-in-Some-clause-caches_unchanged c =
 pub returns-in-Some-clause-queues_unchanged : goal.returns-in-Some-clause-queues_unchanged
 returns-in-Some-clause-queues_unchanged c =
     let es = c.args.self.now.slots.entries in
-    let old = c.in-Some.topic.now in
+    let old = c.in-Some.slot.now in
     let new = c.freeze.new.self in
     let k = plain_key c.args.key.now in
     let f = slots_of c.args.self.now in
@@ -47,7 +47,7 @@ returns-in-Some-clause-queues_unchanged c =
 pub returns-in-Some-clause-rings_unchanged : goal.returns-in-Some-clause-rings_unchanged
 returns-in-Some-clause-rings_unchanged c =
     let es = c.args.self.now.slots.entries in
-    let old = c.in-Some.topic.now in
+    let old = c.in-Some.slot.now in
     let new = c.freeze.new.self in
     let k = plain_key c.args.key.now in
     let f = slots_of c.args.self.now in

@@ -8,4 +8,4 @@ use Rattle.sdb_desk.proofs.shard.Shard.insert_slot.Goals as goal
 pub returns-clause-ok : goal.returns-clause-ok
 returns-clause-ok c =
     let es = c.args.self.now.slots.entries in
-    updated_of_insert empty_slot es _ c.in_ok-try_clone.field-0 c.args.topic c.in_ok-insert.ensures.entries ∙ ap (λ k. with_value_at_key (value_at_key empty_slot es) k c.args.topic) c.in_ok-try_clone.ensures
+    updated_of_insert empty_slot es _ c.in_ok-try_clone.field-0 c.args.slot c.in_ok-insert.ensures.entries ∙ ap (λ k. with_value_at_key (value_at_key empty_slot es) k c.args.slot) c.in_ok-try_clone.ensures

@@ -14,7 +14,7 @@ use Rattle.sdb_desk.proofs.shard.Shard.open.Goals as goal
 pub returns-in-Some-clause-opened : goal.returns-in-Some-clause-opened
 returns-in-Some-clause-opened c =
     let es = c.args.self.now.slots.entries in
-    let old = c.in-Some.topic.now in
+    let old = c.in-Some.slot.now in
     let new = c.open.new.self in
     let k = plain_key c.args.key.now in
     let f = slots_of c.args.self.now in
@@ -26,7 +26,7 @@ returns-in-Some-clause-opened c =
 pub returns-in-Some-clause-unchanged_on_err : goal.returns-in-Some-clause-unchanged_on_err
 returns-in-Some-clause-unchanged_on_err c =
     let es = c.args.self.now.slots.entries in
-    let old = c.in-Some.topic.now in
+    let old = c.in-Some.slot.now in
     let new = c.open.new.self in
     let k = plain_key c.args.key.now in
     let f = slots_of c.args.self.now in
@@ -38,7 +38,7 @@ returns-in-Some-clause-unchanged_on_err c =
 pub returns-in-Some-clause-others_unchanged : goal.returns-in-Some-clause-others_unchanged
 returns-in-Some-clause-others_unchanged c =
     let es = c.args.self.now.slots.entries in
-    let old = c.in-Some.topic.now in
+    let old = c.in-Some.slot.now in
     let new = c.open.new.self in
     let k = plain_key c.args.key.now in
     let f = slots_of c.args.self.now in
@@ -50,7 +50,7 @@ returns-in-Some-clause-others_unchanged c =
 pub returns-in-Some-clause-logs_unchanged : goal.returns-in-Some-clause-logs_unchanged
 returns-in-Some-clause-logs_unchanged c =
     let es = c.args.self.now.slots.entries in
-    let old = c.in-Some.topic.now in
+    let old = c.in-Some.slot.now in
     let new = c.open.new.self in
     let k = plain_key c.args.key.now in
     let f = slots_of c.args.self.now in
@@ -62,7 +62,7 @@ returns-in-Some-clause-logs_unchanged c =
 pub returns-in-Some-clause-caches_unchanged : goal.returns-in-Some-clause-caches_unchanged
 returns-in-Some-clause-caches_unchanged c =
     let es = c.args.self.now.slots.entries in
-    let old = c.in-Some.topic.now in
+    let old = c.in-Some.slot.now in
     let new = c.open.new.self in
     let k = plain_key c.args.key.now in
     let f = slots_of c.args.self.now in
@@ -109,9 +109,9 @@ returns-clause-opened c =
     let k = plain_key c.args.key.now in
     let f = slots_of c.args.self.now in
     let g = slots_of c.insert_slot.new.self in
-    let found = c.new-topic.ensures ∙ value_at_lookup_none empty_slot es c.args.key.now c.in_default.ensures.value in
+    let found = c.new-slot.ensures ∙ value_at_lookup_none empty_slot es c.args.key.now c.in_default.ensures.value in
     let wrote : g ≡ with_value_at_key f k w = c.in_ok-insert_slot.ensures.ok ∙ ap (λ m. with_value_at_key (value_at_key empty_slot m.entries) k w) c.get_mut.follows.holds-at-none in
-    ap (λ t. open_queue c.args.by c.args.start (without_rings t.queues)) (sym found) ∙ c.in_ok-id.ensures.ok ∙ ap Ok (sym (queues_at_key f g k c.new-topic.result w found wrote))
+    ap (λ t. open_queue c.args.by c.args.start (without_rings t.queues)) (sym found) ∙ c.in_ok-id.ensures.ok ∙ ap Ok (sym (queues_at_key f g k c.new-slot.result w found wrote))
 
 pub returns-clause-open : goal.returns-clause-open
 returns-clause-open c =
@@ -120,9 +120,9 @@ returns-clause-open c =
     let k = plain_key c.args.key.now in
     let f = slots_of c.args.self.now in
     let g = slots_of c.insert_slot.new.self in
-    let found = c.new-topic.ensures ∙ value_at_lookup_none empty_slot es c.args.key.now c.in_default.ensures.value in
+    let found = c.new-slot.ensures ∙ value_at_lookup_none empty_slot es c.args.key.now c.in_default.ensures.value in
     let wrote : g ≡ with_value_at_key f k w = c.in_ok-insert_slot.ensures.ok ∙ ap (λ m. with_value_at_key (value_at_key empty_slot m.entries) k w) c.get_mut.follows.holds-at-none in
-    ap (λ q. queue_at c.in_ok-id.id q.queues) (queues_at_key f g k c.new-topic.result w found wrote) ∙ c.in_ok-id.ensures.open
+    ap (λ q. queue_at c.in_ok-id.id q.queues) (queues_at_key f g k c.new-slot.result w found wrote) ∙ c.in_ok-id.ensures.open
 
 pub returns-clause-others_unchanged : goal.returns-clause-others_unchanged
 returns-clause-others_unchanged c =
@@ -131,9 +131,9 @@ returns-clause-others_unchanged c =
     let k = plain_key c.args.key.now in
     let f = slots_of c.args.self.now in
     let g = slots_of c.insert_slot.new.self in
-    let found = c.new-topic.ensures ∙ value_at_lookup_none empty_slot es c.args.key.now c.in_default.ensures.value in
+    let found = c.new-slot.ensures ∙ value_at_lookup_none empty_slot es c.args.key.now c.in_default.ensures.value in
     let wrote : g ≡ with_value_at_key f k w = c.in_ok-insert_slot.ensures.ok ∙ ap (λ m. with_value_at_key (value_at_key empty_slot m.entries) k w) c.get_mut.follows.holds-at-none in
-    queues_others f g k c.new-topic.result w found wrote
+    queues_others f g k c.new-slot.result w found wrote
 
 pub returns-clause-logs_unchanged : goal.returns-clause-logs_unchanged
 returns-clause-logs_unchanged c =
@@ -142,9 +142,9 @@ returns-clause-logs_unchanged c =
     let k = plain_key c.args.key.now in
     let f = slots_of c.args.self.now in
     let g = slots_of c.insert_slot.new.self in
-    let found = c.new-topic.ensures ∙ value_at_lookup_none empty_slot es c.args.key.now c.in_default.ensures.value in
+    let found = c.new-slot.ensures ∙ value_at_lookup_none empty_slot es c.args.key.now c.in_default.ensures.value in
     let wrote : g ≡ with_value_at_key f k w = c.in_ok-insert_slot.ensures.ok ∙ ap (λ m. with_value_at_key (value_at_key empty_slot m.entries) k w) c.get_mut.follows.holds-at-none in
-    logs_unchanged f g k c.new-topic.result w found wrote c.open-2.ensures.document
+    logs_unchanged f g k c.new-slot.result w found wrote c.open-2.ensures.document
 
 pub returns-clause-caches_unchanged : goal.returns-clause-caches_unchanged
 returns-clause-caches_unchanged c =
@@ -153,14 +153,14 @@ returns-clause-caches_unchanged c =
     let k = plain_key c.args.key.now in
     let f = slots_of c.args.self.now in
     let g = slots_of c.insert_slot.new.self in
-    let found = c.new-topic.ensures ∙ value_at_lookup_none empty_slot es c.args.key.now c.in_default.ensures.value in
+    let found = c.new-slot.ensures ∙ value_at_lookup_none empty_slot es c.args.key.now c.in_default.ensures.value in
     let wrote : g ≡ with_value_at_key f k w = c.in_ok-insert_slot.ensures.ok ∙ ap (λ m. with_value_at_key (value_at_key empty_slot m.entries) k w) c.get_mut.follows.holds-at-none in
-    caches_unchanged f g k c.new-topic.result w found wrote c.open-2.ensures.document
+    caches_unchanged f g k c.new-slot.result w found wrote c.open-2.ensures.document
 
 pub returns-in-Some-clause-rings : goal.returns-in-Some-clause-rings
 returns-in-Some-clause-rings c =
     let es = c.args.self.now.slots.entries in
-    let old = c.in-Some.topic.now in
+    let old = c.in-Some.slot.now in
     let new = c.open.new.self in
     let k = plain_key c.args.key.now in
     let f = slots_of c.args.self.now in
@@ -172,7 +172,7 @@ returns-in-Some-clause-rings c =
 pub returns-in-Some-clause-rings_left : goal.returns-in-Some-clause-rings_left
 returns-in-Some-clause-rings_left c =
     let es = c.args.self.now.slots.entries in
-    let old = c.in-Some.topic.now in
+    let old = c.in-Some.slot.now in
     let new = c.open.new.self in
     let k = plain_key c.args.key.now in
     let f = slots_of c.args.self.now in
@@ -195,6 +195,6 @@ returns-clause-rings c =
     let k = plain_key c.args.key.now in
     let f = slots_of c.args.self.now in
     let g = slots_of c.insert_slot.new.self in
-    let found = c.new-topic.ensures ∙ value_at_lookup_none empty_slot es c.args.key.now c.in_default.ensures.value in
+    let found = c.new-slot.ensures ∙ value_at_lookup_none empty_slot es c.args.key.now c.in_default.ensures.value in
     let wrote : g ≡ with_value_at_key f k w = c.in_ok-insert_slot.ensures.ok ∙ ap (λ m. with_value_at_key (value_at_key empty_slot m.entries) k w) c.get_mut.follows.holds-at-none in
-    rings_written f g k c.new-topic.result w found wrote ∙ ap (with_value_at_key (ringed_queues_of c.args.self.now) k) (c.in_ok-id.ensures.rings ∙ ap (λ t. append_ringed_queue c.in_ok-id.id c.args.by c.args.start t.queues.queues) found)
+    rings_written f g k c.new-slot.result w found wrote ∙ ap (with_value_at_key (ringed_queues_of c.args.self.now) k) (c.in_ok-id.ensures.rings ∙ ap (λ t. append_ringed_queue c.in_ok-id.id c.args.by c.args.start t.queues.queues) found)

@@ -6,12 +6,12 @@ use Rattle.sdb_desk.proofs.shard.Shard.queues.Goals as goal
 pub returns : goal.returns
 returns c =
     let es = c.args.self.now.slots.entries in
-    let order = c.values-topic-items.ensures.ordered in
-    let end : c.loop-topic.topic-iterator ≡ [] = c.in-None.ensures.steps.0 in
+    let order = c.values-slot-items.ensures.ordered in
+    let end : c.loop-slot.slot-iterator ≡ [] = c.in-None.ensures.steps.0 in
     record {
       keys = plain_keys es;
       distinct = keys_distinct es order;
       others = no_queue_of_other_key es;
-      count_saturated = count_so_far_all (values_of es) c.loop-topic.count (subst (λ r. IsCountSoFar (values_of es) r c.loop-topic.count) end c.loop-topic.invariant)
+      count_saturated = count_so_far_all (values_of es) c.loop-slot.count (subst (λ r. IsCountSoFar (values_of es) r c.loop-slot.count) end c.loop-slot.invariant)
           ∙ ap (λ n. min n 18446744073709551615) (sym (open_of_total es order));
     }

@@ -11,7 +11,7 @@ use Rattle.sdb_desk.proofs.shard.Shard.snapshot_of.Goals as goal
 pub returns-in-Some-clause-logs_unchanged : goal.returns-in-Some-clause-logs_unchanged
 returns-in-Some-clause-logs_unchanged c =
     let es = c.args.self.now.slots.entries in
-    let old = c.in-Some.topic.now in
+    let old = c.in-Some.slot.now in
     let new = c.snapshot_at.new.self in
     let k = plain_key c.args.key.now in
     let f = slots_of c.args.self.now in
@@ -23,7 +23,7 @@ returns-in-Some-clause-logs_unchanged c =
 pub returns-in-Some-clause-others_unchanged : goal.returns-in-Some-clause-others_unchanged
 returns-in-Some-clause-others_unchanged c =
     let es = c.args.self.now.slots.entries in
-    let old = c.in-Some.topic.now in
+    let old = c.in-Some.slot.now in
     let new = c.snapshot_at.new.self in
     let k = plain_key c.args.key.now in
     let f = slots_of c.args.self.now in
@@ -38,7 +38,7 @@ returns-in-None-clause-others_unchanged c =
 pub returns-in-Some-clause-queues_unchanged : goal.returns-in-Some-clause-queues_unchanged
 returns-in-Some-clause-queues_unchanged c =
     let es = c.args.self.now.slots.entries in
-    let old = c.in-Some.topic.now in
+    let old = c.in-Some.slot.now in
     let new = c.snapshot_at.new.self in
     let k = plain_key c.args.key.now in
     let f = slots_of c.args.self.now in
@@ -50,7 +50,7 @@ returns-in-Some-clause-queues_unchanged c =
 pub returns-in-Some-clause-rings_unchanged : goal.returns-in-Some-clause-rings_unchanged
 returns-in-Some-clause-rings_unchanged c =
     let es = c.args.self.now.slots.entries in
-    let old = c.in-Some.topic.now in
+    let old = c.in-Some.slot.now in
     let new = c.snapshot_at.new.self in
     let k = plain_key c.args.key.now in
     let f = slots_of c.args.self.now in

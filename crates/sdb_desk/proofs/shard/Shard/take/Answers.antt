@@ -12,7 +12,7 @@ use Rattle.sdb_desk.proofs.shard.Shard.take.Goals as goal
 pub returns-in-Some-clause-others_unchanged : goal.returns-in-Some-clause-others_unchanged
 returns-in-Some-clause-others_unchanged c =
     let es = c.args.self.now.slots.entries in
-    let old = c.in-Some.topic.now in
+    let old = c.in-Some.slot.now in
     let new = c.take.new.self in
     let k = plain_key c.args.key.now in
     let f = slots_of c.args.self.now in
@@ -24,7 +24,7 @@ returns-in-Some-clause-others_unchanged c =
 pub returns-in-Some-clause-logs_unchanged : goal.returns-in-Some-clause-logs_unchanged
 returns-in-Some-clause-logs_unchanged c =
     let es = c.args.self.now.slots.entries in
-    let old = c.in-Some.topic.now in
+    let old = c.in-Some.slot.now in
     let new = c.take.new.self in
     let k = plain_key c.args.key.now in
     let f = slots_of c.args.self.now in
@@ -36,7 +36,7 @@ returns-in-Some-clause-logs_unchanged c =
 pub returns-in-Some-clause-kept : goal.returns-in-Some-clause-kept
 returns-in-Some-clause-kept c =
     let es = c.args.self.now.slots.entries in
-    let old = c.in-Some.topic.now in
+    let old = c.in-Some.slot.now in
     let new = c.take.new.self in
     let k = plain_key c.args.key.now in
     let f = slots_of c.args.self.now in
@@ -51,7 +51,7 @@ returns-in-None-clause-others_unchanged c = updated_at_unchanged (queues_of c.ar
 pub returns-in-Some-clause-rings : goal.returns-in-Some-clause-rings
 returns-in-Some-clause-rings c =
     let es = c.args.self.now.slots.entries in
-    let old = c.in-Some.topic.now in
+    let old = c.in-Some.slot.now in
     let new = c.take.new.self in
     let k = plain_key c.args.key.now in
     let f = slots_of c.args.self.now in
@@ -63,7 +63,7 @@ returns-in-Some-clause-rings c =
 pub returns-in-Some-clause-rings_left : goal.returns-in-Some-clause-rings_left
 returns-in-Some-clause-rings_left c =
     let es = c.args.self.now.slots.entries in
-    let old = c.in-Some.topic.now in
+    let old = c.in-Some.slot.now in
     let new = c.take.new.self in
     let k = plain_key c.args.key.now in
     let f = slots_of c.args.self.now in

@@ -13,7 +13,7 @@ use Rattle.sdb_desk.proofs.shard.Shard.unsubscribe.Goals as goal
 pub returns-in-Some-clause-queues : goal.returns-in-Some-clause-queues
 returns-in-Some-clause-queues c =
     let es = c.args.self.now.slots.entries in
-    let old = c.in-Some.topic.now in
+    let old = c.in-Some.slot.now in
     let new = c.close.new.self in
     let k = plain_key c.args.key.now in
     let f = slots_of c.args.self.now in
@@ -26,7 +26,7 @@ returns-in-Some-clause-queues c =
 pub returns-in-Some-clause-logs_unchanged : goal.returns-in-Some-clause-logs_unchanged
 returns-in-Some-clause-logs_unchanged c =
     let es = c.args.self.now.slots.entries in
-    let old = c.in-Some.topic.now in
+    let old = c.in-Some.slot.now in
     let new = c.close.new.self in
     let k = plain_key c.args.key.now in
     let f = slots_of c.args.self.now in
@@ -38,7 +38,7 @@ returns-in-Some-clause-logs_unchanged c =
 pub returns-in-Some-clause-caches_unchanged : goal.returns-in-Some-clause-caches_unchanged
 returns-in-Some-clause-caches_unchanged c =
     let es = c.args.self.now.slots.entries in
-    let old = c.in-Some.topic.now in
+    let old = c.in-Some.slot.now in
     let new = c.close.new.self in
     let k = plain_key c.args.key.now in
     let f = slots_of c.args.self.now in
@@ -57,7 +57,7 @@ returns-in_default-clause-queues c =
 pub returns-in-Some-clause-rings : goal.returns-in-Some-clause-rings
 returns-in-Some-clause-rings c =
     let es = c.args.self.now.slots.entries in
-    let old = c.in-Some.topic.now in
+    let old = c.in-Some.slot.now in
     let new = c.close.new.self in
     let k = plain_key c.args.key.now in
     let f = slots_of c.args.self.now in
@@ -76,7 +76,7 @@ returns-in_default-clause-rings c =
 pub returns-in-Some-clause-removed : goal.returns-in-Some-clause-removed
 returns-in-Some-clause-removed c =
     let es = c.args.self.now.slots.entries in
-    let old = c.in-Some.topic.now in
+    let old = c.in-Some.slot.now in
     let new = c.close.new.self in
     let k = plain_key c.args.key.now in
     let f = slots_of c.args.self.now in

@@ -8,7 +8,7 @@ acquire-requires-clause-one g c = let s = c.args.seat.now in let h = s.is_idle i
 
 pub exchange-requires : goal.exchange-requires
 exchange-requires g c = let s = c.args.seat.now in let h = s.is_idle in let t = idle_view_of_fields s.inner.me s.number s.next h.0 h.1 h.2 h.3 in let k = c.acquire.ensures.taken in
-    (search rules, slot_of_acquire s.inner.me c.acquire.new.place.me s.number s.next t.0 k.0 t.1 k.1)
+    (search rules, slot_of_acquire s.inner.me c.acquire.new.table_seat.me s.number s.next t.0 k.0 t.1 k.1)
 
 pub run-answer-requires : goal.run-answer-requires
 run-answer-requires g c = let s = c.args.seat.now in let h = s.is_idle in let t = idle_view_of_fields s.inner.me s.number s.next h.0 h.1 h.2 h.3 in let k = c.acquire.ensures.taken in
@@ -22,7 +22,7 @@ pub release-requires-clause-grown : goal.release-requires-clause-grown
 release-requires-clause-grown g c = let s = c.args.seat.now in let h = s.is_idle in let t = idle_view_of_fields s.inner.me s.number s.next h.0 h.1 h.2 h.3 in let k = c.acquire.ensures.taken in
     let r = g.T.Grows in
     let e = same_value k.0 c.in-Some.value t.0 _ _ _ _ (ap (λ (m : M g.row.T.Denot). m.1) k.1) c.exchange.ensures.2 c.in-Some.is in
-    let m1 = holder_view_of_acquire s.inner.me c.acquire.new.place.me s.number s.next t.0 k.0 t.1 k.1 in
+    let m1 = holder_view_of_acquire s.inner.me c.acquire.new.table_seat.me s.number s.next t.0 k.0 t.1 k.1 in
     let m2 = slot_after_exchange _ _ (holder_view s.number k.0 s.next) _ None m1 c.exchange.ensures.3 in
     let m3 = slot_after_exchange _ _ (holder_view s.number k.0 s.next) _ (Some c.run-answer.new.value) m2 c.exchange-left.ensures.3 in (
       s.number,
@@ -36,11 +36,11 @@ release-requires-clause-grown g c = let s = c.args.seat.now in let h = s.is_idle
 
 pub invariant_of-seat : goal.invariant_of-seat
 invariant_of-seat g c = let s = c.args.seat.now in let h = s.is_idle in let t = idle_view_of_fields s.inner.me s.number s.next h.0 h.1 h.2 h.3 in let k = c.acquire.ensures.taken in
-    let m1 = holder_view_of_acquire s.inner.me c.acquire.new.place.me s.number s.next t.0 k.0 t.1 k.1 in
+    let m1 = holder_view_of_acquire s.inner.me c.acquire.new.table_seat.me s.number s.next t.0 k.0 t.1 k.1 in
     let m2 = slot_after_exchange _ _ (holder_view s.number k.0 s.next) _ None m1 c.exchange.ensures.3 in
     let m3 = slot_after_exchange _ _ (holder_view s.number k.0 s.next) _ (Some c.run-answer.new.value) m2 c.exchange-left.ensures.3 in
     let m4 = idle_view_of_release _ _ s.number s.next k.0 c.run-answer.new.value m3 c.release.ensures.freed in
-    record { is_idle = fields_of_idle_view c.release.new.place.me s.number s.next c.run-answer.new.value m4 }
+    record { is_idle = fields_of_idle_view c.release.new.table_seat.me s.number s.next c.run-answer.new.value m4 }
 
 pub returns-clause-ran : goal.returns-clause-ran
 returns-clause-ran g c = let s = c.args.seat.now in let h = s.is_idle in let t = idle_view_of_fields s.inner.me s.number s.next h.0 h.1 h.2 h.3 in let k = c.acquire.ensures.taken in
@@ -48,7 +48,7 @@ returns-clause-ran g c = let s = c.args.seat.now in let h = s.is_idle in let t =
     let e = same_value k.0 c.in-Some.value t.0 _ _ _ _ (ap (λ (m : M g.row.T.Denot). m.1) k.1) c.exchange.ensures.2 c.in-Some.is in
     let one = ap (λ (m : M g.row.T.Denot). m.0.seen) t.1 in
     let p = (subst (ForEach (λ p. r.extends k.0 p.value × r.same p.number p.value k.0)) one k.2).0 in
-    let m1 = holder_view_of_acquire s.inner.me c.acquire.new.place.me s.number s.next t.0 k.0 t.1 k.1 in
+    let m1 = holder_view_of_acquire s.inner.me c.acquire.new.table_seat.me s.number s.next t.0 k.0 t.1 k.1 in
     let m2 = slot_after_exchange _ _ (holder_view s.number k.0 s.next) _ None m1 c.exchange.ensures.3 in
     let m3 = slot_after_exchange _ _ (holder_view s.number k.0 s.next) _ (Some c.run-answer.new.value) m2 c.exchange-left.ensures.3 in
     let m4 = idle_view_of_release _ _ s.number s.next k.0 c.run-answer.new.value m3 c.release.ensures.freed in (

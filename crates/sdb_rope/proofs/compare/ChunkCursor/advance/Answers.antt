@@ -8,7 +8,7 @@ use Rattle.sdb_rope.specs.Cursor.{remaining_bytes}
 use Rattle.sdb_rope.specs.RopeChunk.{chunk_list_texts}
 use Rattle.sdb_rope.proofs.compare.ChunkCursor.advance.Goals as goal
 
--- of two that begin the same list, the shorter begins the longer
+-- of two prefixes of one list, the shorter is a prefix of the longer
 front : (h R w more : List ℕ) → h ++ R ≡ w ++ more → length h ≤ length w → w ≡ h ++ drop (length h) w
 front h R w more e l =
     let f : take (length h) w ≡ h = sym (take-append-le (length h) w more l) ∙ ap (take (length h)) (sym e) ∙ take_at h R (length h) refl in

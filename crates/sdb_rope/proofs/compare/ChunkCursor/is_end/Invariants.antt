@@ -5,5 +5,5 @@ use Rattle.sdb_rope.specs.Cursor.{remaining_bytes}
 use Rattle.sdb_rope.specs.RopeChunk.{chunk_list_texts}
 use Rattle.sdb_rope.proofs.compare.ChunkCursor.is_end.Given as goal
 
-abbrev pub invariant-loop-part : goal.invariant-loop-part
-invariant-loop-part l = concat (chunk_list_texts (remaining_items l.part-iterator)) ≡ remaining_bytes l.self
+abbrev pub invariant-loop-chunk : goal.invariant-loop-chunk
+invariant-loop-chunk l = concat (chunk_list_texts (remaining_items l.chunk-iterator)) ≡ remaining_bytes l.self

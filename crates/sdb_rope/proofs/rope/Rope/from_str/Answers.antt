@@ -2,4 +2,4 @@ use Rattle.sdb_rope.proofs.ChunkListLemmas.{all_own_is}
 use Rattle.sdb_rope.proofs.rope.Rope.from_str.Goals as goal
 
 pub returns-then-text-gt-MAX_CHUNK_LEN-clause-unique : goal.returns-then-text-gt-MAX_CHUNK_LEN-clause-unique
-returns-then-text-gt-MAX_CHUNK_LEN-clause-unique c = all_own_is c.in_ok-parts.parts.items c.in_ok-parts.ensures.unique
+returns-then-text-gt-MAX_CHUNK_LEN-clause-unique c = all_own_is c.in_ok-chunks.chunks.items c.in_ok-chunks.ensures.unique

@@ -9,10 +9,10 @@ new_pass-requires-clause-host g c κs within = subst (λ s. IsHostOfServer c.arg
 
 pub start-requires-clause-pass : goal.start-requires-clause-pass
 start-requires-clause-pass g c κs within =
-    subst (λ s. IsPassOfBackend c.in-Some.pass s.backend) (c.deref.ensures ∙ sym c.in_ok-place.ensures.state) c.in-Some.ensures.pass
+    subst (λ s. IsPassOfBackend c.in-Some.pass s.backend) (c.deref.ensures ∙ sym c.in_ok-thread_slot.ensures.state) c.in-Some.ensures.pass
 
-pub returns-in_err-place-clause-sessions : goal.returns-in_err-place-clause-sessions
-returns-in_err-place-clause-sessions g c = c.slot_for.ensures.backend c.args.state.now.value.backend c.requires.sessions
+pub returns-in_err-thread_slot-clause-sessions : goal.returns-in_err-thread_slot-clause-sessions
+returns-in_err-thread_slot-clause-sessions g c = c.slot_for.ensures.backend c.args.state.now.value.backend c.requires.sessions
 
 pub returns-in_default-clause-host : goal.returns-in_default-clause-host
 returns-in_default-clause-host g c = subst (λ s. IsHostOfServer c.new_pass.new.host s) c.deref.ensures c.new_pass.ensures.host
@@ -29,8 +29,8 @@ pub returns-then-not-start-clause-sessions : goal.returns-then-not-start-clause-
 returns-then-not-start-clause-sessions g c =
     let b = c.args.state.now.value.backend in
     let before = c.new_pass.ensures.sessions b (c.slot_for.ensures.backend b c.requires.sessions) in
-    let theirs = subst (λ s. ThreadsOfBackend c.new_pass.new.self.sessions s.backend) (sym c.in_ok-place.ensures.state) before in
-    subst (λ s. ThreadsOfBackend c.start.new.self s.backend) c.in_ok-place.ensures.state (c.start.ensures.backend theirs)
+    let theirs = subst (λ s. ThreadsOfBackend c.new_pass.new.self.sessions s.backend) (sym c.in_ok-thread_slot.ensures.state) before in
+    subst (λ s. ThreadsOfBackend c.start.new.self s.backend) c.in_ok-thread_slot.ensures.state (c.start.ensures.backend theirs)
 
 pub returns-else-not-start-clause-host : goal.returns-else-not-start-clause-host
 returns-else-not-start-clause-host g c = subst (λ s. IsHostOfServer c.new_pass.new.host s) c.deref.ensures c.new_pass.ensures.host
@@ -39,5 +39,5 @@ pub returns-else-not-start-clause-sessions : goal.returns-else-not-start-clause-
 returns-else-not-start-clause-sessions g c =
     let b = c.args.state.now.value.backend in
     let before = c.new_pass.ensures.sessions b (c.slot_for.ensures.backend b c.requires.sessions) in
-    let theirs = subst (λ s. ThreadsOfBackend c.new_pass.new.self.sessions s.backend) (sym c.in_ok-place.ensures.state) before in
-    subst (λ s. ThreadsOfBackend c.start.new.self s.backend) c.in_ok-place.ensures.state (c.start.ensures.backend theirs)
+    let theirs = subst (λ s. ThreadsOfBackend c.new_pass.new.self.sessions s.backend) (sym c.in_ok-thread_slot.ensures.state) before in
+    subst (λ s. ThreadsOfBackend c.start.new.self s.backend) c.in_ok-thread_slot.ensures.state (c.start.ensures.backend theirs)

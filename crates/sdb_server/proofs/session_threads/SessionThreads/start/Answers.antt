@@ -33,6 +33,6 @@ run-served-requires g c κs within =
 
 pub returns : goal.returns
 returns g c =
-    let b = c.args.place.state.value.backend in
+    let b = c.args.thread_slot.state.value.backend in
     let of = subst (λ f. IsPassOfBackend c.run-served.result.pass f.0.value.backend) c.in-Err.ensures.err c.run-served.ensures in
     record { backend = λ a. c.keep_pass.ensures b of a }

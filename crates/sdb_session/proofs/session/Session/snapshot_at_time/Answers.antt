@@ -11,13 +11,13 @@ use Rattle.sdb_session.proofs.session.Session.snapshot_at_time.Goals as goal
 
 pub returns-in-Ok-clause-outcome : goal.returns-in-Ok-clause-outcome
 returns-in-Ok-clause-outcome g c = λ now.
-    let k = plain_key c.args.asked.key in
+    let k = plain_key c.args.query.key in
     let t = c.args.table.now in
     let e = echo_of_message c.args.message in
     let o = plain_projection_option c.find-projection.result in
     let s = plain_session c.args.self.now in
-    let m = c.args.asked.moment in
-    let id = c.args.asked.id in
+    let m = c.args.query.moment in
+    let id = c.args.query.id in
     let by = g.D.Desk.pass_number c.args.desk.now c.args.pass.now in
     let wrote = WroteAnswers g.O.AnswerSink.items (g.O.AnswerSink.contents c.args.out.now) (g.O.AnswerSink.contents c.write_at_moment.new.out) in
     let seen : o ≡ projection_of_key t k = c.find-projection.ensures ∙ ap (λ n. projection_of n t) c.as_str.ensures.value in

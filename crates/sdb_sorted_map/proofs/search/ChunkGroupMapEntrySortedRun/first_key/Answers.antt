@@ -6,14 +6,14 @@ use Rattle.sdb_sorted_map.proofs.search.ChunkGroupMapEntrySortedRun.first_key.Go
 
 pub returns-in-Some : goal.returns-in-Some
 returns-in-Some g c =
-    let bs = c.chunks-block-items.result.now in
-    sym (ap (λ l. slice_get (flat_map chunk_keys l) 0) (sym c.chunks-block-items.ensures)
-    ∙ first_text chunk_keys bs c.loop-block.block-index c.block-item.result c.in-Some.first.now c.loop-block-test.true c.block-item.is
-    c.loop-block.invariant (sym c.in-Some.ensures))
+    let bs = c.chunks-chunk-items.result.now in
+    sym (ap (λ l. slice_get (flat_map chunk_keys l) 0) (sym c.chunks-chunk-items.ensures)
+    ∙ first_text chunk_keys bs c.loop-chunk.chunk-index c.chunk-item.result c.in-Some.first.now c.loop-chunk-test.true c.chunk-item.is
+    c.loop-chunk.invariant (sym c.in-Some.ensures))
 
-pub loop-block-preserved : goal.loop-block-preserved
-loop-block-preserved g c =
-    let bs = c.chunks-block-items.result.now in
-    let none = no_text (chunk_keys c.block-item.result) (sym c.first_key.ensures ∙ ap (option_map (λ t. t.now)) c.in_default.is) in
-    first_keys_append chunk_keys bs c.loop-block.block-index c.block-item.result c.loop-block-test.true c.block-item.is
-    ∙ ap (λ l. l ++ chunk_keys c.block-item.result) c.loop-block.invariant ∙ none
+pub loop-chunk-preserved : goal.loop-chunk-preserved
+loop-chunk-preserved g c =
+    let bs = c.chunks-chunk-items.result.now in
+    let none = no_text (chunk_keys c.chunk-item.result) (sym c.first_key.ensures ∙ ap (option_map (λ t. t.now)) c.in_default.is) in
+    first_keys_append chunk_keys bs c.loop-chunk.chunk-index c.chunk-item.result c.loop-chunk-test.true c.chunk-item.is
+    ∙ ap (λ l. l ++ chunk_keys c.chunk-item.result) c.loop-chunk.invariant ∙ none

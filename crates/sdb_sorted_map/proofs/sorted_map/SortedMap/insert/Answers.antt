@@ -8,7 +8,7 @@ use Rattle.sdb_sorted_map.specs.SearchModel.{vec_keys}
 use Rattle.sdb_sorted_map.proofs.EditLemmas.{gap_seen, value_found, none_found, not_both, on_err, length_kept, ascending_kept, replaced_texts, replaced_entries, put_entries, put_small, put_ascending}
 use Rattle.sdb_sorted_map.proofs.sorted_map.SortedMap.insert.Goals as goal
 
--- ---- the key is there
+-- ---- the key is present
 
 pub invariant_of-self : goal.invariant_of-self
 invariant_of-self g c =

@@ -2,8 +2,8 @@ use Rattle.std.proofs.Common.{◌≡◌, ◌<◌, ◌≤◌, length, vec_len, ve
 use Rattle.sdb_striped_lock.proofs.IndexLemmas.{AtEachItem}
 use Rattle.sdb_striped_lock.proofs.close_buffers.CloseBuffers.new.Given as goal
 
-abbrev pub invariant-loop-place : goal.invariant-loop-place
-invariant-loop-place g l =
+abbrev pub invariant-loop-index : goal.invariant-loop-index
+invariant-loop-index g l =
     record {
       long : length l.columns.items ≡ l._place;
       room : 8 ≤ vec_capacity l.columns;

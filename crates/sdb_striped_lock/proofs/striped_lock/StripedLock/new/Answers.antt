@@ -8,12 +8,12 @@ use Rattle.sdb_striped_lock.specs.SeatSetModel.{IsRootSeat}
 use Rattle.sdb_striped_lock.proofs.IndexLemmas.{AtEachItem, each_item_of_push, at_each_of_push}
 use Rattle.sdb_striped_lock.proofs.striped_lock.StripedLock.new.Goals as goal
 
-pub loop-place-preserved : goal.loop-place-preserved
-loop-place-preserved g c =
-    let inv = c.loop-place.invariant in
-    let m = c.loop-place._place in
-    let locks = c.loop-place.locks.items in
-    let seats = c.loop-place.seats.items in
+pub loop-index-preserved : goal.loop-index-preserved
+loop-index-preserved g c =
+    let inv = c.loop-index.invariant in
+    let m = c.loop-index._place in
+    let locks = c.loop-index.locks.items in
+    let seats = c.loop-index.seats.items in
     let lock = c.in-Ok.lock in
     let seat = c.in-Ok.seat in
     let P : ℕ → Seat g.row.T.Denot → Type 0 = λ i s. (x : g.row.T.Denot) × HasSeen s x × ((k : ℕ) → g.T.Grows.blank k x) in
@@ -31,19 +31,19 @@ loop-place-preserved g c =
 
 pub returns-clause-belongs : goal.returns-clause-belongs
 returns-clause-belongs g c =
-    let end = c.loop-place-test.false in
-    ((lit, λ i x y from lt. c.loop-place.invariant.own i x y from (omega (arith, lt, end))), refl) where
+    let end = c.loop-index-test.false in
+    ((lit, λ i x y from lt. c.loop-index.invariant.own i x y from (omega (arith, lt, end))), refl) where
       lit : 0 < 1
       lit = omega arith
 
 pub returns-clause-seen : goal.returns-clause-seen
 returns-clause-seen g c =
     λ i lt.
-    let end = c.loop-place-test.false in
-    let up = c.loop-place.auto._place-end in
-    let seats = c.loop-place.seats.items in
-    let n = c.loop-place.invariant.seats in
+    let end = c.loop-index-test.false in
+    let up = c.loop-index.auto._place-end in
+    let seats = c.loop-index.seats.items in
+    let n = c.loop-index.invariant.seats in
     let eight : length seats ≡ 8 = omega (arith, n, end, up) in
     let s = element_at seats 8 eight (omega arith) in
-    let x = c.loop-place.invariant.seen i s (omega arith) (omega (arith, lt, end)) in
+    let x = c.loop-index.invariant.seen i s (omega arith) (omega (arith, lt, end)) in
     (x.0, seen_at_index seats i s x.0 (omega (arith, lt, eight)) x.1, x.2)

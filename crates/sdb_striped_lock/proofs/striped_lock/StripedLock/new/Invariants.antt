@@ -5,8 +5,8 @@ use Rattle.sdb_striped_lock.specs.SeatSetModel.{IsRootSeat}
 use Rattle.sdb_striped_lock.proofs.IndexLemmas.{AtEachItem}
 use Rattle.sdb_striped_lock.proofs.striped_lock.StripedLock.new.Given as goal
 
-abbrev pub invariant-loop-place : goal.invariant-loop-place
-invariant-loop-place g l =
+abbrev pub invariant-loop-index : goal.invariant-loop-index
+invariant-loop-index g l =
     record {
       locks : length l.locks.items ≡ l._place;
       seats : length l.seats.items ≡ l._place;

@@ -8,16 +8,16 @@ use Rattle.sdb_striped_lock.specs.SeatSetModel.{IsSeatNumbered, IsRootSeat}
 use Rattle.sdb_striped_lock.proofs.IndexLemmas.{each_item_of_set, each_item_of_push, get_or_is}
 use Rattle.sdb_striped_lock.proofs.striped_lock.StripedLock.split_stripes.Goals as goal
 
-pub loop-place-preserved : goal.loop-place-preserved
-loop-place-preserved g c =
-    let inv = c.loop-place.invariant in
+pub loop-index-preserved : goal.loop-index-preserved
+loop-index-preserved g c =
+    let inv = c.loop-index.invariant in
     let blank = g.T.Grows.blank in
     let n = c.args.number in
-    let m = c.loop-place.place in
-    let lt : m < 8 = c.loop-place-test.true in
+    let m = c.loop-index.index in
+    let lt : m < 8 = c.loop-index-test.true in
     let olds = c.args.firsts.now.items in
-    let firsts = c.loop-place.firsts.items in
-    let seats = c.loop-place.seats.items in
+    let firsts = c.loop-index.firsts.items in
+    let seats = c.loop-index.seats.items in
     let locks = c.args.self.now.locks.items in
     let o = c.index_mut.result.now in
     let l = c.index.result.now in
@@ -65,8 +65,8 @@ loop-place-preserved g c =
 
 pub returns-clause-first : goal.returns-clause-first
 returns-clause-first g c =
-    λ i x y from lt. let end = c.loop-place-test.false in c.loop-place.invariant.before i x y from (omega (arith, lt, end))
+    λ i x y from lt. let end = c.loop-index-test.false in c.loop-index.invariant.before i x y from (omega (arith, lt, end))
 
 pub returns-clause-split_seat : goal.returns-clause-split_seat
 returns-clause-split_seat g c =
-    λ i x y from lt. let end = c.loop-place-test.false in c.loop-place.invariant.given i x y from (omega (arith, lt, end))
+    λ i x y from lt. let end = c.loop-index-test.false in c.loop-index.invariant.given i x y from (omega (arith, lt, end))
