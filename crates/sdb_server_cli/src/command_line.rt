@@ -182,8 +182,8 @@ fn parse_stop_condition(matches: &ArgMatches<'_>) -> StopCondition {
 ///
 /// # Errors
 ///
-/// [`AllocError`] if an allocation fails before the run. The errors of [`serve_at`], or of printing
-/// a line.
+/// [`AllocError`] if an allocation fails before the run. The errors of
+/// [`serve_at`](crate::serve_at), or of printing a line.
 pub fn run<R>(rt: R, words: &[String]) -> anyhow::Result<u8>
 where
     R: AllocGlobal + Input<Reader = StdinLock<'static>> + Print + Eprint,

@@ -14,8 +14,8 @@ use std::process::Abort;
 use std::sync::Wait;
 use tungstenite::{NoMask, Role, WebSocket};
 
-// A client's stream with `before` reads without bytes, then these bytes, then `behind` reads
-// without bytes, and then a reset. If `wakes` is set, each read is interrupted once before it.
+// A client's stream with so many reads without bytes before and after these bytes, and then a
+// reset. If `wakes` is set, each read is interrupted once before it.
 #[derive(Drop)]
 struct Peer<'a> {
     before: u64,

@@ -11,7 +11,7 @@ use Rattle.sdb_chunks.specs.declared.chunked_vec.Repr.{Repr}
 use Rattle.sdb_chunks.specs.declared.chunked_vec.Repr.TheVariants.{Flat, Chunks, Groups}
 use Rattle.sdb_chunks.specs.declared.chunked_vec.ChunkedVec.{ChunkedVec}
 use mathlib.Core.Former.{this}
-use Rattle.sdb_sorted_map.specs.formers.sorted_map.SortedMap.{member_former, pieces_former}
+use Rattle.sdb_sorted_map.specs.formers.sorted_map.SortedMap.{member_former, chunked_vec_former}
 use Rattle.sdb_sorted_map.specs.MapEntry.{entry_model}
 use Rattle.sdb_sorted_map.specs.SortedMap.{map_entry_models, is_unique_map, is_shared_map, map_chunks}
 use Rattle.sdb_sorted_map.specs.declared.map_entry.MapEntry.{MapEntry}
@@ -72,14 +72,14 @@ owned_null = search (rules, the_lemmas)
 pub owned_text : (t : Rope) → is_unique (json.Text t) ≡ is_unique_rope t
 owned_text t = search (rules, the_lemmas)
 
-own_entries : {X Y : Type 0} (f : X → Y) (w : Repr (MapEntry X)) → is_unique_vec ((pieces_former (member_former this)).map X Y f (record { repr = w })) ≡ is_unique_repr w
+own_entries : {X Y : Type 0} (f : X → Y) (w : Repr (MapEntry X)) → is_unique_vec ((chunked_vec_former (member_former this)).map X Y f (record { repr = w })) ≡ is_unique_repr w
 own_entries f (Flat (Unique v)) = refl
 own_entries f (Flat (Shared a)) = refl
 own_entries f (Chunks (Unique v)) = all_own_once _ v.items (λ w. refl) (λ w. refl)
 own_entries f (Chunks (Shared a)) = refl
 own_entries f (Groups gs) = refl
 
-shared_entries : {X Y : Type 0} (f : X → Y) (w : Repr (MapEntry X)) → is_shared_vec ((pieces_former (member_former this)).map X Y f (record { repr = w })) ≡ is_shared_repr w
+shared_entries : {X Y : Type 0} (f : X → Y) (w : Repr (MapEntry X)) → is_shared_vec ((chunked_vec_former (member_former this)).map X Y f (record { repr = w })) ≡ is_shared_repr w
 shared_entries f (Flat (Unique v)) = refl
 shared_entries f (Flat (Shared a)) = refl
 shared_entries f (Chunks (Unique v)) = refl

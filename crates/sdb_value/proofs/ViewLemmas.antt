@@ -15,7 +15,7 @@ use Rattle.sdb_chunks.specs.declared.chunk_group.ChunkGroup.{ChunkGroup}
 use Rattle.sdb_chunks.specs.declared.chunked_vec.Repr.{Repr}
 use Rattle.sdb_chunks.specs.declared.chunked_vec.Repr.TheVariants.{Flat, Chunks, Groups}
 use Rattle.sdb_chunks.specs.declared.chunked_vec.ChunkedVec.{ChunkedVec}
-use Rattle.sdb_sorted_map.specs.formers.sorted_map.SortedMap.{member_former, pieces_former}
+use Rattle.sdb_sorted_map.specs.formers.sorted_map.SortedMap.{member_former, chunked_vec_former}
 use Rattle.sdb_sorted_map.specs.laws.SortedMapLaws.{map_models_of_entries}
 use Rattle.sdb_sorted_map.specs.MapEntry.{entry_model}
 use Rattle.sdb_sorted_map.specs.SortedMap.{map_entry_models, map_chunks}
@@ -80,7 +80,7 @@ abbrev on_member : {X Y : Type 0} → (X → Y) → MapEntry X → MapEntry Y
 on_member {X} {Y} f = (member_former this).map X Y f
 
 abbrev on_entries : {X Y : Type 0} → (X → Y) → ChunkedVec (MapEntry X) → ChunkedVec (MapEntry Y)
-on_entries {X} {Y} f = (pieces_former (member_former this)).map X Y f
+on_entries {X} {Y} f = (chunked_vec_former (member_former this)).map X Y f
 
 members_once : {X Y : Type 0} (f : X → Y) (ms : List (MapEntry X)) → map (entry_model (λ d. d)) (map (on_member f) ms) ≡ map (entry_model f) ms
 members_once f [] = refl

@@ -69,7 +69,7 @@ clone_list-returns-in_default-inner t c =
     let inner = c.chunk_clone_mode-inner.ensures in
     record {
       items = made_view l new bs c.from_chunks.ensures.chunks c.in_ok-copies.ensures.items;
-      own = by_manner c.chunk_clone_mode-inner.result c.args.mode (is_grouped l.repr) (list_unique l) (list_unique new) (is_shared_vec new) inner.copied (in_groups_own is_unique l) (shared_list_own is_unique new) (made_of_blocks is_unique c.chunk_clone_mode-inner.result l new bs c.in_default-inner.not-Frozen inner.in_blocks
+      unique = by_manner c.chunk_clone_mode-inner.result c.args.mode (is_grouped l.repr) (list_unique l) (list_unique new) (is_shared_vec new) inner.copied (in_groups_own is_unique l) (shared_list_own is_unique new) (made_of_blocks is_unique c.chunk_clone_mode-inner.result l new bs c.in_default-inner.not-Frozen inner.in_blocks
           (λ same. not_found c.in_ok-list.field-0 c.in_default.not-Some c.in_ok-list.ensures.none (inner.same same)) c.from_chunks.ensures.chunks
           c.from_chunks.ensures.unique c.in_ok-copies.ensures.unique);
     }
@@ -133,7 +133,7 @@ clone_members-from_entries-requires-in_default-inner t c =
     let q = c.chunks-2.result.now in
     let new = c.from_chunks.result in
     let viewed : entries_value (vec_items new) ≡ entries_value (vec_items q) = ap (λ b. entries_value (flat_map items_of b)) c.from_chunks.ensures.chunks ∙ c.in_ok-copies.ensures.members in
-    record { small = small_viewed q new viewed c.chunks-2.ensures.bound; ascending = ascending_viewed q new viewed c.chunks-2.ensures.ascending }
+    record { bound = small_viewed q new viewed c.chunks-2.ensures.bound; ascending = ascending_viewed q new viewed c.chunks-2.ensures.ascending }
 
 pub clone_members-from_entries-requires-clause-bound : goal.clone_members-from_entries-requires-clause-bound
 clone_members-from_entries-requires-clause-bound t c =
@@ -159,7 +159,7 @@ clone_members-returns-in_default-inner t c =
     let P : ChunkedVec (MapEntry Json) → Type 0 = λ q. HasUniquenessOfMode kind (are_deep_unique_member_chunks (vec_chunks q)) (are_deep_unique_member_chunks bs) (all_shared bs) in
     let Q : ChunkedVec (MapEntry Json) → Type 0 = λ q. HasUniquenessOfMode c.args.mode (object_unique m) (entries_unique q) (is_shared_vec q) in
     let made = made_of_blocks value_own kind l new bs c.in_default-inner.not-Frozen (λ e. ap (λ (q : ChunkedVec (MapEntry Json)). is_grouped q.repr) (sym same) ∙ inner.in_blocks e)
-    (λ e. not_found c.in_ok-copy.field-0 c.in_default.not-Some c.in_ok-copy.ensures.none (inner.same e)) c.from_chunks.ensures.chunks
+    (λ e. not_found c.in_ok-copy.field-0 c.in_default.not-Some c.in_ok-copy.ensures.none (inner.equal e)) c.from_chunks.ensures.chunks
     c.from_chunks.ensures.unique (subst P c.chunks-2.ensures.equal c.in_ok-copies.ensures.unique) in
     record {
       members = ap (λ (q : ChunkedVec (MapEntry Json)). entries_value (vec_items q)) c.from_entries-in_default-inner.ensures

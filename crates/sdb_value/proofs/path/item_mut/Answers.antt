@@ -7,5 +7,5 @@ returns c =
     let i = c.args.number in
     record {
       value = λ own. found_view c.get_mut.result (λ x. x.now) l i (c.get_mut.ensures.value (own_place l i own) (own_in_blocks l own));
-      own = λ own. found_own c.get_mut.result (λ x. x.now) l i (c.get_mut.ensures.value (own_place l i own) (own_in_blocks l own)) own;
+      unique = λ own. found_own c.get_mut.result (λ x. x.now) l i (c.get_mut.ensures.value (own_place l i own) (own_in_blocks l own)) own;
     }
