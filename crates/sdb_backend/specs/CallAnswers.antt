@@ -1,12 +1,11 @@
 -- Answers to the calls of a pass.
-use Rattle.std.specs.Prelude.{◌≡◌, ℕ, List, Option, option_map, Result}
+use Rattle.std.specs.Prelude.{◌≡◌, ℕ, List, Option, option_map}
 use Rattle.sdb_oplog.specs.Plain.{PlainEntry, PlainSubmission}
 use Rattle.sdb_oplog.specs.Keys.{PlainKey, shard_of}
 use Rattle.sdb_oplog.specs.Decide.{PlainReply}
-use Rattle.sdb_oplog.specs.declared.codes.Code.{Code}
 use Rattle.sdb_subscribe.specs.Queue.{pending_entries}
 use Rattle.sdb_desk.specs.Looks.{IsLook}
-use Rattle.sdb_desk.specs.Machine.{PlainAttempt, ReadOrOutOfMemory, is_nonempty, operations_from}
+use Rattle.sdb_desk.specs.Machine.{PlainAttempt}
 use Rattle.sdb_desk.specs.ShardView.{machine_of, logs_of}
 use Rattle.sdb_submit.specs.Calls.{PlainCall, CallAnswer, MachineStep}
 use Rattle.sdb_striped_lock.specs.SeatSetModel.{ChangedOnlyAt}
@@ -40,13 +39,3 @@ abbrev pub TakeContinues : PlainKey → ℕ → ℕ → Pass → Option (List Pl
 TakeContinues k id max p r q =
     (x h new : Held) × PassHasSeen p k x × PassHasSeen q k new × Extends (machine_of h.shard) (machine_of x.shard)
     × (r ≡ option_map (pending_entries (logs_of h.shard k) max) ((share_of (pass_number p) (machine_of x.shard)).queues k id))
-
--- a listing is the machine's at one history that extends the observed one; the pass then observes an extension of it
--- with the same share
-abbrev pub ListedAtExtension : PlainKey → ℕ → Pass → Result (List PlainEntry) Code → Pass → Type 0
-ListedAtExtension k v p r q =
-    (x h new : Held) × PassHasSeen p k x × Extends (machine_of h.shard) (machine_of x.shard)
-    × (share_of (pass_number p) (machine_of x.shard) ≡ share_of (pass_number p) (machine_of h.shard))
-    × ReadOrOutOfMemory is_nonempty r (operations_from (logs_of h.shard k) v)
-    × PassHasSeen q k new × Extends (machine_of new.shard) (machine_of h.shard)
-    × (share_of (pass_number p) (machine_of h.shard) ≡ share_of (pass_number p) (machine_of new.shard))

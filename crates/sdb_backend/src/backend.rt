@@ -149,7 +149,7 @@ impl<R: Wait + Drop> Backend<R> {
             ≡ share_of (pass_number pass.old) (machine_of v.shard)
             → J.precondition job (pass_number pass.old) v }
         ensures pass { IsPassOfBackend pass.new self.now }
-        ensures number { pass_number pass.new ≡ pass_number pass.old }
+        ensures number_unchanged { pass_number pass.new ≡ pass_number pass.old }
         ensures others_unchanged { ChangedOnlyAt (shard_of (plain_key key.now)) pass.old.seats pass.new.seats }
         ensures ran { (x v w : HeldShard) × PassHasSeen pass.old (plain_key key.now) x
             × Extends (machine_of v.shard) (machine_of x.shard)

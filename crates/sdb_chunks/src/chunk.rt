@@ -163,7 +163,7 @@ impl<T: TryClone> Chunk<T> {
     ///
     /// [`AllocError`] if an allocation fails. The items are then equal.
     pub fn make_unique(&mut self, alloc: Global) -> Result<(), AllocError>
-        ensures same { map T.model (items_of self.new) ≡ map T.model (items_of self.old) }
+        ensures unchanged { map T.model (items_of self.new) ≡ map T.model (items_of self.old) }
         ensures unique { OnOk result (is_chunk_unique self.new ≡ true) }
         ensures shared_on_err { OnErr result (is_chunk_unique self.old ≡ false) }
     {

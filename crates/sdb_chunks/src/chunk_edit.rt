@@ -162,7 +162,7 @@ pub(crate) fn split_off_half<T: TryClone>(
 ) -> Result<Chunk<T>, AllocError>
     ensures lower_half { OnOk result (map T.model (items_of chunk.new)
         ≡ take (length (items_of chunk.old) / 2) (map T.model (items_of chunk.old))) }
-    ensures high { IfOk result (λ b. map T.model (items_of b)
+    ensures upper_half { IfOk result (λ b. map T.model (items_of b)
         ≡ drop (length (items_of chunk.old) / 2) (map T.model (items_of chunk.old))) }
     ensures err { OnErr result (map T.model (items_of chunk.new) ≡ map T.model (items_of chunk.old)) }
     ensures unique { is_chunk_unique chunk.old ≡ true → is_chunk_unique chunk.new ≡ true }

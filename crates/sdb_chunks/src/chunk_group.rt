@@ -149,7 +149,8 @@ impl<T: TryClone> ChunkGroup<T> {
             ≡ group_models T.model self.old) }
         ensures err { OnErr result (group_models T.model self.new ≡ group_models T.model self.old) }
         ensures bound { max_chunk_length (group_chunks self.new) ≤ max_chunk_length (group_chunks self.old) }
-        ensures high { IfOk result (λ h. max_chunk_length (group_chunks h) ≤ max_chunk_length (group_chunks self.old)) }
+        ensures upper_bound { IfOk result (λ h. max_chunk_length (group_chunks h) ≤ max_chunk_length
+            (group_chunks self.old)) }
     {
         let high = split_off_half(alloc, &mut self.chunks)?;
         self.count = count_items_of(self.chunks.items());

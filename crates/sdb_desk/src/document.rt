@@ -137,7 +137,7 @@ impl Document {
         ensures reply { OnOk result ((decide self.old.log submission now).reply ≡
             stored (length self.old.log) (missed_entries self.old.log submission)) }
         ensures unchanged_on_err { OnErr result (self.new.log ≡ self.old.log) }
-        ensures kept { self.new.cache ≡ self.old.cache }
+        ensures cache_unchanged { self.new.cache ≡ self.old.cache }
     {
         let Document {
             log,
@@ -221,7 +221,8 @@ impl Document {
         requires bound { version ≤ length self.old.log }
         requires snapshot { document_of (take version self.old.log) ≡ option_map (λ v. value_of v.now) snapshot }
         ensures log { self.new.log ≡ self.old.log }
-        ensures cache { CacheAfterOffer version (option_map (λ v. value_of v.now) snapshot.entry) self.old.cache self.new.cache }
+        ensures cache { CacheAfterOffer version (option_map (λ v. value_of v.now) snapshot.entry) self.old.cache
+            self.new.cache }
         ensures is_made { IsMade self.old.log }
     {
         if let Ok(Some(copy)) = clone_document(alloc, snapshot) {
@@ -232,7 +233,7 @@ impl Document {
     // Empties the snapshot cache.
     pub(crate) fn forget(&mut self)
         ensures log { self.new.log ≡ self.old.log }
-        ensures kept { self.new.cache ≡ [] }
+        ensures cache { self.new.cache ≡ [] }
     {
         self.cache.forget();
     }

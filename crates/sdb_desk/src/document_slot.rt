@@ -95,8 +95,8 @@ impl DocumentSlot {
         ensures reply { OnOk result ((decide self.old.document.log submission now).reply ≡
             stored (length self.old.document.log) (missed_entries self.old.document.log submission)) }
         ensures unchanged_on_err { OnErr result (self.new.document.log ≡ self.old.document.log) }
-        ensures kept { self.new.document.cache ≡ self.old.document.cache }
-        ensures queues { without_rings self.new.queues ≡ without_rings self.old.queues }
+        ensures cache_unchanged { self.new.document.cache ≡ self.old.document.cache }
+        ensures queues_unchanged { without_rings self.new.queues ≡ without_rings self.old.queues }
         ensures rings { RingsAfterAppend self.old.document.log self.new.document.log
             self.old.queues.queues self.new.queues.queues }
     {
@@ -176,8 +176,8 @@ impl DocumentSlot {
     // Empties the snapshot cache.
     pub(crate) fn forget(&mut self)
         ensures log { self.new.document.log ≡ self.old.document.log }
-        ensures kept { self.new.document.cache ≡ [] }
-        ensures queues { self.new.queues ≡ self.old.queues }
+        ensures cache { self.new.document.cache ≡ [] }
+        ensures queues_unchanged { self.new.queues ≡ self.old.queues }
     {
         if let Some(document) = &mut self.document {
             document.forget();

@@ -83,7 +83,7 @@ impl Shard {
     /// Creates a shard without documents and queues. It keeps the allocator.
     pub fn new(alloc: Global) -> Shard
         ensures logs { logs_of result ≡ no_logs }
-        ensures kept { caches_of result ≡ (λ k. []) }
+        ensures caches { caches_of result ≡ (λ k. []) }
         ensures queues { queues_of result ≡ (λ k. no_queues) }
         ensures rings { ringed_queues_of result ≡ (λ k. []) }
     {
@@ -206,7 +206,7 @@ impl Shard {
             (logs_of self.new) }
         ensures work { WorkAfterCommit (plain_outcome result) work.old work.new }
         ensures caches_unchanged { caches_of self.new ≡ caches_of self.old }
-        ensures queues { queues_of self.new ≡ queues_of self.old }
+        ensures queues_unchanged { queues_of self.new ≡ queues_of self.old }
         ensures rings { RingsFollowLogs (logs_of self.old) (logs_of self.new) (ringed_queues_of self.old)
             (ringed_queues_of self.new) }
     {
@@ -427,8 +427,8 @@ impl Shard {
             stored (length (logs_of self.old (plain_key key.now)))
             (missed_entries (logs_of self.old (plain_key key.now)) submission.now)) }
         ensures unchanged_on_err { OnErr result (logs_of self.new ≡ logs_of self.old) }
-        ensures kept { caches_of self.new ≡ caches_of self.old }
-        ensures queues { queues_of self.new ≡ queues_of self.old }
+        ensures caches_unchanged { caches_of self.new ≡ caches_of self.old }
+        ensures queues_unchanged { queues_of self.new ≡ queues_of self.old }
         ensures rings { RingsFollowLogs (logs_of self.old) (logs_of self.new) (ringed_queues_of self.old)
             (ringed_queues_of self.new) }
     {
@@ -455,8 +455,8 @@ impl Shard {
             (logs_of self.new ≡ with_log (logs_of self.old) (plain_key key.now) (decide [] submission now).log) }
         ensures reply { OnOk result ((decide [] submission now).reply ≡ stored 0 (missed_entries [] submission)) }
         ensures unchanged_on_err { OnErr result (logs_of self.new ≡ logs_of self.old) }
-        ensures kept { caches_of self.new ≡ caches_of self.old }
-        ensures queues { queues_of self.new ≡ queues_of self.old }
+        ensures caches_unchanged { caches_of self.new ≡ caches_of self.old }
+        ensures queues_unchanged { queues_of self.new ≡ queues_of self.old }
         ensures rings { RingsFollowLogs (logs_of self.old) (logs_of self.new) (ringed_queues_of self.old)
             (ringed_queues_of self.new) }
     {
@@ -487,8 +487,8 @@ impl Shard {
         ensures frozen { IfOk result (λ f. IfSome f.snapshot (λ v. is_frozen v ≡ true)) }
         ensures logs_unchanged { logs_of self.new ≡ logs_of self.old }
         ensures caches_unchanged { caches_of self.new ≡ caches_of self.old }
-        ensures queues { queues_of self.new ≡ queues_of self.old }
-        ensures rings { ringed_queues_of self.new ≡ ringed_queues_of self.old }
+        ensures queues_unchanged { queues_of self.new ≡ queues_of self.old }
+        ensures rings_unchanged { ringed_queues_of self.new ≡ ringed_queues_of self.old }
     {
         let version = self.version(key);
         let snapshot = self.freeze(key)?;
@@ -616,7 +616,7 @@ impl Shard {
         ensures others_unchanged { caches_of self.new ≡
             with_cache (caches_of self.old) (plain_key key.now) (caches_of self.new (plain_key key.now)) }
         ensures logs_unchanged { logs_of self.new ≡ logs_of self.old }
-        ensures queues { queues_of self.new ≡ queues_of self.old }
+        ensures queues_unchanged { queues_of self.new ≡ queues_of self.old }
         ensures rings_unchanged { ringed_queues_of self.new ≡ ringed_queues_of self.old }
     {
         let version = self.version_at(key, moment);
@@ -723,9 +723,9 @@ impl Shard {
 
     /// Empties the document's snapshot cache. It doesn't allocate.
     pub fn forget(&mut self, key: &Key)
-        ensures kept { caches_of self.new ≡ with_cache (caches_of self.old) (plain_key key.now) [] }
+        ensures caches { caches_of self.new ≡ with_cache (caches_of self.old) (plain_key key.now) [] }
         ensures logs_unchanged { logs_of self.new ≡ logs_of self.old }
-        ensures queues { queues_of self.new ≡ queues_of self.old }
+        ensures queues_unchanged { queues_of self.new ≡ queues_of self.old }
         ensures rings_unchanged { ringed_queues_of self.new ≡ ringed_queues_of self.old }
     {
         if let Some(slot) = self.slots.get_mut(key) {
@@ -875,7 +875,7 @@ impl Shard {
         ensures others_unchanged { queues_of self.new ≡
             with_queues (queues_of self.old) (plain_key key.now) (queues_of self.new (plain_key key.now)) }
         ensures logs_unchanged { logs_of self.new ≡ logs_of self.old }
-        ensures kept { caches_of self.new ≡ caches_of self.old }
+        ensures caches_unchanged { caches_of self.new ≡ caches_of self.old }
         ensures rings { OnOk result (ringed_queues_of self.new
             ≡ with_ringed_queues (ringed_queues_of self.old) (plain_key key.now)
             (ringed_queues_after_take_by (logs_of self.old (plain_key key.now)) by id max

@@ -1,5 +1,6 @@
 -- Written JSON contains no line feed.
 use Rattle.std.proofs.Common.{◌≡◌, ◌≢◌, ℕ, pos, negsuc, zero, suc, ◌<◌, ◌≤◌, ◌^◌, Bool, true, false, not, ◌&&◌, ◌==◌, List, [], ◌∷◌, ◌++◌, length, get_or, decimal, inl, inr, refl, sym, subst, arith}
+use Rattle.std.specs.Prelude.{⊤}
 use Rattle.std.proofs.lemmas.Bool.{and_parts, cases_lt, cases_eq}
 use Rattle.std.proofs.lemmas.Bool.Decides.{nat_tests}
 use Rattle.std.proofs.lemmas.Fmt.{decimal_is_IsNumeral}
@@ -10,7 +11,11 @@ use Rattle.json.proofs.Printed.Strings.{escape_byte_plain}
 use Rattle.serde_json.specs.Data.{Num, unsigned, negative, float, Data, null, boolean, number, string, array, object, Items, no_items, item, Members, no_members, member}
 use Rattle.serde_json.specs.Written.{number_text, comma_if, compact_text, items_text, members_text}
 use Rattle.sdb_dump.specs.laws.SoundData.{IsSafeNumber, IsSoundData, AreSound, MembersSound}
-use Rattle.sdb_dump.specs.LineSplit.{HasNoLineFeed}
+
+-- no byte is a line feed
+abbrev pub HasNoLineFeed : List ℕ → Type 0
+HasNoLineFeed [] = ⊤
+HasNoLineFeed (x ∷ xs) = (x ≢ 10) × HasNoLineFeed xs
 
 pub line_append : (xs ys : List ℕ) → HasNoLineFeed xs → HasNoLineFeed ys → HasNoLineFeed (xs ++ ys)
 line_append [] ys h k = k

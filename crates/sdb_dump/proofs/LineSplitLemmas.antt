@@ -12,7 +12,8 @@ use Rattle.sdb_dump.proofs.ReadBackEntries.{line_sound, shown_counts}
 use Rattle.sdb_dump.specs.laws.SoundData.{IsSoundData}
 use Rattle.json.proofs.Printed.Utf8.{are_ascii, IsUtf8-are_ascii}
 use Rattle.serde_json.specs.Data.{number, unsigned, object, no_members, member}
-use Rattle.sdb_dump.specs.LineSplit.{cons_line, split_lines, check_text, HasNoLineFeed}
+use Rattle.sdb_dump.specs.LineSplit.{cons_line, split_lines, check_text}
+use Rattle.sdb_dump.proofs.LineFeedLemmas.{HasNoLineFeed}
 use Rattle.sdb_dump.specs.EntryLimits.{AllKeysInLimits}
 use Rattle.sdb_dump.proofs.LineFeedLemmas.{compact_line}
 use Rattle.sdb_dump.proofs.LimitLemmas.{all_within}

@@ -19,11 +19,6 @@ split_lines line_buffer (x ∷ xs) = if x == 10 then cons_line line_buffer (spli
 abbrev pub check_text : List ℕ → Result (List PlainLine) ℕ
 check_text t = check (split_lines [] t).ended (split_lines [] t).rest
 
--- no byte is a line feed
-abbrev pub HasNoLineFeed : List ℕ → Type 0
-HasNoLineFeed [] = ⊤
-HasNoLineFeed (x ∷ xs) = (x ≢ 10) × HasNoLineFeed xs
-
 pub record TextIsExact : Type 0 where
   pub accepted : (v : DumpVersion) (xs : List PlainLine) → IsDumpOfLogs xs → AllInLimits v xs → length xs < 2 ^ 64
       → check_text (dump_text v xs) ≡ Ok xs

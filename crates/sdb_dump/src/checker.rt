@@ -237,7 +237,8 @@ impl Checker {
     // Moves the log of a complete document to the map.
     fn keep_log(&mut self, last: LastDocument) -> Result<(), AllocError>
         ensures kept { OnOk result (self.new.logs.entries ≡
-            insert_entry (λ a b. compare_keys (plain_key a) (plain_key b)) self.old.logs.entries last.key last.document) }
+            insert_entry (λ a b. compare_keys (plain_key a) (plain_key b)) self.old.logs.entries last.key
+            last.document) }
         ensures stage_unchanged { self.new.stage ≡ self.old.stage }
         ensures last { self.new.last ≡ self.old.last }
         ensures entries { self.new.entries ≡ self.old.entries }

@@ -10,7 +10,7 @@ use Rattle.sdb_growlock.specs.declared.view.Observation.{Observation}
 use Rattle.sdb_growlock.specs.declared.grow_lock.Seat.{Seat}
 use Rattle.sdb_growlock.specs.LockRule.{ForEach, observation, ObservationFits, LockInvariant, HasObserved, join_all_views, IsAmong}
 use Rattle.sdb_growlock.proofs.SeatViews.{M, none_of_not_out}
-use Rattle.sdb_growlock.specs.Laws.{single_observation}
+use Rattle.sdb_growlock.specs.laws.SeatLaws.{single_observation}
 use Rattle.sdb_growlock.specs.LockRule.{sum_of}
 
 module _ {A : Type 0} (P : A → Type 0) where

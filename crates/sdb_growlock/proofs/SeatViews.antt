@@ -2,7 +2,7 @@
 use Rattle.std.proofs.Common.{◌≡◌, ℕ, false, List, [], ◌∷◌, map, length, sym, refl, ap, ◌∙◌, subst, arith, Option, Some, None}
 use Rattle.atomic_table.specs.Table.{Me, rest}
 use Rattle.sdb_growlock.specs.declared.view.View.{View}
-use Rattle.sdb_growlock.specs.Laws.{single_observation}
+use Rattle.sdb_growlock.specs.laws.SeatLaws.{single_observation}
 use Rattle.sdb_growlock.specs.LockRule.{idle_view, holder_view, acquired_view, released_view, number_of, is_out}
 
 module _ {A : Type 0} where

@@ -14,7 +14,7 @@ pub(crate) struct Index {
 
 impl Index {
     pub(crate) fn new(alloc: Global) -> Index
-        ensures places { (s : List ℕ) (n : ℕ) → indexed_version result s n ≡ None }
+        ensures versions { (s : List ℕ) (n : ℕ) → indexed_version result s n ≡ None }
         ensures has_entries { AllSourcesHaveEntries result }
     {
         Index {

@@ -312,7 +312,7 @@ fn reserve(
     src: &str,
 ) -> Result<(), AllocError>
     ensures entries { entries.new.items ≡ entries.old.items }
-    ensures places { (s : List ℕ) (n : ℕ) → indexed_version index.new s n ≡ indexed_version index.old s n }
+    ensures versions { (s : List ℕ) (n : ℕ) → indexed_version index.new s n ≡ indexed_version index.old s n }
     ensures capacity { OnOk result (vec_len entries.new < vec_capacity entries.new) }
     ensures source { OnOk result (HasReserved index.new src.now) }
     ensures has_entries { (s : List ℕ) → s ≢ src.now → SourceHasEntries index.old s → SourceHasEntries index.new s }
@@ -327,7 +327,7 @@ fn append(entries: &mut Vec<Entry>, index: &mut Index, entry: Entry)
     requires capacity { vec_len entries.old < vec_capacity entries.old }
     requires source { HasReserved index.old entry.arrived.src }
     ensures entries { entries.new.items ≡ entries.old.items ++ entry ∷ [] }
-    ensures places { (s : List ℕ) (n : ℕ) → indexed_version index.new s n
+    ensures versions { (s : List ℕ) (n : ℕ) → indexed_version index.new s n
         ≡ (if nat_eq entry.arrived.seq n && bytes_eq entry.arrived.src s
         then Some (length entries.old.items) else indexed_version index.old s n) }
     ensures has_entries { (s : List ℕ) → s ≢ entry.arrived.src → SourceHasEntries index.old s

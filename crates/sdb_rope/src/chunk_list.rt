@@ -32,7 +32,7 @@ pub(crate) fn insert_into_chunks(
         (concat (chunk_texts chunk_list.old)) (concat (chunk_texts chunk_list.new))) }
     ensures err { OnErr result (concat (chunk_texts chunk_list.new) ≡ concat (chunk_texts chunk_list.old)) }
     ensures unique { is_unique_chunk chunk_list.old ≡ true → is_unique_chunk chunk_list.new ≡ true }
-    ensures short { AreBounded (chunk_texts chunk_list.old) → AreBounded (chunk_texts chunk_list.new) }
+    ensures chunks_bounded { AreBounded (chunk_texts chunk_list.old) → AreBounded (chunk_texts chunk_list.new) }
 {
     chunk_list.make_unique(alloc)?;
     match chunk_list {

@@ -21,7 +21,7 @@ pub(crate) fn chunks_equal_str(chunks: Iter<'_, RopeChunk>, text: &str) -> bool
 pub(crate) fn chunks_equal(chunks: Iter<'_, RopeChunk>, others: Iter<'_, RopeChunk>) -> bool
     ensures on_true { IsTrue result → concat (chunk_list_texts (remaining_items chunks.entry))
         ≡ concat (chunk_list_texts (remaining_items others.entry)) }
-    ensures other { IsFalse result → concat (chunk_list_texts (remaining_items chunks.entry))
+    ensures on_false { IsFalse result → concat (chunk_list_texts (remaining_items chunks.entry))
         ≡ concat (chunk_list_texts (remaining_items others.entry)) → ⊥ }
 {
     let mut left = ChunkCursor::new(chunks);

@@ -76,7 +76,8 @@ fn insert_in_group_list(
         (texts.insert_text offset new.now (concat (texts_of_groups groups.old.items)))
         (concat (texts_of_groups groups.old.items)) (concat (texts_of_groups groups.new.items))) }
     ensures err { OnErr result (concat (texts_of_groups groups.new.items) ≡ concat (texts_of_groups groups.old.items)) }
-    ensures short { AreBounded (texts_of_groups groups.old.items) → AreBounded (texts_of_groups groups.new.items) }
+    ensures chunks_bounded { AreBounded (texts_of_groups groups.old.items)
+        → AreBounded (texts_of_groups groups.new.items) }
 {
     split_long_chunk(alloc, groups, offset)?;
     ensure_group(alloc, groups)?;
@@ -129,7 +130,7 @@ pub(crate) fn remove_from_groups(
     ensures removed { IfOk result (λ done. done ≡ true
         → texts.remove_text offset old.now (concat (texts_of_groups (items_of groups.old)))
         ≡ Some (concat (texts_of_groups (items_of groups.new)))) }
-    ensures same { IfOk result (λ done. done ≡ false
+    ensures equal { IfOk result (λ done. done ≡ false
         → concat (texts_of_groups (items_of groups.new)) ≡ concat (texts_of_groups (items_of groups.old))) }
     ensures err { OnErr result (concat (texts_of_groups (items_of groups.new))
         ≡ concat (texts_of_groups (items_of groups.old))) }
@@ -155,7 +156,7 @@ fn remove_in_group_list(
     ensures removed { IfOk result (λ done. done ≡ true
         → texts.remove_text offset old.now (concat (texts_of_groups groups.old.items))
         ≡ Some (concat (texts_of_groups groups.new.items))) }
-    ensures same { IfOk result (λ done. done ≡ false
+    ensures equal { IfOk result (λ done. done ≡ false
         → concat (texts_of_groups groups.new.items) ≡ concat (texts_of_groups groups.old.items)) }
     ensures err { OnErr result (concat (texts_of_groups groups.new.items) ≡ concat (texts_of_groups groups.old.items)) }
     ensures chunks_bounded { AreBounded (texts_of_groups groups.old.items)

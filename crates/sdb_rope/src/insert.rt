@@ -44,7 +44,7 @@ pub(crate) fn split_chunks_with(
     requires { IsSplitPoint text.now at }
     ensures ok { IfOk result (λ v. concat (chunk_list_texts v.items) ≡ insert_slice text.now at new.now) }
     ensures unique { IfOk result (λ v. All IsUniqueChunk v.items) }
-    ensures short { IfOk result (λ v. AreBounded (chunk_list_texts v.items)) }
+    ensures chunks_bounded { IfOk result (λ v. AreBounded (chunk_list_texts v.items)) }
 {
     let mut whole = String::from_str(alloc, text)?;
     whole.insert_str(at, new)?;
@@ -68,7 +68,8 @@ fn insert_in_chunk(
     ensures err { OnErr result (concat (chunk_list_texts chunks.new.items)
         ≡ concat (chunk_list_texts chunks.old.items)) }
     ensures unique { All IsUniqueChunk chunks.old.items → All IsUniqueChunk chunks.new.items }
-    ensures short { AreBounded (chunk_list_texts chunks.old.items) → AreBounded (chunk_list_texts chunks.new.items) }
+    ensures chunks_bounded { AreBounded (chunk_list_texts chunks.old.items)
+        → AreBounded (chunk_list_texts chunks.new.items) }
 {
     if chunks[at].as_str().len() + new.len() <= MAX_CHUNK_LEN {
         let done = chunks[at].insert(alloc, byte, new)?;
@@ -111,7 +112,8 @@ pub(crate) fn insert(
     ensures err { OnErr result (concat (chunk_list_texts chunks.new.items)
         ≡ concat (chunk_list_texts chunks.old.items)) }
     ensures unique { All IsUniqueChunk chunks.old.items → All IsUniqueChunk chunks.new.items }
-    ensures short { AreBounded (chunk_list_texts chunks.old.items) → AreBounded (chunk_list_texts chunks.new.items) }
+    ensures chunks_bounded { AreBounded (chunk_list_texts chunks.old.items)
+        → AreBounded (chunk_list_texts chunks.new.items) }
 {
     ensure_chunk(alloc, chunks)?;
     let Some((at, byte)) = byte_position(chunks, offset) else {

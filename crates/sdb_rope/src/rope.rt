@@ -50,7 +50,7 @@ impl Rope {
     pub fn new(alloc: Global, text: String) -> Result<Rope, AllocError>
         ensures ok { IfOk result (λ t. rope_bytes t ≡ string_bytes text) }
         ensures unique { IfOk result (λ t. is_unique_rope t ≡ true) }
-        ensures short { IfOk result HasBoundedChunks }
+        ensures bound { IfOk result HasBoundedChunks }
         ensures long { OnErr result (4096 < length (string_bytes text)) }
     {
         if text.len() > MAX_CHUNK_LEN {
@@ -153,7 +153,7 @@ impl Rope {
             (rope_bytes self.old) (rope_bytes self.new)) }
         ensures err { OnErr result (rope_bytes self.new ≡ rope_bytes self.old) }
         ensures unique { is_unique_rope self.old ≡ true → is_unique_rope self.new ≡ true }
-        ensures short { HasBoundedChunks self.old → HasBoundedChunks self.new }
+        ensures bound { HasBoundedChunks self.old → HasBoundedChunks self.new }
     {
         match &mut self.repr {
             RopeRepr::Flat(chars) => {

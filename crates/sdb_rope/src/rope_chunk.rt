@@ -46,7 +46,7 @@ impl RopeChunk {
 
     /// Makes the bytes unique. Fails only if they are shared and an allocation fails.
     pub(crate) fn make_unique(&mut self, alloc: Global) -> Result<(), AllocError>
-        ensures same { chunk_bytes self.new ≡ chunk_bytes self.old }
+        ensures unchanged { chunk_bytes self.new ≡ chunk_bytes self.old }
         ensures unique { OnOk result (is_unique_rope_chunk self.new ≡ true) }
         ensures shared_on_err { OnErr result (is_unique_rope_chunk self.old ≡ false) }
         ensures stays_unique { is_unique_rope_chunk self.old ≡ true → is_unique_rope_chunk self.new ≡ true }

@@ -42,7 +42,7 @@ impl SharedStr {
 
     /// Makes the bytes unique. Fails only if they are shared and an allocation fails.
     pub(crate) fn make_unique(&mut self, alloc: Global) -> Result<(), AllocError>
-        ensures same { str_bytes self.new ≡ str_bytes self.old }
+        ensures unchanged { str_bytes self.new ≡ str_bytes self.old }
         ensures unique { OnOk result (is_unique_str self.new ≡ true) }
         ensures shared_on_err { OnErr result (is_unique_str self.old ≡ false) }
         ensures stays_unique { is_unique_str self.old ≡ true → is_unique_str self.new ≡ true }

@@ -25,7 +25,7 @@ trait SortedRun {
     fn find(&self, key: &str) -> Result<usize, usize>
         requires ascending { IsAscending (keys self.now) }
         requires bound { length (keys self.now) < 2 ^ 64 }
-        ensures found { IfOk result (λ i. IsKeyIndex (keys self.now) key.now i) }
+        ensures key_index { IfOk result (λ i. IsKeyIndex (keys self.now) key.now i) }
         ensures insert_index { IfErr result (λ i. IsInsertIndex (keys self.now) key.now i) };
 }
 
@@ -165,7 +165,7 @@ fn count_in<P: SortedRun>(runs: &[P]) -> usize
 fn find_in_runs<P: SortedRun>(runs: &[P], key: &str) -> Result<usize, usize>
     requires ascending { IsAscending (flat_map P.keys runs.now) }
     requires bound { length (flat_map P.keys runs.now) < 2 ^ 64 }
-    ensures found { IfOk result (λ i. IsKeyIndex (flat_map P.keys runs.now) key.now i) }
+    ensures key_index { IfOk result (λ i. IsKeyIndex (flat_map P.keys runs.now) key.now i) }
     ensures insert_index { IfErr result (λ i. IsInsertIndex (flat_map P.keys runs.now) key.now i) }
 {
     let end = run_end(runs, key);

@@ -87,7 +87,7 @@ impl<V> SortedMap<V> {
     ///
     /// The index at which to insert the key, if it is absent.
     pub fn position_of(&self, key: &str) -> Result<usize, usize>
-        ensures found { IfOk result (λ i. IsKeyIndex (map_keys self.now) key.now i) }
+        ensures key_index { IfOk result (λ i. IsKeyIndex (map_keys self.now) key.now i) }
         ensures insert_index { IfErr result (λ i. IsInsertIndex (map_keys self.now) key.now i) }
     {
         find_key(&self.entries, key)

@@ -16,7 +16,7 @@ use Rattle.sdb_steps.specs.OneStep as machine
 use Rattle.sdb_steps.specs.OneStep.{OneStep, Event, Legal, empty_machine, start_result, subscribed}
 use Rattle.sdb_steps.specs.Picks as plain
 use Rattle.sdb_steps.specs.Picks.{PlainOpenAttempt, SessionState, SessionStates, StepKind, PlainSessionStep, PlainStepAnswer, reply_answer, notice_answer, out_of_memory, Effect, event, notice, effect, replies_in, Picks, empty_sessions, with_attempt, with_queue, with_session}
-use Rattle.sdb_steps.specs.Runs.{AreSteps}
+use Rattle.sdb_steps.proofs.StepLists.{AreSteps}
 use Rattle.sdb_steps.specs.TakeContinuation.{position_after_take, position_after_step, AreNextEntries, ContinuesFromPosition, positions_after_step, ContinuedFrom, TakesContinue}
 use Rattle.sdb_steps.proofs.EventLemmas.{EffectRelation, StepRelation, step_relation, legal_steps}
 use Rattle.sdb_steps.proofs.GrowthLemmas.{LogExtends, grows_steps}

@@ -15,7 +15,8 @@ use Rattle.sdb_steps.specs.WorldView.{one_step_of_world, sessions_of}
 use Rattle.sdb_steps.specs.Lines.{reading_step, steps_in}
 use Rattle.sdb_steps.specs.OneStep.{OneStep, empty_machine}
 use Rattle.sdb_steps.specs.Picks.{SessionStates, PlainSessionStep, PlainStepAnswer, empty_sessions}
-use Rattle.sdb_steps.specs.Runs.{IsStep, AreSteps, IsRun}
+use Rattle.sdb_steps.specs.Runs.{IsStep, IsRun}
+use Rattle.sdb_steps.proofs.StepLists.{AreSteps}
 use Rattle.sdb_steps.specs.RunOutput.{StepWithoutAnswer, EndsWithLogs, WroteWorldDump, WroteWorldDumpPrefix}
 use Rattle.sdb_steps.specs.declared.world_dump.SilentRunner.{SilentRunner}
 use Rattle.sdb_steps.proofs.RunLemmas.{run_none, run_on, legal_run}

@@ -3,7 +3,8 @@ use Rattle.std.proofs.Common.{◌≡◌, List, [], ◌∷◌, ◌++◌, refl, sy
 use Rattle.sdb_oplog.specs.Keys.{Logs}
 use Rattle.sdb_steps.specs.OneStep.{OneStep, Event, EventReply, Legal, empty_machine, reply_to_event, machine_after_event, replies_to_events, machine_after_events}
 use Rattle.sdb_steps.specs.Picks.{SessionState, SessionStates, PlainSessionStep, PlainStepAnswer, reply_answer, notice_answer, out_of_memory, reply_in, replies_in, Effect, event, notice, effect, IsEffectOutcome, PicksOne, PicksAfter, Picks, with_session, empty_sessions}
-use Rattle.sdb_steps.specs.Runs.{IsStep, AreSteps}
+use Rattle.sdb_steps.specs.Runs.{IsStep}
+use Rattle.sdb_steps.proofs.StepLists.{AreSteps}
 use Rattle.sdb_steps.proofs.RunLemmas.{after_more, replies_more, append_nil}
 
 -- ---- runs by the events after each step

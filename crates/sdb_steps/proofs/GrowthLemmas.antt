@@ -9,7 +9,8 @@ use Rattle.sdb_desk.specs.laws.KeyLaws.{eq_of_keys_equal}
 use Rattle.sdb_steps.specs.OneStep as machine
 use Rattle.sdb_steps.specs.OneStep.{OneStep, Event, start_result, machine_after_event, machine_after_events, empty_machine}
 use Rattle.sdb_steps.specs.Picks.{SessionState, SessionStates, PlainSessionStep, PlainStepAnswer, reply_answer, notice_answer, out_of_memory, Effect, event, notice, effect}
-use Rattle.sdb_steps.specs.Runs.{IsStep, AreSteps}
+use Rattle.sdb_steps.specs.Runs.{IsStep}
+use Rattle.sdb_steps.proofs.StepLists.{AreSteps}
 use Rattle.sdb_steps.proofs.RunLemmas.{append_nil}
 use Rattle.sdb_steps.proofs.EventLemmas.{EffectRelation, StepRelation, step_relation}
 

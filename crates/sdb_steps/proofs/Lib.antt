@@ -13,3 +13,4 @@ pub mod TryLemmas
 pub mod WorldLemmas
 pub mod OutputLemmas
 pub mod LookLemmas
+pub mod StepLists

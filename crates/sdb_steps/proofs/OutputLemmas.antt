@@ -8,7 +8,8 @@ use Rattle.sdb_steps.specs.WorldView.{one_step_of_world, sessions_of}
 use Rattle.sdb_steps.specs.Lines.{reading_step, steps_in, lines_text, line_of, step_answer_text, step_refusal_text}
 use Rattle.sdb_steps.specs.OneStep.{OneStep, empty_machine}
 use Rattle.sdb_steps.specs.Picks.{SessionStates, PlainSessionStep, PlainStepAnswer, empty_sessions}
-use Rattle.sdb_steps.specs.Runs.{AreSteps, IsRun}
+use Rattle.sdb_steps.specs.Runs.{IsRun}
+use Rattle.sdb_steps.proofs.StepLists.{AreSteps}
 use Rattle.sdb_steps.specs.RunOutput.{StepOrRefusal, RunText, WroteRun, WroteRunPrefix}
 use Rattle.sdb_steps.specs.declared.world.World.{World}
 use Rattle.sdb_steps.proofs.RunLemmas.{run_none, run_on, legal_run}

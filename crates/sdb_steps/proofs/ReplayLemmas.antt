@@ -14,7 +14,7 @@ use Rattle.sdb_desk.specs.Machine.{PlainFetchResult}
 use Rattle.sdb_steps.specs.OneStep.{OneStep, Event, Legal, empty_machine, snapshot_fetched, moment_fetched}
 use Rattle.sdb_steps.specs.Picks as plain
 use Rattle.sdb_steps.specs.Picks.{SessionState, SessionStates, StepKind, PlainSessionStep, PlainStepAnswer, reply_answer, notice_answer, out_of_memory, effect, replies_in, Picks, empty_sessions}
-use Rattle.sdb_steps.specs.Runs.{AreSteps}
+use Rattle.sdb_steps.proofs.StepLists.{AreSteps}
 use Rattle.sdb_steps.specs.ReplayLaws.{IsReplayOf, IsReplay, ReadsAreReplays}
 use Rattle.sdb_steps.proofs.EventLemmas.{EffectRelation, StepRelation, step_relation, legal_steps}
 use Rattle.sdb_steps.proofs.GrowthLemmas.{LogExtends, grows_steps}

@@ -2,7 +2,8 @@
 use Rattle.std.proofs.Common.{◌≡◌, List, [], ◌∷◌, ◌++◌, refl, sym, ap, ◌∙◌, subst, append_assoc}
 use Rattle.sdb_steps.specs.OneStep.{OneStep, Event, EventReply, Legal, empty_machine, reply_to_event, machine_after_event, replies_to_events, machine_after_events}
 use Rattle.sdb_steps.specs.Picks.{SessionStates, PlainSessionStep, PlainStepAnswer, reply_in, replies_in, PicksOne, PicksAfter, Picks, empty_sessions}
-use Rattle.sdb_steps.specs.Runs.{IsStep, AreSteps, IsRun}
+use Rattle.sdb_steps.specs.Runs.{IsStep, IsRun}
+use Rattle.sdb_steps.proofs.StepLists.{AreSteps}
 
 pub after_more : (m : OneStep) (es fs : List Event) → machine_after_events m (es ++ fs) ≡ machine_after_events (machine_after_events m es) fs
 after_more m [] fs = refl

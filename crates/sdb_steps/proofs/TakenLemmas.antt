@@ -17,7 +17,7 @@ use Rattle.sdb_steps.specs.OneStep as machine
 use Rattle.sdb_steps.specs.OneStep.{OneStep, Event, EventReply, subscribed, start_result, reply_to_event, machine_after_event}
 use Rattle.sdb_steps.specs.Picks as plain
 use Rattle.sdb_steps.specs.Picks.{SessionState, SessionStates, StepKind, PlainSessionStep, PlainStepAnswer, reply_answer, notice_answer, out_of_memory, Effect, event, notice, effect, replies_in, with_session, with_queue, with_attempt}
-use Rattle.sdb_steps.specs.Runs.{AreSteps}
+use Rattle.sdb_steps.proofs.StepLists.{AreSteps}
 use Rattle.sdb_steps.specs.TakenEntries.{taken_after_step, taken_from, taken_entries, QueuesTakeAll}
 use Rattle.sdb_steps.proofs.EventLemmas.{EffectRelation, StepRelation, step_relation, legal_steps}
 use Rattle.sdb_steps.proofs.GrowthLemmas.{LogExtends, grows_next}

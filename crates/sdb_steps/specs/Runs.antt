@@ -13,11 +13,3 @@ abbrev pub IsRun : List PlainSessionStep → List PlainStepAnswer → OneStep �
 IsRun steps answers n v =
     (events : List Event) × Picks steps answers events v × (replies_to_events empty_machine events ≡ replies_in answers)
     × (machine_after_events empty_machine events ≡ n)
-
--- steps in sequence, from m and these sessions on
-abbrev pub AreSteps : OneStep → SessionStates → List PlainSessionStep → List PlainStepAnswer → OneStep → SessionStates → Type 0
-AreSteps m w [] [] n v = (n ≡ m) × (v ≡ w)
-AreSteps m w [] (answer ∷ answers) n v = ⊥
-AreSteps m w (s ∷ steps) [] n v = ⊥
-AreSteps m w (s ∷ steps) (answer ∷ answers) n v =
-    (o : OneStep) × (mid : SessionStates) × IsStep m w s answer o mid × AreSteps o mid steps answers n v

@@ -52,7 +52,7 @@ impl OpenAttempt {
         ensures commits { AttemptCommits (one_step_of_shard shard.old) (plain_open_attempt self) now
             (plain_step_answer result.0)
             (one_step_of_shard shard.new) (option_map plain_open_attempt result.1) }
-        ensures queues { queues_of shard.new ≡ queues_of shard.old }
+        ensures queues_unchanged { queues_of shard.new ≡ queues_of shard.old }
     {
         if self.tries == MAX_TRIES {
             return self.commit_now(shard, now);

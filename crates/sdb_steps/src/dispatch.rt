@@ -129,7 +129,7 @@ fn fetch(shard: &mut Shard, key: &Key) -> StepAnswer
     ensures dispatches { (i : ℕ) (x : plain.SessionState) → DispatchesAct i (one_step_of_shard shard.old) x
         (plain.fetch (plain_key key.now)) (plain_step_answer result) (one_step_of_shard shard.new) x }
     ensures logs_unchanged { logs_of shard.new ≡ logs_of shard.old }
-    ensures queues { queues_of shard.new ≡ queues_of shard.old }
+    ensures queues_unchanged { queues_of shard.new ≡ queues_of shard.old }
 {
     match shard.fetch(key) {
         Ok(fetched) => StepAnswer::Fetched(fetched),
@@ -142,7 +142,7 @@ fn snapshot(shard: &mut Shard, key: &Key, version: Option<u64>) -> StepAnswer
     ensures dispatches { (i : ℕ) (x : plain.SessionState) → DispatchesAct i (one_step_of_shard shard.old) x
         (plain.snapshot (plain_key key.now) version) (plain_step_answer result) (one_step_of_shard shard.new) x }
     ensures logs_unchanged { logs_of shard.new ≡ logs_of shard.old }
-    ensures queues { queues_of shard.new ≡ queues_of shard.old }
+    ensures queues_unchanged { queues_of shard.new ≡ queues_of shard.old }
 {
     match shard.snapshot_at(key, version) {
         Ok(fetched) => StepAnswer::SnapshotFetched(Ok(fetched)),
@@ -155,7 +155,7 @@ fn snapshot_at_time(shard: &mut Shard, key: &Key, moment: Option<Moment>) -> Ste
     ensures dispatches { (i : ℕ) (x : plain.SessionState) → DispatchesAct i (one_step_of_shard shard.old) x
         (plain.snapshot_at_time (plain_key key.now) moment) (plain_step_answer result) (one_step_of_shard shard.new) x }
     ensures logs_unchanged { logs_of shard.new ≡ logs_of shard.old }
-    ensures queues { queues_of shard.new ≡ queues_of shard.old }
+    ensures queues_unchanged { queues_of shard.new ≡ queues_of shard.old }
 {
     match shard.snapshot_at_time(key, moment) {
         Ok(fetched) => StepAnswer::MomentFetched(fetched),

@@ -56,7 +56,7 @@ impl Session {
             → DispatchesAct i (one_step_of_shard shard.old) (session_state_of q self.old)
             (commit now) (plain_step_answer result) (one_step_of_shard shard.new) (session_state_of q self.new) }
         ensures slots_unchanged { queue_slots_of self.new ≡ queue_slots_of self.old }
-        ensures queues { queues_of shard.new ≡ queues_of shard.old }
+        ensures queues_unchanged { queues_of shard.new ≡ queues_of shard.old }
     {
         let Some(attempt) = self.attempt.take() else {
             return StepAnswer::Idle;

@@ -68,7 +68,7 @@ pub(crate) fn gather_stripes<T>(
     first: RootSeats<T>,
     callers: Vec<SeatSet<T>>,
 )
-    requires room { ColumnsHaveCapacity (length callers.items) columns.old.items }
+    requires capacity { ColumnsHaveCapacity (length callers.items) columns.old.items }
     ensures length { length columns.new.items ≡ 8 }
     ensures each { (i : ℕ) (d : Vec (LockSeat T) Global) (s : LockSeat T) → i < 8
         → (slice_index_or columns.new.items i d).items ≡

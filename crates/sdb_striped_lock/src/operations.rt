@@ -183,7 +183,8 @@ fn close_stripes<T: Grows>(
     requires all { (i : ℕ) (c : Vec (LockSeat T) Global) → i < 8
         → HasEverySeat (slice_index_or columns.items i c).items }
     ensures length { length result.items ≡ 8 }
-    ensures gives { AtEachIndex (λ c v. IsValueAfterClose T.extends T.same T.blank c.items v) columns.items result.items 0 8 }
+    ensures gives { AtEachIndex (λ c v. IsValueAfterClose T.extends T.same T.blank c.items v) columns.items
+        result.items 0 8 }
 {
     while let Some(lock) = locks.pop() {
         let Some(column) = columns.pop() else {

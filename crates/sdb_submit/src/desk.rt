@@ -91,7 +91,7 @@ pub trait Desk {
     fn version(&self, pass: &mut Self::Pass, key: &Key) -> u64
         requires { accepts self.now pass.old }
         ensures accepted { accepts self.now pass.new }
-        ensures number { pass_number self.now pass.new ≡ pass_number self.now pass.old }
+        ensures number_unchanged { pass_number self.now pass.new ≡ pass_number self.now pass.old }
         ensures step { step self.now (plain_key key.now) current_version pass.old result pass.new };
 
     /// Returns the current version and document.
@@ -131,7 +131,7 @@ pub trait Desk {
     ) -> Result<Vec<Entry>, AllocError>
         requires { accepts self.now pass.old }
         ensures accepted { accepts self.now pass.new }
-        ensures number { pass_number self.now pass.new ≡ pass_number self.now pass.old }
+        ensures number_unchanged { pass_number self.now pass.new ≡ pass_number self.now pass.old }
         ensures step { step self.now (plain_key key.now) (ops_between from to) pass.old
             (copied_entries_view result) pass.new };
 
@@ -191,7 +191,7 @@ pub trait Desk {
     ) -> Result<SubscribeResult, Code>
         requires { accepts self.now pass.old }
         ensures accepted { accepts self.now pass.new }
-        ensures number { pass_number self.now pass.new ≡ pass_number self.now pass.old }
+        ensures number_unchanged { pass_number self.now pass.new ≡ pass_number self.now pass.old }
         ensures step { step self.now (plain_key key.now) (subscribe version) pass.old
             (subscribe_result_view result) pass.new };
 
@@ -209,7 +209,7 @@ pub trait Desk {
         max: u64,
     ) -> Result<Option<Vec<Entry>>, AllocError>
         requires { accepts self.now pass.old }
-        ensures takes { accepts self.now pass.new }
+        ensures accepted { accepts self.now pass.new }
         ensures number_unchanged { pass_number self.now pass.new ≡ pass_number self.now pass.old }
         ensures step { step self.now (plain_key key.now) (take_next id max) pass.old (taken_view result) pass.new };
 

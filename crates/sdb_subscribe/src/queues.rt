@@ -164,7 +164,7 @@ impl Queues {
         requires { AreRingsOfLog log.now self.old.queues }
         ensures entries { IfOk result
             (λ v. option_map (λ es. es.items) v ≡ take_result_by log.now by id max (without_rings self.old).queues) }
-        ensures moved { OnOk result
+        ensures queues_after { OnOk result
             ((without_rings self.new).queues ≡ queues_after_take_by log.now by id max (without_rings self.old).queues) }
         ensures err { OnErr result (self.new.queues ≡ self.old.queues) }
         ensures memory { OnErr result

@@ -1,7 +1,8 @@
 -- The laws of crossings for any table that increases no weight.
 use Rattle.std.proofs.Common.{◌≡◌, ℕ, zero, suc, pred, ◌+◌, ◌*◌, ◌-◌, ◌^◌, min, ◌<◌, ◌≤◌, List, [], ◌∷◌, ◌++◌, Option, Some, None, ◌⊎◌, inl, inr, refl, sym, ap, ◌∙◌, subst, arith, append_assoc, append-nil}
 use Rattle.sdb_transform.specs.CrossMachine.{WorkItem, LeftChanges, RightChange, right_frames, run_work, add_done, step_bound, StateInvariant}
-use Rattle.sdb_transform.specs.Cross.{IsWeighted, IsWithinWeight, TransformTable, Crossing, sum_weight, and_then, join_crossings, cross_in, cross, append_right, append_left}
+use Rattle.sdb_transform.specs.Cross.{TransformTable, Crossing, sum_weight, and_then, join_crossings, cross_in, cross, append_right}
+use Rattle.sdb_transform.proofs.CrossWeight.{IsWeighted, IsWithinWeight, append_left}
 
 -- congruence after a step that succeeded
 pub and_then_cong : {A B : Type 0} (o p : Option A) (f g : A → Option B) → o ≡ p → ((a : A) → p ≡ Some a → f a ≡ g a) → and_then o f ≡ and_then p g

@@ -17,3 +17,4 @@ pub mod PairLemmas
 pub mod CrossRun
 pub mod StackLemmas
 pub mod WeightLemmas
+pub mod CrossWeight

@@ -9,7 +9,8 @@ use Rattle.sdb_component.specs.Plain.{PlainAct, na, si, sd, li, ld, lr, oi, od, 
 use Rattle.sdb_component.specs.Weight.{act_weight, component_weight, weight}
 use Rattle.sdb_transform.specs.declared.side.Side.{Side}
 use Rattle.sdb_transform.specs.declared.side.Side.TheVariants.{Left, Right}
-use Rattle.sdb_transform.specs.Cross.{IsWeighted, Crossing, sum_weight, cross_ops}
+use Rattle.sdb_transform.specs.Cross.{Crossing, sum_weight, cross_ops}
+use Rattle.sdb_transform.proofs.CrossWeight.{IsWeighted}
 use Rattle.sdb_transform.specs.Transform.{ActTransform, at_shifted_position, left_wins_or, one_act, no_acts, transform_act, split_delete, delete_without_overlap, delete_unless_empty, component_at, map_removed, updated_value, with_moved_step, transform_below, update_removed, strip_removed_path, strip_prefix, transform_step, transform, put_after_put}
 use Rattle.sdb_transform.proofs.OffsetLemmas.{cut_front, units_split}
 use Rattle.sdb_transform.proofs.CrossLemmas.{cross_light}

@@ -200,7 +200,7 @@ fn freeze_members(alloc: Global, members: &mut Members) -> Result<(), AllocError
 
 #[cycle(freeze_value)]
 fn freeze_member_repr(alloc: Global, repr: &mut Repr<MapEntry<Json>>) -> Result<(), AllocError>
-    ensures members { member_repr_value repr.new ≡ member_repr_value repr.old }
+    ensures members_unchanged { member_repr_value repr.new ≡ member_repr_value repr.old }
     ensures shared { OnOk result (is_shared_repr repr.new ≡ true) }
 {
     freeze_unique_member_chunks(alloc, repr)?;
@@ -299,7 +299,7 @@ fn freeze_each_member_chunk(
 
 #[cycle(freeze_value)]
 fn freeze_member_chunk(alloc: Global, chunk: &mut Chunk<MapEntry<Json>>) -> Result<(), AllocError>
-    ensures members { entries_value (items_of chunk.new) ≡ entries_value (items_of chunk.old) }
+    ensures members_unchanged { entries_value (items_of chunk.new) ≡ entries_value (items_of chunk.old) }
     ensures shared { OnOk result (is_chunk_shared chunk.new ≡ true) }
 {
     freeze_unique_members(alloc, chunk)?;

@@ -140,7 +140,7 @@ pub fn change_at<C: Change + Drop>(
     path: &[Step],
     change: C,
 ) -> Result<Option<C::Output>, AllocError>
-    ensures done { IfOk result (λ o. MatchOption o
+    ensures changed { IfOk result (λ o. MatchOption o
         (AbsentAt (value_of value.old) (plain_path path.now) (value_of value.new))
         (λ r. ReplacedAt (λ u v. C.Change.relation change u v r)
         (value_of value.old) (plain_path path.now) (value_of value.new))) }
@@ -175,7 +175,7 @@ fn change_item<C: Change + Drop>(
     rest: &[Step],
     change: C,
 ) -> Result<Option<C::Output>, AllocError>
-    ensures done { IfOk result (λ o. MatchOption o
+    ensures changed { IfOk result (λ o. MatchOption o
         (AbsentAt (list (list_value items.old)) (index number ∷ plain_path rest.now) (list (list_value items.new)))
         (λ r. ReplacedAt (λ u v. C.Change.relation change u v r)
         (list (list_value items.old)) (index number ∷ plain_path rest.now) (list (list_value items.new)))) }
@@ -202,7 +202,7 @@ fn change_member<C: Change + Drop>(
     rest: &[Step],
     change: C,
 ) -> Result<Option<C::Output>, AllocError>
-    ensures done { IfOk result (λ o. MatchOption o
+    ensures changed { IfOk result (λ o. MatchOption o
         (AbsentAt (object (object_value members.old)) (key name.now ∷ plain_path rest.now)
         (object (object_value members.new)))
         (λ r. ReplacedAt (λ u v. C.Change.relation change u v r)
@@ -235,7 +235,7 @@ fn change_value<C: Change + Drop>(
     rest: &[Step],
     change: C,
 ) -> Result<Option<C::Output>, AllocError>
-    ensures done { IfOk result (λ o. MatchOption o
+    ensures changed { IfOk result (λ o. MatchOption o
         (AbsentAt (list (values_of_entries entries.old)) (index number ∷ plain_path rest.now)
         (list (values_of_entries entries.new)))
         (λ r. ReplacedAt (λ u v. C.Change.relation change u v r)

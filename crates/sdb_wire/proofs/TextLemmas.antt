@@ -11,7 +11,13 @@ use Rattle.sdb_component.specs.ToJson.{op_data}
 use Rattle.sdb_oplog.specs.Keys.{PlainKey}
 use Rattle.sdb_oplog.specs.Plain.{PlainEntry, edit}
 use Rattle.sdb_wire.specs.Answers.{answer_text, acknowledged, op_message, with_content}
-use Rattle.sdb_wire.specs.FastPath.{IsEscapeFree, AreEscapeFree, ack_text, edit_text, version_end, source_end, key_start}
+use Rattle.sdb_wire.specs.FastPath.{IsEscapeFree, AreEscapeFree, ack_text, version_end, source_end, key_start}
+
+-- the operation message of an entry with this operation
+abbrev pub edit_text : PlainKey → PlainEntry → List PlainComponent → List ℕ
+edit_text k e op =
+    key_start k (codes "\",\"op\":" ++ (compact_text (op_data op)
+    ++ (codes ",\"seq\":" ++ (decimal e.arrived.seq ++ source_end e.arrived.src e.version))))
 
 quoted_before : (s rest : List ℕ) → IsEscapeFree s → 34 ∷ (s ++ 34 ∷ rest) ≡ quoted s ++ rest
 quoted_before s rest plain = rw plain (ap (λ t. 34 ∷ t) (sym (append_assoc s (34 ∷ []) rest)))

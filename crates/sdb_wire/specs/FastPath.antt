@@ -29,12 +29,6 @@ key_start k rest = codes "{\"a\":\"op\",\"c\":\"" ++ (k.collection ++ (codes "\"
 abbrev pub ack_text : PlainKey → List ℕ → ℕ → ℕ → List ℕ
 ack_text k src seq v = key_start k (codes "\",\"seq\":" ++ (decimal seq ++ source_end src v))
 
--- the operation message of an entry with this operation
-abbrev pub edit_text : PlainKey → PlainEntry → List PlainComponent → List ℕ
-edit_text k e op =
-    key_start k (codes "\",\"op\":" ++ (compact_text (op_data op)
-    ++ (codes ",\"seq\":" ++ (decimal e.arrived.seq ++ source_end e.arrived.src e.version))))
-
 -- the new text is the old one with bytes appended
 abbrev pub IsAppendedTo : List ℕ → List ℕ → Type 0
 IsAppendedTo old new = (rest : List ℕ) × (new ≡ old ++ rest)

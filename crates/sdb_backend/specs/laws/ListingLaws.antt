@@ -8,17 +8,27 @@ use Rattle.sdb_oplog.specs.Plain.{PlainEntry}
 use Rattle.sdb_oplog.specs.Keys.{PlainKey, shard_of}
 use Rattle.sdb_oplog.specs.declared.codes.Code.{Code}
 use Rattle.sdb_desk.specs.Machine.{Machine, IsUnchanged, ReadOrOutOfMemory, is_nonempty, operations_between, operations_from}
-use Rattle.sdb_desk.specs.ShardView.{machine_of}
+use Rattle.sdb_desk.specs.ShardView.{machine_of, logs_of}
 use Rattle.sdb_submit.specs.Calls.{PlainCall, CallAnswer, current_version, ops_between}
 use Rattle.sdb_submit.specs.SubmitLoop.{CallRelation, PlainBatch, total_size, entries_of, ReadsBatches, ListsAll}
 use Rattle.sdb_submit.specs.laws.SubmitLaws.{drop_drop, length_of_not_empty, between_not_empty, operations_reached, operations_too_new}
 use Rattle.sdb_striped_lock.specs.laws.SeatLaws.{have_seen_unique}
-use Rattle.sdb_backend.specs.CallAnswers.{AnsweredAtExtension, ListedAtExtension}
+use Rattle.sdb_backend.specs.CallAnswers.{AnsweredAtExtension}
 use Rattle.sdb_backend.specs.HistoryOrder.{IsExtension, Extends, share_of}
 use Rattle.sdb_backend.specs.HistoryOrderLaws.{extends_refl, extends_trans}
 use Rattle.sdb_backend.specs.PassModel.{pass_number, PassHasSeen}
 use Rattle.sdb_backend.specs.declared.shard_value.Held.{Held}
 use Rattle.sdb_backend.specs.declared.pass.Pass.{Pass}
+
+-- a listing is the machine's at one history that extends the observed one; the pass then observes an extension of it
+-- with the same share
+abbrev pub ListedAtExtension : PlainKey → ℕ → Pass → Result (List PlainEntry) Code → Pass → Type 0
+ListedAtExtension k v p r q =
+    (x h new : Held) × PassHasSeen p k x × Extends (machine_of h.shard) (machine_of x.shard)
+    × (share_of (pass_number p) (machine_of x.shard) ≡ share_of (pass_number p) (machine_of h.shard))
+    × ReadOrOutOfMemory is_nonempty r (operations_from (logs_of h.shard k) v)
+    × PassHasSeen q k new × Extends (machine_of new.shard) (machine_of h.shard)
+    × (share_of (pass_number p) (machine_of h.shard) ≡ share_of (pass_number p) (machine_of new.shard))
 
 -- entries before a version are unchanged in an extension
 between_of_extension : (log new : List PlainEntry) (v w : ℕ) → w ≤ length log → IsExtension new log → operations_between new v w ≡ operations_between log v w

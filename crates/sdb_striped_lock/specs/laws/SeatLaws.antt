@@ -3,7 +3,7 @@ use Rattle.std.proofs.Common.{◌≡◌, ◌≢◌, ℕ, ◌+◌, ◌<◌, ◌�
 use Rattle.std.proofs.lemmas.List.{get_or_default}
 use Rattle.sdb_growlock.specs.declared.grow_lock.Seat.{Seat}
 use Rattle.sdb_growlock.specs.SeatModel.{HasSeen}
-use Rattle.sdb_growlock.specs.Laws.{observation_unique, observation_exists}
+use Rattle.sdb_growlock.specs.laws.SeatLaws.{observation_unique, observation_exists}
 use Rattle.sdb_striped_lock.specs.AtIndex.{HasSeenAt}
 use Rattle.sdb_striped_lock.specs.SeatSetModel.{SeatSetHasSeen, RootSeatsHaveSeen}
 use Rattle.sdb_striped_lock.specs.declared.striped_lock.SeatSet.{SeatSet}

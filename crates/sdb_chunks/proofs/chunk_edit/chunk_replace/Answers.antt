@@ -7,5 +7,5 @@ pub returns-in-Unique-clause-ok : goal.returns-in-Unique-clause-ok
 returns-in-Unique-clause-ok g c =
     let f = g.T.TryClone.model in
     let new = c.in-Unique.items.items in
-    let e : map f new ≡ map f (items_of c.args.chunk.now) = ap (λ b. map f (items_of b)) (sym c.in-Unique.is) ∙ c.in_ok-make_unique.ensures.same in
+    let e : map f new ≡ map f (items_of c.args.chunk.now) = ap (λ b. map f (items_of b)) (sym c.in-Unique.is) ∙ c.in_ok-make_unique.ensures.unchanged in
     ap (λ x. map f (set new c.args.index x)) c.replace.ensures.after ∙ map_set f new c.args.index c.args.item ∙ ap (λ l. set l c.args.index (f c.args.item)) e

@@ -45,7 +45,7 @@ returns-clause-unchanged g c =
     let b = c.in_ok-high.high in
     let m = length (items_of d) / 2 in
     ap (λ l. flatten_models f (set (set l k a) (k + 1) b)) put
-    ∙ joined_split (chunk_models f) bs k m a b d e c.requires (c.in_ok-high.ensures.lower_half ∙ ap (λ x. take m (chunk_models f x)) is) (c.in_ok-high.ensures.high ∙ ap (λ x. drop m (chunk_models f x)) is)
+    ∙ joined_split (chunk_models f) bs k m a b d e c.requires (c.in_ok-high.ensures.lower_half ∙ ap (λ x. take m (chunk_models f x)) is) (c.in_ok-high.ensures.upper_half ∙ ap (λ x. drop m (chunk_models f x)) is)
 
 pub returns-clause-unique : goal.returns-clause-unique
 returns-clause-unique g c =
@@ -94,7 +94,7 @@ returns-clause-bound g c =
     let n = max_chunk_length bs in
     let m = ap (λ l. max_chunk_length (set (set l k a) (k + 1) b)) put in
     let none = ap length c.new.ensures.items in
-    let both = halves_count f (items_of a) (items_of b) (items_of d) c.in_ok-high.ensures.lower_half c.in_ok-high.ensures.high in
+    let both = halves_count f (items_of a) (items_of b) (items_of d) c.in_ok-high.ensures.lower_half c.in_ok-high.ensures.upper_half in
     let was = ap (λ b. length (items_of b)) is in
     let w = longest_at bs k d c.requires in
     let l = longest_halves bs k a b e n (omega arith) (omega (arith, both.0, was, w)) (omega (arith, both.0, was, w)) (omega (arith, none)) in
@@ -111,7 +111,7 @@ returns-clause-half g c =
     let is : d ≡ get_or bs k d = c.index_mut.ensures.value ∙ ap (λ l. get_or l k d) put ∙ get_before bs k e d c.requires in
     let a = c.split_off_half.new.chunk in
     let b = c.in_ok-high.high in
-    let both = halves_count f (items_of a) (items_of b) (items_of d) c.in_ok-high.ensures.lower_half c.in_ok-high.ensures.high in
+    let both = halves_count f (items_of a) (items_of b) (items_of d) c.in_ok-high.ensures.lower_half c.in_ok-high.ensures.upper_half in
     let was = ap (λ b. length (items_of b)) is in
     λ i w.
     let m = ap (λ l. chunk_length_at (set (set l k a) (k + 1) b) i) put in

@@ -68,5 +68,5 @@ returns-clause-bound g c =
     let none = ap (λ b. max_chunk_length (items_of b)) c.new-2.ensures ∙ ap max_chunk_length c.new.ensures.items in
     let was = ap (λ x. max_chunk_length (group_chunks x)) is in
     let w = grouped_at gs k d c.requires in
-    let l = grouped_halves gs k a b e n (omega arith) (omega (arith, c.in_ok-high.ensures.bound, was, w)) (omega (arith, c.in_ok-high.ensures.high, was, w)) (omega (arith, none)) in
+    let l = grouped_halves gs k a b e n (omega arith) (omega (arith, c.in_ok-high.ensures.bound, was, w)) (omega (arith, c.in_ok-high.ensures.upper_bound, was, w)) (omega (arith, none)) in
     omega (arith, m, l)

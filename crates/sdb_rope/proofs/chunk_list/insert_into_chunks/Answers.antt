@@ -34,15 +34,15 @@ returns-clause-unique c =
     let s = same_seen (items_of c.make_unique.new.self) (items_of c.args.chunk_list.now) c.make_unique.ensures.same in
     λ own. all_own_is c.insert.new.chunks.items (c.insert.ensures.unique (own_all c.in-Unique.chunks.items (sym (ap (λ b. all_rope_chunks_unique (items_of b)) c.in-Unique.is) ∙ s.1 ∙ both_true (is_chunk_unique c.args.chunk_list.now) (all_rope_chunks_unique (items_of c.args.chunk_list.now)) own)))
 
-pub returns-in_err-make_unique-clause-short : goal.returns-in_err-make_unique-clause-short
-returns-in_err-make_unique-clause-short c = λ a. subst AreBounded (sym (same_seen (items_of c.make_unique.new.self) (items_of c.args.chunk_list.now) c.make_unique.ensures.same).0) a
+pub returns-in_err-make_unique-clause-chunks_bounded : goal.returns-in_err-make_unique-clause-chunks_bounded
+returns-in_err-make_unique-clause-chunks_bounded c = λ a. subst AreBounded (sym (same_seen (items_of c.make_unique.new.self) (items_of c.args.chunk_list.now) c.make_unique.ensures.same).0) a
 
-pub returns-in_err-done-in-Unique-clause-short : goal.returns-in_err-done-in-Unique-clause-short
-returns-in_err-done-in-Unique-clause-short c =
+pub returns-in_err-done-in-Unique-clause-chunks_bounded : goal.returns-in_err-done-in-Unique-clause-chunks_bounded
+returns-in_err-done-in-Unique-clause-chunks_bounded c =
     let s = same_seen (items_of c.make_unique.new.self) (items_of c.args.chunk_list.now) c.make_unique.ensures.same in
     λ a. c.insert.ensures.short (subst AreBounded (sym (sym (ap chunk_texts c.in-Unique.is) ∙ s.0)) a)
 
-pub returns-clause-short : goal.returns-clause-short
-returns-clause-short c =
+pub returns-clause-chunks_bounded : goal.returns-clause-chunks_bounded
+returns-clause-chunks_bounded c =
     let s = same_seen (items_of c.make_unique.new.self) (items_of c.args.chunk_list.now) c.make_unique.ensures.same in
     λ a. c.insert.ensures.short (subst AreBounded (sym (sym (ap chunk_texts c.in-Unique.is) ∙ s.0)) a)

@@ -18,8 +18,8 @@ returns-in_err-done-in-Some-clause-err c =
     let same = c.ensure_group.ensures.unchanged ∙ c.split_long_chunk.ensures in
     on_err c.from_residual-in_err-done-in-Some.result (keep_group gs at c.insert_into_chunks.new.chunk_list c.index_mut.result.now inside c.index_mut.ensures.value c.in_err-done-in-Some.ensures.err ∙ ap concat same)
 
-pub returns-in_err-done-in-Some-clause-short : goal.returns-in_err-done-in-Some-clause-short
-returns-in_err-done-in-Some-clause-short c =
+pub returns-in_err-done-in-Some-clause-chunks_bounded : goal.returns-in_err-done-in-Some-clause-chunks_bounded
+returns-in_err-done-in-Some-clause-chunks_bounded c =
     let gs = c.ensure_group.new.groups.items in
     let at = c.in-Some.at in
     let p = subst (λ (l : List (Chunk RopeChunk)). IsGroupAtOffset (group_texts l) c.args.offset at c.in-Some.left) c.deref.ensures.value c.in-Some.ensures.some in
@@ -38,8 +38,8 @@ returns-clause-ok c =
     subst (λ (x : List (List ℕ)). EditOutcome c.in_ok-done-in-Some.done (insert_text c.args.offset c.args.new.now (concat x)) (concat x) (concat (texts_of_groups (set gs at g)))) same
     (put_group gs at g c.index_mut.result.now inside c.index_mut.ensures.value c.args.offset c.in-Some.left c.args.new.now c.in_ok-done-in-Some.done p c.in_ok-done-in-Some.ensures.ok)
 
-pub returns-clause-short : goal.returns-clause-short
-returns-clause-short c =
+pub returns-clause-chunks_bounded : goal.returns-clause-chunks_bounded
+returns-clause-chunks_bounded c =
     let gs = c.ensure_group.new.groups.items in
     let at = c.in-Some.at in
     let p = subst (λ (l : List (Chunk RopeChunk)). IsGroupAtOffset (group_texts l) c.args.offset at c.in-Some.left) c.deref.ensures.value c.in-Some.ensures.some in

@@ -29,8 +29,8 @@ returns-clause-removed c =
     let here = sym (ap (λ b. texts_of_groups (items_of b)) c.in-Unique.is) ∙ same_groups (items_of c.make_unique.new.self) (items_of c.args.groups.now) c.make_unique.ensures.same in
     λ e. ap (λ l. remove_text c.args.offset c.args.old.now (concat l)) (sym here) ∙ c.in_ok-done-in-Unique.ensures.removed e
 
-pub returns-clause-same : goal.returns-clause-same
-returns-clause-same c =
+pub returns-clause-equal : goal.returns-clause-equal
+returns-clause-equal c =
     let here = sym (ap (λ b. texts_of_groups (items_of b)) c.in-Unique.is) ∙ same_groups (items_of c.make_unique.new.self) (items_of c.args.groups.now) c.make_unique.ensures.same in
     λ e. c.in_ok-done-in-Unique.ensures.same e ∙ ap concat here
 

@@ -39,8 +39,8 @@ returns-clause-removed c =
     (done_true c.in_ok-done.done (remove_text c.in-Some.left c.args.old.now (concat (chunk_texts h))) (concat (chunk_texts h)) (concat (chunk_texts g)) e c.in_ok-done.ensures.ok)
     ∙ ap (λ l. Some (concat l)) (sym c.remove_empty_group.ensures)
 
-pub returns-clause-same : goal.returns-clause-same
-returns-clause-same c =
+pub returns-clause-equal : goal.returns-clause-equal
+returns-clause-equal c =
     let gs = c.args.groups.now.items in
     let at = c.in-Some.at in
     let g = c.remove_from_chunks.new.chunk_list in

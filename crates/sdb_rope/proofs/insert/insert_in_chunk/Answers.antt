@@ -53,22 +53,22 @@ returns-clause-unique c =
     λ own. rw new (All-append IsUniqueChunk (take c.args.at ps) (fresh.items ++ drop (c.args.at + 1) ps) (All-take IsUniqueChunk c.args.at ps own)
     (All-append IsUniqueChunk fresh.items (drop (c.args.at + 1) ps) c.in_ok-fresh.ensures.unique (All-drop IsUniqueChunk (c.args.at + 1) ps own)))
 
-pub returns-in_err-done-clause-short : goal.returns-in_err-done-clause-short
-returns-in_err-done-clause-short c =
+pub returns-in_err-done-clause-chunks_bounded : goal.returns-in_err-done-clause-chunks_bounded
+returns-in_err-done-clause-chunks_bounded c =
     let ps = c.args.chunks.now.items in
     λ a. subst AreBounded (sym (same_set ps c.args.at c.insert.new.self
     (c.in_err-done.ensures.err ∙ sym (text_at ps c.args.at c.index_mut.result.now c.requires.inside c.index_mut.ensures.value)))) a
 
-pub returns-then-as_str-new-le-MAX_CHUNK_LEN-clause-short : goal.returns-then-as_str-new-le-MAX_CHUNK_LEN-clause-short
-returns-then-as_str-new-le-MAX_CHUNK_LEN-clause-short c =
+pub returns-then-as_str-new-le-MAX_CHUNK_LEN-clause-chunks_bounded : goal.returns-then-as_str-new-le-MAX_CHUNK_LEN-clause-chunks_bounded
+returns-then-as_str-new-le-MAX_CHUNK_LEN-clause-chunks_bounded c =
     let ps = c.args.chunks.now.items in
     let was = chunk_bytes c.index_mut.result.now in
     let same : was ≡ c.as_str.result.now = sym (text_at ps c.args.at c.index_mut.result.now c.requires.inside c.index_mut.ensures.value) ∙ text_at ps c.args.at c.index.result.now c.requires.inside c.index.ensures ∙ sym c.as_str.ensures in
     let size : length (chunk_bytes c.insert.new.self) ≤ 4096 = omega (arith, ap length c.in_ok-done.ensures.ok, length_put was c.args.new.now c.args.byte, ap length same, c.if-as_str-new-le-MAX_CHUNK_LEN.true) in
     λ a. short_set ps c.args.at c.insert.new.self size a
 
-pub returns-clause-short : goal.returns-clause-short
-returns-clause-short c =
+pub returns-clause-chunks_bounded : goal.returns-clause-chunks_bounded
+returns-clause-chunks_bounded c =
     let ps = c.args.chunks.now.items in
     let it = c.in_ok-_gone.ensures.items in
     let fresh = c.in_ok-fresh.fresh in

@@ -48,8 +48,8 @@ overflow_add-result-in-Err g c =
       c.in-Err.ensures.insert_index.in_range,
     )
 
-pub returns-in-Ok-clause-found : goal.returns-in-Ok-clause-found
-returns-in-Ok-clause-found g c =
+pub returns-in-Ok-clause-key_index : goal.returns-in-Ok-clause-key_index
+returns-in-Ok-clause-key_index g c =
     let inside : c.run_end-end.result - 1 < length c.args.runs.now = omega (arith, c.run_end-end.ensures.in_range, c.if-end-eq0.false) in
     found_in_part g.P.SortedRun.keys c.args.runs.now (c.run_end-end.result - 1) c.index-runs-end.result inside c.index-runs-end.is c.args.key.now
     c.in-Ok.at _ (ap (λ n. n + c.in-Ok.at) c.count_in-start.ensures) c.run_end-end.ensures.above c.in-Ok.ensures.found

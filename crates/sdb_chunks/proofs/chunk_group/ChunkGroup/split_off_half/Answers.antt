@@ -25,7 +25,7 @@ returns-clause-ok g c =
     let old = group_chunks c.args.self.now in
     let low = items_of c.split_off_half.new.chunk in
     ap (λ b. flatten_models f low ++ flatten_models f (items_of b)) c.new.ensures
-    ∙ in_halves f low (items_of c.in_ok-high.high) old (length old / 2) c.in_ok-high.ensures.lower_half c.in_ok-high.ensures.high
+    ∙ in_halves f low (items_of c.in_ok-high.high) old (length old / 2) c.in_ok-high.ensures.lower_half c.in_ok-high.ensures.upper_half
 
 pub returns-in_err-high-clause-bound : goal.returns-in_err-high-clause-bound
 returns-in_err-high-clause-bound g c =
@@ -37,9 +37,9 @@ returns-clause-bound g c =
     let old = group_chunks c.args.self.now in
     longest_first g.T.TryClone.model (items_of c.split_off_half.new.chunk) old (length old / 2) c.in_ok-high.ensures.lower_half
 
-pub returns-clause-high : goal.returns-clause-high
-returns-clause-high g c =
+pub returns-clause-upper_bound : goal.returns-clause-upper_bound
+returns-clause-upper_bound g c =
     let old = group_chunks c.args.self.now in
     let e = ap (λ b. max_chunk_length (items_of b)) c.new.ensures in
-    let l = longest_last g.T.TryClone.model (items_of c.in_ok-high.high) old (length old / 2) c.in_ok-high.ensures.high in
+    let l = longest_last g.T.TryClone.model (items_of c.in_ok-high.high) old (length old / 2) c.in_ok-high.ensures.upper_half in
     omega (arith, e, l)

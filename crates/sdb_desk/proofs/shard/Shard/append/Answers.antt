@@ -35,8 +35,8 @@ returns-in-Some-clause-unchanged_on_err c =
     let wrote = updated_of_write empty_slot es _ c.args.key.now old new c.in-Some.ensures.value (c.get_mut.follows.holds new).0 in
     on_err c.append.result (λ e. map_of_updated_same (λ t. t.document.log) f g k new wrote (e ∙ ap (λ t. t.document.log) found)) c.append.ensures.unchanged_on_err
 
-pub returns-in-Some-clause-kept : goal.returns-in-Some-clause-kept
-returns-in-Some-clause-kept c =
+pub returns-in-Some-clause-caches_unchanged : goal.returns-in-Some-clause-caches_unchanged
+returns-in-Some-clause-caches_unchanged c =
     let es = c.args.self.now.slots.entries in
     let old = c.in-Some.slot.now in
     let new = c.append.new.self in
@@ -47,12 +47,12 @@ returns-in-Some-clause-kept c =
     let wrote = updated_of_write empty_slot es _ c.args.key.now old new c.in-Some.ensures.value (c.get_mut.follows.holds new).0 in
     map_of_updated_same (λ t. t.document.cache) f g k new wrote (c.append.ensures.kept ∙ ap (λ t. t.document.cache) found)
 
-pub returns-in-None-clause-kept : goal.returns-in-None-clause-kept
-returns-in-None-clause-kept c =
+pub returns-in-None-clause-caches_unchanged : goal.returns-in-None-clause-caches_unchanged
+returns-in-None-clause-caches_unchanged c =
     c.append_first.ensures.kept ∙ ap (λ m. (λ q. (value_at_key empty_slot m.entries q).document.cache)) c.get_mut.follows.holds-at-none
 
-pub returns-in-Some-clause-queues : goal.returns-in-Some-clause-queues
-returns-in-Some-clause-queues c =
+pub returns-in-Some-clause-queues_unchanged : goal.returns-in-Some-clause-queues_unchanged
+returns-in-Some-clause-queues_unchanged c =
     let es = c.args.self.now.slots.entries in
     let old = c.in-Some.slot.now in
     let new = c.append.new.self in
@@ -63,8 +63,8 @@ returns-in-Some-clause-queues c =
     let wrote = updated_of_write empty_slot es _ c.args.key.now old new c.in-Some.ensures.value (c.get_mut.follows.holds new).0 in
     queues_unchanged f g k old new found wrote c.append.ensures.queues
 
-pub returns-in-None-clause-queues : goal.returns-in-None-clause-queues
-returns-in-None-clause-queues c =
+pub returns-in-None-clause-queues_unchanged : goal.returns-in-None-clause-queues_unchanged
+returns-in-None-clause-queues_unchanged c =
     c.append_first.ensures.queues ∙ ap (λ m. (λ q. without_rings (value_at_key empty_slot m.entries q).queues)) c.get_mut.follows.holds-at-none
 
 pub returns-in-Some-clause-rings : goal.returns-in-Some-clause-rings

@@ -11,12 +11,12 @@ pub returns-in_err-insert_slot-clause-unchanged_on_err : goal.returns-in_err-ins
 returns-in_err-insert_slot-clause-unchanged_on_err c =
     on_err_all c.from_residual-in_err-insert_slot.result (map_of_unchanged (λ t. t.document.log) (slots_of c.args.self.now) (slots_of c.insert_slot.new.self) (plain_key c.args.key.now) c.append.new.self c.in_err-insert_slot.ensures.err)
 
-pub returns-in_err-insert_slot-clause-kept : goal.returns-in_err-insert_slot-clause-kept
-returns-in_err-insert_slot-clause-kept c =
+pub returns-in_err-insert_slot-clause-caches_unchanged : goal.returns-in_err-insert_slot-clause-caches_unchanged
+returns-in_err-insert_slot-clause-caches_unchanged c =
     map_of_unchanged (λ t. t.document.cache) (slots_of c.args.self.now) (slots_of c.insert_slot.new.self) (plain_key c.args.key.now) c.append.new.self c.in_err-insert_slot.ensures.err
 
-pub returns-in_err-insert_slot-clause-queues : goal.returns-in_err-insert_slot-clause-queues
-returns-in_err-insert_slot-clause-queues c =
+pub returns-in_err-insert_slot-clause-queues_unchanged : goal.returns-in_err-insert_slot-clause-queues_unchanged
+returns-in_err-insert_slot-clause-queues_unchanged c =
     map_of_unchanged (λ t. without_rings t.queues) (slots_of c.args.self.now) (slots_of c.insert_slot.new.self) (plain_key c.args.key.now) c.append.new.self c.in_err-insert_slot.ensures.err
 
 pub returns-clause-logs : goal.returns-clause-logs
@@ -24,13 +24,13 @@ returns-clause-logs c =
     map_of_updated (λ t. t.document.log) (slots_of c.args.self.now) (slots_of c.insert_slot.new.self) (plain_key c.args.key.now) c.append.new.self c.in_ok-insert_slot.ensures.ok
     ∙ ap (with_log (logs_of c.args.self.now) (plain_key c.args.key.now)) (c.in_ok-append.ensures.log ∙ ap (λ t. (decide t.document.log c.args.submission c.args.now).log) c.new-slot.ensures)
 
-pub returns-clause-kept : goal.returns-clause-kept
-returns-clause-kept c =
+pub returns-clause-caches_unchanged : goal.returns-clause-caches_unchanged
+returns-clause-caches_unchanged c =
     map_of_updated_same (λ t. t.document.cache) (slots_of c.args.self.now) (slots_of c.insert_slot.new.self) (plain_key c.args.key.now) c.append.new.self c.in_ok-insert_slot.ensures.ok
     (c.append.ensures.kept ∙ ap (λ t. t.document.cache) (c.new-slot.ensures ∙ c.requires.nothing))
 
-pub returns-clause-queues : goal.returns-clause-queues
-returns-clause-queues c =
+pub returns-clause-queues_unchanged : goal.returns-clause-queues_unchanged
+returns-clause-queues_unchanged c =
     map_of_updated_same (λ t. without_rings t.queues) (slots_of c.args.self.now) (slots_of c.insert_slot.new.self) (plain_key c.args.key.now) c.append.new.self c.in_ok-insert_slot.ensures.ok
     (c.append.ensures.queues ∙ ap (λ t. without_rings t.queues) (c.new-slot.ensures ∙ c.requires.nothing))
 

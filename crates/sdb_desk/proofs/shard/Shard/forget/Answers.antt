@@ -20,8 +20,8 @@ returns-in-Some-clause-logs_unchanged c =
     let wrote = updated_of_write empty_slot es _ c.args.key.now old new c.in-Some.ensures.value (c.get_mut.follows.holds new).0 in
     map_of_updated_same (λ t. t.document.log) f g k new wrote (c.forget.ensures.log ∙ ap (λ t. t.document.log) found)
 
-pub returns-in-Some-clause-kept : goal.returns-in-Some-clause-kept
-returns-in-Some-clause-kept c =
+pub returns-in-Some-clause-caches : goal.returns-in-Some-clause-caches
+returns-in-Some-clause-caches c =
     let es = c.args.self.now.slots.entries in
     let old = c.in-Some.slot.now in
     let new = c.forget.new.self in
@@ -32,15 +32,15 @@ returns-in-Some-clause-kept c =
     let wrote = updated_of_write empty_slot es _ c.args.key.now old new c.in-Some.ensures.value (c.get_mut.follows.holds new).0 in
     map_of_updated (λ t. t.document.cache) f g k new wrote ∙ ap (with_cache (caches_of c.args.self.now) k) c.forget.ensures.kept
 
-pub returns-in_default-clause-kept : goal.returns-in_default-clause-kept
-returns-in_default-clause-kept c =
+pub returns-in_default-clause-caches : goal.returns-in_default-clause-caches
+returns-in_default-clause-caches c =
     let es = c.args.self.now.slots.entries in
     let k = plain_key c.args.key.now in
     let none = value_at_lookup_none empty_slot es c.args.key.now c.in_default.ensures.value in
     ap (λ m. (λ q. (value_at_key empty_slot m.entries q).document.cache)) c.get_mut.follows.holds-at-none ∙ updated_at_same (caches_of c.args.self.now) k [] (ap (λ t. t.document.cache) none)
 
-pub returns-in-Some-clause-queues : goal.returns-in-Some-clause-queues
-returns-in-Some-clause-queues c =
+pub returns-in-Some-clause-queues_unchanged : goal.returns-in-Some-clause-queues_unchanged
+returns-in-Some-clause-queues_unchanged c =
     let es = c.args.self.now.slots.entries in
     let old = c.in-Some.slot.now in
     let new = c.forget.new.self in

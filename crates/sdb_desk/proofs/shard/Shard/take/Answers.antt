@@ -33,8 +33,8 @@ returns-in-Some-clause-logs_unchanged c =
     let wrote = updated_of_write empty_slot es _ c.args.key.now old new c.in-Some.ensures.value (c.get_mut.follows.holds new).0 in
     logs_unchanged f g k old new found wrote c.take.ensures.document
 
-pub returns-in-Some-clause-kept : goal.returns-in-Some-clause-kept
-returns-in-Some-clause-kept c =
+pub returns-in-Some-clause-caches_unchanged : goal.returns-in-Some-clause-caches_unchanged
+returns-in-Some-clause-caches_unchanged c =
     let es = c.args.self.now.slots.entries in
     let old = c.in-Some.slot.now in
     let new = c.take.new.self in
