@@ -131,15 +131,15 @@ common_prefix_extends xs ys i x y hx hy is isy same before =
         ∙ map-append plain_step (take j zs) (z ∷ [])
         ∙ ap (λ l. l ++ plain_step z ∷ []) (sym (take-map plain_step j zs))
 
-pub shared_front : (k : ℕ) (xs : List Step) (x : List PlainStep) → plain_path xs ≡ take (length xs) x → plain_path (take k xs) ≡ take (length (take k xs)) x
-shared_front zero [] x h = refl
-shared_front (suc k) [] x h = refl
-shared_front zero (s ∷ xs) x h = refl
-shared_front (suc k) (s ∷ xs) [] h = cc
-shared_front (suc k) (s ∷ xs) (y ∷ x) h =
+pub shared_prefix : (k : ℕ) (xs : List Step) (x : List PlainStep) → plain_path xs ≡ take (length xs) x → plain_path (take k xs) ≡ take (length (take k xs)) x
+shared_prefix zero [] x h = refl
+shared_prefix (suc k) [] x h = refl
+shared_prefix zero (s ∷ xs) x h = refl
+shared_prefix (suc k) (s ∷ xs) [] h = cc
+shared_prefix (suc k) (s ∷ xs) (y ∷ x) h =
     let e : plain_step s ≡ y = cc in
     let f : plain_path xs ≡ take (length xs) x = cc in
-    ap (λ w. w ∷ plain_path (take k xs)) e ∙ ap (λ l. y ∷ l) (shared_front k xs x f)
+    ap (λ w. w ∷ plain_path (take k xs)) e ∙ ap (λ l. y ∷ l) (shared_prefix k xs x f)
 
 pub shared_more : (k i : ℕ) (xs path : List Step) (cs : List PlainComponent) (c : PlainComponent) → i < length cs → c ≡ get_or cs i c → k ≤ length xs → plain_path path ≡ c.path
     → take k (plain_path xs) ≡ take k (plain_path path) → AllBelowPath (plain_path xs) (take i cs) → AllBelowPath (plain_path (take k xs)) (take (i + 1) cs)

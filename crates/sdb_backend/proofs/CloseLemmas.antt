@@ -87,10 +87,10 @@ AreAllClosed h ps shards =
     (length shards ≡ 8)
     × ((i : ℕ) (d : Held) → i < 8 → IsCloseResult ExtendsHeld SameHeld BlankHeld h.seats (seats_of ps) i (slice_index_or shards i d))
 
-kept_by : (i : ℕ) (v : Held) (ps : List Pass) → ForEach (λ c. ExtendsAndKeeps ExtendsHeld SameHeld BlankHeld i c.number c.seats.items v) (seats_of ps)
+unchanged_by : (i : ℕ) (v : Held) (ps : List Pass) → ForEach (λ c. ExtendsAndKeeps ExtendsHeld SameHeld BlankHeld i c.number c.seats.items v) (seats_of ps)
     → ForEach (λ p. (x : Held) → PassHasSeenShard p i x → ExtendsHeld v x × SameHeld (pass_number p) x v) ps
-kept_by i v [] h = tt
-kept_by i v (p ∷ ps) h = (h.0, kept_by i v ps h.1)
+unchanged_by i v [] h = tt
+unchanged_by i v (p ∷ ps) h = (h.0, unchanged_by i v ps h.1)
 
 -- at each index, for each pass
 abbrev pub KeepsAtEach : List Held → Pass → Type 0
@@ -109,7 +109,7 @@ seen_by h ps shards closed =
     let lt = at.0 in
     let e = closed.0 in
     subst (λ (w : Held). ForEach (λ p. (x : Held) → PassHasSeenShard p i x → ExtendsHeld w x × SameHeld (pass_number p) x w) ps) at.1
-    (kept_by i (slice_index_or shards i v) ps (closed.1 i v (omega (arith, lt, e))).others))
+    (unchanged_by i (slice_index_or shards i v) ps (closed.1 i v (omega (arith, lt, e))).others))
 
 closed_under_number : (b : Bool) (h : Host) (l : StripedLock Held) (ps : List Pass) (n i : ℕ) (v : Held) → nat_lt n (next_pass_number h) ≡ b → i < 8 → HasRootSeatsOf h l
     → ((k : ℕ) → 0 < k → k < next_pass_number h → Contains (map pass_number ps) k) → IsCloseResult ExtendsHeld SameHeld BlankHeld h.seats (seats_of ps) i v

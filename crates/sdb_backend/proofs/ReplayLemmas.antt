@@ -38,8 +38,8 @@ some_is : {A : Type 0} (x y : A) → Some x ≡ Some y → x ≡ y
 some_is x y e = cc
 
 -- the document is that of the version
-pub lent_at : (log : List PlainEntry) (v : ℕ) (l : PlainReplayBase) (d : Option Value) → IsReplayBase log v l → snap_from l.snapshot l.entries ≡ Some d → IsDocumentAt log v d
-lent_at log v l d h is = (h.0, some_is (document_of (take v log)) d (sym h.2 ∙ is))
+pub borrowed_at : (log : List PlainEntry) (v : ℕ) (l : PlainReplayBase) (d : Option Value) → IsReplayBase log v l → snap_from l.snapshot l.entries ≡ Some d → IsDocumentAt log v d
+borrowed_at log v l d h is = (h.0, some_is (document_of (take v log)) d (sym h.2 ∙ is))
 
 -- the document at a version is unchanged in an extension
 pub at_later : (log new : List PlainEntry) (v : ℕ) (d : Option Value) → IsExtension new log → IsDocumentAt log v d → IsDocumentAt new v d
@@ -51,7 +51,7 @@ at_later log new v d h at =
 
 -- at the current version no entry is left to replay, and the base is the document
 pub base_whole : (log : List PlainEntry) (v : ℕ) (l : PlainReplayBase) → IsReplayBase log v l → l.entries ≡ [] → IsDocumentAt log v l.snapshot
-base_whole log v l h none = lent_at log v l l.snapshot h (ap (snap_from l.snapshot) none)
+base_whole log v l h none = borrowed_at log v l l.snapshot h (ap (snap_from l.snapshot) none)
 
 -- ---- the answer
 
@@ -84,21 +84,21 @@ above_zero log zero w es e some =
 above_zero log (suc v) w es e some = omega arith
 
 -- an allocation failure during the replay
-pub wanting_at : (by : ℕ) (m new : Machine) (k : PlainKey) (v : ℕ) (l : PlainReplayBase) → IsReplayBase (m.logs k) v l → 0 < length l.entries → IsUnchanged m new
+pub out_of_memory_at : (by : ℕ) (m new : Machine) (k : PlainKey) (v : ℕ) (l : PlainReplayBase) → IsReplayBase (m.logs k) v l → 0 < length l.entries → IsUnchanged m new
     → MachineStep by m k (snapshot (Some v)) (Err E10) new
-wanting_at by m new k v l h some same =
+out_of_memory_at by m new k v l h some same =
     let above : nat_lt 0 v ≡ true = lt-ltb 0 v (above_zero (m.logs k) v l.version l.entries h.1 some) in
     (inl (refl, ap (λ r. option_map_or read_has_version (result_ok r) false) (snapshot_at_in_range (m.logs k) v h.0) ∙ above), same)
 
 -- ---- a document at a moment
 
 -- an allocation failure for the replay base
-pub wanting_then : (log : List PlainEntry) (v t : ℕ) (code : Code) → v ≡ version_at log t → v ≤ length log
+pub out_of_memory_then : (log : List PlainEntry) (v t : ℕ) (code : Code) → v ≡ version_at log t → v ≤ length log
     → ReadOrOutOfMemory read_has_version (Err code) (snapshot_at log (Some v)) → ReadOrOutOfMemory read_has_version (Err code) (Ok (fetch_at_moment log (Some t)))
-wanting_then log v t code is within (inl h) =
+out_of_memory_then log v t code is within (inl h) =
     let some : nat_lt 0 v ≡ true = sym (ap (λ r. option_map_or read_has_version (result_ok r) false) (snapshot_at_in_range log v within)) ∙ h.1 in
     inl (h.0, ap (nat_lt 0) (sym is) ∙ some)
-wanting_then log v t code is within (inr h) = let no : Err code ≡ Ok _ = h ∙ snapshot_at_in_range log v within in cc
+out_of_memory_then log v t code is within (inr h) = let no : Err code ≡ Ok _ = h ∙ snapshot_at_in_range log v within in cc
 
 -- the base for a moment, or its replay, is the document at it
 pub read_then : (by : ℕ) (m new : Machine) (k : PlainKey) (v t : ℕ) (d : Option Value) → v ≡ version_at (m.logs k) t → IsDocumentAt (m.logs k) v d
@@ -138,17 +138,17 @@ version_unchanged k t v l at left x w is lends whole some same one longer made =
     then_later (logs_of x.shard k) (logs_of w.shard k) v t longer made seen.0 seen.1
 
 -- an allocation failure for the base of a moment
-pub wanting_lent : (log : List PlainEntry) (v t : ℕ) (code : Code) → v ≡ version_at log t
+pub out_of_memory_borrowed : (log : List PlainEntry) (v t : ℕ) (code : Code) → v ≡ version_at log t
     → ReadOrOutOfMemory read_has_version (Err code) (snapshot_at log (Some v)) → ReadOrOutOfMemory read_has_version (Err code) (Ok (fetch_at_moment log (Some t)))
-wanting_lent log v t code is h =
+out_of_memory_borrowed log v t code is h =
     let n = version_at_within log t in
-    wanting_then log v t code is (omega (arith, is, n)) h
+    out_of_memory_then log v t code is (omega (arith, is, n)) h
 
 -- an allocation failure during its replay
-pub wanting_replayed : (by : ℕ) (m new : Machine) (k : PlainKey) (v t : ℕ) (l : PlainReplayBase) → v ≡ version_at (m.logs k) t
+pub out_of_memory_replayed : (by : ℕ) (m new : Machine) (k : PlainKey) (v t : ℕ) (l : PlainReplayBase) → v ≡ version_at (m.logs k) t
     → IsReplayBase (m.logs k) v l → 0 < length l.entries → IsUnchanged m new → MachineStep by m k (snapshot_at_time (Some t)) (Err E10) new
-wanting_replayed by m new k v t l is h some same =
-    (wanting_then (m.logs k) v t E10 is h.0 (wanting_at by m new k v l h some same).0, same)
+out_of_memory_replayed by m new k v t l is h some same =
+    (out_of_memory_then (m.logs k) v t E10 is h.0 (out_of_memory_at by m new k v l h some same).0, same)
 
 -- a list that isn't empty has entries
 pub some_entries : (l : ReplayBase) (r : Bool) → r ≡ (vec_len l.entries == 0) → r ≡ false → 0 < length l.entries.items

@@ -61,8 +61,8 @@ module _ (k : PlainKey) (s : PlainSubmission) (now : ℕ) where
   abbrev attempt_of_look : PlainLook → PlainAttempt
   attempt_of_look l = record { submission = s; look = l }
 
-  one_step_kept : IsSubmitInvariant PassCallsHere s now AtomicSubmitHere
-  one_step_kept = record {
+  one_step_unchanged : IsSubmitInvariant PassCallsHere s now AtomicSubmitHere
+  one_step_unchanged = record {
     look_failed = λ p o q r h d. answered_after_unchanged k (look s) (commit_now s now) None r p o q h h.6.1 d;
     look_taken = λ p o q l r h d. answered_after_unchanged k (look s) (commit_now s now) (Some l) r p o q h h.6.1 d;
     commit_moved = λ p o q l m r h d. answered_after_unchanged k (commit (attempt_of_look l) now) (commit_now s now) (moved m) r p o q h (h.6.0.2, h.6.1) d;
@@ -75,7 +75,7 @@ module _ (k : PlainKey) (s : PlainSubmission) (now : ℕ) where
   }
 
   pub in_one_step : (p q : Pass) (r : PlainReply) → SubmitRelation PassCallsHere s now p r q → AtomicSubmitHere p r q
-  in_one_step p q r h = submit_preserves PassCallsHere s now AtomicSubmitHere one_step_kept p r q h
+  in_one_step p q r h = submit_preserves PassCallsHere s now AtomicSubmitHere one_step_unchanged p r q h
 
   -- a reply `stored` adds one entry
   pub step_adds : (p q : Pass) (r : PlainReply) → AtomicSubmitHere p r q → s.by ≡ pass_number p → AddsEntry k s now p r q

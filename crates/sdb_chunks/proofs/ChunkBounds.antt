@@ -10,7 +10,7 @@ use Rattle.sdb_chunks.specs.ChunkGroup.{group_chunks, max_grouped_length}
 use Rattle.sdb_chunks.specs.ChunkedVec.{flatten_models}
 use Rattle.sdb_chunks.specs.declared.chunk.Chunk.{Chunk}
 use Rattle.sdb_chunks.specs.declared.chunk_group.ChunkGroup.{ChunkGroup}
-use Rattle.sdb_chunks.proofs.FlattenLemmas.{seen_blocks, if_same, if_other, map_take, map_drop}
+use Rattle.sdb_chunks.proofs.FlattenLemmas.{seen_chunks, if_same, if_other, map_take, map_drop}
 
 abbrev chunk_count : {X : Type 0} → Chunk X → ℕ
 chunk_count b = length (items_of b)
@@ -79,28 +79,28 @@ pub no_more : {X : Type 0} (xs ys : List X) (n : ℕ) → xs ≡ ys → length y
 no_more xs ys n e h = let l = ap length e in omega (arith, l, h)
 
 -- a chunk replaced by one that isn't longer
-pub longest_kept : {X : Type 0} (bs : List (Chunk X)) (k : ℕ) (a d : Chunk X) → k < length bs → d ≡ get_or bs k d → length (items_of a) ≤ length (items_of d)
+pub longest_unchanged : {X : Type 0} (bs : List (Chunk X)) (k : ℕ) (a d : Chunk X) → k < length bs → d ≡ get_or bs k d → length (items_of a) ≤ length (items_of d)
     → max_chunk_length (set bs k a) ≤ max_chunk_length bs
-longest_kept bs k a d h e l =
+longest_unchanged bs k a d h e l =
     let m = ap (λ b. length (items_of b)) e in
     let w = longest_at bs k d h in
     longest_set bs k a (max_chunk_length bs) (omega arith) (omega (arith, m, w, l))
 
 -- ---- the chunk of an insert
 
-pub block_here : {X S : Type 0} (f : X → S) (bs : List (Chunk X)) (index k i : ℕ) (d : Chunk X) → k < length bs → length (flatten_models f (take k bs)) + i ≡ index
+pub chunk_here : {X S : Type 0} (f : X → S) (bs : List (Chunk X)) (index k i : ℕ) (d : Chunk X) → k < length bs → length (flatten_models f (take k bs)) + i ≡ index
     → (0 < k → 0 < i) → i ≤ length (items_of (get_or bs k d)) → k ≡ insert_chunk_index bs index
-block_here f [] index k i d h s p w = absurd (omega (arith, h))
-block_here f (b ∷ bs) index zero i d h s p w =
+chunk_here f [] index k i d h s p w = absurd (omega (arith, h))
+chunk_here f (b ∷ bs) index zero i d h s p w =
     let l : index ≤ length (items_of b) = omega (arith, s, w) in
     sym (if_same (leb index (length (items_of b))) 0 (suc (insert_chunk_index bs (index - length (items_of b)))) (le-leb index (length (items_of b)) l))
-block_here f (b ∷ bs) index (suc k) i d h s p w =
+chunk_here f (b ∷ bs) index (suc k) i d h s p w =
     let m = length-append (map f (items_of b)) (flatten_models f (take k bs)) in
     let n = length-map (items_of b) f in
     let q : 0 < i = p (omega arith) in
     let l : length (items_of b) < index = omega (arith, s, m, n, q) in
     let t : length (flatten_models f (take k bs)) + i ≡ index - length (items_of b) = omega (arith, s, m, n) in
-    ap suc (block_here f bs (index - length (items_of b)) k i d (omega (arith, h)) t (λ _. q) w)
+    ap suc (chunk_here f bs (index - length (items_of b)) k i d (omega (arith, h)) t (λ _. q) w)
     ∙ sym (if_other (leb index (length (items_of b))) 0 (suc (insert_chunk_index bs (index - length (items_of b)))) (lt-leb index (length (items_of b)) l))
 
 -- whether the index is in the first chunk or after it
@@ -126,20 +126,20 @@ items_here (b ∷ bs) index (suc k) d h e =
     first_of (leb index n) 0 (λ t. absurd (suc_not k (e ∙ if_same (leb index n) 0 q t)))
     (λ t. let s = e ∙ if_other (leb index n) 0 q t in if_other (leb index n) n r t ∙ items_here bs (index - n) k d (omega (arith, h)) (omega (arith, s)))
 
-pub items_past : {X S : Type 0} (f : X → S) (bs : List (Chunk X)) (index : ℕ) → length (flatten_models f bs) < index → chunk_length_at bs index ≡ 0
-items_past f [] index h = refl
-items_past f (b ∷ bs) index h =
+pub items_after : {X S : Type 0} (f : X → S) (bs : List (Chunk X)) (index : ℕ) → length (flatten_models f bs) < index → chunk_length_at bs index ≡ 0
+items_after f [] index h = refl
+items_after f (b ∷ bs) index h =
     let m = length-append (map f (items_of b)) (flatten_models f bs) in
     let n = length-map (items_of b) f in
     let l : length (items_of b) < index = omega (arith, h, m, n) in
     if_other (leb index (length (items_of b))) (length (items_of b)) (chunk_length_at bs (index - length (items_of b))) (lt-leb index (length (items_of b)) l)
-    ∙ items_past f bs (index - length (items_of b)) (omega (arith, h, m, n))
+    ∙ items_after f bs (index - length (items_of b)) (omega (arith, h, m, n))
 
 -- without chunks the index is out of range
 pub items_none : {X S : Type 0} (f : X → S) (bs : List (Chunk X)) (index : ℕ) → (index ≤ length (flatten_models f bs) → bs ≡ []) → chunk_length_at bs index ≡ 0
 items_none f bs index h =
     first_of (leb index (length (flatten_models f bs))) 0 (λ t. ap (λ l. chunk_length_at l index) (h (leb-true index (length (flatten_models f bs)) t)))
-    (λ t. items_past f bs index (leb-false index (length (flatten_models f bs)) t))
+    (λ t. items_after f bs index (leb-false index (length (flatten_models f bs)) t))
 
 -- ---- the greatest length after an insert
 
@@ -260,10 +260,10 @@ module _ {X S : Type 0} (f : X → S) where
       let l = length-take n (drop i xs) in
       longest_push bs all b m pushed h (omega (arith, e, l, w))
 
-  abbrev seen_blocks_of : ChunkGroup X → List (List S × Bool) × Bool
-  seen_blocks_of g = seen_blocks f g.chunks
+  abbrev seen_chunks_of : ChunkGroup X → List (List S × Bool) × Bool
+  seen_chunks_of g = seen_chunks f g.chunks
 
-  groups_flat : (gs : List (ChunkGroup X)) → max_grouped_length gs ≡ all_longest (map (seen_blocks_of) gs)
+  groups_flat : (gs : List (ChunkGroup X)) → max_grouped_length gs ≡ all_longest (map (seen_chunks_of) gs)
   groups_flat [] = refl
   groups_flat (g ∷ gs) =
       let m = longest_append (group_chunks g) (flat_map group_chunks gs) in
@@ -271,7 +271,7 @@ module _ {X S : Type 0} (f : X → S) where
       let r = groups_flat gs in
       omega (arith, m, n, r)
 
-  pub longest_grouped_alike : (gs hs : List (ChunkGroup X)) → map (seen_blocks_of) gs ≡ map (seen_blocks_of) hs → max_grouped_length gs ≡ max_grouped_length hs
+  pub longest_grouped_alike : (gs hs : List (ChunkGroup X)) → map (seen_chunks_of) gs ≡ map (seen_chunks_of) hs → max_grouped_length gs ≡ max_grouped_length hs
   longest_grouped_alike gs hs e = groups_flat gs ∙ ap all_longest e ∙ sym (groups_flat hs)
 
 -- ---- the greatest length after a change of groups
@@ -343,9 +343,9 @@ group_short f gs all bs us g i n pushed is seen h =
     grouped_push gs all g (max_chunk_length bs) pushed h (omega (arith, e, l, r))
 
 -- a group replaced by one whose chunks aren't longer
-pub grouped_kept : {X : Type 0} (gs : List (ChunkGroup X)) (k : ℕ) (a d : ChunkGroup X) (n : ℕ) → k < length gs → d ≡ get_or gs k d → max_chunk_length (group_chunks a) ≤ max n (max_chunk_length (group_chunks d))
+pub grouped_unchanged : {X : Type 0} (gs : List (ChunkGroup X)) (k : ℕ) (a d : ChunkGroup X) (n : ℕ) → k < length gs → d ≡ get_or gs k d → max_chunk_length (group_chunks a) ≤ max n (max_chunk_length (group_chunks d))
     → max_grouped_length (set gs k a) ≤ max n (max_grouped_length gs)
-grouped_kept gs k a d n h e l =
+grouped_unchanged gs k a d n h e l =
     let m = ap (λ g. max_chunk_length (group_chunks g)) e in
     let w = grouped_at gs k d h in
     grouped_set gs k a (max n (max_grouped_length gs)) (omega arith) (omega (arith, m, w, l))

@@ -16,47 +16,47 @@ pub append_none : {X : Type 0} (xs : List X) → xs ++ [] ≡ xs
 append_none [] = refl
 append_none (x ∷ xs) = ap (λ l. x ∷ l) (append_none xs)
 
-get_front : {X : Type 0} (xs ys : List X) (i : ℕ) → i < length xs → slice_get (xs ++ ys) i ≡ slice_get xs i
-get_front [] ys i h = absurd (omega (arith, h))
-get_front (x ∷ xs) ys zero h = refl
-get_front (x ∷ xs) ys (suc i) h = get_front xs ys i (omega (arith, h))
+get_prefix : {X : Type 0} (xs ys : List X) (i : ℕ) → i < length xs → slice_get (xs ++ ys) i ≡ slice_get xs i
+get_prefix [] ys i h = absurd (omega (arith, h))
+get_prefix (x ∷ xs) ys zero h = refl
+get_prefix (x ∷ xs) ys (suc i) h = get_prefix xs ys i (omega (arith, h))
 
 get_behind : {X : Type 0} (xs ys : List X) (i n : ℕ) → i ≡ length xs + n → slice_get (xs ++ ys) i ≡ slice_get ys n
 get_behind [] ys i n e = let s : i ≡ n = omega (arith, e) in ap (slice_get ys) s
 get_behind (x ∷ xs) ys zero n e = absurd (omega (arith, e))
 get_behind (x ∷ xs) ys (suc i) n e = get_behind xs ys i n (omega (arith, e))
 
-set_front : {X : Type 0} (xs ys : List X) (i : ℕ) (y : X) → i < length xs → set (xs ++ ys) i y ≡ set xs i y ++ ys
-set_front [] ys i y h = absurd (omega (arith, h))
-set_front (x ∷ xs) ys zero y h = refl
-set_front (x ∷ xs) ys (suc i) y h = ap (λ l. x ∷ l) (set_front xs ys i y (omega (arith, h)))
+set_prefix : {X : Type 0} (xs ys : List X) (i : ℕ) (y : X) → i < length xs → set (xs ++ ys) i y ≡ set xs i y ++ ys
+set_prefix [] ys i y h = absurd (omega (arith, h))
+set_prefix (x ∷ xs) ys zero y h = refl
+set_prefix (x ∷ xs) ys (suc i) y h = ap (λ l. x ∷ l) (set_prefix xs ys i y (omega (arith, h)))
 
 set_behind : {X : Type 0} (xs ys : List X) (n i : ℕ) (y : X) → n ≡ length xs + i → set (xs ++ ys) n y ≡ xs ++ set ys i y
 set_behind [] ys n i y e = let s : n ≡ i = omega (arith, e) in ap (λ m. set ys m y) s
 set_behind (x ∷ xs) ys zero i y e = absurd (omega (arith, e))
 set_behind (x ∷ xs) ys (suc n) i y e = ap (λ l. x ∷ l) (set_behind xs ys n i y (omega (arith, e)))
 
-remove_front : {X : Type 0} (xs ys : List X) (i : ℕ) → i < length xs → remove (xs ++ ys) i ≡ remove xs i ++ ys
-remove_front [] ys i h = absurd (omega (arith, h))
-remove_front (x ∷ xs) ys zero h = refl
-remove_front (x ∷ xs) ys (suc i) h = ap (λ l. x ∷ l) (remove_front xs ys i (omega (arith, h)))
+remove_prefix : {X : Type 0} (xs ys : List X) (i : ℕ) → i < length xs → remove (xs ++ ys) i ≡ remove xs i ++ ys
+remove_prefix [] ys i h = absurd (omega (arith, h))
+remove_prefix (x ∷ xs) ys zero h = refl
+remove_prefix (x ∷ xs) ys (suc i) h = ap (λ l. x ∷ l) (remove_prefix xs ys i (omega (arith, h)))
 
 remove_behind : {X : Type 0} (xs ys : List X) (n i : ℕ) → n ≡ length xs + i → remove (xs ++ ys) n ≡ xs ++ remove ys i
 remove_behind [] ys n i e = let s : n ≡ i = omega (arith, e) in ap (remove ys) s
 remove_behind (x ∷ xs) ys zero i e = absurd (omega (arith, e))
 remove_behind (x ∷ xs) ys (suc n) i e = ap (λ l. x ∷ l) (remove_behind xs ys n i (omega (arith, e)))
 
-own_first : (a b : Bool) → cond a b false ≡ true → a ≡ true
-own_first true b e = refl
-own_first false b e = e
+unique_first : (a b : Bool) → cond a b false ≡ true → a ≡ true
+unique_first true b e = refl
+unique_first false b e = e
 
-own_rest : (a b : Bool) → cond a b false ≡ true → b ≡ true
-own_rest true b e = e
-own_rest false b e = cc
+unique_rest : (a b : Bool) → cond a b false ≡ true → b ≡ true
+unique_rest true b e = e
+unique_rest false b e = cc
 
-own_both : (a b : Bool) → a ≡ true → b ≡ true → cond a b false ≡ true
-own_both true b h e = e
-own_both false b h e = h
+unique_both : (a b : Bool) → a ≡ true → b ≡ true → cond a b false ≡ true
+unique_both true b h e = e
+unique_both false b h e = h
 
 module _ {X S : Type 0} (s : X → List S) where
   pub joined_append : (ps qs : List X) → flat_map s (ps ++ qs) ≡ flat_map s ps ++ flat_map s qs
@@ -107,7 +107,7 @@ module _ {X S : Type 0} (s : X → List S) where
   -- in the chunk at k, and after it
   pub get_here : (ps : List X) (k i : ℕ) (p : X) → k < length ps → p ≡ get_or ps k p → i < length (s p) → slice_get (flat_map s (drop k ps)) i ≡ slice_get (s p) i
   get_here ps k i p h e l =
-      ap (λ xs. slice_get xs i) (drop_joined ps k p h ∙ ap (λ q. s q ++ flat_map s (drop (k + 1) ps)) (sym e)) ∙ get_front (s p) (flat_map s (drop (k + 1) ps)) i l
+      ap (λ xs. slice_get xs i) (drop_joined ps k p h ∙ ap (λ q. s q ++ flat_map s (drop (k + 1) ps)) (sym e)) ∙ get_prefix (s p) (flat_map s (drop (k + 1) ps)) i l
 
   pub get_past : (ps : List X) (k i n : ℕ) (p : X) → k < length ps → p ≡ get_or ps k p → i ≡ length (s p) + n → slice_get (flat_map s (drop k ps)) i ≡ slice_get (flat_map s (drop (k + 1) ps)) n
   get_past ps k i n p h e l =
@@ -119,7 +119,7 @@ module _ {X S : Type 0} (s : X → List S) where
       let q = s (get_or ps k d) in
       let J = flat_map s (take k ps) in
       let R = flat_map s (drop (suc k) ps) in
-      joined_set ps k a at.index_in_range ∙ ap (λ l. J ++ l) (ap (λ l. l ++ R) e ∙ sym (set_front q R i x (at.within d)))
+      joined_set ps k a at.index_in_range ∙ ap (λ l. J ++ l) (ap (λ l. l ++ R) e ∙ sym (set_prefix q R i x (at.within d)))
       ∙ sym (set_behind J (q ++ R) index i x (sym at.offset_is_sum)) ∙ ap (λ l. set l index x) (sym (joined_around ps k d at.index_in_range))
 
   pub joined_remove : (ps : List X) (index k i : ℕ) (a d : X) → IsItemPosition s ps index k i → s a ≡ remove (s (get_or ps k d)) i
@@ -128,7 +128,7 @@ module _ {X S : Type 0} (s : X → List S) where
       let q = s (get_or ps k d) in
       let J = flat_map s (take k ps) in
       let R = flat_map s (drop (suc k) ps) in
-      joined_set ps k a at.index_in_range ∙ ap (λ l. J ++ l) (ap (λ l. l ++ R) e ∙ sym (remove_front q R i (at.within d)))
+      joined_set ps k a at.index_in_range ∙ ap (λ l. J ++ l) (ap (λ l. l ++ R) e ∙ sym (remove_prefix q R i (at.within d)))
       ∙ sym (remove_behind J (q ++ R) index i (sym at.offset_is_sum)) ∙ ap (λ l. remove l index) (sym (joined_around ps k d at.index_in_range))
 
   -- a chunk and its two halves, the second replacing one that was inserted after it
@@ -175,7 +175,7 @@ module _ {X S : Type 0} (s : X → List S) where
       let q = s (get_or ps k d) in
       let J = flat_map s (take k ps) in
       let R = flat_map s (drop (suc k) ps) in
-      sym (ap (λ l. slice_get l index) (joined_around ps k d at.index_in_range) ∙ get_behind J (q ++ R) index i (sym at.offset_is_sum) ∙ get_front q R i (at.within d))
+      sym (ap (λ l. slice_get l index) (joined_around ps k d at.index_in_range) ∙ get_behind J (q ++ R) index i (sym at.offset_is_sum) ∙ get_prefix q R i (at.within d))
 
   pub place_within : (ps : List X) (index k i : ℕ) (d : X) → IsInsertPosition s ps index k i → index ≤ length (flat_map s ps)
   place_within ps index k i d at =
@@ -187,27 +187,27 @@ module _ {X S : Type 0} (s : X → List S) where
 
 -- ---- uniqueness of the chunks
 
-pub own_at : {X : Type 0} (bs : List (Chunk X)) (k : ℕ) (d : Chunk X) → k < length bs → all_unique bs ≡ true → is_chunk_unique (get_or bs k d) ≡ true
-own_at [] k d h e = absurd (omega (arith, h))
-own_at (b ∷ bs) zero d h e = own_first (is_chunk_unique b) (all_unique bs) e
-own_at (b ∷ bs) (suc k) d h e = own_at bs k d (omega (arith, h)) (own_rest (is_chunk_unique b) (all_unique bs) e)
+pub unique_at : {X : Type 0} (bs : List (Chunk X)) (k : ℕ) (d : Chunk X) → k < length bs → all_unique bs ≡ true → is_chunk_unique (get_or bs k d) ≡ true
+unique_at [] k d h e = absurd (omega (arith, h))
+unique_at (b ∷ bs) zero d h e = unique_first (is_chunk_unique b) (all_unique bs) e
+unique_at (b ∷ bs) (suc k) d h e = unique_at bs k d (omega (arith, h)) (unique_rest (is_chunk_unique b) (all_unique bs) e)
 
-pub own_set : {X : Type 0} (bs : List (Chunk X)) (k : ℕ) (a : Chunk X) → is_chunk_unique a ≡ true → all_unique bs ≡ true → all_unique (set bs k a) ≡ true
-own_set [] k a h e = e
-own_set (b ∷ bs) zero a h e = own_both (is_chunk_unique a) (all_unique bs) h (own_rest (is_chunk_unique b) (all_unique bs) e)
-own_set (b ∷ bs) (suc k) a h e = own_both (is_chunk_unique b) (all_unique (set bs k a)) (own_first (is_chunk_unique b) (all_unique bs) e) (own_set bs k a h (own_rest (is_chunk_unique b) (all_unique bs) e))
+pub unique_set : {X : Type 0} (bs : List (Chunk X)) (k : ℕ) (a : Chunk X) → is_chunk_unique a ≡ true → all_unique bs ≡ true → all_unique (set bs k a) ≡ true
+unique_set [] k a h e = e
+unique_set (b ∷ bs) zero a h e = unique_both (is_chunk_unique a) (all_unique bs) h (unique_rest (is_chunk_unique b) (all_unique bs) e)
+unique_set (b ∷ bs) (suc k) a h e = unique_both (is_chunk_unique b) (all_unique (set bs k a)) (unique_first (is_chunk_unique b) (all_unique bs) e) (unique_set bs k a h (unique_rest (is_chunk_unique b) (all_unique bs) e))
 
-pub own_insert : {X : Type 0} (bs : List (Chunk X)) (k : ℕ) (a : Chunk X) → is_chunk_unique a ≡ true → all_unique bs ≡ true → all_unique (insert bs k a) ≡ true
-own_insert [] zero a h e = own_both (is_chunk_unique a) true h refl
-own_insert [] (suc k) a h e = own_both (is_chunk_unique a) true h refl
-own_insert (b ∷ bs) zero a h e = own_both (is_chunk_unique a) (all_unique (b ∷ bs)) h e
-own_insert (b ∷ bs) (suc k) a h e = own_both (is_chunk_unique b) (all_unique (insert bs k a)) (own_first (is_chunk_unique b) (all_unique bs) e) (own_insert bs k a h (own_rest (is_chunk_unique b) (all_unique bs) e))
+pub unique_insert : {X : Type 0} (bs : List (Chunk X)) (k : ℕ) (a : Chunk X) → is_chunk_unique a ≡ true → all_unique bs ≡ true → all_unique (insert bs k a) ≡ true
+unique_insert [] zero a h e = unique_both (is_chunk_unique a) true h refl
+unique_insert [] (suc k) a h e = unique_both (is_chunk_unique a) true h refl
+unique_insert (b ∷ bs) zero a h e = unique_both (is_chunk_unique a) (all_unique (b ∷ bs)) h e
+unique_insert (b ∷ bs) (suc k) a h e = unique_both (is_chunk_unique b) (all_unique (insert bs k a)) (unique_first (is_chunk_unique b) (all_unique bs) e) (unique_insert bs k a h (unique_rest (is_chunk_unique b) (all_unique bs) e))
 
-pub own_remove : {X : Type 0} (bs : List (Chunk X)) (k : ℕ) → all_unique bs ≡ true → all_unique (remove bs k) ≡ true
-own_remove [] zero e = e
-own_remove [] (suc k) e = e
-own_remove (b ∷ bs) zero e = own_rest (is_chunk_unique b) (all_unique bs) e
-own_remove (b ∷ bs) (suc k) e = own_both (is_chunk_unique b) (all_unique (remove bs k)) (own_first (is_chunk_unique b) (all_unique bs) e) (own_remove bs k (own_rest (is_chunk_unique b) (all_unique bs) e))
+pub unique_remove : {X : Type 0} (bs : List (Chunk X)) (k : ℕ) → all_unique bs ≡ true → all_unique (remove bs k) ≡ true
+unique_remove [] zero e = e
+unique_remove [] (suc k) e = e
+unique_remove (b ∷ bs) zero e = unique_rest (is_chunk_unique b) (all_unique bs) e
+unique_remove (b ∷ bs) (suc k) e = unique_both (is_chunk_unique b) (all_unique (remove bs k)) (unique_first (is_chunk_unique b) (all_unique bs) e) (unique_remove bs k (unique_rest (is_chunk_unique b) (all_unique bs) e))
 
 get_first : {X : Type 0} (bs : List X) (k : ℕ) (e d : X) → k < length bs → get_or (insert bs (suc k) e) k d ≡ get_or bs k d
 get_first [] k e d h = absurd (omega (arith, h))
@@ -220,11 +220,11 @@ get_before bs k e d h =
     ap (λ n. get_or (insert bs n e) k d) s ∙ get_first bs k e d h
 
 -- a replacement that is unique if the old chunk was
-pub own_changed : {X : Type 0} (bs : List (Chunk X)) (k : ℕ) (a d : Chunk X) → k < length bs → d ≡ get_or bs k d → (is_chunk_unique d ≡ true → is_chunk_unique a ≡ true) → all_unique bs ≡ true → all_unique (set bs k a) ≡ true
-own_changed bs k a d h e keeps all = own_set bs k a (keeps (ap is_chunk_unique e ∙ own_at bs k d h all)) all
+pub unique_changed : {X : Type 0} (bs : List (Chunk X)) (k : ℕ) (a d : Chunk X) → k < length bs → d ≡ get_or bs k d → (is_chunk_unique d ≡ true → is_chunk_unique a ≡ true) → all_unique bs ≡ true → all_unique (set bs k a) ≡ true
+unique_changed bs k a d h e keeps all = unique_set bs k a (keeps (ap is_chunk_unique e ∙ unique_at bs k d h all)) all
 
-pub own_inserted : {X : Type 0} (bs : List (Chunk X)) (k : ℕ) (a e d : Chunk X) → k < length bs → is_chunk_unique e ≡ true → d ≡ get_or bs k d → (is_chunk_unique d ≡ true → is_chunk_unique a ≡ true) → all_unique bs ≡ true → all_unique (set (insert bs (k + 1) e) k a) ≡ true
-own_inserted bs k a e d h o v keeps all = own_set (insert bs (k + 1) e) k a (keeps (ap is_chunk_unique v ∙ own_at bs k d h all)) (own_insert bs (k + 1) e o all)
+pub unique_inserted : {X : Type 0} (bs : List (Chunk X)) (k : ℕ) (a e d : Chunk X) → k < length bs → is_chunk_unique e ≡ true → d ≡ get_or bs k d → (is_chunk_unique d ≡ true → is_chunk_unique a ≡ true) → all_unique bs ≡ true → all_unique (set (insert bs (k + 1) e) k a) ≡ true
+unique_inserted bs k a e d h o v keeps all = unique_set (insert bs (k + 1) e) k a (keeps (ap is_chunk_unique v ∙ unique_at bs k d h all)) (unique_insert bs (k + 1) e o all)
 
 pub false_cond : (a b : Bool) → b ≡ false → cond a b false ≡ false
 false_cond true b e = e
@@ -283,8 +283,8 @@ among_set f (b ∷ bs) index (suc k) i a h s w =
 
 -- ---- the models that clones share
 
-abbrev pub seen_blocks : {X S : Type 0} → (X → S) → Chunk (Chunk X) → List (List S × Bool) × Bool
-seen_blocks f b = (map (chunk_model f) (items_of b), is_chunk_unique b)
+abbrev pub seen_chunks : {X S : Type 0} → (X → S) → Chunk (Chunk X) → List (List S × Bool) × Bool
+seen_chunks f b = (map (chunk_model f) (items_of b), is_chunk_unique b)
 
 abbrev pub seen_all : {X S : Type 0} → (X → S) → Chunk (Chunk X) → List S × Bool
 seen_all f b = (flatten_models f (items_of b), cond (is_chunk_unique b) (all_unique (items_of b)) false)
@@ -293,44 +293,44 @@ abbrev pub flatten_pairs : {S : Type 0} → List (List S × Bool) → List S
 flatten_pairs [] = []
 flatten_pairs (p ∷ ps) = p.0 ++ flatten_pairs ps
 
-abbrev flat_own : {S : Type 0} → List (List S × Bool) → Bool
-flat_own [] = true
-flat_own (p ∷ ps) = cond p.1 (flat_own ps) false
+abbrev flat_unique : {S : Type 0} → List (List S × Bool) → Bool
+flat_unique [] = true
+flat_unique (p ∷ ps) = cond p.1 (flat_unique ps) false
 
 pub flat_joined : {X S : Type 0} (f : X → S) (bs : List (Chunk X)) → flatten_models f bs ≡ flatten_pairs (map (chunk_model f) bs)
 flat_joined f [] = refl
 flat_joined f (b ∷ bs) = ap (λ l. map f (items_of b) ++ l) (flat_joined f bs)
 
-flat_all_own : {X S : Type 0} (f : X → S) (bs : List (Chunk X)) → all_unique bs ≡ flat_own (map (chunk_model f) bs)
-flat_all_own f [] = refl
-flat_all_own f (b ∷ bs) = ap (λ o. cond (is_chunk_unique b) o false) (flat_all_own f bs)
+flat_all_unique : {X S : Type 0} (f : X → S) (bs : List (Chunk X)) → all_unique bs ≡ flat_unique (map (chunk_model f) bs)
+flat_all_unique f [] = refl
+flat_all_unique f (b ∷ bs) = ap (λ o. cond (is_chunk_unique b) o false) (flat_all_unique f bs)
 
 pub joined_alike : {X S : Type 0} (f : X → S) (bs cs : List (Chunk X)) → map (chunk_model f) bs ≡ map (chunk_model f) cs → flatten_models f bs ≡ flatten_models f cs
 joined_alike f bs cs e = flat_joined f bs ∙ ap flatten_pairs e ∙ sym (flat_joined f cs)
 
-pub own_alike : {X S : Type 0} (f : X → S) (bs cs : List (Chunk X)) → map (chunk_model f) bs ≡ map (chunk_model f) cs → all_unique bs ≡ all_unique cs
-own_alike f bs cs e = flat_all_own f bs ∙ ap flat_own e ∙ sym (flat_all_own f cs)
+pub unique_alike : {X S : Type 0} (f : X → S) (bs cs : List (Chunk X)) → map (chunk_model f) bs ≡ map (chunk_model f) cs → all_unique bs ≡ all_unique cs
+unique_alike f bs cs e = flat_all_unique f bs ∙ ap flat_unique e ∙ sym (flat_all_unique f cs)
 
 abbrev pub flat_among : {S : Type 0} → List (List S × Bool) → ℕ → Bool
 flat_among [] i = true
 flat_among (p ∷ ps) i = if ltb i (length p.0) then p.1 else flat_among ps (i - length p.0)
 
-pub flat_own_among : {X S : Type 0} (f : X → S) (bs : List (Chunk X)) (i : ℕ) → is_unique_at bs i ≡ flat_among (map (chunk_model f) bs) i
-flat_own_among f [] i = refl
-flat_own_among f (b ∷ bs) i =
+pub flat_unique_among : {X S : Type 0} (f : X → S) (bs : List (Chunk X)) (i : ℕ) → is_unique_at bs i ≡ flat_among (map (chunk_model f) bs) i
+flat_unique_among f [] i = refl
+flat_unique_among f (b ∷ bs) i =
     ap (λ n. if ltb i n then is_chunk_unique b else is_unique_at bs (i - n)) (sym (length-map (items_of b) f))
-    ∙ ap (λ t. if ltb i (length (map f (items_of b))) then is_chunk_unique b else t) (flat_own_among f bs (i - length (map f (items_of b))))
+    ∙ ap (λ t. if ltb i (length (map f (items_of b))) then is_chunk_unique b else t) (flat_unique_among f bs (i - length (map f (items_of b))))
 
 pub among_alike : {X S : Type 0} (f : X → S) (bs cs : List (Chunk X)) → map (chunk_model f) bs ≡ map (chunk_model f) cs → (i : ℕ) → is_unique_at bs i ≡ is_unique_at cs i
-among_alike f bs cs e i = flat_own_among f bs i ∙ ap (λ l. flat_among l i) e ∙ sym (flat_own_among f cs i)
+among_alike f bs cs e i = flat_unique_among f bs i ∙ ap (λ l. flat_among l i) e ∙ sym (flat_unique_among f cs i)
 
 abbrev seen_many : {S : Type 0} → List (List S × Bool) × Bool → List S × Bool
-seen_many p = (flatten_pairs p.0, cond p.1 (flat_own p.0) false)
+seen_many p = (flatten_pairs p.0, cond p.1 (flat_unique p.0) false)
 
-many_flat : {X S : Type 0} (f : X → S) (a : Chunk (Chunk X)) → seen_all f a ≡ seen_many (seen_blocks f a)
-many_flat f a = λ i. (flat_joined f (items_of a) i, cond (is_chunk_unique a) (flat_all_own f (items_of a) i) false)
+many_flat : {X S : Type 0} (f : X → S) (a : Chunk (Chunk X)) → seen_all f a ≡ seen_many (seen_chunks f a)
+many_flat f a = λ i. (flat_joined f (items_of a) i, cond (is_chunk_unique a) (flat_all_unique f (items_of a) i) false)
 
-pub many_alike : {X S : Type 0} (f : X → S) (a b : Chunk (Chunk X)) → seen_blocks f a ≡ seen_blocks f b → seen_all f a ≡ seen_all f b
+pub many_alike : {X S : Type 0} (f : X → S) (a b : Chunk (Chunk X)) → seen_chunks f a ≡ seen_chunks f b → seen_all f a ≡ seen_all f b
 many_alike f a b e = many_flat f a ∙ ap seen_many e ∙ sym (many_flat f b)
 
 -- ---- views of items
@@ -386,8 +386,8 @@ pub seen_of_ref : {X S : Type 0} (f : X → S) (r : Option (Bor X)) (o : Option 
 seen_of_ref f None o e = ap (option_map f) e
 seen_of_ref f (Some x) o e = ap (option_map f) e
 
-past_of : (i n : ℕ) → false ≡ ltb i n → n ≤ i
-past_of i n e = ltb-false i n (sym e)
+after_of : (i n : ℕ) → false ≡ ltb i n → n ≤ i
+after_of i n e = ltb-false i n (sym e)
 
 within_of : (i n : ℕ) → true ≡ ltb i n → i < n
 within_of i n e = ltb-true i n (sym e)
@@ -404,13 +404,13 @@ get_some (x ∷ xs) (suc i) d h = get_some xs i d (omega (arith, h))
 
 pub seen_of_mut : {X S : Type 0} (f : X → S) (r : Option (MutBor X)) (xs : List X) (i : ℕ) → is_some r ≡ ltb i (length xs) → IfSome r (λ x. x.now ≡ get_or xs i x.now)
     → option_map (λ x. f x.now) r ≡ slice_get (map f xs) i
-seen_of_mut f None xs i b e = sym (map_get f xs i ∙ ap (option_map f) (get_none xs i (past_of i (length xs) b)))
+seen_of_mut f None xs i b e = sym (map_get f xs i ∙ ap (option_map f) (get_none xs i (after_of i (length xs) b)))
 seen_of_mut f (Some x) xs i b e = sym (map_get f xs i ∙ ap (option_map f) (get_some xs i x.now (within_of i (length xs) b) ∙ ap Some (sym e)))
 
 -- a borrowed item is the one that was found
-pub lent_item : {X S : Type 0} (f : X → S) (r : Option (MutBor X)) (o : Option S) → option_map (λ x. f x.now) r ≡ o → IfSome r (λ x. o ≡ Some (f x.now))
-lent_item f None o e = tt
-lent_item f (Some x) o e = sym e
+pub borrowed_item : {X S : Type 0} (f : X → S) (r : Option (MutBor X)) (o : Option S) → option_map (λ x. f x.now) r ≡ o → IfSome r (λ x. o ≡ Some (f x.now))
+borrowed_item f None o e = tt
+borrowed_item f (Some x) o e = sym e
 
 pub if_some_also : {A P Q : Type 0} (r : Option A) → IfSome r (λ _. P) → (P → Q) → IfSome r (λ _. Q)
 if_some_also None p h = tt
@@ -424,14 +424,14 @@ if_some (Some x) p = p
 
 -- ---- chunks that are split off, the last first
 
-pub own_more : {X : Type 0} (bs : List (Chunk X)) (b : Chunk X) → all_unique bs ≡ true → is_chunk_unique b ≡ true → all_unique (bs ++ b ∷ []) ≡ true
-own_more [] b all own = own_both (is_chunk_unique b) true own refl
-own_more (a ∷ bs) b all own =
-    own_both (is_chunk_unique a) (all_unique (bs ++ b ∷ [])) (own_first (is_chunk_unique a) (all_unique bs) all) (own_more bs b (own_rest (is_chunk_unique a) (all_unique bs) all) own)
+pub unique_more : {X : Type 0} (bs : List (Chunk X)) (b : Chunk X) → all_unique bs ≡ true → is_chunk_unique b ≡ true → all_unique (bs ++ b ∷ []) ≡ true
+unique_more [] b all own = unique_both (is_chunk_unique b) true own refl
+unique_more (a ∷ bs) b all own =
+    unique_both (is_chunk_unique a) (all_unique (bs ++ b ∷ [])) (unique_first (is_chunk_unique a) (all_unique bs) all) (unique_more bs b (unique_rest (is_chunk_unique a) (all_unique bs) all) own)
 
-pub own_reverse : {X : Type 0} (bs : List (Chunk X)) → all_unique bs ≡ true → all_unique (reverse bs) ≡ true
-own_reverse [] all = refl
-own_reverse (b ∷ bs) all = ap all_unique (reverse-append (b ∷ []) bs) ∙ own_more (reverse bs) b (own_reverse bs (own_rest (is_chunk_unique b) (all_unique bs) all)) (own_first (is_chunk_unique b) (all_unique bs) all)
+pub unique_reverse : {X : Type 0} (bs : List (Chunk X)) → all_unique bs ≡ true → all_unique (reverse bs) ≡ true
+unique_reverse [] all = refl
+unique_reverse (b ∷ bs) all = ap all_unique (reverse-append (b ∷ []) bs) ∙ unique_more (reverse bs) b (unique_reverse bs (unique_rest (is_chunk_unique b) (all_unique bs) all)) (unique_first (is_chunk_unique b) (all_unique bs) all)
 
 pub cut_off : {X : Type 0} (xs ms : List X) (bs cs : List (Chunk X)) (b : Chunk X) (n : ℕ) → ms ≡ take n xs → items_of b ≡ drop n xs → cs ≡ bs ++ b ∷ []
     → ms ++ flat_map items_of (reverse cs) ≡ xs ++ flat_map items_of (reverse bs)

@@ -11,7 +11,7 @@ use Rattle.sdb_chunks.specs.Position.{IsInsertPosition, IsItemPosition}
 use Rattle.sdb_chunks.specs.declared.chunk.Chunk.{Chunk}
 use Rattle.sdb_chunks.specs.declared.chunk.Chunk.TheVariants.{Unique, Shared}
 use Rattle.sdb_chunks.specs.declared.chunk_group.ChunkGroup.{ChunkGroup}
-use Rattle.sdb_chunks.proofs.FlattenLemmas.{append_none, joined_append, joined_alike, joined_more, seen_blocks, flatten_pairs, flat_among, flat_joined, flat_own_among, if_same, if_other}
+use Rattle.sdb_chunks.proofs.FlattenLemmas.{append_none, joined_append, joined_alike, joined_more, seen_chunks, flatten_pairs, flat_among, flat_joined, flat_unique_among, if_same, if_other}
 
 pub no_items : {X : Type 0} (xs : List X) → length xs ≡ 0 → xs ≡ []
 no_items [] h = refl
@@ -41,8 +41,8 @@ few_together : {X : Type 0} (bs : List (Chunk X)) → length (flat_map items_of 
 few_together [] = omega arith
 few_together (b ∷ bs) = let n = length-append (items_of b) (flat_map items_of bs) in omega (arith, n, few_items b, few_together bs)
 
-pub few_in_blocks : {X : Type 0} (bs : Chunk (Chunk X)) → length (flat_map items_of (items_of bs)) < 340282366920938463463374607431768211455
-few_in_blocks bs = omega (arith, few_items bs, few_together (items_of bs))
+pub few_in_chunks : {X : Type 0} (bs : Chunk (Chunk X)) → length (flat_map items_of (items_of bs)) < 340282366920938463463374607431768211455
+few_in_chunks bs = omega (arith, few_items bs, few_together (items_of bs))
 
 module _ {X S : Type 0} (f : X → S) where
   pub number_seen : (bs : List (Chunk X)) → length (flatten_models f bs) ≡ length (flat_map items_of bs)
@@ -95,9 +95,9 @@ module _ {X S : Type 0} (f : X → S) where
     within = λ d. let n = ap (λ x. length (group_models f x)) (e ∙ any_default gs k g d h) in omega (arith, w, n, number_seen (group_chunks g));
   }
 
-  pub offset_past_group : (gs : List (ChunkGroup X)) (index k left n : ℕ) (g : ChunkGroup X) → k < length gs → g ≡ get_or gs k g → length (flatten_group_models f (take k gs)) + left ≡ index
+  pub offset_after_group : (gs : List (ChunkGroup X)) (index k left n : ℕ) (g : ChunkGroup X) → k < length gs → g ≡ get_or gs k g → length (flatten_group_models f (take k gs)) + left ≡ index
       → n ≡ length (flat_map items_of (group_chunks g)) → n ≤ left → length (flatten_group_models f (take (k + 1) gs)) + (left - n) ≡ index
-  offset_past_group gs index k left n g h e s c w =
+  offset_after_group gs index k left n g h e s c w =
       let m = ap length (joined_more (group_models f) gs k g h) ∙ length-append (flatten_group_models f (take k gs)) (group_models f (get_or gs k g)) in
       let l = ap (λ x. length (group_models f x)) e in
       omega (arith, m, l, number_seen (group_chunks g), s, c, w)
@@ -134,8 +134,8 @@ module _ {X S : Type 0} (f : X → S) where
       ∙ grouped_set gs (index - g.count) k i a (omega (arith, h)) t w
 
   -- ---- the models that clones of groups share
-  abbrev pub seen_blocks_of : ChunkGroup X → List (List S × Bool) × Bool
-  seen_blocks_of g = seen_blocks f g.chunks
+  abbrev pub seen_chunks_of : ChunkGroup X → List (List S × Bool) × Bool
+  seen_chunks_of g = seen_chunks f g.chunks
 
 abbrev all_flat : {S : Type 0} → List (List (List S × Bool) × Bool) → List S
 all_flat [] = []
@@ -194,21 +194,21 @@ module _ {X S : Type 0} (f : X → S) where
       ∙ ap (λ l. flatten_models f (take i bs) ++ l) (ap (flatten_models f) is ∙ joined_alike f us (take n (drop i bs)) seen ∙ ap (λ k. flatten_models f (take k (drop i bs))) count)
       ∙ sym (joined_append (chunk_models f) (take i bs) (take m (drop i bs))) ∙ ap (flatten_models f) (sym (take_next bs i m))
 
-  flat_groups : (gs : List (ChunkGroup X)) → flatten_group_models f gs ≡ all_flat (map (seen_blocks_of f) gs)
+  flat_groups : (gs : List (ChunkGroup X)) → flatten_group_models f gs ≡ all_flat (map (seen_chunks_of f) gs)
   flat_groups [] = refl
   flat_groups (g ∷ gs) = ap (λ l. l ++ flatten_group_models f gs) (flat_joined f (group_chunks g)) ∙ ap (λ l. flatten_pairs (map (chunk_model f) (group_chunks g)) ++ l) (flat_groups gs)
 
-  flat_in_groups : (gs : List (ChunkGroup X)) (i : ℕ) → is_unique_in_groups_at gs i ≡ all_among (map (seen_blocks_of f) gs) i
+  flat_in_groups : (gs : List (ChunkGroup X)) (i : ℕ) → is_unique_in_groups_at gs i ≡ all_among (map (seen_chunks_of f) gs) i
   flat_in_groups [] i = refl
   flat_in_groups (g ∷ gs) i =
       let n : g.count ≡ length (flatten_pairs (map (chunk_model f) (group_chunks g))) = sym (seen_count f g) ∙ ap length (flat_joined f (group_chunks g)) in
       let m = length (flatten_pairs (map (chunk_model f) (group_chunks g))) in
       ap (λ l. if ltb i l then is_unique_group_at g i else is_unique_in_groups_at gs (i - l)) n
-      ∙ ap (λ o. if ltb i m then cond (is_chunk_unique g.chunks) o false else is_unique_in_groups_at gs (i - m)) (flat_own_among f (group_chunks g) i)
+      ∙ ap (λ o. if ltb i m then cond (is_chunk_unique g.chunks) o false else is_unique_in_groups_at gs (i - m)) (flat_unique_among f (group_chunks g) i)
       ∙ ap (λ o. if ltb i m then cond (is_chunk_unique g.chunks) (flat_among (map (chunk_model f) (group_chunks g)) i) false else o) (flat_in_groups gs (i - m))
 
-  pub groups_alike : (gs hs : List (ChunkGroup X)) → map (seen_blocks_of f) gs ≡ map (seen_blocks_of f) hs → flatten_group_models f gs ≡ flatten_group_models f hs
+  pub groups_alike : (gs hs : List (ChunkGroup X)) → map (seen_chunks_of f) gs ≡ map (seen_chunks_of f) hs → flatten_group_models f gs ≡ flatten_group_models f hs
   groups_alike gs hs e = flat_groups gs ∙ ap all_flat e ∙ sym (flat_groups hs)
 
-  pub in_groups_alike : (gs hs : List (ChunkGroup X)) → map (seen_blocks_of f) gs ≡ map (seen_blocks_of f) hs → (i : ℕ) → is_unique_in_groups_at gs i ≡ is_unique_in_groups_at hs i
+  pub in_groups_alike : (gs hs : List (ChunkGroup X)) → map (seen_chunks_of f) gs ≡ map (seen_chunks_of f) hs → (i : ℕ) → is_unique_in_groups_at gs i ≡ is_unique_in_groups_at hs i
   in_groups_alike gs hs e i = flat_in_groups gs i ∙ ap (λ l. all_among l i) e ∙ sym (flat_in_groups hs i)

@@ -51,28 +51,28 @@ steps_add [] = omega arith
 steps_add (s ∷ p) = omega (arith, length-append {A = Token}, steps_add p)
 
 -- the members after the path have an end
-pub behind_path_ends : (a : PlainAct) → length (object_tail_tokens raw.no_members) ≤ length (object_tail_tokens (members_after_path a))
-behind_path_ends (na x) = omega arith
-behind_path_ends (si i s) = omega arith
-behind_path_ends (sd i s) = omega arith
-behind_path_ends (li i v) = omega arith
-behind_path_ends (ld i x) = omega arith
-behind_path_ends (lr i x y) = omega arith
-behind_path_ends (oi k v) = omega arith
-behind_path_ends (od k x) = omega arith
-behind_path_ends (or k x y) = omega arith
+pub after_path_ends : (a : PlainAct) → length (object_tail_tokens raw.no_members) ≤ length (object_tail_tokens (members_after_path a))
+after_path_ends (na x) = omega arith
+after_path_ends (si i s) = omega arith
+after_path_ends (sd i s) = omega arith
+after_path_ends (li i v) = omega arith
+after_path_ends (ld i x) = omega arith
+after_path_ends (lr i x y) = omega arith
+after_path_ends (oi k v) = omega arith
+after_path_ends (od k x) = omega arith
+after_path_ends (or k x y) = omega arith
 
 -- a prefix of the values, and one of what follows them
-pub front_of_values : (a : PlainAct) (p : raw.Data) (start begun new : List Token) → begun ≡ start ++ begin_object ∷ []
+pub prefix_of_values : (a : PlainAct) (p : raw.Data) (start begun new : List Token) → begun ≡ start ++ begin_object ∷ []
     → ((rest : raw.Members) → WritesFront begun new (object_tail_tokens (members_before_path a rest))) → WritesFront start new (data_tokens (raw.object (act_members a p)))
-front_of_values a p start begun new e w =
+prefix_of_values a p start begun new e w =
     let rest = raw.member (codes "p") p (members_after_path a) in
     writes_prefix_after start begun new (begin_object ∷ []) (object_tail_tokens (members_before_path a rest)) _ e (ap (λ ms. begin_object ∷ object_tail_tokens ms) (sym (in_order a p))) (w rest)
 
-pub front_behind_values : (a : PlainAct) (p : raw.Data) (start values new : List Token)
+pub prefix_after_values : (a : PlainAct) (p : raw.Data) (start values new : List Token)
     → ((rest : raw.Members) → values ++ object_tail_tokens rest ≡ (start ++ begin_object ∷ []) ++ object_tail_tokens (members_before_path a rest))
     → WritesFront values new (object_tail_tokens (raw.member (codes "p") p (members_after_path a))) → WritesFront start new (data_tokens (raw.object (act_members a p)))
-front_behind_values a p start values new v =
+prefix_after_values a p start values new v =
     let rest = raw.member (codes "p") p (members_after_path a) in
     let same = v rest ∙ append_assoc start _ _ ∙ ap (λ ms. start ++ begin_object ∷ object_tail_tokens ms) (in_order a p) in
     writes_prefix_of_rest start values new (object_tail_tokens rest) (begin_object ∷ object_tail_tokens (act_members a p)) same (omega (arith, before_path_adds a rest, ap (λ ms. length (object_tail_tokens ms)) (in_order a p)))

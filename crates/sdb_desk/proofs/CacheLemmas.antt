@@ -15,11 +15,11 @@ use Rattle.sdb_desk.specs.Reads.{CacheAfterOffer, CacheAfterRead}
 use Rattle.sdb_desk.specs.DocumentModel.{IsMadeDocument, IsDocument, IsReplayStart}
 
 -- with another cache of snapshots
-pub with_kept : (log : List PlainEntry) (present : Option Json) (kept other : List Snapshot) → AreSnapsOf log other → IsDocument log present kept → IsDocument log present other
-with_kept log present kept other snaps d = record { is_made = d.is_made; not_empty = d.not_empty; cache_is_snaps = snaps }
+pub with_unchanged : (log : List PlainEntry) (present : Option Json) (kept other : List Snapshot) → AreSnapsOf log other → IsDocument log present kept → IsDocument log present other
+with_unchanged log present kept other snaps d = record { is_made = d.is_made; not_empty = d.not_empty; cache_is_snaps = snaps }
 
 pub with_used : (log : List PlainEntry) (present : Option Json) (kept other : List Snapshot) (v : ℕ) → other ≡ promote_nearest v kept → IsDocument log present kept → IsDocument log present other
-with_used log present kept other v is d = with_kept log present kept other (subst (AreSnapsOf log) (sym is) (snaps_of_promoted_nearest log v kept d.cache_is_snaps)) d
+with_used log present kept other v is d = with_unchanged log present kept other (subst (AreSnapsOf log) (sym is) (snaps_of_promoted_nearest log v kept d.cache_is_snaps)) d
 
 -- the version at which a replay starts
 pub begins_up_to : (v w : ℕ) (o : Option Snapshot) (kept : List Snapshot) (d : Option Value) → nearest v kept ≡ o → IsReplayStart o w d → w ≤ v

@@ -55,9 +55,9 @@ base_up_to : (v w : ℕ) → w ≤ v → w + (v - w) ≡ v
 base_up_to v w le = omega (arith, le)
 
 -- the entries from an older version on
-pub lends_from : (log : List PlainEntry) (v w : ℕ) (d : Option Value) (es : List PlainEntry) → is_some (snap log) ≡ true → v ≤ length log → w ≤ v
+pub replays_from : (log : List PlainEntry) (v w : ℕ) (d : Option Value) (es : List PlainEntry) → is_some (snap log) ≡ true → v ≤ length log → w ≤ v
     → snap (take w log) ≡ Some d → es ≡ take (v - w) (drop w log) → IsReplayBase log v (record { version = w; snapshot = d; entries = es })
-lends_from log v w d es lives within le is entries =
+replays_from log v w d es lives within le is entries =
     let at = base_up_to v w le in
     let here : es ≡ drop w (take v log) = entries ∙ sym (drop-take w (v - w) log) ∙ ap (λ n. drop w (take n log)) at in (
       within,
@@ -71,9 +71,9 @@ no_entries_after v log =
     ap (λ n. drop v (take n log)) (sym z) ∙ drop-take v 0 log
 
 -- the current document
-pub lends_present : (log : List PlainEntry) (v : ℕ) (d : Option Value) → v ≡ length log → d ≡ document_of log
+pub replays_present : (log : List PlainEntry) (v : ℕ) (d : Option Value) → v ≡ length log → d ≡ document_of log
     → IsReplayBase log v (record { version = v; snapshot = d; entries = [] })
-lends_present log v d is same =
+replays_present log v d is same =
     let n = is in (
       omega (arith, n),
       sym (no_entries_after v log),

@@ -37,9 +37,9 @@ decided_stored p log s now content made is settles =
     let P : PlainReservedAppend → Type 0 = λ q. decide log s now ≡ record { reply = stored (length log) (missed_entries log s); log = q.log ++ appended_entry q now content ∷ [] } in
     subst P (sym is) (decides_stored log s now (unwrap_or content s.content) made settles.new.is_new settles.new.has_room settles.new.version_reached settles.rebased_is settles.makes)
 
-pub keeps_stored : (r : List PlainEntry) (p : PlainReservedAppend) (log : List PlainEntry) (s : PlainSubmission) (now : ℕ) (content : Option PlainContent) (old made : Option Json) → r ≡ p.log ++ appended_entry p now content ∷ []
+pub preserves_stored : (r : List PlainEntry) (p : PlainReservedAppend) (log : List PlainEntry) (s : PlainSubmission) (now : ℕ) (content : Option PlainContent) (old made : Option Json) → r ≡ p.log ++ appended_entry p now content ∷ []
     → p ≡ prepared_of log s → IsMadeDocument log old → WillStore log s content (option_map value_of made) → IsMadeDocument r made
-keeps_stored r p log s now content old made is of keeps settles =
+preserves_stored r p log s now content old made is of keeps settles =
     let P : List PlainEntry → Type 0 = λ l. IsMade l in record {
       makes = ap snap is ∙ makes_stored p log s now content old (option_map value_of made) of keeps settles;
       made = subst P (sym (is ∙ sym (ap (λ d. d.log) (decided_stored p log s now content (option_map value_of made) of settles)))) (made_of_decide log s now keeps.made);
@@ -75,8 +75,8 @@ made_stored (edit op) (Some d) made e = refl
 pub settled_takes_memory : (log : List PlainEntry) (s : PlainSubmission) (m : PlainContent) (made : Option Value) → CanStore log s → rebase s.content (missed_entries log s) ≡ Ok m → apply_content m (document_of log) ≡ Ok made → decide_allocates log s ≡ true
 settled_takes_memory log s m made new over makes = apply_allocates_decide log s m new.is_new new.has_room new.version_reached over (made_stored m (document_of log) made makes)
 
-pub keeps_same : (r log : List PlainEntry) (old new : Option Json) → r ≡ log → option_map value_of new ≡ option_map value_of old → IsMadeDocument log old → IsMadeDocument r new
-keeps_same r log old new is same keeps = let P : List PlainEntry → Type 0 = λ l. IsMade l in record {
+pub preserves_same : (r log : List PlainEntry) (old new : Option Json) → r ≡ log → option_map value_of new ≡ option_map value_of old → IsMadeDocument log old → IsMadeDocument r new
+preserves_same r log old new is same keeps = let P : List PlainEntry → Type 0 = λ l. IsMade l in record {
   makes = ap snap is ∙ keeps.makes ∙ ap Some (sym same);
   made = subst P (sym is) keeps.made;
 }

@@ -44,13 +44,13 @@ subscribe_refused log by v s q new code is free h same =
     (out_of_memory_or_refusal (open_queue by (unwrap_or v (length log)) q) code (subst (λ m. IsRefusalOrOutOfMemory (open_queue by m q) code) at h))
 
 -- the allocation of the document failed
-pub read_wanting : {A : Type 0} (takes : A → Bool) (code : Code) (x : A) → ReadOrOutOfMemory takes (Err code) (Ok x) → code ≡ E10
-read_wanting takes code x (inl h) = let w = h.0 in cc
-read_wanting takes code x (inr h) = cc
+pub read_out_of_memory : {A : Type 0} (takes : A → Bool) (code : Code) (x : A) → ReadOrOutOfMemory takes (Err code) (Ok x) → code ≡ E10
+read_out_of_memory takes code x (inl h) = let w = h.0 in cc
+read_out_of_memory takes code x (inr h) = cc
 
-pub subscribe_wanting : (log : List PlainEntry) (by : ℕ) (v : Option ℕ) (s : ℕ) (q new : PlainQueues) (code : Code) → queue_start log v ≡ Ok s → nat_eq q.next 18446744073709551615 ≡ false → code ≡ E10 → new ≡ q
+pub subscribe_out_of_memory : (log : List PlainEntry) (by : ℕ) (v : Option ℕ) (s : ℕ) (q new : PlainQueues) (code : Code) → queue_start log v ≡ Ok s → nat_eq q.next 18446744073709551615 ≡ false → code ≡ E10 → new ≡ q
     → SubscribesOrOutOfMemory log by v q (Err code) new
-subscribe_wanting log by v s q new code is free e same =
+subscribe_out_of_memory log by v s q new code is free e same =
     let test = nat_lt (length log) (unwrap_or v (length log)) in
     subscribes_or log by v q new code (start_seen log v test s refl is) free same (inl e)
 

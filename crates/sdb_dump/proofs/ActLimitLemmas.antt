@@ -170,9 +170,9 @@ all_at p n [] h s k = tt
 all_at p n (a ∷ xs) h s k =
     (record { path = h; short = omega (arith, whole_length p a, k.1, s); act = k.0 }, all_at p n xs h s k.2)
 
-fit_front : (p q : List PlainStep) → StepsInLimits (p ++ q) → StepsInLimits q
-fit_front [] q h = h
-fit_front (s ∷ p) q h = fit_front p q h.1
+fit_prefix : (p q : List PlainStep) → StepsInLimits (p ++ q) → StepsInLimits q
+fit_prefix [] q h = h
+fit_prefix (s ∷ p) q h = fit_prefix p q h.1
 
 fit_with : (p q : List PlainStep) (s : PlainStep) → StepsInLimits p → StepInLimits s → StepsInLimits q → StepsInLimits (p ++ s ∷ q)
 fit_with [] q s h k g = (k, g)
@@ -215,7 +215,7 @@ moved_fits : (c o : PlainComponent) (rest : List PlainStep) (s : PlainStep) (m :
 moved_fits c o rest s None e h k g = tt
 moved_fits c o rest s (Some None) e h k g = tt
 moved_fits c o rest s (Some (Some t)) e h k g =
-    let after = fit_front o.path (s ∷ rest) (subst StepsInLimits e h.path) in
+    let after = fit_prefix o.path (s ∷ rest) (subst StepsInLimits e h.path) in
     let was : length c.path ≡ length o.path + suc (length rest) = ap length e ∙ length-append o.path (s ∷ rest) in
     let now : length (o.path ++ t ∷ rest) ≡ length o.path + suc (length rest) = length-append o.path (t ∷ rest) in (
       record {
@@ -231,7 +231,7 @@ below_fits side c o [] e h k =
     opt_map (AllActsInLimits (length (last_step c.act))) (ComponentsInLimits 100) (map (component_at c.path)) (transform_act side c.act o.act) (over_fits side c.act o.act h.act k.act) (λ xs a.
     all_at c.path (length (last_step c.act)) xs h.path (omega (arith, whole_length c.path c.act, h.short)) a)
 below_fits side c o (s ∷ rest) e h k =
-    let after = fit_front o.path (s ∷ rest) (subst StepsInLimits e h.path) in
+    let after = fit_prefix o.path (s ∷ rest) (subst StepsInLimits e h.path) in
     moved_fits c o rest s (transform_step o.act s) e h k (step_fits o.act s after.0)
 
 updated_fits : (x : Value) (r : Option Value) → ValueInLimits 100 x → IfSomeHolds (ValueInLimits 100) r → ValueInLimits 100 (option_map_or (λ y. y) r x)
@@ -270,16 +270,16 @@ option_trivial : {A : Type 0} (o : Option A) → IfSomeHolds (λ s. ⊤) o
 option_trivial None = tt
 option_trivial (Some x) = tt
 
-behind_short : (front path : List PlainStep) → IfSomeHolds (λ q. length q ≤ length path) (strip_prefix front path)
-behind_short [] path = omega arith
-behind_short (s ∷ front) [] = tt
-behind_short (s ∷ front) (t ∷ path) = length_bound_cond (steps_equal s t) (strip_prefix front path) (length path) (behind_short front path)
+after_short : (front path : List PlainStep) → IfSomeHolds (λ q. length q ≤ length path) (strip_prefix front path)
+after_short [] path = omega arith
+after_short (s ∷ front) [] = tt
+after_short (s ∷ front) (t ∷ path) = length_bound_cond (steps_equal s t) (strip_prefix front path) (length path) (after_short front path)
 
 under_short : (c : PlainComponent) (path : List PlainStep) → IfSomeHolds (λ q. length q ≤ length path) (strip_removed_path c path)
 under_short c path =
     opt_then (λ s. ⊤) (λ q. length q ≤ length path) (λ s. option_and_then (strip_prefix (s ∷ [])) (strip_prefix c.path path)) (removed_step c.act) (option_trivial (removed_step c.act)) (λ s _.
-    opt_then (λ q. length q ≤ length path) (λ q. length q ≤ length path) (strip_prefix (s ∷ [])) (strip_prefix c.path path) (behind_short c.path path) (λ q l.
-    length_bound_mono (length q) (length path) (strip_prefix (s ∷ []) q) l (behind_short (s ∷ []) q)))
+    opt_then (λ q. length q ≤ length path) (λ q. length q ≤ length path) (strip_prefix (s ∷ [])) (strip_prefix c.path path) (after_short c.path path) (λ q l.
+    length_bound_mono (length q) (length path) (strip_prefix (s ∷ []) q) l (after_short (s ∷ []) q)))
 
 pub transform_in_limits_cases : (side : Side) (c o : PlainComponent) (r : Option (List PlainStep)) → strip_prefix o.path c.path ≡ r → ComponentInLimits 100 c → ComponentInLimits 100 o
     → IfSomeHolds (ComponentsInLimits 100) (option_map_or (transform_below side c o) r (Some (update_removed c o (strip_removed_path c o.path))))

@@ -43,9 +43,9 @@ cross_fits (suc n) (l ∷ L) (r ∷ R) h k =
     then_fits BothInLimits BothInLimits (cross_in (transform Left) (transform Right) n v.left u.right) _ (cross_fits n v.left u.right b.0 a.1) (λ w c.
     (append_fits u.left w.left a.0 c.0, append_fits v.right w.right b.1 c.1))))))
 
-carried_fits : (op other : List PlainComponent) → ComponentsInLimits 100 op → ComponentsInLimits 100 other → IfSomeHolds (ComponentsInLimits 100) (transform_op Left op other)
+rebased_fits : (op other : List PlainComponent) → ComponentsInLimits 100 op → ComponentsInLimits 100 other → IfSomeHolds (ComponentsInLimits 100) (transform_op Left op other)
 unfolding cross
-carried_fits op other h k = opt_map BothInLimits (ComponentsInLimits 100) (λ x. x.left) (cross_ops op other) (cross_fits _ op other h k) (λ x b. b.0)
+rebased_fits op other h k = opt_map BothInLimits (ComponentsInLimits 100) (λ x. x.left) (cross_ops op other) (cross_fits _ op other h k) (λ x b. b.0)
 
 -- ---- contents
 
@@ -74,7 +74,7 @@ over_fits delete delete h k = tt
 over_fits (edit op) delete h k = tt
 over_fits (create v) (edit other) h k = tt
 over_fits delete (edit other) h k = tt
-over_fits (edit op) (edit other) h k = edited_fits (transform_op Left op other) (carried_fits op other h k)
+over_fits (edit op) (edit other) h k = edited_fits (transform_op Left op other) (rebased_fits op other h k)
 
 over_all_fits : (es : List PlainEntry) (m : PlainContent) → ContentInLimits 100 m → AllContentsInLimits es → OkInLimits (ContentInLimits 100) (rebase m es)
 over_all_fits [] m h k = h

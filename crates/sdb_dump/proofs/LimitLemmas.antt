@@ -63,13 +63,13 @@ unless_over : {A : Type 0} (P : A → Type 0) (m n : ℕ) (b : Bool) (o : Option
 unless_over P m n true o e h = tt
 unless_over P m n false o e h = let g : n ≤ m = grind (arith, nat_tests) in h g
 
-count_keeps : (d : Data) → IfSome (count_of d) IsSafeInteger
-count_keeps d =
+count_preserves : (d : Data) → IfSome (count_of d) IsSafeInteger
+count_preserves d =
     some_then (λ _. ⊤) IsSafeInteger (λ n. if nat_lt 9007199254740991 n then None else Some n) (option_and_then as_u64 (as_number d)) (some_any (option_and_then as_u64 (as_number d))) (λ n _.
     unless_over IsSafeInteger 9007199254740991 n (nat_lt 9007199254740991 n) (Some n) refl (λ h. h))
 
-value_keeps : (d : Data) → IfSome (bounded_value_of_data d) IsShallow
-value_keeps d =
+value_preserves : (d : Data) → IfSome (bounded_value_of_data d) IsShallow
+value_preserves d =
     some_then (λ _. ⊤) IsShallow (λ v. if nat_lt 50 (depth v) then None else Some v) (value_of_data d) (some_any (value_of_data d)) (λ v _.
     unless_over IsShallow 50 (depth v) (nat_lt 50 (depth v)) (Some v) refl (λ h. h))
 
@@ -84,18 +84,18 @@ name_tested s true true e f =
 name_tested s true false e f = tt
 name_tested s false b e f = tt
 
-name_keeps : (k : List ℕ) (d : Data) → IfSome (name_member k d) IsNameInLimits
-name_keeps k d =
+name_preserves : (k : List ℕ) (d : Data) → IfSome (name_member k d) IsNameInLimits
+name_preserves k d =
     some_then (λ _. ⊤) IsNameInLimits name_value (get k d) (some_any (get k d)) (λ e _.
     some_then (λ _. ⊤) IsNameInLimits (λ s. if nat_lt 0 (length s) && nat_lt (length s) 201 then Some s else None) (as_str e) (some_any (as_str e)) (λ s _.
     name_tested s (nat_lt 0 (length s)) (nat_lt (length s) 201) refl refl))
 
-number_keeps : (k : List ℕ) (d : Data) → IfSome (count_member k d) IsSafeInteger
-number_keeps k d = some_then (λ _. ⊤) IsSafeInteger count_of (get k d) (some_any (get k d)) (λ e _. count_keeps e)
+number_preserves : (k : List ℕ) (d : Data) → IfSome (count_member k d) IsSafeInteger
+number_preserves k d = some_then (λ _. ⊤) IsSafeInteger count_of (get k d) (some_any (get k d)) (λ e _. count_preserves e)
 
 may_keep : (o : Option Data) → IfOkInLimits (read_optional count_of o) OptionalCountInLimits
 may_keep None = tt
-may_keep (Some d) = okay_map IsSafeInteger OptionalCountInLimits (λ n. Some n) (count_of d) E1 (count_keeps d) (λ n h. h)
+may_keep (Some d) = okay_map IsSafeInteger OptionalCountInLimits (λ n. Some n) (count_of d) E1 (count_preserves d) (λ n h. h)
 
 -- ---- contents, submissions, keys
 
@@ -104,16 +104,16 @@ ContentWithin (create v) = IsShallow v
 ContentWithin delete = ⊤
 ContentWithin (edit cs) = AllInRange cs × (length cs ≤ 256)
 
-created_keeps : (d : Data) → IfOkInLimits (created_content d) ContentWithin
-created_keeps d = okay_map IsShallow ContentWithin create (bounded_value_of_data d) E3 (value_keeps d) (λ v h. h)
+created_preserves : (d : Data) → IfOkInLimits (created_content d) ContentWithin
+created_preserves d = okay_map IsShallow ContentWithin create (bounded_value_of_data d) E3 (value_preserves d) (λ v h. h)
 
-typed_keeps : (b : Bool) (d : Data) → IfOkInLimits (if b then created_content d else Err E2) ContentWithin
-typed_keeps true d = created_keeps d
-typed_keeps false d = tt
+typed_preserves : (b : Bool) (d : Data) → IfOkInLimits (if b then created_content d else Err E2) ContentWithin
+typed_preserves true d = created_preserves d
+typed_preserves false d = tt
 
-creation_keeps : (c : Data) (o : Option (List ℕ)) → IfOkInLimits (option_map_or (λ t. if is_type t then created_content (unwrap_or (get (codes "data") c) null) else Err E2) o (Err E1)) ContentWithin
-creation_keeps c None = tt
-creation_keeps c (Some t) = typed_keeps (is_type t) (unwrap_or (get (codes "data") c) null)
+creation_preserves : (c : Data) (o : Option (List ℕ)) → IfOkInLimits (option_map_or (λ t. if is_type t then created_content (unwrap_or (get (codes "data") c) null) else Err E2) o (Err E1)) ContentWithin
+creation_preserves c None = tt
+creation_preserves c (Some t) = typed_preserves (is_type t) (unwrap_or (get (codes "data") c) null)
 
 record SubmissionWithin (s : PlainSubmission) : Type 0 where
   pub src : IsNameInLimits s.src
@@ -126,44 +126,44 @@ record SubmissionWithin (s : PlainSubmission) : Type 0 where
 abbrev KeyWithin : PlainKey → Type 0
 KeyWithin k = IsNameInLimits k.collection × IsNameInLimits k.id
 
-key_keeps : (d : Data) → IfOkInLimits (key_of d) KeyWithin
-key_keeps d =
-    okay_then IsNameInLimits KeyWithin _ (ok_or (name_member (codes "c") d) E1) (okay_or IsNameInLimits (name_member (codes "c") d) E1 (name_keeps (codes "c") d)) (λ c h.
-    okay_then IsNameInLimits KeyWithin _ (ok_or (name_member (codes "d") d) E1) (okay_or IsNameInLimits (name_member (codes "d") d) E1 (name_keeps (codes "d") d)) (λ i k. (h, k)))
+key_preserves : (d : Data) → IfOkInLimits (key_of d) KeyWithin
+key_preserves d =
+    okay_then IsNameInLimits KeyWithin _ (ok_or (name_member (codes "c") d) E1) (okay_or IsNameInLimits (name_member (codes "c") d) E1 (name_preserves (codes "c") d)) (λ c h.
+    okay_then IsNameInLimits KeyWithin _ (ok_or (name_member (codes "d") d) E1) (okay_or IsNameInLimits (name_member (codes "d") d) E1 (name_preserves (codes "d") d)) (λ i k. (h, k)))
 
 abbrev ArrivedWithin : (PlainContent × Option ℕ) → Type 0
 ArrivedWithin a = ContentWithin a.0 × OptionalCountInLimits a.1
 
-moment_keeps : (v : DumpVersion) (d : Data) → IfSome (moment_of_data v d) (MomentInLimits v)
-moment_keeps One d = refl
-moment_keeps Two d = number_keeps (codes "m") d
+moment_preserves : (v : DumpVersion) (d : Data) → IfSome (moment_of_data v d) (MomentInLimits v)
+moment_preserves One d = refl
+moment_preserves Two d = number_preserves (codes "m") d
 
 module _ (reads : ReadStaysInRange) where
-  edition_keeps : (d : Data) → IfOkInLimits (edit_content d) ContentWithin
-  edition_keeps d = okay_map (λ cs. AllInRange cs × (length cs ≤ 256)) ContentWithin edit (op_of d) E3 (reads d) (λ v h. h)
+  edition_preserves : (d : Data) → IfOkInLimits (edit_content d) ContentWithin
+  edition_preserves d = okay_map (λ cs. AllInRange cs × (length cs ≤ 256)) ContentWithin edit (op_of d) E3 (reads d) (λ v h. h)
 
-  from_keeps : (o c : Option Data) (b : Bool) → IfOkInLimits (content_from o c b) ContentWithin
-  from_keeps (Some o) None false = edition_keeps o
-  from_keeps None (Some c) false = creation_keeps c (option_and_then as_str (get (codes "type") c))
-  from_keeps None None true = tt
-  from_keeps None None false = tt
-  from_keeps None (Some c) true = tt
-  from_keeps (Some o) None true = tt
-  from_keeps (Some o) (Some c) true = tt
-  from_keeps (Some o) (Some c) false = tt
+  from_preserves : (o c : Option Data) (b : Bool) → IfOkInLimits (content_from o c b) ContentWithin
+  from_preserves (Some o) None false = edition_preserves o
+  from_preserves None (Some c) false = creation_preserves c (option_and_then as_str (get (codes "type") c))
+  from_preserves None None true = tt
+  from_preserves None None false = tt
+  from_preserves None (Some c) true = tt
+  from_preserves (Some o) None true = tt
+  from_preserves (Some o) (Some c) true = tt
+  from_preserves (Some o) (Some c) false = tt
 
-  arrived_keeps : (d : Data) → IfSome (arrived_of_data d) ArrivedWithin
-  arrived_keeps d =
-      needs_has ContentWithin ArrivedWithin _ (result_ok (content_of d)) (from_keeps (present_member (codes "op") d) (present_member (codes "create") d) (is_delete d)) (λ m h.
+  arrived_preserves : (d : Data) → IfSome (arrived_of_data d) ArrivedWithin
+  arrived_preserves d =
+      needs_has ContentWithin ArrivedWithin _ (result_ok (content_of d)) (from_preserves (present_member (codes "op") d) (present_member (codes "create") d) (is_delete d)) (λ m h.
       needs_has OptionalCountInLimits ArrivedWithin _ (result_ok (read_optional count_of (present_member (codes "v") d))) (may_keep (present_member (codes "v") d)) (λ v k. (h, k)))
 
-  submission_keeps : (d : Data) → IfSome (submission_of_data d) SubmissionWithin
-  submission_keeps d =
-      needs_has ArrivedWithin SubmissionWithin _ (and_then_some arrived_of_data (get (codes "arrived") d)) (needs_has (λ _. ⊤) ArrivedWithin arrived_of_data (get (codes "arrived") d) (some_any (get (codes "arrived") d)) (λ e _. arrived_keeps e)) (λ a h.
-      needs_has IsSafeInteger SubmissionWithin _ (count_member (codes "seq") d) (number_keeps (codes "seq") d) (λ n i.
-      needs_has IsNameInLimits SubmissionWithin _ (name_member (codes "src") d) (name_keeps (codes "src") d) (λ s j.
-      needs_has IsNameInLimits SubmissionWithin _ (name_member (codes "via") d) (name_keeps (codes "via") d) (λ w k.
-      needs_has IsSafeInteger SubmissionWithin _ (count_member (codes "by") d) (number_keeps (codes "by") d) (λ b l.
+  submission_preserves : (d : Data) → IfSome (submission_of_data d) SubmissionWithin
+  submission_preserves d =
+      needs_has ArrivedWithin SubmissionWithin _ (and_then_some arrived_of_data (get (codes "arrived") d)) (needs_has (λ _. ⊤) ArrivedWithin arrived_of_data (get (codes "arrived") d) (some_any (get (codes "arrived") d)) (λ e _. arrived_preserves e)) (λ a h.
+      needs_has IsSafeInteger SubmissionWithin _ (count_member (codes "seq") d) (number_preserves (codes "seq") d) (λ n i.
+      needs_has IsNameInLimits SubmissionWithin _ (name_member (codes "src") d) (name_preserves (codes "src") d) (λ s j.
+      needs_has IsNameInLimits SubmissionWithin _ (name_member (codes "via") d) (name_preserves (codes "via") d) (λ w k.
+      needs_has IsSafeInteger SubmissionWithin _ (count_member (codes "by") d) (number_preserves (codes "by") d) (λ b l.
       record { src = j; seq = i; version = h.1; content = h.0; via = k; by = l })))))
 
 -- ---- UTF-8 and limits together
@@ -197,20 +197,20 @@ content_fits (create v) m h = ((h, m), tt)
 content_fits delete m h = (tt, tt)
 content_fits (edit cs) m h = (components_fit cs m.0 h, m.1)
 
-keeps_at : {A : Type 0} (P : A → Type 0) (o : Option A) (x : A) → o ≡ Some x → IfSome o P → P x
-keeps_at P o x e h = subst (λ p. IfSome p P) e h
+preserves_at : {A : Type 0} (P : A → Type 0) (o : Option A) (x : A) → o ≡ Some x → IfSome o P → P x
+preserves_at P o x e h = subst (λ p. IfSome p P) e h
 
 -- a parsed submission whose texts are UTF-8
 pub submission_fits : (reads : ReadStaysInRange) (d : Data) (s : PlainSubmission) → submission_of_data d ≡ Some s → IsTextSubmission s → SubmissionInLimits s
 submission_fits reads d s e h =
-    let m = keeps_at SubmissionWithin (submission_of_data d) s e (submission_keeps reads d) in
+    let m = preserves_at SubmissionWithin (submission_of_data d) s e (submission_preserves reads d) in
     let c = content_fits s.content m.content h.content in
     record { src = name_fits s.src m.src h.src; seq = m.seq; version = m.version; content = c.0; few = c.1; via = name_fits s.via m.via h.via; by = m.by }
 
 -- a parsed key whose texts are UTF-8
 pub key_fits : (d : Data) (k : PlainKey) → key_of d ≡ Ok k → IsTextKey k → KeyInLimits k
 key_fits d k e h =
-    let m = subst (λ r. IfOkInLimits r KeyWithin) e (key_keeps d) in
+    let m = subst (λ r. IfOkInLimits r KeyWithin) e (key_preserves d) in
     record { collection = name_fits k.collection m.0 h.0; id = name_fits k.id m.1 h.1 }
 
 -- ---- the moments of lines
@@ -219,7 +219,7 @@ read_moment : (v : DumpVersion) (d : Data) → IfSome (line_of_data v d) (λ r. 
 read_moment v d =
     needs_has (λ _. ⊤) (λ (r : PlainLineContent). MomentInLimits v r.moment) _ (result_ok (key_of d)) (some_any (result_ok (key_of d))) (λ k _.
     needs_has (λ _. ⊤) (λ (r : PlainLineContent). MomentInLimits v r.moment) _ (submission_of_data d) (some_any (submission_of_data d)) (λ s _.
-    needs_has (MomentInLimits v) (λ (r : PlainLineContent). MomentInLimits v r.moment) _ (moment_of_data v d) (moment_keeps v d) (λ m h. h)))
+    needs_has (MomentInLimits v) (λ (r : PlainLineContent). MomentInLimits v r.moment) _ (moment_of_data v d) (moment_preserves v d) (λ m h. h)))
 
 if_then : (v : DumpVersion) (b : Bool) (o : Option PlainLineContent) → IfSome o (λ r. MomentInLimits v r.moment) → IfSome (if b then o else None) (λ r. MomentInLimits v r.moment)
 if_then v true o h = h
@@ -233,4 +233,4 @@ line_moment v l =
 pub all_within : (v : DumpVersion) (before xs : List PlainLine) → AreNextLines v before xs → AllKeysInLimits xs → AllInLimits v xs
 all_within v before [] n h = tt
 all_within v before (x ∷ xs) n h =
-    (h.0, keeps_at (λ (r : PlainLineContent). MomentInLimits v r.moment) (read_line v (entry_line v x)) _ n.0.read (line_moment v (entry_line v x)), h.1, all_within v (before ++ x ∷ []) xs n.1 h.2)
+    (h.0, preserves_at (λ (r : PlainLineContent). MomentInLimits v r.moment) (read_line v (entry_line v x)) _ n.0.read (line_moment v (entry_line v x)), h.1, all_within v (before ++ x ∷ []) xs n.1 h.2)

@@ -41,8 +41,8 @@ pub but_some : {old new : Option (List ℕ)} {all left : List ℕ} → WroteUpTo
 but_some {left = left} a = (a.written, a.wrote, (left, a.parts))
 
 -- a prefix of the first part of the rest is written too
-pub but_front : {old mid : Option (List ℕ)} {all left : List ℕ} (new : Option (List ℕ)) (s t : List ℕ) → WroteUpTo old mid all left → left ≡ s ++ t → AppendsPrefix mid new s → AppendsPrefix old new all
-but_front {old} {mid} new s t a is (bytes, w, (rest, e)) = (
+pub but_prefix : {old mid : Option (List ℕ)} {all left : List ℕ} (new : Option (List ℕ)) (s t : List ℕ) → WroteUpTo old mid all left → left ≡ s ++ t → AppendsPrefix mid new s → AppendsPrefix old new all
+but_prefix {old} {mid} new s t a is (bytes, w, (rest, e)) = (
   a.written ++ bytes,
   Appends-trans old mid new a.written bytes a.wrote w,
   (rest ++ t, a.parts ∙ ap (λ l. a.written ++ l) (is ∙ ap (λ l. l ++ t) e ∙ append_assoc bytes rest t) ∙ sym (append_assoc a.written bytes (rest ++ t))),
@@ -110,8 +110,8 @@ dump_is f ks head e =
     ∙ append_assoc (header_line Two) (10 ∷ []) (logs_text f ks ++ last_line (length xs))
     ∙ ap (λ l. header_line Two ++ 10 ∷ l) (sym (ended_more (map (entry_line Two) xs) (count_line (length xs) ∷ [])))
 
-front_more : (old new : Option (List ℕ)) (text more : List ℕ) → AppendsPrefix old new text → AppendsPrefix old new (text ++ more)
-front_more old new text more (bytes, w, (rest, is)) = (bytes, w, (rest ++ more, ap (λ l. l ++ more) is ∙ append_assoc bytes rest more))
+prefix_more : (old new : Option (List ℕ)) (text more : List ℕ) → AppendsPrefix old new text → AppendsPrefix old new (text ++ more)
+prefix_more old new text more (bytes, w, (rest, is)) = (bytes, w, (rest ++ more, ap (λ l. l ++ more) is ∙ append_assoc bytes rest more))
 
 module _ (f : Logs) (ks : List PlainKey) (stored : IsKeyList f ks) (head : List ℕ) (first : head ≡ header_line Two ++ 10 ∷ []) (old : Option (List ℕ)) where
   pub all_wrote : (mid new : Option (List ℕ)) (out last : List ℕ) (n : ℕ) → WroteUpTo old mid (head ++ logs_text f ks) out → n ≡ length (lines_of_logs f ks) → last ≡ out ++ (count_line n ++ 10 ∷ []) → Appends mid new last → WroteDump f old new
@@ -121,17 +121,17 @@ module _ (f : Logs) (ks : List PlainKey) (stored : IsKeyList f ks) (head : List 
     subst (Appends old new) (ap (λ l. a.written ++ l) is ∙ sym (append_assoc a.written out (last_line n)) ∙ ap (λ l. l ++ last_line n) (sym a.parts) ∙ ap (λ m. (head ++ logs_text f ks) ++ last_line m) count ∙ dump_is f ks head first) (Appends-trans old mid new a.written last a.wrote w),
   )
 
-  front_wrote : (new : Option (List ℕ)) → AppendsPrefix old new (head ++ logs_text f ks) → WroteDumpPrefix f old new
-  front_wrote new w = inr (dump_text Two (lines_of_logs f ks), (ks, stored, refl), subst (AppendsPrefix old new) (dump_is f ks head first) (front_more old new (head ++ logs_text f ks) (last_line (length (lines_of_logs f ks))) w))
+  prefix_wrote : (new : Option (List ℕ)) → AppendsPrefix old new (head ++ logs_text f ks) → WroteDumpPrefix f old new
+  prefix_wrote new w = inr (dump_text Two (lines_of_logs f ks), (ks, stored, refl), subst (AppendsPrefix old new) (dump_is f ks head first) (prefix_more old new (head ++ logs_text f ks) (last_line (length (lines_of_logs f ks))) w))
 
-  pub logs_front : (new : Option (List ℕ)) → AppendsPrefix old new (head ++ logs_text f ks) → WroteDumpPrefix f old new
-  logs_front = front_wrote
+  pub logs_prefix : (new : Option (List ℕ)) → AppendsPrefix old new (head ++ logs_text f ks) → WroteDumpPrefix f old new
+  logs_prefix = prefix_wrote
 
   pub but_wrote : (new : Option (List ℕ)) (out : List ℕ) → WroteUpTo old new (head ++ logs_text f ks) out → WroteDumpPrefix f old new
-  but_wrote new out a = front_wrote new (but_some a)
+  but_wrote new out a = prefix_wrote new (but_some a)
 
-  pub last_front : (mid new : Option (List ℕ)) (out last : List ℕ) (n : ℕ) → WroteUpTo old mid (head ++ logs_text f ks) out → n ≡ length (lines_of_logs f ks) → last ≡ out ++ (count_line n ++ 10 ∷ []) → AppendsPrefix mid new last → WroteDumpPrefix f old new
-  last_front mid new out last n a count is (bytes, w, (rest, e)) = inr (
+  pub last_prefix : (mid new : Option (List ℕ)) (out last : List ℕ) (n : ℕ) → WroteUpTo old mid (head ++ logs_text f ks) out → n ≡ length (lines_of_logs f ks) → last ≡ out ++ (count_line n ++ 10 ∷ []) → AppendsPrefix mid new last → WroteDumpPrefix f old new
+  last_prefix mid new out last n a count is (bytes, w, (rest, e)) = inr (
     dump_text Two (lines_of_logs f ks),
     (ks, stored, refl),
     (

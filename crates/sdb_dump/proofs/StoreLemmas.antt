@@ -44,9 +44,9 @@ module _ (p : PlainReservedAppend) (log : List PlainEntry) (s : PlainSubmission)
       subst (λ q. decide log s now ≡ record { reply = stored (length log) (missed_entries log s); log = q.log ++ appended_entry q now content ∷ [] }) (sym is)
       (decides_stored log s now (unwrap_or content s.content) made settles.new.is_new settles.new.has_room settles.new.version_reached settles.rebased_is settles.makes)
 
-  pub keeps_stored : (r : List PlainEntry) (made : Option Json) → r ≡ p.log ++ appended_entry p now content ∷ [] → WillStore log s content (option_map value_of made)
+  pub preserves_stored : (r : List PlainEntry) (made : Option Json) → r ≡ p.log ++ appended_entry p now content ∷ [] → WillStore log s content (option_map value_of made)
       → IsMadeDocument r made
-  keeps_stored r made e settles = record {
+  preserves_stored r made e settles = record {
     makes = ap snap e ∙ makes_stored (option_map value_of made) settles;
     made = subst (λ l. IsMade l) (sym (e ∙ sym (ap (λ d. d.log) (decided_stored (option_map value_of made) settles)))) (made_of_decide log s now keeps.made);
   }

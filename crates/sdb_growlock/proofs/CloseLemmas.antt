@@ -67,9 +67,9 @@ module _ {T : Type 0} where
     FitsHere = ObservationFits extends same blank
 
     -- if one view has all numbers and holds no value, the value is in its slot
-    value_at_home_at_close : (s : St) (r : Rule s) (id : ℕ) (v : View T) → get_elem? s.views id ≡ some v → v.out ≡ None → v.next ≢ 0
+    value_at_unlocked_at_close : (s : St) (r : Rule s) (id : ℕ) (v : View T) → get_elem? s.views id ≡ some v → v.out ≡ None → v.next ≢ 0
         → ((k : ℕ) → k < v.next → (p : Observation T) × (p.number ≡ k) × FitsHere r.value r.next r.owner id p) → get_elem? s.homes 0 ≡ some (some (Some r.value))
-    value_at_home_at_close s r id v at idle some_next cover = r.value_at_home (dite (ℕ_discrete (get_or s.words 0 0) 0) (λ z. z) (λ busy.
+    value_at_unlocked_at_close s r id v at idle some_next cover = r.value_at_home (dite (ℕ_discrete (get_or s.words 0 0) 0) (λ z. z) (λ busy.
         let t = r.value_is_out busy in let f = (r.views_known id v at).first_has_next some_next in let low = t.0 in let e = f.0 in
         let c = cover r.holder_number (omega arith) in
         let is : r.owner r.holder_number ≡ id = ap r.owner (sym c.1) ∙ c.2.owner_is in
@@ -95,7 +95,7 @@ module _ {T : Type 0} where
         ∙ (sym (sum_of_append (λ (s : Seat T). s.next) rest last) ∙ ap (λ (l : List (Seat T)). sum_of (map (λ (s : Seat T). s.next) l)) (sym are))) in
         let idle : d.out ≡ None = out_of_join_all last.inner.me.0 (map seat_view rest) ∙ none_of_not_out last.inner.me.0.out last.is_idle.2 in
         let some_next : d.next ≢ 0 = λ e. absurd (omega arith) in
-        let home = value_at_home_at_close s r id d at idle some_next (λ k h. observation_with_number P ss every k (all k (omega arith))) in
+        let home = value_at_unlocked_at_close s r id d at idle some_next (λ k h. observation_with_number P ss every k (all k (omega arith))) in
         let f = (r.views_known id d at).first_has_next some_next in (
           r.value,
           some-injective o (Some r.value) (sym here ∙ final.4 0 (Some r.value) home),

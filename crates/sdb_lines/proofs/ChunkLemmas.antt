@@ -31,8 +31,8 @@ lines-plain [] rest line_buffer h = rw append-nil refl
 lines-plain (x ∷ xs) rest line_buffer h = rw (ne_eqb x 10 (All-head (λ x. x ≢ 10) x xs h)) (lines-plain xs rest (line_buffer ++ x ∷ []) (All-tail (λ x. x ≢ 10) x xs h) ∙ ap (lines_from rest) (append_assoc line_buffer (x ∷ []) xs))
 
 -- lines with a common prefix longer than the limit have equal readings
-pub reading-front : (k : ℕ) (p q : List ℕ) → 1048576 < k → take k p ≡ take k q → readable_text p ≡ readable_text q
-reading-front k p q long e =
+pub reading-prefix : (k : ℕ) (p q : List ℕ) → 1048576 < k → take k p ≡ take k q → readable_text p ≡ readable_text q
+reading-prefix k p q long e =
     let same = ap length e in
     let kp = length-take k p in
     let kq = length-take k q in
@@ -41,8 +41,8 @@ reading-front k p q long e =
       | inr h ↦ ap readable_text (sym (take_all k p (omega (arith, h, long))) ∙ e ∙ take_all k q (omega (arith, h, long, same, kp, kq)))
     ]
 
-same-front : (k : ℕ) (p q : List ℕ) (x : ℕ) → take k p ≡ take k q → take k (p ++ x ∷ []) ≡ take k (q ++ x ∷ [])
-same-front k p q x e =
+same-prefix : (k : ℕ) (p q : List ℕ) (x : ℕ) → take k p ≡ take k q → take k (p ++ x ∷ []) ≡ take k (q ++ x ∷ [])
+same-prefix k p q x e =
     let same = ap length e in
     let kp = length-take k p in
     let kq = length-take k q in
@@ -51,29 +51,29 @@ same-front k p q x e =
       | inr h ↦ take-append-le k p (x ∷ []) h ∙ e ∙ sym (take-append-le k q (x ∷ []) (omega (arith, h, same, kp, kq)))
     ]
 
-some-front : (k : ℕ) (q : List ℕ) (y : ℕ) → 0 < k → take k [] ≡ take k (y ∷ q) → ⊥
-some-front k q y long e = omega (arith, ap length e, length-take k (y ∷ q), length-take {A = ℕ} k [], long)
+some-prefix : (k : ℕ) (q : List ℕ) (y : ℕ) → 0 < k → take k [] ≡ take k (y ∷ q) → ⊥
+some-prefix k q y long e = omega (arith, ap length e, length-take k (y ∷ q), length-take {A = ℕ} k [], long)
 
 -- only the kept prefix of the pending bytes matters
-pub readings-front : (k : ℕ) (rest p q : List ℕ) → 1048576 < k → take k p ≡ take k q → readable_lines_from rest p ≡ readable_lines_from rest q
-readings-front k [] [] [] long e = refl
-readings-front k [] [] (y ∷ q) long e = absurd (some-front k q y (omega (arith, long)) e)
-readings-front k [] (x ∷ p) [] long e = absurd (some-front k p x (omega (arith, long)) (sym e))
-readings-front k [] (x ∷ p) (y ∷ q) long e = ap (λ r. r ∷ []) (reading-front k (x ∷ p) (y ∷ q) long e)
-readings-front k (x ∷ xs) p q long e = elim (cases_Bool (x == 10)) [
-  | inl t ↦ rw t (ap (λ r. r ∷ readable_lines_from xs []) (reading-front k p q long e))
-  | inr t ↦ rw t (readings-front k xs (p ++ x ∷ []) (q ++ x ∷ []) long (same-front k p q x e))
+pub readings-prefix : (k : ℕ) (rest p q : List ℕ) → 1048576 < k → take k p ≡ take k q → readable_lines_from rest p ≡ readable_lines_from rest q
+readings-prefix k [] [] [] long e = refl
+readings-prefix k [] [] (y ∷ q) long e = absurd (some-prefix k q y (omega (arith, long)) e)
+readings-prefix k [] (x ∷ p) [] long e = absurd (some-prefix k p x (omega (arith, long)) (sym e))
+readings-prefix k [] (x ∷ p) (y ∷ q) long e = ap (λ r. r ∷ []) (reading-prefix k (x ∷ p) (y ∷ q) long e)
+readings-prefix k (x ∷ xs) p q long e = elim (cases_Bool (x == 10)) [
+  | inl t ↦ rw t (ap (λ r. r ∷ readable_lines_from xs []) (reading-prefix k p q long e))
+  | inr t ↦ rw t (readings-prefix k xs (p ++ x ∷ []) (q ++ x ∷ []) long (same-prefix k p q x e))
 ]
 
-front-again : (k : ℕ) (l : List ℕ) → take k (take k l) ≡ take k l
-front-again k l = take_all k (take k l) (omega (arith, length-take k l))
+prefix-again : (k : ℕ) (l : List ℕ) → take k (take k l) ≡ take k l
+prefix-again k l = take_all k (take k l) (omega (arith, length-take k l))
 
 -- the kept prefix of a line has the reading of the line
 pub reading-partial : (line : List ℕ) → readable_text (kept_prefix line) ≡ readable_text line
-reading-partial line = reading-front 1048577 (kept_prefix line) line (omega arith) (front-again 1048577 line)
+reading-partial line = reading-prefix 1048577 (kept_prefix line) line (omega arith) (prefix-again 1048577 line)
 
 pub readings-partial : (rest line : List ℕ) → readable_lines_from rest (kept_prefix line) ≡ readable_lines_from rest line
-readings-partial rest line = readings-front 1048577 rest (kept_prefix line) line (omega arith) (front-again 1048577 line)
+readings-partial rest line = readings-prefix 1048577 rest (kept_prefix line) line (omega arith) (prefix-again 1048577 line)
 
 -- a chunk up to its first line feed
 pub ended-line : (input rest line_buffer : List ℕ) → All (λ x. x ≢ 10) input → lines_ended_by (input ++ 10 ∷ rest) line_buffer ≡ readable_text (line_buffer ++ input) ∷ lines_ended_by rest []

@@ -11,7 +11,7 @@ use Rattle.sdb_lines.specs.Prefixes.{AppendsPrefix}
 use Rattle.sdb_lines.specs.Runs.{AppendsAnswers, AppendsAnswerPrefix}
 use Rattle.sdb_lines.specs.declared.runner.Counts.{Counts}
 use Rattle.sdb_lines.proofs.ChunkLemmas.{readings-input, readings-partial, counted-append}
-use Rattle.sdb_lines.proofs.Runs.{first-written, first-front, all-front, lines-written, lines-written_front, front-lines}
+use Rattle.sdb_lines.proofs.Runs.{first-written, first-prefix, all-prefix, lines-written, lines-written_prefix, prefix-lines}
 
 Consumes-none : (a : Option (List ℕ)) → Consumes a a []
 Consumes-none None = tt
@@ -68,17 +68,17 @@ module _ {S : Type 0} (takes : S → Option (List ℕ) → List ℕ → S → Ty
   rest_arbitrary (Some xs) (Some ys) read P c h = subst P (sym c) (h ys)
 
   -- an error before the first read
-  pub opening-front : (left : Option (List ℕ)) (s : S) (first : List ℕ) (old new : Option (List ℕ)) → AppendsPrefix old new first
+  pub opening-prefix : (left : Option (List ℕ)) (s : S) (first : List ℕ) (old new : Option (List ℕ)) → AppendsPrefix old new first
       → IfSome left (λ input. AppendsAnswerPrefix takes s (map readable_text (lines_of input)) first old new)
-  opening-front left s first old new w =
-      rest_arbitrary left left [] (λ input. AppendsAnswerPrefix takes s (map readable_text (lines_of input)) first old new) (Consumes-none left) (λ rest. first-front takes s first old new (map readable_text (lines_of rest)) w)
+  opening-prefix left s first old new w =
+      rest_arbitrary left left [] (λ input. AppendsAnswerPrefix takes s (map readable_text (lines_of input)) first old new) (Consumes-none left) (λ rest. first-prefix takes s first old new (map readable_text (lines_of rest)) w)
 
   -- an error before the next chunk is read
   pub progress-prefix : {left left' : Option (List ℕ)} {s t : S} {first : List ℕ} {old new : Option (List ℕ)} {counts : Counts} {partial : List ℕ}
       → RunProgress left left' s t first old new counts partial → IfSome left (λ input. AppendsAnswerPrefix takes s (map readable_text (lines_of input)) first old new)
   progress-prefix {left} {left'} {s} {t} {first} {old} {new} {partial = partial} w =
       rest_arbitrary left left' w.read (λ input. AppendsAnswerPrefix takes s (map readable_text (lines_of input)) first old new) w.consumed (λ rest.
-      subst (λ l. AppendsAnswerPrefix takes s l first old new) (sym (w.cut rest)) (front-lines takes (readable_lines_from rest partial) (all-front takes w.answers)))
+      subst (λ l. AppendsAnswerPrefix takes s l first old new) (sym (w.cut rest)) (prefix-lines takes (readable_lines_from rest partial) (all-prefix takes w.answers)))
 
   -- an error within a chunk
   pub progress-stop : {left left' : Option (List ℕ)} {s t : S} {first : List ℕ} {old mid new : Option (List ℕ)} {counts : Counts} {partial : List ℕ}
@@ -91,7 +91,7 @@ module _ {S : Type 0} (takes : S → Option (List ℕ) → List ℕ → S → Ty
       ap (λ l. readable_lines_from l []) (append_assoc w.read input rest) ∙ w.cut (input ++ rest)
       ∙ ap (λ l. w.lines ++ l) (readings-input input rest partial)
       ∙ sym (append_assoc w.lines (lines_ended_by input partial) (readable_lines_from rest (partial_line_after input partial))) in
-      subst (λ l. AppendsAnswerPrefix takes s l first old new) (sym e) (front-lines takes (readable_lines_from rest (partial_line_after input partial)) (lines-written_front takes w.answers a)))
+      subst (λ l. AppendsAnswerPrefix takes s l first old new) (sym e) (prefix-lines takes (readable_lines_from rest (partial_line_after input partial)) (lines-written_prefix takes w.answers a)))
 
   -- the end of the input
   module _ {left left' : Option (List ℕ)} {s t : S} {first : List ℕ} {old mid : Option (List ℕ)} {counts : Counts} {partial : List ℕ} (left'' : Option (List ℕ)) (none : List ℕ) (nothing : none ≡ [])
@@ -115,7 +115,7 @@ module _ {S : Type 0} (takes : S → Option (List ℕ) → List ℕ → S → Ty
     pub progress-whole_prefix : (new : Option (List ℕ)) → AppendsAnswerPrefix takes t (readable_lines_from [] partial) [] mid new
         → IfSome left (λ input. AppendsAnswerPrefix takes s (map readable_text (lines_of input)) first old new)
     progress-whole_prefix new a =
-        at-end (λ input. AppendsAnswerPrefix takes s (map readable_text (lines_of input)) first old new) (subst (λ l. AppendsAnswerPrefix takes s l first old new) (sym readings_split) (lines-written_front takes w.answers a))
+        at-end (λ input. AppendsAnswerPrefix takes s (map readable_text (lines_of input)) first old new) (subst (λ l. AppendsAnswerPrefix takes s l first old new) (sym readings_split) (lines-written_prefix takes w.answers a))
 
     pub progress-counts : (counts' : Counts) → counts' ≡ counts_after is_step counts (readable_lines_from [] partial) → IfSome left (λ input. AreCountsOf is_step input counts')
     progress-counts counts' k =

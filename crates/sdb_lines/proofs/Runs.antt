@@ -10,11 +10,11 @@ pub Appends-none : (a : Option (List ℕ)) → Appends a a []
 Appends-none None = tt
 Appends-none (Some x) = sym (append-nil x)
 
-pub Appends-kept : (a b c : Option (List ℕ)) (bs : List ℕ) → Appends a b bs → Keeps b c → Appends a c bs
-Appends-kept None b c bs p q = tt
-Appends-kept (Some x) None c bs p q = absurd p
-Appends-kept (Some x) (Some y) None bs p q = absurd q
-Appends-kept (Some x) (Some y) (Some z) bs p q = q ∙ p
+pub Appends-unchanged : (a b c : Option (List ℕ)) (bs : List ℕ) → Appends a b bs → Keeps b c → Appends a c bs
+Appends-unchanged None b c bs p q = tt
+Appends-unchanged (Some x) None c bs p q = absurd p
+Appends-unchanged (Some x) (Some y) None bs p q = absurd q
+Appends-unchanged (Some x) (Some y) (Some z) bs p q = q ∙ p
 
 pub prefix-refl : {A : Type 0} (l : List A) → IsPrefix l l
 prefix-refl l = ([], sym (append-nil l))
@@ -65,8 +65,8 @@ module _ {S : Type 0} (takes : S → Option (List ℕ) → List ℕ → S → Ty
   pub first-written : (s : S) (first : List ℕ) (old new : Option (List ℕ)) → Appends old new first → AppendsAnswers takes s [] s first old new
   first-written s first old new w = record { bytes = []; run = Run-none s; wrote = subst (Appends old new) (sym (append-nil first)) w }
 
-  pub first-front : (s : S) (first : List ℕ) (old new : Option (List ℕ)) (lines : List (Option (List ℕ))) → AppendsPrefix old new first → AppendsAnswerPrefix takes s lines first old new
-  first-front s first old new lines w =
+  pub first-prefix : (s : S) (first : List ℕ) (old new : Option (List ℕ)) (lines : List (Option (List ℕ))) → AppendsPrefix old new first → AppendsAnswerPrefix takes s lines first old new
+  first-prefix s first old new lines w =
       record { taken = []; bytes = []; last = s; from_first = (lines, refl); run = Run-none s; wrote = AppendsFront-more old new first [] w }
 
   -- the response to a line is pending
@@ -78,8 +78,8 @@ module _ {S : Type 0} (takes : S → Option (List ℕ) → List ℕ → S → Ty
   line_buffer-written {line_buffer = line_buffer} {old} {mid} new a v =
       record { bytes = a.bytes; run = a.run; wrote = subst (Appends old new) (sym a.parts) (Appends-trans old mid new a.written line_buffer a.wrote v) }
 
-  pub line_buffer-front : {s t : S} {lines : List (Option (List ℕ))} {first line_buffer : List ℕ} {old mid : Option (List ℕ)} (new : Option (List ℕ)) → AppendsAnswersUpTo takes line_buffer s lines t first old mid → AppendsPrefix mid new line_buffer → AppendsAnswerPrefix takes s lines first old new
-  line_buffer-front {t = t} {lines} {line_buffer = line_buffer} {old} {mid} new a v = record {
+  pub line_buffer-prefix : {s t : S} {lines : List (Option (List ℕ))} {first line_buffer : List ℕ} {old mid : Option (List ℕ)} (new : Option (List ℕ)) → AppendsAnswersUpTo takes line_buffer s lines t first old mid → AppendsPrefix mid new line_buffer → AppendsAnswerPrefix takes s lines first old new
+  line_buffer-prefix {t = t} {lines} {line_buffer = line_buffer} {old} {mid} new a v = record {
     taken = lines;
     bytes = a.bytes;
     last = t;
@@ -109,9 +109,9 @@ module _ {S : Type 0} (takes : S → Option (List ℕ) → List ℕ → S → Ty
     wrote = Appends-trans old mid new x.written y.written x.wrote y.wrote;
   }
 
-  pub lines-front : {s t : S} {a b : List (Option (List ℕ))} {first out : List ℕ} {old mid new : Option (List ℕ)}
+  pub lines-prefix : {s t : S} {a b : List (Option (List ℕ))} {first out : List ℕ} {old mid new : Option (List ℕ)}
       → AppendsAnswersUpTo takes out s a t first old mid → AppendsAnswerPrefix takes t b out mid new → AppendsAnswerPrefix takes s (a ++ b) first old new
-  lines-front {s} {t} {a} {b} {first} {out} {old} {mid} {new} x y = record {
+  lines-prefix {s} {t} {a} {b} {first} {out} {old} {mid} {new} x y = record {
     taken = a ++ y.taken;
     bytes = x.bytes ++ y.bytes;
     last = y.last;
@@ -128,18 +128,18 @@ module _ {S : Type 0} (takes : S → Option (List ℕ) → List ℕ → S → Ty
     wrote = subst (Appends old new) (append_assoc first x.bytes y.bytes) (Appends-trans old mid new (first ++ x.bytes) y.bytes x.wrote y.wrote);
   }
 
-  pub lines-written_front : {s t : S} {a b : List (Option (List ℕ))} {first : List ℕ} {old mid new : Option (List ℕ)}
+  pub lines-written_prefix : {s t : S} {a b : List (Option (List ℕ))} {first : List ℕ} {old mid new : Option (List ℕ)}
       → AppendsAnswers takes s a t first old mid → AppendsAnswerPrefix takes t b [] mid new → AppendsAnswerPrefix takes s (a ++ b) first old new
-  lines-written_front x y = lines-front (none-line_buffer [] refl x) y
+  lines-written_prefix x y = lines-prefix (none-line_buffer [] refl x) y
 
   -- a prefix of the responses to some lines is a prefix of the responses to more
-  pub all-front : {s t : S} {lines : List (Option (List ℕ))} {first : List ℕ} {old new : Option (List ℕ)} → AppendsAnswers takes s lines t first old new → AppendsAnswerPrefix takes s lines first old new
-  all-front {t = t} {lines} {first} a =
+  pub all-prefix : {s t : S} {lines : List (Option (List ℕ))} {first : List ℕ} {old new : Option (List ℕ)} → AppendsAnswers takes s lines t first old new → AppendsAnswerPrefix takes s lines first old new
+  all-prefix {t = t} {lines} {first} a =
       record { taken = lines; bytes = a.bytes; last = t; from_first = prefix-refl lines; run = a.run; wrote = (first ++ a.bytes, a.wrote, prefix-refl (first ++ a.bytes)) }
 
   pub line_buffer-only : {s t : S} {lines : List (Option (List ℕ))} {first line_buffer : List ℕ} {old new : Option (List ℕ)} → AppendsAnswersUpTo takes line_buffer s lines t first old new → AppendsAnswerPrefix takes s lines first old new
   line_buffer-only {t = t} {lines} {line_buffer = line_buffer} a =
       record { taken = lines; bytes = a.bytes; last = t; from_first = prefix-refl lines; run = a.run; wrote = (a.written, a.wrote, (line_buffer, a.parts)) }
 
-  pub front-lines : {s : S} {a : List (Option (List ℕ))} (b : List (Option (List ℕ))) {first : List ℕ} {old new : Option (List ℕ)} → AppendsAnswerPrefix takes s a first old new → AppendsAnswerPrefix takes s (a ++ b) first old new
-  front-lines {a = a} b x = record { taken = x.taken; bytes = x.bytes; last = x.last; from_first = prefix-append x.taken a b x.from_first; run = x.run; wrote = x.wrote }
+  pub prefix-lines : {s : S} {a : List (Option (List ℕ))} (b : List (Option (List ℕ))) {first : List ℕ} {old new : Option (List ℕ)} → AppendsAnswerPrefix takes s a first old new → AppendsAnswerPrefix takes s (a ++ b) first old new
+  prefix-lines {a = a} b x = record { taken = x.taken; bytes = x.bytes; last = x.last; from_first = prefix-append x.taken a b x.from_first; run = x.run; wrote = x.wrote }

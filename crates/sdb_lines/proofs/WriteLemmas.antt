@@ -15,8 +15,8 @@ put-more a b c all out at n e p q =
     let k : take n (take (length out - at) (drop at out)) ≡ take n (drop at all) = ap (take n) (ap (λ l. take (length l - at) (drop at l)) e ∙ take_rest all at) in
     subst (Appends a c) (sym (take-add at n all)) (Appends-trans a b c _ _ p (subst (Appends b c) k q))
 
-pub front-taken : (a c : Option (List ℕ)) (all : List ℕ) (k : ℕ) → Appends a c (take k all) → AppendsPrefix a c all
-front-taken a c all k p = (take k all, p, (drop k all, sym (take-append-drop k all)))
+pub prefix-taken : (a c : Option (List ℕ)) (all : List ℕ) (k : ℕ) → Appends a c (take k all) → AppendsPrefix a c all
+prefix-taken a c all k p = (take k all, p, (drop k all, sym (take-append-drop k all)))
 
 -- a property that holds except for an error holds of a value
 pub but-no_error : {T E P : Type 0} (x : T) (e : E) → P ⊎ (◌≡◌ {A = Result T E} (Ok x) (Err e)) → P

@@ -9,15 +9,15 @@ use Rattle.sdb_oplog.specs.IndexModel.{indexed_version}
 use Rattle.sdb_oplog.specs.declared.index.Index.{Index}
 use Rattle.sdb_oplog.proofs.LogGrowth.{none_more}
 
-front_step : (b : Bool) (o p : Option ℕ) (i : ℕ) → cond b (Some 0) (option_map (λ k. k + 1) o) ≡ Some i → ((j : ℕ) → o ≡ Some j → p ≡ Some j) → cond b (Some 0) (option_map (λ k. k + 1) p) ≡ Some i
-front_step true o p i e h = e
-front_step false None p i e h = cc
-front_step false (Some j) p i e h = ap (option_map (λ k. k + 1)) (h j refl) ∙ e
+prefix_step : (b : Bool) (o p : Option ℕ) (i : ℕ) → cond b (Some 0) (option_map (λ k. k + 1) o) ≡ Some i → ((j : ℕ) → o ≡ Some j → p ≡ Some j) → cond b (Some 0) (option_map (λ k. k + 1) p) ≡ Some i
+prefix_step true o p i e h = e
+prefix_step false None p i e h = cc
+prefix_step false (Some j) p i e h = ap (option_map (λ k. k + 1)) (h j refl) ∙ e
 
 -- an entry that is found stays at its version
-found_front : (es : List PlainEntry) (s : List ℕ) (n i : ℕ) (e : PlainEntry) → stored_at s n es ≡ Some i → stored_at s n (es ++ e ∷ []) ≡ Some i
-found_front [] s n i e h = cc
-found_front (x ∷ es) s n i e h = front_step (has_identifier s n x) (stored_at s n es) (stored_at s n (es ++ e ∷ [])) i h (λ j k. found_front es s n j e k)
+found_prefix : (es : List PlainEntry) (s : List ℕ) (n i : ℕ) (e : PlainEntry) → stored_at s n es ≡ Some i → stored_at s n (es ++ e ∷ []) ≡ Some i
+found_prefix [] s n i e h = cc
+found_prefix (x ∷ es) s n i e h = prefix_step (has_identifier s n x) (stored_at s n es) (stored_at s n (es ++ e ∷ [])) i h (λ j k. found_prefix es s n j e k)
 
 last_step : (b : Bool) (o p : Option ℕ) (k : ℕ) → cond b (Some 0) (option_map (λ j. j + 1) o) ≡ None → (o ≡ None → p ≡ Some k) → cond b (Some 0) (option_map (λ j. j + 1) p) ≡ Some (suc k)
 last_step true o p k e h = cc
@@ -43,7 +43,7 @@ from_one s n e es h =
 
 stored_at_other : (o : Option ℕ) (es : List PlainEntry) (s : List ℕ) (n : ℕ) (e : PlainEntry) → stored_at s n es ≡ o → has_identifier s n e ≡ false → stored_at s n (es ++ e ∷ []) ≡ o
 stored_at_other None es s n e h isnt = none_more es s n e h isnt
-stored_at_other (Some i) es s n e h isnt = found_front es s n i e h
+stored_at_other (Some i) es s n e h isnt = found_prefix es s n i e h
 
 index_of_append_cond : (b : Bool) (es : List PlainEntry) (s : List ℕ) (n : ℕ) (e : PlainEntry) (o p : Option ℕ) → has_identifier s n e ≡ b → stored_at e.arrived.src e.arrived.seq es ≡ None → o ≡ stored_at s n es
     → p ≡ cond b (Some (length es)) o → p ≡ stored_at s n (es ++ e ∷ [])

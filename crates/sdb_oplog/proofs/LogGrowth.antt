@@ -20,17 +20,17 @@ lives_step None f g h e = e
 lives_step (Some n) f g h e = h n e
 
 -- a prefix of a log has a document too
-pub lives_front : (es : List PlainEntry) (n : ℕ) (d : Option Value) → is_some (snap_from d es) ≡ true → is_some (snap_from d (take n es)) ≡ true
-lives_front [] zero d h = h
-lives_front [] (suc n) d h = h
-lives_front (e ∷ es) zero d h = refl
-lives_front (e ∷ es) (suc n) d h = lives_step (result_ok (apply_content e.content d)) (λ m. snap_from m es) (λ m. snap_from m (take n es)) (λ m. lives_front es n m) h
+pub lives_prefix : (es : List PlainEntry) (n : ℕ) (d : Option Value) → is_some (snap_from d es) ≡ true → is_some (snap_from d (take n es)) ≡ true
+lives_prefix [] zero d h = h
+lives_prefix [] (suc n) d h = h
+lives_prefix (e ∷ es) zero d h = refl
+lives_prefix (e ∷ es) (suc n) d h = lives_step (result_ok (apply_content e.content d)) (λ m. snap_from m es) (λ m. snap_from m (take n es)) (λ m. lives_prefix es n m) h
 
 -- an entry of a log applies at its version
 pub no_refusal : (es : List PlainEntry) (i : ℕ) (e : PlainEntry) (m : Option Value) (c : Code) → i < length es → e ≡ get_or es i e → snap (take i es) ≡ Some m → is_some (snap es) ≡ true → apply_content e.content m ≡ Err c → ⊥
 no_refusal es i e m c h is done lives isnt =
     let none : snap (take (i + 1) es) ≡ None = snap_taken es i e m h is done ∙ ap result_ok isnt in
-    let some : is_some (snap (take (i + 1) es)) ≡ true = lives_front es (i + 1) None lives in
+    let some : is_some (snap (take (i + 1) es)) ≡ true = lives_prefix es (i + 1) None lives in
     let never : false ≡ true = sym (ap is_some none) ∙ some in
     cc
 

@@ -32,19 +32,19 @@ abbrev count_cond : Bool → List PlainEntry → ℕ → ℕ
 count_cond b es now = cond b (version_at es now) (suc (version_at es now))
 
 -- if an entry is counted, so are all before it
-front_counted : (m : ℕ) (es : List PlainEntry) (i : ℕ) (e : PlainEntry) (now : ℕ) → MomentsOrderedFrom m es → i < length es → e ≡ get_or es i e
+prefix_counted : (m : ℕ) (es : List PlainEntry) (i : ℕ) (e : PlainEntry) (now : ℕ) → MomentsOrderedFrom m es → i < length es → e ≡ get_or es i e
     → e.moment ≤ now → version_at (take (suc i) es) now ≡ suc i
-front_counted m [] i e now t h is k = omega arith
-front_counted m (x ∷ es) zero e now t h is k =
+prefix_counted m [] i e now t h is k = omega arith
+prefix_counted m (x ∷ es) zero e now t h is k =
     ap (λ b. count_cond b (take 0 es) now) (not_late_of_le now x (omega (arith, k, ap (λ (y : PlainEntry). y.moment) is))) ∙ ap suc (none_taken es now)
-front_counted m (x ∷ es) (suc i) e now t h is k =
+prefix_counted m (x ∷ es) (suc i) e now t h is k =
     let below : x.moment ≤ e.moment = not_before x.moment es i e t.1 (omega arith) is in
     ap (λ b. count_cond b (take (suc i) es) now) (not_late_of_le now x (omega (arith, below, k)))
-    ∙ ap suc (front_counted x.moment es i e now t.1 (omega arith) is k)
+    ∙ ap suc (prefix_counted x.moment es i e now t.1 (omega arith) is k)
 
-pub front_counts : (m : ℕ) (es : List PlainEntry) (i n : ℕ) (e : PlainEntry) (now : ℕ) → n ≡ suc i → MomentsOrderedFrom m es → i < length es
+pub prefix_counts : (m : ℕ) (es : List PlainEntry) (i n : ℕ) (e : PlainEntry) (now : ℕ) → n ≡ suc i → MomentsOrderedFrom m es → i < length es
     → e ≡ get_or es i e → e.moment ≤ now → version_at (take n es) now ≡ n
-front_counts m es i n e now one t h is k = ap (λ j. version_at (take j es) now) one ∙ front_counted m es i e now t h is k ∙ sym one
+prefix_counts m es i n e now one t h is k = ap (λ j. version_at (take j es) now) one ∙ prefix_counted m es i e now t h is k ∙ sym one
 
 none_counts : (m : ℕ) (es : List PlainEntry) (now : ℕ) → MomentsOrderedFrom m es → now < m → version_at es now ≡ 0
 none_counts m [] now t h = refl

@@ -323,16 +323,16 @@ root_step fields (or k x y) d e h ordered = shows_effect_of_both fields (at_root
 
 -- ---- inside a member
 
-list_kept : (fields : FieldList) (i : ℕ) (p : List PlainStep) (ds : Items) (v : Value) (o : Option Value)
+list_unchanged : (fields : FieldList) (i : ℕ) (p : List PlainStep) (ds : Items) (v : Value) (o : Option Value)
     → let u = option_map_or (λ c. with_child (index i) (list ds) (with_value_at c p v)) o (list ds) in (proj fields u ≡ null) × IsOrderedObject u
-list_kept fields i p ds v None = (refl, tt)
-list_kept fields i p ds v (Some c) = (refl, tt)
+list_unchanged fields i p ds v None = (refl, tt)
+list_unchanged fields i p ds v (Some c) = (refl, tt)
 
 index_step : (fields : FieldList) (i : ℕ) (p : List PlainStep) (a : PlainAct) (d e : Value) → apply_one (record { path = index i ∷ p; act = a }) d ≡ Some e → StepShows fields (record { path = index i ∷ p; act = a }) d e
 index_step fields i p a (list ds) e h =
     let P : Value → Type 0 = λ v. (proj fields v ≡ null) × IsOrderedObject v in
     shows_effect_of_both fields (record { path = index i ∷ p; act = a }) (list ds) e
-    (map_of_some P (with_value_at (list ds) (index i ∷ p)) (apply_act a) (value_at (list ds) (index i ∷ p)) e (λ v. list_kept fields i p ds v (item_at i ds)) h)
+    (map_of_some P (with_value_at (list ds) (index i ∷ p)) (apply_act a) (value_at (list ds) (index i ∷ p)) e (λ v. list_unchanged fields i p ds v (item_at i ds)) h)
 index_step fields i p a null e h = cc
 index_step fields i p a (truth b) e h = cc
 index_step fields i p a (whole n) e h = cc

@@ -18,9 +18,9 @@ all_before_entry : (k : List ℕ) (es : List MemberEntry) (e : MemberEntry) (mor
 all_before_entry k [] e more h = h.0
 all_before_entry k (x ∷ es) e more h = all_before_entry k es e more h.1
 
-put_behind : (b : Bool) (k l : List ℕ) (u d : Value) (rest all : Members) → compare_bytes k l ≡ Greater → put_member k u rest ≡ all → put_member k u (cond b (member l d rest) rest) ≡ cond b (member l d all) all
-put_behind true k l u d rest all above h = ap (λ o. match_ordering o (member k u (member l d rest)) (member l u rest) (member l d (put_member k u rest))) above ∙ ap (member l d) h
-put_behind false k l u d rest all above h = h
+put_after : (b : Bool) (k l : List ℕ) (u d : Value) (rest all : Members) → compare_bytes k l ≡ Greater → put_member k u rest ≡ all → put_member k u (cond b (member l d rest) rest) ≡ cond b (member l d all) all
+put_after true k l u d rest all above h = ap (λ o. match_ordering o (member k u (member l d rest)) (member l u rest) (member l d (put_member k u rest))) above ∙ ap (member l d) h
+put_after false k l u d rest all above h = h
 
 -- a field with the greatest key goes last
 pub one_shown : (fields : List (List ℕ)) (done : List MemberEntry) (e : MemberEntry) (more : List MemberEntry) → IsAscending (entry_keys (done ++ e ∷ more)) → is_field fields e.0 ≡ true
@@ -29,7 +29,7 @@ unfolding IsStrictlySortedBy
 one_shown fields [] e more h is = ap (λ b. cond b (member e.0 (value_of e.1) no_members) no_members) (sym is)
 one_shown fields (first ∷ done) e more h is =
     let above : compare_bytes e.0 first.0 ≡ Greater = nat_list_cmp_total.antisymm e.0 first.0 ∙ ap ordering_reverse (all_before_entry first.0 done e more h.0) in
-    put_behind (is_field fields first.0) e.0 first.0 (value_of e.1) (value_of first.1) (project_members fields (members_value done)) (project_members fields (members_value (done ++ e ∷ []))) above (one_shown fields done e more h.1 is)
+    put_after (is_field fields first.0) e.0 first.0 (value_of e.1) (value_of first.1) (project_members fields (members_value done)) (project_members fields (members_value (done ++ e ∷ []))) above (one_shown fields done e more h.1 is)
 
 -- any other key is left out
 pub one_hidden : (fields : List (List ℕ)) (done : List MemberEntry) (e : MemberEntry) → is_field fields e.0 ≡ false → project_members fields (members_value done) ≡ project_members fields (members_value (done ++ e ∷ []))

@@ -39,8 +39,8 @@ units_put bs s i =
     let f : units (insert_slice bs i s) ≡ units (take i bs ++ s) + units (drop i bs) = units_append (take i bs ++ s) (drop i bs) in
     omega (arith, e, f, units_append (take i bs) s)
 
-pub units_gone : (bs : List ℕ) (i j : ℕ) → i ≤ j → units (remove_range bs i j) + units (take (j - i) (drop i bs)) ≡ units bs
-units_gone bs i j h =
+pub units_removed : (bs : List ℕ) (i j : ℕ) → i ≤ j → units (remove_range bs i j) + units (take (j - i) (drop i bs)) ≡ units bs
+units_removed bs i j h =
     let e : units bs ≡ units (take i bs) + units (drop i bs) = ap units (sym (take-append-drop i bs)) ∙ units_append (take i bs) (drop i bs) in
     let f : units (drop i bs) ≡ units (take (j - i) (drop i bs)) + units (drop (j - i) (drop i bs)) = ap units (sym (take-append-drop (j - i) (drop i bs))) ∙ units_append (take (j - i) (drop i bs)) (drop (j - i) (drop i bs)) in
     let s : i + (j - i) ≡ j = omega (arith, h) in
@@ -61,22 +61,22 @@ cut_behind (b ∷ xs) ys p i e =
     let s : units xs + i ≡ p - utf16_width b = omega (arith, e) in
     rw (le_true (utf16_width b) p w) (ap (option_map suc) (cut_behind xs ys (p - utf16_width b) i s) ∙ map_more (cut_at ys i) (length xs))
 
-cut_front_step : (t u : Bool) (b p : ℕ) (xs ys : List ℕ) → nat_le (utf16_width b) p ≡ t → p < utf16_width b + units xs
+cut_prefix_step : (t u : Bool) (b p : ℕ) (xs ys : List ℕ) → nat_le (utf16_width b) p ≡ t → p < utf16_width b + units xs
     → (p - utf16_width b < units xs → cut_at (xs ++ ys) (p - utf16_width b) ≡ cut_at xs (p - utf16_width b))
     → (if t then option_map suc (cut_at (xs ++ ys) (p - utf16_width b)) else (if u then Some 0 else None)) ≡ (if t then option_map suc (cut_at xs (p - utf16_width b)) else (if u then Some 0 else None))
-cut_front_step true u b p xs ys e h below =
+cut_prefix_step true u b p xs ys e h below =
     let w : utf16_width b ≤ p = grind (arith, nat_tests) in
     let l : p - utf16_width b < units xs = omega (arith, h, w) in
     ap (option_map suc) (below l)
-cut_front_step false u b p xs ys e h below = refl
+cut_prefix_step false u b p xs ys e h below = refl
 
 -- a position before the end of the first part is one in it
-pub cut_front : (xs ys : List ℕ) (p : ℕ) → p < units xs → cut_at (xs ++ ys) p ≡ cut_at xs p
-cut_front [] ys p h = absurd (omega (arith, h))
-cut_front (b ∷ xs) ys p h = cut_front_step (nat_le (utf16_width b) p) (nat_eq p 0) b p xs ys refl h (λ l. cut_front xs ys (p - utf16_width b) l)
+pub cut_prefix : (xs ys : List ℕ) (p : ℕ) → p < units xs → cut_at (xs ++ ys) p ≡ cut_at xs p
+cut_prefix [] ys p h = absurd (omega (arith, h))
+cut_prefix (b ∷ xs) ys p h = cut_prefix_step (nat_le (utf16_width b) p) (nat_eq p 0) b p xs ys refl h (λ l. cut_prefix xs ys (p - utf16_width b) l)
 
 pub cut_inside : (J q R : List ℕ) (offset left : ℕ) → units J + left ≡ offset → left < units q → cut_at (J ++ (q ++ R)) offset ≡ option_map (λ k. length J + k) (cut_at q left)
-cut_inside J q R offset left sum less = cut_behind J (q ++ R) offset left sum ∙ ap (option_map (λ k. length J + k)) (cut_front q R left less)
+cut_inside J q R offset left sum less = cut_behind J (q ++ R) offset left sum ∙ ap (option_map (λ k. length J + k)) (cut_prefix q R left less)
 
 -- ---- at the end, and after it
 
@@ -84,8 +84,8 @@ end_step : (u : Bool) (n i : ℕ) → nat_eq i 0 ≡ u → i ≢ 0 → option_ma
 end_step true n i e h = absurd (grind (arith, nat_tests))
 end_step false n i e h = refl
 
-pub past_end : (xs : List ℕ) (p i : ℕ) → units xs + i ≡ p → i ≢ 0 → cut_at xs p ≡ None
-past_end xs p i e h = ap (λ l. cut_at l p) (sym (append-nil xs)) ∙ cut_behind xs [] p i e ∙ end_step (nat_eq i 0) (length xs) i refl h
+pub after_end : (xs : List ℕ) (p i : ℕ) → units xs + i ≡ p → i ≢ 0 → cut_at xs p ≡ None
+after_end xs p i e h = ap (λ l. cut_at l p) (sym (append-nil xs)) ∙ cut_behind xs [] p i e ∙ end_step (nat_eq i 0) (length xs) i refl h
 
 pub at_end : (xs : List ℕ) (p : ℕ) → units xs + 0 ≡ p → cut_at xs p ≡ Some (length xs)
 at_end xs p e = let z : length xs + 0 ≡ length xs = omega arith in ap (λ l. cut_at l p) (sym (append-nil xs)) ∙ cut_behind xs [] p 0 e ∙ ap Some z

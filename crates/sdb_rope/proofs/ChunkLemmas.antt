@@ -19,9 +19,9 @@ pub one_false : (a b : Bool) → b ≡ false → (a && b) ≡ false
 one_false true b e = e
 one_false false b e = refl
 
-pub same_block : (b d : Chunk RopeChunk) → ◌≡◌ {A = List (List ℕ × Bool) × Bool} (map seen_of (items_of b), is_chunk_unique b) (map seen_of (items_of d), is_chunk_unique d)
+pub same_chunk : (b d : Chunk RopeChunk) → ◌≡◌ {A = List (List ℕ × Bool) × Bool} (map seen_of (items_of b), is_chunk_unique b) (map seen_of (items_of d), is_chunk_unique d)
     → ◌≡◌ {A = List ℕ × Bool} (concat (chunk_texts b), is_unique_chunk b) (concat (chunk_texts d), is_unique_chunk d)
-same_block b d e =
+same_chunk b d e =
     let s = same_seen (items_of b) (items_of d) (ap (λ x. x.0) e) in
     let o : is_chunk_unique b ≡ is_chunk_unique d = ap (λ x. x.1) e in
     let w : is_unique_chunk b ≡ is_unique_chunk d = ap (λ x. x && all_rope_chunks_unique (items_of b)) o ∙ ap (λ x. is_chunk_unique d && x) s.1 in

@@ -16,7 +16,7 @@ use Rattle.std.proofs.lemmas.List.Elements.{All-push, All-set, All-append, All-t
 use Rattle.sdb_rope.specs.Position.{IsBounded, AreBounded, chunk_text, bytes_before, bytes_after}
 use Rattle.sdb_rope.specs.declared.rope_chunk.RopeChunk.{RopeChunk}
 use Rattle.sdb_rope.proofs.ChunkEdits.{units_append}
-use Rattle.sdb_rope.proofs.PositionLemmas.{concat_append, put_in, gone_within, gone_across, gone_empty}
+use Rattle.sdb_rope.proofs.PositionLemmas.{concat_append, put_in, removed_within, removed_across, removed_empty}
 
 pub length_of_texts : (ps : List RopeChunk) → length (chunk_list_texts ps) ≡ length ps
 length_of_texts ps = length-map ps chunk_bytes
@@ -40,9 +40,9 @@ pub same_set : (ps : List RopeChunk) (k : ℕ) (p : RopeChunk) → chunk_bytes p
 same_set ps k p e = map-set chunk_bytes ps k p ∙ ap (set (chunk_list_texts ps) k) e ∙ set-get_or (chunk_list_texts ps) k []
 
 -- a chunk replaced by several
-pub put_pieces : (ps us : List RopeChunk) (s : List ℕ) (k i : ℕ) → k < length ps → concat (chunk_list_texts us) ≡ insert_slice (chunk_text (chunk_list_texts ps) k) i s
+pub put_chunks : (ps us : List RopeChunk) (s : List ℕ) (k i : ℕ) → k < length ps → concat (chunk_list_texts us) ≡ insert_slice (chunk_text (chunk_list_texts ps) k) i s
     → concat (chunk_list_texts (splice ps k (k + 1) us)) ≡ bytes_before (chunk_list_texts ps) k i ++ (s ++ bytes_after (chunk_list_texts ps) k i)
-put_pieces ps us s k i h e =
+put_chunks ps us s k i h e =
     let n : k + 1 ≡ suc k = omega arith in
     let f : chunk_list_texts (splice ps k (k + 1) us) ≡ take k (chunk_list_texts ps) ++ (chunk_list_texts us ++ drop (suc k) (chunk_list_texts ps)) =
     ap (λ m. chunk_list_texts (splice ps k m us)) n
@@ -51,69 +51,69 @@ put_pieces ps us s k i h e =
     ap concat f ∙ put_in (chunk_list_texts ps) (chunk_list_texts us) s k i (omega (arith, h, length_of_texts ps)) e
 
 -- a chunk with an inserted text
-pub put_piece : (ps : List RopeChunk) (p : RopeChunk) (s : List ℕ) (k i : ℕ) → k < length ps → chunk_bytes p ≡ insert_slice (chunk_text (chunk_list_texts ps) k) i s
+pub put_chunk : (ps : List RopeChunk) (p : RopeChunk) (s : List ℕ) (k i : ℕ) → k < length ps → chunk_bytes p ≡ insert_slice (chunk_text (chunk_list_texts ps) k) i s
     → concat (chunk_list_texts (set ps k p)) ≡ bytes_before (chunk_list_texts ps) k i ++ (s ++ bytes_after (chunk_list_texts ps) k i)
-put_piece ps p s k i h e =
+put_chunk ps p s k i h e =
     let ts = chunk_list_texts ps in
     let inside : k < length ts = omega (arith, h, length_of_texts ps) in
     let one : concat (chunk_bytes p ∷ []) ≡ insert_slice (chunk_text ts k) i s = append-nil (chunk_bytes p) ∙ e in
     ap concat (map-set chunk_bytes ps k p ∙ set_split ts k (chunk_bytes p) inside) ∙ put_in ts (chunk_bytes p ∷ []) s k i inside one
 
 -- one more chunk
-pub push_piece : (ps : List RopeChunk) (p : RopeChunk) → concat (chunk_list_texts (ps ++ p ∷ [])) ≡ concat (chunk_list_texts ps) ++ chunk_bytes p
-push_piece ps p = ap concat (map_push chunk_bytes ps p) ∙ concat_append (chunk_list_texts ps) (chunk_bytes p ∷ []) ∙ ap (λ l. concat (chunk_list_texts ps) ++ l) (append-nil (chunk_bytes p))
+pub push_chunk : (ps : List RopeChunk) (p : RopeChunk) → concat (chunk_list_texts (ps ++ p ∷ [])) ≡ concat (chunk_list_texts ps) ++ chunk_bytes p
+push_chunk ps p = ap concat (map_push chunk_bytes ps p) ∙ concat_append (chunk_list_texts ps) (chunk_bytes p ∷ []) ∙ ap (λ l. concat (chunk_list_texts ps) ++ l) (append-nil (chunk_bytes p))
 
 -- the bytes of a chunk are UTF-8
 pub chars_utf8 : (c : SharedStr) → IsUtf8 (str_bytes c)
 chars_utf8 (Unique s) = IsUtf8-string_bytes s
 chars_utf8 (Shared a) = IsUtf8-string_bytes a.value
 
-pub pieces_utf8 : (ps : List RopeChunk) (k : ℕ) → IsUtf8 (chunk_text (chunk_list_texts ps) k)
-pieces_utf8 [] k = IsUtf8-nil
-pieces_utf8 (p ∷ ps) zero = chars_utf8 p.text
-pieces_utf8 (p ∷ ps) (suc k) = pieces_utf8 ps k
+pub chunks_utf8 : (ps : List RopeChunk) (k : ℕ) → IsUtf8 (chunk_text (chunk_list_texts ps) k)
+chunks_utf8 [] k = IsUtf8-nil
+chunks_utf8 (p ∷ ps) zero = chars_utf8 p.text
+chunks_utf8 (p ∷ ps) (suc k) = chunks_utf8 ps k
 
 -- a chunk with a removed range
-pub cut_piece_out : (ps : List RopeChunk) (p : RopeChunk) (k i j : ℕ) → k < length ps → chunk_bytes p ≡ remove_range (chunk_text (chunk_list_texts ps) k) i j → concat (chunk_list_texts (set ps k p)) ≡ bytes_before (chunk_list_texts ps) k i ++ bytes_after (chunk_list_texts ps) k j
-cut_piece_out ps p k i j h e = ap concat (map-set chunk_bytes ps k p ∙ ap (set (chunk_list_texts ps) k) e) ∙ gone_within (chunk_list_texts ps) k i j (omega (arith, h, length_of_texts ps))
+pub cut_chunk_out : (ps : List RopeChunk) (p : RopeChunk) (k i j : ℕ) → k < length ps → chunk_bytes p ≡ remove_range (chunk_text (chunk_list_texts ps) k) i j → concat (chunk_list_texts (set ps k p)) ≡ bytes_before (chunk_list_texts ps) k i ++ bytes_after (chunk_list_texts ps) k j
+cut_chunk_out ps p k i j h e = ap concat (map-set chunk_bytes ps k p ∙ ap (set (chunk_list_texts ps) k) e) ∙ removed_within (chunk_list_texts ps) k i j (omega (arith, h, length_of_texts ps))
 
-pub cut_pieces_out : (ps : List RopeChunk) (p q : RopeChunk) (k m n i j : ℕ) → k < m → m < length ps → n ≡ suc k → chunk_bytes p ≡ take i (chunk_text (chunk_list_texts ps) k) → chunk_bytes q ≡ drop j (chunk_text (chunk_list_texts ps) m)
+pub cut_chunks_out : (ps : List RopeChunk) (p q : RopeChunk) (k m n i j : ℕ) → k < m → m < length ps → n ≡ suc k → chunk_bytes p ≡ take i (chunk_text (chunk_list_texts ps) k) → chunk_bytes q ≡ drop j (chunk_text (chunk_list_texts ps) m)
     → concat (chunk_list_texts (remove_range (set (set ps k p) m q) n m)) ≡ bytes_before (chunk_list_texts ps) k i ++ bytes_after (chunk_list_texts ps) m j
-cut_pieces_out ps p q k m n i j h l next e f =
+cut_chunks_out ps p q k m n i j h l next e f =
     let ts = chunk_list_texts ps in
     let all = set (set ps k p) m q in
     let now : chunk_list_texts all ≡ set (set ts k (chunk_bytes p)) m (chunk_bytes q) = map-set chunk_bytes (set ps k p) m q ∙ ap (λ x. set x m (chunk_bytes q)) (map-set chunk_bytes ps k p) in
     let cut : chunk_list_texts (remove_range all n m) ≡ remove_range (chunk_list_texts all) (suc k) m =
     ap (λ x. chunk_list_texts (remove_range all x m)) next ∙ map-append chunk_bytes (take (suc k) all) (drop m all)
     ∙ ap (λ x. x ++ chunk_list_texts (drop m all)) (sym (take-map chunk_bytes (suc k) all)) ∙ ap (λ x. take (suc k) (chunk_list_texts all) ++ x) (sym (drop-map chunk_bytes m all)) in
-    ap concat (cut ∙ ap (λ x. remove_range x (suc k) m) now) ∙ gone_across ts k m i j (chunk_bytes p) (chunk_bytes q) h (omega (arith, l, length_of_texts ps)) e f
+    ap concat (cut ∙ ap (λ x. remove_range x (suc k) m) now) ∙ removed_across ts k m i j (chunk_bytes p) (chunk_bytes q) h (omega (arith, l, length_of_texts ps)) e f
 
-pub empty_piece_out : (ps : List RopeChunk) (k : ℕ) → k < length ps → chunk_text (chunk_list_texts ps) k ≡ [] → concat (chunk_list_texts (remove ps k)) ≡ concat (chunk_list_texts ps)
-empty_piece_out ps k h e =
+pub empty_chunk_out : (ps : List RopeChunk) (k : ℕ) → k < length ps → chunk_text (chunk_list_texts ps) k ≡ [] → concat (chunk_list_texts (remove ps k)) ≡ concat (chunk_list_texts ps)
+empty_chunk_out ps k h e =
     let cut : chunk_list_texts (remove ps k) ≡ remove (chunk_list_texts ps) k = map-append chunk_bytes (take k ps) (drop (suc k) ps)
     ∙ ap (λ x. x ++ chunk_list_texts (drop (suc k) ps)) (sym (take-map chunk_bytes k ps)) ∙ ap (λ x. take k (chunk_list_texts ps) ++ x) (sym (drop-map chunk_bytes (suc k) ps)) in
-    ap concat cut ∙ gone_empty (chunk_list_texts ps) k (omega (arith, h, length_of_texts ps)) e
+    ap concat cut ∙ removed_empty (chunk_list_texts ps) k (omega (arith, h, length_of_texts ps)) e
 
 -- the uniqueness of all chunks
-own_all_step : (b : Bool) (p : RopeChunk) (ps : List RopeChunk) → is_unique_rope_chunk p ≡ b → (b && all_rope_chunks_unique ps) ≡ true → (all_rope_chunks_unique ps ≡ true → All IsUniqueChunk ps) → All IsUniqueChunk (p ∷ ps)
-own_all_step true p ps e f rest = All-cons IsUniqueChunk p ps e (rest f)
-own_all_step false p ps e f rest = cc
+unique_all_step : (b : Bool) (p : RopeChunk) (ps : List RopeChunk) → is_unique_rope_chunk p ≡ b → (b && all_rope_chunks_unique ps) ≡ true → (all_rope_chunks_unique ps ≡ true → All IsUniqueChunk ps) → All IsUniqueChunk (p ∷ ps)
+unique_all_step true p ps e f rest = All-cons IsUniqueChunk p ps e (rest f)
+unique_all_step false p ps e f rest = cc
 
 -- from the test to the uniqueness of each chunk
-pub own_all : (ps : List RopeChunk) → all_rope_chunks_unique ps ≡ true → All IsUniqueChunk ps
-own_all [] e = All-nil IsUniqueChunk
-own_all (p ∷ ps) e = own_all_step (is_unique_rope_chunk p) p ps refl e (λ f. own_all ps f)
+pub unique_all : (ps : List RopeChunk) → all_rope_chunks_unique ps ≡ true → All IsUniqueChunk ps
+unique_all [] e = All-nil IsUniqueChunk
+unique_all (p ∷ ps) e = unique_all_step (is_unique_rope_chunk p) p ps refl e (λ f. unique_all ps f)
 
-pub all_own_is : (ps : List RopeChunk) → All IsUniqueChunk ps → all_rope_chunks_unique ps ≡ true
-all_own_is [] a = refl
-all_own_is (p ∷ ps) a = rw (All-head IsUniqueChunk p ps a) (all_own_is ps (All-tail IsUniqueChunk p ps a))
+pub all_unique_is : (ps : List RopeChunk) → All IsUniqueChunk ps → all_rope_chunks_unique ps ≡ true
+all_unique_is [] a = refl
+all_unique_is (p ∷ ps) a = rw (All-head IsUniqueChunk p ps a) (all_unique_is ps (All-tail IsUniqueChunk p ps a))
 
-none_own_step : (b : Bool) (ps : List RopeChunk) → all_rope_chunks_unique ps ≡ b → (All IsUniqueChunk ps → ⊥) → b ≡ false
-none_own_step true ps e no_own = absurd (no_own (own_all ps e))
-none_own_step false ps e no_own = refl
+none_unique_step : (b : Bool) (ps : List RopeChunk) → all_rope_chunks_unique ps ≡ b → (All IsUniqueChunk ps → ⊥) → b ≡ false
+none_unique_step true ps e no_own = absurd (no_own (unique_all ps e))
+none_unique_step false ps e no_own = refl
 
-pub none_own : (ps : List RopeChunk) → (All IsUniqueChunk ps → ⊥) → all_rope_chunks_unique ps ≡ false
-none_own ps no_own = none_own_step (all_rope_chunks_unique ps) ps refl no_own
+pub none_unique : (ps : List RopeChunk) → (All IsUniqueChunk ps → ⊥) → all_rope_chunks_unique ps ≡ false
+none_unique ps no_own = none_unique_step (all_rope_chunks_unique ps) ps refl no_own
 
 abbrev pub seen_of : RopeChunk → List ℕ × Bool
 seen_of p = (chunk_bytes p, is_unique_rope_chunk p)

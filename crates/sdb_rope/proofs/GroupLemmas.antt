@@ -17,9 +17,9 @@ use Rattle.sdb_rope.specs.Position.{chunk_text, bytes_before, bytes_after, IsUni
 use Rattle.sdb_rope.specs.Utf16.{units, cut_at, insert_text, remove_text}
 use Rattle.sdb_rope.specs.declared.rope_chunk.RopeChunk.{RopeChunk}
 use Rattle.sdb_rope.proofs.OffsetLemmas.{cut_split}
-use Rattle.sdb_rope.proofs.ChunkEdits.{cut_behind, cut_front, insert_text_is, not_inserted, remove_text_is, units_append}
-use Rattle.sdb_rope.proofs.ChunkListLemmas.{seen_of, same_seen, pieces_utf8}
-use Rattle.sdb_rope.proofs.PositionLemmas.{concat_before_after, after_is, append_of_starts_with, concat_append, concat_utf8, gone_within, length_before, put_in, concat_around_chunk}
+use Rattle.sdb_rope.proofs.ChunkEdits.{cut_behind, cut_prefix, insert_text_is, not_inserted, remove_text_is, units_append}
+use Rattle.sdb_rope.proofs.ChunkListLemmas.{seen_of, same_seen, chunks_utf8}
+use Rattle.sdb_rope.proofs.PositionLemmas.{concat_before_after, after_is, append_of_starts_with, concat_append, concat_utf8, removed_within, length_before, put_in, concat_around_chunk}
 
 -- ---- the bytes of groups
 
@@ -39,7 +39,7 @@ bytes_set gs k g = bytes_by_group (set gs k g) ∙ ap concat (map-set (λ g. con
 
 pub group_utf8 : (gs : List (Chunk RopeChunk)) → IsUtf8 (concat (texts_of_groups gs))
 group_utf8 [] = IsUtf8-nil
-group_utf8 (g ∷ gs) = subst_utf8 (concat_append (chunk_texts g) (texts_of_groups gs)) (IsUtf8-append (concat (chunk_texts g)) (concat (texts_of_groups gs)) (concat_utf8 (chunk_texts g) (pieces_utf8 (items_of g))) (group_utf8 gs)) where
+group_utf8 (g ∷ gs) = subst_utf8 (concat_append (chunk_texts g) (texts_of_groups gs)) (IsUtf8-append (concat (chunk_texts g)) (concat (texts_of_groups gs)) (concat_utf8 (chunk_texts g) (chunks_utf8 (items_of g))) (group_utf8 gs)) where
   subst_utf8 : {xs ys : List ℕ} → xs ≡ ys → IsUtf8 ys → IsUtf8 xs
   subst_utf8 e u = rw e u
 
@@ -122,7 +122,7 @@ short_set_group (h ∷ gs) (suc k) g s a = All-append IsBounded (chunk_texts h) 
 cut_there : (ts : List (List ℕ)) (k left : ℕ) → k < length ts → (suc k < length ts → left < units (chunk_text ts k)) → cut_at (chunk_text ts k ++ concat (drop (suc k) ts)) left ≡ cut_at (chunk_text ts k) left
 cut_there [] k left h w = absurd (omega (arith, h))
 cut_there (t ∷ []) zero left h w = ap (λ l. cut_at l left) (append-nil t)
-cut_there (t ∷ u ∷ ts) zero left h w = cut_front t (concat (u ∷ ts)) left (w (omega arith))
+cut_there (t ∷ u ∷ ts) zero left h w = cut_prefix t (concat (u ∷ ts)) left (w (omega arith))
 cut_there (t ∷ ts) (suc k) left h w = cut_there ts k left (omega (arith, h)) (λ l. w (omega (arith, l)))
 
 pub group_cut : (ts : List (List ℕ)) (offset k left : ℕ) → IsGroupAtOffset ts offset k left → cut_at (concat ts) offset ≡ option_map (λ n. length (concat (take k ts)) + n) (cut_at (chunk_text ts k) left)
@@ -165,7 +165,7 @@ take_there ts offset k left i s g true p c h e =
     let d : drop (length s) (drop i q) ≡ drop (i + length s) q = drop-drop (length s) i q in
     let text : bytes_after ts k i ≡ s ++ bytes_after ts k (i + length s) = after_is ts k i p.index_in_range ∙ ap (λ y. y ++ R) (append_of_starts_with (drop i q) s h ∙ ap (λ y. s ++ y) d) ∙ append_assoc s (drop (i + length s) q) R ∙ ap (λ y. s ++ y) (sym (after_is ts k (i + length s) p.index_in_range)) in
     remove_text_is (concat ts) (bytes_before ts k i) (bytes_after ts k i) s (bytes_after ts k (i + length s)) (concat (set ts k g)) offset (concat_before_after ts k i p.index_in_range) (cut_found ts offset k left i p c) text
-    (ap (λ x. concat (set ts k x)) new ∙ gone_within ts k i (i + length s) p.index_in_range)
+    (ap (λ x. concat (set ts k x)) new ∙ removed_within ts k i (i + length s) p.index_in_range)
 
 take_at_cut : (ts : List (List ℕ)) (offset k left : ℕ) (s g : List ℕ) (o : Option ℕ) → IsGroupAtOffset ts offset k left → cut_at (chunk_text ts k) left ≡ o
     → option_and_then (λ i. if starts_with nat_eq (drop i (chunk_text ts k)) s then Some (remove_range (chunk_text ts k) i (i + length s)) else None) o ≡ Some g
@@ -208,9 +208,9 @@ place_inside ts offset k i p =
     let e : units (concat ts) ≡ units J + units (chunk_text ts k ++ R) = ap units (concat_around_chunk ts k p.index_in_range) ∙ units_append J (chunk_text ts k ++ R) in
     omega (arith, e, units_append (chunk_text ts k) R, p.offset_is_sum, p.within)
 
-pub units_past : (gs : List (Chunk RopeChunk)) (k left past offset : ℕ) (g : Chunk RopeChunk) → k < length gs → g ≡ get_or gs k g → units (concat (chunk_texts g)) + past ≡ left
+pub units_after : (gs : List (Chunk RopeChunk)) (k left past offset : ℕ) (g : Chunk RopeChunk) → k < length gs → g ≡ get_or gs k g → units (concat (chunk_texts g)) + past ≡ left
     → units (concat (take k (group_texts gs))) + left ≡ offset → units (concat (take (k + 1) (group_texts gs))) + past ≡ offset
-units_past gs k left past offset g h is m s =
+units_after gs k left past offset g h is m s =
     let ts = group_texts gs in
     let inside : k < length ts = omega (arith, h, count_groups gs) in
     let q : units (chunk_text ts k) ≡ units (concat (chunk_texts g)) = ap units (read_group gs k g h is) in

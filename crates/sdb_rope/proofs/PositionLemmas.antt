@@ -50,8 +50,8 @@ cut_at_of_position : (ts : List (List ℕ)) (offset k i : ℕ) → IsUnitPositio
 cut_at_of_position ts offset k i p =
     ap (λ l. cut_at l offset) (concat_around_chunk ts k p.index_in_range) ∙ cut_inside (concat (take k ts)) (chunk_text ts k) (concat (drop (suc k) ts)) offset i p.offset_is_sum p.within
 
-pub cut_piece : (ts : List (List ℕ)) (q : List ℕ) (offset k i byte : ℕ) → IsUnitPosition ts offset k i → q ≡ chunk_text ts k → Some byte ≡ cut_at q i → IsBytePosition ts offset k byte
-cut_piece ts q offset k i byte p is cut =
+pub cut_chunk : (ts : List (List ℕ)) (q : List ℕ) (offset k i byte : ℕ) → IsUnitPosition ts offset k i → q ≡ chunk_text ts k → Some byte ≡ cut_at q i → IsBytePosition ts offset k byte
+cut_chunk ts q offset k i byte p is cut =
     let here : cut_at (chunk_text ts k) i ≡ Some byte = ap (λ l. cut_at l i) (sym is) ∙ sym cut in
     let split : IsSplitPoint (chunk_text ts k) byte = cut_split (chunk_text ts k) i byte here in
     record {
@@ -87,17 +87,17 @@ after_next (t ∷ []) zero n i h e = rw e refl
 after_next (t ∷ u ∷ ts) zero n i h e = rw e refl
 after_next (t ∷ ts) (suc k) n i h e = rw e (after_next ts k (suc k) i (omega (arith, h)) refl)
 
-after_past : (ts : List (List ℕ)) (k i : ℕ) → length ts ≤ k → bytes_after ts k i ≡ []
-after_past [] k i h = refl
-after_past (t ∷ ts) zero i h = absurd (omega (arith, h))
-after_past (t ∷ ts) (suc k) i h = after_past ts k i (omega (arith, h))
+after_after : (ts : List (List ℕ)) (k i : ℕ) → length ts ≤ k → bytes_after ts k i ≡ []
+after_after [] k i h = refl
+after_after (t ∷ ts) zero i h = absurd (omega (arith, h))
+after_after (t ∷ ts) (suc k) i h = after_after ts k i (omega (arith, h))
 
 nothing_stands : (s : List ℕ) → 0 < length s → starts_with nat_eq [] s ≡ false
 nothing_stands [] h = absurd (omega (arith, h))
 nothing_stands (x ∷ s) h = refl
 
 pub none_past : (ts : List (List ℕ)) (s : List ℕ) (k i : ℕ) → length ts ≤ k → 0 < length s → starts_with nat_eq (bytes_after ts k i) s ≡ false
-none_past ts s k i h l = ap (λ y. starts_with nat_eq y s) (after_past ts k i h) ∙ nothing_stands s l
+none_past ts s k i h l = ap (λ y. starts_with nat_eq y s) (after_after ts k i h) ∙ nothing_stands s l
 
 pub append_of_starts_with : (xs s : List ℕ) → starts_with nat_eq xs s ≡ true → xs ≡ s ++ drop (length s) xs
 append_of_starts_with xs s e = (starts_is Decides-eqb xs s (starts_with nat_eq xs s) refl).0 e
@@ -173,35 +173,35 @@ put_in (t ∷ ts) us s (suc k) i h e = ap (λ l. t ++ l) (put_in ts us s k i (om
 
 -- ---- a removal
 
-pub gone_within : (ts : List (List ℕ)) (k i j : ℕ) → k < length ts → concat (set ts k (remove_range (chunk_text ts k) i j)) ≡ bytes_before ts k i ++ bytes_after ts k j
-gone_within [] k i j h = absurd (omega (arith, h))
-gone_within (t ∷ ts) zero i j h = append_assoc (take i t) (drop j t) (concat ts)
-gone_within (t ∷ ts) (suc k) i j h = ap (λ l. t ++ l) (gone_within ts k i j (omega (arith, h))) ∙ sym (append_assoc t (bytes_before ts k i) (bytes_after ts k j))
+pub removed_within : (ts : List (List ℕ)) (k i j : ℕ) → k < length ts → concat (set ts k (remove_range (chunk_text ts k) i j)) ≡ bytes_before ts k i ++ bytes_after ts k j
+removed_within [] k i j h = absurd (omega (arith, h))
+removed_within (t ∷ ts) zero i j h = append_assoc (take i t) (drop j t) (concat ts)
+removed_within (t ∷ ts) (suc k) i j h = ap (λ l. t ++ l) (removed_within ts k i j (omega (arith, h))) ∙ sym (append_assoc t (bytes_before ts k i) (bytes_after ts k j))
 
 drop_set : (ts : List (List ℕ)) (m : ℕ) (y : List ℕ) → m < length ts → concat (drop m (set ts m y)) ≡ y ++ concat (drop (suc m) ts)
 drop_set [] m y h = absurd (omega (arith, h))
 drop_set (t ∷ ts) zero y h = refl
 drop_set (t ∷ ts) (suc m) y h = drop_set ts m y (omega (arith, h))
 
-gone_between : (ts : List (List ℕ)) (k m : ℕ) (x y : List ℕ) → k < m → m < length ts
+removed_between : (ts : List (List ℕ)) (k m : ℕ) (x y : List ℕ) → k < m → m < length ts
     → concat (take (suc k) (set (set ts k x) m y) ++ drop m (set (set ts k x) m y)) ≡ concat (take k ts) ++ (x ++ (y ++ concat (drop (suc m) ts)))
-gone_between [] k m x y h l = absurd (omega (arith, l))
-gone_between (t ∷ ts) k zero x y h l = absurd (omega (arith, h))
-gone_between (t ∷ ts) zero (suc m) x y h l = ap (λ z. x ++ z) (drop_set ts m y (omega (arith, l)))
-gone_between (t ∷ ts) (suc k) (suc m) x y h l =
-    ap (λ z. t ++ z) (gone_between ts k m x y (omega (arith, h)) (omega (arith, l))) ∙ sym (append_assoc t (concat (take k ts)) (x ++ (y ++ concat (drop (suc m) ts))))
+removed_between [] k m x y h l = absurd (omega (arith, l))
+removed_between (t ∷ ts) k zero x y h l = absurd (omega (arith, h))
+removed_between (t ∷ ts) zero (suc m) x y h l = ap (λ z. x ++ z) (drop_set ts m y (omega (arith, l)))
+removed_between (t ∷ ts) (suc k) (suc m) x y h l =
+    ap (λ z. t ++ z) (removed_between ts k m x y (omega (arith, h)) (omega (arith, l))) ∙ sym (append_assoc t (concat (take k ts)) (x ++ (y ++ concat (drop (suc m) ts))))
 
-pub gone_across : (ts : List (List ℕ)) (k m i j : ℕ) (x y : List ℕ) → k < m → m < length ts → x ≡ take i (chunk_text ts k) → y ≡ drop j (chunk_text ts m)
+pub removed_across : (ts : List (List ℕ)) (k m i j : ℕ) (x y : List ℕ) → k < m → m < length ts → x ≡ take i (chunk_text ts k) → y ≡ drop j (chunk_text ts m)
     → concat (remove_range (set (set ts k x) m y) (suc k) m) ≡ bytes_before ts k i ++ bytes_after ts m j
-gone_across ts k m i j x y h l e f =
-    gone_between ts k m x y h l ∙ sym (append_assoc (concat (take k ts)) x (y ++ concat (drop (suc m) ts)))
+removed_across ts k m i j x y h l e f =
+    removed_between ts k m x y h l ∙ sym (append_assoc (concat (take k ts)) x (y ++ concat (drop (suc m) ts)))
     ∙ ap (λ z. (concat (take k ts) ++ z) ++ (y ++ concat (drop (suc m) ts))) e ∙ ap (λ z. (concat (take k ts) ++ take i (chunk_text ts k)) ++ (z ++ concat (drop (suc m) ts))) f
     ∙ ap (λ z. z ++ (drop j (chunk_text ts m) ++ concat (drop (suc m) ts))) (sym (before_is ts k i (omega (arith, h, l)))) ∙ ap (λ z. bytes_before ts k i ++ z) (sym (after_is ts m j l))
 
-pub gone_empty : (ts : List (List ℕ)) (k : ℕ) → k < length ts → chunk_text ts k ≡ [] → concat (remove ts k) ≡ concat ts
-gone_empty [] k h e = absurd (omega (arith, h))
-gone_empty (t ∷ ts) zero h e = ap (λ l. l ++ concat ts) (sym e)
-gone_empty (t ∷ ts) (suc k) h e = ap (λ l. t ++ l) (gone_empty ts k (omega (arith, h)) e)
+pub removed_empty : (ts : List (List ℕ)) (k : ℕ) → k < length ts → chunk_text ts k ≡ [] → concat (remove ts k) ≡ concat ts
+removed_empty [] k h e = absurd (omega (arith, h))
+removed_empty (t ∷ ts) zero h e = ap (λ l. l ++ concat ts) (sym e)
+removed_empty (t ∷ ts) (suc k) h e = ap (λ l. t ++ l) (removed_empty ts k (omega (arith, h)) e)
 
 -- ---- character boundaries
 

@@ -86,9 +86,9 @@ module _ {S T : Type 0} (table : S → T) (plain : T → List PlainProjection) (
         },
       )
 
-  pub wrote_front : (s : S) (x : List PlainProjection) (ahead : Option (List ℕ)) (lines : List (Option (List ℕ))) (first : List ℕ) (old new : Option (List ℕ)) → plain (table s) ≡ x → f s ≡ initial_timed ahead → first ≡ opening own_source
+  pub wrote_prefix : (s : S) (x : List PlainProjection) (ahead : Option (List ℕ)) (lines : List (Option (List ℕ))) (first : List ℕ) (old new : Option (List ℕ)) → plain (table s) ≡ x → f s ≡ initial_timed ahead → first ≡ opening own_source
       → AppendsAnswerPrefix LineStep s lines first old new → WroteSessionPrefix x ahead lines old new
-  wrote_front s x ahead lines first old new is none says h =
+  wrote_prefix s x ahead lines first old new is none says h =
       let R : List PlainProjection → TimedState → Type 0 = λ x r. Handles (TimedDialogue x) r h.taken h.bytes (f h.last) in
       record {
         taken = h.taken;

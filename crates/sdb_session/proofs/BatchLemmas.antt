@@ -77,19 +77,19 @@ came_none (Some None) is = cc
 
 module _ {A : Type 0} (f : PlainAnswer → List A) (old mid new : List A) where
   -- appended to earlier answers
-  pub says_behind : {B E : Type 0} (r : Result B E) (a b : List PlainAnswer) → WroteAnswers f old mid a → OutputUnlessFailed r (WroteAnswers f mid new) b
+  pub output_after : {B E : Type 0} (r : Result B E) (a b : List PlainAnswer) → WroteAnswers f old mid a → OutputUnlessFailed r (WroteAnswers f mid new) b
       → OutputUnlessFailed r (WroteAnswers f old new) (a ++ b)
-  says_behind (Ok x) a b first last = pieces_more f old mid new a b first last
-  says_behind (Err e) a b first last = tt
+  output_after (Ok x) a b first last = pieces_more f old mid new a b first last
+  output_after (Err e) a b first last = tt
 
   -- the answers to a subscribe request
-  pub opened_behind : {B E : Type 0} (r : Result B E) (o : Option PlainProjection) (k : PlainKey) (v : Option ℕ)
+  pub opened_after : {B E : Type 0} (r : Result B E) (o : Option PlainProjection) (k : PlainKey) (v : Option ℕ)
       (s : PlainSubscribeResult) (es : List PlainEntry) → (v ≡ None → es ≡ []) → WroteAnswers f old mid (entry_answers o k es)
       → OutputUnlessFailed r (WroteAnswers f mid new) (subscribe_end_answers o k v s)
       → OutputUnlessFailed r (WroteAnswers f old new) (subscribe_answers o k v (record { opened = s; first = es }))
-  opened_behind r o k None s es none first last =
-      says_behind r [] (subscribe_end_answers o k None s) (first ∙ ap (λ l. old ++ answer_items f (entry_answers o k l)) (none refl)) last
-  opened_behind r o k (Some v) s es none first last = says_behind r (entry_answers o k es) (subscribe_end_answers o k (Some v) s) first last
+  opened_after r o k None s es none first last =
+      output_after r [] (subscribe_end_answers o k None s) (first ∙ ap (λ l. old ++ answer_items f (entry_answers o k l)) (none refl)) last
+  opened_after r o k (Some v) s es none first last = output_after r (entry_answers o k es) (subscribe_end_answers o k (Some v) s) first last
 
 -- the messages of one more batch
 pub messages_more : {A : Type 0} (f : PlainAnswer → List A) (o : Option PlainProjection) (k : PlainKey) (old mid new : List A)
@@ -158,9 +158,9 @@ module _ {P : Type 0} (acts : CallRelation P) where
         by_case false later = (xs, (m, (takes, inr (size, take_one_failed))))
 
 -- no entries give no answers
-pub none_said : {A : Type 0} (f : PlainAnswer → List A) (o : Option PlainProjection) (k : PlainKey) (old new : List A)
+pub none_output : {A : Type 0} (f : PlainAnswer → List A) (o : Option PlainProjection) (k : PlainKey) (old new : List A)
     (xs : List PlainBatch) → WroteAnswers f old new (entry_answers o k (entries_of xs)) → xs ≡ [] → WroteAnswers f old new (entry_answers o k [])
-none_said f o k old new xs h e = h ∙ ap (λ l. old ++ answer_items f (entry_answers o k (entries_of l))) e
+none_output f o k old new xs h e = h ∙ ap (λ l. old ++ answer_items f (entry_answers o k (entries_of l))) e
 
 -- ---- a new queue
 

@@ -17,9 +17,9 @@ use Rattle.sdb_session.specs.Sessions.{PlainSession, queue_of, is_subscription_f
 use Rattle.sdb_session.specs.View.{OutputUnlessFailed}
 use Rattle.sdb_session.specs.Responses.{PlainSubscribeReply, SubmitCalls, RefuseCalls, OpenAndTakeCalls, SubscribeCalls, submission_of, fetch_answers, list_answers, submit_answers, snapshot_answers, moment_answers, subscribe_answers, RequestInterrupted, SubscribeInterrupted, OutcomeOrInterrupted, RequestOutcome, MessageOutcome, TextOutcome}
 
-pub on_says : {A E : Type 0} (r : Result A E) (f : List PlainAnswer → Type 0) (a : List PlainAnswer) → OnOk r (f a) → OutputUnlessFailed r f a
-on_says (Ok x) f a h = h
-on_says (Err x) f a h = tt
+pub on_output : {A E : Type 0} (r : Result A E) (f : List PlainAnswer → Type 0) (a : List PlainAnswer) → OnOk r (f a) → OutputUnlessFailed r f a
+on_output (Ok x) f a h = h
+on_output (Err x) f a h = tt
 
 -- after an allocation failure no answers are stated
 pub handled_by : {P : Type 0} {A E : Type 0} (b : P → P → Type 0) (acts : PlainKey → CallRelation P) (e : PlainEcho) (t : List PlainProjection) (by now : ℕ) (s : PlainSession) (r : PlainRequest) (p : P) (x : Result A E) (f : List PlainAnswer → Type 0) (new : PlainSession) (q : P)
@@ -27,9 +27,9 @@ pub handled_by : {P : Type 0} {A E : Type 0} (b : P → P → Type 0) (acts : Pl
 handled_by b acts e t by now s r p (Ok x) f new q h = h
 handled_by b acts e t by now s r p (Err x) f new q h = inr h
 
-pub says_on : {A E : Type 0} (r : Result A E) (f : List PlainAnswer → Type 0) (a : List PlainAnswer) → OutputUnlessFailed r f a → OnOk r (f a)
-says_on (Ok x) f a h = h
-says_on (Err x) f a h = tt
+pub output_on : {A E : Type 0} (r : Result A E) (f : List PlainAnswer → Type 0) (a : List PlainAnswer) → OutputUnlessFailed r f a → OnOk r (f a)
+output_on (Ok x) f a h = h
+output_on (Err x) f a h = tt
 
 module _ {P : Type 0} (acts : PlainKey → CallRelation P) (e : PlainEcho) (t : List PlainProjection) (by now : ℕ) (s : PlainSession) (p q : P) (says : List PlainAnswer → Type 0) (k : PlainKey) (o : Option PlainProjection) (seen : o ≡ projection_of_key t k) where
   -- the base document's key, through the projection found in the table

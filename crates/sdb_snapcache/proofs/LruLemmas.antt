@@ -108,8 +108,8 @@ pub eight_of : (o : Option (LruCache ℕ Json)) (k : LruCache ℕ Json) → Some
 eight_of None k h eight = cc
 eight_of (Some j) k h eight = let e : j ≡ k = cc in subst HasCapacityEight e eight
 
-pub kept_of : (o : Option (LruCache ℕ Json)) (k : LruCache ℕ Json) → Some k ≡ o → plain_snapshots k.entries ≡ snapshots_of o
-kept_of o k h = ap snapshots_of h
+pub unchanged_of : (o : Option (LruCache ℕ Json)) (k : LruCache ℕ Json) → Some k ≡ o → plain_snapshots k.entries ≡ snapshots_of o
+unchanged_of o k h = ap snapshots_of h
 
 abbrev VersionsDistinct : List Snapshot → Type 0
 VersionsDistinct kept = IsDistinct nat_eq (map (λ s. s.version) kept)

@@ -43,8 +43,8 @@ greatest_joined (Some u) (Some v) (Some w) = let m : max (max u v) w ≡ max u (
 pub one_nearer : (v : ℕ) (found : Option ℕ) (s : Snapshot) (kept : List Snapshot) → nat_le s.version v ≡ true → max_version (max_version found (Some s.version)) (version_for v kept) ≡ max_version found (version_for v (s ∷ kept))
 one_nearer v found s kept h = greatest_joined found (Some s.version) (version_for v kept) ∙ ap (max_version found) (ap (λ b. max_version (cond b (Some s.version) None) (version_for v kept)) (sym h) ∙ sym (nearer_version v s (nearest v kept)))
 
-pub one_past : (v : ℕ) (found : Option ℕ) (s : Snapshot) (kept : List Snapshot) → nat_le s.version v ≡ false → max_version found (version_for v kept) ≡ max_version found (version_for v (s ∷ kept))
-one_past v found s kept h = ap (max_version found) (sym (greatest_all (version_for v kept)) ∙ ap (λ b. max_version (cond b (Some s.version) None) (version_for v kept)) (sym h) ∙ sym (nearer_version v s (nearest v kept)))
+pub one_after : (v : ℕ) (found : Option ℕ) (s : Snapshot) (kept : List Snapshot) → nat_le s.version v ≡ false → max_version found (version_for v kept) ≡ max_version found (version_for v (s ∷ kept))
+one_after v found s kept h = ap (max_version found) (sym (greatest_all (version_for v kept)) ∙ ap (λ b. max_version (cond b (Some s.version) None) (version_for v kept)) (sym h) ∙ sym (nearer_version v s (nearest v kept)))
 
 -- ---- the used snapshot
 
@@ -57,15 +57,15 @@ pub used_version : (v n : ℕ) (kept : List Snapshot) → Some n ≡ version_for
 used_version v n kept h = used_or (nearest v kept) n kept h
 
 -- the lookup of the found version after its use
-at_front : (n : ℕ) (kept : List Snapshot) (o : Option Snapshot) → snapshot_at_version n kept ≡ o → snapshot_at_version n (option_map_or (λ s. s ∷ without_version n kept) o kept) ≡ o
-at_front n kept None h = h
-at_front n kept (Some s) h = ap (λ b. cond b (Some s) (snapshot_at_version n (without_version n kept))) (eq-eqb n s.version (version_of_snapshot_at n kept s h))
+at_prefix : (n : ℕ) (kept : List Snapshot) (o : Option Snapshot) → snapshot_at_version n kept ≡ o → snapshot_at_version n (option_map_or (λ s. s ∷ without_version n kept) o kept) ≡ o
+at_prefix n kept None h = h
+at_prefix n kept (Some s) h = ap (λ b. cond b (Some s) (snapshot_at_version n (without_version n kept))) (eq-eqb n s.version (version_of_snapshot_at n kept s h))
 
 shown_or : (v n : ℕ) (kept : List Snapshot) (o : Option Snapshot) → nearest v kept ≡ o → Some n ≡ option_map version_of_snapshot o → option_map (λ s. s.value) (snapshot_at_version n (promote_version n kept)) ≡ option_map (λ s. s.value) o
 shown_or v n kept None is h = cc
 shown_or v n kept (Some s) is h =
     let e : n ≡ s.version = cc in
-    ap (option_map (λ x. x.value)) (at_front n kept (snapshot_at_version n kept) refl ∙ ap (λ k. snapshot_at_version k kept) e ∙ (nearest_spec v kept s is).first_of_version)
+    ap (option_map (λ x. x.value)) (at_prefix n kept (snapshot_at_version n kept) refl ∙ ap (λ k. snapshot_at_version k kept) e ∙ (nearest_spec v kept s is).first_of_version)
 
 pub value_of_nearest : (v n : ℕ) (kept : List Snapshot) → Some n ≡ version_for v kept → option_map (λ s. s.value) (snapshot_at_version n (promote_nearest v kept)) ≡ option_map (λ s. s.value) (nearest v kept)
 value_of_nearest v n kept h = ap (λ l. option_map (λ s. s.value) (snapshot_at_version n l)) (used_version v n kept h) ∙ shown_or v n kept (nearest v kept) refl h

@@ -107,11 +107,11 @@ module _ {X S : Type 0} (f : X → S) (l m : ChunkedVec (MapEntry X)) (k : List 
   pub texts_taken : vec_models (entry_model f) m ≡ remove (vec_models (entry_model f) l) i → vec_keys m ≡ remove (vec_keys l) i
   texts_taken e = sym (keys_of_vec_models f m) ∙ ap entry_keys e ∙ names_taken (vec_models (entry_model f) l) i ∙ ap (λ ts. remove ts i) (keys_of_vec_models f l)
 
-  pub length_kept : vec_keys m ≡ vec_keys l → length (vec_keys l) < 2 ^ 64 → length (vec_keys m) < 2 ^ 64
-  length_kept e h = subst (λ ts. length ts < 2 ^ 64) (sym e) h
+  pub length_unchanged : vec_keys m ≡ vec_keys l → length (vec_keys l) < 2 ^ 64 → length (vec_keys m) < 2 ^ 64
+  length_unchanged e h = subst (λ ts. length ts < 2 ^ 64) (sym e) h
 
-  pub ascending_kept : vec_keys m ≡ vec_keys l → IsAscending (vec_keys l) → IsAscending (vec_keys m)
-  ascending_kept e h = subst IsAscending (sym e) h
+  pub ascending_unchanged : vec_keys m ≡ vec_keys l → IsAscending (vec_keys l) → IsAscending (vec_keys m)
+  ascending_unchanged e h = subst IsAscending (sym e) h
 
   pub length_one_more : vec_keys m ≡ insert (vec_keys l) i k → i ≤ length (vec_keys l) → length (vec_keys l) + 1 < 2 ^ 64 → length (vec_keys m) < 2 ^ 64
   length_one_more e w h = let n = length_put (vec_keys l) i k w in subst (λ ts. length ts < 2 ^ 64) (sym e) (omega (arith, n, h))
@@ -177,23 +177,23 @@ module _ {X S : Type 0} (f : X → S) (l m : ChunkedVec (MapEntry X)) (k b : Lis
   pub put_small : {E : Type 0} (r : Result Bool E) → IsInsertIndex (vec_keys l) k i → IfOk r (λ done. entries_after ≡ (if done then insert entries_before i (b, s) else entries_before))
       → IfOk r (λ done. done ≡ nat_le i (length entries_before)) → OnErr r (entries_after ≡ entries_before) → length (vec_keys l) + 1 < 2 ^ 64 → length (vec_keys m) < 2 ^ 64
   put_small (Ok done) g p d e h = length_one_more f l m k i (texts_put f l m k i s (put_there done g p d)) g.in_range h
-  put_small (Err x) g p d e h = length_kept f l m k i (texts_same f l m e) (omega (arith, h))
+  put_small (Err x) g p d e h = length_unchanged f l m k i (texts_same f l m e) (omega (arith, h))
 
   pub put_ascending : {E : Type 0} (r : Result Bool E) → IsInsertIndex (vec_keys l) k i → IfOk r (λ done. entries_after ≡ (if done then insert entries_before i (b, s) else entries_before))
       → IfOk r (λ done. done ≡ nat_le i (length entries_before)) → OnErr r (entries_after ≡ entries_before) → IsAscending (vec_keys l) → IsAscending (vec_keys m)
   put_ascending (Ok done) g p d e h = ascending_more f l m k i (texts_put f l m k i s (put_there done g p d)) h g
-  put_ascending (Err x) g p d e h = ascending_kept f l m k i (texts_same f l m e) h
+  put_ascending (Err x) g p d e h = ascending_unchanged f l m k i (texts_same f l m e) h
 
 module _ {X S : Type 0} (f : X → S) (l m : ChunkedVec (MapEntry X)) (k : List ℕ) (i : ℕ) where
   pub taken_small : {O E : Type 0} (r : Result O E) → OnOk r (vec_models (entry_model f) m ≡ remove (vec_models (entry_model f) l) i)
       → OnErr r (vec_models (entry_model f) m ≡ vec_models (entry_model f) l) → length (vec_keys l) < 2 ^ 64 → length (vec_keys m) < 2 ^ 64
   taken_small (Ok x) p e h = length_one_less f l m k i (texts_taken f l m k i p) h
-  taken_small (Err x) p e h = length_kept f l m k i (texts_same f l m e) h
+  taken_small (Err x) p e h = length_unchanged f l m k i (texts_same f l m e) h
 
   pub taken_ascending : {O E : Type 0} (r : Result O E) → OnOk r (vec_models (entry_model f) m ≡ remove (vec_models (entry_model f) l) i)
       → OnErr r (vec_models (entry_model f) m ≡ vec_models (entry_model f) l) → IsAscending (vec_keys l) → IsAscending (vec_keys m)
   taken_ascending (Ok x) p e h = ascending_less f l m k i (texts_taken f l m k i p) h
-  taken_ascending (Err x) p e h = ascending_kept f l m k i (texts_same f l m e) h
+  taken_ascending (Err x) p e h = ascending_unchanged f l m k i (texts_same f l m e) h
 
   pub taken_entries : IsKeyIndex (vec_keys l) k i → vec_models (entry_model f) m ≡ remove (vec_models (entry_model f) l) i
       → vec_models (entry_model f) m ≡ remove_entry (is_at (compare_bytes k)) (vec_models (entry_model f) l)
@@ -205,9 +205,9 @@ on_err (Err e) p = p
 
 -- ---- a borrowed entry
 
-pub at_lent : {X S : Type 0} (f : X → S) (l : ChunkedVec (MapEntry X)) (i : ℕ) (o : Option (MutBor (MapEntry X))) (b : MutBor (MapEntry X)) → o ≡ Some b
+pub at_borrowed : {X S : Type 0} (f : X → S) (l : ChunkedVec (MapEntry X)) (i : ℕ) (o : Option (MutBor (MapEntry X))) (b : MutBor (MapEntry X)) → o ≡ Some b
     → IfSome o (λ x. slice_get (vec_models (entry_model f) l) i ≡ Some (entry_model f x.now)) → slice_get (vec_models (entry_model f) l) i ≡ Some (entry_model f b.now)
-at_lent f l i o b is h = subst (λ p. IfSome p (λ x. slice_get (vec_models (entry_model f) l) i ≡ Some (entry_model f x.now))) is h
+at_borrowed f l i o b is h = subst (λ p. IfSome p (λ x. slice_get (vec_models (entry_model f) l) i ≡ Some (entry_model f x.now))) is h
 
 name_at : {X : Type 0} (es : List (List ℕ × X)) (i : ℕ) (e : List ℕ × X) → slice_get es i ≡ Some e → slice_get (entry_keys es) i ≡ Some e.0
 name_at [] i e h = cc
@@ -215,10 +215,10 @@ name_at (d ∷ es) zero e h = let is : d ≡ e = cc in ap (λ x. Some x.0) is
 name_at (d ∷ es) (suc i) e h = name_at es i e h
 
 -- its key is unchanged
-pub texts_lent : {X S : Type 0} (f : X → S) (l n : ChunkedVec (MapEntry X)) (i : ℕ) (o : Option (MutBor (MapEntry X))) (b : MutBor (MapEntry X)) (w : X) → o ≡ Some b
+pub texts_borrowed : {X S : Type 0} (f : X → S) (l n : ChunkedVec (MapEntry X)) (i : ℕ) (o : Option (MutBor (MapEntry X))) (b : MutBor (MapEntry X)) (w : X) → o ≡ Some b
     → slice_get (vec_models (entry_model f) l) i ≡ Some (entry_model f b.now)
     → OnSome o (vec_models (entry_model f) n ≡ slice_set (vec_models (entry_model f) l) i (key_bytes b.now.key, f w)) → vec_keys n ≡ vec_keys l
-texts_lent f l n i o b w is at h =
+texts_borrowed f l n i o b w is at h =
     let k = key_bytes b.now.key in
     let e : vec_models (entry_model f) n ≡ slice_set (vec_models (entry_model f) l) i (k, f w) =
     subst (λ p. OnSome p (vec_models (entry_model f) n ≡ slice_set (vec_models (entry_model f) l) i (k, f w))) is h in
@@ -226,10 +226,10 @@ texts_lent f l n i o b w is at h =
     ∙ set_same (entry_keys (vec_models (entry_model f) l)) i k (name_at (vec_models (entry_model f) l) i (entry_model f b.now) at) ∙ keys_of_vec_models f l
 
 -- a unique list has no groups
-flat_form : {X : Type 0} (w : Repr X) → is_unique_repr w ≡ true → is_grouped w ≡ false
-flat_form (Flat b) e = refl
-flat_form (Chunks bs) e = refl
-flat_form (Groups gs) e = cc
+flat_repr : {X : Type 0} (w : Repr X) → is_unique_repr w ≡ true → is_grouped w ≡ false
+flat_repr (Flat b) e = refl
+flat_repr (Chunks bs) e = refl
+flat_repr (Groups gs) e = cc
 
-pub own_flat : {X : Type 0} (l : ChunkedVec X) → is_unique_vec l ≡ true → is_grouped l.repr ≡ false
-own_flat l e = flat_form l.repr e
+pub unique_flat : {X : Type 0} (l : ChunkedVec X) → is_unique_vec l ≡ true → is_grouped l.repr ≡ false
+unique_flat l e = flat_repr l.repr e

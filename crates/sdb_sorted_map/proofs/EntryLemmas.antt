@@ -62,12 +62,12 @@ texts_entries f g (m ∷ ms) (d ∷ es) e =
 pub items_of_shared : {X : Type 0} (o : Option (ChunkedVec X)) (l m : ChunkedVec X) → o ≡ Some m → IfSome o (λ n. vec_chunk_items n ≡ vec_chunk_items l) → vec_chunk_items m ≡ vec_chunk_items l
 items_of_shared o l m e h = subst (λ p. IfSome p (λ n. vec_chunk_items n ≡ vec_chunk_items l)) e h
 
-flat_blocks : {X : Type 0} (bs : List (Chunk X)) → flat_map items_of bs ≡ flat_map (λ xs. xs) (map items_of bs)
-flat_blocks [] = refl
-flat_blocks (b ∷ bs) = ap (λ l. items_of b ++ l) (flat_blocks bs)
+flat_chunks : {X : Type 0} (bs : List (Chunk X)) → flat_map items_of bs ≡ flat_map (λ xs. xs) (map items_of bs)
+flat_chunks [] = refl
+flat_chunks (b ∷ bs) = ap (λ l. items_of b ++ l) (flat_chunks bs)
 
 pub items_parts : {X : Type 0} (l : ChunkedVec X) → vec_items l ≡ flat_map (λ xs. xs) (vec_chunk_items l)
-items_parts l = flat_blocks (vec_chunks l)
+items_parts l = flat_chunks (vec_chunks l)
 
 pub same_items : {X : Type 0} (l m : ChunkedVec X) → vec_chunk_items m ≡ vec_chunk_items l → vec_items m ≡ vec_items l
 same_items l m e = items_parts m ∙ ap (flat_map (λ xs. xs)) e ∙ sym (items_parts l)

@@ -116,20 +116,20 @@ module _ {X : Type 0} (k : List ℕ) where
   found_remove es i f = found_taken es i f.key_at_index f.above_all_before
 
   -- a key that is absent
-  kept_below : (es : List (List ℕ × X)) → IsBelowAll k (entry_keys es) → remove_entry (is_at (compare_bytes k)) es ≡ es
-  kept_below [] b = refl
-  kept_below (d ∷ es) b =
-      ap (λ o. cond (is_eq o) es (d ∷ remove_entry (is_at (compare_bytes k)) es)) b.0 ∙ ap (λ l. d ∷ l) (kept_below es b.1)
+  unchanged_below : (es : List (List ℕ × X)) → IsBelowAll k (entry_keys es) → remove_entry (is_at (compare_bytes k)) es ≡ es
+  unchanged_below [] b = refl
+  unchanged_below (d ∷ es) b =
+      ap (λ o. cond (is_eq o) es (d ∷ remove_entry (is_at (compare_bytes k)) es)) b.0 ∙ ap (λ l. d ∷ l) (unchanged_below es b.1)
 
-  kept_at : (es : List (List ℕ × X)) (i : ℕ) → IsAboveAll k (take i (entry_keys es)) → IsBelowAll k (drop i (entry_keys es))
+  unchanged_at : (es : List (List ℕ × X)) (i : ℕ) → IsAboveAll k (take i (entry_keys es)) → IsBelowAll k (drop i (entry_keys es))
       → remove_entry (is_at (compare_bytes k)) es ≡ es
-  kept_at [] i a b = refl
-  kept_at (d ∷ es) zero a b = kept_below (d ∷ es) b
-  kept_at (d ∷ es) (suc i) a b =
-      ap (λ o. cond (is_eq o) es (d ∷ remove_entry (is_at (compare_bytes k)) es)) a.0 ∙ ap (λ l. d ∷ l) (kept_at es i a.1 b)
+  unchanged_at [] i a b = refl
+  unchanged_at (d ∷ es) zero a b = unchanged_below (d ∷ es) b
+  unchanged_at (d ∷ es) (suc i) a b =
+      ap (λ o. cond (is_eq o) es (d ∷ remove_entry (is_at (compare_bytes k)) es)) a.0 ∙ ap (λ l. d ∷ l) (unchanged_at es i a.1 b)
 
   pub gap_remove : (es : List (List ℕ × X)) (i : ℕ) → IsInsertIndex (entry_keys es) k i → remove_entry (is_at (compare_bytes k)) es ≡ es
-  gap_remove es i g = kept_at es i g.above_all_before g.below
+  gap_remove es i g = unchanged_at es i g.above_all_before g.below
 
   put_at : (es : List (List ℕ × X)) (i : ℕ) (v : X) → i ≤ length (entry_keys es) → IsAboveAll k (take i (entry_keys es)) → IsBelowAll k (drop i (entry_keys es))
       → insert_entry compare_bytes es k v ≡ insert es i (k, v)

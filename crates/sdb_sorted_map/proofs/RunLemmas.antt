@@ -52,19 +52,19 @@ module _ {P : Type 0} (t : P → List (List ℕ)) where
 
 -- ---- sorted texts after others
 
-ascending_behind : (fs gs : List (List ℕ)) → IsAscending (fs ++ gs) → IsAscending gs
+ascending_after : (fs gs : List (List ℕ)) → IsAscending (fs ++ gs) → IsAscending gs
 unfolding IsStrictlySortedBy
-ascending_behind [] gs s = s
-ascending_behind (f ∷ fs) gs s = ascending_behind fs gs s.1
+ascending_after [] gs s = s
+ascending_after (f ∷ fs) gs s = ascending_after fs gs s.1
 
-ascending_front : (fs gs : List (List ℕ)) → IsAscending (fs ++ gs) → IsAscending fs
+ascending_prefix : (fs gs : List (List ℕ)) → IsAscending (fs ++ gs) → IsAscending fs
 unfolding IsStrictlySortedBy
-ascending_front [] gs s = tt
-ascending_front (f ∷ fs) gs s = (all_front (λ t. compare_bytes f t ≡ Less) fs gs s.0, ascending_front fs gs s.1)
+ascending_prefix [] gs s = tt
+ascending_prefix (f ∷ fs) gs s = (all_prefix (λ t. compare_bytes f t ≡ Less) fs gs s.0, ascending_prefix fs gs s.1)
   where
-    all_front : (P : List ℕ → Type 0) (xs ys : List (List ℕ)) → AllByRecursion P (xs ++ ys) → AllByRecursion P xs
-    all_front P [] ys a = tt
-    all_front P (x ∷ xs) ys a = (a.0, all_front P xs ys a.1)
+    all_prefix : (P : List ℕ → Type 0) (xs ys : List (List ℕ)) → AllByRecursion P (xs ++ ys) → AllByRecursion P xs
+    all_prefix P [] ys a = tt
+    all_prefix P (x ∷ xs) ys a = (a.0, all_prefix P xs ys a.1)
 
 is_less : (o : Ordering) → is_lt o ≡ true → o ≡ Less
 is_less Less e = refl
@@ -86,9 +86,9 @@ below_no_start : (k : List ℕ) (xs rs : List (List ℕ)) → IsAscending (xs ++
 below_no_start k [] rs s e b = b
 below_no_start k (x ∷ xs) rs s e b = below_start k (x ∷ xs) rs s (not_false (is_lt (compare_bytes k x)) e)
 
-less_front : (f t : List ℕ) (fs gs : List (List ℕ)) → IsBelowAll f (fs ++ (t ∷ gs)) → compare_bytes f t ≡ Less
-less_front f t [] gs b = b.0
-less_front f t (x ∷ fs) gs b = less_front f t fs gs b.1
+less_prefix : (f t : List ℕ) (fs gs : List (List ℕ)) → IsBelowAll f (fs ++ (t ∷ gs)) → compare_bytes f t ≡ Less
+less_prefix f t [] gs b = b.0
+less_prefix f t (x ∷ fs) gs b = less_prefix f t fs gs b.1
 
 -- a text less than t is less than k
 above_upto : (k t f : List ℕ) (o : Ordering) → compare_bytes k t ≡ o → not (is_lt o) ≡ true → compare_bytes f t ≡ Less → compare_bytes k f ≡ Greater
@@ -96,24 +96,24 @@ above_upto k t f Less c e h = cc
 above_upto k t f Equal c e h = let same : k ≡ t = exact_bytes k t c in less_back f k (ap (compare_bytes f) same ∙ h)
 above_upto k t f Greater c e h = less_back f k (bytes_order.trans f t k h (greater_back k t c))
 
-above_front : (k t : List ℕ) (fs gs : List (List ℕ)) → IsAscending (fs ++ (t ∷ gs)) → not (is_lt (compare_bytes k t)) ≡ true → IsAboveAll k fs
+above_prefix : (k t : List ℕ) (fs gs : List (List ℕ)) → IsAscending (fs ++ (t ∷ gs)) → not (is_lt (compare_bytes k t)) ≡ true → IsAboveAll k fs
 unfolding IsStrictlySortedBy
-above_front k t [] gs s e = tt
-above_front k t (f ∷ fs) gs s e = (above_upto k t f (compare_bytes k t) refl e (less_front f t fs gs s.0), above_front k t fs gs s.1 e)
+above_prefix k t [] gs s e = tt
+above_prefix k t (f ∷ fs) gs s e = (above_upto k t f (compare_bytes k t) refl e (less_prefix f t fs gs s.0), above_prefix k t fs gs s.1 e)
 
 above_start : (k : List ℕ) (fs xs rs : List (List ℕ)) → IsAscending (fs ++ (xs ++ rs)) → first_key_at_most k (slice_get xs 0) ≡ true → IsAboveAll k fs
 above_start k fs [] rs s e = cc
-above_start k fs (x ∷ xs) rs s e = above_front k x fs (xs ++ rs) s e
+above_start k fs (x ∷ xs) rs s e = above_prefix k x fs (xs ++ rs) s e
 
 module _ {P : Type 0} (t : P → List (List ℕ)) (ps : List P) (e : ℕ) (p : P) (w : e < length ps) (h : p ≡ get_or ps e p) (s : IsAscending (flat_map t ps)) where
   ordered_thirds : IsAscending (keys_of_first_runs t ps e ++ (t p ++ keys_of_other_runs t ps (e + 1)))
   ordered_thirds = subst IsAscending (keys_split_around t ps e p w h) s
 
   run_ascending : IsAscending (t p ++ keys_of_other_runs t ps (e + 1))
-  run_ascending = ascending_behind (keys_of_first_runs t ps e) (t p ++ keys_of_other_runs t ps (e + 1)) ordered_thirds
+  run_ascending = ascending_after (keys_of_first_runs t ps e) (t p ++ keys_of_other_runs t ps (e + 1)) ordered_thirds
 
   pub ascending_part : IsAscending (t p)
-  ascending_part = ascending_front (t p) (keys_of_other_runs t ps (e + 1)) run_ascending
+  ascending_part = ascending_prefix (t p) (keys_of_other_runs t ps (e + 1)) run_ascending
 
   -- the run begins above the key
   pub below_part : (k : List ℕ) → first_key_above k (slice_get (t p) 0) ≡ true → IsBelowAll k (keys_of_other_runs t ps e)
@@ -133,13 +133,13 @@ all_joined : (P : List ℕ → Type 0) (xs ys : List (List ℕ)) → AllByRecurs
 all_joined P [] ys a b = b
 all_joined P (x ∷ xs) ys a b = (a.0, all_joined P xs ys a.1 b)
 
-get_front : (xs rs : List (List ℕ)) (i : ℕ) (k : List ℕ) → slice_get xs i ≡ Some k → slice_get (xs ++ rs) i ≡ Some k
-get_front [] rs i k e = cc
-get_front (x ∷ xs) rs zero k e = e
-get_front (x ∷ xs) rs (suc i) k e = get_front xs rs i k e
+get_prefix : (xs rs : List (List ℕ)) (i : ℕ) (k : List ℕ) → slice_get xs i ≡ Some k → slice_get (xs ++ rs) i ≡ Some k
+get_prefix [] rs i k e = cc
+get_prefix (x ∷ xs) rs zero k e = e
+get_prefix (x ∷ xs) rs (suc i) k e = get_prefix xs rs i k e
 
 get_inside : (fs xs rs : List (List ℕ)) (i n : ℕ) (k : List ℕ) → n ≡ length fs + i → slice_get xs i ≡ Some k → slice_get (fs ++ (xs ++ rs)) n ≡ Some k
-get_inside [] xs rs i n k w e = let s : i ≡ n = omega (arith, w) in subst (λ m. slice_get (xs ++ rs) m ≡ Some k) s (get_front xs rs i k e)
+get_inside [] xs rs i n k w e = let s : i ≡ n = omega (arith, w) in subst (λ m. slice_get (xs ++ rs) m ≡ Some k) s (get_prefix xs rs i k e)
 get_inside (f ∷ fs) xs rs i zero k w e = absurd (omega (arith, w))
 get_inside (f ∷ fs) xs rs i (suc n) k w e = get_inside fs xs rs i n k (omega (arith, w)) e
 
@@ -149,29 +149,29 @@ get_within (x ∷ xs) zero k e = omega arith
 get_within (x ∷ xs) (suc i) k e = let w = get_within xs i k e in omega (arith, w)
 
 module _ (P : List ℕ → Type 0) where
-  taken_front : (xs rs : List (List ℕ)) (i : ℕ) → i ≤ length xs → AllByRecursion P (take i xs) → AllByRecursion P (take i (xs ++ rs))
-  taken_front [] [] zero w b = tt
-  taken_front [] (r ∷ rs) zero w b = tt
-  taken_front [] rs (suc i) w b = absurd (omega (arith, w))
-  taken_front (x ∷ xs) rs zero w b = tt
-  taken_front (x ∷ xs) rs (suc i) w b = (b.0, taken_front xs rs i (omega (arith, w)) b.1)
+  taken_prefix : (xs rs : List (List ℕ)) (i : ℕ) → i ≤ length xs → AllByRecursion P (take i xs) → AllByRecursion P (take i (xs ++ rs))
+  taken_prefix [] [] zero w b = tt
+  taken_prefix [] (r ∷ rs) zero w b = tt
+  taken_prefix [] rs (suc i) w b = absurd (omega (arith, w))
+  taken_prefix (x ∷ xs) rs zero w b = tt
+  taken_prefix (x ∷ xs) rs (suc i) w b = (b.0, taken_prefix xs rs i (omega (arith, w)) b.1)
 
   taken_all : (fs xs rs : List (List ℕ)) (i n : ℕ) → n ≡ length fs + i → i ≤ length xs → AllByRecursion P fs → AllByRecursion P (take i xs)
       → AllByRecursion P (take n (fs ++ (xs ++ rs)))
-  taken_all [] xs rs i n e w a b = let s : i ≡ n = omega (arith, e) in subst (λ m. AllByRecursion P (take m (xs ++ rs))) s (taken_front xs rs i w b)
+  taken_all [] xs rs i n e w a b = let s : i ≡ n = omega (arith, e) in subst (λ m. AllByRecursion P (take m (xs ++ rs))) s (taken_prefix xs rs i w b)
   taken_all (f ∷ fs) xs rs i zero e w a b = absurd (omega (arith, e))
   taken_all (f ∷ fs) xs rs i (suc n) e w a b = (a.0, taken_all fs xs rs i n (omega (arith, e)) w a.1 b)
 
-  left_front : (xs rs : List (List ℕ)) (i : ℕ) → i ≤ length xs → AllByRecursion P (drop i xs) → AllByRecursion P rs → AllByRecursion P (drop i (xs ++ rs))
-  left_front [] [] zero w b c = c
-  left_front [] (r ∷ rs) zero w b c = c
-  left_front [] rs (suc i) w b c = absurd (omega (arith, w))
-  left_front (x ∷ xs) rs zero w b c = all_joined P (x ∷ xs) rs b c
-  left_front (x ∷ xs) rs (suc i) w b c = left_front xs rs i (omega (arith, w)) b c
+  left_prefix : (xs rs : List (List ℕ)) (i : ℕ) → i ≤ length xs → AllByRecursion P (drop i xs) → AllByRecursion P rs → AllByRecursion P (drop i (xs ++ rs))
+  left_prefix [] [] zero w b c = c
+  left_prefix [] (r ∷ rs) zero w b c = c
+  left_prefix [] rs (suc i) w b c = absurd (omega (arith, w))
+  left_prefix (x ∷ xs) rs zero w b c = all_joined P (x ∷ xs) rs b c
+  left_prefix (x ∷ xs) rs (suc i) w b c = left_prefix xs rs i (omega (arith, w)) b c
 
   left_all : (fs xs rs : List (List ℕ)) (i n : ℕ) → n ≡ length fs + i → i ≤ length xs → AllByRecursion P (drop i xs) → AllByRecursion P rs
       → AllByRecursion P (drop n (fs ++ (xs ++ rs)))
-  left_all [] xs rs i n e w b c = let s : i ≡ n = omega (arith, e) in subst (λ m. AllByRecursion P (drop m (xs ++ rs))) s (left_front xs rs i w b c)
+  left_all [] xs rs i n e w b c = let s : i ≡ n = omega (arith, e) in subst (λ m. AllByRecursion P (drop m (xs ++ rs))) s (left_prefix xs rs i w b c)
   left_all (f ∷ fs) xs rs i zero e w b c = absurd (omega (arith, e))
   left_all (f ∷ fs) xs rs i (suc n) e w b c = left_all fs xs rs i n (omega (arith, e)) w b c
 
@@ -212,7 +212,7 @@ gap_first k (t ∷ ts) b = record { in_range = omega arith; above_all_before = t
 pub first_text : {P : Type 0} (t : P → List (List ℕ)) (ps : List P) (e : ℕ) (p : P) (x : List ℕ) → e < length ps → p ≡ get_or ps e p
     → keys_of_first_runs t ps e ≡ [] → slice_get (t p) 0 ≡ Some x → slice_get (flat_map t ps) 0 ≡ Some x
 first_text t ps e p x w h none is =
-    ap (λ l. slice_get l 0) (keys_split_around t ps e p w h ∙ ap (λ l. l ++ (t p ++ keys_of_other_runs t ps (e + 1))) none) ∙ get_front (t p) (keys_of_other_runs t ps (e + 1)) 0 x is
+    ap (λ l. slice_get l 0) (keys_split_around t ps e p w h ∙ ap (λ l. l ++ (t p ++ keys_of_other_runs t ps (e + 1))) none) ∙ get_prefix (t p) (keys_of_other_runs t ps (e + 1)) 0 x is
 
 pub no_text : (ts : List (List ℕ)) → slice_get ts 0 ≡ None → ts ≡ []
 no_text [] e = refl

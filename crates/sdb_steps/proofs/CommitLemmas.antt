@@ -51,9 +51,9 @@ commit_allocates : (logs new : Logs) (k : PlainKey) (w : PlainAttempt) (now : �
 commit_allocates logs new k w now r is (inl h) e = takes_if (logs k) w h.2 e
 commit_allocates logs new k w now r is (inr h) e = absurd (decide_not_out_of_memory (logs k) w.submission now (sym h.1 ∙ is))
 
-pub tries_wanting : (m n : Shard) (k : PlainKey) (w : PlainAttempt) (now : ℕ) (r : PlainReply) (tries : ℕ) (worked : Bool) (o : plain.PlainOpenAttempt) → tries < 8 → r ≡ refused E10 → CommitsOrOutOfMemory (logs_of m) k w now (decided r) (logs_of n) → queues_of n ≡ queues_of m
+pub tries_out_of_memory : (m n : Shard) (k : PlainKey) (w : PlainAttempt) (now : ℕ) (r : PlainReply) (tries : ℕ) (worked : Bool) (o : plain.PlainOpenAttempt) → tries < 8 → r ≡ refused E10 → CommitsOrOutOfMemory (logs_of m) k w now (decided r) (logs_of n) → queues_of n ≡ queues_of m
     → o ≡ attempt_of k w tries worked → AttemptCommits (one_step_of_shard m) (attempt_of k w tries worked) now plain.out_of_memory (one_step_of_shard n) (Some o)
-tries_wanting m n k w now r tries worked o few is h q same =
+tries_out_of_memory m n k w now r tries worked o few is h q same =
     let more : nat_eq tries 8 ≡ false = grind (arith, nat_tests) in (
       same_core m n (commit_out_of_memory (logs_of m) (logs_of n) k w now r is h) q,
       ap Some same,
@@ -61,8 +61,8 @@ tries_wanting m n k w now r tries worked o few is h q same =
     )
 
 -- an unworked attempt for a log that has grown
-pub unworked_wanting : (m : Shard) (a o : plain.PlainOpenAttempt) (now : ℕ) → a.tries < 8 → (length (logs_of m a.key) ≡ a.looked_version → ⊥) → o ≡ a → AttemptCommits (one_step_of_shard m) a now plain.out_of_memory (one_step_of_shard m) (Some o)
-unworked_wanting m a o now few apart same =
+pub unworked_out_of_memory : (m : Shard) (a o : plain.PlainOpenAttempt) (now : ℕ) → a.tries < 8 → (length (logs_of m a.key) ≡ a.looked_version → ⊥) → o ≡ a → AttemptCommits (one_step_of_shard m) a now plain.out_of_memory (one_step_of_shard m) (Some o)
+unworked_out_of_memory m a o now few apart same =
     let more : nat_eq a.tries 8 ≡ false = grind (arith, nat_tests) in (
       refl,
       ap Some same,
@@ -98,9 +98,9 @@ tries_moved m n k w now l tries worked o few h q is =
 
 -- ---- the ninth try
 
-pub now_wanting : (m n : Shard) (a : plain.PlainOpenAttempt) (now : ℕ) (r : PlainReply) → r ≡ refused E10 → DecidesOrOutOfMemory (logs_of m) a.key a.submission now r (logs_of n) → queues_of n ≡ queues_of m → AttemptCommits (one_step_of_shard m) a now plain.out_of_memory (one_step_of_shard n) (Some a)
-now_wanting m n a now r is (inl h) q = (same_core m n h.1 q, refl, (λ d. h.2))
-now_wanting m n a now r is (inr h) q = absurd (decide_not_out_of_memory (logs_of m a.key) a.submission now (sym h.0 ∙ is))
+pub now_out_of_memory : (m n : Shard) (a : plain.PlainOpenAttempt) (now : ℕ) (r : PlainReply) → r ≡ refused E10 → DecidesOrOutOfMemory (logs_of m) a.key a.submission now r (logs_of n) → queues_of n ≡ queues_of m → AttemptCommits (one_step_of_shard m) a now plain.out_of_memory (one_step_of_shard n) (Some a)
+now_out_of_memory m n a now r is (inl h) q = (same_core m n h.1 q, refl, (λ d. h.2))
+now_out_of_memory m n a now r is (inr h) q = absurd (decide_not_out_of_memory (logs_of m a.key) a.submission now (sym h.0 ∙ is))
 
 pub now_decided : (m n : Shard) (a : plain.PlainOpenAttempt) (now : ℕ) (r : PlainReply) → plain.is_deciding (one_step_of_shard m) a ≡ true → (r ≡ refused E10 → ⊥) → DecidesOrOutOfMemory (logs_of m) a.key a.submission now r (logs_of n) → queues_of n ≡ queues_of m → AttemptCommits (one_step_of_shard m) a now (plain.reply_answer (machine.decided r)) (one_step_of_shard n) None
 now_decided m n a now r due enough (inl h) q = absurd (enough h.0)

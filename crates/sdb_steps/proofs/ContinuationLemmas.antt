@@ -64,44 +64,44 @@ abbrev EffectContinues : OneStep → (PlainKey → Option QueuePosition) → Ste
 EffectContinues m f act (event e y) end = ContinuesAfterStep f act (reply_answer (machine.reply_to_event m e)) y end
 EffectContinues m f act (notice n y) end = ContinuesAfterStep f act (notice_answer n) y end
 
-kept_follows : (m n : OneStep) (f : PlainKey → Option QueuePosition) (act : StepKind) (d : Effect) (a : PlainStepAnswer) (y : SessionState) (end : Logs) → EffectContinues m f act d end → EffectRelation m d a n y → ContinuesAfterStep f act a y end
-kept_follows m n f act (event e z) a y end k h =
+unchanged_follows : (m n : OneStep) (f : PlainKey → Option QueuePosition) (act : StepKind) (d : Effect) (a : PlainStepAnswer) (y : SessionState) (end : Logs) → EffectContinues m f act d end → EffectRelation m d a n y → ContinuesAfterStep f act a y end
+unchanged_follows m n f act (event e z) a y end k h =
     subst (λ (c : PlainStepAnswer). ContinuesAfterStep f act c y end) (sym h.0) (subst (λ (x : SessionState). ContinuesAfterStep f act (reply_answer (machine.reply_to_event m e)) x end) (sym h.2) k)
-kept_follows m n f act (notice c z) a y end k h =
+unchanged_follows m n f act (notice c z) a y end k h =
     subst (λ (c : PlainStepAnswer). ContinuesAfterStep f act c y end) (sym h.0) (subst (λ (x : SessionState). ContinuesAfterStep f act (notice_answer c) x end) (sym h.2) k)
 
-keeps_begin : (m : OneStep) (f : PlainKey → Option QueuePosition) (i : ℕ) (x : SessionState) (k : PlainKey) (src : List ℕ) (seq : ℕ) (v : Option ℕ) (content : PlainContent) (o : Option PlainOpenAttempt) (end : Logs) → TracksQueues f x
+preserves_begin : (m : OneStep) (f : PlainKey → Option QueuePosition) (i : ℕ) (x : SessionState) (k : PlainKey) (src : List ℕ) (seq : ℕ) (v : Option ℕ) (content : PlainContent) (o : Option PlainOpenAttempt) (end : Logs) → TracksQueues f x
     → EffectContinues m f (plain.begin k src seq v content) (option_map_or (λ a. notice plain.idle x) o (notice plain.began (with_attempt x (Some (plain.open_attempt m k (plain.submission_of_begin i k src seq v content)))))) end
-keeps_begin m f i x k src seq v content None end t = record { tracks = t; continued = tt }
-keeps_begin m f i x k src seq v content (Some a) end t = record { tracks = t; continued = tt }
+preserves_begin m f i x k src seq v content None end t = record { tracks = t; continued = tt }
+preserves_begin m f i x k src seq v content (Some a) end t = record { tracks = t; continued = tt }
 
-keeps_worked : (m : OneStep) (f : PlainKey → Option QueuePosition) (x : SessionState) (a : PlainOpenAttempt) (c : Bool) (end : Logs) → TracksQueues f x
+preserves_worked : (m : OneStep) (f : PlainKey → Option QueuePosition) (x : SessionState) (a : PlainOpenAttempt) (c : Bool) (end : Logs) → TracksQueues f x
     → EffectContinues m f plain.work (cond c (notice plain.idle x) (notice plain.worked (with_attempt x (Some (plain.mark_worked a))))) end
-keeps_worked m f x a true end t = record { tracks = t; continued = tt }
-keeps_worked m f x a false end t = record { tracks = t; continued = tt }
+preserves_worked m f x a true end t = record { tracks = t; continued = tt }
+preserves_worked m f x a false end t = record { tracks = t; continued = tt }
 
-keeps_work : (m : OneStep) (f : PlainKey → Option QueuePosition) (x : SessionState) (o : Option PlainOpenAttempt) (end : Logs) → TracksQueues f x
+preserves_work : (m : OneStep) (f : PlainKey → Option QueuePosition) (x : SessionState) (o : Option PlainOpenAttempt) (end : Logs) → TracksQueues f x
     → EffectContinues m f plain.work (option_map_or (λ a. cond a.is_worked (notice plain.idle x) (notice plain.worked (with_attempt x (Some (plain.mark_worked a))))) o (notice plain.idle x)) end
-keeps_work m f x None end t = record { tracks = t; continued = tt }
-keeps_work m f x (Some a) end t = keeps_worked m f x a a.is_worked end t
+preserves_work m f x None end t = record { tracks = t; continued = tt }
+preserves_work m f x (Some a) end t = preserves_worked m f x a a.is_worked end t
 
-keeps_tried : (m : OneStep) (f : PlainKey → Option QueuePosition) (x : SessionState) (now : ℕ) (a : PlainOpenAttempt) (c : Bool) (end : Logs) → TracksQueues f x
+preserves_tried : (m : OneStep) (f : PlainKey → Option QueuePosition) (x : SessionState) (now : ℕ) (a : PlainOpenAttempt) (c : Bool) (end : Logs) → TracksQueues f x
     → EffectContinues m f (plain.commit now) (cond c (event (machine.submission a.key a.submission now) (with_attempt x None)) (notice plain.moved (with_attempt x (Some (plain.look_again m a))))) end
-keeps_tried m f x now a true end t = record { tracks = t; continued = tt }
-keeps_tried m f x now a false end t = record { tracks = t; continued = tt }
+preserves_tried m f x now a true end t = record { tracks = t; continued = tt }
+preserves_tried m f x now a false end t = record { tracks = t; continued = tt }
 
-keeps_commit : (m : OneStep) (f : PlainKey → Option QueuePosition) (x : SessionState) (now : ℕ) (o : Option PlainOpenAttempt) (end : Logs) → TracksQueues f x → EffectContinues m f (plain.commit now) (option_map_or (plain.commit_effect m x now) o (notice plain.idle x)) end
-keeps_commit m f x now None end t = record { tracks = t; continued = tt }
-keeps_commit m f x now (Some a) end t = keeps_tried m f x now a (plain.is_deciding m a) end t
+preserves_commit : (m : OneStep) (f : PlainKey → Option QueuePosition) (x : SessionState) (now : ℕ) (o : Option PlainOpenAttempt) (end : Logs) → TracksQueues f x → EffectContinues m f (plain.commit now) (option_map_or (plain.commit_effect m x now) o (notice plain.idle x)) end
+preserves_commit m f x now None end t = record { tracks = t; continued = tt }
+preserves_commit m f x now (Some a) end t = preserves_tried m f x now a (plain.is_deciding m a) end t
 
 -- at k or at another key
 put_same : (b : Bool) (p o u : Option QueuePosition) → o ≡ u → cond b p o ≡ cond b p u
 put_same true p o u e = refl
 put_same false p o u e = e
 
-kept_refused : (f : PlainKey → Option QueuePosition) (x : SessionState) (k : PlainKey) (v : Option ℕ) (c : Code) (r : Result ℕ Code) (end : Logs) → r ≡ Err c → TracksQueues f x
+unchanged_refused : (f : PlainKey → Option QueuePosition) (x : SessionState) (k : PlainKey) (v : Option ℕ) (c : Code) (r : Result ℕ Code) (end : Logs) → r ≡ Err c → TracksQueues f x
     → ContinuesAfterStep f (plain.subscribe k v) (reply_answer (subscribed r)) x end
-kept_refused f x k v c r end is t = subst (λ (u : Result ℕ Code). ContinuesAfterStep f (plain.subscribe k v) (reply_answer (subscribed u)) x end) (sym is) (record { tracks = t; continued = tt })
+unchanged_refused f x k v c r end is t = subst (λ (u : Result ℕ Code). ContinuesAfterStep f (plain.subscribe k v) (reply_answer (subscribed u)) x end) (sym is) (record { tracks = t; continued = tt })
 
 -- a start is the requested version
 start_is_named_version : (v : Option ℕ) (n start : ℕ) (b c : Bool) → result_and_then (λ s. cond c (Err E11) (Ok s)) (cond b (Err E4) (Ok (unwrap_or v n))) ≡ Ok start → IfSome v (λ w. start ≡ w)
@@ -116,21 +116,21 @@ start_is m k v start end is g =
     let long : length (end k) ≡ length (m.logs k) + length g.more = ap length g.is ∙ length-append (m.logs k) g.more in
     (omega (arith, within, long), start_is_named_version v (length (m.logs k)) start _ _ is)
 
-keeps_subscribe : (m : OneStep) (f : PlainKey → Option QueuePosition) (x : SessionState) (k : PlainKey) (v : Option ℕ) (r : Result ℕ Code) (end : Logs) → start_result m k v ≡ r → ExtendsTo m end → TracksQueues f x → EffectContinues m f (plain.subscribe k v) (plain.subscribe_effect x k v r) end
-keeps_subscribe m f x k v (Ok start) end is g t =
+preserves_subscribe : (m : OneStep) (f : PlainKey → Option QueuePosition) (x : SessionState) (k : PlainKey) (v : Option ℕ) (r : Result ℕ Code) (end : Logs) → start_result m k v ≡ r → ExtendsTo m end → TracksQueues f x → EffectContinues m f (plain.subscribe k v) (plain.subscribe_effect x k v r) end
+preserves_subscribe m f x k v (Ok start) end is g t =
     subst (λ (u : Result ℕ Code). ContinuesAfterStep f (plain.subscribe k v) (reply_answer (subscribed u)) (with_queue x k (Some (record { start = start; taken = 0 }))) end) (sym is)
     (record { tracks = λ j. put_same (keys_equal k j) (Some (record { start = start; taken = 0 })) (f j) (x.queues j) (t j); continued = start_is m k v start end is (g k) })
-keeps_subscribe m f x k v (Err E1) end is g t = kept_refused f x k v E1 (start_result m k v) end is t
-keeps_subscribe m f x k v (Err E2) end is g t = kept_refused f x k v E2 (start_result m k v) end is t
-keeps_subscribe m f x k v (Err E3) end is g t = kept_refused f x k v E3 (start_result m k v) end is t
-keeps_subscribe m f x k v (Err E4) end is g t = kept_refused f x k v E4 (start_result m k v) end is t
-keeps_subscribe m f x k v (Err E5) end is g t = kept_refused f x k v E5 (start_result m k v) end is t
-keeps_subscribe m f x k v (Err E6) end is g t = kept_refused f x k v E6 (start_result m k v) end is t
-keeps_subscribe m f x k v (Err E7) end is g t = kept_refused f x k v E7 (start_result m k v) end is t
-keeps_subscribe m f x k v (Err E8) end is g t = kept_refused f x k v E8 (start_result m k v) end is t
-keeps_subscribe m f x k v (Err E9) end is g t = kept_refused f x k v E9 (start_result m k v) end is t
-keeps_subscribe m f x k v (Err E10) end is g t = kept_refused f x k v E10 (start_result m k v) end is t
-keeps_subscribe m f x k v (Err E11) end is g t = record { tracks = t; continued = tt }
+preserves_subscribe m f x k v (Err E1) end is g t = unchanged_refused f x k v E1 (start_result m k v) end is t
+preserves_subscribe m f x k v (Err E2) end is g t = unchanged_refused f x k v E2 (start_result m k v) end is t
+preserves_subscribe m f x k v (Err E3) end is g t = unchanged_refused f x k v E3 (start_result m k v) end is t
+preserves_subscribe m f x k v (Err E4) end is g t = unchanged_refused f x k v E4 (start_result m k v) end is t
+preserves_subscribe m f x k v (Err E5) end is g t = unchanged_refused f x k v E5 (start_result m k v) end is t
+preserves_subscribe m f x k v (Err E6) end is g t = unchanged_refused f x k v E6 (start_result m k v) end is t
+preserves_subscribe m f x k v (Err E7) end is g t = unchanged_refused f x k v E7 (start_result m k v) end is t
+preserves_subscribe m f x k v (Err E8) end is g t = unchanged_refused f x k v E8 (start_result m k v) end is t
+preserves_subscribe m f x k v (Err E9) end is g t = unchanged_refused f x k v E9 (start_result m k v) end is t
+preserves_subscribe m f x k v (Err E10) end is g t = unchanged_refused f x k v E10 (start_result m k v) end is t
+preserves_subscribe m f x k v (Err E11) end is g t = record { tracks = t; continued = tt }
 
 -- the position of k advances, and those of other keys are unchanged
 read_same : (f : PlainKey → Option QueuePosition) (x : SessionState) (k j : PlainKey) (es : List PlainEntry) (q : QueuePosition) (b : Bool) → keys_equal k j ≡ b → x.queues k ≡ Some q → TracksQueues f x
@@ -138,45 +138,45 @@ read_same : (f : PlainKey → Option QueuePosition) (x : SessionState) (k j : Pl
 read_same f x k j es q true is has t = ap (option_map (position_after_take es)) (t j ∙ ap x.queues (sym (eq_of_keys_equal k j is)) ∙ has)
 read_same f x k j es q false is has t = t j
 
-keeps_take : (m : OneStep) (f : PlainKey → Option QueuePosition) (x : SessionState) (k : PlainKey) (max : ℕ) (o : Option QueuePosition) (end : Logs) → x.queues k ≡ o → ExtendsTo m end → TracksQueues f x
+preserves_take : (m : OneStep) (f : PlainKey → Option QueuePosition) (x : SessionState) (k : PlainKey) (max : ℕ) (o : Option QueuePosition) (end : Logs) → x.queues k ≡ o → ExtendsTo m end → TracksQueues f x
     → EffectContinues m f (plain.take k max) (option_map_or (plain.take_effect m x k max) o (notice plain.idle x)) end
-keeps_take m f x k max None end has g t = record { tracks = t; continued = tt }
-keeps_take m f x k max (Some q) end has g t =
+preserves_take m f x k max None end has g t = record { tracks = t; continued = tt }
+preserves_take m f x k max (Some q) end has g t =
     let es = entries_at_position (m.logs k) max q in
     record {
       tracks = λ j. read_same f x k j es q (keys_equal k j) refl has t;
       continued = subst (λ (r : Option QueuePosition). AreNextEntries (end k) r max es) (sym (t k ∙ has)) (next_is (m.logs k) (end k) q max (g k));
     }
 
-keeps_close : (m : OneStep) (f : PlainKey → Option QueuePosition) (x : SessionState) (k : PlainKey) (o : Option QueuePosition) (end : Logs) → TracksQueues f x
+preserves_close : (m : OneStep) (f : PlainKey → Option QueuePosition) (x : SessionState) (k : PlainKey) (o : Option QueuePosition) (end : Logs) → TracksQueues f x
     → EffectContinues m f (plain.unsubscribe k) (option_map_or (λ q. notice plain.unsubscribed (with_queue x k None)) o (notice plain.idle x)) end
-keeps_close m f x k None end t = record { tracks = t; continued = tt }
-keeps_close m f x k (Some q) end t = record { tracks = λ j. put_same (keys_equal k j) None (f j) (x.queues j) (t j); continued = tt }
+preserves_close m f x k None end t = record { tracks = t; continued = tt }
+preserves_close m f x k (Some q) end t = record { tracks = λ j. put_same (keys_equal k j) None (f j) (x.queues j) (t j); continued = tt }
 
-keeps_deed : (m : OneStep) (f : PlainKey → Option QueuePosition) (i : ℕ) (x : SessionState) (act : StepKind) (end : Logs) → ExtendsTo m end → TracksQueues f x → EffectContinues m f act (effect m i x act) end
-keeps_deed m f i x (plain.begin k src seq v content) end g t = keeps_begin m f i x k src seq v content x.attempt end t
-keeps_deed m f i x plain.work end g t = keeps_work m f x x.attempt end t
-keeps_deed m f i x (plain.commit now) end g t = keeps_commit m f x now x.attempt end t
-keeps_deed m f i x (plain.fetch k) end g t = record { tracks = t; continued = tt }
-keeps_deed m f i x (plain.snapshot k v) end g t = record { tracks = t; continued = tt }
-keeps_deed m f i x (plain.snapshot_at_time k u) end g t = record { tracks = t; continued = tt }
-keeps_deed m f i x (plain.subscribe k v) end g t = keeps_subscribe m f x k v (start_result m k v) end refl g t
-keeps_deed m f i x (plain.take k max) end g t = keeps_take m f x k max (x.queues k) end refl g t
-keeps_deed m f i x (plain.unsubscribe k) end g t = keeps_close m f x k (x.queues k) end t
-keeps_deed m f i x (plain.forget k) end g t = record { tracks = t; continued = tt }
+preserves_deed : (m : OneStep) (f : PlainKey → Option QueuePosition) (i : ℕ) (x : SessionState) (act : StepKind) (end : Logs) → ExtendsTo m end → TracksQueues f x → EffectContinues m f act (effect m i x act) end
+preserves_deed m f i x (plain.begin k src seq v content) end g t = preserves_begin m f i x k src seq v content x.attempt end t
+preserves_deed m f i x plain.work end g t = preserves_work m f x x.attempt end t
+preserves_deed m f i x (plain.commit now) end g t = preserves_commit m f x now x.attempt end t
+preserves_deed m f i x (plain.fetch k) end g t = record { tracks = t; continued = tt }
+preserves_deed m f i x (plain.snapshot k v) end g t = record { tracks = t; continued = tt }
+preserves_deed m f i x (plain.snapshot_at_time k u) end g t = record { tracks = t; continued = tt }
+preserves_deed m f i x (plain.subscribe k v) end g t = preserves_subscribe m f x k v (start_result m k v) end refl g t
+preserves_deed m f i x (plain.take k max) end g t = preserves_take m f x k max (x.queues k) end refl g t
+preserves_deed m f i x (plain.unsubscribe k) end g t = preserves_close m f x k (x.queues k) end t
+preserves_deed m f i x (plain.forget k) end g t = record { tracks = t; continued = tt }
 
 -- a step that fails to allocate reads nothing
-kept_none : (f : PlainKey → Option QueuePosition) (act : StepKind) (end : Logs) → ((j : PlainKey) → position_after_step j act out_of_memory (f j) ≡ f j) × ContinuesFromPosition end f act out_of_memory
-kept_none f (plain.begin k src seq v content) end = ((λ j. refl), tt)
-kept_none f plain.work end = ((λ j. refl), tt)
-kept_none f (plain.commit now) end = ((λ j. refl), tt)
-kept_none f (plain.fetch k) end = ((λ j. refl), tt)
-kept_none f (plain.snapshot k v) end = ((λ j. refl), tt)
-kept_none f (plain.snapshot_at_time k t) end = ((λ j. refl), tt)
-kept_none f (plain.subscribe k v) end = ((λ j. refl), tt)
-kept_none f (plain.take k max) end = ((λ j. refl), tt)
-kept_none f (plain.unsubscribe k) end = ((λ j. refl), tt)
-kept_none f (plain.forget k) end = ((λ j. refl), tt)
+unchanged_none : (f : PlainKey → Option QueuePosition) (act : StepKind) (end : Logs) → ((j : PlainKey) → position_after_step j act out_of_memory (f j) ≡ f j) × ContinuesFromPosition end f act out_of_memory
+unchanged_none f (plain.begin k src seq v content) end = ((λ j. refl), tt)
+unchanged_none f plain.work end = ((λ j. refl), tt)
+unchanged_none f (plain.commit now) end = ((λ j. refl), tt)
+unchanged_none f (plain.fetch k) end = ((λ j. refl), tt)
+unchanged_none f (plain.snapshot k v) end = ((λ j. refl), tt)
+unchanged_none f (plain.snapshot_at_time k t) end = ((λ j. refl), tt)
+unchanged_none f (plain.subscribe k v) end = ((λ j. refl), tt)
+unchanged_none f (plain.take k max) end = ((λ j. refl), tt)
+unchanged_none f (plain.unsubscribe k) end = ((λ j. refl), tt)
+unchanged_none f (plain.forget k) end = ((λ j. refl), tt)
 
 -- ---- one step of all sessions, and runs
 
@@ -198,7 +198,7 @@ goes_with : (m n : OneStep) (f : ℕ → PlainKey → Option QueuePosition) (s :
     → ExtendsTo m end → SessionsContinue f s a v end
 goes_with m n f s a w v y end t h put g =
     let d = effect m s.session (w s.session) s.act in
-    let k : ContinuesAfterStep (f s.session) s.act a y end = kept_follows m n (f s.session) s.act d a y end (keeps_deed m (f s.session) s.session (w s.session) s.act end g (t s.session)) h in
+    let k : ContinuesAfterStep (f s.session) s.act a y end = unchanged_follows m n (f s.session) s.act d a y end (preserves_deed m (f s.session) s.session (w s.session) s.act end g (t s.session)) h in
     let all : TracksAllQueues (positions_after_step f s a) (with_session w s.session y) = λ i j. track_at (nat_eq s.session i) s.session i f s.act a y (w i) j refl k.tracks (t i) in
     record { tracks = subst (λ (u : SessionStates). TracksAllQueues (positions_after_step f s a) u) (sym put) all; continued = k.continued }
 
@@ -210,8 +210,8 @@ sessions_continue : (m n : OneStep) (f : ℕ → PlainKey → Option QueuePositi
 sessions_continue m n f s (reply_answer r) w v end t h g = goes_with m n f s (reply_answer r) w v h.0 end t h.1 h.2 g
 sessions_continue m n f s (notice_answer c) w v end t h g = goes_with m n f s (notice_answer c) w v h.0 end t h.1 h.2 g
 sessions_continue m n f s out_of_memory w v end t h g =
-    let all : TracksAllQueues (positions_after_step f s out_of_memory) w = λ i j. same_cond (nat_eq s.session i) (position_after_step j s.act out_of_memory (f i j)) (f i j) ((kept_none (f i) s.act end).0 j) ∙ t i j in
-    record { tracks = subst (λ (u : SessionStates). TracksAllQueues (positions_after_step f s out_of_memory) u) (sym h.1) all; continued = (kept_none (f s.session) s.act end).1 }
+    let all : TracksAllQueues (positions_after_step f s out_of_memory) w = λ i j. same_cond (nat_eq s.session i) (position_after_step j s.act out_of_memory (f i j)) (f i j) ((unchanged_none (f i) s.act end).0 j) ∙ t i j in
+    record { tracks = subst (λ (u : SessionStates). TracksAllQueues (positions_after_step f s out_of_memory) u) (sym h.1) all; continued = (unchanged_none (f s.session) s.act end).1 }
 
 continued_steps : (m n : OneStep) (f : ℕ → PlainKey → Option QueuePosition) (w v : SessionStates) (steps : List PlainSessionStep) (answers : List PlainStepAnswer) → TracksAllQueues f w → AreSteps m w steps answers n v → ContinuedFrom f steps answers n.logs
 continued_steps m n f w v [] answers t h = tt

@@ -67,14 +67,14 @@ run_leaves_logs s t input text new fresh h =
 pub nothing_written : (s t : SilentRunner) (input : List (Option (List ℕ))) (old new : Option (List ℕ)) → AppendsAnswers WorldTakesLine s input t [] old new → Appends old new []
 nothing_written s t input old new h = subst (Appends old new) (run_without_answers s t input h.bytes h.run).nothing h.wrote
 
-front_none : (bytes rest : List ℕ) → [] ≡ bytes ++ rest → bytes ≡ []
-front_none [] rest e = refl
-front_none (x ∷ bytes) rest e = cc
+prefix_none : (bytes rest : List ℕ) → [] ≡ bytes ++ rest → bytes ≡ []
+prefix_none [] rest e = refl
+prefix_none (x ∷ bytes) rest e = cc
 
-pub unwritten_front : (s : SilentRunner) (input : List (Option (List ℕ))) (old new : Option (List ℕ)) → AppendsAnswerPrefix WorldTakesLine s input [] old new → WroteWorldDumpPrefix input old new
-unwritten_front s input old new h =
+pub unwritten_prefix : (s : SilentRunner) (input : List (Option (List ℕ))) (old new : Option (List ℕ)) → AppendsAnswerPrefix WorldTakesLine s input [] old new → WroteWorldDumpPrefix input old new
+unwritten_prefix s input old new h =
     let (bytes, w, (rest, is)) = h.wrote in
-    inl (subst (Appends old new) (front_none bytes rest (sym (run_without_answers s h.last h.taken h.bytes h.run).nothing ∙ is)) w)
+    inl (subst (Appends old new) (prefix_none bytes rest (sym (run_without_answers s h.last h.taken h.bytes h.run).nothing ∙ is)) w)
 
 -- the dump is appended to it
 pub dump_written : (s t : SilentRunner) (input : List (Option (List ℕ))) (old mid new : Option (List ℕ)) (n : ℕ) → one_step_of_world s.world ≡ empty_machine → sessions_of s.world ≡ empty_sessions → AppendsAnswers WorldTakesLine s input t [] old mid
@@ -86,10 +86,10 @@ dump_written s t input old mid new n first fresh h (text, is, w) counted = recor
   counted = counted;
 }
 
-pub dumped_front : (s t : SilentRunner) (input : List (Option (List ℕ))) (old mid new : Option (List ℕ)) → one_step_of_world s.world ≡ empty_machine → sessions_of s.world ≡ empty_sessions → AppendsAnswers WorldTakesLine s input t [] old mid
+pub dumped_prefix : (s t : SilentRunner) (input : List (Option (List ℕ))) (old mid new : Option (List ℕ)) → one_step_of_world s.world ≡ empty_machine → sessions_of s.world ≡ empty_sessions → AppendsAnswers WorldTakesLine s input t [] old mid
     → dumps.WroteDumpPrefix (one_step_of_world t.world).logs mid new → WroteWorldDumpPrefix input old new
-dumped_front s t input old mid new first fresh h (inl w) = inl (Appends-trans old mid new [] [] (nothing_written s t input old mid h) w)
-dumped_front s t input old mid new first fresh h (inr (text, is, (bytes, w, front))) = inr (
+dumped_prefix s t input old mid new first fresh h (inl w) = inl (Appends-trans old mid new [] [] (nothing_written s t input old mid h) w)
+dumped_prefix s t input old mid new first fresh h (inr (text, is, (bytes, w, front))) = inr (
   (one_step_of_world t.world).logs,
   run_leaves_logs s t input h.bytes first fresh h.run,
   inr (text, is, (bytes, Appends-trans old mid new [] bytes (nothing_written s t input old mid h) w, front)),

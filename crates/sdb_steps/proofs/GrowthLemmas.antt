@@ -35,8 +35,8 @@ same_logs true m n e = e
 same_logs false m n e = refl
 
 -- a subscribe changes no log
-given_logs : (m : OneStep) (k : PlainKey) (b : Bool) → (cond b (record { logs = m.logs; issued_ids = machine.with_id_issued m.issued_ids k }) m).logs ≡ m.logs
-given_logs m k b = same_logs b m _ refl
+assigned_logs : (m : OneStep) (k : PlainKey) (b : Bool) → (cond b (record { logs = m.logs; issued_ids = machine.with_id_issued m.issued_ids k }) m).logs ≡ m.logs
+assigned_logs m k b = same_logs b m _ refl
 
 pub grows_next : (m : OneStep) (e : Event) (k : PlainKey) → LogExtends (m.logs k) ((machine_after_event m e).logs k)
 grows_next m (machine.submission q s now) k = let g = decide_extends (m.logs q) s now in grows_at (keys_equal q k) q k m (decide (m.logs q) s now).log refl (record { more = g.0; is = g.1 })
@@ -44,7 +44,7 @@ grows_next m (machine.fetch q) k = same_log (m.logs k)
 grows_next m (machine.snapshot q v) k = same_log (m.logs k)
 grows_next m (machine.snapshot_at_time q t) k = same_log (m.logs k)
 grows_next m (machine.subscribe q v) k =
-    let same : (machine_after_event m (machine.subscribe q v)).logs ≡ m.logs = given_logs m q (is_ok (start_result m q v)) in
+    let same : (machine_after_event m (machine.subscribe q v)).logs ≡ m.logs = assigned_logs m q (is_ok (start_result m q v)) in
     subst (λ (f : Logs). LogExtends (m.logs k) (f k)) (sym same) (same_log (m.logs k))
 grows_next m (machine.take_from q from n) k = same_log (m.logs k)
 
@@ -80,7 +80,7 @@ made_next m (machine.fetch q) h k = h k
 made_next m (machine.snapshot q v) h k = h k
 made_next m (machine.snapshot_at_time q t) h k = h k
 made_next m (machine.subscribe q v) h k =
-    let same : (machine_after_event m (machine.subscribe q v)).logs ≡ m.logs = given_logs m q (is_ok (start_result m q v)) in
+    let same : (machine_after_event m (machine.subscribe q v)).logs ≡ m.logs = assigned_logs m q (is_ok (start_result m q v)) in
     subst (λ (f : Logs). IsMade (f k)) (sym same) (h k)
 made_next m (machine.take_from q from n) h k = h k
 

@@ -30,8 +30,8 @@ looked_opened logs k j s l e is =
 is_look_unchanged : (logs new : Logs) (k : PlainKey) (a w : PlainAttempt) → new ≡ logs → a ≡ w → IsLook (logs k) w → IsLook (new k) a
 is_look_unchanged logs new k a w same is h = subst (λ (f : Logs). IsLook (f k) a) (sym same) (subst (λ (x : PlainAttempt). IsLook (logs k) x) (sym is) h)
 
-pub looked_wanting : (logs new : Logs) (k : PlainKey) (a w : PlainAttempt) (now : ℕ) (r : PlainReply) → r ≡ refused E10 → CommitsOrOutOfMemory logs k w now (decided r) new → a ≡ w → IsLook (logs k) w → IsLook (new k) a
-looked_wanting logs new k a w now r e h is look =
+pub looked_out_of_memory : (logs new : Logs) (k : PlainKey) (a w : PlainAttempt) (now : ℕ) (r : PlainReply) → r ≡ refused E10 → CommitsOrOutOfMemory logs k w now (decided r) new → a ≡ w → IsLook (logs k) w → IsLook (new k) a
+looked_out_of_memory logs new k a w now r e h is look =
     is_look_unchanged logs new k a w (out_of_memory_unchanged logs new k w now (subst (λ (x : PlainReply). CommitsOrOutOfMemory logs k w now (decided x) new) e h)) is look
 
 pub looked_moved : (logs new : Logs) (k : PlainKey) (a w : PlainAttempt) (now : ℕ) (l : PlainLook) → CommitsOrOutOfMemory logs k w now (moved l) new → a ≡ record { submission = w.submission; look = l } → IsLook (new k) a
@@ -41,8 +41,8 @@ now_unchanged : (logs new : Logs) (k : PlainKey) (s : PlainSubmission) (now : �
 now_unchanged logs new k s now r e (inl h) = h.1
 now_unchanged logs new k s now r e (inr h) = absurd (decide_not_out_of_memory (logs k) s now (sym h.0 ∙ e))
 
-pub looked_now_wanting : (logs new : Logs) (k : PlainKey) (a : PlainAttempt) (s : PlainSubmission) (now : ℕ) (r : PlainReply) → r ≡ refused E10 → DecidesOrOutOfMemory logs k s now r new → IsLook (logs k) a → IsLook (new k) a
-looked_now_wanting logs new k a s now r e h look = is_look_unchanged logs new k a a (now_unchanged logs new k s now r e h) refl look
+pub looked_now_out_of_memory : (logs new : Logs) (k : PlainKey) (a : PlainAttempt) (s : PlainSubmission) (now : ℕ) (r : PlainReply) → r ≡ refused E10 → DecidesOrOutOfMemory logs k s now r new → IsLook (logs k) a → IsLook (new k) a
+looked_now_out_of_memory logs new k a s now r e h look = is_look_unchanged logs new k a a (now_unchanged logs new k s now r e h) refl look
 
 -- ---- all sessions
 

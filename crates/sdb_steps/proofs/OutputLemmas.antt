@@ -58,8 +58,8 @@ run_from_empty s t input text new fresh h =
 pub wrote_all : (s t : World) (input : List (Option (List ℕ))) (old new : Option (List ℕ)) → one_step_of_world s ≡ empty_machine → sessions_of s ≡ empty_sessions → AppendsAnswers WorldTakesLine s input t [] old new → WroteRun input old new
 wrote_all s t input old new first fresh h = (h.bytes, run_from_empty s t input h.bytes first fresh h.run, h.wrote)
 
-pub wrote_front : (s : World) (input : List (Option (List ℕ))) (old new : Option (List ℕ)) → one_step_of_world s ≡ empty_machine → sessions_of s ≡ empty_sessions → AppendsAnswerPrefix WorldTakesLine s input [] old new → WroteRunPrefix input old new
-wrote_front s input old new first fresh h = (h.taken, h.bytes, h.from_first, run_from_empty s h.last h.taken h.bytes first fresh h.run, h.wrote)
+pub wrote_prefix : (s : World) (input : List (Option (List ℕ))) (old new : Option (List ℕ)) → one_step_of_world s ≡ empty_machine → sessions_of s ≡ empty_sessions → AppendsAnswerPrefix WorldTakesLine s input [] old new → WroteRunPrefix input old new
+wrote_prefix s input old new first fresh h = (h.taken, h.bytes, h.from_first, run_from_empty s h.last h.taken h.bytes first fresh h.run, h.wrote)
 
 -- without lines there is no output
 pub wrote_nothing : (input : List (Option (List ℕ))) (old : Option (List ℕ)) → WroteRunPrefix input old old

@@ -85,86 +85,86 @@ abbrev EffectPlaces : OneStep → Option BegunSubmission → StepKind → Effect
 EffectPlaces m b act (event e y) end = ExtendsTo (machine_after_event m e) end → PlacedAfterStep b act (reply_answer (machine.reply_to_event m e)) y end
 EffectPlaces m b act (notice n y) end = PlacedAfterStep b act (notice_answer n) y end
 
-kept_follows : (m n : OneStep) (b : Option BegunSubmission) (act : StepKind) (d : Effect) (a : PlainStepAnswer) (y : SessionState) (end : Logs) → EffectPlaces m b act d end → EffectRelation m d a n y → ExtendsTo n end → PlacedAfterStep b act a y end
-kept_follows m n b act (event e z) a y end k h g =
+unchanged_follows : (m n : OneStep) (b : Option BegunSubmission) (act : StepKind) (d : Effect) (a : PlainStepAnswer) (y : SessionState) (end : Logs) → EffectPlaces m b act d end → EffectRelation m d a n y → ExtendsTo n end → PlacedAfterStep b act a y end
+unchanged_follows m n b act (event e z) a y end k h g =
     let now = k (subst (λ (o : OneStep). ExtendsTo o end) h.1 g) in
     subst (λ (c : PlainStepAnswer). PlacedAfterStep b act c y end) (sym h.0) (subst (λ (x : SessionState). PlacedAfterStep b act (reply_answer (machine.reply_to_event m e)) x end) (sym h.2) now)
-kept_follows m n b act (notice c z) a y end k h g =
+unchanged_follows m n b act (notice c z) a y end k h g =
     subst (λ (c : PlainStepAnswer). PlacedAfterStep b act c y end) (sym h.0) (subst (λ (x : SessionState). PlacedAfterStep b act (notice_answer c) x end) (sym h.2) k)
 
-keeps_begin : (m : OneStep) (b : Option BegunSubmission) (i : ℕ) (x : SessionState) (k : PlainKey) (src : List ℕ) (seq : ℕ) (v : Option ℕ) (content : PlainContent) (o : Option PlainOpenAttempt) (end : Logs) → TracksBegun b x
+preserves_begin : (m : OneStep) (b : Option BegunSubmission) (i : ℕ) (x : SessionState) (k : PlainKey) (src : List ℕ) (seq : ℕ) (v : Option ℕ) (content : PlainContent) (o : Option PlainOpenAttempt) (end : Logs) → TracksBegun b x
     → EffectPlaces m b (plain.begin k src seq v content) (option_map_or (λ a. notice plain.idle x) o (notice plain.began (with_attempt x (Some (plain.open_attempt m k (plain.submission_of_begin i k src seq v content)))))) end
-keeps_begin m b i x k src seq v content None end t = record { tracks = refl; placed = tt }
-keeps_begin m b i x k src seq v content (Some a) end t = record { tracks = t; placed = tt }
+preserves_begin m b i x k src seq v content None end t = record { tracks = refl; placed = tt }
+preserves_begin m b i x k src seq v content (Some a) end t = record { tracks = t; placed = tt }
 
-keeps_worked : (m : OneStep) (b : Option BegunSubmission) (x : SessionState) (a : PlainOpenAttempt) (c : Bool) (end : Logs) → x.attempt ≡ Some a → TracksBegun b x
+preserves_worked : (m : OneStep) (b : Option BegunSubmission) (x : SessionState) (a : PlainOpenAttempt) (c : Bool) (end : Logs) → x.attempt ≡ Some a → TracksBegun b x
     → EffectPlaces m b plain.work (cond c (notice plain.idle x) (notice plain.worked (with_attempt x (Some (plain.mark_worked a))))) end
-keeps_worked m b x a true end is t = record { tracks = t; placed = tt }
-keeps_worked m b x a false end is t = record { tracks = t ∙ ap (option_map begun_of) is; placed = tt }
+preserves_worked m b x a true end is t = record { tracks = t; placed = tt }
+preserves_worked m b x a false end is t = record { tracks = t ∙ ap (option_map begun_of) is; placed = tt }
 
-keeps_work : (m : OneStep) (b : Option BegunSubmission) (x : SessionState) (o : Option PlainOpenAttempt) (end : Logs) → x.attempt ≡ o → TracksBegun b x
+preserves_work : (m : OneStep) (b : Option BegunSubmission) (x : SessionState) (o : Option PlainOpenAttempt) (end : Logs) → x.attempt ≡ o → TracksBegun b x
     → EffectPlaces m b plain.work (option_map_or (λ a. cond a.is_worked (notice plain.idle x) (notice plain.worked (with_attempt x (Some (plain.mark_worked a))))) o (notice plain.idle x)) end
-keeps_work m b x None end is t = record { tracks = t; placed = tt }
-keeps_work m b x (Some a) end is t = keeps_worked m b x a a.is_worked end is t
+preserves_work m b x None end is t = record { tracks = t; placed = tt }
+preserves_work m b x (Some a) end is t = preserves_worked m b x a a.is_worked end is t
 
-keeps_tried : (m : OneStep) (b : Option BegunSubmission) (x : SessionState) (now : ℕ) (a : PlainOpenAttempt) (c : Bool) (end : Logs) → b ≡ Some (begun_of a)
+preserves_tried : (m : OneStep) (b : Option BegunSubmission) (x : SessionState) (now : ℕ) (a : PlainOpenAttempt) (c : Bool) (end : Logs) → b ≡ Some (begun_of a)
     → EffectPlaces m b (plain.commit now) (cond c (event (machine.submission a.key a.submission now) (with_attempt x None)) (notice plain.moved (with_attempt x (Some (plain.look_again m a))))) end
-keeps_tried m b x now a true end is =
+preserves_tried m b x now a true end is =
     λ g. record { tracks = refl; placed = subst (λ (c : Option BegunSubmission). IsPlacedAt end c (plain.commit now) (reply_answer (machine.reply_to_event m (machine.submission a.key a.submission now)))) (sym is) (placed_next m now a end (g a.key)) }
-keeps_tried m b x now a false end is = record { tracks = is; placed = tt }
+preserves_tried m b x now a false end is = record { tracks = is; placed = tt }
 
-keeps_commit : (m : OneStep) (b : Option BegunSubmission) (x : SessionState) (now : ℕ) (o : Option PlainOpenAttempt) (end : Logs) → x.attempt ≡ o → TracksBegun b x
+preserves_commit : (m : OneStep) (b : Option BegunSubmission) (x : SessionState) (now : ℕ) (o : Option PlainOpenAttempt) (end : Logs) → x.attempt ≡ o → TracksBegun b x
     → EffectPlaces m b (plain.commit now) (option_map_or (plain.commit_effect m x now) o (notice plain.idle x)) end
-keeps_commit m b x now None end is t = record { tracks = t; placed = tt }
-keeps_commit m b x now (Some a) end is t = keeps_tried m b x now a (plain.is_deciding m a) end (t ∙ ap (option_map begun_of) is)
+preserves_commit m b x now None end is t = record { tracks = t; placed = tt }
+preserves_commit m b x now (Some a) end is t = preserves_tried m b x now a (plain.is_deciding m a) end (t ∙ ap (option_map begun_of) is)
 
-keeps_subscribe : (m : OneStep) (b : Option BegunSubmission) (x : SessionState) (k : PlainKey) (v : Option ℕ) (r : Result ℕ Code) (end : Logs) → TracksBegun b x → EffectPlaces m b (plain.subscribe k v) (plain.subscribe_effect x k v r) end
-keeps_subscribe m b x k v (Ok start) end t = λ g. record { tracks = t; placed = tt }
-keeps_subscribe m b x k v (Err E1) end t = λ g. record { tracks = t; placed = tt }
-keeps_subscribe m b x k v (Err E2) end t = λ g. record { tracks = t; placed = tt }
-keeps_subscribe m b x k v (Err E3) end t = λ g. record { tracks = t; placed = tt }
-keeps_subscribe m b x k v (Err E4) end t = λ g. record { tracks = t; placed = tt }
-keeps_subscribe m b x k v (Err E5) end t = λ g. record { tracks = t; placed = tt }
-keeps_subscribe m b x k v (Err E6) end t = λ g. record { tracks = t; placed = tt }
-keeps_subscribe m b x k v (Err E7) end t = λ g. record { tracks = t; placed = tt }
-keeps_subscribe m b x k v (Err E8) end t = λ g. record { tracks = t; placed = tt }
-keeps_subscribe m b x k v (Err E9) end t = λ g. record { tracks = t; placed = tt }
-keeps_subscribe m b x k v (Err E10) end t = λ g. record { tracks = t; placed = tt }
-keeps_subscribe m b x k v (Err E11) end t = record { tracks = t; placed = tt }
+preserves_subscribe : (m : OneStep) (b : Option BegunSubmission) (x : SessionState) (k : PlainKey) (v : Option ℕ) (r : Result ℕ Code) (end : Logs) → TracksBegun b x → EffectPlaces m b (plain.subscribe k v) (plain.subscribe_effect x k v r) end
+preserves_subscribe m b x k v (Ok start) end t = λ g. record { tracks = t; placed = tt }
+preserves_subscribe m b x k v (Err E1) end t = λ g. record { tracks = t; placed = tt }
+preserves_subscribe m b x k v (Err E2) end t = λ g. record { tracks = t; placed = tt }
+preserves_subscribe m b x k v (Err E3) end t = λ g. record { tracks = t; placed = tt }
+preserves_subscribe m b x k v (Err E4) end t = λ g. record { tracks = t; placed = tt }
+preserves_subscribe m b x k v (Err E5) end t = λ g. record { tracks = t; placed = tt }
+preserves_subscribe m b x k v (Err E6) end t = λ g. record { tracks = t; placed = tt }
+preserves_subscribe m b x k v (Err E7) end t = λ g. record { tracks = t; placed = tt }
+preserves_subscribe m b x k v (Err E8) end t = λ g. record { tracks = t; placed = tt }
+preserves_subscribe m b x k v (Err E9) end t = λ g. record { tracks = t; placed = tt }
+preserves_subscribe m b x k v (Err E10) end t = λ g. record { tracks = t; placed = tt }
+preserves_subscribe m b x k v (Err E11) end t = record { tracks = t; placed = tt }
 
-keeps_take : (m : OneStep) (b : Option BegunSubmission) (x : SessionState) (k : PlainKey) (max : ℕ) (o : Option QueuePosition) (end : Logs) → TracksBegun b x → EffectPlaces m b (plain.take k max) (option_map_or (plain.take_effect m x k max) o (notice plain.idle x)) end
-keeps_take m b x k max None end t = record { tracks = t; placed = tt }
-keeps_take m b x k max (Some q) end t = λ g. record { tracks = t; placed = tt }
+preserves_take : (m : OneStep) (b : Option BegunSubmission) (x : SessionState) (k : PlainKey) (max : ℕ) (o : Option QueuePosition) (end : Logs) → TracksBegun b x → EffectPlaces m b (plain.take k max) (option_map_or (plain.take_effect m x k max) o (notice plain.idle x)) end
+preserves_take m b x k max None end t = record { tracks = t; placed = tt }
+preserves_take m b x k max (Some q) end t = λ g. record { tracks = t; placed = tt }
 
-keeps_close : (m : OneStep) (b : Option BegunSubmission) (x : SessionState) (k : PlainKey) (o : Option QueuePosition) (end : Logs) → TracksBegun b x
+preserves_close : (m : OneStep) (b : Option BegunSubmission) (x : SessionState) (k : PlainKey) (o : Option QueuePosition) (end : Logs) → TracksBegun b x
     → EffectPlaces m b (plain.unsubscribe k) (option_map_or (λ q. notice plain.unsubscribed (plain.with_queue x k None)) o (notice plain.idle x)) end
-keeps_close m b x k None end t = record { tracks = t; placed = tt }
-keeps_close m b x k (Some q) end t = record { tracks = t; placed = tt }
+preserves_close m b x k None end t = record { tracks = t; placed = tt }
+preserves_close m b x k (Some q) end t = record { tracks = t; placed = tt }
 
-keeps_deed : (m : OneStep) (b : Option BegunSubmission) (i : ℕ) (x : SessionState) (act : StepKind) (end : Logs) → TracksBegun b x → EffectPlaces m b act (effect m i x act) end
-keeps_deed m b i x (plain.begin k src seq v content) end t = keeps_begin m b i x k src seq v content x.attempt end t
-keeps_deed m b i x plain.work end t = keeps_work m b x x.attempt end refl t
-keeps_deed m b i x (plain.commit now) end t = keeps_commit m b x now x.attempt end refl t
-keeps_deed m b i x (plain.fetch k) end t = λ g. record { tracks = t; placed = tt }
-keeps_deed m b i x (plain.snapshot k v) end t = λ g. record { tracks = t; placed = tt }
-keeps_deed m b i x (plain.snapshot_at_time k u) end t = λ g. record { tracks = t; placed = tt }
-keeps_deed m b i x (plain.subscribe k v) end t = keeps_subscribe m b x k v (start_result m k v) end t
-keeps_deed m b i x (plain.take k max) end t = keeps_take m b x k max (x.queues k) end t
-keeps_deed m b i x (plain.unsubscribe k) end t = keeps_close m b x k (x.queues k) end t
-keeps_deed m b i x (plain.forget k) end t = record { tracks = t; placed = tt }
+preserves_deed : (m : OneStep) (b : Option BegunSubmission) (i : ℕ) (x : SessionState) (act : StepKind) (end : Logs) → TracksBegun b x → EffectPlaces m b act (effect m i x act) end
+preserves_deed m b i x (plain.begin k src seq v content) end t = preserves_begin m b i x k src seq v content x.attempt end t
+preserves_deed m b i x plain.work end t = preserves_work m b x x.attempt end refl t
+preserves_deed m b i x (plain.commit now) end t = preserves_commit m b x now x.attempt end refl t
+preserves_deed m b i x (plain.fetch k) end t = λ g. record { tracks = t; placed = tt }
+preserves_deed m b i x (plain.snapshot k v) end t = λ g. record { tracks = t; placed = tt }
+preserves_deed m b i x (plain.snapshot_at_time k u) end t = λ g. record { tracks = t; placed = tt }
+preserves_deed m b i x (plain.subscribe k v) end t = preserves_subscribe m b x k v (start_result m k v) end t
+preserves_deed m b i x (plain.take k max) end t = preserves_take m b x k max (x.queues k) end t
+preserves_deed m b i x (plain.unsubscribe k) end t = preserves_close m b x k (x.queues k) end t
+preserves_deed m b i x (plain.forget k) end t = record { tracks = t; placed = tt }
 
 -- a step that fails to allocate begins and places nothing
-kept_none : (b : Option BegunSubmission) (x : SessionState) (act : StepKind) (end : Logs) → TracksBegun b x → PlacedAfterStep b act out_of_memory x end
-kept_none b x (plain.begin k src seq v content) end t = record { tracks = t; placed = tt }
-kept_none b x plain.work end t = record { tracks = t; placed = tt }
-kept_none b x (plain.commit now) end t = record { tracks = t; placed = tt }
-kept_none b x (plain.fetch k) end t = record { tracks = t; placed = tt }
-kept_none b x (plain.snapshot k v) end t = record { tracks = t; placed = tt }
-kept_none b x (plain.snapshot_at_time k u) end t = record { tracks = t; placed = tt }
-kept_none b x (plain.subscribe k v) end t = record { tracks = t; placed = tt }
-kept_none b x (plain.take k max) end t = record { tracks = t; placed = tt }
-kept_none b x (plain.unsubscribe k) end t = record { tracks = t; placed = tt }
-kept_none b x (plain.forget k) end t = record { tracks = t; placed = tt }
+unchanged_none : (b : Option BegunSubmission) (x : SessionState) (act : StepKind) (end : Logs) → TracksBegun b x → PlacedAfterStep b act out_of_memory x end
+unchanged_none b x (plain.begin k src seq v content) end t = record { tracks = t; placed = tt }
+unchanged_none b x plain.work end t = record { tracks = t; placed = tt }
+unchanged_none b x (plain.commit now) end t = record { tracks = t; placed = tt }
+unchanged_none b x (plain.fetch k) end t = record { tracks = t; placed = tt }
+unchanged_none b x (plain.snapshot k v) end t = record { tracks = t; placed = tt }
+unchanged_none b x (plain.snapshot_at_time k u) end t = record { tracks = t; placed = tt }
+unchanged_none b x (plain.subscribe k v) end t = record { tracks = t; placed = tt }
+unchanged_none b x (plain.take k max) end t = record { tracks = t; placed = tt }
+unchanged_none b x (plain.unsubscribe k) end t = record { tracks = t; placed = tt }
+unchanged_none b x (plain.forget k) end t = record { tracks = t; placed = tt }
 
 -- ---- one step of all sessions, and runs
 
@@ -180,15 +180,15 @@ track_at : (c : Bool) (b d : Option BegunSubmission) (y x : SessionState) → Tr
 track_at true b d y x t u = t
 track_at false b d y x t u = u
 
-goes_kept : (f : ℕ → Option BegunSubmission) (s : PlainSessionStep) (a : PlainStepAnswer) (w v : SessionStates) (y : SessionState) (end : Logs) → TracksAllBegun f w → v ≡ with_session w s.session y → PlacedAfterStep (f s.session) s.act a y end → SessionsPlaced f s a v end
-goes_kept f s a w v y end t put k =
+goes_unchanged : (f : ℕ → Option BegunSubmission) (s : PlainSessionStep) (a : PlainStepAnswer) (w v : SessionStates) (y : SessionState) (end : Logs) → TracksAllBegun f w → v ≡ with_session w s.session y → PlacedAfterStep (f s.session) s.act a y end → SessionsPlaced f s a v end
+goes_unchanged f s a w v y end t put k =
     let all : TracksAllBegun (with_begun f s.session (begun_after_step s.act a (f s.session))) (with_session w s.session y) =
     λ n. track_at (nat_eq s.session n) (begun_after_step s.act a (f s.session)) (f n) y (w n) k.tracks (t n) in
     record { tracks = subst (λ (u : SessionStates). TracksAllBegun (with_begun f s.session (begun_after_step s.act a (f s.session))) u) (sym put) all; placed = k.placed }
 
 goes_with : (m n : OneStep) (f : ℕ → Option BegunSubmission) (s : PlainSessionStep) (a : PlainStepAnswer) (w v : SessionStates) (y : SessionState) (end : Logs) → TracksAllBegun f w → EffectRelation m (effect m s.session (w s.session) s.act) a n y → v ≡ with_session w s.session y → ExtendsTo n end → SessionsPlaced f s a v end
 goes_with m n f s a w v y end t h put g =
-    goes_kept f s a w v y end t put (kept_follows m n (f s.session) s.act (effect m s.session (w s.session) s.act) a y end (keeps_deed m (f s.session) s.session (w s.session) s.act end (t s.session)) h g)
+    goes_unchanged f s a w v y end t put (unchanged_follows m n (f s.session) s.act (effect m s.session (w s.session) s.act) a y end (preserves_deed m (f s.session) s.session (w s.session) s.act end (t s.session)) h g)
 
 -- a session replaced by itself
 track_same : (c : Bool) (i n : ℕ) (b : Option BegunSubmission) (f : ℕ → Option BegunSubmission) (w : SessionStates) → nat_eq i n ≡ c → TracksBegun b (w i) → TracksAllBegun f w → TracksBegun (cond c b (f n)) (w n)
@@ -199,7 +199,7 @@ sessions_placed : (m n : OneStep) (f : ℕ → Option BegunSubmission) (s : Plai
 sessions_placed m n f s (reply_answer r) w v end t h g = goes_with m n f s (reply_answer r) w v h.0 end t h.1 h.2 g
 sessions_placed m n f s (notice_answer c) w v end t h g = goes_with m n f s (notice_answer c) w v h.0 end t h.1 h.2 g
 sessions_placed m n f s out_of_memory w v end t h g =
-    let k = kept_none (f s.session) (w s.session) s.act end (t s.session) in
+    let k = unchanged_none (f s.session) (w s.session) s.act end (t s.session) in
     let b = begun_after_step s.act out_of_memory (f s.session) in
     let all : TracksAllBegun (with_begun f s.session b) w = λ j. track_same (nat_eq s.session j) s.session j b f w refl k.tracks t in
     record { tracks = subst (λ (u : SessionStates). TracksAllBegun (with_begun f s.session b) u) (sym h.1) all; placed = k.placed }

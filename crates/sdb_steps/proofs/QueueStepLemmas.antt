@@ -32,8 +32,8 @@ use Rattle.sdb_steps.specs.View.{plain_start, start_refusal_answer, snapshot_ref
 at_key : {A : Type 0} (f g : PlainKey → A) (k : PlainKey) (w : A) (j : PlainKey) → g ≡ with_value_at_key f k w → keys_equal k j ≡ true → g j ≡ w
 at_key f g k w j e is = ap (λ h. h j) e ∙ ap (λ b. cond b w (f j)) is
 
-past_key : {A : Type 0} (f g : PlainKey → A) (k : PlainKey) (w : A) (j : PlainKey) → g ≡ with_value_at_key f k w → keys_equal k j ≡ false → g j ≡ f j
-past_key f g k w j e is = ap (λ h. h j) e ∙ ap (λ b. cond b w (f j)) is
+after_key : {A : Type 0} (f g : PlainKey → A) (k : PlainKey) (w : A) (j : PlainKey) → g ≡ with_value_at_key f k w → keys_equal k j ≡ false → g j ≡ f j
+after_key f g k w j e is = ap (λ h. h j) e ∙ ap (λ b. cond b w (f j)) is
 
 seen_if : (b : Bool) (w x : PlainQueues) (o y : Option ℕ) (p : Option QueuePosition) → position_in_queues w o ≡ p → position_in_queues (cond b w x) (cond b o y) ≡ cond b p (position_in_queues x y)
 seen_if true w x o y p h = h
@@ -61,7 +61,7 @@ module _ (i : ℕ) (q r : QueuesByKey) (s t : PlainQueueSlots) (k : PlainKey) (w
   at_key_same j is = at_key q r k queues_after j hr is
 
   at_other_key : (j : PlainKey) → keys_equal k j ≡ false → r j ≡ q j
-  at_other_key j is = past_key q r k queues_after j hr is
+  at_other_key j is = after_key q r k queues_after j hr is
 
   same_queues : (j : PlainKey) → keys_equal k j ≡ true → q j ≡ q k
   same_queues j is = ap q (sym (eq_of_keys_equal k j is))
@@ -86,11 +86,11 @@ module _ (i : ℕ) (q r : QueuesByKey) (s t : PlainQueueSlots) (k : PlainKey) (w
 
   own_if : OwnQueueOrNew → (j : PlainKey) (n : ℕ) (b : Bool) → keys_equal k j ≡ b → t j ≡ Some n → (s j ≡ Some n) ⊎ ((q j).next ≤ n)
   own_if h j n true is at = own_here j n is (h n (sym (at_key s t k o j ht is) ∙ at))
-  own_if h j n false is at = inl (sym (past_key s t k o j ht is) ∙ at)
+  own_if h j n false is at = inl (sym (after_key s t k o j ht is) ∙ at)
 
   now_if : SlotsOpenAfter → (j : PlainKey) (n : ℕ) (b : Bool) → keys_equal k j ≡ b → t j ≡ Some n → (n < (r j).next) × (is_open_by i n (r j).queues ≡ true)
   now_if h j n true is at = subst (λ (z : PlainQueues). (n < z.next) × (is_open_by i n z.queues ≡ true)) (sym (at_key_same j is)) (h n (sym (at_key s t k o j ht is) ∙ at))
-  now_if h j n false is at = subst (λ (z : PlainQueues). (n < z.next) × (is_open_by i n z.queues ≡ true)) (sym (at_other_key j is)) (open_step j n (sym (past_key s t k o j ht is) ∙ at))
+  now_if h j n false is at = subst (λ (z : PlainQueues). (n < z.next) × (is_open_by i n z.queues ≡ true)) (sym (at_other_key j is)) (open_step j n (sym (after_key s t k o j ht is) ∙ at))
 
   -- the frame of the other sessions
   pub leaves_at : NextNotLower → OtherQueuesSame → OwnQueueOrNew → SlotsOpenAfter → OtherQueuesUnchanged i q s r t
@@ -111,8 +111,8 @@ leaves_all i q r s t opens hr ht = record {
 }
 
 -- an update at k with the old queues changes nothing
-pub kept_queues : (q r : QueuesByKey) (k : PlainKey) → r ≡ with_queues q k (r k) → r k ≡ q k → r ≡ q
-kept_queues q r k others here = others ∙ ap (with_queues q k) here ∙ with_queues_same q k
+pub unchanged_queues : (q r : QueuesByKey) (k : PlainKey) → r ≡ with_queues q k (r k) → r k ≡ q k → r ≡ q
+unchanged_queues q r k others here = others ∙ ap (with_queues q k) here ∙ with_queues_same q k
 
 -- ---- a queue that is opened
 
@@ -201,8 +201,8 @@ started_code m k v code h =
     code_if (nat_lt (length (m.logs k)) (unwrap_or v (length (m.logs k)))) (nat_eq (m.issued_ids k) 18446744073709551615) (unwrap_or v (length (m.logs k))) code h
 
 -- a subscribe that failed to allocate
-pub subscribe_wanting : (i : ℕ) (m n : OneStep) (x y : SessionState) (k : PlainKey) (v : Option ℕ) (start : ℕ) → start_result m k v ≡ Ok start → n ≡ m → y ≡ x → DispatchesAct i m x (plain.subscribe k v) out_of_memory n y
-subscribe_wanting i m n x y k v start ok a b = (subscribe_wants m x k v (start_result m k v) refl (ap is_ok ok), a, b)
+pub subscribe_out_of_memory : (i : ℕ) (m n : OneStep) (x y : SessionState) (k : PlainKey) (v : Option ℕ) (start : ℕ) → start_result m k v ≡ Ok start → n ≡ m → y ≡ x → DispatchesAct i m x (plain.subscribe k v) out_of_memory n y
+subscribe_out_of_memory i m n x y k v start ok a b = (subscribe_wants m x k v (start_result m k v) refl (ap is_ok ok), a, b)
 
 next_refused : (m : OneStep) (k : PlainKey) (v : Option ℕ) (code : Code) → start_result m k v ≡ Err code → machine_after_event m (machine.subscribe k v) ≡ m
 next_refused m k v code e = ap (λ (r : Result ℕ Code). cond (is_ok r) (record { logs = m.logs; issued_ids = with_id_issued m.issued_ids k }) m) e
@@ -215,11 +215,11 @@ due_turn m n x y k v code e (inr is) a b =
     let D : Code → Type 0 = λ c. start_result m k v ≡ Err c → FollowsEffect m (subscribe_effect x k v (Err c)) (plain_start (Err c)) n y in
     subst D (sym is) (λ f. (refl, a, b)) e
 
-pub told_turn : (i : ℕ) (m n : OneStep) (x y : SessionState) (k : PlainKey) (v : Option ℕ) (code : Code) → start_result m k v ≡ Err code → (code ≡ E4) ⊎ (code ≡ E11) → n ≡ m → y ≡ x → DispatchesAct i m x (plain.subscribe k v) (start_refusal_answer code) n y
-told_turn i m n x y k v code e (inl is) a b =
+pub view_turn : (i : ℕ) (m n : OneStep) (x y : SessionState) (k : PlainKey) (v : Option ℕ) (code : Code) → start_result m k v ≡ Err code → (code ≡ E4) ⊎ (code ≡ E11) → n ≡ m → y ≡ x → DispatchesAct i m x (plain.subscribe k v) (start_refusal_answer code) n y
+view_turn i m n x y k v code e (inl is) a b =
     let f : start_result m k v ≡ Err E4 = e ∙ ap Err is in
     subst (λ c. DispatchesAct i m x (plain.subscribe k v) (start_refusal_answer c) n y) (sym is) (subst (λ r. FollowsEffect m (subscribe_effect x k v r) (plain_start (Err E4)) n y) (sym f) (due_turn m n x y k v E4 f (inl refl) a b))
-told_turn i m n x y k v code e (inr is) a b =
+view_turn i m n x y k v code e (inr is) a b =
     let f : start_result m k v ≡ Err E11 = e ∙ ap Err is in
     subst (λ c. DispatchesAct i m x (plain.subscribe k v) (start_refusal_answer c) n y) (sym is) (subst (λ r. FollowsEffect m (subscribe_effect x k v r) (plain_start (Err E11)) n y) (sym f) (due_turn m n x y k v E11 f (inr refl) a b))
 
@@ -227,26 +227,26 @@ refused_or : (i : ℕ) (m n : OneStep) (q w : PlainQueues) (x y : SessionState) 
     → (w ≡ q) × DispatchesAct i m x (plain.subscribe k v) (start_refusal_answer code) n y
 refused_or i m n q w x y k v code start ok given keeps (inl h) =
     let same = keeps h.1 in
-    (h.1, subst (λ c. DispatchesAct i m x (plain.subscribe k v) (start_refusal_answer c) n y) (sym h.0) (subscribe_wanting i m n x y k v start ok same.0 same.1))
+    (h.1, subst (λ c. DispatchesAct i m x (plain.subscribe k v) (start_refusal_answer c) n y) (sym h.0) (subscribe_out_of_memory i m n x y k v start ok same.0 same.1))
 refused_or i m n q w x y k v code start ok given keeps (inr h) =
     let same = keeps h.same in
     let e : start_result m k v ≡ Err code = ap (λ g. result_and_then (λ start. cond (nat_eq g 18446744073709551615) (Err E11) (Ok start)) (queue_start (m.logs k) v)) (sym given) ∙ h.is in
-    (h.same, told_turn i m n x y k v code e h.due same.0 same.1)
+    (h.same, view_turn i m n x y k v code e h.due same.0 same.1)
 
 pub subscribe_refused : (i : ℕ) (m n : OneStep) (q w : PlainQueues) (x y : SessionState) (k : PlainKey) (v : Option ℕ) (code : Code) (start : ℕ) → start_result m k v ≡ Ok start → q.next ≡ m.issued_ids k → SubscribesOrOutOfMemory (m.logs k) i v q (Err code) w → n.logs ≡ m.logs → (w ≡ q → (n ≡ m) × (y ≡ x))
     → (w ≡ q) × DispatchesAct i m x (plain.subscribe k v) (start_refusal_answer code) n y
 subscribe_refused i m n q w x y k v code start ok given h logs keeps = refused_or i m n q w x y k v code start ok given keeps (refused_step (m.logs k) i v q w code h)
 
-refused_keeps : (log : List PlainEntry) (v : Option ℕ) (q w : PlainQueues) (code : Code) → ((code ≡ E10) × (w ≡ q)) ⊎ RefusedStep log v q code w → w ≡ q
-refused_keeps log v q w code (inl h) = h.1
-refused_keeps log v q w code (inr h) = h.same
+refused_preserves : (log : List PlainEntry) (v : Option ℕ) (q w : PlainQueues) (code : Code) → ((code ≡ E10) × (w ≡ q)) ⊎ RefusedStep log v q code w → w ≡ q
+refused_preserves log v q w code (inl h) = h.1
+refused_preserves log v q w code (inr h) = h.same
 
 pub refused_same : (log : List PlainEntry) (by : ℕ) (v : Option ℕ) (q w : PlainQueues) (code : Code) → SubscribesOrOutOfMemory log by v q (Err code) w → w ≡ q
-refused_same log by v q w code h = refused_keeps log v q w code (refused_step log by v q w code h)
+refused_same log by v q w code h = refused_preserves log v q w code (refused_step log by v q w code h)
 
 -- a session that sees the same queues
-pub session_kept : (a : Option plain.PlainOpenAttempt) (q r : QueuesByKey) (s t : PlainQueueSlots) → r ≡ q → t ≡ s → ◌≡◌ {A = SessionState} (record { attempt = a; queues = λ j. position_in_queues (r j) (t j) }) (record { attempt = a; queues = λ j. position_in_queues (q j) (s j) })
-session_kept a q r s t e f = λ i. record { attempt = a; queues = λ j. position_in_queues (e i j) (f i j) }
+pub session_unchanged : (a : Option plain.PlainOpenAttempt) (q r : QueuesByKey) (s t : PlainQueueSlots) → r ≡ q → t ≡ s → ◌≡◌ {A = SessionState} (record { attempt = a; queues = λ j. position_in_queues (r j) (t j) }) (record { attempt = a; queues = λ j. position_in_queues (q j) (s j) })
+session_unchanged a q r s t e f = λ i. record { attempt = a; queues = λ j. position_in_queues (e i j) (f i j) }
 
 -- ---- a subscribe that opens a queue
 
@@ -274,9 +274,9 @@ closed_other : (i : ℕ) (o : Option ℕ) (q : PlainQueues) (k : ℕ) → (o ≡
 closed_other i None q k h = refl
 closed_other i (Some n) q k h = shut_other (is_open_by i n q.queues) k n q.queues (λ e. h (ap Some (sym e)))
 
-given_if : (b : Bool) (w x : PlainQueues) (g h : ℕ) → w.next ≡ g → x.next ≡ h → (cond b w x).next ≡ cond b g h
-given_if true w x g h a c = a
-given_if false w x g h a c = c
+assigned_if : (b : Bool) (w x : PlainQueues) (g h : ℕ) → w.next ≡ g → x.next ≡ h → (cond b w x).next ≡ cond b g h
+assigned_if true w x g h a c = a
+assigned_if false w x g h a c = c
 
 some_is : (a b : ℕ) → ◌≡◌ {A = Option ℕ} (Some a) (Some b) → a ≡ b
 some_is a b h = cc
@@ -338,8 +338,8 @@ module _ (i : ℕ) (q0 q1 q2 : QueuesByKey) (l0 l2 : PlainKey → List PlainEntr
         let f = w_next in
         leaves_at i q0 q2 s0 s2 k queues_after (Some o.id) h.given queues_written h.slots (omega (arith, f)) other_queues_stay (λ n at. inr (let e = new_number n at in omega (arith, e))) now_at
 
-    slots_given : (λ j. (q2 j).next) ≡ with_id_issued (λ j. (q0 j).next) k
-    slots_given = λ d j. (ap (λ (f : QueuesByKey). (f j).next) queues_written ∙ given_if (keys_equal k j) queues_after (q0 j) ((q0 k).next + 1) (q0 j).next w_next refl) d
+    slots_assigned : (λ j. (q2 j).next) ≡ with_id_issued (λ j. (q0 j).next) k
+    slots_assigned = λ d j. (ap (λ (f : QueuesByKey). (f j).next) queues_written ∙ assigned_if (keys_equal k j) queues_after (q0 j) ((q0 k).next + 1) (q0 j).next w_next refl) d
 
     start_is : start_result (core_at l0 q0) k v ≡ Ok o.start
     start_is = ap (result_and_then (λ start. cond (nat_eq (q0 k).next 18446744073709551615) (Err E11) (Ok start))) start_is_free.start ∙ ap (λ b. cond b (Err E11) (Ok o.start)) start_is_free.room
@@ -349,7 +349,7 @@ module _ (i : ℕ) (q0 q1 q2 : QueuesByKey) (l0 l2 : PlainKey → List PlainEntr
         let m = core_at l0 q0 in
         let x = seen_by a q0 s0 in
         let put : seen_by a q2 s2 ≡ with_queue x k (Some (record { start = o.start; taken = 0 })) = λ j. record { attempt = a; queues = seen_at q0 q2 s0 s2 k queues_after (Some o.id) (Some (record { start = o.start; taken = 0 })) queues_written h.slots (ap (option_map position_of_queue) new_queue_stays) j } in
-        let goes : core_at l2 q2 ≡ machine_after_event m (machine.subscribe k v) = (λ j. record { logs = h.logs j; issued_ids = slots_given j }) ∙ sym (ap (λ (r : Result ℕ Code). cond (is_ok r) (record { logs = l0; issued_ids = with_id_issued m.issued_ids k }) m) start_is) in
+        let goes : core_at l2 q2 ≡ machine_after_event m (machine.subscribe k v) = (λ j. record { logs = h.logs j; issued_ids = slots_assigned j }) ∙ sym (ap (λ (r : Result ℕ Code). cond (is_ok r) (record { logs = l0; issued_ids = with_id_issued m.issued_ids k }) m) start_is) in
         let D : Result ℕ Code → Type 0 = λ r. FollowsEffect m (subscribe_effect x k v r) (reply_answer (machine.subscribed (Ok o.start))) (core_at l2 q2) (seen_by a q2 s2) in
         subst D (sym start_is) (ap (λ (r : Result ℕ Code). reply_answer (machine.subscribed r)) (sym start_is), goes, put)
 
@@ -381,10 +381,10 @@ module _ (i : ℕ) (q0 q1 : QueuesByKey) (l0 l1 : PlainKey → List PlainEntry) 
 
     next_if : (j : PlainKey) (b : Bool) → keys_equal k j ≡ b → (q1 j).next ≡ (q0 j).next
     next_if j true is = ap (λ (z : PlainQueues). z.next) (at_key q0 q1 k (q1 k) j h.others is) ∙ h.next ∙ ap (λ z. (q0 z).next) (eq_of_keys_equal k j is)
-    next_if j false is = ap (λ (z : PlainQueues). z.next) (past_key q0 q1 k (q1 k) j h.others is)
+    next_if j false is = ap (λ (z : PlainQueues). z.next) (after_key q0 q1 k (q1 k) j h.others is)
 
-    core_kept : core_at l1 q1 ≡ core_at l0 q0
-    core_kept = λ d. record { logs = h.logs d; issued_ids = λ j. next_if j (keys_equal k j) refl d }
+    core_unchanged : core_at l1 q1 ≡ core_at l0 q0
+    core_unchanged = λ d. record { logs = h.logs d; issued_ids = λ j. next_if j (keys_equal k j) refl d }
 
     apart_of : (j : ℕ) → (s0 k ≡ Some j → ⊥) → (j ≡ n → ⊥)
     apart_of j f e = f (h.at ∙ ap Some (sym e))
@@ -392,16 +392,16 @@ module _ (i : ℕ) (q0 q1 : QueuesByKey) (l0 l1 : PlainKey → List PlainEntry) 
     own_number : (j : ℕ) → Some n ≡ Some j → s0 k ≡ Some j
     own_number j e = h.at ∙ e
 
-    slot_kept : s1 ≡ s0 → s1 ≡ with_value_at_key s0 k (Some n)
-    slot_kept e = e ∙ updated_at_same s0 k (Some n) (sym h.at)
+    slot_unchanged : s1 ≡ s0 → s1 ≡ with_value_at_key s0 k (Some n)
+    slot_unchanged e = e ∙ updated_at_same s0 k (Some n) (sym h.at)
 
     take_deed : (max : ℕ) (m : OneStep) → effect m i (seen_by a q0 s0) (plain.take k max) ≡ take_effect m (seen_by a q0 s0) k max (position_of_queue queues_after)
     take_deed max m = ap (λ (o : Option QueuePosition). option_map_or (take_effect m (seen_by a q0 s0) k max) o (plain.notice plain.idle (seen_by a q0 s0))) seen_is
 
-    pub take_wanting : (max : ℕ) → is_nonempty (pending_entries (l0 k) max queues_after) ≡ true → s1 ≡ s0 → q1 ≡ q0 → DispatchesAct i (core_at l0 q0) (seen_by a q0 s0) (plain.take k max) out_of_memory (core_at l1 q1) (seen_by a q1 s1)
-    take_wanting max some e q = (
+    pub take_out_of_memory : (max : ℕ) → is_nonempty (pending_entries (l0 k) max queues_after) ≡ true → s1 ≡ s0 → q1 ≡ q0 → DispatchesAct i (core_at l0 q0) (seen_by a q0 s0) (plain.take k max) out_of_memory (core_at l1 q1) (seen_by a q1 s1)
+    take_out_of_memory max some e q = (
       ap (effect_allocates (core_at l0 q0)) (take_deed max (core_at l0 q0)) ∙ some,
-      core_kept,
+      core_unchanged,
       (λ j. record { attempt = a; queues = λ b. position_in_queues (q j b) (e j b) }),
     )
 
@@ -414,13 +414,13 @@ module _ (i : ℕ) (q0 q1 : QueuesByKey) (l0 l1 : PlainKey → List PlainEntry) 
 
       pub taken_turn : DispatchesAct i (core_at l0 q0) (seen_by a q0 s0) (plain.take k max) (reply_answer (machine.taken es)) (core_at l1 q1) (seen_by a q1 s1)
       taken_turn =
-          let put : seen_by a q1 s1 ≡ with_queue (seen_by a q0 s0) k (Some (read_on (l0 k) max (position_of_queue queues_after))) = λ j. record { attempt = a; queues = seen_at q0 q1 s0 s1 k (q1 k) (Some n) (Some (read_on (l0 k) max (position_of_queue queues_after))) h.others (slot_kept same) (ap (option_map position_of_queue) queue_is_advanced) j } in
-          subst (λ d. FollowsEffect (core_at l0 q0) d (reply_answer (machine.taken es)) (core_at l1 q1) (seen_by a q1 s1)) (sym (take_deed max (core_at l0 q0))) (ap (λ l. reply_answer (machine.taken l)) entries_are_pending, core_kept, put)
+          let put : seen_by a q1 s1 ≡ with_queue (seen_by a q0 s0) k (Some (read_on (l0 k) max (position_of_queue queues_after))) = λ j. record { attempt = a; queues = seen_at q0 q1 s0 s1 k (q1 k) (Some n) (Some (read_on (l0 k) max (position_of_queue queues_after))) h.others (slot_unchanged same) (ap (option_map position_of_queue) queue_is_advanced) j } in
+          subst (λ d. FollowsEffect (core_at l0 q0) d (reply_answer (machine.taken es)) (core_at l1 q1) (seen_by a q1 s1)) (sym (take_deed max (core_at l0 q0))) (ap (λ l. reply_answer (machine.taken l)) entries_are_pending, core_unchanged, put)
 
       pub taken_leaves : OtherQueuesUnchanged i q0 s0 q1 s1
       taken_leaves =
           let f = h.next in
-          leaves_at i q0 q1 s0 s1 k (q1 k) (Some n) h.all h.others (slot_kept same) (omega (arith, f))
+          leaves_at i q0 q1 s0 s1 k (q1 k) (Some n) h.all h.others (slot_unchanged same) (omega (arith, f))
           (λ j below apart. ap (λ (z : PlainQueues). queue_at j z.queues) takes_is.1 ∙ taken_other (is_open_by i n (q0 k).queues) (l0 k) j n max (q0 k).queues (apart_of j apart)) (λ j e. inl (own_number j e))
           (λ j e. let low = (h.all k n h.at).0 in let is = some_is n j e in (omega (arith, low, f, is), ap (λ (d : ℕ). is_open_by i d (q1 k).queues) (sym is) ∙ ap (is_queue_of i) queue_is_advanced ∙ ap (is_queue_of i) (sym h.stands) ∙ queue_is_owned))
 
@@ -430,7 +430,7 @@ module _ (i : ℕ) (q0 q1 : QueuesByKey) (l0 l1 : PlainKey → List PlainEntry) 
           let x = seen_by a q0 s0 in
           let put : seen_by a q1 s1 ≡ with_queue x k None = λ j. record { attempt = a; queues = seen_at q0 q1 s0 s1 k (q1 k) None None h.others empty refl j } in
           let is : effect (core_at l0 q0) i x (plain.unsubscribe k) ≡ plain.notice plain.unsubscribed (with_queue x k None) = ap (λ (o : Option QueuePosition). option_map_or (λ q. plain.notice plain.unsubscribed (with_queue x k None)) o (plain.notice plain.idle x)) seen_is in
-          subst (λ d. FollowsEffect (core_at l0 q0) d (notice_answer plain.unsubscribed) (core_at l1 q1) (seen_by a q1 s1)) (sym is) (refl, core_kept, put)
+          subst (λ d. FollowsEffect (core_at l0 q0) d (notice_answer plain.unsubscribed) (core_at l1 q1) (seen_by a q1 s1)) (sym is) (refl, core_unchanged, put)
 
       pub closed_leaves : OtherQueuesUnchanged i q0 s0 q1 s1
       closed_leaves =

@@ -55,12 +55,12 @@ for_each_at_index locks [] i d l lt h = tt
 for_each_at_index locks (c ∷ cs) i d l lt h = (h.0 i d l (omega arith) lt, for_each_at_index locks cs i d l lt h.1)
 
 module _ {T : Type 0} (extends : T → T → Type 0) (same : ℕ → T → T → Type 0) (blank : ℕ → T → Type 0) where
-  keeps_each : (l : GrowLock T) (i : ℕ) (d : Seat T) (cs : List (SeatSet T)) (v : T) → ForEach (λ c. IsSeatNumbered c.number (slice_index_or c.seats.items i d) l) cs
+  preserves_each : (l : GrowLock T) (i : ℕ) (d : Seat T) (cs : List (SeatSet T)) (v : T) → ForEach (λ c. IsSeatNumbered c.number (slice_index_or c.seats.items i d) l) cs
       → ForEach (λ s. (x : T) → HasSeen s x → extends v x × same (one.number s) x v) (map (λ c. slice_index_or c.seats.items i d) cs)
       → ForEach (λ c. ExtendsAndKeeps extends same blank i c.number c.seats.items v) cs
-  keeps_each l i d [] v own h = tt
-  keeps_each l i d (c ∷ cs) v own h =
-      ((λ x saw. let k = h.0 x (saw d) in (k.0, subst (λ (n : ℕ). same n x v) own.0.1 k.1)), keeps_each l i d cs v own.1 h.1)
+  preserves_each l i d [] v own h = tt
+  preserves_each l i d (c ∷ cs) v own h =
+      ((λ x saw. let k = h.0 x (saw d) in (k.0, subst (λ (n : ℕ). same n x v) own.0.1 k.1)), preserves_each l i d cs v own.1 h.1)
 
   pub close_relation : (l : GrowLock T) (i : ℕ) (d : Seat T) (f : RootSeats T) (cs : List (SeatSet T)) (v : T) → IsRootSeat f.next (slice_index_or f.seats.items i d) l
       → ForEach (λ c. IsSeatNumbered c.number (slice_index_or c.seats.items i d) l) cs
@@ -69,6 +69,6 @@ module _ {T : Type 0} (extends : T → T → Type 0) (same : ℕ → T → T →
       let n = count_of_seats i d l f.next (slice_index_or f.seats.items i d) cs first own in
       record {
         extends_root = λ x saw. let k = h.0.0 x (saw d) in (k.0, subst (λ (n : ℕ). same n x v) first.1 k.1);
-        others = keeps_each l i d cs v own h.0.1;
+        others = preserves_each l i d cs v own h.0.1;
         blank_elsewhere = λ k le. h.1 k (omega (arith, n, le));
       }

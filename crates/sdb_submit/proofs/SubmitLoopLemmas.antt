@@ -29,9 +29,9 @@ module _ {P : Type 0} (acts : CallRelation P) (s : PlainSubmission) (now : ℕ) 
   by_decided n k l a p q r e is h isnt =
       subst (λ (m : ℕ). SubmitRetries acts s now m l p r q) (sym e) (inr (inl (subst (λ (a : PlainAttempt). acts (commit a now) p (decided r) q) is h, isnt)))
 
-  pub by_wanting : (n k : ℕ) (l : PlainLook) (a : PlainAttempt) (p o q : P) (r w : PlainReply) → n ≡ suc k → a ≡ record { submission = s; look = l } → acts (commit a now) p (decided w) o → w ≡ refused E10 → acts (commit_now s now) o r q → RetriesLeft n l p r q
+  pub by_out_of_memory : (n k : ℕ) (l : PlainLook) (a : PlainAttempt) (p o q : P) (r w : PlainReply) → n ≡ suc k → a ≡ record { submission = s; look = l } → acts (commit a now) p (decided w) o → w ≡ refused E10 → acts (commit_now s now) o r q → RetriesLeft n l p r q
   unfolding SubmitRetries
-  by_wanting n k l a p o q r w e is h wants last =
+  by_out_of_memory n k l a p o q r w e is h wants last =
       let here : acts (commit (record { submission = s; look = l }) now) p (decided (refused E10)) o =
       subst (λ (v : PlainReply). acts (commit (record { submission = s; look = l }) now) p (decided v) o) wants (subst (λ (a : PlainAttempt). acts (commit a now) p (decided w) o) is h) in
       subst (λ (m : ℕ). SubmitRetries acts s now m l p r q) (sym e) (inr (inr (inl (o, (here, last)))))

@@ -81,23 +81,23 @@ pub numbers_bare : (es : List QueueEntry) → keys_of es ≡ queue_ids (queues_w
 numbers_bare [] = refl
 numbers_bare (e ∷ es) = ap (λ l. e.0 ∷ l) (numbers_bare es)
 
-pub given_bare : (next : ℕ) (es : List QueueEntry) → AreBelowNext next (keys_of es) → AreBelowNext next (queue_ids (queues_without_rings es))
-given_bare next es h = subst (AreBelowNext next) (numbers_bare es) h
+pub assigned_bare : (next : ℕ) (es : List QueueEntry) → AreBelowNext next (keys_of es) → AreBelowNext next (queue_ids (queues_without_rings es))
+assigned_bare next es h = subst (AreBelowNext next) (numbers_bare es) h
 
 pub ids_distinct : (es : List QueueEntry) → IsStrictlySortedBy nat_cmp (keys_of es) → IsDistinct nat_eq (queue_ids (queues_without_rings es))
 ids_distinct es h =
     let E : (ℕ → ℕ → Bool) → Type 0 = λ e. IsDistinct e (keys_of es) in
     subst (IsDistinct nat_eq) (numbers_bare es) (subst E (λ i n k. same_test n i k) (IsDistinct-from_sorted nat_cmp (keys_of es) h))
 
-pub given_added : (n : ℕ) (w : RingedQueue) (es : List QueueEntry) → AreBelowNext n (keys_of es) → AreBelowNext (n + 1) (keys_of (es ++ (n, w) ∷ []))
-given_added n w [] h = (omega arith, tt)
-given_added n w (e ∷ es) h = let b = h.0 in (omega (arith, b), given_added n w es h.1)
+pub assigned_added : (n : ℕ) (w : RingedQueue) (es : List QueueEntry) → AreBelowNext n (keys_of es) → AreBelowNext (n + 1) (keys_of (es ++ (n, w) ∷ []))
+assigned_added n w [] h = (omega arith, tt)
+assigned_added n w (e ∷ es) h = let b = h.0 in (omega (arith, b), assigned_added n w es h.1)
 
-pub given_without : (n next : ℕ) (es : List QueueEntry) → AreBelowNext next (keys_of es) → AreBelowNext next (keys_of (remove_entry (nat_eq n) es))
-given_without n next [] h = tt
-given_without n next (e ∷ es) h = elim (nat_eq n e.0) as (λ b. AreBelowNext next (keys_of (cond b es (e ∷ remove_entry (nat_eq n) es)))) [
+pub assigned_without : (n next : ℕ) (es : List QueueEntry) → AreBelowNext next (keys_of es) → AreBelowNext next (keys_of (remove_entry (nat_eq n) es))
+assigned_without n next [] h = tt
+assigned_without n next (e ∷ es) h = elim (nat_eq n e.0) as (λ b. AreBelowNext next (keys_of (cond b es (e ∷ remove_entry (nat_eq n) es)))) [
   | true ↦ h.1
-  | false ↦ (h.0, given_without n next es h.1)
+  | false ↦ (h.0, assigned_without n next es h.1)
 ]
 
 other_or : {A : Type 0} (b : Bool) (n k : ℕ) (x y : A) → nat_eq n k ≡ b → (n ≡ k → ⊥) → cond b x y ≡ y

@@ -235,8 +235,8 @@ none_or k p n r (inl z) is = omega arith
 none_or k p n r (inr f) is = omega arith
 
 -- without pending entries the ring buffer is unchanged
-pub kept_in : (log : List PlainEntry) (max : ℕ) (q : RingedQueue) → IsRingOfLog log q → length (pending_entries log max q.queue) ≡ 0 → q ≡ advance_ringed_queue log max q
-kept_in log max q f none =
+pub unchanged_in : (log : List PlainEntry) (max : ℕ) (q : RingedQueue) → IsRingOfLog log q → length (pending_entries log max q.queue) ≡ 0 → q ≡ advance_ringed_queue log max q
+unchanged_in log max q f none =
     let n = length log in
     let k = length q.ring in
     let p = next_version q.queue in

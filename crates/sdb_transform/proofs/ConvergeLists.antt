@@ -234,8 +234,8 @@ li_ld_before s t i j v x ds h k m = record {
       (li_does i v (deleted_at j ds) (omega (arith, h, k, count_del j ds k)));
 }
 
-li_ld_behind : (s t : Side) (i j : ℕ) (v x : Value) (ds : Items) → j ≤ i → suc i ≤ item_count ds → ActsConverge s t (list ds) (li (suc i) v) (ld j x)
-li_ld_behind s t i j v x ds h k =
+li_ld_after : (s t : Side) (i j : ℕ) (v x : Value) (ds : Items) → j ≤ i → suc i ≤ item_count ds → ActsConverge s t (list ds) (li (suc i) v) (ld j x)
+li_ld_after s t i j v x ds h k =
     let f : j < item_count ds = omega (arith, h, k) in
     record {
       left = li i v ∷ [];
@@ -260,7 +260,7 @@ li_ld s t zero j v x ds h k m = li_ld_before s t zero j v x ds (omega arith) k (
 li_ld s t (suc i) j v x ds h k m =
     elim (le_or_lt (suc i) j) [
       | inl l ↦ li_ld_before s t (suc i) j v x ds l k (m l)
-      | inr g ↦ li_ld_behind s t i j v x ds (omega (arith, g)) h
+      | inr g ↦ li_ld_after s t i j v x ds (omega (arith, g)) h
     ]
 
 -- ---- an insert and a replacement
@@ -281,8 +281,8 @@ li_lr_before s t i j v x y ds h k m = record {
       (li_does i v (set_item j ds y) (omega (arith, h, k, count_set j y ds)));
 }
 
-li_lr_behind : (s t : Side) (i j : ℕ) (v x y : Value) (ds : Items) → j < i → i ≤ item_count ds → ActsConverge s t (list ds) (li i v) (lr j x y)
-li_lr_behind s t i j v x y ds h k = record {
+li_lr_after : (s t : Side) (i j : ℕ) (v x y : Value) (ds : Items) → j < i → i ≤ item_count ds → ActsConverge s t (list ds) (li i v) (lr j x y)
+li_lr_after s t i j v x y ds h k = record {
   left = li i v ∷ [];
   right = lr j x y ∷ [];
   result = list (inserted_at i v (set_item j ds y));
@@ -301,7 +301,7 @@ pub li_lr : (s t : Side) (i j : ℕ) (v x y : Value) (ds : Items) → i ≤ item
 li_lr s t i j v x y ds h k m =
     elim (le_or_lt i j) [
       | inl l ↦ li_lr_before s t i j v x y ds l k (m l)
-      | inr g ↦ li_lr_behind s t i j v x y ds g h
+      | inr g ↦ li_lr_after s t i j v x y ds g h
     ]
 
 -- ---- two removals
@@ -378,8 +378,8 @@ ld_lr_same s t i x y z ds h = record {
   by_right = then_none (lr i y z) (list ds) (list (set_item i ds z)) (lr_does i y z ds h);
 }
 
-ld_lr_behind : (s t : Side) (i j : ℕ) (x y z : Value) (ds : Items) → j < i → i < item_count ds → ActsConverge s t (list ds) (ld i x) (lr j y z)
-ld_lr_behind s t i j x y z ds h k =
+ld_lr_after : (s t : Side) (i j : ℕ) (x y z : Value) (ds : Items) → j < i → i < item_count ds → ActsConverge s t (list ds) (ld i x) (lr j y z)
+ld_lr_after s t i j x y z ds h k =
     let f : j < item_count ds = omega (arith, h, k) in
     record {
       left = ld i x ∷ [];
@@ -404,7 +404,7 @@ ld_lr s t i j x y z ds h k =
     elim (trichotomy i j) [
       | inl l ↦ ld_lr_at s t i j x y z ds l k
       | inr (inl e) ↦ subst (λ j. ActsConverge s t (list ds) (ld i x) (lr j y z)) e (ld_lr_same s t i x y z ds h)
-      | inr (inr g) ↦ ld_lr_behind s t i j x y z ds g h
+      | inr (inr g) ↦ ld_lr_after s t i j x y z ds g h
     ]
 
 -- ---- two replacements

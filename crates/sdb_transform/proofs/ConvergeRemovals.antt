@@ -9,7 +9,7 @@ use Rattle.sdb_apply.proofs.BelowLemmas.{does_path}
 use Rattle.sdb_transform.specs.declared.side.Side.{Side}
 use Rattle.sdb_transform.specs.Transform.{strip_prefix, removed_step, map_removed, updated_value, component_at, transform, transform_below, update_removed, strip_removed_path}
 use Rattle.sdb_transform.specs.ConvergenceLaws.{removed_value}
-use Rattle.sdb_transform.proofs.ConvergenceLemmas.{behind_front, behind_rest}
+use Rattle.sdb_transform.proofs.ConvergenceLemmas.{after_prefix, after_rest}
 
 removed_with : (f : Value → Value) (a : PlainAct) → removed_value (map_removed f a) ≡ option_map f (removed_value a)
 removed_with f (na a0) = refl
@@ -25,13 +25,13 @@ removed_with f (or a0 a1 a2) = refl
 -- a path doesn't begin with a longer one
 not_behind : (p : List PlainStep) (w : PlainStep) (rest : List PlainStep) → strip_prefix (p ++ w ∷ rest) p ≡ None
 not_behind [] w rest = refl
-not_behind (s ∷ p) w rest = behind_front s (p ++ w ∷ rest) p ∙ not_behind p w rest
+not_behind (s ∷ p) w rest = after_prefix s (p ++ w ∷ rest) p ∙ not_behind p w rest
 
 under_is : (c : PlainComponent) (w : PlainStep) (path rest : List PlainStep) → removed_step c.act ≡ Some w → path ≡ c.path ++ w ∷ rest → strip_removed_path c path ≡ Some rest
 under_is c w path rest e is =
     ap (option_and_then (λ s. option_and_then (strip_prefix (s ∷ [])) (strip_prefix c.path path))) e
-    ∙ ap (option_and_then (strip_prefix (w ∷ []))) (ap (strip_prefix c.path) is ∙ behind_rest c.path (w ∷ rest))
-    ∙ behind_rest (w ∷ []) rest
+    ∙ ap (option_and_then (strip_prefix (w ∷ []))) (ap (strip_prefix c.path) is ∙ after_rest c.path (w ∷ rest))
+    ∙ after_rest (w ∷ []) rest
 
 -- case 1 of the transform
 under_transform : (side : Side) (c o : PlainComponent) (w : PlainStep) (rest : List PlainStep) → removed_step c.act ≡ Some w → o.path ≡ c.path ++ w ∷ rest

@@ -27,13 +27,13 @@ begins_append : (s t : List ℕ) → IsCharStart s → IsCharStart t → IsCharS
 begins_append [] t h k = k
 begins_append (b ∷ s) t h k = h
 
-begins_front : (s t : List ℕ) → IsCharStart (s ++ t) → IsCharStart s
-begins_front [] t h = tt
-begins_front (b ∷ s) t h = h
+begins_prefix : (s t : List ℕ) → IsCharStart (s ++ t) → IsCharStart s
+begins_prefix [] t h = tt
+begins_prefix (b ∷ s) t h = h
 
 -- a text that begins with s and continues differently
 begins_other : (s t u : List ℕ) → IsCharStart (s ++ t) → IsCharStart u → IsCharStart (s ++ u)
-begins_other s t u h k = begins_append s u (begins_front s t h) k
+begins_other s t u h k = begins_append s u (begins_prefix s t h) k
 
 -- ---- code units
 
@@ -47,14 +47,14 @@ wide_units s t h (b ∷ u) e z = let k : IsCharStart (b ∷ u) = subst IsCharSta
 
 -- ---- cuts
 
-past_byte : (w n : ℕ) → w + n - w ≡ n
-past_byte w n = omega arith
+after_byte : (w n : ℕ) → w + n - w ≡ n
+after_byte w n = omega arith
 
 -- a text is cut before a text that begins with a character
 pub cut_here : (s t : List ℕ) → IsCharStart t → cut_at (s ++ t) (units s) ≡ Some (length s)
 cut_here [] [] h = refl
 cut_here [] (b ∷ t) h = rw (le_false (utf16_width b) 0 h)
-cut_here (b ∷ s) t h = rw (le_true (utf16_width b) (utf16_width b + units s) (omega arith), past_byte (utf16_width b) (units s)) (ap (option_map suc) (cut_here s t h))
+cut_here (b ∷ s) t h = rw (le_true (utf16_width b) (utf16_width b + units s) (omega arith), after_byte (utf16_width b) (units s)) (ap (option_map suc) (cut_here s t h))
 
 pub cut_where : (t a b : List ℕ) (p : ℕ) → t ≡ a ++ b → units a ≡ p → IsCharStart b → cut_at t p ≡ Some (length a)
 cut_where t a b p is at h = ap (λ x. cut_at x p) is ∙ ap (cut_at (a ++ b)) (sym at) ∙ cut_here a b h
@@ -110,35 +110,35 @@ text_between (x ∷ a) b (y ∷ c) d e h k =
     let m = text_between a b c d r h (omega (arith, k, n)) in
     record { mid = m.mid; far = ap (λ z. z ∷ c) (sym s) ∙ ap (λ z. x ∷ z) m.far; near = m.near }
 
-same_front : (a b c : List ℕ) → a ++ b ≡ a ++ c → b ≡ c
-same_front [] b c e = e
-same_front (x ∷ a) b c e = let r : a ++ b ≡ a ++ c = cc in same_front a b c r
+same_prefix : (a b c : List ℕ) → a ++ b ≡ a ++ c → b ≡ c
+same_prefix [] b c e = e
+same_prefix (x ∷ a) b c e = let r : a ++ b ≡ a ++ c = cc in same_prefix a b c r
 
 -- ---- effects
 
-take_front : (a b : List ℕ) → take (length a) (a ++ b) ≡ a
-take_front [] b = refl
-take_front (x ∷ a) b = ap (λ z. x ∷ z) (take_front a b)
+take_prefix : (a b : List ℕ) → take (length a) (a ++ b) ≡ a
+take_prefix [] b = refl
+take_prefix (x ∷ a) b = ap (λ z. x ∷ z) (take_prefix a b)
 
-drop_front : (a b : List ℕ) → drop (length a) (a ++ b) ≡ b
-drop_front [] b = refl
-drop_front (x ∷ a) b = drop_front a b
+drop_prefix : (a b : List ℕ) → drop (length a) (a ++ b) ≡ b
+drop_prefix [] b = refl
+drop_prefix (x ∷ a) b = drop_prefix a b
 
 length_append : (a b : List ℕ) → length (a ++ b) ≡ length a + length b
 length_append [] b = omega arith
 length_append (x ∷ a) b = let r = length_append a b in omega (arith, r)
 
 insert_slice_append : (a b s : List ℕ) → insert_slice (a ++ b) (length a) s ≡ a ++ (s ++ b)
-insert_slice_append a b s = rw (take_front a b, drop_front a b) (append_assoc a s b)
+insert_slice_append a b s = rw (take_prefix a b, drop_prefix a b) (append_assoc a s b)
 
 remove_range_append : (a d b : List ℕ) → remove_range (a ++ (d ++ b)) (length a) (length a + length d) ≡ a ++ b
 remove_range_append a d b =
     let e : length a + length d ≡ length (a ++ d) = sym (length_append a d) in
     let f : a ++ (d ++ b) ≡ (a ++ d) ++ b = sym (append_assoc a d b) in
-    rw (take_front a (d ++ b), e) (ap (λ t. a ++ drop (length (a ++ d)) t) f ∙ ap (λ t. a ++ t) (drop_front (a ++ d) b))
+    rw (take_prefix a (d ++ b), e) (ap (λ t. a ++ drop (length (a ++ d)) t) f ∙ ap (λ t. a ++ t) (drop_prefix (a ++ d) b))
 
 begins_with : (d b : List ℕ) → starts_with nat_eq (d ++ b) d ≡ true
-begins_with d b = (bytes_eq-Decides d (take (length d) (d ++ b))).1 (sym (take_front d b))
+begins_with d b = (bytes_eq-Decides d (take (length d) (d ++ b))).1 (sym (take_prefix d b))
 
 pub si_does : (p : ℕ) (s t a b e : List ℕ) → t ≡ a ++ b → units a ≡ p → IsCharStart b → e ≡ a ++ (s ++ b) → apply_act (si p s) (text t) ≡ Some (text e)
 si_does p s t a b e is at h goes =
@@ -150,7 +150,7 @@ pub sd_does : (p : ℕ) (d t a b e : List ℕ) → t ≡ a ++ (d ++ b) → units
 sd_does p d t a b e is at h goes =
     ap (λ o. option_map text (option_and_then (λ i. if starts_with nat_eq (drop i t) d then Some (remove_range t i (i + length d)) else None) o)) (cut_where t a (d ++ b) p is at h)
     ∙ ap (λ t. option_map text (if starts_with nat_eq (drop (length a) t) d then Some (remove_range t (length a) (length a + length d)) else None)) is
-    ∙ ap (λ x. option_map text (if starts_with nat_eq x d then Some (remove_range (a ++ (d ++ b)) (length a) (length a + length d)) else None)) (drop_front a (d ++ b))
+    ∙ ap (λ x. option_map text (if starts_with nat_eq x d then Some (remove_range (a ++ (d ++ b)) (length a) (length a + length d)) else None)) (drop_prefix a (d ++ b))
     ∙ ap (λ x. option_map text (if x then Some (remove_range (a ++ (d ++ b)) (length a) (length a + length d)) else None)) (begins_with d b)
     ∙ ap (λ t. Some (text t)) (remove_range_append a d b ∙ sym goes)
 
@@ -236,9 +236,9 @@ si_after s p r n x d h e =
       | inr g ↦ let z : p - units d ≡ r + n = omega (arith, e) in rw (le_false p r h, le_false p (r + units d) g) (ap (λ q. Some (si q x ∷ [])) z)
     ]
 
-si_sd_behind : (s t : Side) (p r : ℕ) (x d tx c m b : List ℕ) → tx ≡ c ++ (d ++ (m ++ b)) → units c ≡ r → r + units d + units m ≡ p → r < p
+si_sd_after : (s t : Side) (p r : ℕ) (x d tx c m b : List ℕ) → tx ≡ c ++ (d ++ (m ++ b)) → units c ≡ r → r + units d + units m ≡ p → r < p
     → IsCharStart m → IsCharStart d → IsCharStart b → IsCharStart x → ActsConverge s t (text tx) (si p x) (sd r d)
-si_sd_behind s t p r x d tx c m b is at on h bm bd bb bx = record {
+si_sd_after s t p r x d tx c m b is at on h bm bd bb bx = record {
   left = si (r + units m) x ∷ [];
   right = sd r d ∷ [];
   result = text (c ++ (m ++ (x ++ b)));
@@ -258,8 +258,8 @@ si_sd_behind s t p r x d tx c m b is at on h bm bd bb bx = record {
 split_is : (r q n : ℕ) (f g : List ℕ) → units f ≡ n → IsCharStart g → split_delete r (f ++ g) n q ≡ Some (sd r f ∷ sd q g ∷ [])
 split_is r q n f g e h =
     ap (option_map (λ i. sd r (take i (f ++ g)) ∷ sd q (drop i (f ++ g)) ∷ [])) (cut_where (f ++ g) f g n refl e h)
-    ∙ ap (λ z. Some (sd r z ∷ sd q (drop (length f) (f ++ g)) ∷ [])) (take_front f g)
-    ∙ ap (λ z. Some (sd r f ∷ sd q z ∷ [])) (drop_front f g)
+    ∙ ap (λ z. Some (sd r z ∷ sd q (drop (length f) (f ++ g)) ∷ [])) (take_prefix f g)
+    ∙ ap (λ z. Some (sd r f ∷ sd q z ∷ [])) (drop_prefix f g)
 
 si_sd_inside : (s t : Side) (p r : ℕ) (x tx c f g e : List ℕ) → tx ≡ c ++ (f ++ (g ++ e)) → units c ≡ r → r + units f ≡ p → 0 < units f → 0 < units g
     → IsCharStart f → IsCharStart g → IsCharStart e → IsCharStart x → r + units x ≤ 9007199254740991 → ActsConverge s t (text tx) (si p x) (sd r (f ++ g))
@@ -293,10 +293,10 @@ pub record DeletedRange (t d : List ℕ) (p : ℕ) : Type 0 where
   pub ends : IsCharStart rest
 
 begins_part : (f g d : List ℕ) → d ≡ f ++ g → IsCharStart d → IsCharStart f
-begins_part f g d e h = begins_front f g (subst IsCharStart e h)
+begins_part f g d e h = begins_prefix f g (subst IsCharStart e h)
 
 begins_rest : (g e b : List ℕ) → b ≡ g ++ e → IsCharStart b → IsCharStart g
-begins_rest g e b is h = begins_front g e (subst IsCharStart is h)
+begins_rest g e b is h = begins_prefix g e (subst IsCharStart is h)
 
 pub si_sd : (s t : Side) (p r i : ℕ) (x d tx : List ℕ) → IsCutAt tx p i → DeletedRange tx d r → IsCharStart x → (p < r + units d → IsSafeInteger (r + units x)) → ActsConverge s t (text tx) (si p x) (sd r d)
 si_sd s t p r i x d tx c k bx m =
@@ -308,7 +308,7 @@ si_sd s t p r i x d tx c k bx m =
       | inr g ↦ elim (le_or_lt (r + units d) p) [
         | inl l ↦
             let b = text_between (k.front ++ d) k.rest c.front c.rest (append_assoc k.front d k.rest ∙ sym k.is ∙ c.is) c.begins (omega (arith, c.far, k.far, units_append k.front d, l)) in
-            si_sd_behind s t p r x d tx k.front b.mid c.rest (k.is ∙ ap (λ z. k.front ++ (d ++ z)) b.near) k.far
+            si_sd_after s t p r x d tx k.front b.mid c.rest (k.is ∙ ap (λ z. k.front ++ (d ++ z)) b.near) k.far
             (omega (arith, c.far, k.far, ap units b.far, units_append (k.front ++ d) b.mid, units_append k.front d)) g
             (begins_rest b.mid c.rest k.rest b.near k.ends) k.starts c.begins bx
         | inr h ↦
@@ -316,7 +316,7 @@ si_sd s t p r i x d tx c k bx m =
             let e = text_between c.front c.rest (k.front ++ d) k.rest (sym c.is ∙ k.is ∙ sym (append_assoc k.front d k.rest)) k.ends (omega (arith, c.far, k.far, units_append k.front d, h)) in
             let f = b.mid in
             let g' = e.mid in
-            let is : d ≡ f ++ g' = same_front k.front d (f ++ g') (e.far ∙ ap (λ z. z ++ g') b.far ∙ append_assoc k.front f g') in
+            let is : d ≡ f ++ g' = same_prefix k.front d (f ++ g') (e.far ∙ ap (λ z. z ++ g') b.far ∙ append_assoc k.front f g') in
             let on : r + units f ≡ p = omega (arith, k.far, c.far, ap units b.far, units_append k.front f) in
             subst (λ d. ActsConverge s t (text tx) (si p x) (sd r d)) (sym is)
             (si_sd_inside s t p r x tx k.front f g' k.rest (c.is ∙ ap (λ z. z ++ c.rest) b.far ∙ ap (λ z. (k.front ++ f) ++ z) e.near ∙ append_assoc k.front f (g' ++ k.rest)) k.far on (omega (arith, on, g))
@@ -333,9 +333,9 @@ without_is p before after f g h e k bg bh =
     let is : d ≡ (f ++ g) ++ h = sym (append_assoc f g h) in
     ap (λ o. option_and_then (λ i. option_map (λ j. delete_unless_empty p (take i d ++ drop j d)) (cut_at d after)) o) (cut_where d f (g ++ h) before refl e (begins_append g h bg bh))
     ∙ ap (option_map (λ j. delete_unless_empty p (take (length f) d ++ drop j d))) (cut_where d (f ++ g) h after is (omega (arith, units_append f g, k)) bh)
-    ∙ ap (λ z. Some (delete_unless_empty p (z ++ drop (length (f ++ g)) d))) (take_front f (g ++ h))
+    ∙ ap (λ z. Some (delete_unless_empty p (z ++ drop (length (f ++ g)) d))) (take_prefix f (g ++ h))
     ∙ ap (λ z. Some (delete_unless_empty p (f ++ drop (length (f ++ g)) z))) is
-    ∙ ap (λ z. Some (delete_unless_empty p (f ++ z))) (drop_front (f ++ g) h)
+    ∙ ap (λ z. Some (delete_unless_empty p (f ++ z))) (drop_prefix (f ++ g) h)
 
 unless_does : (p : ℕ) (w t a b : List ℕ) → t ≡ a ++ (w ++ b) → units a ≡ p → IsCharStart w → IsCharStart b → apply_acts (delete_unless_empty p w) (text t) ≡ Some (text (a ++ b))
 unless_does p [] t a b is at bw bb = ap (λ z. Some (text z)) is
@@ -436,20 +436,20 @@ sd_sd_at s t p r d d2 tx k l h =
           let m = text_between k.front (d ++ k.rest) l.front (d2 ++ l.rest) (sym k.is ∙ l.is) (begins_append d2 l.rest l.starts l.ends) (omega (arith, k.far, l.far, h)) in
           let n = text_between l.front (d2 ++ l.rest) (k.front ++ d) k.rest (sym l.is ∙ k.is ∙ sym (append_assoc k.front d k.rest)) k.ends (omega (arith, k.far, l.far, units_append k.front d, in')) in
           let f = m.mid in
-          let is : d ≡ f ++ n.mid = same_front k.front d (f ++ n.mid) (n.far ∙ ap (λ z. z ++ n.mid) m.far ∙ append_assoc k.front f n.mid) in
+          let is : d ≡ f ++ n.mid = same_prefix k.front d (f ++ n.mid) (n.far ∙ ap (λ z. z ++ n.mid) m.far ∙ append_assoc k.front f n.mid) in
           let on : p + units f ≡ r = omega (arith, k.far, l.far, ap units m.far, units_append k.front f) in
           let bf = begins_part f n.mid d is k.starts in
           let tx_is : tx ≡ k.front ++ (f ++ (d2 ++ l.rest)) = l.is ∙ ap (λ z. z ++ (d2 ++ l.rest)) m.far ∙ append_assoc k.front f (d2 ++ l.rest) in
           elim (le_or_lt (r + units d2) (p + units d)) [
             | inl inside ↦
                 let o = text_between (l.front ++ d2) l.rest (k.front ++ d) k.rest (append_assoc l.front d2 l.rest ∙ sym l.is ∙ k.is ∙ sym (append_assoc k.front d k.rest)) k.ends (omega (arith, k.far, l.far, units_append k.front d, units_append l.front d2, inside)) in
-                let x_is : n.mid ≡ d2 ++ o.mid = same_front l.front n.mid (d2 ++ o.mid) (sym n.far ∙ o.far ∙ append_assoc l.front d2 o.mid) in
+                let x_is : n.mid ≡ d2 ++ o.mid = same_prefix l.front n.mid (d2 ++ o.mid) (sym n.far ∙ o.far ∙ append_assoc l.front d2 o.mid) in
                 let d_is : d ≡ f ++ (d2 ++ o.mid) = is ∙ ap (λ z. f ++ z) x_is in
                 subst (λ d. ActsConverge s t (text tx) (sd p d) (sd r d2)) (sym d_is)
                 (sd_sd_inside s t p r tx k.front f d2 o.mid k.rest (tx_is ∙ ap (λ z. k.front ++ (f ++ (d2 ++ z))) o.near) k.far on l.wide bf l.starts (begins_rest o.mid k.rest l.rest o.near l.ends) k.ends)
             | inr over' ↦
                 let o = text_between (k.front ++ d) k.rest (l.front ++ d2) l.rest (append_assoc k.front d k.rest ∙ sym k.is ∙ l.is ∙ sym (append_assoc l.front d2 l.rest)) l.ends (omega (arith, k.far, l.far, units_append k.front d, units_append l.front d2, over')) in
-                let y_is : d2 ≡ n.mid ++ o.mid = same_front l.front d2 (n.mid ++ o.mid) (o.far ∙ ap (λ z. z ++ o.mid) n.far ∙ append_assoc l.front n.mid o.mid) in
+                let y_is : d2 ≡ n.mid ++ o.mid = same_prefix l.front d2 (n.mid ++ o.mid) (o.far ∙ ap (λ z. z ++ o.mid) n.far ∙ append_assoc l.front n.mid o.mid) in
                 let wide : 0 < units n.mid = omega (arith, on, in', ap units is, units_append f n.mid) in
                 subst (λ d. ActsConverge s t (text tx) (sd p d) (sd r d2)) (sym is)
                 (subst (λ d2. ActsConverge s t (text tx) (sd p (f ++ n.mid)) (sd r d2)) (sym y_is)
@@ -499,12 +499,12 @@ text_begins [] h = tt
 text_begins (b ∷ bs) h = let r = IsCharBoundary-start (b ∷ bs) h in begins_wide b (λ g. r.1 (omega arith) g)
 
 rest_is_text : (a b : List ℕ) → IsUtf8 (a ++ b) → IsCharStart b → IsUtf8 b
-rest_is_text a b h k = subst IsUtf8 (drop_front a b) (IsUtf8-drop (a ++ b) (length a) h (boundary_of_append a b k))
+rest_is_text a b h k = subst IsUtf8 (drop_prefix a b) (IsUtf8-drop (a ++ b) (length a) h (boundary_of_append a b k))
 
-behind_is_text : (d b : List ℕ) → IsUtf8 (d ++ b) → IsUtf8 d → IsUtf8 b
-behind_is_text d b h k =
-    let c = IsCharBoundary-from_take (d ++ b) (length d) h (omega (arith, length_append d b)) (subst IsUtf8 (sym (take_front d b)) k) in
-    subst IsUtf8 (drop_front d b) (IsUtf8-drop (d ++ b) (length d) h c)
+after_is_text : (d b : List ℕ) → IsUtf8 (d ++ b) → IsUtf8 d → IsUtf8 b
+after_is_text d b h k =
+    let c = IsCharBoundary-from_take (d ++ b) (length d) h (omega (arith, length_append d b)) (subst IsUtf8 (sym (take_prefix d b)) k) in
+    subst IsUtf8 (drop_prefix d b) (IsUtf8-drop (d ++ b) (length d) h c)
 
 take_drop : (n : ℕ) (l : List ℕ) → l ≡ take n l ++ drop n l
 take_drop zero l = refl
@@ -519,12 +519,12 @@ pub sd_finds : (p : ℕ) (d t : List ℕ) (e : Value) → IsUtf8 t → IsUtf8 d 
 sd_finds p d t e ut ud n h =
     let c = sd_there (cut_at t p) t d e h in
     let k = cut_found t p c.0 (c.1) in
-    let here : drop c.0 t ≡ k.rest = ap (drop c.0) k.is ∙ ap (λ i. drop i (k.front ++ k.rest)) (sym k.position) ∙ drop_front k.front k.rest in
+    let here : drop c.0 t ≡ k.rest = ap (drop c.0) k.is ∙ ap (λ i. drop i (k.front ++ k.rest)) (sym k.position) ∙ drop_prefix k.front k.rest in
     let same : d ≡ take (length d) (drop c.0 t) = (bytes_eq-Decides d (take (length d) (drop c.0 t))).0 (c.2) in
     let b = drop (length d) k.rest in
     let rest : k.rest ≡ d ++ b = take_drop (length d) k.rest ∙ ap (λ z. z ++ b) (sym (same ∙ ap (take (length d)) here)) in
     let u : IsUtf8 k.rest = rest_is_text k.front k.rest (subst IsUtf8 k.is ut) k.begins in
-    let v : IsUtf8 b = behind_is_text d b (subst IsUtf8 rest u) ud in
+    let v : IsUtf8 b = after_is_text d b (subst IsUtf8 rest u) ud in
     let w = text_begins d ud in
     record { front = k.front; rest = b; is = k.is ∙ ap (λ z. k.front ++ z) rest; far = k.far; starts = w; wide = units_none d w n; ends = text_begins b v }
 

@@ -126,16 +126,16 @@ at_formed (s ∷ p) d u w e = let c = step_there (child s d) p u e in at_formed 
 
 -- ---- inside a common prefix
 
-pub behind_front : (s : PlainStep) (p q : List PlainStep) → strip_prefix (s ∷ p) (s ∷ q) ≡ strip_prefix p q
-behind_front s p q = rw (step_itself s)
+pub after_prefix : (s : PlainStep) (p q : List PlainStep) → strip_prefix (s ∷ p) (s ∷ q) ≡ strip_prefix p q
+after_prefix s p q = rw (step_itself s)
 
-behind_under : (p q r : List PlainStep) → strip_prefix (p ++ q) (p ++ r) ≡ strip_prefix q r
-behind_under [] q r = refl
-behind_under (s ∷ p) q r = behind_front s (p ++ q) (p ++ r) ∙ behind_under p q r
+after_under : (p q r : List PlainStep) → strip_prefix (p ++ q) (p ++ r) ≡ strip_prefix q r
+after_under [] q r = refl
+after_under (s ∷ p) q r = after_prefix s (p ++ q) (p ++ r) ∙ after_under p q r
 
-pub behind_rest : (p r : List PlainStep) → strip_prefix p (p ++ r) ≡ Some r
-behind_rest [] r = refl
-behind_rest (s ∷ p) r = behind_front s p (p ++ r) ∙ behind_rest p r
+pub after_rest : (p r : List PlainStep) → strip_prefix p (p ++ r) ≡ Some r
+after_rest [] r = refl
+after_rest (s ∷ p) r = after_prefix s p (p ++ r) ∙ after_rest p r
 
 onto_acts : (p q : List PlainStep) (o : Option (List PlainAct)) → option_map (map (component_at (p ++ q))) o ≡ option_map (map (with_path_prefix p)) (option_map (map (component_at q)) o)
 onto_acts p q None = refl
@@ -166,8 +166,8 @@ onto_all side p q r x y (Some (w ∷ rest)) u = onto_moved p q r rest x y (trans
 transform_under : (side : Side) (p q r : List PlainStep) (x y : PlainAct)
     → transform side (component_at (p ++ q) x) (component_at (p ++ r) y) ≡ option_map (map (with_path_prefix p)) (transform side (component_at q x) (component_at r y))
 transform_under side p q r x y =
-    ap (λ l. option_map_or (transform_below side (component_at (p ++ q) x) (component_at (p ++ r) y)) l (Some (update_removed (component_at (p ++ q) x) (component_at (p ++ r) y) (strip_removed_path (component_at (p ++ q) x) (p ++ r))))) (behind_under p r q)
-    ∙ ap (λ l. option_map_or (transform_below side (component_at (p ++ q) x) (component_at (p ++ r) y)) (strip_prefix r q) (Some (update_removed (component_at (p ++ q) x) (component_at (p ++ r) y) (option_and_then (λ w. option_and_then (strip_prefix (w ∷ [])) l) (removed_step x))))) (behind_under p q r)
+    ap (λ l. option_map_or (transform_below side (component_at (p ++ q) x) (component_at (p ++ r) y)) l (Some (update_removed (component_at (p ++ q) x) (component_at (p ++ r) y) (strip_removed_path (component_at (p ++ q) x) (p ++ r))))) (after_under p r q)
+    ∙ ap (λ l. option_map_or (transform_below side (component_at (p ++ q) x) (component_at (p ++ r) y)) (strip_prefix r q) (Some (update_removed (component_at (p ++ q) x) (component_at (p ++ r) y) (option_and_then (λ w. option_and_then (strip_prefix (w ∷ [])) l) (removed_step x))))) (after_under p q r)
     ∙ onto_all side p q r x y (strip_prefix r q) (strip_removed_path (component_at q x) r)
 
 agrees_under : (s t : Side) (p q r : List PlainStep) (x y : PlainAct) (d u : Value) → value_at d p ≡ Some u → Converges s t u (component_at q x) (component_at r y)
@@ -212,9 +212,9 @@ meets_under p q r x y d u h m =
 
 -- ---- disjoint paths
 
-front_apart : (p q : List PlainStep) (o : Option (List PlainStep)) → strip_prefix p q ≡ o → ((rest : List PlainStep) → p ++ rest ≡ q → ⊥) → o ≡ None
-front_apart p q None e h = refl
-front_apart p q (Some rest) e h = absurd (h rest (sym (behind_is p q rest e)))
+prefix_apart : (p q : List PlainStep) (o : Option (List PlainStep)) → strip_prefix p q ≡ o → ((rest : List PlainStep) → p ++ rest ≡ q → ⊥) → o ≡ None
+prefix_apart p q None e h = refl
+prefix_apart p q (Some rest) e h = absurd (h rest (sym (behind_is p q rest e)))
 
 under_none : (o : Option PlainStep) → option_and_then (λ s. option_and_then (strip_prefix (s ∷ [])) None) o ≡ None
 under_none None = refl
@@ -222,8 +222,8 @@ under_none (Some s) = refl
 
 stays_apart : (side : Side) (a b : PlainComponent) → AreDisjointPaths a.path b.path → transform side a b ≡ Some (a ∷ [])
 stays_apart side a b h =
-    ap (λ r. option_map_or (transform_below side a b) r (Some (update_removed a b (strip_removed_path a b.path)))) (front_apart b.path a.path (strip_prefix b.path a.path) refl h.not_extension)
-    ∙ ap (λ r. Some (update_removed a b r)) (ap (λ r. option_and_then (λ s. option_and_then (strip_prefix (s ∷ [])) r) (removed_step a.act)) (front_apart a.path b.path (strip_prefix a.path b.path) refl h.not_prefix) ∙ under_none (removed_step a.act))
+    ap (λ r. option_map_or (transform_below side a b) r (Some (update_removed a b (strip_removed_path a b.path)))) (prefix_apart b.path a.path (strip_prefix b.path a.path) refl h.not_extension)
+    ∙ ap (λ r. Some (update_removed a b r)) (ap (λ r. option_and_then (λ s. option_and_then (strip_prefix (s ∷ [])) r) (removed_step a.act)) (prefix_apart a.path b.path (strip_prefix a.path b.path) refl h.not_prefix) ∙ under_none (removed_step a.act))
 
 pub apart_meet : (s t : Side) (d : Value) (a b : PlainComponent) → ConcurrentPair s t d a b → AreDisjointPaths a.path b.path → Converges s t d a b
 apart_meet s t d a b m h =
@@ -306,7 +306,7 @@ under_at s t p q w x y d m =
     let deep : value_at u (w ∷ q) ≡ Some v = sym (at_append d p (w ∷ q) ∙ ap (option_and_then (λ c. value_at c (w ∷ q))) is) ∙ m.b_made.found in
     let a = stands_at p x d u is m.a_made m.a_texts in
     let b = stands_at (p ++ w ∷ q) y d v m.b_made.found m.b_made m.b_texts in
-    let fits : StepStaysInRange x w = step_fits t (component_at (p ++ w ∷ q) y) (component_at p x) w q (behind_rest p (w ∷ q)) m.b_fits in
+    let fits : StepStaysInRange x w = step_fits t (component_at (p ++ w ∷ q) y) (component_at p x) w q (after_rest p (w ∷ q)) m.b_fits in
     let here = under_here s t x y w q u v (at_formed p d u m.formed is) a deep b fits in
     subst (λ l. Converges s t d (component_at l x) (component_at (p ++ w ∷ q) y)) (append-nil p) (agrees_under s t p [] (w ∷ q) x y d u is here)
 
@@ -347,7 +347,7 @@ pub record BothApply (x y : PlainAct) (u : Value) : Type 0 where
 
 act_fits : (side : Side) (p : List PlainStep) (x y : PlainAct) → StaysInRange side (component_at p x) (component_at p y) → ActStaysInRange side x y
 act_fits side p x y f =
-    subst (SuffixStaysInRange side (component_at p x) (component_at p y)) (ap (strip_prefix p) (sym (append-nil p)) ∙ behind_rest p []) f
+    subst (SuffixStaysInRange side (component_at p x) (component_at p y)) (ap (strip_prefix p) (sym (append-nil p)) ∙ after_rest p []) f
 
 both_at : (p : List PlainStep) (x y : PlainAct) (d u : Value) → ConcurrentPair Left Right d (component_at p x) (component_at p y) → value_at d p ≡ Some u → BothApply x y u
 both_at p x y d u m is = record {

@@ -61,8 +61,8 @@ same_column a b v c d = same_crossing _ _ _ _ _ _ refl (sym (append_assoc v.righ
 same_row : {C : Type 0} (u a b c d : Crossing C) → join_crossings u (append_left a b) (append_left c d) ≡ append_left (join_crossings u a c) (append_right b d)
 same_row u a b c d = same_crossing _ _ _ _ _ _ (sym (append_assoc u.left c.left d.left)) refl (omega arith)
 
-beside_twice : {C : Type 0} (x y z : Crossing C) → append_right (append_right x y) z ≡ append_right x (append_right y z)
-beside_twice x y z = same_crossing _ _ _ _ _ _ refl (append_assoc x.right y.right z.right) (omega arith)
+disjoint_twice : {C : Type 0} (x y z : Crossing C) → append_right (append_right x y) z ≡ append_right x (append_right y z)
+disjoint_twice x y z = same_crossing _ _ _ _ _ _ refl (append_assoc x.right y.right z.right) (omega arith)
 
 -- with one pair counted
 abbrev pub with_one_pair : {C : Type 0} → Crossing C → Crossing C
@@ -301,7 +301,7 @@ module _ {C : Type 0} {tl tr : TransformTable C} {weigh : C → ℕ} (ok : IsWei
       ∙ and_then_assoc (CrossOf x.left R) _ _
       ∙ and_then_cong (CrossOf x.left R) (CrossOf x.left R) _ _ refl (λ z ez.
       and_then_assoc (RunOf z.left ts) _ _
-      ∙ and_then_cong (RunOf z.left ts) (RunOf z.left ts) _ _ refl (λ y ey. ap Some (sym (beside_twice x z y))))
+      ∙ and_then_cong (RunOf z.left ts) (RunOf z.left ts) _ _ refl (λ y ey. ap Some (sym (disjoint_twice x z y))))
       ∙ sym (and_then_assoc (CrossOf x.left R) _ _))
       ∙ sym (and_then_assoc (CrossOf L (r ∷ [])) _ _)
       ∙ sym (ap (λ o. and_then o (λ x. and_then (RunOf x.left ts) (λ y. Some (append_right x y)))) (cross_column L (r ∷ []) R))
@@ -343,8 +343,8 @@ module _ {C : Type 0} {tl tr : TransformTable C} {weigh : C → ℕ} (ok : IsWei
   abbrev InvariantOf : Option (Crossing C) → List C → List (WorkItem C) → List C → ℕ → Type 0
   InvariantOf goal L ts done p = StateInvariant tl tr weigh goal L ts done p
 
-  pub told_start : (L W R : List C) (ts : List (WorkItem C)) → W ≡ L → ts ≡ right_frames R → InvariantOf (CrossOf L R) W ts [] 0
-  told_start L W R ts e f =
+  pub view_start : (L W R : List C) (ts : List (WorkItem C)) → W ≡ L → ts ≡ right_frames R → InvariantOf (CrossOf L R) W ts [] 0
+  view_start L W R ts e f =
       record {
         pair_count = 0;
         pairs_saturated = omega arith;
@@ -355,12 +355,12 @@ module _ {C : Type 0} {tl tr : TransformTable C} {weigh : C → ℕ} (ok : IsWei
             ∙ and_then_id (CrossOf L R) _ (λ y. same_crossing _ _ _ _ _ _ refl refl (omega arith)));
       }
 
-  pub told_waits : (goal : Option (Crossing C)) (W W' ls : List C) (ts : List (WorkItem C)) (done : List C) (p : ℕ) → W' ≡ ls ++ W → InvariantOf goal W (LeftChanges ls ∷ ts) done p → InvariantOf goal W' ts done p
-  told_waits goal W W' ls ts done p e h =
+  pub view_waits : (goal : Option (Crossing C)) (W W' ls : List C) (ts : List (WorkItem C)) (done : List C) (p : ℕ) → W' ≡ ls ++ W → InvariantOf goal W (LeftChanges ls ∷ ts) done p → InvariantOf goal W' ts done p
+  view_waits goal W W' ls ts done p e h =
       record { pair_count = h.pair_count; pairs_saturated = h.pairs_saturated; rest = h.rest ∙ ap (λ v. and_then (RunOf v ts) (λ y. Some (add_done done h.pair_count y))) (sym e) }
 
-  pub told_none : (goal : Option (Crossing C)) (W W' : List C) (r : C) (ts : List (WorkItem C)) (done done' : List C) (p : ℕ) → W ≡ [] → W' ≡ [] → done' ≡ done ++ r ∷ [] → InvariantOf goal W (RightChange r ∷ ts) done p → InvariantOf goal W' ts done' p
-  told_none goal W W' r ts done done' p e f g h =
+  pub view_none : (goal : Option (Crossing C)) (W W' : List C) (r : C) (ts : List (WorkItem C)) (done done' : List C) (p : ℕ) → W ≡ [] → W' ≡ [] → done' ≡ done ++ r ∷ [] → InvariantOf goal W (RightChange r ∷ ts) done p → InvariantOf goal W' ts done' p
+  view_none goal W W' r ts done done' p e f g h =
       record {
         pair_count = h.pair_count;
         pairs_saturated = h.pairs_saturated;
@@ -374,8 +374,8 @@ module _ {C : Type 0} {tl tr : TransformTable C} {weigh : C → ℕ} (ok : IsWei
             ∙ ap (λ v. and_then (RunOf v ts) (λ y. Some (add_done done' h.pair_count y))) (sym f);
       }
 
-  pub told_pair : (goal : Option (Crossing C)) (W W' : List C) (l r : C) (ts ts' : List (WorkItem C)) (done : List C) (p p' : ℕ) (l1 r1 : List C) → W ≡ l ∷ W' → tl l r ≡ Some l1 → tr r l ≡ Some r1 → p' ≡ min (p + 1) (2 ^ 128 - 1) → ts' ≡ right_frames r1 ++ (LeftChanges l1 ∷ ts) → InvariantOf goal W (RightChange r ∷ ts) done p → InvariantOf goal W' ts' done p'
-  told_pair goal W W' l r ts ts' done p p' l1 r1 e e1 e2 f g h =
+  pub view_pair : (goal : Option (Crossing C)) (W W' : List C) (l r : C) (ts ts' : List (WorkItem C)) (done : List C) (p p' : ℕ) (l1 r1 : List C) → W ≡ l ∷ W' → tl l r ≡ Some l1 → tr r l ≡ Some r1 → p' ≡ min (p + 1) (2 ^ 128 - 1) → ts' ≡ right_frames r1 ++ (LeftChanges l1 ∷ ts) → InvariantOf goal W (RightChange r ∷ ts) done p → InvariantOf goal W' ts' done p'
+  view_pair goal W W' l r ts ts' done p p' l1 r1 e e1 e2 f g h =
       let F = λ (y : Crossing C). Some (add_done done h.pair_count y) in
       record {
         pair_count = suc h.pair_count;
@@ -391,8 +391,8 @@ module _ {C : Type 0} {tl tr : TransformTable C} {weigh : C → ℕ} (ok : IsWei
             ∙ ap (λ v. and_then (RunOf W' v) (λ y. Some (add_done done (suc h.pair_count) y))) (sym g);
       }
 
-  pub told_refused : (goal : Option (Crossing C)) (W W' : List C) (l r : C) (ts : List (WorkItem C)) (done : List C) (p : ℕ) → W ≡ l ∷ W' → InvariantOf goal W (RightChange r ∷ ts) done p → (tl l r ≡ None) ⊎ (tr r l ≡ None) → goal ≡ None
-  told_refused goal W W' l r ts done p e h q =
+  pub view_refused : (goal : Option (Crossing C)) (W W' : List C) (l r : C) (ts : List (WorkItem C)) (done : List C) (p : ℕ) → W ≡ l ∷ W' → InvariantOf goal W (RightChange r ∷ ts) done p → (tl l r ≡ None) ⊎ (tr r l ≡ None) → goal ≡ None
+  view_refused goal W W' l r ts done p e h q =
       let F = λ (y : Crossing C). Some (add_done done h.pair_count y) in
       h.rest
       ∙ ap (λ v. and_then (RunOf v (RightChange r ∷ ts)) F) e
@@ -402,8 +402,8 @@ module _ {C : Type 0} {tl tr : TransformTable C} {weigh : C → ℕ} (ok : IsWei
       run_of_refused l r W' ts (inl a) = ap (λ o. and_then o (λ l1. and_then (tr r l) (λ r1. and_then (RunOf W' (right_frames r1 ++ (LeftChanges l1 ∷ ts))) (λ y. Some (with_one_pair y))))) a
       run_of_refused l r W' ts (inr b) = and_then_none (tl l r) _ (λ l1. ap (λ o. and_then o (λ r1. and_then (RunOf W' (right_frames r1 ++ (LeftChanges l1 ∷ ts))) (λ y. Some (with_one_pair y)))) b)
 
-  pub told_end : (goal : Option (Crossing C)) (W : List C) (ts : List (WorkItem C)) (done : List C) (p : ℕ) → ts ≡ [] → InvariantOf goal W ts done p → (k : ℕ) × (goal ≡ Some (record { left = W; right = done; pairs = k })) × (p ≡ min k (2 ^ 128 - 1))
-  told_end goal W ts done p e h =
+  pub view_end : (goal : Option (Crossing C)) (W : List C) (ts : List (WorkItem C)) (done : List C) (p : ℕ) → ts ≡ [] → InvariantOf goal W ts done p → (k : ℕ) × (goal ≡ Some (record { left = W; right = done; pairs = k })) × (p ≡ min k (2 ^ 128 - 1))
+  view_end goal W ts done p e h =
       (h.pair_count, h.rest ∙ ap (λ v. and_then (RunOf W v) (λ y. Some (add_done done h.pair_count y))) e ∙ ap Some (same_crossing _ _ _ _ _ _ refl (append-nil done) (omega arith)), h.pairs_saturated)
 
   -- the bound on the steps

@@ -12,7 +12,7 @@ use Rattle.sdb_transform.specs.Cross.{CrossResult, sum_weight, cross_ops}
 use Rattle.sdb_transform.specs.CrossStack.{work_item_of, IsCrossFault}
 use Rattle.sdb_transform.specs.Transform.{transform}
 use Rattle.sdb_transform.specs.CrossMachine.{WorkItem, LeftChanges, RightChange, right_frames, step_bound, StateInvariant}
-use Rattle.sdb_transform.proofs.CrossLemmas.{told_start, told_none, told_pair, told_refused, told_end, turns_waits, turns_pair}
+use Rattle.sdb_transform.proofs.CrossLemmas.{view_start, view_none, view_pair, view_refused, view_end, turns_waits, turns_pair}
 use Rattle.sdb_transform.proofs.WeightLemmas.{transform_is_weighted, few_pairs}
 
 pub on_ok_then : {A E : Type 0} {P Q : Type 0} (r : Result A E) → OnOk r P → (P → Q) → OnOk r Q
@@ -32,15 +32,15 @@ InvariantAt goal W S done p = StateInvariant (transform Left) (transform Right) 
 
 -- a right change against no left one, and against one
 module _ (goal : CrossResult) (r : PlainComponent) (W W' : List PlainComponent) (S S' : List (WorkItem PlainComponent)) (done : List PlainComponent) (p : ℕ) where
-  pub none_keeps : (done' : List PlainComponent) → W ≡ [] → W' ≡ [] → done' ≡ done ++ r ∷ [] → InvariantAt goal W (RightChange r ∷ S) done p → InvariantAt goal W' S done' p
-  none_keeps done' e e' f h = told_none transform_is_weighted goal W W' r S done done' p e e' f h
+  pub none_preserves : (done' : List PlainComponent) → W ≡ [] → W' ≡ [] → done' ≡ done ++ r ∷ [] → InvariantAt goal W (RightChange r ∷ S) done p → InvariantAt goal W' S done' p
+  none_preserves done' e e' f h = view_none transform_is_weighted goal W W' r S done done' p e e' f h
 
-  pub meet_keeps : (l : PlainComponent) (p' : ℕ) (ls rs : List PlainComponent) → W ≡ l ∷ W' → transform Left l r ≡ Some ls → transform Right r l ≡ Some rs → p' ≡ min (p + 1) (2 ^ 128 - 1) → S' ≡ right_frames rs ++ (LeftChanges ls ∷ S) → InvariantAt goal W (RightChange r ∷ S) done p → InvariantAt goal W' S' done p'
-  meet_keeps l p' ls rs e on_left on_right f g h = told_pair transform_is_weighted goal W W' l r S S' done p p' ls rs e on_left on_right f g h
+  pub meet_preserves : (l : PlainComponent) (p' : ℕ) (ls rs : List PlainComponent) → W ≡ l ∷ W' → transform Left l r ≡ Some ls → transform Right r l ≡ Some rs → p' ≡ min (p + 1) (2 ^ 128 - 1) → S' ≡ right_frames rs ++ (LeftChanges ls ∷ S) → InvariantAt goal W (RightChange r ∷ S) done p → InvariantAt goal W' S' done p'
+  meet_preserves l p' ls rs e on_left on_right f g h = view_pair transform_is_weighted goal W W' l r S S' done p p' ls rs e on_left on_right f g h
 
   pub meet_refused : (l : PlainComponent) → W ≡ l ∷ W' → (f : Fault) → IsCrossFault l r f → InvariantAt goal W (RightChange r ∷ S) done p → IsTransformFault f goal
   meet_refused l e OutOfMemory q h = tt
-  meet_refused l e NotTransformed q h = told_refused transform_is_weighted goal W W' l r S done p e h q
+  meet_refused l e NotTransformed q h = view_refused transform_is_weighted goal W W' l r S done p e h q
 
 pub meet_falls : (l r : PlainComponent) (W W' : List PlainComponent) (S S' : List (WorkItem PlainComponent)) (ls rs : List PlainComponent) → W ≡ l ∷ W' → transform Left l r ≡ Some ls → transform Right r l ≡ Some rs → S' ≡ right_frames rs ++ (LeftChanges ls ∷ S) → step_bound component_weight (sum_weight component_weight W') S' < step_bound component_weight (sum_weight component_weight W) (RightChange r ∷ S)
 meet_falls l r W W' S S' ls rs e on_left on_right g = turns_pair transform_is_weighted W W' l r S S' ls rs e on_left on_right g
@@ -53,11 +53,11 @@ pub invariant_at_start : (L L' R R' W0 W : List PlainComponent) (S0 S : List (Wo
 invariant_at_start L L' R R' W0 W S0 S done a e f b g h d =
     let e' : W ≡ L = e ∙ ap (λ w. L' ++ w) a ∙ append-nil L' ∙ f in
     let g' : S ≡ right_frames R = g ∙ ap (λ w. right_frames R' ++ w) b ∙ append-nil (right_frames R') ∙ ap right_frames h in
-    rw d (told_start transform_is_weighted L W R S e' g')
+    rw d (view_start transform_is_weighted L W R S e' g')
 
 -- at the end the number of pairs is in range
 pub ends_few : (L R W : List PlainComponent) (S : List (WorkItem PlainComponent)) (done : List PlainComponent) (p : ℕ) → S ≡ [] → InvariantAt (cross_ops L R) W S done p → p ≤ weight L * weight R
 ends_few L R W S done p e h =
-    let (k, shown, n) = told_end transform_is_weighted (cross_ops L R) W S done p e h in
+    let (k, shown, n) = view_end transform_is_weighted (cross_ops L R) W S done p e h in
     let light = few_pairs L R (record { left = W; right = done; pairs = k }) shown in
     omega arith

@@ -44,11 +44,11 @@ at_end true a i e h = let p : i ≡ 0 = cc in (eq_of a 0 e, p)
 at_end false a i e h = cc
 
 -- the part before a cut has this number of code units
-pub cut_front : (d : List ℕ) (a i : ℕ) → cut_at d a ≡ Some i → units (take i d) ≡ a
-cut_front [] a i h = let e = at_end (eqb a 0) a i refl h in rw e.1 (sym e.0)
-cut_front (b ∷ d) a i h =
+pub cut_prefix : (d : List ℕ) (a i : ℕ) → cut_at d a ≡ Some i → units (take i d) ≡ a
+cut_prefix [] a i h = let e = at_end (eqb a 0) a i refl h in rw e.1 (sym e.0)
+cut_prefix (b ∷ d) a i h =
     elim (cut_cases b a d i h) [
-      | inl p ↦ let r : units (take p.rest d) ≡ a - utf16_width b = cut_front d (a - utf16_width b) p.rest p.found in let s : units (take i (b ∷ d)) ≡ utf16_width b + units (take p.rest d) = rw p.position refl in omega (arith, p.fits)
+      | inl p ↦ let r : units (take p.rest d) ≡ a - utf16_width b = cut_prefix d (a - utf16_width b) p.rest p.found in let s : units (take i (b ∷ d)) ≡ utf16_width b + units (take p.rest d) = rw p.position refl in omega (arith, p.fits)
       | inr q ↦ rw q.position (sym q.start)
     ]
 

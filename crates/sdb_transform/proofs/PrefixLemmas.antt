@@ -32,26 +32,26 @@ path_continues items front o s rest f e =
     let c : length (plain_path items) ≡ length o + suc (length rest) = ap length e ∙ length-append o (s ∷ rest) in
     omega (arith, ap length f)
 
-at_front : (items : List Step) (o : List PlainStep) (s : PlainStep) (rest : List PlainStep) (x d : Step) → plain_path items ≡ o ++ s ∷ rest → x ≡ get_or items (length o) d → plain_step x ≡ s
-at_front [] [] s rest x d e is = cc
-at_front [] (t ∷ o) s rest x d e is = cc
-at_front (y ∷ items) [] s rest x d e is = let h : plain_step y ≡ s = cc in ap plain_step is ∙ h
-at_front (y ∷ items) (t ∷ o) s rest x d e is = let h : plain_path items ≡ o ++ s ∷ rest = cc in at_front items o s rest x d h is
+at_prefix : (items : List Step) (o : List PlainStep) (s : PlainStep) (rest : List PlainStep) (x d : Step) → plain_path items ≡ o ++ s ∷ rest → x ≡ get_or items (length o) d → plain_step x ≡ s
+at_prefix [] [] s rest x d e is = cc
+at_prefix [] (t ∷ o) s rest x d e is = cc
+at_prefix (y ∷ items) [] s rest x d e is = let h : plain_step y ≡ s = cc in ap plain_step is ∙ h
+at_prefix (y ∷ items) (t ∷ o) s rest x d e is = let h : plain_path items ≡ o ++ s ∷ rest = cc in at_prefix items o s rest x d h is
 
-front_len : (front : List Step) (o : List PlainStep) → plain_path front ≡ o → length front ≡ length o
-front_len front o f = sym (length-map front plain_step) ∙ ap length f
+prefix_len : (front : List Step) (o : List PlainStep) → plain_path front ≡ o → length front ≡ length o
+prefix_len front o f = sym (length-map front plain_step) ∙ ap length f
 
 pub step_there : (items front : List Step) (o : List PlainStep) (s : PlainStep) (rest : List PlainStep) (x : Step) → plain_path front ≡ o → plain_path items ≡ o ++ s ∷ rest → x ≡ get_or items (length front) x → plain_step x ≡ s
-step_there items front o s rest x f e is = at_front items o s rest x x e (is ∙ ap (λ n. get_or items n x) (front_len front o f))
+step_there items front o s rest x f e is = at_prefix items o s rest x x e (is ∙ ap (λ n. get_or items n x) (prefix_len front o f))
 
-set_front : (items : List Step) (o : List PlainStep) (s : PlainStep) (rest : List PlainStep) (x : Step) → plain_path items ≡ o ++ s ∷ rest → plain_path (set items (length o) x) ≡ o ++ plain_step x ∷ rest
-set_front [] [] s rest x e = cc
-set_front [] (t ∷ o) s rest x e = cc
-set_front (y ∷ items) [] s rest x e = let h : plain_path items ≡ rest = cc in ap (λ p. plain_step x ∷ p) h
-set_front (y ∷ items) (t ∷ o) s rest x e = let h : plain_path items ≡ o ++ s ∷ rest = cc in let g : plain_step y ≡ t = cc in rw (g, set_front items o s rest x h) refl
+set_prefix : (items : List Step) (o : List PlainStep) (s : PlainStep) (rest : List PlainStep) (x : Step) → plain_path items ≡ o ++ s ∷ rest → plain_path (set items (length o) x) ≡ o ++ plain_step x ∷ rest
+set_prefix [] [] s rest x e = cc
+set_prefix [] (t ∷ o) s rest x e = cc
+set_prefix (y ∷ items) [] s rest x e = let h : plain_path items ≡ rest = cc in ap (λ p. plain_step x ∷ p) h
+set_prefix (y ∷ items) (t ∷ o) s rest x e = let h : plain_path items ≡ o ++ s ∷ rest = cc in let g : plain_step y ≡ t = cc in rw (g, set_prefix items o s rest x h) refl
 
 pub set_there : (items front : List Step) (o : List PlainStep) (s : PlainStep) (rest : List PlainStep) (x : Step) → plain_path front ≡ o → plain_path items ≡ o ++ s ∷ rest → plain_path (set items (length front) x) ≡ o ++ plain_step x ∷ rest
-set_there items front o s rest x f e = ap (λ n. plain_path (set items n x)) (front_len front o f) ∙ set_front items o s rest x e
+set_there items front o s rest x f e = ap (λ n. plain_path (set items n x)) (prefix_len front o f) ∙ set_prefix items o s rest x e
 
 -- inside the other's container the step alone decides
 pub below_is : (side : Side) (c o : PlainComponent) (s t : PlainStep) (rest : List PlainStep) (m : Option (Option PlainStep)) → strip_prefix o.path c.path ≡ Some (s ∷ rest) → t ≡ s → transform_step o.act t ≡ m → transform side c o ≡ option_map (with_moved_step c o rest) m
@@ -66,8 +66,8 @@ stays_below side c o s t rest e same h =
     let path : c.path ≡ o.path ++ t ∷ rest = behind_is o.path c.path (s ∷ rest) e ∙ ap (λ x. o.path ++ x ∷ rest) (sym same) in
     sym (below_is side c o s t rest (Some (Some t)) e same h ∙ ap (λ p. Some (component_at p c.act ∷ [])) (sym path))
 
-pub gone_below : (side : Side) (c o : PlainComponent) (s t : PlainStep) (rest : List PlainStep) → strip_prefix o.path c.path ≡ Some (s ∷ rest) → t ≡ s → transform_step o.act t ≡ Some None → transform side c o ≡ Some []
-gone_below side c o s t rest e same h = below_is side c o s t rest (Some None) e same h
+pub removed_below : (side : Side) (c o : PlainComponent) (s t : PlainStep) (rest : List PlainStep) → strip_prefix o.path c.path ≡ Some (s ∷ rest) → t ≡ s → transform_step o.act t ≡ Some None → transform side c o ≡ Some []
+removed_below side c o s t rest e same h = below_is side c o s t rest (Some None) e same h
 
 pub set_below : (side : Side) (c o : PlainComponent) (s t u : PlainStep) (rest path : List PlainStep) → strip_prefix o.path c.path ≡ Some (s ∷ rest) → t ≡ s → transform_step o.act t ≡ Some (Some u) → path ≡ o.path ++ u ∷ rest → Some (component_at path c.act ∷ []) ≡ transform side c o
 set_below side c o s t u rest path e same h p = sym (below_is side c o s t rest (Some (Some u)) e same h ∙ ap (λ q. Some (component_at q c.act ∷ [])) (sym p))

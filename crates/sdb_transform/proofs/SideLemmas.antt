@@ -67,12 +67,12 @@ module _ (c o : PlainComponent) (R : ComponentList) where
   other_refused Left e = ap (option_map (λ x. x.left)) (left_rule ∙ and_then_none (transform Left c o) _ (λ ls. ap (λ p. and_then p (λ rs. LeftRemainder rs (cross_ops ls R))) e))
   other_refused Right e = ap (option_map (λ x. x.right)) (right_rule ∙ ap (λ p. and_then p (λ ls. and_then (transform Right c o) (λ rs. RightRemainder ls (cross_ops R rs)))) e)
 
-none_carried : (side : Side) (R : ComponentList) → transform_op side [] R ≡ Some []
-none_carried Left R = ap (option_map (λ x. x.left)) (cross_left_empty transform_is_weighted R)
-none_carried Right R = ap (option_map (λ x. x.right)) (cross_right_empty transform_is_weighted R)
+none_rebased : (side : Side) (R : ComponentList) → transform_op side [] R ≡ Some []
+none_rebased Left R = ap (option_map (λ x. x.left)) (cross_left_empty transform_is_weighted R)
+none_rebased Right R = ap (option_map (λ x. x.right)) (cross_right_empty transform_is_weighted R)
 
-pub empty_carried : (side : Side) (cs R : ComponentList) → cs ≡ [] → transform_op side cs R ≡ Some cs
-empty_carried side cs R e = rw e (none_carried side R)
+pub empty_rebased : (side : Side) (cs R : ComponentList) → cs ≡ [] → transform_op side cs R ≡ Some cs
+empty_rebased side cs R e = rw e (none_rebased side R)
 
 pub past_none : (side : Side) (L : ComponentList) → transform_op side L [] ≡ Some L
 past_none Left L = ap (option_map (λ x. x.left)) (cross_right_empty transform_is_weighted L)

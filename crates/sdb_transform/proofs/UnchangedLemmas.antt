@@ -24,8 +24,8 @@ ComponentList = List PlainComponent
 abbrev CrossUnchanged : ComponentList → ComponentList → Type 0
 CrossUnchanged L R = (n : ℕ) × (cross_ops L R ≡ Some (record { left = L; right = R; pairs = n }))
 
-behind_first : (P : PlainComponent → Type 0) (c : PlainComponent) (cs : ComponentList) → All P (c ∷ cs) → All P cs
-behind_first P c cs h = λ k d within. h (suc k) d (omega (arith, within))
+after_first : (P : PlainComponent → Type 0) (c : PlainComponent) (cs : ComponentList) → All P (c ∷ cs) → All P cs
+after_first P c cs h = λ k d within. h (suc k) d (omega (arith, within))
 
 first_of : (P : PlainComponent → Type 0) (c : PlainComponent) (cs : ComponentList) → All P (c ∷ cs) → P c
 first_of P c cs h = h 0 c (omega arith)
@@ -52,11 +52,11 @@ no_right L = (0, cross_right_empty transform_is_weighted L)
 
 cross_row_unchanged : (l : PlainComponent) (R : ComponentList) → All (CommuteUnchanged Left l) R → CrossUnchanged (l ∷ []) R
 cross_row_unchanged l [] h = no_right (l ∷ [])
-cross_row_unchanged l (r ∷ R) h = cross_pair_unchanged l r [] R (first_of (CommuteUnchanged Left l) r R h) (cross_row_unchanged l R (behind_first (CommuteUnchanged Left l) r R h)) (no_left (r ∷ [])) (no_left R)
+cross_row_unchanged l (r ∷ R) h = cross_pair_unchanged l r [] R (first_of (CommuteUnchanged Left l) r R h) (cross_row_unchanged l R (after_first (CommuteUnchanged Left l) r R h)) (no_left (r ∷ [])) (no_left R)
 
 cross_column_unchanged : (L : ComponentList) (r : PlainComponent) → All (λ l. CommuteUnchanged Left l r) L → CrossUnchanged L (r ∷ [])
 cross_column_unchanged [] r h = no_left (r ∷ [])
-cross_column_unchanged (l ∷ L) r h = cross_pair_unchanged l r L [] (first_of (λ x. CommuteUnchanged Left x r) l L h) (no_right (l ∷ [])) (cross_column_unchanged L r (behind_first (λ x. CommuteUnchanged Left x r) l L h)) (no_right L)
+cross_column_unchanged (l ∷ L) r h = cross_pair_unchanged l r L [] (first_of (λ x. CommuteUnchanged Left x r) l L h) (no_right (l ∷ [])) (cross_column_unchanged L r (after_first (λ x. CommuteUnchanged Left x r) l L h)) (no_right L)
 
 cross_all_unchanged : (L R : ComponentList) → All (λ l. All (CommuteUnchanged Left l) R) L → CrossUnchanged L R
 cross_all_unchanged [] R h = no_left R
@@ -64,14 +64,14 @@ cross_all_unchanged (l ∷ L) [] h = no_right (l ∷ L)
 cross_all_unchanged (l ∷ L) (r ∷ R) h =
     let All_stay : PlainComponent → Type 0 = λ x. All (CommuteUnchanged Left x) (r ∷ R) in
     let first : All (CommuteUnchanged Left l) (r ∷ R) = first_of All_stay l L h in
-    let rest : All All_stay L = behind_first All_stay l L h in
-    cross_pair_unchanged l r L R (first_of (CommuteUnchanged Left l) r R first) (cross_row_unchanged l R (behind_first (CommuteUnchanged Left l) r R first))
+    let rest : All All_stay L = after_first All_stay l L h in
+    cross_pair_unchanged l r L R (first_of (CommuteUnchanged Left l) r R first) (cross_row_unchanged l R (after_first (CommuteUnchanged Left l) r R first))
     (cross_column_unchanged L r (λ k d within. first_of (CommuteUnchanged Left (get_or L k d)) r R (rest k d within)))
-    (cross_all_unchanged L R (λ k d within. behind_first (CommuteUnchanged Left (get_or L k d)) r R (rest k d within)))
+    (cross_all_unchanged L R (λ k d within. after_first (CommuteUnchanged Left (get_or L k d)) r R (rest k d within)))
 
-pub stays_carried : (side : Side) (L R : ComponentList) → All (λ c. All (CommuteUnchanged side c) R) L → transform_op side L R ≡ Some L
-stays_carried Left L R h = ap (option_map (λ x. x.left)) (cross_all_unchanged L R h).1
-stays_carried Right L R h = ap (option_map (λ x. x.right)) (cross_all_unchanged R L (λ j e m k d n. ((h k d n j e m).1, (h k d n j e m).0))).1
+pub stays_rebased : (side : Side) (L R : ComponentList) → All (λ c. All (CommuteUnchanged side c) R) L → transform_op side L R ≡ Some L
+stays_rebased Left L R h = ap (option_map (λ x. x.left)) (cross_all_unchanged L R h).1
+stays_rebased Right L R h = ap (option_map (λ x. x.right)) (cross_all_unchanged R L (λ j e m k d n. ((h k d n j e m).1, (h k d n j e m).0))).1
 
 -- a property of the first i components extends to one more
 pub one_more : (P : PlainComponent → Type 0) (cs : ComponentList) (i : ℕ) (x : PlainComponent) → i < length cs → x ≡ get_or cs i x → P x

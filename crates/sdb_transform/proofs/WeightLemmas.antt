@@ -12,7 +12,7 @@ use Rattle.sdb_transform.specs.declared.side.Side.TheVariants.{Left, Right}
 use Rattle.sdb_transform.specs.Cross.{Crossing, sum_weight, cross_ops}
 use Rattle.sdb_transform.proofs.CrossWeight.{IsWeighted}
 use Rattle.sdb_transform.specs.Transform.{ActTransform, at_shifted_position, left_wins_or, one_act, no_acts, transform_act, split_delete, delete_without_overlap, delete_unless_empty, component_at, map_removed, updated_value, with_moved_step, transform_below, update_removed, strip_removed_path, strip_prefix, transform_step, transform, put_after_put}
-use Rattle.sdb_transform.proofs.OffsetLemmas.{cut_front, units_split}
+use Rattle.sdb_transform.proofs.OffsetLemmas.{cut_prefix, units_split}
 use Rattle.sdb_transform.proofs.CrossLemmas.{cross_light}
 
 abbrev acts_weight : List PlainAct → ℕ
@@ -42,7 +42,7 @@ side_light n Right a b h k = k
 -- ---- texts
 
 pieces_light : (p q before i : ℕ) (d : List ℕ) → cut_at d before ≡ Some i → 0 < before → before < units d → acts_weight (sd p (take i d) ∷ sd q (drop i d) ∷ []) ≤ max 1 (units d)
-pieces_light p q before i d e h k = omega (arith, cut_front d before i e, units_split i d)
+pieces_light p q before i d e h k = omega (arith, cut_prefix d before i e, units_split i d)
 
 split_at : (p before q : ℕ) (d : List ℕ) (o : Option ℕ) → cut_at d before ≡ o → 0 < before → before < units d → ActsWithinWeight (max 1 (units d)) (option_map (λ i. sd p (take i d) ∷ sd q (drop i d) ∷ []) o)
 split_at p before q d None e h k = tt
@@ -56,14 +56,14 @@ rest_light : (p n : ℕ) (d : List ℕ) → units d ≤ n → acts_weight (delet
 rest_light p n [] h = omega arith
 rest_light p n (b ∷ bs) h = omega arith
 
-kept_light : (i j before after : ℕ) (d : List ℕ) → cut_at d before ≡ Some i → cut_at d after ≡ Some j → before ≤ after → units (take i d ++ drop j d) ≤ units d
-kept_light i j before after d e f h = omega (arith, units_append (take i d) (drop j d), cut_front d before i e, cut_front d after j f, units_split j d)
+unchanged_light : (i j before after : ℕ) (d : List ℕ) → cut_at d before ≡ Some i → cut_at d after ≡ Some j → before ≤ after → units (take i d ++ drop j d) ≤ units d
+unchanged_light i j before after d e f h = omega (arith, units_append (take i d) (drop j d), cut_prefix d before i e, cut_prefix d after j f, units_split j d)
 
 without_at : (p before after : ℕ) (d : List ℕ) (o u : Option ℕ) → cut_at d before ≡ o → cut_at d after ≡ u → before ≤ after
     → ActsWithinWeight (max 1 (units d)) (option_and_then (λ i. option_map (λ j. delete_unless_empty p (take i d ++ drop j d)) u) o)
 without_at p before after d None u e f h = tt
 without_at p before after d (Some i) None e f h = tt
-without_at p before after d (Some i) (Some j) e f h = rest_light p (units d) (take i d ++ drop j d) (kept_light i j before after d e f h)
+without_at p before after d (Some i) (Some j) e f h = rest_light p (units d) (take i d ++ drop j d) (unchanged_light i j before after d e f h)
 
 sd_over_si_light : (p r : ℕ) (d t : List ℕ) → ActsWithinWeight (max 1 (units d)) (transform_act Left (sd p d) (si r t))
 sd_over_si_light p r d t =

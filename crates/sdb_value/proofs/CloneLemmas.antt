@@ -24,7 +24,7 @@ use Rattle.sdb_value.specs.declared.clone_modes.CloneMode.{CloneMode}
 use Rattle.sdb_value.specs.declared.clone_modes.CloneMode.TheVariants as mode
 use Rattle.sdb_value.specs.declared.value.Json.{Json}
 use Rattle.sdb_value.specs.declared.value.Json as json
-use Rattle.sdb_value.proofs.UniquenessLemmas.{items_parts, owned_list, owned_object, pointer_list, pointer_object}
+use Rattle.sdb_value.proofs.UniquenessLemmas.{items_parts, unique_list, unique_object, pointer_list, pointer_object}
 use Rattle.sdb_value.proofs.ViewLemmas.{seen_list, seen_object}
 
 -- ---- a pointer
@@ -55,42 +55,42 @@ none_of (Ok (Some x)) b f h = tt
 none_of (Ok None) b f h = h (sym f)
 none_of (Err e) b f h = tt
 
-shared_form_not_own : {X : Type 0} (w : Repr X) → is_shared_repr w ≡ true → is_unique_repr w ≡ false
-shared_form_not_own (Flat (Unique v)) h = absurd (true≢false (sym h))
-shared_form_not_own (Flat (Shared a)) h = refl
-shared_form_not_own (Chunks (Unique v)) h = absurd (true≢false (sym h))
-shared_form_not_own (Chunks (Shared a)) h = refl
-shared_form_not_own (Groups gs) h = refl
+shared_repr_not_unique : {X : Type 0} (w : Repr X) → is_shared_repr w ≡ true → is_unique_repr w ≡ false
+shared_repr_not_unique (Flat (Unique v)) h = absurd (true≢false (sym h))
+shared_repr_not_unique (Flat (Shared a)) h = refl
+shared_repr_not_unique (Chunks (Unique v)) h = absurd (true≢false (sym h))
+shared_repr_not_unique (Chunks (Shared a)) h = refl
+shared_repr_not_unique (Groups gs) h = refl
 
 pub list_again : (l new : ChunkedVec Json) → vec_chunk_items new ≡ vec_chunk_items l → list_value new ≡ list_value l
 list_again l new e = ap items_value (items_parts new ∙ ap (flat_map (λ xs. xs)) e ∙ sym (items_parts l))
 
 -- for items whose uniqueness q decides
 module _ {X : Type 0} (q : X → Bool) where
-  abbrev list_all_own : ChunkedVec X → Bool
-  list_all_own l = cond (is_unique_vec l) (all_true (map q (vec_items l))) false
+  abbrev list_all_unique : ChunkedVec X → Bool
+  list_all_unique l = cond (is_unique_vec l) (all_true (map q (vec_items l))) false
 
-  abbrev each_own : Chunk X → Bool
-  each_own b = cond (is_chunk_unique b) (all_true (map q (items_of b))) false
+  abbrev each_unique : Chunk X → Bool
+  each_unique b = cond (is_chunk_unique b) (all_true (map q (items_of b))) false
 
-  pub shared_list_own : (l : ChunkedVec X) → is_shared_vec l ≡ true → list_all_own l ≡ false
-  shared_list_own l h = ap (λ b. cond b (all_true (map q (vec_items l))) false) (shared_form_not_own l.repr h)
+  pub shared_list_unique : (l : ChunkedVec X) → is_shared_vec l ≡ true → list_all_unique l ≡ false
+  shared_list_unique l h = ap (λ b. cond b (all_true (map q (vec_items l))) false) (shared_repr_not_unique l.repr h)
 
   pub list_pointed : (m : CloneMode) (l new : ChunkedVec X) → (m ≡ mode.Unique → ⊥) → is_shared_vec l ≡ true → is_shared_vec new ≡ true
-      → HasUniquenessOfMode m (list_all_own l) (list_all_own new) (is_shared_vec new)
-  list_pointed m l new h was now = copied_pointer m (list_all_own l) (list_all_own new) (is_shared_vec new) h (shared_list_own l was) (shared_list_own new now) now
+      → HasUniquenessOfMode m (list_all_unique l) (list_all_unique new) (is_shared_vec new)
+  list_pointed m l new h was now = copied_pointer m (list_all_unique l) (list_all_unique new) (is_shared_vec new) h (shared_list_unique l was) (shared_list_unique new now) now
 
-  shared_block_own : (b : Chunk X) → is_chunk_shared b ≡ true → each_own b ≡ false
-  shared_block_own (Unique v) h = absurd (true≢false (sym h))
-  shared_block_own (Shared a) h = refl
+  shared_chunk_unique : (b : Chunk X) → is_chunk_shared b ≡ true → each_unique b ≡ false
+  shared_chunk_unique (Unique v) h = absurd (true≢false (sym h))
+  shared_chunk_unique (Shared a) h = refl
 
-  pub block_pointed : (m : CloneMode) (b new : Chunk X) → (m ≡ mode.Unique → ⊥) → is_chunk_shared b ≡ true → is_chunk_shared new ≡ true
-      → HasUniquenessOfMode m (each_own b) (each_own new) (is_chunk_shared new)
-  block_pointed m b new h was now = copied_pointer m (each_own b) (each_own new) (is_chunk_shared new) h (shared_block_own b was) (shared_block_own new now) now
+  pub chunk_pointed : (m : CloneMode) (b new : Chunk X) → (m ≡ mode.Unique → ⊥) → is_chunk_shared b ≡ true → is_chunk_shared new ≡ true
+      → HasUniquenessOfMode m (each_unique b) (each_unique new) (is_chunk_shared new)
+  chunk_pointed m b new h was now = copied_pointer m (each_unique b) (each_unique new) (is_chunk_shared new) h (shared_chunk_unique b was) (shared_chunk_unique new now) now
 
-pub not_shared_own : {X : Type 0} (b : Chunk X) → is_chunk_shared b ≡ false → is_chunk_unique b ≡ true
-not_shared_own (Unique v) h = refl
-not_shared_own (Shared a) h = absurd (true≢false h)
+pub not_shared_unique : {X : Type 0} (b : Chunk X) → is_chunk_shared b ≡ false → is_chunk_unique b ≡ true
+not_shared_unique (Unique v) h = refl
+not_shared_unique (Shared a) h = absurd (true≢false h)
 
 -- ---- one more of several
 
@@ -137,57 +137,57 @@ swap_and true false true d = refl
 swap_and true false false d = refl
 swap_and false b c d = refl
 
-one_own : (b : Bool) → b ≡ cond b true false
-one_own true = refl
-one_own false = refl
+one_unique : (b : Bool) → b ≡ cond b true false
+one_unique true = refl
+one_unique false = refl
 
-unshared_form : {X : Type 0} (w : Repr X) → is_grouped w ≡ false → is_shared_repr w ≡ false → is_unique_repr w ≡ all_unique (vec_chunks (record { repr = w }))
-unshared_form (Flat b) g h = one_own (is_chunk_unique b)
-unshared_form (Chunks (Unique v)) g h = refl
-unshared_form (Chunks (Shared a)) g h = absurd (true≢false h)
-unshared_form (Groups gs) g h = absurd (true≢false g)
+unshared_repr : {X : Type 0} (w : Repr X) → is_grouped w ≡ false → is_shared_repr w ≡ false → is_unique_repr w ≡ all_unique (vec_chunks (record { repr = w }))
+unshared_repr (Flat b) g h = one_unique (is_chunk_unique b)
+unshared_repr (Chunks (Unique v)) g h = refl
+unshared_repr (Chunks (Shared a)) g h = absurd (true≢false h)
+unshared_repr (Groups gs) g h = absurd (true≢false g)
 
-grouped_own : {X : Type 0} (w : Repr X) → is_grouped w ≡ true → is_unique_repr w ≡ false
-grouped_own (Flat b) h = absurd (true≢false (sym h))
-grouped_own (Chunks bs) h = absurd (true≢false (sym h))
-grouped_own (Groups gs) h = refl
+grouped_unique : {X : Type 0} (w : Repr X) → is_grouped w ≡ true → is_unique_repr w ≡ false
+grouped_unique (Flat b) h = absurd (true≢false (sym h))
+grouped_unique (Chunks bs) h = absurd (true≢false (sym h))
+grouped_unique (Groups gs) h = refl
 
 module _ {X : Type 0} (q : X → Bool) where
-  abbrev blocks_each : List (Chunk X) → Bool
-  blocks_each bs = all_true (map (each_own q) bs)
+  abbrev chunks_each : List (Chunk X) → Bool
+  chunks_each bs = all_true (map (each_unique q) bs)
 
-  blocks_own : (bs : List (Chunk X)) → cond (all_unique bs) (all_true (map q (flat_map items_of bs))) false ≡ blocks_each bs
-  blocks_own [] = refl
-  blocks_own (b ∷ bs) =
+  chunks_unique : (bs : List (Chunk X)) → cond (all_unique bs) (all_true (map q (flat_map items_of bs))) false ≡ chunks_each bs
+  chunks_unique [] = refl
+  chunks_unique (b ∷ bs) =
       ap (λ x. cond (cond (is_chunk_unique b) (all_unique bs) false) x false)
       (ap all_true (map_append q (items_of b) (flat_map items_of bs)) ∙ all_append (map q (items_of b)) (map q (flat_map items_of bs)))
       ∙ swap_and (is_chunk_unique b) (all_unique bs) (all_true (map q (items_of b))) (all_true (map q (flat_map items_of bs)))
-      ∙ ap (λ x. cond (each_own q b) x false) (blocks_own bs)
+      ∙ ap (λ x. cond (each_unique q b) x false) (chunks_unique bs)
 
   -- a list whose chunks decide its uniqueness
-  list_of_blocks : (l : ChunkedVec X) (bs : List (Chunk X)) → vec_chunks l ≡ bs → is_unique_vec l ≡ all_unique bs → list_all_own q l ≡ blocks_each bs
-  list_of_blocks l bs e o =
-      ap (λ x. cond x (all_true (map q (vec_items l))) false) o ∙ ap (λ x. cond (all_unique bs) (all_true (map q (flat_map items_of x))) false) e ∙ blocks_own bs
+  list_of_chunks : (l : ChunkedVec X) (bs : List (Chunk X)) → vec_chunks l ≡ bs → is_unique_vec l ≡ all_unique bs → list_all_unique q l ≡ chunks_each bs
+  list_of_chunks l bs e o =
+      ap (λ x. cond x (all_true (map q (vec_items l))) false) o ∙ ap (λ x. cond (all_unique bs) (all_true (map q (flat_map items_of x))) false) e ∙ chunks_unique bs
 
-  unshared_list : (l : ChunkedVec X) → is_grouped l.repr ≡ false → is_shared_vec l ≡ false → list_all_own q l ≡ blocks_each (vec_chunks l)
-  unshared_list l g h = list_of_blocks l (vec_chunks l) refl (unshared_form l.repr g h)
+  unshared_list : (l : ChunkedVec X) → is_grouped l.repr ≡ false → is_shared_vec l ≡ false → list_all_unique q l ≡ chunks_each (vec_chunks l)
+  unshared_list l g h = list_of_chunks l (vec_chunks l) refl (unshared_repr l.repr g h)
 
   -- a list in groups isn't unique
-  pub in_groups_own : (l : ChunkedVec X) → is_grouped l.repr ≡ true → list_all_own q l ≡ false
-  in_groups_own l h = ap (λ b. cond b (all_true (map q (vec_items l))) false) (grouped_own l.repr h)
+  pub in_groups_unique : (l : ChunkedVec X) → is_grouped l.repr ≡ true → list_all_unique q l ≡ false
+  in_groups_unique l h = ap (λ b. cond b (all_true (map q (vec_items l))) false) (grouped_unique l.repr h)
 
   -- a list made of cloned chunks
-  pub made_of_blocks : (m : CloneMode) (l new : ChunkedVec X) (bs : List (Chunk X)) → (m ≡ mode.Frozen → ⊥) → (m ≡ mode.Preserve → is_grouped l.repr ≡ false)
+  pub made_of_chunks : (m : CloneMode) (l new : ChunkedVec X) (bs : List (Chunk X)) → (m ≡ mode.Frozen → ⊥) → (m ≡ mode.Preserve → is_grouped l.repr ≡ false)
       → (m ≡ mode.Preserve → is_shared_vec l ≡ false) → vec_chunks new ≡ bs → is_unique_vec new ≡ all_unique bs
-      → HasUniquenessOfMode m (blocks_each (vec_chunks l)) (blocks_each bs) (all_shared bs) → HasUniquenessOfMode m (list_all_own q l) (list_all_own q new) (is_shared_vec new)
-  made_of_blocks mode.Preserve l new bs h g k e o c = list_of_blocks new bs e o ∙ c ∙ sym (unshared_list l (g refl) (k refl))
-  made_of_blocks mode.Unique l new bs h g k e o c = list_of_blocks new bs e o ∙ c
-  made_of_blocks mode.Frozen l new bs h g k e o c = absurd (h refl)
+      → HasUniquenessOfMode m (chunks_each (vec_chunks l)) (chunks_each bs) (all_shared bs) → HasUniquenessOfMode m (list_all_unique q l) (list_all_unique q new) (is_shared_vec new)
+  made_of_chunks mode.Preserve l new bs h g k e o c = list_of_chunks new bs e o ∙ c ∙ sym (unshared_list l (g refl) (k refl))
+  made_of_chunks mode.Unique l new bs h g k e o c = list_of_chunks new bs e o ∙ c
+  made_of_chunks mode.Frozen l new bs h g k e o c = absurd (h refl)
 
 -- a clone in chunks, which is shared if the list is in groups
-pub by_manner : (inner m : CloneMode) (groups was now pointer : Bool) → ((was now pointer : Bool) → (groups ≡ true → was ≡ false) → (pointer ≡ true → now ≡ false)
+pub by_mode : (inner m : CloneMode) (groups was now pointer : Bool) → ((was now pointer : Bool) → (groups ≡ true → was ≡ false) → (pointer ≡ true → now ≡ false)
     → HasUniquenessOfMode inner was now pointer → HasUniquenessOfMode m was now pointer) → (groups ≡ true → was ≡ false) → (pointer ≡ true → now ≡ false) → HasUniquenessOfMode inner was now pointer → HasUniquenessOfMode m was now pointer
-by_manner inner m groups was now pointer h g p c = h was now pointer g p c
+by_mode inner m groups was now pointer h g p c = h was now pointer g p c
 
 pub copied_by : (m : CloneMode) (a b p c d q : Bool) → c ≡ a → d ≡ b → q ≡ p → HasUniquenessOfMode m a b p → HasUniquenessOfMode m c d q
 copied_by mode.Preserve a b p c d q e f g h = f ∙ h ∙ sym e
@@ -202,7 +202,7 @@ pub copied_list : (m : CloneMode) (v : Json) (l new : ChunkedVec Json) → v ≡
     → HasUniquenessOfMode m (is_unique v) (is_unique (json.List new)) (is_frozen (json.List new))
 copied_list m v l new is h =
     copied_by m (list_unique l) (list_unique new) (is_shared_vec new) (is_unique v) (is_unique (json.List new)) (is_frozen (json.List new))
-    (ap is_unique is ∙ owned_list l) (owned_list new) (pointer_list new) h
+    (ap is_unique is ∙ unique_list l) (unique_list new) (pointer_list new) h
 
 pub value_object : (v : Json) (s new : SortedMap Json) → v ≡ json.Object s → object_value new ≡ object_value s → value_of (json.Object new) ≡ value_of v
 value_object v s new is e = seen_object new ∙ ap object e ∙ sym (ap value_of is ∙ seen_object s)
@@ -211,7 +211,7 @@ pub copied_object : (m : CloneMode) (v : Json) (s new : SortedMap Json) → v �
     → HasUniquenessOfMode m (object_unique s) (object_unique new) (is_shared_map new) → HasUniquenessOfMode m (is_unique v) (is_unique (json.Object new)) (is_frozen (json.Object new))
 copied_object m v s new is h =
     copied_by m (object_unique s) (object_unique new) (is_shared_map new) (is_unique v) (is_unique (json.Object new)) (is_frozen (json.Object new))
-    (ap is_unique is ∙ owned_object s) (owned_object new) (pointer_object new) h
+    (ap is_unique is ∙ unique_object s) (unique_object new) (pointer_object new) h
 
 pub made_view : (l new : ChunkedVec Json) (bs : List (Chunk Json)) → vec_chunks new ≡ bs → items_value (flat_map items_of bs) ≡ list_value l → list_value new ≡ list_value l
 made_view l new bs e h = ap (λ b. items_value (flat_map items_of b)) e ∙ h
@@ -240,9 +240,9 @@ flat_more (c ∷ bs) b = ap (λ l. items_of c ++ l) (flat_more bs b) ∙ sym (ap
 
 -- for a view V of lists and its concatenation J
 module _ {X M : Type 0} (V : List X → M) (J : M → M → M) (join_of : (xs ys : List X) → V (xs ++ ys) ≡ J (V xs) (V ys)) where
-  pub blocks_more : (bs cs : List (Chunk X)) (b c : Chunk X) → V (flat_map items_of cs) ≡ V (flat_map items_of bs)
+  pub chunks_more : (bs cs : List (Chunk X)) (b c : Chunk X) → V (flat_map items_of cs) ≡ V (flat_map items_of bs)
       → V (items_of c) ≡ V (items_of b) → V (flat_map items_of (cs ++ c ∷ [])) ≡ V (flat_map items_of (bs ++ b ∷ []))
-  blocks_more bs cs b c e h =
+  chunks_more bs cs b c e h =
       ap V (flat_more cs c) ∙ join_of (flat_map items_of cs) (items_of c) ∙ ap (λ d. J d (V (items_of c))) e
       ∙ ap (J (V (flat_map items_of bs))) h ∙ sym (ap V (flat_more bs b) ∙ join_of (flat_map items_of bs) (items_of b))
 
@@ -251,11 +251,11 @@ module _ {X M : Type 0} (V : List X → M) (J : M → M → M) (join_of : (xs ys
 
 pub items_more : (bs cs : List (Chunk Json)) (b c : Chunk Json) → items_value (flat_map items_of cs) ≡ items_value (flat_map items_of bs)
     → items_value (items_of c) ≡ items_value (items_of b) → items_value (flat_map items_of (cs ++ c ∷ [])) ≡ items_value (flat_map items_of (bs ++ b ∷ []))
-items_more = blocks_more items_value append_items join_view
+items_more = chunks_more items_value append_items join_view
 
 pub entries_more : (bs cs : List (Chunk (MapEntry Json))) (b c : Chunk (MapEntry Json)) → entries_value (flat_map items_of cs) ≡ entries_value (flat_map items_of bs)
     → entries_value (items_of c) ≡ entries_value (items_of b) → entries_value (flat_map items_of (cs ++ c ∷ [])) ≡ entries_value (flat_map items_of (bs ++ b ∷ []))
-entries_more = blocks_more entries_value join_members join_entries
+entries_more = chunks_more entries_value join_members join_entries
 
 pub entry_more : (ms cs : List (MapEntry Json)) (m c : MapEntry Json) → entries_value cs ≡ entries_value ms → entries_value (c ∷ []) ≡ entries_value (m ∷ []) → entries_value (cs ++ c ∷ []) ≡ entries_value (ms ++ m ∷ [])
 entry_more = one_more entries_value join_members join_entries
@@ -264,15 +264,15 @@ pub same_member : (m c : MapEntry Json) → entry_key c ≡ entry_key m → valu
 same_member m c e f = ap (λ t. member t (value_of c.value) no_members) e ∙ ap (λ d. member (entry_key m) d no_members) f
 
 module _ {X : Type 0} (q : X → Bool) where
-  pub blocks_copied_more : (m : CloneMode) (bs cs : List (Chunk X)) (b c : Chunk X) → HasUniquenessOfMode m (blocks_each q bs) (blocks_each q cs) (all_shared cs)
-      → HasUniquenessOfMode m (each_own q b) (each_own q c) (is_chunk_shared c)
-      → HasUniquenessOfMode m (blocks_each q (bs ++ b ∷ [])) (blocks_each q (cs ++ c ∷ [])) (all_shared (cs ++ c ∷ []))
-  blocks_copied_more m bs cs b c h k =
-      copied_by m (cond (blocks_each q bs) (each_own q b) false) (cond (blocks_each q cs) (each_own q c) false) (cond (all_shared cs) (is_chunk_shared c) false)
-      (blocks_each q (bs ++ b ∷ [])) (blocks_each q (cs ++ c ∷ [])) (all_shared (cs ++ c ∷ []))
-      (ap all_true (map_append (each_own q) bs (b ∷ [])) ∙ all_more (map (each_own q) bs) (each_own q b))
-      (ap all_true (map_append (each_own q) cs (c ∷ [])) ∙ all_more (map (each_own q) cs) (each_own q c)) (shared_more cs c)
-      (copied_more m (blocks_each q bs) (blocks_each q cs) (all_shared cs) (each_own q b) (each_own q c) (is_chunk_shared c) h k)
+  pub chunks_copied_more : (m : CloneMode) (bs cs : List (Chunk X)) (b c : Chunk X) → HasUniquenessOfMode m (chunks_each q bs) (chunks_each q cs) (all_shared cs)
+      → HasUniquenessOfMode m (each_unique q b) (each_unique q c) (is_chunk_shared c)
+      → HasUniquenessOfMode m (chunks_each q (bs ++ b ∷ [])) (chunks_each q (cs ++ c ∷ [])) (all_shared (cs ++ c ∷ []))
+  chunks_copied_more m bs cs b c h k =
+      copied_by m (cond (chunks_each q bs) (each_unique q b) false) (cond (chunks_each q cs) (each_unique q c) false) (cond (all_shared cs) (is_chunk_shared c) false)
+      (chunks_each q (bs ++ b ∷ [])) (chunks_each q (cs ++ c ∷ [])) (all_shared (cs ++ c ∷ []))
+      (ap all_true (map_append (each_unique q) bs (b ∷ [])) ∙ all_more (map (each_unique q) bs) (each_unique q b))
+      (ap all_true (map_append (each_unique q) cs (c ∷ [])) ∙ all_more (map (each_unique q) cs) (each_unique q c)) (shared_more cs c)
+      (copied_more m (chunks_each q bs) (chunks_each q cs) (all_shared cs) (each_unique q b) (each_unique q c) (is_chunk_shared c) h k)
 
   pub items_copied_more : (m : CloneMode) (vs cs : List X) (v c : X) (p : Bool) → HasUniquenessOfMode m (all_true (map q vs)) (all_true (map q cs)) true → HasUniquenessOfMode m (q v) (q c) p
       → HasUniquenessOfMode m (all_true (map q (vs ++ v ∷ []))) (all_true (map q (cs ++ c ∷ []))) true
@@ -312,9 +312,9 @@ pub not_found : {A P : Type 0} (o : Option A) → ((x : A) → o ≡ Some x → 
 not_found (Some x) h p = absurd (h x refl)
 not_found None h p = p
 
-own_both : (a b : Bool) → a ≡ true → b ≡ true → cond a b false ≡ true
-own_both true b h e = e
-own_both false b h e = h
+unique_both : (a b : Bool) → a ≡ true → b ≡ true → cond a b false ≡ true
+unique_both true b h e = e
+unique_both false b h e = h
 
-pub own_push : (vs : List Json) (v : Json) → items_unique vs ≡ true → is_unique v ≡ true → items_unique (vs ++ v ∷ []) ≡ true
-own_push vs v h own = ap all_true (map_append is_unique vs (v ∷ [])) ∙ all_more (map is_unique vs) (is_unique v) ∙ own_both (items_unique vs) (is_unique v) h own
+pub unique_push : (vs : List Json) (v : Json) → items_unique vs ≡ true → is_unique v ≡ true → items_unique (vs ++ v ∷ []) ≡ true
+unique_push vs v h own = ap all_true (map_append is_unique vs (v ∷ [])) ∙ all_more (map is_unique vs) (is_unique v) ∙ unique_both (items_unique vs) (is_unique v) h own

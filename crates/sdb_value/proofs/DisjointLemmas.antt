@@ -159,23 +159,23 @@ exchange_same s p q d c u v y e h = record {
 }
 
 -- inside two steps
-stays_beside : (s t : PlainStep) (p q : List PlainStep) (d c e u : Value) → steps_equal s t ≡ false → child s d ≡ Some c → child t d ≡ Some e → child t (with_value_at d (s ∷ p) u) ≡ Some e
-stays_beside s t p q d c e u n f g = ap (child t) (with_step s p d c u f) ∙ one_other s t d (with_value_at c p u) n ∙ g
+stays_disjoint : (s t : PlainStep) (p q : List PlainStep) (d c e u : Value) → steps_equal s t ≡ false → child s d ≡ Some c → child t d ≡ Some e → child t (with_value_at d (s ∷ p) u) ≡ Some e
+stays_disjoint s t p q d c e u n f g = ap (child t) (with_step s p d c u f) ∙ one_other s t d (with_value_at c p u) n ∙ g
 
-twice_beside : (s t : PlainStep) (p q : List PlainStep) (d c e u v : Value) → steps_equal s t ≡ false → child s d ≡ Some c → child t d ≡ Some e
+twice_disjoint : (s t : PlainStep) (p q : List PlainStep) (d c e u v : Value) → steps_equal s t ≡ false → child s d ≡ Some c → child t d ≡ Some e
     → with_value_at (with_value_at d (s ∷ p) u) (t ∷ q) v ≡ with_child t (with_child s d (with_value_at c p u)) (with_value_at e q v)
-twice_beside s t p q d c e u v n f g =
-    with_step t q (with_value_at d (s ∷ p) u) e v (stays_beside s t p q d c e u n f g)
+twice_disjoint s t p q d c e u v n f g =
+    with_step t q (with_value_at d (s ∷ p) u) e v (stays_disjoint s t p q d c e u n f g)
     ∙ ap (λ x. with_child t x (with_value_at e q v)) (with_step s p d c u f)
 
-exchange_beside : (s t : PlainStep) (p q : List PlainStep) (d c e u v y : Value) → steps_equal s t ≡ false → steps_equal t s ≡ false → child s d ≡ Some c → child t d ≡ Some e
+exchange_disjoint : (s t : PlainStep) (p q : List PlainStep) (d c e u v y : Value) → steps_equal s t ≡ false → steps_equal t s ≡ false → child s d ≡ Some c → child t d ≡ Some e
     → value_at e q ≡ Some y → WritesCommute (s ∷ p) (t ∷ q) d u v y
-exchange_beside s t p q d c e u v y n m f g h = record {
-  stays = at_step t q (with_value_at d (s ∷ p) u) e (stays_beside s t p q d c e u n f g) ∙ h;
+exchange_disjoint s t p q d c e u v y n m f g h = record {
+  stays = at_step t q (with_value_at d (s ∷ p) u) e (stays_disjoint s t p q d c e u n f g) ∙ h;
   same =
-      twice_beside s t p q d c e u v n f g
+      twice_disjoint s t p q d c e u v n f g
       ∙ one_exchange s t d (with_value_at c p u) (with_value_at e q v) n
-      ∙ sym (twice_beside t s q p d e c v u m g f);
+      ∙ sym (twice_disjoint t s q p d e c v u m g f);
 }
 
 false_turned : (s t : PlainStep) (b : Bool) → steps_equal t s ≡ b → steps_equal s t ≡ false → b ≡ false
@@ -207,7 +207,7 @@ exchange_at true (Some c) (Some e) s t p q d u v x y n f g h l m below =
     subst (λ w. WritesCommute (s ∷ p) (w ∷ q) d u v y) st
     (exchange_same s p q d c u v y f (below c (apart_below s t p q st h) l (ap (λ a. value_at a q) is ∙ m)))
 exchange_at false (Some c) (Some e) s t p q d u v x y n f g h l m below =
-    exchange_beside s t p q d c e u v y n (apart_turned s t n) f g m
+    exchange_disjoint s t p q d c e u v y n (apart_turned s t n) f g m
 
 pub writes_commute : (p q : List PlainStep) (d u v x y : Value) → AreDisjointPaths p q → value_at d p ≡ Some x → value_at d q ≡ Some y → WritesCommute p q d u v y
 writes_commute [] q d u v x y h l m = absurd (h.not_prefix q refl)

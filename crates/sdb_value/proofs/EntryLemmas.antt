@@ -117,12 +117,12 @@ module _ {O E : Type 0} (r : Result (Option O) E) (R : O → Value → Value →
       result_cases (Ok (Some x)) h = changed_in k (R x) ts ds es i p f h
       result_cases (Err e) h = tt
 
-  told_pairs : (s new : SortedMap Json) → map_keys new ≡ map_keys s → IsKeyIndex (map_keys s) k i
+  view_pairs : (s new : SortedMap Json) → map_keys new ≡ map_keys s → IsKeyIndex (map_keys s) k i
       → IfOk r (λ o. MatchOption o (AbsentAt (list (values_of_entries (map_chunks s))) (index i ∷ p) (list (values_of_entries (map_chunks new))))
       (λ x. ReplacedAt (R x) (list (values_of_entries (map_chunks s))) (index i ∷ p) (list (values_of_entries (map_chunks new)))))
       → IfOk r (λ o. MatchOption o (AbsentAt (object (object_value s)) (key k ∷ p) (object (object_value new)))
       (λ x. ReplacedAt (R x) (object (object_value s)) (key k ∷ p) (object (object_value new))))
-  told_pairs s new e f h =
+  view_pairs s new e f h =
       let P : Members → Members → Type 0 = λ ms ns. IfOk r (λ o. MatchOption o (AbsentAt (object ms) (key k ∷ p) (object ns)) (λ x. ReplacedAt (R x) (object ms) (key k ∷ p) (object ns))) in
       let ts = map_keys s in
       let ds = values_of_entries (map_chunks s) in
@@ -135,11 +135,11 @@ module _ {O E : Type 0} (r : Result (Option O) E) (R : O → Value → Value →
   PairsUpdated l n = IfOk r (λ o. MatchOption o (AbsentAt (list (values_of_entries l)) (index i ∷ p) (list (values_of_entries n)))
       (λ x. ReplacedAt (R x) (list (values_of_entries l)) (index i ∷ p) (list (values_of_entries n))))
 
-  pub told_members : (s new : SortedMap Json) (l n : ChunkedVec (MapEntry Json)) → l ≡ map_chunks s → map_chunks new ≡ n → vec_keys n ≡ vec_keys l → IsKeyIndex (map_keys s) k i
+  pub view_members : (s new : SortedMap Json) (l n : ChunkedVec (MapEntry Json)) → l ≡ map_chunks s → map_chunks new ≡ n → vec_keys n ≡ vec_keys l → IsKeyIndex (map_keys s) k i
       → PairsUpdated l n → IfOk r (λ o. MatchOption o (AbsentAt (object (object_value s)) (key k ∷ p) (object (object_value new)))
       (λ x. ReplacedAt (R x) (object (object_value s)) (key k ∷ p) (object (object_value new))))
-  told_members s new l n a b e f h =
-      told_pairs s new (ap vec_keys b ∙ e ∙ ap vec_keys a) f (subst (λ x. PairsUpdated x (map_chunks new)) a (subst (PairsUpdated l) (sym b) h))
+  view_members s new l n a b e f h =
+      view_pairs s new (ap vec_keys b ∙ e ∙ ap vec_keys a) f (subst (λ x. PairsUpdated x (map_chunks new)) a (subst (PairsUpdated l) (sym b) h))
 
 pub key_missing : (s : SortedMap Json) (k : List ℕ) (i : ℕ) (p : List PlainStep) → IsInsertIndex (map_keys s) k i
     → AbsentAt (object (object_value s)) (key k ∷ p) (object (object_value s))

@@ -51,13 +51,13 @@ views_seen : (vs : List Json) → map value_of vs ≡ map (λ s. s.0) (map value
 views_seen [] = refl
 views_seen (v ∷ vs) = ap (λ l. value_of v ∷ l) (views_seen vs)
 
-form_views : (w : Repr Json) → repr_value w ≡ items_from_list (map (λ s. s.0) (repr_models value_model w))
-form_views w =
+repr_views : (w : Repr Json) → repr_value w ≡ items_from_list (map (λ s. s.0) (repr_models value_model w))
+repr_views w =
     let l : ChunkedVec Json = record { repr = w } in
     ap items_from_list (views_seen (vec_items l)) ∙ ap (λ ss. items_from_list (map (λ s. s.0) ss)) (sym (vec_models_of_items value_model l))
 
-pub same_form : (w x : Repr Json) → repr_models value_model x ≡ repr_models value_model w → repr_value x ≡ repr_value w
-same_form w x e = form_views x ∙ ap (λ ss. items_from_list (map (λ s. s.0) ss)) e ∙ sym (form_views w)
+pub same_repr : (w x : Repr Json) → repr_models value_model x ≡ repr_models value_model w → repr_value x ≡ repr_value w
+same_repr w x e = repr_views x ∙ ap (λ ss. items_from_list (map (λ s. s.0) ss)) e ∙ sym (repr_views w)
 
 -- ---- one of several isn't larger than all
 
@@ -107,13 +107,13 @@ members_seen : (ms : List (MapEntry Json)) → entries_value ms ≡ members_from
 members_seen [] = refl
 members_seen (m ∷ ms) = ap (member (entry_key m) (value_of m.value)) (members_seen ms)
 
-member_form_views : (w : Repr (MapEntry Json)) → member_repr_value w ≡ members_from_list (map (λ s. (s.0, s.1.0)) (repr_models (entry_model value_model) w))
-member_form_views w =
+member_repr_views : (w : Repr (MapEntry Json)) → member_repr_value w ≡ members_from_list (map (λ s. (s.0, s.1.0)) (repr_models (entry_model value_model) w))
+member_repr_views w =
     let l : ChunkedVec (MapEntry Json) = record { repr = w } in
     members_seen (vec_items l) ∙ ap (λ ss. members_from_list (map (λ s. (s.0, s.1.0)) ss)) (sym (vec_models_of_items (entry_model value_model) l))
 
-pub same_member_form : (w x : Repr (MapEntry Json)) → repr_models (entry_model value_model) x ≡ repr_models (entry_model value_model) w → member_repr_value x ≡ member_repr_value w
-same_member_form w x e = member_form_views x ∙ ap (λ ss. members_from_list (map (λ s. (s.0, s.1.0)) ss)) e ∙ sym (member_form_views w)
+pub same_member_repr : (w x : Repr (MapEntry Json)) → repr_models (entry_model value_model) x ≡ repr_models (entry_model value_model) w → member_repr_value x ≡ member_repr_value w
+same_member_repr w x e = member_repr_views x ∙ ap (λ ss. members_from_list (map (λ s. (s.0, s.1.0)) ss)) e ∙ sym (member_repr_views w)
 
 pub member_within : (ms : List (MapEntry Json)) (k : ℕ) (m : MapEntry Json) → k < length ms → m ≡ get_or ms k m → size (value_of m.value) ≤ members_size (entries_value ms)
 member_within [] k m h is = absurd (omega (arith, h))

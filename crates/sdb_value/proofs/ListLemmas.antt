@@ -48,16 +48,16 @@ remove_item_some ds i h = rw (count_of ds, h) (ap Some (sym (append_of (take i d
 not_removed : (ds : List Value) (i : ℕ) → ltb i (length ds) ≡ false → remove_item i (items_from_list ds) ≡ None
 not_removed ds i h = rw (count_of ds, h) refl
 
-set_pieces : (i : ℕ) (ds : List Value) (d : Value) → i < length ds → items_from_list (set ds i d) ≡ append_items (take_items i (items_from_list ds)) (item d (drop_items (suc i) (items_from_list ds)))
-set_pieces i [] d h = absurd (omega arith)
-set_pieces zero (u ∷ ds) d h = refl
-set_pieces (suc i) (u ∷ ds) d h = ap (item u) (set_pieces i ds d (omega arith))
+set_chunks : (i : ℕ) (ds : List Value) (d : Value) → i < length ds → items_from_list (set ds i d) ≡ append_items (take_items i (items_from_list ds)) (item d (drop_items (suc i) (items_from_list ds)))
+set_chunks i [] d h = absurd (omega arith)
+set_chunks zero (u ∷ ds) d h = refl
+set_chunks (suc i) (u ∷ ds) d h = ap (item u) (set_chunks i ds d (omega arith))
 
 below_of : (i n : ℕ) → ltb i n ≡ true → i < n
 below_of i n e = grind (arith, nat_tests)
 
 replace_item_some : (ds : List Value) (i : ℕ) (d : Value) → ltb i (length ds) ≡ true → replace_item i d (items_from_list ds) ≡ Some (items_from_list (set ds i d))
-replace_item_some ds i d h = rw (count_of ds, h) (ap Some (sym (set_pieces i ds d (below_of i (length ds) h))))
+replace_item_some ds i d h = rw (count_of ds, h) (ap Some (sym (set_chunks i ds d (below_of i (length ds) h))))
 
 not_replaced : (ds : List Value) (i : ℕ) (d : Value) → ltb i (length ds) ≡ false → replace_item i d (items_from_list ds) ≡ None
 not_replaced ds i d h = rw (count_of ds, h) refl
@@ -77,8 +77,8 @@ set_of (d ∷ ds) (suc i) u = ap (item d) (set_of ds i u)
 not_past : (n : ℕ) → ltb 0 (suc n) ≡ false → ⊥
 not_past n h = grind (arith, nat_tests)
 
-past_too : (i n : ℕ) → ltb (suc i) (suc n) ≡ false → ltb i n ≡ false
-past_too i n h = grind (arith, nat_tests)
+after_too : (i n : ℕ) → ltb (suc i) (suc n) ≡ false → ltb i n ≡ false
+after_too i n h = grind (arith, nat_tests)
 
 first_there : (n : ℕ) → true ≡ ltb 0 (suc n)
 first_there n = grind (arith, nat_tests)
@@ -92,13 +92,13 @@ there_too i n = grind (arith, nat_tests)
 set_past : {A : Type 0} (xs : List A) (i : ℕ) (x : A) → ltb i (length xs) ≡ false → set xs i x ≡ xs
 set_past [] i x h = refl
 set_past (y ∷ xs) zero x h = absurd (not_past (length xs) h)
-set_past (y ∷ xs) (suc i) x h = ap (λ l. y ∷ l) (set_past xs i x (past_too i (length xs) h))
+set_past (y ∷ xs) (suc i) x h = ap (λ l. y ∷ l) (set_past xs i x (after_too i (length xs) h))
 
 remove_past : {A : Type 0} (xs : List A) (i : ℕ) → ltb i (length xs) ≡ false → remove xs i ≡ xs
 remove_past [] zero h = refl
 remove_past [] (suc i) h = refl
 remove_past (y ∷ xs) zero h = absurd (not_past (length xs) h)
-remove_past (y ∷ xs) (suc i) h = ap (λ l. y ∷ l) (remove_past xs i (past_too i (length xs) h))
+remove_past (y ∷ xs) (suc i) h = ap (λ l. y ∷ l) (remove_past xs i (after_too i (length xs) h))
 
 -- ---- the views of the items
 
@@ -187,9 +187,9 @@ list_inserted (Err e) old new i x h w = tt
 list_inserted (Ok done) old new i x h w =
     edits_seen done (insert_item i (value_of x)) old new (insert_at done (vec_models value_model old) (vec_models value_model new) i (value_model x) (sym w) h)
 
-pub list_kept : {E : Type 0} (r : Result Bool E) (old new : ChunkedVec Json) → OnErr r (vec_models value_model new ≡ vec_models value_model old) → OnErr r (list_value new ≡ list_value old)
-list_kept (Ok x) old new h = tt
-list_kept (Err e) old new h = list_same old new h
+pub list_unchanged : {E : Type 0} (r : Result Bool E) (old new : ChunkedVec Json) → OnErr r (vec_models value_model new ≡ vec_models value_model old) → OnErr r (list_value new ≡ list_value old)
+list_unchanged (Ok x) old new h = tt
+list_unchanged (Err e) old new h = list_same old new h
 
 -- ---- uniqueness
 
@@ -205,56 +205,56 @@ pub and_intro : (a b : Bool) → a ≡ true → b ≡ true → cond a b false �
 and_intro true b h e = e
 and_intro false b h e = h
 
-own_append : (bs cs : List Bool) → all_true bs ≡ true → all_true cs ≡ true → all_true (bs ++ cs) ≡ true
-own_append [] cs h k = k
-own_append (b ∷ bs) cs h k = and_intro b (all_true (bs ++ cs)) (both_first b (all_true bs) h) (own_append bs cs (both_second b (all_true bs) h) k)
+unique_append : (bs cs : List Bool) → all_true bs ≡ true → all_true cs ≡ true → all_true (bs ++ cs) ≡ true
+unique_append [] cs h k = k
+unique_append (b ∷ bs) cs h k = and_intro b (all_true (bs ++ cs)) (both_first b (all_true bs) h) (unique_append bs cs (both_second b (all_true bs) h) k)
 
-own_take : (i : ℕ) (bs : List Bool) → all_true bs ≡ true → all_true (take i bs) ≡ true
-own_take zero bs h = refl
-own_take (suc i) [] h = refl
-own_take (suc i) (b ∷ bs) h = and_intro b (all_true (take i bs)) (both_first b (all_true bs) h) (own_take i bs (both_second b (all_true bs) h))
+unique_take : (i : ℕ) (bs : List Bool) → all_true bs ≡ true → all_true (take i bs) ≡ true
+unique_take zero bs h = refl
+unique_take (suc i) [] h = refl
+unique_take (suc i) (b ∷ bs) h = and_intro b (all_true (take i bs)) (both_first b (all_true bs) h) (unique_take i bs (both_second b (all_true bs) h))
 
-own_drop : (i : ℕ) (bs : List Bool) → all_true bs ≡ true → all_true (drop i bs) ≡ true
-own_drop zero bs h = h
-own_drop (suc i) [] h = refl
-own_drop (suc i) (b ∷ bs) h = own_drop i bs (both_second b (all_true bs) h)
+unique_drop : (i : ℕ) (bs : List Bool) → all_true bs ≡ true → all_true (drop i bs) ≡ true
+unique_drop zero bs h = h
+unique_drop (suc i) [] h = refl
+unique_drop (suc i) (b ∷ bs) h = unique_drop i bs (both_second b (all_true bs) h)
 
-own_insert : (bs : List Bool) (i : ℕ) (b : Bool) → all_true bs ≡ true → b ≡ true → all_true (insert bs i b) ≡ true
-own_insert bs i b h k = own_append (take i bs) (b ∷ drop i bs) (own_take i bs h) (and_intro b (all_true (drop i bs)) k (own_drop i bs h))
+unique_insert : (bs : List Bool) (i : ℕ) (b : Bool) → all_true bs ≡ true → b ≡ true → all_true (insert bs i b) ≡ true
+unique_insert bs i b h k = unique_append (take i bs) (b ∷ drop i bs) (unique_take i bs h) (and_intro b (all_true (drop i bs)) k (unique_drop i bs h))
 
-own_remove : (bs : List Bool) (i : ℕ) → all_true bs ≡ true → all_true (remove bs i) ≡ true
-own_remove bs i h = own_append (take i bs) (drop (suc i) bs) (own_take i bs h) (own_drop (suc i) bs h)
+unique_remove : (bs : List Bool) (i : ℕ) → all_true bs ≡ true → all_true (remove bs i) ≡ true
+unique_remove bs i h = unique_append (take i bs) (drop (suc i) bs) (unique_take i bs h) (unique_drop (suc i) bs h)
 
-own_set : (bs : List Bool) (i : ℕ) (b : Bool) → all_true bs ≡ true → b ≡ true → all_true (set bs i b) ≡ true
-own_set [] i b h k = refl
-own_set (c ∷ bs) zero b h k = and_intro b (all_true bs) k (both_second c (all_true bs) h)
-own_set (c ∷ bs) (suc i) b h k = and_intro c (all_true (set bs i b)) (both_first c (all_true bs) h) (own_set bs i b (both_second c (all_true bs) h) k)
+unique_set : (bs : List Bool) (i : ℕ) (b : Bool) → all_true bs ≡ true → b ≡ true → all_true (set bs i b) ≡ true
+unique_set [] i b h k = refl
+unique_set (c ∷ bs) zero b h k = and_intro b (all_true bs) k (both_second c (all_true bs) h)
+unique_set (c ∷ bs) (suc i) b h k = and_intro c (all_true (set bs i b)) (both_first c (all_true bs) h) (unique_set bs i b (both_second c (all_true bs) h) k)
 
-either_own : (b : Bool) (bs cs : List Bool) → all_true bs ≡ true → all_true cs ≡ true → all_true (if b then bs else cs) ≡ true
-either_own true bs cs h k = h
-either_own false bs cs h k = k
+either_unique : (b : Bool) (bs cs : List Bool) → all_true bs ≡ true → all_true cs ≡ true → all_true (if b then bs else cs) ≡ true
+either_unique true bs cs h k = h
+either_unique false bs cs h k = k
 
 if_owns : (b : Bool) (ps qs : List ItemModels) → model_unique (if b then ps else qs) ≡ (if b then model_unique ps else model_unique qs)
 if_owns true ps qs = refl
 if_owns false ps qs = refl
 
 -- a list with unique items in unique chunks
-own_made : (old new : ChunkedVec Json) → (is_unique_vec old ≡ true → is_unique_vec new ≡ true) → (all_true (model_unique (vec_models value_model old)) ≡ true → all_true (model_unique (vec_models value_model new)) ≡ true)
+unique_made : (old new : ChunkedVec Json) → (is_unique_vec old ≡ true → is_unique_vec new ≡ true) → (all_true (model_unique (vec_models value_model old)) ≡ true → all_true (model_unique (vec_models value_model new)) ≡ true)
     → list_unique old ≡ true → list_unique new ≡ true
-own_made old new h k own =
+unique_made old new h k own =
     let o = sym (list_owns old) ∙ own in
     list_owns new ∙ and_intro (is_unique_vec new) (all_true (model_unique (vec_models value_model new))) (h (both_first (is_unique_vec old) (all_true (model_unique (vec_models value_model old))) o))
     (k (both_second (is_unique_vec old) (all_true (model_unique (vec_models value_model old))) o))
 
-pub own_inserted : {E : Type 0} (r : Result Bool E) (old new : ChunkedVec Json) (i : ℕ) (x : Json)
+pub unique_inserted : {E : Type 0} (r : Result Bool E) (old new : ChunkedVec Json) (i : ℕ) (x : Json)
     → IfOk r (λ done. vec_models value_model new ≡ (if done then insert (vec_models value_model old) i (value_model x) else vec_models value_model old))
     → OnErr r (vec_models value_model new ≡ vec_models value_model old) → (is_unique_vec old ≡ true → is_unique_vec new ≡ true)
     → list_unique old ≡ true → is_unique x ≡ true → list_unique new ≡ true
-own_inserted (Ok done) old new i x h k o own fresh =
-    own_made old new o (λ before. ap (λ l. all_true (model_unique l)) h ∙ ap all_true (if_owns done (insert (vec_models value_model old) i (value_model x)) (vec_models value_model old))
-    ∙ either_own done (model_unique (insert (vec_models value_model old) i (value_model x))) (model_unique (vec_models value_model old))
-    (ap all_true (map_insert (λ p. p.1) (vec_models value_model old) i (value_model x)) ∙ own_insert (model_unique (vec_models value_model old)) i (is_unique x) before fresh) before) own
-own_inserted (Err e) old new i x h k o own fresh = own_made old new o (λ before. ap (λ l. all_true (model_unique l)) k ∙ before) own
+unique_inserted (Ok done) old new i x h k o own fresh =
+    unique_made old new o (λ before. ap (λ l. all_true (model_unique l)) h ∙ ap all_true (if_owns done (insert (vec_models value_model old) i (value_model x)) (vec_models value_model old))
+    ∙ either_unique done (model_unique (insert (vec_models value_model old) i (value_model x))) (model_unique (vec_models value_model old))
+    (ap all_true (map_insert (λ p. p.1) (vec_models value_model old) i (value_model x)) ∙ unique_insert (model_unique (vec_models value_model old)) i (is_unique x) before fresh) before) own
+unique_inserted (Err e) old new i x h k o own fresh = unique_made old new o (λ before. ap (λ l. all_true (model_unique l)) k ∙ before) own
 
 -- ---- a removal, and a replacement
 
@@ -277,13 +277,13 @@ pub list_removed : (x : Option Json) (done : Bool) (old new : ChunkedVec Json) (
 list_removed x done old new i h e d =
     edits_seen done (remove_item i) old new (remove_at done (vec_models value_model old) (vec_models value_model new) i (sym (item_there x (vec_models value_model old) i h) ∙ sym d) e)
 
-pub own_removed : (old new : ChunkedVec Json) (i : ℕ) → vec_models value_model new ≡ remove (vec_models value_model old) i → (is_unique_vec old ≡ true → is_unique_vec new ≡ true)
+pub unique_removed : (old new : ChunkedVec Json) (i : ℕ) → vec_models value_model new ≡ remove (vec_models value_model old) i → (is_unique_vec old ≡ true → is_unique_vec new ≡ true)
     → list_unique old ≡ true → list_unique new ≡ true
-own_removed old new i e o = own_made old new o (λ before. ap (λ l. all_true (model_unique l)) e ∙ ap all_true (map_remove (λ p. p.1) (vec_models value_model old) i) ∙ own_remove (model_unique (vec_models value_model old)) i before)
+unique_removed old new i e o = unique_made old new o (λ before. ap (λ l. all_true (model_unique l)) e ∙ ap all_true (map_remove (λ p. p.1) (vec_models value_model old) i) ∙ unique_remove (model_unique (vec_models value_model old)) i before)
 
-pub own_same : (old new : ChunkedVec Json) → vec_models value_model new ≡ vec_models value_model old → (is_unique_vec old ≡ true → is_unique_vec new ≡ true)
+pub unique_same : (old new : ChunkedVec Json) → vec_models value_model new ≡ vec_models value_model old → (is_unique_vec old ≡ true → is_unique_vec new ≡ true)
     → list_unique old ≡ true → list_unique new ≡ true
-own_same old new e o = own_made old new o (λ before. ap (λ l. all_true (model_unique l)) e ∙ before)
+unique_same old new e o = unique_made old new o (λ before. ap (λ l. all_true (model_unique l)) e ∙ before)
 
 replace_at : (b : Bool) (ps qs : List ItemModels) (i : ℕ) (p : ItemModels) → ltb i (length ps) ≡ b → qs ≡ set ps i p
     → EditOutcome b (replace_item i p.0 (items_from_list (model_values ps))) (items_from_list (model_values ps)) (items_from_list (model_values qs))
@@ -298,10 +298,10 @@ list_replaced x done old new i y h e d =
     edits_seen done (replace_item i (value_of y)) old new
     (replace_at done (vec_models value_model old) (vec_models value_model new) i (value_model y) (sym (item_there x (vec_models value_model old) i h) ∙ sym d) e)
 
-pub own_replaced : (old new : ChunkedVec Json) (i : ℕ) (y : Json) → vec_models value_model new ≡ set (vec_models value_model old) i (value_model y) → (is_unique_vec old ≡ true → is_unique_vec new ≡ true)
+pub unique_replaced : (old new : ChunkedVec Json) (i : ℕ) (y : Json) → vec_models value_model new ≡ set (vec_models value_model old) i (value_model y) → (is_unique_vec old ≡ true → is_unique_vec new ≡ true)
     → list_unique old ≡ true → is_unique y ≡ true → list_unique new ≡ true
-own_replaced old new i y e o own fresh =
-    own_made old new o (λ before. ap (λ l. all_true (model_unique l)) e ∙ ap all_true (map_set (λ p. p.1) (vec_models value_model old) i (value_model y)) ∙ own_set (model_unique (vec_models value_model old)) i (is_unique y) before fresh) own
+unique_replaced old new i y e o own fresh =
+    unique_made old new o (λ before. ap (λ l. all_true (model_unique l)) e ∙ ap all_true (map_set (λ p. p.1) (vec_models value_model old) i (value_model y)) ∙ unique_set (model_unique (vec_models value_model old)) i (is_unique y) before fresh) own
 
 -- ---- an item that is taken out for a change and put back
 
@@ -324,15 +324,15 @@ pub none_taken : (x : Option Json) (old new : ChunkedVec Json) (i : ℕ) (y : Js
 none_taken None old new i y h e = list_same old new (e ∙ set_past (vec_models value_model old) i (value_model y) (sym (item_there None (vec_models value_model old) i h)))
 none_taken (Some v) old new i y h e = tt
 
-own_one : (x : Option Json) (ps : List ItemModels) (i : ℕ) → option_map value_model x ≡ slice_get ps i → all_true (model_unique ps) ≡ true → IfSome x (λ v. is_unique v ≡ true)
-own_one None ps i h own = tt
-own_one (Some v) [] i h own = absurd cc
-own_one (Some v) (p ∷ ps) zero h own = let e : value_model v ≡ p = cc in ap (λ (q : ItemModels). q.1) e ∙ both_first p.1 (all_true (model_unique ps)) own
-own_one (Some v) (p ∷ ps) (suc i) h own = own_one (Some v) ps i h (both_second p.1 (all_true (model_unique ps)) own)
+unique_one : (x : Option Json) (ps : List ItemModels) (i : ℕ) → option_map value_model x ≡ slice_get ps i → all_true (model_unique ps) ≡ true → IfSome x (λ v. is_unique v ≡ true)
+unique_one None ps i h own = tt
+unique_one (Some v) [] i h own = absurd cc
+unique_one (Some v) (p ∷ ps) zero h own = let e : value_model v ≡ p = cc in ap (λ (q : ItemModels). q.1) e ∙ both_first p.1 (all_true (model_unique ps)) own
+unique_one (Some v) (p ∷ ps) (suc i) h own = unique_one (Some v) ps i h (both_second p.1 (all_true (model_unique ps)) own)
 
-pub own_taken : (x : Option Json) (old : ChunkedVec Json) (i : ℕ) → option_map value_model x ≡ slice_get (vec_models value_model old) i → list_unique old ≡ true → IfSome x (λ v. is_unique v ≡ true)
-own_taken x old i h own =
-    own_one x (vec_models value_model old) i h (both_second (is_unique_vec old) (all_true (model_unique (vec_models value_model old))) (sym (list_owns old) ∙ own))
+pub unique_taken : (x : Option Json) (old : ChunkedVec Json) (i : ℕ) → option_map value_model x ≡ slice_get (vec_models value_model old) i → list_unique old ≡ true → IfSome x (λ v. is_unique v ≡ true)
+unique_taken x old i h own =
+    unique_one x (vec_models value_model old) i h (both_second (is_unique_vec old) (all_true (model_unique (vec_models value_model old))) (sym (list_owns old) ∙ own))
 
 -- by the results of the calls
 pub taken_result : {E : Type 0} (r : Result (Option Json) E) (old : ChunkedVec Json) (i : ℕ) → IfOk r (λ x. option_map value_model x ≡ slice_get (vec_models value_model old) i)
@@ -345,20 +345,20 @@ pub none_result : {E : Type 0} (r : Result (Option Json) E) (old new : ChunkedVe
 none_result (Ok x) old new i y h e = none_taken x old new i y h e
 none_result (Err e) old new i y h k = tt
 
-pub kept_result : {E : Type 0} (r : Result (Option Json) E) (old new : ChunkedVec Json) → OnErr r (vec_models value_model new ≡ vec_models value_model old) → OnErr r (list_value new ≡ list_value old)
-kept_result (Ok x) old new h = tt
-kept_result (Err e) old new h = list_same old new h
+pub unchanged_result : {E : Type 0} (r : Result (Option Json) E) (old new : ChunkedVec Json) → OnErr r (vec_models value_model new ≡ vec_models value_model old) → OnErr r (list_value new ≡ list_value old)
+unchanged_result (Ok x) old new h = tt
+unchanged_result (Err e) old new h = list_same old new h
 
 pub own_result : {E : Type 0} (r : Result (Option Json) E) (old new : ChunkedVec Json) (i : ℕ) (y : Json)
     → OnOk r (vec_models value_model new ≡ set (vec_models value_model old) i (value_model y)) → OnErr r (vec_models value_model new ≡ vec_models value_model old)
     → (is_unique_vec old ≡ true → is_unique_vec new ≡ true) → list_unique old ≡ true → is_unique y ≡ true → list_unique new ≡ true
-own_result (Ok x) old new i y e k o own fresh = own_replaced old new i y e o own fresh
-own_result (Err e) old new i y k h o own fresh = own_same old new h o own
+own_result (Ok x) old new i y e k o own fresh = unique_replaced old new i y e o own fresh
+own_result (Err e) old new i y k h o own fresh = unique_same old new h o own
 
-pub taken_own : {E : Type 0} (r : Result (Option Json) E) (old : ChunkedVec Json) (i : ℕ) → IfOk r (λ x. option_map value_model x ≡ slice_get (vec_models value_model old) i)
+pub taken_unique : {E : Type 0} (r : Result (Option Json) E) (old : ChunkedVec Json) (i : ℕ) → IfOk r (λ x. option_map value_model x ≡ slice_get (vec_models value_model old) i)
     → list_unique old ≡ true → IfOk r (λ o. IfSome o (λ v. is_unique v ≡ true))
-taken_own (Ok x) old i h own = own_taken x old i h own
-taken_own (Err e) old i h own = tt
+taken_unique (Ok x) old i h own = unique_taken x old i h own
+taken_unique (Err e) old i h own = tt
 
 -- a replacement succeeds if the item's part is unique
 pub surely_set : {E : Type 0} (r : Result (Option Json) E) (old new : ChunkedVec Json) (i : ℕ) (y : Json)
@@ -383,23 +383,23 @@ some_mapped : {B : Type 0} (r : Option B) (n : B → Json) → IfSome (option_ma
 some_mapped None n h = tt
 some_mapped (Some x) n h = h
 
-pub found_own : {B : Type 0} (r : Option B) (n : B → Json) (l : ChunkedVec Json) (i : ℕ) → option_map (λ x. value_model (n x)) r ≡ slice_get (vec_models value_model l) i
+pub found_unique : {B : Type 0} (r : Option B) (n : B → Json) (l : ChunkedVec Json) (i : ℕ) → option_map (λ x. value_model (n x)) r ≡ slice_get (vec_models value_model l) i
     → list_unique l ≡ true → IfSome r (λ x. is_unique (n x) ≡ true)
-found_own r n l i h own = some_mapped r n (own_taken (option_map n r) l i (option_map_twice value_model n r ∙ h) own)
+found_unique r n l i h own = some_mapped r n (unique_taken (option_map n r) l i (option_map_twice value_model n r ∙ h) own)
 
-pub own_place : (l : ChunkedVec Json) (i : ℕ) → list_unique l ≡ true → is_unique_vec_at l i ≡ true
-own_place l i own = unique_vec_at_of_all l i (both_first (is_unique_vec l) (items_unique (vec_items l)) own)
+pub unique_place : (l : ChunkedVec Json) (i : ℕ) → list_unique l ≡ true → is_unique_vec_at l i ≡ true
+unique_place l i own = unique_vec_at_of_all l i (both_first (is_unique_vec l) (items_unique (vec_items l)) own)
 
-own_form : {X : Type 0} (w : Repr X) → is_unique_repr w ≡ true → is_grouped w ≡ false
-own_form (Flat b) own = refl
-own_form (Chunks bs) own = refl
-own_form (Groups gs) own = absurd (true≢false (sym own))
+unique_repr : {X : Type 0} (w : Repr X) → is_unique_repr w ≡ true → is_grouped w ≡ false
+unique_repr (Flat b) own = refl
+unique_repr (Chunks bs) own = refl
+unique_repr (Groups gs) own = absurd (true≢false (sym own))
 
-pub own_in_blocks : (l : ChunkedVec Json) → list_unique l ≡ true → is_grouped l.repr ≡ false
-own_in_blocks l own = own_form l.repr (both_first (is_unique_vec l) (items_unique (vec_items l)) own)
+pub unique_in_chunks : (l : ChunkedVec Json) → list_unique l ≡ true → is_grouped l.repr ≡ false
+unique_in_chunks l own = unique_repr l.repr (both_first (is_unique_vec l) (items_unique (vec_items l)) own)
 
 shared_or : (b : Bool) (l : ChunkedVec Json) (i : ℕ) → list_unique l ≡ b → is_unique_vec_at l i ≡ false → b ≡ false
-shared_or true l i own h = absurd (true≢false (sym (own_place l i own) ∙ h))
+shared_or true l i own h = absurd (true≢false (sym (unique_place l i own) ∙ h))
 shared_or false l i own h = refl
 
 pub shared_place : (l : ChunkedVec Json) (i : ℕ) → is_unique_vec_at l i ≡ false → list_unique l ≡ false

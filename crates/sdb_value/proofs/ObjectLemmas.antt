@@ -13,7 +13,7 @@ use Rattle.sdb_value.specs.Uniqueness.{all_true, entries_unique, is_unique, valu
 use Rattle.sdb_value.specs.Value.{Value, null, item, item_at, set_item, Items}
 use Rattle.sdb_value.specs.View.{value_of, items_from_list, values_of_entries}
 use Rattle.sdb_value.specs.declared.value.Json.{Json}
-use Rattle.sdb_value.proofs.PutLemmas.{EntryModels, both_first, both_second, entries_owns, own_kept}
+use Rattle.sdb_value.proofs.PutLemmas.{EntryModels, both_first, both_second, entries_owns, unique_unchanged}
 use Rattle.sdb_value.proofs.ViewLemmas.{seen_null}
 use Rattle.sdb_value.specs.declared.value.Json as json
 
@@ -133,13 +133,13 @@ pub name_left : {E : Type 0} (r : Result (Option (MapEntry Json)) E) (l m : Memb
 name_left (Ok o) l m i k n is h = names_set l m i n h ∙ ap (slice_set (vec_keys l) i) is
 name_left (Err x) l m i k n is h = tt
 
-pub kept_values : {O E : Type 0} (r : Result O E) (l m : MemberEntries) → OnErr r (seen_of m ≡ seen_of l) → OnErr r (values_of_entries m ≡ values_of_entries l)
-kept_values (Ok o) l m h = tt
-kept_values (Err x) l m h = values_same l m h
+pub unchanged_values : {O E : Type 0} (r : Result O E) (l m : MemberEntries) → OnErr r (seen_of m ≡ seen_of l) → OnErr r (values_of_entries m ≡ values_of_entries l)
+unchanged_values (Ok o) l m h = tt
+unchanged_values (Err x) l m h = values_same l m h
 
-pub kept_names : {O E : Type 0} (r : Result O E) (l m : MemberEntries) → OnErr r (seen_of m ≡ seen_of l) → OnErr r (vec_keys m ≡ vec_keys l)
-kept_names (Ok o) l m h = tt
-kept_names (Err x) l m h = names_same l m h
+pub unchanged_names : {O E : Type 0} (r : Result O E) (l m : MemberEntries) → OnErr r (seen_of m ≡ seen_of l) → OnErr r (vec_keys m ≡ vec_keys l)
+unchanged_names (Ok o) l m h = tt
+unchanged_names (Err x) l m h = names_same l m h
 
 not_both : (b : Bool) → b ≡ true → b ≡ false → ⊥
 not_both true p q = cc
@@ -164,31 +164,31 @@ and_intro : (a b : Bool) → a ≡ true → b ≡ true → cond a b false ≡ tr
 and_intro true b p q = q
 and_intro false b p q = p
 
-own_set : (es : List EntryModels) (i : ℕ) (e : EntryModels) → all_true (model_unique es) ≡ true → e.1.1 ≡ true → all_true (model_unique (slice_set es i e)) ≡ true
-own_set [] i e h p = h
-own_set (d ∷ es) zero e h p = and_intro e.1.1 (all_true (model_unique es)) p (both_second d.1.1 (all_true (model_unique es)) h)
-own_set (d ∷ es) (suc i) e h p =
-    and_intro d.1.1 (all_true (model_unique (slice_set es i e))) (both_first d.1.1 (all_true (model_unique es)) h) (own_set es i e (both_second d.1.1 (all_true (model_unique es)) h) p)
+unique_set : (es : List EntryModels) (i : ℕ) (e : EntryModels) → all_true (model_unique es) ≡ true → e.1.1 ≡ true → all_true (model_unique (slice_set es i e)) ≡ true
+unique_set [] i e h p = h
+unique_set (d ∷ es) zero e h p = and_intro e.1.1 (all_true (model_unique es)) p (both_second d.1.1 (all_true (model_unique es)) h)
+unique_set (d ∷ es) (suc i) e h p =
+    and_intro d.1.1 (all_true (model_unique (slice_set es i e))) (both_first d.1.1 (all_true (model_unique es)) h) (unique_set es i e (both_second d.1.1 (all_true (model_unique es)) h) p)
 
-pub own_replaced : {O E : Type 0} (r : Result O E) (l m : MemberEntries) (i : ℕ) (n : MapEntry Json) → OnOk r (seen_of m ≡ slice_set (seen_of l) i (entry_model value_model n))
+pub unique_replaced : {O E : Type 0} (r : Result O E) (l m : MemberEntries) (i : ℕ) (n : MapEntry Json) → OnOk r (seen_of m ≡ slice_set (seen_of l) i (entry_model value_model n))
     → OnErr r (seen_of m ≡ seen_of l) → (is_unique_vec l ≡ true → is_unique_vec m ≡ true) → entries_unique l ≡ true → is_unique n.value ≡ true → entries_unique m ≡ true
-own_replaced (Ok o) l m i n h e keeps own new = own_kept l m keeps (λ all. ap (λ es. all_true (model_unique es)) h ∙ own_set (seen_of l) i (entry_model value_model n) all new) own
-own_replaced (Err x) l m i n h e keeps own new = own_kept l m keeps (λ all. ap (λ es. all_true (model_unique es)) e ∙ all) own
+unique_replaced (Ok o) l m i n h e keeps own new = unique_unchanged l m keeps (λ all. ap (λ es. all_true (model_unique es)) h ∙ unique_set (seen_of l) i (entry_model value_model n) all new) own
+unique_replaced (Err x) l m i n h e keeps own new = unique_unchanged l m keeps (λ all. ap (λ es. all_true (model_unique es)) e ∙ all) own
 
-own_at : (es : List EntryModels) (i : ℕ) (e : EntryModels) → slice_get es i ≡ Some e → all_true (model_unique es) ≡ true → e.1.1 ≡ true
-own_at [] i e h p = cc
-own_at (d ∷ es) zero e h p = let is : d ≡ e = cc in ap (λ s. s.1.1) (sym is) ∙ both_first d.1.1 (all_true (model_unique es)) p
-own_at (d ∷ es) (suc i) e h p = own_at es i e h (both_second d.1.1 (all_true (model_unique es)) p)
+unique_at : (es : List EntryModels) (i : ℕ) (e : EntryModels) → slice_get es i ≡ Some e → all_true (model_unique es) ≡ true → e.1.1 ≡ true
+unique_at [] i e h p = cc
+unique_at (d ∷ es) zero e h p = let is : d ≡ e = cc in ap (λ s. s.1.1) (sym is) ∙ both_first d.1.1 (all_true (model_unique es)) p
+unique_at (d ∷ es) (suc i) e h p = unique_at es i e h (both_second d.1.1 (all_true (model_unique es)) p)
 
-own_there : (o : Option (MapEntry Json)) (l : MemberEntries) (i : ℕ) → option_map (entry_model value_model) o ≡ slice_get (seen_of l) i → entries_unique l ≡ true → IfSome o (λ m. is_unique m.value ≡ true)
-own_there None l i e own = tt
-own_there (Some m) l i e own =
-    own_at (seen_of l) i (entry_model value_model m) (sym e) (both_second (is_unique_vec l) (all_true (model_unique (seen_of l))) (sym (entries_owns l) ∙ own))
+unique_there : (o : Option (MapEntry Json)) (l : MemberEntries) (i : ℕ) → option_map (entry_model value_model) o ≡ slice_get (seen_of l) i → entries_unique l ≡ true → IfSome o (λ m. is_unique m.value ≡ true)
+unique_there None l i e own = tt
+unique_there (Some m) l i e own =
+    unique_at (seen_of l) i (entry_model value_model m) (sym e) (both_second (is_unique_vec l) (all_true (model_unique (seen_of l))) (sym (entries_owns l) ∙ own))
 
-pub own_taken : {E : Type 0} (r : Result (Option (MapEntry Json)) E) (l : MemberEntries) (i : ℕ) → IfOk r (λ x. option_map (entry_model value_model) x ≡ slice_get (seen_of l) i)
+pub unique_taken : {E : Type 0} (r : Result (Option (MapEntry Json)) E) (l : MemberEntries) (i : ℕ) → IfOk r (λ x. option_map (entry_model value_model) x ≡ slice_get (seen_of l) i)
     → entries_unique l ≡ true → IfOk r (λ o. IfSome o (λ m. is_unique m.value ≡ true))
-own_taken (Ok o) l i e own = own_there o l i e own
-own_taken (Err x) l i e own = tt
+unique_taken (Ok o) l i e own = unique_there o l i e own
+unique_taken (Err x) l i e own = tt
 
 -- a shared part of the list on the path to a member
 shared_or : (b : Bool) (l : MemberEntries) (i : ℕ) → entries_unique l ≡ b → is_unique_vec_at l i ≡ false → b ≡ false

@@ -68,8 +68,8 @@ pub object_without : (m n : SortedMap Json) (k : List ℕ) → map_entry_models 
     → object_value n ≡ without_member k (object_value m)
 object_without m n k e = object_seen n ∙ ap values_of e ∙ without_values k (map_entry_models value_model m) ∙ ap (without_member k) (sym (object_seen m))
 
-pub object_kept : (m n : SortedMap Json) → map_entry_models value_model n ≡ map_entry_models value_model m → object_value n ≡ object_value m
-object_kept m n e = object_seen n ∙ ap values_of e ∙ sym (object_seen m)
+pub object_unchanged : (m n : SortedMap Json) → map_entry_models value_model n ≡ map_entry_models value_model m → object_value n ≡ object_value m
+object_unchanged m n e = object_seen n ∙ ap values_of e ∙ sym (object_seen m)
 
 pub object_absent : (m : SortedMap Json) (k : List ℕ) → lookup (is_at (compare_bytes k)) (map_entry_models value_model m) ≡ None → member_at k (object_value m) ≡ None
 object_absent m k e = ap (member_at k) (object_seen m) ∙ sym (lookup_values k (map_entry_models value_model m)) ∙ ap (option_map (λ t. t.0)) e
@@ -108,48 +108,48 @@ and_intro true b p q = q
 and_intro false b p q = p
 
 -- a list of members whose values stay unique
-pub own_kept : (l m : ChunkedVec (MapEntry Json)) → (is_unique_vec l ≡ true → is_unique_vec m ≡ true)
+pub unique_unchanged : (l m : ChunkedVec (MapEntry Json)) → (is_unique_vec l ≡ true → is_unique_vec m ≡ true)
     → (all_true (model_unique (vec_models (entry_model value_model) l)) ≡ true → all_true (model_unique (vec_models (entry_model value_model) m)) ≡ true) → entries_unique l ≡ true → entries_unique m ≡ true
-own_kept l m keeps all own =
+unique_unchanged l m keeps all own =
     let o = sym (entries_owns l) ∙ own in
     entries_owns m
     ∙ and_intro (is_unique_vec m) (all_true (model_unique (vec_models (entry_model value_model) m)))
     (keeps (both_first (is_unique_vec l) (all_true (model_unique (vec_models (entry_model value_model) l))) o))
     (all (both_second (is_unique_vec l) (all_true (model_unique (vec_models (entry_model value_model) l))) o))
 
-own_match : (o : Ordering) (a b c : List EntryModels) → all_true (model_unique a) ≡ true → all_true (model_unique b) ≡ true → all_true (model_unique c) ≡ true → all_true (model_unique (match_ordering o a b c)) ≡ true
-own_match Less a b c p q r = p
-own_match Equal a b c p q r = q
-own_match Greater a b c p q r = r
+unique_match : (o : Ordering) (a b c : List EntryModels) → all_true (model_unique a) ≡ true → all_true (model_unique b) ≡ true → all_true (model_unique c) ≡ true → all_true (model_unique (match_ordering o a b c)) ≡ true
+unique_match Less a b c p q r = p
+unique_match Equal a b c p q r = q
+unique_match Greater a b c p q r = r
 
-own_put : (es : List EntryModels) (k : List ℕ) (s : Value × Bool) → all_true (model_unique es) ≡ true → s.1 ≡ true → all_true (model_unique (insert_entry compare_bytes es k s)) ≡ true
-own_put [] k s h e = and_intro s.1 true e refl
-own_put (d ∷ es) k s h e =
+unique_put : (es : List EntryModels) (k : List ℕ) (s : Value × Bool) → all_true (model_unique es) ≡ true → s.1 ≡ true → all_true (model_unique (insert_entry compare_bytes es k s)) ≡ true
+unique_put [] k s h e = and_intro s.1 true e refl
+unique_put (d ∷ es) k s h e =
     let rest = both_second d.1.1 (all_true (model_unique es)) h in
-    own_match (compare_bytes k d.0) ((k, s) ∷ d ∷ es) ((d.0, s) ∷ es) (d ∷ insert_entry compare_bytes es k s) (and_intro s.1 (all_true (model_unique (d ∷ es))) e h) (and_intro s.1 (all_true (model_unique es)) e rest)
-    (and_intro d.1.1 (all_true (model_unique (insert_entry compare_bytes es k s))) (both_first d.1.1 (all_true (model_unique es)) h) (own_put es k s rest e))
+    unique_match (compare_bytes k d.0) ((k, s) ∷ d ∷ es) ((d.0, s) ∷ es) (d ∷ insert_entry compare_bytes es k s) (and_intro s.1 (all_true (model_unique (d ∷ es))) e h) (and_intro s.1 (all_true (model_unique es)) e rest)
+    (and_intro d.1.1 (all_true (model_unique (insert_entry compare_bytes es k s))) (both_first d.1.1 (all_true (model_unique es)) h) (unique_put es k s rest e))
 
 own_or : (b : Bool) (d : EntryModels) (es rest : List EntryModels) → all_true (model_unique (d ∷ es)) ≡ true → all_true (model_unique rest) ≡ true → all_true (model_unique (cond b es (d ∷ rest))) ≡ true
 own_or true d es rest h e = both_second d.1.1 (all_true (model_unique es)) h
 own_or false d es rest h e = and_intro d.1.1 (all_true (model_unique rest)) (both_first d.1.1 (all_true (model_unique es)) h) e
 
-own_taken : (es : List EntryModels) (k : List ℕ) → all_true (model_unique es) ≡ true → all_true (model_unique (remove_entry (is_at (compare_bytes k)) es)) ≡ true
-own_taken [] k h = refl
-own_taken (d ∷ es) k h =
-    own_or (is_eq (compare_bytes k d.0)) d es (remove_entry (is_at (compare_bytes k)) es) h (own_taken es k (both_second d.1.1 (all_true (model_unique es)) h))
+unique_taken : (es : List EntryModels) (k : List ℕ) → all_true (model_unique es) ≡ true → all_true (model_unique (remove_entry (is_at (compare_bytes k)) es)) ≡ true
+unique_taken [] k h = refl
+unique_taken (d ∷ es) k h =
+    own_or (is_eq (compare_bytes k d.0)) d es (remove_entry (is_at (compare_bytes k)) es) h (unique_taken es k (both_second d.1.1 (all_true (model_unique es)) h))
 
 -- an insert or removal, or no change if an allocation fails
-pub own_inserted : {O E : Type 0} (r : Result O E) (m n : SortedMap Json) (k : List ℕ) (v : Json) → OnOk r (map_entry_models value_model n ≡ insert_entry compare_bytes (map_entry_models value_model m) k (value_model v))
+pub unique_inserted : {O E : Type 0} (r : Result O E) (m n : SortedMap Json) (k : List ℕ) (v : Json) → OnOk r (map_entry_models value_model n ≡ insert_entry compare_bytes (map_entry_models value_model m) k (value_model v))
     → OnErr r (map_entry_models value_model n ≡ map_entry_models value_model m) → (is_unique_map m ≡ true → is_unique_map n ≡ true) → object_unique m ≡ true → is_unique v ≡ true → object_unique n ≡ true
-own_inserted (Ok x) m n k v p e keeps own new =
-    own_kept (map_chunks m) (map_chunks n) keeps (λ all. ap (λ es. all_true (model_unique es)) p ∙ own_put (map_entry_models value_model m) k (value_model v) all new) own
-own_inserted (Err x) m n k v p e keeps own new = own_kept (map_chunks m) (map_chunks n) keeps (λ all. ap (λ es. all_true (model_unique es)) e ∙ all) own
+unique_inserted (Ok x) m n k v p e keeps own new =
+    unique_unchanged (map_chunks m) (map_chunks n) keeps (λ all. ap (λ es. all_true (model_unique es)) p ∙ unique_put (map_entry_models value_model m) k (value_model v) all new) own
+unique_inserted (Err x) m n k v p e keeps own new = unique_unchanged (map_chunks m) (map_chunks n) keeps (λ all. ap (λ es. all_true (model_unique es)) e ∙ all) own
 
-pub own_removed : {O E : Type 0} (r : Result O E) (m n : SortedMap Json) (k : List ℕ) → OnOk r (map_entry_models value_model n ≡ remove_entry (is_at (compare_bytes k)) (map_entry_models value_model m))
+pub unique_removed : {O E : Type 0} (r : Result O E) (m n : SortedMap Json) (k : List ℕ) → OnOk r (map_entry_models value_model n ≡ remove_entry (is_at (compare_bytes k)) (map_entry_models value_model m))
     → OnErr r (map_entry_models value_model n ≡ map_entry_models value_model m) → (is_unique_map m ≡ true → is_unique_map n ≡ true) → object_unique m ≡ true → object_unique n ≡ true
-own_removed (Ok x) m n k p e keeps own =
-    own_kept (map_chunks m) (map_chunks n) keeps (λ all. ap (λ es. all_true (model_unique es)) p ∙ own_taken (map_entry_models value_model m) k all) own
-own_removed (Err x) m n k p e keeps own = own_kept (map_chunks m) (map_chunks n) keeps (λ all. ap (λ es. all_true (model_unique es)) e ∙ all) own
+unique_removed (Ok x) m n k p e keeps own =
+    unique_unchanged (map_chunks m) (map_chunks n) keeps (λ all. ap (λ es. all_true (model_unique es)) p ∙ unique_taken (map_entry_models value_model m) k all) own
+unique_removed (Err x) m n k p e keeps own = unique_unchanged (map_chunks m) (map_chunks n) keeps (λ all. ap (λ es. all_true (model_unique es)) e ∙ all) own
 
 contrapositive : (a b : Bool) → (a ≡ true → b ≡ true) → b ≡ false → a ≡ false
 contrapositive true b h e = let t : b ≡ true = h refl in cc
@@ -160,19 +160,19 @@ pub not_held : (m : SortedMap Json) → is_unique_map m ≡ false → object_uni
 not_held m h = contrapositive (object_unique m) (is_unique_map m) (both_first (is_unique_map m) (members_unique (vec_items (map_chunks m)))) h
 
 -- the value of a key of a unique object
-own_either : (b : Bool) (d s : Value × Bool) (o : Option (Value × Bool)) → d.1 ≡ true → (o ≡ Some s → s.1 ≡ true) → cond b (Some d) o ≡ Some s → s.1 ≡ true
-own_either true d s o own rest e = let is : d ≡ s = cc in ap (λ t. t.1) (sym is) ∙ own
-own_either false d s o own rest e = rest e
+unique_either : (b : Bool) (d s : Value × Bool) (o : Option (Value × Bool)) → d.1 ≡ true → (o ≡ Some s → s.1 ≡ true) → cond b (Some d) o ≡ Some s → s.1 ≡ true
+unique_either true d s o own rest e = let is : d ≡ s = cc in ap (λ t. t.1) (sym is) ∙ own
+unique_either false d s o own rest e = rest e
 
-own_looked : (k : List ℕ) (es : List EntryModels) (s : Value × Bool) → all_true (model_unique es) ≡ true → lookup (is_at (compare_bytes k)) es ≡ Some s → s.1 ≡ true
-own_looked k [] s h e = cc
-own_looked k (d ∷ es) s h e =
-    own_either (is_eq (compare_bytes k d.0)) d.1 s (lookup (is_at (compare_bytes k)) es) (both_first d.1.1 (all_true (model_unique es)) h)
-    (own_looked k es s (both_second d.1.1 (all_true (model_unique es)) h)) e
+unique_looked : (k : List ℕ) (es : List EntryModels) (s : Value × Bool) → all_true (model_unique es) ≡ true → lookup (is_at (compare_bytes k)) es ≡ Some s → s.1 ≡ true
+unique_looked k [] s h e = cc
+unique_looked k (d ∷ es) s h e =
+    unique_either (is_eq (compare_bytes k d.0)) d.1 s (lookup (is_at (compare_bytes k)) es) (both_first d.1.1 (all_true (model_unique es)) h)
+    (unique_looked k es s (both_second d.1.1 (all_true (model_unique es)) h)) e
 
-pub own_found : {B : Type 0} (r : Option B) (n : B → Json) (m : SortedMap Json) (k : List ℕ) → option_map (λ x. value_model (n x)) r ≡ lookup (is_at (compare_bytes k)) (map_entry_models value_model m)
+pub unique_found : {B : Type 0} (r : Option B) (n : B → Json) (m : SortedMap Json) (k : List ℕ) → option_map (λ x. value_model (n x)) r ≡ lookup (is_at (compare_bytes k)) (map_entry_models value_model m)
     → object_unique m ≡ true → IfSome r (λ x. is_unique (n x) ≡ true)
-own_found None n m k e own = tt
-own_found (Some x) n m k e own =
-    own_looked k (map_entry_models value_model m) (value_model (n x))
+unique_found None n m k e own = tt
+unique_found (Some x) n m k e own =
+    unique_looked k (map_entry_models value_model m) (value_model (n x))
     (both_second (is_unique_map m) (all_true (model_unique (map_entry_models value_model m))) (sym (entries_owns (map_chunks m)) ∙ own)) (sym e)

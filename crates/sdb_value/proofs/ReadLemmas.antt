@@ -71,22 +71,22 @@ pub owns_of : (ms : List (MapEntry Json)) → members_unique ms ≡ entries_own 
 owns_of [] = refl
 owns_of (m ∷ ms) = ap (λ b. cond (is_unique m.value) b false) (owns_of ms)
 
-own_end : (a b : Bool) → a ≡ true → b ≡ true → cond a b false ≡ true
-own_end true b p q = q
-own_end false b p q = p
+unique_end : (a b : Bool) → a ≡ true → b ≡ true → cond a b false ≡ true
+unique_end true b p q = q
+unique_end false b p q = p
 
-own_first : (a b : Bool) → cond a b false ≡ true → a ≡ true
-own_first true b e = refl
-own_first false b e = e
+unique_first : (a b : Bool) → cond a b false ≡ true → a ≡ true
+unique_first true b e = refl
+unique_first false b e = e
 
-own_rest : (a b : Bool) → cond a b false ≡ true → b ≡ true
-own_rest true b e = e
-own_rest false b e = cc
+unique_rest : (a b : Bool) → cond a b false ≡ true → b ≡ true
+unique_rest true b e = e
+unique_rest false b e = cc
 
-pub member_own : (es : List (List ℕ × Json)) (e : List ℕ × Json) → entries_own es ≡ true → is_unique e.1 ≡ true → entries_own (es ++ e ∷ []) ≡ true
-member_own [] e h k = own_end (is_unique e.1) true k refl
-member_own (d ∷ es) e h k =
-    own_end (is_unique d.1) (entries_own (es ++ e ∷ [])) (own_first (is_unique d.1) (entries_own es) h) (member_own es e (own_rest (is_unique d.1) (entries_own es) h) k)
+pub member_unique : (es : List (List ℕ × Json)) (e : List ℕ × Json) → entries_own es ≡ true → is_unique e.1 ≡ true → entries_own (es ++ e ∷ []) ≡ true
+member_unique [] e h k = unique_end (is_unique e.1) true k refl
+member_unique (d ∷ es) e h k =
+    unique_end (is_unique d.1) (entries_own (es ++ e ∷ [])) (unique_first (is_unique d.1) (entries_own es) h) (member_unique es e (unique_rest (is_unique d.1) (entries_own es) h) k)
 
 pub member_low : (es : List (List ℕ × Json)) (e : List ℕ × Json) (n : ℕ) → members_depth (members_value es) ≤ n → depth (value_of e.1) ≤ n
     → members_depth (members_value (es ++ e ∷ [])) ≤ n

@@ -36,12 +36,12 @@ pub told_of : {O E : Type 0} (r : Result (Option O) E) (R : O → Value → Valu
     → IfOk r (λ o. MatchOption o (AbsentAt d p e) (λ x. ReplacedAt (R x) d p e)) → IfOk r (λ o. MatchOption o (AbsentAt d2 p2 e2) (λ x. ReplacedAt (R x) d2 p2 e2))
 told_of r R d d2 e e2 p p2 h k l done = rw (h, k, l) done
 
-pub list_told : {O E : Type 0} (r : Result (Option O) E) (R : O → Value → Value → Type 0) (ds es : Items) (i : ℕ) (p : List PlainStep) (c c2 : Value)
+pub list_view : {O E : Type 0} (r : Result (Option O) E) (R : O → Value → Value → Type 0) (ds es : Items) (i : ℕ) (p : List PlainStep) (c c2 : Value)
     → Some c ≡ item_at i ds → es ≡ set_item i ds c2
     → IfOk r (λ o. MatchOption o (AbsentAt c p c2) (λ x. ReplacedAt (R x) c p c2))
     → IfOk r (λ o. MatchOption o (AbsentAt (list ds) (index i ∷ p) (list es)) (λ x. ReplacedAt (R x) (list ds) (index i ∷ p) (list es)))
-list_told (Ok o) R ds es i p c c2 found set h = list_step o R (list ds) (list es) ds es i p (index i ∷ p) c c2 refl refl refl found set h
-list_told (Err e) R ds es i p c c2 found set h = tt
+list_view (Ok o) R ds es i p c c2 found set h = list_step o R (list ds) (list es) ds es i p (index i ∷ p) c c2 refl refl refl found set h
+list_view (Err e) R ds es i p c c2 found set h = tt
 
 pub set_again : (i : ℕ) (ds : Items) (u v : Value) → set_item i (set_item i ds u) v ≡ set_item i ds v
 set_again i no_items u v = refl
@@ -52,6 +52,6 @@ set_again (suc i) (item d ds) u v = ap (item d) (set_again i ds u v)
 pub put_same : (i : ℕ) (ds : Items) (c : Value) → Some c ≡ item_at i ds → set_item i (set_item i ds null) c ≡ ds
 put_same i ds c h = set_again i ds null c ∙ set_item_same i ds c h
 
-pub not_own : (a b : Bool) → (a ≡ true → b ≡ true) → b ≡ false → a ≡ false
-not_own true b h e = absurd (true≢false (sym (h refl) ∙ e))
-not_own false b h e = refl
+pub not_unique : (a b : Bool) → (a ≡ true → b ≡ true) → b ≡ false → a ≡ false
+not_unique true b h e = absurd (true≢false (sym (h refl) ∙ e))
+not_unique false b h e = refl

@@ -35,13 +35,13 @@ map_once : {X Y : Type 0} (f : X → Y) (xs : List X) → map (λ d. d) (map f x
 map_once f [] = refl
 map_once f (x ∷ xs) = ap (λ l. f x ∷ l) (map_once f xs)
 
-blocks_once : {X Y : Type 0} (f : X → Y) (g : Chunk X → Chunk Y) (bs : List (Chunk X))
+chunks_once : {X Y : Type 0} (f : X → Y) (g : Chunk X → Chunk Y) (bs : List (Chunk X))
     → ((v : Vec X Global) → map (λ d. d) (items_of (g (Unique v))) ≡ map f v.items)
     → ((a : Arc (Vec X Global) Global) → map (λ d. d) (items_of (g (Shared a))) ≡ map f a.value.items)
     → flatten_models (λ d. d) (map g bs) ≡ flatten_models f bs
-blocks_once f g [] h k = refl
-blocks_once f g (Unique v ∷ bs) h k = ap (λ l. l ++ flatten_models (λ d. d) (map g bs)) (h v) ∙ ap (λ l. map f v.items ++ l) (blocks_once f g bs h k)
-blocks_once f g (Shared a ∷ bs) h k = ap (λ l. l ++ flatten_models (λ d. d) (map g bs)) (k a) ∙ ap (λ l. map f a.value.items ++ l) (blocks_once f g bs h k)
+chunks_once f g [] h k = refl
+chunks_once f g (Unique v ∷ bs) h k = ap (λ l. l ++ flatten_models (λ d. d) (map g bs)) (h v) ∙ ap (λ l. map f v.items ++ l) (chunks_once f g bs h k)
+chunks_once f g (Shared a ∷ bs) h k = ap (λ l. l ++ flatten_models (λ d. d) (map g bs)) (k a) ∙ ap (λ l. map f a.value.items ++ l) (chunks_once f g bs h k)
 
 groups_once : {X Y : Type 0} (f : X → Y) (g : ChunkGroup X → ChunkGroup Y) (gs : List (ChunkGroup X))
     → ((x : ChunkGroup X) → group_models (λ d. d) (g x) ≡ group_models f x) → flatten_group_models (λ d. d) (map g gs) ≡ flatten_group_models f gs
@@ -50,20 +50,20 @@ groups_once f g (x ∷ gs) h = ap (λ l. l ++ flatten_group_models (λ d. d) (ma
 
 group_once : {X Y : Type 0} (f : X → Y) (n : ℕ) (bs : Chunk (Chunk X)) (e : n ≡ length (flat_map items_of (items_of bs)))
     → group_models (λ d. d) ((the_former this).map X Y f (record { count = n; chunks = bs; count_is_sum = e })) ≡ flatten_models f (items_of bs)
-group_once f n (Unique v) e = blocks_once f _ v.items (λ w. map_once f w.items) (λ w. map_once f w.value.items)
-group_once f n (Shared a) e = blocks_once f _ a.value.items (λ w. map_once f w.items) (λ w. map_once f w.value.items)
+group_once f n (Unique v) e = chunks_once f _ v.items (λ w. map_once f w.items) (λ w. map_once f w.value.items)
+group_once f n (Shared a) e = chunks_once f _ a.value.items (λ w. map_once f w.items) (λ w. map_once f w.value.items)
 
-form_once : {X Y : Type 0} (f : X → Y) (w : Repr X)
+repr_once : {X Y : Type 0} (f : X → Y) (w : Repr X)
     → vec_models (λ d. d) ((json.TheShapes.former-Json-List-0).map X Y f (record { repr = w })) ≡ repr_models f w
-form_once f (Flat (Unique v)) = map_once f v.items
-form_once f (Flat (Shared a)) = map_once f a.value.items
-form_once f (Chunks (Unique v)) = blocks_once f _ v.items (λ w. map_once f w.items) (λ w. map_once f w.value.items)
-form_once f (Chunks (Shared a)) = blocks_once f _ a.value.items (λ w. map_once f w.items) (λ w. map_once f w.value.items)
-form_once f (Groups (Unique v)) = groups_once f _ v.items (λ g. group_once f g.count g.chunks g.count_is_sum)
-form_once f (Groups (Shared a)) = groups_once f _ a.value.items (λ g. group_once f g.count g.chunks g.count_is_sum)
+repr_once f (Flat (Unique v)) = map_once f v.items
+repr_once f (Flat (Shared a)) = map_once f a.value.items
+repr_once f (Chunks (Unique v)) = chunks_once f _ v.items (λ w. map_once f w.items) (λ w. map_once f w.value.items)
+repr_once f (Chunks (Shared a)) = chunks_once f _ a.value.items (λ w. map_once f w.items) (λ w. map_once f w.value.items)
+repr_once f (Groups (Unique v)) = groups_once f _ v.items (λ g. group_once f g.count g.chunks g.count_is_sum)
+repr_once f (Groups (Shared a)) = groups_once f _ a.value.items (λ g. group_once f g.count g.chunks g.count_is_sum)
 
 pub former_seen : {X Y : Type 0} (f : X → Y) (l : ChunkedVec X) → vec_models (λ d. d) ((json.TheShapes.former-Json-List-0).map X Y f l) ≡ vec_models f l
-former_seen f l = form_once f l.repr
+former_seen f l = repr_once f l.repr
 
 pub seen_null : value_of json.Null ≡ null
 seen_null = search (rules, the_lemmas)

@@ -79,8 +79,8 @@ first_fits bs cs b e =
     let all = weights_join (items_of b) (flat_map items_of cs) in
     omega (arith, s, all)
 
-pub blocks_below : (bs cs : List (Chunk Json)) (b : Chunk Json) (n : ℕ) → bs ≡ b ∷ cs → term_weights (flat_map items_of bs) ≤ n → term_weights (flat_map items_of cs) ≤ n
-blocks_below bs cs b n e h =
+pub chunks_below : (bs cs : List (Chunk Json)) (b : Chunk Json) (n : ℕ) → bs ≡ b ∷ cs → term_weights (flat_map items_of bs) ≤ n → term_weights (flat_map items_of cs) ≤ n
+chunks_below bs cs b n e h =
     let s : term_weights (flat_map items_of bs) ≡ term_weights (items_of b ++ flat_map items_of cs) = ap (λ l. term_weights (flat_map items_of l)) e in
     let all = weights_join (items_of b) (flat_map items_of cs) in
     omega (arith, s, all, h)

@@ -56,10 +56,10 @@ array_written (Ok x) v l old mid new is first_is_least h =
     let rest : List Token = array_tail_tokens (data_of_items (list_value l)) in
     h ∙ ap (λ ts. ts ++ rest) first_is_least ∙ append_assoc old (begin_array ∷ []) rest ∙ ap (λ d. old ++ data_tokens (data_of_value d)) (sym (is_list v l is))
 
-pub array_front : {A E : Type 0} (r : Result A E) (v : Json) (l : ChunkedVec Json) (old mid new : List Token) → v ≡ json.List l → mid ≡ old ++ begin_array ∷ []
+pub array_prefix : {A E : Type 0} (r : Result A E) (v : Json) (l : ChunkedVec Json) (old mid new : List Token) → v ≡ json.List l → mid ≡ old ++ begin_array ∷ []
     → OnErr r (WritesFront mid new (array_tail_tokens (data_of_items (list_value l)))) → OnErr r (WritesFront old new (data_tokens (data_of_value (value_of v))))
-array_front (Ok x) v l old mid new is first_is_least h = tt
-array_front (Err e) v l old mid new is first_is_least h =
+array_prefix (Ok x) v l old mid new is first_is_least h = tt
+array_prefix (Err e) v l old mid new is first_is_least h =
     writes_prefix_after old mid new (begin_array ∷ []) (array_tail_tokens (data_of_items (list_value l))) (data_tokens (data_of_value (value_of v))) first_is_least
     (ap (λ d. data_tokens (data_of_value d)) (is_list v l is)) h
 
@@ -70,9 +70,9 @@ object_written (Ok x) v o old mid new is first_is_least h =
     let rest : List Token = object_tail_tokens (data_of_members (object_value o)) in
     h ∙ ap (λ ts. ts ++ rest) first_is_least ∙ append_assoc old (begin_object ∷ []) rest ∙ ap (λ d. old ++ data_tokens (data_of_value d)) (sym (is_object v o is))
 
-pub object_front : {A E : Type 0} (r : Result A E) (v : Json) (o : SortedMap Json) (old mid new : List Token) → v ≡ json.Object o → mid ≡ old ++ begin_object ∷ []
+pub object_prefix : {A E : Type 0} (r : Result A E) (v : Json) (o : SortedMap Json) (old mid new : List Token) → v ≡ json.Object o → mid ≡ old ++ begin_object ∷ []
     → OnErr r (WritesFront mid new (object_tail_tokens (data_of_members (object_value o)))) → OnErr r (WritesFront old new (data_tokens (data_of_value (value_of v))))
-object_front (Ok x) v o old mid new is first_is_least h = tt
-object_front (Err e) v o old mid new is first_is_least h =
+object_prefix (Ok x) v o old mid new is first_is_least h = tt
+object_prefix (Err e) v o old mid new is first_is_least h =
     writes_prefix_after old mid new (begin_object ∷ []) (object_tail_tokens (data_of_members (object_value o))) (data_tokens (data_of_value (value_of v))) first_is_least
     (ap (λ d. data_tokens (data_of_value d)) (is_object v o is)) h

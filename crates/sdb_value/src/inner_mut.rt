@@ -13,7 +13,7 @@ use sdb_rope::Rope;
 
 /// Borrows the text, or returns `None` for another kind of value. A change through the borrow
 /// changes the value.
-#[tactic(auto, using(crate::proofs::UniquenessLemmas::owned_text))]
+#[tactic(auto, using(crate::proofs::UniquenessLemmas::unique_text))]
 pub fn text_mut(value: &mut Json) -> Option<&mut Rope>
     ensures* writes_back { sem 𝓛 (LendsSo json_row text_row value.entry result
         (λ n w. OnSome result ((value_of n ≡ text (rope_bytes w)) × (is_unique n ≡ is_unique_rope w)))
@@ -30,7 +30,7 @@ pub fn text_mut(value: &mut Json) -> Option<&mut Rope>
 
 /// Borrows the list, or returns `None` for another kind of value. A change through the borrow
 /// changes the value.
-#[tactic(auto, using(crate::proofs::ViewLemmas::seen_list, crate::proofs::UniquenessLemmas::owned_list))]
+#[tactic(auto, using(crate::proofs::ViewLemmas::seen_list, crate::proofs::UniquenessLemmas::unique_list))]
 pub fn list_mut(value: &mut Json) -> Option<&mut List>
     ensures* writes_back { sem 𝓛 (LendsSo json_row list_row value.entry result
         (λ n w. OnSome result ((value_of n ≡ list (list_value w)) × (is_unique n ≡ list_unique w)))
@@ -47,7 +47,7 @@ pub fn list_mut(value: &mut Json) -> Option<&mut List>
 
 /// Borrows the object, or returns `None` for another kind of value. A change through the borrow
 /// changes the value.
-#[tactic(auto, using(crate::proofs::ViewLemmas::seen_object, crate::proofs::UniquenessLemmas::owned_object))]
+#[tactic(auto, using(crate::proofs::ViewLemmas::seen_object, crate::proofs::UniquenessLemmas::unique_object))]
 pub fn object_mut(value: &mut Json) -> Option<&mut Members>
     ensures* writes_back { sem 𝓛 (LendsSo json_row members_row value.entry result
         (λ n w. OnSome result ((value_of n ≡ object (object_value w)) × (is_unique n ≡ object_unique w)))

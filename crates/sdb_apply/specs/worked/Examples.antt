@@ -32,8 +32,8 @@ row_na = refl
 pub row_na_down : apply_one (here (na (negsuc 6))) (int 5) ≡ Some (whole (negsuc 1))
 row_na_down = refl
 
-pub row_na_past : apply_one (here (na (pos 1))) (int 9007199254740991) ≡ None
-row_na_past = refl
+pub row_na_after : apply_one (here (na (pos 1))) (int 9007199254740991) ≡ None
+row_na_after = refl
 
 pub row_na_of_text : apply_one (here (na (pos 1))) smile ≡ None
 row_na_of_text = refl
@@ -58,20 +58,20 @@ pub row_li : apply_one (here (li 2 (int 3))) (list one_two)
     ≡ Some (list (item (int 1) (item (int 2) (item (int 3) no_items))))
 row_li = refl
 
-pub row_li_past : apply_one (here (li 3 (int 3))) (list one_two) ≡ None
-row_li_past = refl
+pub row_li_after : apply_one (here (li 3 (int 3))) (list one_two) ≡ None
+row_li_after = refl
 
 pub row_ld_uncompared : apply_one (here (ld 0 (int 99))) (list one_two) ≡ Some (list (item (int 2) no_items))
 row_ld_uncompared = refl
 
-pub row_ld_past : apply_one (here (ld 2 (int 2))) (list one_two) ≡ None
-row_ld_past = refl
+pub row_ld_after : apply_one (here (ld 2 (int 2))) (list one_two) ≡ None
+row_ld_after = refl
 
 pub row_lr : apply_one (here (lr 1 (int 9) smile)) (list one_two) ≡ Some (list (item (int 1) (item smile no_items)))
 row_lr = refl
 
-pub row_lr_past : apply_one (here (lr 2 (int 9) smile)) (list one_two) ≡ None
-row_lr_past = refl
+pub row_lr_after : apply_one (here (lr 2 (int 9) smile)) (list one_two) ≡ None
+row_lr_after = refl
 
 -- ---- objects
 

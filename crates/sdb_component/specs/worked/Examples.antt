@@ -35,9 +35,9 @@ pub row_move : op_in (codes "[{\"p\":[0],\"lm\":1}]") ≡ None
 unfolding serde_json_on_literals
 row_move = refl
 
-pub row_move_beside : op_in (codes "[{\"p\":[0],\"li\":1,\"lm\":1}]") ≡ None
+pub row_move_disjoint : op_in (codes "[{\"p\":[0],\"li\":1,\"lm\":1}]") ≡ None
 unfolding serde_json_on_literals
-row_move_beside = refl
+row_move_disjoint = refl
 
 pub row_mixed : op_in (codes "[{\"p\":[\"k\"],\"oi\":1,\"li\":2}]") ≡ None
 unfolding serde_json_on_literals

@@ -142,10 +142,10 @@ module _ {A : Type 0} (none : A) where
   value_at_remove_other (e ∷ es) k q apart =
       value_at_remove_cond (keys_equal k (plain_key e.0)) e es _ k q refl apart (value_at_remove_other es k q apart)
 
-  updated_of_gone_cond : (b : Bool) (f g : PlainKey → A) (k q : PlainKey) → keys_equal k q ≡ b → f k ≡ none → (b ≡ false → f q ≡ g q)
+  updated_of_removed_cond : (b : Bool) (f g : PlainKey → A) (k q : PlainKey) → keys_equal k q ≡ b → f k ≡ none → (b ≡ false → f q ≡ g q)
       → f q ≡ cond b none (g q)
-  updated_of_gone_cond true f g k q is gone h = ap f (sym (eq_of_keys_equal k q is)) ∙ gone
-  updated_of_gone_cond false f g k q is gone h = h refl
+  updated_of_removed_cond true f g k q is gone h = ap f (sym (eq_of_keys_equal k q is)) ∙ gone
+  updated_of_removed_cond false f g k q is gone h = h refl
 
   -- after a removal of the only entry of k
   pub updated_of_remove : (es ns : List (Key × A)) (s : Key)
@@ -153,7 +153,7 @@ module _ {A : Type 0} (none : A) where
       → lookup (is_at (λ x. compare_keys (plain_key s) (plain_key x))) ns ≡ None
       → value_at_key none ns ≡ with_value_at_key (value_at_key none es) (plain_key s) none
   updated_of_remove es ns s e gone =
-      λ i q. updated_of_gone_cond (keys_equal (plain_key s) q) (value_at_key none ns) (value_at_key none es) (plain_key s) q refl
+      λ i q. updated_of_removed_cond (keys_equal (plain_key s) q) (value_at_key none ns) (value_at_key none es) (plain_key s) q refl
       (ap (λ o. unwrap_or o none) gone) (λ n. ap (λ l. value_at_key none l q) e ∙ value_at_remove_other es (plain_key s) q n) i
 
   pub value_at_lookup_some : (es : List (Key × A)) (s : Key) (old : A)

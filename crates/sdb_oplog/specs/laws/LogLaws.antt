@@ -346,12 +346,12 @@ never_over_all [] m h = cc
 never_over_all (e ∷ es) m h =
     never_then (over m e.content) (λ k. rebase k es) (never_over m e.content) (λ k. never_over_all es k) h
 
-never_becomes : (m : PlainContent) (d : Option Value) → IsNotOutOfMemory (apply_content m d)
-never_becomes (create v) None h = cc
-never_becomes (create v) (Some d) h = cc
-never_becomes delete d h = cc
-never_becomes (edit op) None h = cc
-never_becomes (edit op) (Some d) h =
+never_changes : (m : PlainContent) (d : Option Value) → IsNotOutOfMemory (apply_content m d)
+never_changes (create v) None h = cc
+never_changes (create v) (Some d) h = cc
+never_changes delete d h = cc
+never_changes (edit op) None h = cc
+never_changes (edit op) (Some d) h =
     never_then (apply_op op d) (λ e. Ok (Some e)) (never_edit (apply op d) (λ e. e)) (λ e k. cc) h
 
 never_cond : {A : Type 0} (a b : Bool) (r : Result A Code) → IsNotOutOfMemory r → IsNotOutOfMemory (cond a (Err E11) (cond b (Err E4) r))
@@ -365,7 +365,7 @@ never_settled log s =
     (result_and_then (λ m. result_and_then (λ d. Ok m) (apply_content m (document_of log))) (rebase s.content (missed_entries log s)))
     (never_then (rebase s.content (missed_entries log s)) (λ m. result_and_then (λ d. Ok m) (apply_content m (document_of log)))
     (never_over_all (missed_entries log s) s.content)
-    (λ m. never_then (apply_content m (document_of log)) (λ d. Ok m) (never_becomes m (document_of log)) (λ d k. cc)))
+    (λ m. never_then (apply_content m (document_of log)) (λ d. Ok m) (never_changes m (document_of log)) (λ d k. cc)))
 
 never_stored : (log : List PlainEntry) (s : PlainSubmission) (now : ℕ) (r : Result PlainContent Code) → IsNotOutOfMemory r
     → (append_decided log s now r).reply ≡ refused E10 → ⊥
@@ -434,4 +434,4 @@ pub rebase_not_out_of_memory : (m : PlainContent) (es : List PlainEntry) → reb
 rebase_not_out_of_memory m es h = never_over_all es m h
 
 pub apply_content_not_out_of_memory : (m : PlainContent) (d : Option Value) → apply_content m d ≡ Err E10 → ⊥
-apply_content_not_out_of_memory m d h = never_becomes m d h
+apply_content_not_out_of_memory m d h = never_changes m d h

@@ -102,8 +102,8 @@ row_deleted_free = refl
 pub row_stored_takes : decide_allocates [] first ≡ true
 row_stored_takes = refl
 
-pub row_carried_takes : decide_allocates three (from (codes "z") 1 (Some 1) (edit [])) ≡ true
-row_carried_takes = refl
+pub row_rebased_takes : decide_allocates three (from (codes "z") 1 (Some 1) (edit [])) ≡ true
+row_rebased_takes = refl
 
 -- ---- shards
 

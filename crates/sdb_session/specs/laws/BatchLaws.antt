@@ -31,9 +31,9 @@ moved_none log w =
     λ i. record { start = w.start; taken = n i; by = w.by }
 
 -- a read that follows another
-waiting_behind : (log : List PlainEntry) (a b : ℕ) (w : PlainQueue)
+waiting_after : (log : List PlainEntry) (a b : ℕ) (w : PlainQueue)
     → pending_entries log (a + b) w ≡ pending_entries log a w ++ pending_entries log b (advance log a w)
-waiting_behind log a b w =
+waiting_after log a b w =
     let from = w.start + w.taken in
     let rest = drop from log in
     let first = take a rest in
@@ -44,13 +44,13 @@ waiting_behind log a b w =
     ∙ ap (λ n. drop n log) sum in
     take-add a b rest ∙ ap (λ l. first ++ take b l) on
 
-moved_behind : (log : List PlainEntry) (a b : ℕ) (w : PlainQueue) → advance log (a + b) w ≡ advance log b (advance log a w)
-moved_behind log a b w =
+moved_after : (log : List PlainEntry) (a b : ℕ) (w : PlainQueue) → advance log (a + b) w ≡ advance log b (advance log a w)
+moved_after log a b w =
     let x = pending_entries log a w in
     let y = pending_entries log b (advance log a w) in
     let n : w.taken + length (pending_entries log (a + b) w) ≡ w.taken + length x + length y =
     let all = length-append x y in
-    ap (λ l. w.taken + length l) (waiting_behind log a b w) ∙ omega (arith, all) in
+    ap (λ l. w.taken + length l) (waiting_after log a b w) ∙ omega (arith, all) in
     λ i. record { start = w.start; taken = n i; by = w.by }
 
 -- ---- the queues
@@ -72,8 +72,8 @@ with_twice n v w (q ∷ qs) = by_case (nat_eq n q.0) refl (with_twice n v w qs) 
   by_case false is below =
       ap (λ b. cond b ((q.0, v) ∷ replace_queue n w qs) (q ∷ replace_queue n v (replace_queue n w qs))) is ∙ ap (λ l. q ∷ l) below
 
-abbrev given_of : List PlainEntry → ℕ → ℕ → Option PlainQueue → List PlainEntry
-given_of log by max o = unwrap_or (cond (is_queue_of by o) (option_map (pending_entries log max) o) None) []
+abbrev assigned_of : List PlainEntry → ℕ → ℕ → Option PlainQueue → List PlainEntry
+assigned_of log by max o = unwrap_or (cond (is_queue_of by o) (option_map (pending_entries log max) o) None) []
 
 abbrev left_of : List PlainEntry → ℕ → ℕ → ℕ → Queues → Option PlainQueue → Queues
 left_of log by n max qs o =
@@ -86,7 +86,7 @@ taken_none log by n qs = at_queue (queue_at n qs) where
   owned true w = waiting_none log w
   owned false w = refl
 
-  at_queue : (o : Option PlainQueue) → given_of log by 0 o ≡ []
+  at_queue : (o : Option PlainQueue) → assigned_of log by 0 o ≡ []
   at_queue None = refl
   at_queue (Some w) = owned (nat_eq w.by by) w
 
@@ -112,14 +112,14 @@ module _ (log : List PlainEntry) (by n a b : ℕ) (qs : Queues) where
 
   unknown : queue_at n qs ≡ None → Both qs
   unknown e = (
-    ap (given_of log by (a + b)) e ∙ ap (λ o. given_of log by a o ++ given_of log by b o) (sym e),
+    ap (assigned_of log by (a + b)) e ∙ ap (λ o. assigned_of log by a o ++ assigned_of log by b o) (sym e),
     ap (left_of log by n (a + b) qs) e ∙ ap (left_of log by n b qs) (sym e),
   )
 
   others : (w : PlainQueue) → queue_at n qs ≡ Some w → nat_eq w.by by ≡ false → Both qs
   others w e isnt =
-      let none : (max : ℕ) → given_of log by max (queue_at n qs) ≡ [] =
-      λ max. ap (given_of log by max) e ∙ ap (λ c. unwrap_or (cond c (Some (pending_entries log max w)) None) []) isnt in
+      let none : (max : ℕ) → assigned_of log by max (queue_at n qs) ≡ [] =
+      λ max. ap (assigned_of log by max) e ∙ ap (λ c. unwrap_or (cond c (Some (pending_entries log max w)) None) []) isnt in
       let stay : (max : ℕ) → left_of log by n max qs (queue_at n qs) ≡ qs =
       λ max. ap (left_of log by n max qs) e ∙ ap (λ c. cond c (replace_queue n (advance log max w) qs) qs) isnt in (
         none (a + b) ∙ (λ i. sym (none a) i ++ sym (none b) i),
@@ -132,16 +132,16 @@ module _ (log : List PlainEntry) (by n a b : ℕ) (qs : Queues) where
       let rest = replace_queue n x qs in
       let at : queue_at n rest ≡ Some x = queue_at_replaced n x w qs e in
       let given : (max : ℕ) (v : PlainQueue) (l : Queues) → queue_at n l ≡ Some v → nat_eq v.by by ≡ true
-      → given_of log by max (queue_at n l) ≡ pending_entries log max v =
+      → assigned_of log by max (queue_at n l) ≡ pending_entries log max v =
       λ max v l h mine.
-      ap (given_of log by max) h ∙ ap (λ c. unwrap_or (cond c (Some (pending_entries log max v)) None) []) mine in
+      ap (assigned_of log by max) h ∙ ap (λ c. unwrap_or (cond c (Some (pending_entries log max v)) None) []) mine in
       let left : (max : ℕ) (v : PlainQueue) (l : Queues) → queue_at n l ≡ Some v → nat_eq v.by by ≡ true
       → left_of log by n max l (queue_at n l) ≡ replace_queue n (advance log max v) l =
       λ max v l h mine.
       ap (left_of log by n max l) h ∙ ap (λ c. cond c (replace_queue n (advance log max v) l) l) mine in (
-        given (a + b) w qs e is ∙ waiting_behind log a b w
+        given (a + b) w qs e is ∙ waiting_after log a b w
             ∙ (λ i. sym (given a w qs e is) i ++ sym (given b x rest at is) i),
-        left (a + b) w qs e is ∙ ap (λ (v : PlainQueue). replace_queue n v qs) (moved_behind log a b w)
+        left (a + b) w qs e is ∙ ap (λ (v : PlainQueue). replace_queue n v qs) (moved_after log a b w)
             ∙ sym (with_twice n (advance log b x) x qs) ∙ sym (left b x rest at is),
       )
 

@@ -85,15 +85,15 @@ next_number log v q o h =
     next_if (nat_eq q.next 18446744073709551615) log n q w o (started_if (nat_lt (length log) n) log n q o h)
 
 -- a subscribe that is refused leaves the queues unchanged
-open_keeps : (r : Result PlainQueues Code) (log : List PlainEntry) (v : ℕ) (q : PlainQueues) (code : Code)
+open_preserves : (r : Result PlainQueues Code) (log : List PlainEntry) (v : ℕ) (q : PlainQueues) (code : Code)
     → (subscribe_opened log v q r).answer ≡ Err code → (subscribe_opened log v q r).queues ≡ q
-open_keeps (Ok w) log v q code h = cc
-open_keeps (Err c) log v q code h = refl
+open_preserves (Ok w) log v q code h = cc
+open_preserves (Err c) log v q code h = refl
 
-start_keeps : (r : Result ℕ Code) (log : List PlainEntry) (q : PlainQueues) (code : Code)
+start_preserves : (r : Result ℕ Code) (log : List PlainEntry) (q : PlainQueues) (code : Code)
     → (subscribe_from_start log pass_zero q r).answer ≡ Err code → (subscribe_from_start log pass_zero q r).queues ≡ q
-start_keeps (Ok v) log q code h = open_keeps (open_queue pass_zero v q) log v q code h
-start_keeps (Err c) log q code h = refl
+start_preserves (Ok v) log q code h = open_preserves (open_queue pass_zero v q) log v q code h
+start_preserves (Err c) log q code h = refl
 
 abbrev Opens : Machine → PlainKey → Option ℕ → Result PlainSubscribeResult Code → Machine → Type 0
 Opens m b v r n = MachineStep pass_zero m b (subscribe_call v) r n
@@ -114,7 +114,7 @@ opens_err m n b v code (inl h, others, logs) =
     (inl (e, h.2), same_machine m n logs (written m.queues n.queues b (m.queues b) others h.1 ∙ with_queues_same m.queues b))
 opens_err m n b v code (inr h, others, logs) =
     let q = m.queues b in
-    let here : n.queues b ≡ q = h.1 ∙ start_keeps (queue_start (m.logs b) v) (m.logs b) q code (sym h.0) in
+    let here : n.queues b ≡ q = h.1 ∙ start_preserves (queue_start (m.logs b) v) (m.logs b) q code (sym h.0) in
     (inr (sym h.0), same_machine m n logs (written m.queues n.queues b q others here ∙ with_queues_same m.queues b))
 
 came_is : (r : Option (List PlainEntry)) → taken_or_empty (Some r) ≡ Some (unwrap_or r [])
@@ -149,10 +149,10 @@ next_none m q =
     )
 
 -- two consecutive reads equal one of both sizes
-next_behind : (m : Machine) (q : QueueId) (a b : ℕ)
+next_after : (m : Machine) (q : QueueId) (a b : ℕ)
     → (next_entries m q (a + b) ≡ next_entries m q a ++ next_entries (machine_after_take m q a) q b)
     × (machine_after_take m q (a + b) ≡ machine_after_take (machine_after_take m q a) q b)
-next_behind m q a b =
+next_after m q a b =
     let log = m.logs q.base in
     let w = m.queues q.base in
     let x : PlainQueues = record { next = w.next; queues = queues_after_take_by log pass_zero q.id a w.queues } in
@@ -219,7 +219,7 @@ module _ {P : Type 0} (machine : P → Machine) where
   batches_taken x (b ∷ xs) p q (a, (o, (acts, is, more))) =
       let here = takes_some (machine p) (machine o) x b.size a b.entries acts is in
       let below = batches_taken x xs o q more in
-      let both = next_behind (machine p) x b.size (total_size xs) in (
+      let both = next_after (machine p) x b.size (total_size xs) in (
         (λ i. here.0 i ++ (below.0 ∙ ap (λ (z : Machine). next_entries z x (total_size xs)) here.1) i) ∙ sym both.0,
         below.1 ∙ ap (λ (z : Machine). machine_after_take z x (total_size xs)) here.1 ∙ sym both.1,
       )
@@ -276,39 +276,39 @@ module _ {P : Type 0} (machine : P → Machine) where
     pass_same : q ≡ p → machine q ≡ machine p
     pass_same h = ap machine h
 
-    listed_said : (k : PlainKey) (v : ℕ) (r : Result (List PlainEntry) Code)
+    listed_output : (k : PlainKey) (v : ℕ) (r : Result (List PlainEntry) Code)
         → ReadOrOutOfMemory is_nonempty r (operations_from ((machine p).logs (base_key t k)) v) × IsUnchanged (machine p) (machine q) → new ≡ s
         → says (list_answers e (projection_of_key t k) k r) → Finds t e now (fetch k (Some v)) s p says new q
-    listed_said k v r (inl h, (l, z)) is said =
+    listed_output k v r (inl h, (l, z)) is said =
         wants (fetch k (Some v)) h.1 (same_at l z) is
         (subst (λ (x : Result (List PlainEntry) Code). says (list_answers e (projection_of_key t k) k x)) h.0 said)
-    listed_said k v r (inr h, (l, z)) is said = replies (fetch k (Some v)) r h (same_at l z) is said
+    listed_output k v r (inr h, (l, z)) is said = replies (fetch k (Some v)) r h (same_at l z) is said
 
-    fetch_said : (k : PlainKey) (v : Option ℕ) (r : ReadResult v) → FetchCalls (MachineActs (base_key t k)) v p r q → new ≡ s
+    fetch_output : (k : PlainKey) (v : Option ℕ) (r : ReadResult v) → FetchCalls (MachineActs (base_key t k)) v p r q → new ≡ s
         → says (read_answers e (projection_of_key t k) k v r) → Finds t e now (fetch k v) s p says new q
-    fetch_said k None r (inl h, (l, z)) is said =
+    fetch_output k None r (inl h, (l, z)) is said =
         wants (fetch k None) h.1 (same_at l z) is
         (subst (λ (x : Result PlainFetchResult Code). says (fetch_answers e (projection_of_key t k) k x)) h.0 said)
-    fetch_said k None r (inr h, (l, z)) is said = replies (fetch k None) r h (same_at l z) is said
-    fetch_said k (Some v) r h is said = listed_said k v r (lists_all_is_operations machine pass_zero (base_key t k) v p q r h) is said
+    fetch_output k None r (inr h, (l, z)) is said = replies (fetch k None) r h (same_at l z) is said
+    fetch_output k (Some v) r h is said = listed_output k v r (lists_all_is_operations machine pass_zero (base_key t k) v p q r h) is said
 
-    snapshot_said : (k : PlainKey) (v : Option ℕ) (n : ℕ) (r : Result PlainFetchResult Code)
+    snapshot_output : (k : PlainKey) (v : Option ℕ) (n : ℕ) (r : Result PlainFetchResult Code)
         → MachineStep pass_zero (machine p) (base_key t k) (snapshot_call v) r (machine q) → new ≡ s
         → says (snapshot_answers e (projection_of_key t k) n r)
         → Finds t e now (snapshot k v n) s p says new q
-    snapshot_said k v n r (inl h, (l, z)) is said =
+    snapshot_output k v n r (inl h, (l, z)) is said =
         wants (snapshot k v n) h.1 (same_at l z) is
         (subst (λ (x : Result PlainFetchResult Code). says (snapshot_answers e (projection_of_key t k) n x)) h.0 said)
-    snapshot_said k v n r (inr h, (l, z)) is said = replies (snapshot k v n) r h (same_at l z) is said
+    snapshot_output k v n r (inr h, (l, z)) is said = replies (snapshot k v n) r h (same_at l z) is said
 
-    at_time_said : (k : PlainKey) (m : Option ℕ) (n : ℕ) (r : Result PlainFetchResult Code)
+    at_time_output : (k : PlainKey) (m : Option ℕ) (n : ℕ) (r : Result PlainFetchResult Code)
         → MachineStep pass_zero (machine p) (base_key t k) (at_time_call m) r (machine q) → new ≡ s
         → says (moment_answers e (projection_of_key t k) n r)
         → Finds t e now (snapshot_at_time k m n) s p says new q
-    at_time_said k m n r (inl h, (l, z)) is said =
+    at_time_output k m n r (inl h, (l, z)) is said =
         wants (snapshot_at_time k m n) h.1 (same_at l z) is
         (subst (λ (x : Result PlainFetchResult Code). says (moment_answers e (projection_of_key t k) n x)) h.0 said)
-    at_time_said k m n r (inr h, (l, z)) is said = replies (snapshot_at_time k m n) r h (same_at l z) is said
+    at_time_output k m n r (inr h, (l, z)) is said = replies (snapshot_at_time k m n) r h (same_at l z) is said
 
     -- ---- submissions
 
@@ -340,19 +340,19 @@ module _ {P : Type 0} (machine : P → Machine) where
         (subst (λ x. says (submit_answers e (projection_of_key t k) k (unwrap_or src s.source) n x)) h.0 said)
     submit_by k v n src c r (inr h) is said = replies (submit k v n src c) r h.0 h.1 is said
 
-    submit_said : (k : PlainKey) (v : Option ℕ) (n : ℕ) (src : Option (List ℕ)) (c : PlainContent) (r : PlainReply)
+    submit_output : (k : PlainKey) (v : Option ℕ) (n : ℕ) (src : Option (List ℕ)) (c : PlainContent) (r : PlainReply)
         → SubmitCalls (MachineActs (base_key t k)) (is_permitted (projection_of_key t k) c) (sent k v n src c) now p r q → new ≡ s
         → says (submit_answers e (projection_of_key t k) k (unwrap_or src s.source) n r)
         → Finds t e now (submit k v n src c) s p says new q
-    submit_said k v n src c r h is said =
+    submit_output k v n src c r h is said =
         submit_by k v n src c r (decides (is_permitted (projection_of_key t k) c) (base_key t k) (sent k v n src c) r h) is said
 
     -- ---- closed queues
 
-    unsubscribe_said : (k : PlainKey) (r : Unit {0}) → machine q ≡ machine_after_close (queue_of k s.subs) (machine p)
+    unsubscribe_output : (k : PlainKey) (r : Unit {0}) → machine q ≡ machine_after_close (queue_of k s.subs) (machine p)
         → new ≡ (response_of e t s (unsubscribe k) r).session → says (response_of e t s (unsubscribe k) r).answers
         → Finds t e now (unsubscribe k) s p says new q
-    unsubscribe_said k r after is said = replies (unsubscribe k) r refl after is said
+    unsubscribe_output k r after is said = replies (unsubscribe k) r refl after is said
 
     -- ---- opened queues
 
@@ -372,18 +372,18 @@ module _ {P : Type 0} (machine : P → Machine) where
         ⊎ (((r ≡ Err E10) × (machine q ≡ machine p) × (opens_if b k v ≡ true))
         ⊎ ((r ≡ Err E10) × (machine q ≡ machine_after_failed_open (machine p) (base_key t k) v) × (opens_if b k v ≡ true)))
 
-    joined_says : (b : Bool) (k : PlainKey) (v : Option ℕ) (r : Result PlainSubscribeReply Code) → is_subscription_full k s.subs ≡ b
+    joined_output : (b : Bool) (k : PlainKey) (v : Option ℕ) (r : Result PlainSubscribeReply Code) → is_subscription_full k s.subs ≡ b
         → Joined b k v r → new ≡ (subscribe_response e t s k v r).session → says (subscribe_response e t s k v r).answers
         → Finds t e now (subscribe k v) s p says new q
-    joined_says b k v r full (inl h) is said =
+    joined_output b k v r full (inl h) is said =
         let D : Bool → Type 0 = λ x. Due x k v r in
         let d = subst D (sym full) h in
         replies (subscribe k v) r d.0 d.1 is said
-    joined_says b k v r full (inr (inl h)) is said =
+    joined_output b k v r full (inr (inl h)) is said =
         wants (subscribe k v) (subst (λ x. opens_if x k v ≡ true) (sym full) h.2) h.1
         (is ∙ ap (λ (x : Result PlainSubscribeReply Code). (subscribe_response e t s k v x).session) h.0)
         (subst (λ (x : Result PlainSubscribeReply Code). says (subscribe_response e t s k v x).answers) h.0 said)
-    joined_says b k v r full (inr (inr h)) is said =
+    joined_output b k v r full (inr (inr h)) is said =
         lates k v (subst (λ x. opens_if x k v ≡ true) (sym full) h.2) h.1
         (is ∙ ap (λ (x : Result PlainSubscribeReply Code). (subscribe_response e t s k v x).session) h.0)
         (subst (λ (x : Result PlainSubscribeReply Code). says (subscribe_response e t s k v x).answers) h.0 said)
@@ -467,28 +467,28 @@ module _ {P : Type 0} (machine : P → Machine) where
 
     -- ---- all messages
 
-    request_said : (r : PlainRequest) (reply : RequestResult r) → RequestCalls MachineActs t 0 now s r p reply q
+    request_output : (r : PlainRequest) (reply : RequestResult r) → RequestCalls MachineActs t 0 now s r p reply q
         → new ≡ (response_of e t s r reply).session → says (response_of e t s r reply).answers → Finds t e now r s p says new q
-    request_said (hello n) r h is said = replies (hello n) r refl (pass_same h) is said
-    request_said (fetch k v) r h is said = fetch_said k v r h is said
-    request_said (submit k v n src c) r h is said = submit_said k v n src c r h is said
-    request_said (snapshot k v n) r h is said = snapshot_said k v n r h is said
-    request_said (snapshot_at_time k m n) r h is said = at_time_said k m n r h is said
-    request_said (subscribe k v) r h is said =
-        joined_says (is_subscription_full k s.subs) k v r refl (subscribes (is_subscription_full k s.subs) k v r h) is said
-    request_said (unsubscribe k) r h is said = unsubscribe_said k r (closes (queue_of k s.subs) p h) is said
+    request_output (hello n) r h is said = replies (hello n) r refl (pass_same h) is said
+    request_output (fetch k v) r h is said = fetch_output k v r h is said
+    request_output (submit k v n src c) r h is said = submit_output k v n src c r h is said
+    request_output (snapshot k v n) r h is said = snapshot_output k v n r h is said
+    request_output (snapshot_at_time k m n) r h is said = at_time_output k m n r h is said
+    request_output (subscribe k v) r h is said =
+        joined_output (is_subscription_full k s.subs) k v r refl (subscribes (is_subscription_full k s.subs) k v r h) is said
+    request_output (unsubscribe k) r h is said = unsubscribe_output k r (closes (queue_of k s.subs) p h) is said
 
-    message_said : (r : Result PlainRequest Code) → MessageOutcome MachineActs e r t 0 now s p says new q
+    message_output : (r : Result PlainRequest Code) → MessageOutcome MachineActs e r t 0 now s p says new q
         → (w : Allocation) × IsTransition (transition_of_message t (state_at p s) now w e r) says new q
-    message_said (Ok r) (reply, (h, is, said)) = request_said r reply h is said
-    message_said (Err code) h = (ok, (h.2, same_state (machine p) (machine q) s new (pass_same h.0) h.1))
+    message_output (Ok r) (reply, (h, is, said)) = request_output r reply h is said
+    message_output (Err code) h = (ok, (h.2, same_state (machine p) (machine q) s new (pass_same h.0) h.1))
 
   -- the answers to one text are the dialogue's
-  pub answers_said : (text : List ℕ) (t : List PlainProjection) (now : ℕ) (s : PlainSession) (p : P)
+  pub answers_output : (text : List ℕ) (t : List PlainProjection) (now : ℕ) (s : PlainSession) (p : P)
       (says : List PlainAnswer → Type 0) (new : PlainSession) (q : P) → TextOutcome MachineActs text t 0 now s p says new q
       → (w : Allocation) × IsTransition (transition_of_line t (state_at p s) now w (Some text)) says new q
-  answers_said text t now s p says new q h =
-      message_said t (parse_message text).echo now s p says new q (parse_message text).request h
+  answers_output text t now s p says new q h =
+      message_output t (parse_message text).echo now s p says new q (parse_message text).request h
 
   -- ---- pumps
 
@@ -507,10 +507,10 @@ module _ {P : Type 0} (machine : P → Machine) where
       )
 
   -- a pump writes the entries that wait
-  pub pumps_said : (t : List PlainProjection) (s : PlainSession) (p : P) (count : ℕ) (says : List PlainAnswer → Type 0)
+  pub pumps_output : (t : List PlainProjection) (s : PlainSession) (p : P) (count : ℕ) (says : List PlainAnswer → Type 0)
       (q : P) → PumpRelation MachineActs 64 t s p count says q
       → IsTransition (pump_transition t (state_at p s)) says s q
-  pumps_said t s p count says q (xs, (subs, takes, is, said)) =
+  pumps_output t s p count says q (xs, (subs, takes, is, said)) =
       let all = takings_are xs p q takes in
       let xs_are : xs ≡ pump_takes s.subs (machine p) = all.0 ∙ ap (λ l. pump_takes l (machine p)) subs in
       let after : machine q ≡ machine_after_pump s.subs (machine p) = all.1 ∙ ap (λ l. machine_after_pump l (machine p)) subs in (

@@ -40,8 +40,8 @@ nine = offer (1 ∷ 2 ∷ 3 ∷ 4 ∷ 5 ∷ 6 ∷ 7 ∷ 8 ∷ 9 ∷ []) []
 pub row_nine : versions nine ≡ 9 ∷ 8 ∷ 7 ∷ 6 ∷ 5 ∷ 4 ∷ 3 ∷ 2 ∷ []
 row_nine = refl
 
-pub row_gone : nearest 1 nine ≡ None
-row_gone = refl
+pub row_removed : nearest 1 nine ≡ None
+row_removed = refl
 
 pub row_second : nearest 2 nine ≡ Some (record { version = 2; value = whole (pos 2) })
 row_second = refl

@@ -96,9 +96,9 @@ pub row_no_json : read_step (codes "work") ≡ Err E1
 unfolding serde_json_on_literals
 row_no_json = refl
 
-pub row_past_sessions : read_step (codes "{\"do\":\"work\",\"s\":64}") ≡ Err E1
+pub row_after_sessions : read_step (codes "{\"do\":\"work\",\"s\":64}") ≡ Err E1
 unfolding serde_json_on_literals
-row_past_sessions = refl
+row_after_sessions = refl
 
 pub row_no_such_step : read_step (codes "{\"do\":\"rest\",\"s\":0}") ≡ Err E1
 unfolding serde_json_on_literals
@@ -116,9 +116,9 @@ pub row_null_moment : read_step (codes "{\"s\":1,\"do\":\"commit\",\"ms\":null}"
 unfolding serde_json_on_literals
 row_null_moment = refl
 
-pub row_past_moments : read_step (codes "{\"s\":1,\"do\":\"commit\",\"ms\":9007199254740992}") ≡ Err E1
+pub row_after_moments : read_step (codes "{\"s\":1,\"do\":\"commit\",\"ms\":9007199254740992}") ≡ Err E1
 unfolding serde_json_on_literals
-row_past_moments = refl
+row_after_moments = refl
 
 pub row_no_src : read_step (codes "{\"s\":0,\"do\":\"begin\",\"c\":\"c\",\"d\":\"d\",\"seq\":1,\"del\":true}") ≡ Err E1
 unfolding serde_json_on_literals

@@ -43,9 +43,9 @@ pub row_left_wins : ConvergenceExample (keyed (int 1)) (component_at [] (or (cod
     (component_at [] (or (codes "k") (int 1) (int 3))) (Some (keyed (int 2)))
 row_left_wins = record { one_way = refl; other_way = refl }
 
-pub row_kept : ConvergenceExample (keyed (int 1)) (component_at [] (od (codes "k") (int 1)))
+pub row_unchanged : ConvergenceExample (keyed (int 1)) (component_at [] (od (codes "k") (int 1)))
     (component_at [] (or (codes "k") (int 1) (int 3))) (Some (keyed (int 3)))
-row_kept = record { one_way = refl; other_way = refl }
+row_unchanged = record { one_way = refl; other_way = refl }
 
 pub row_inside : ConvergenceExample (text (codes "abcdef")) (component_at [] (sd 1 (codes "bcde"))) (component_at [] (si 3 (codes "XYZ")))
     (Some (text (codes "aXYZf")))

@@ -29,8 +29,8 @@ row_at = refl
 pub row_with : with_value_at (nested (truth true)) target (int 5) ≡ nested (int 5)
 row_with = refl
 
-pub row_past_list : value_at (nested null) (key (codes "a") ∷ index 2 ∷ []) ≡ None
-row_past_list = refl
+pub row_after_list : value_at (nested null) (key (codes "a") ∷ index 2 ∷ []) ≡ None
+row_after_list = refl
 
 pub row_no_member : value_at (nested null) (key (codes "b") ∷ []) ≡ None
 row_no_member = refl
@@ -52,8 +52,8 @@ row_insert_between = refl
 pub row_insert_last : insert_item 2 null two ≡ Some (item (int 1) (item (int 2) (item null no_items)))
 row_insert_last = refl
 
-pub row_insert_past : insert_item 3 null two ≡ None
-row_insert_past = refl
+pub row_insert_after : insert_item 3 null two ≡ None
+row_insert_after = refl
 
 pub row_remove_first : remove_item 0 two ≡ Some (item (int 2) no_items)
 row_remove_first = refl
@@ -61,14 +61,14 @@ row_remove_first = refl
 pub row_remove_last : remove_item 1 two ≡ Some (item (int 1) no_items)
 row_remove_last = refl
 
-pub row_remove_past : remove_item 2 two ≡ None
-row_remove_past = refl
+pub row_remove_after : remove_item 2 two ≡ None
+row_remove_after = refl
 
 pub row_replace_first : replace_item 0 null two ≡ Some (item null (item (int 2) no_items))
 row_replace_first = refl
 
-pub row_replace_past : replace_item 2 null two ≡ None
-row_replace_past = refl
+pub row_replace_after : replace_item 2 null two ≡ None
+row_replace_after = refl
 
 -- ---- objects
 
@@ -112,8 +112,8 @@ row_cut_after_pair = refl
 pub row_cut_last : cut_at smile 4 ≡ Some 6
 row_cut_last = refl
 
-pub row_cut_past : cut_at smile 5 ≡ None
-row_cut_past = refl
+pub row_cut_after : cut_at smile 5 ≡ None
+row_cut_after = refl
 
 pub row_insert_text : insert_text 3 (codes "xy") smile ≡ Some (97 ∷ 240 ∷ 159 ∷ 152 ∷ 128 ∷ 120 ∷ 121 ∷ 98 ∷ [])
 row_insert_text = refl

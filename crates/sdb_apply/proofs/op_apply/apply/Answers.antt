@@ -16,8 +16,8 @@ next_is : (s op : List PlainComponent) (i : ℕ) (c : PlainComponent) (d e : Val
 next_is s op i c d e same h is done = rw (← same) (take_append s i c d e h is (rw same done))
 
 -- an operation doesn't apply if a prefix of it doesn't
-front_none : (op : List PlainComponent) (n : ℕ) (d : Value) → apply (take n op) d ≡ None → apply op d ≡ None
-front_none op n d h = ap (λ l. apply l d) (sym (take-append-drop n op)) ∙ none_more (take n op) (drop n op) d h
+prefix_none : (op : List PlainComponent) (n : ℕ) (d : Value) → apply (take n op) d ≡ None → apply op d ≡ None
+prefix_none op n d h = ap (λ l. apply l d) (sym (take-append-drop n op)) ∙ none_more (take n op) (drop n op) d h
 
 pub loop-at-preserved : goal.loop-at-preserved
 loop-at-preserved c = record {
@@ -34,7 +34,7 @@ returns-in-Err-clause-refused c =
     ∙ (subst Says no c.in-Err.ensures.outcome).0
 
 pub returns-in-Err-clause-none : goal.returns-in-Err-clause-none
-returns-in-Err-clause-none c = λ no. front_none c.args.op.now (c.loop-at.at + 1) (value_of c.args.value.now) (returns-in-Err-clause-refused c no)
+returns-in-Err-clause-none c = λ no. prefix_none c.args.op.now (c.loop-at.at + 1) (value_of c.args.value.now) (returns-in-Err-clause-refused c no)
 
 -- the component at index i is the one that allocates
 at_is : (s : List PlainComponent) (i : ℕ) (c : PlainComponent) → i < length s → c ≡ get_or s i c → act_allocates_at i s ≡ act_allocates c.act

@@ -5,7 +5,7 @@ use Rattle.std.proofs.lemmas.Bool.{le-leb}
 use Rattle.sdb_chunks.specs.Chunk.{items_of}
 use Rattle.sdb_chunks.specs.ChunkedVec.{chunk_models, flatten_models}
 use Rattle.sdb_chunks.specs.Position.{IsInsertPosition}
-use Rattle.sdb_chunks.proofs.FlattenLemmas.{joined_insert, joined_same, place_within, own_changed, among_set, put_inside, on_err}
+use Rattle.sdb_chunks.proofs.FlattenLemmas.{joined_insert, joined_same, place_within, unique_changed, among_set, put_inside, on_err}
 use Rattle.sdb_chunks.specs.Chunks.{max_chunk_length, insert_chunk_index, chunk_length_at}
 use Rattle.sdb_chunks.proofs.ChunkBounds.{items_here, longest_set}
 use Rattle.sdb_chunks.proofs.chunk_edit.insert_in_chunk.Goals as goal
@@ -26,7 +26,7 @@ returns-in_err-chunk_insert-in-Some-clause-unique g c =
     let k = c.in-Some.at in
     let d = c.index_mut.result.now in
     let at = subst (λ l. IsInsertPosition (chunk_models f) l c.args.index k c.in-Some.inside) c.deref.ensures.value c.in-Some.ensures.position in
-    own_changed bs k c.chunk_insert.new.chunk d at.index_in_range c.index_mut.ensures.value c.in_err-chunk_insert-in-Some.ensures.unique
+    unique_changed bs k c.chunk_insert.new.chunk d at.index_in_range c.index_mut.ensures.value c.in_err-chunk_insert-in-Some.ensures.unique
 
 pub returns-in_ok-chunk_insert-in-Some-clause-ok : goal.returns-in_ok-chunk_insert-in-Some-clause-ok
 returns-in_ok-chunk_insert-in-Some-clause-ok g c =
@@ -54,7 +54,7 @@ returns-in_ok-chunk_insert-in-Some-clause-unique g c =
     let k = c.in-Some.at in
     let d = c.index_mut.result.now in
     let at = subst (λ l. IsInsertPosition (chunk_models f) l c.args.index k c.in-Some.inside) c.deref.ensures.value c.in-Some.ensures.position in
-    own_changed bs k c.chunk_insert.new.chunk d at.index_in_range c.index_mut.ensures.value c.in_ok-chunk_insert-in-Some.ensures.unique
+    unique_changed bs k c.chunk_insert.new.chunk d at.index_in_range c.index_mut.ensures.value c.in_ok-chunk_insert-in-Some.ensures.unique
 
 pub returns-in_ok-chunk_insert-in-Some-clause-unique_after : goal.returns-in_ok-chunk_insert-in-Some-clause-unique_after
 returns-in_ok-chunk_insert-in-Some-clause-unique_after g c =

@@ -4,7 +4,7 @@ use Rattle.std.proofs.lemmas.List.{map-set}
 use Rattle.sdb_chunks.specs.Chunk.{items_of, is_chunk_unique}
 use Rattle.sdb_chunks.specs.ChunkedVec.{chunk_models, is_unique_at}
 use Rattle.sdb_chunks.specs.Position.{IsItemPosition}
-use Rattle.sdb_chunks.proofs.FlattenLemmas.{joined_get, joined_replace, joined_same, among_here, seen_of_mut, cc_false, if_some, lent_item}
+use Rattle.sdb_chunks.proofs.FlattenLemmas.{joined_get, joined_replace, joined_same, among_here, seen_of_mut, cc_false, if_some, borrowed_item}
 use Rattle.sdb_chunks.proofs.chunk_edit.item_mut.Goals as goal
 
 pub returns-in-Unique : goal.returns-in-Unique
@@ -26,7 +26,7 @@ returns-in-Unique g c =
       ),
       let same = seen_of_mut f c.get_mut-in-Unique.result _ i e.0 e.1
           ∙ rw c.in-Unique.is refl ∙ ap (λ l. slice_get l i) here ∙ joined_get (chunk_models f) bs c.args.index k i d at in
-          record { writes_back = tt; item = lent_item f c.get_mut-in-Unique.result _ same; value = λ _. same },
+          record { writes_back = tt; item = borrowed_item f c.get_mut-in-Unique.result _ same; value = λ _. same },
     )
 
 pub returns-in-Shared : goal.returns-in-Shared

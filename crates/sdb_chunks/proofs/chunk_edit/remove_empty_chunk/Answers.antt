@@ -1,7 +1,7 @@
 use Rattle.std.proofs.Common.{◌≡◌, length, ap, sym, ◌∙◌, arith}
 use Rattle.sdb_chunks.specs.Chunk.{items_of}
 use Rattle.sdb_chunks.specs.ChunkedVec.{flatten_models, all_unique, chunk_models}
-use Rattle.sdb_chunks.proofs.FlattenLemmas.{joined_without, own_remove, map_none}
+use Rattle.sdb_chunks.proofs.FlattenLemmas.{joined_without, unique_remove, map_none}
 use Rattle.sdb_chunks.specs.Chunks.{max_chunk_length}
 use Rattle.sdb_chunks.proofs.ChunkBounds.{longest_remove}
 use Rattle.sdb_chunks.proofs.chunk_edit.remove_empty_chunk.Goals as goal
@@ -15,7 +15,7 @@ returns-then-len-eq0-clause-unchanged g c =
     ∙ joined_without (chunk_models f) c.args.chunks.now.items c.args.at d c.requires (ap (chunk_models f) (sym c.index.ensures) ∙ map_none f (items_of d) none)
 
 pub returns-then-len-eq0-clause-unique : goal.returns-then-len-eq0-clause-unique
-returns-then-len-eq0-clause-unique g c = λ all. ap all_unique c.remove.ensures.items ∙ own_remove c.args.chunks.now.items c.args.at all
+returns-then-len-eq0-clause-unique g c = λ all. ap all_unique c.remove.ensures.items ∙ unique_remove c.args.chunks.now.items c.args.at all
 
 pub returns-then-len-eq0-clause-bound : goal.returns-then-len-eq0-clause-bound
 returns-then-len-eq0-clause-bound g c =

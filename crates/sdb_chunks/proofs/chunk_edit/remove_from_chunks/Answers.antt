@@ -4,8 +4,8 @@ use Rattle.std.specs.List.{remove}
 use Rattle.sdb_chunks.specs.Chunk.{items_of, is_chunk_unique}
 use Rattle.sdb_chunks.specs.ChunkedVec.{chunk_models}
 use Rattle.sdb_chunks.specs.Position.{IsItemPosition}
-use Rattle.sdb_chunks.proofs.FlattenLemmas.{joined_remove, joined_same, joined_get, own_changed, shared_at, among_here, on_err}
-use Rattle.sdb_chunks.proofs.ChunkBounds.{longest_kept}
+use Rattle.sdb_chunks.proofs.FlattenLemmas.{joined_remove, joined_same, joined_get, unique_changed, shared_at, among_here, on_err}
+use Rattle.sdb_chunks.proofs.ChunkBounds.{longest_unchanged}
 use Rattle.sdb_chunks.proofs.chunk_edit.remove_from_chunks.Goals as goal
 
 pub returns-in_err-item-clause-err : goal.returns-in_err-item-clause-err
@@ -24,7 +24,7 @@ returns-in_err-item-clause-unique g c =
     let k = c.in-Some.at in
     let d = c.index_mut.result.now in
     let at = subst (λ l. IsItemPosition (chunk_models f) l c.args.index k c.in-Some.inside) c.deref.ensures.value c.in-Some.ensures.item in
-    own_changed bs k c.chunk_remove.new.chunk d at.index_in_range c.index_mut.ensures.value c.in_err-item.ensures.unique
+    unique_changed bs k c.chunk_remove.new.chunk d at.index_in_range c.index_mut.ensures.value c.in_err-item.ensures.unique
 
 pub returns-in_err-item-clause-shared_on_err : goal.returns-in_err-item-clause-shared_on_err
 returns-in_err-item-clause-shared_on_err g c =
@@ -61,7 +61,7 @@ returns-clause-unique g c =
     let k = c.in-Some.at in
     let d = c.index_mut.result.now in
     let at = subst (λ l. IsItemPosition (chunk_models f) l c.args.index k c.in-Some.inside) c.deref.ensures.value c.in-Some.ensures.item in
-    λ all. c.remove_empty_chunk.ensures.unique (own_changed bs k c.chunk_remove.new.chunk d at.index_in_range c.index_mut.ensures.value c.in_ok-item.ensures.unique all)
+    λ all. c.remove_empty_chunk.ensures.unique (unique_changed bs k c.chunk_remove.new.chunk d at.index_in_range c.index_mut.ensures.value c.in_ok-item.ensures.unique all)
 
 pub returns-in_err-item-clause-shared_there : goal.returns-in_err-item-clause-shared_there
 returns-in_err-item-clause-shared_there g c =
@@ -80,7 +80,7 @@ returns-in_err-item-clause-bound g c =
     let k = c.in-Some.at in
     let d = c.index_mut.result.now in
     let at = subst (λ l. IsItemPosition (chunk_models f) l c.args.index k c.in-Some.inside) c.deref.ensures.value c.in-Some.ensures.item in
-    longest_kept bs k c.chunk_remove.new.chunk d at.index_in_range c.index_mut.ensures.value c.in_err-item.ensures.bound
+    longest_unchanged bs k c.chunk_remove.new.chunk d at.index_in_range c.index_mut.ensures.value c.in_err-item.ensures.bound
 
 pub returns-clause-bound : goal.returns-clause-bound
 returns-clause-bound g c =
@@ -89,5 +89,5 @@ returns-clause-bound g c =
     let k = c.in-Some.at in
     let d = c.index_mut.result.now in
     let at = subst (λ l. IsItemPosition (chunk_models f) l c.args.index k c.in-Some.inside) c.deref.ensures.value c.in-Some.ensures.item in
-    let l = longest_kept bs k c.chunk_remove.new.chunk d at.index_in_range c.index_mut.ensures.value c.in_ok-item.ensures.bound in
+    let l = longest_unchanged bs k c.chunk_remove.new.chunk d at.index_in_range c.index_mut.ensures.value c.in_ok-item.ensures.bound in
     omega (arith, l, c.remove_empty_chunk.ensures.bound)

@@ -3,8 +3,8 @@ use Rattle.std.proofs.Math.ListN.{length-map}
 use Rattle.sdb_chunks.specs.Chunk.{items_of, is_chunk_unique}
 use Rattle.sdb_chunks.specs.ChunkedVec.{chunk_models}
 use Rattle.sdb_chunks.specs.Position.{IsItemPosition}
-use Rattle.sdb_chunks.proofs.FlattenLemmas.{joined_replace, joined_same, joined_get, own_changed, among_here, among_set, on_err, if_some}
-use Rattle.sdb_chunks.proofs.ChunkBounds.{longest_kept}
+use Rattle.sdb_chunks.proofs.FlattenLemmas.{joined_replace, joined_same, joined_get, unique_changed, among_here, among_set, on_err, if_some}
+use Rattle.sdb_chunks.proofs.ChunkBounds.{longest_unchanged}
 use Rattle.sdb_chunks.proofs.chunk_edit.replace_in_chunks.Goals as goal
 
 pub returns-in_err-old-clause-err : goal.returns-in_err-old-clause-err
@@ -23,7 +23,7 @@ returns-in_err-old-clause-unique g c =
     let k = c.in-Some.at in
     let d = c.index_mut.result.now in
     let at = subst (λ l. IsItemPosition (chunk_models f) l c.args.index k c.in-Some.inside) c.deref.ensures.value c.in-Some.ensures.item in
-    own_changed bs k c.chunk_replace.new.chunk d at.index_in_range c.index_mut.ensures.value c.in_err-old.ensures.unique
+    unique_changed bs k c.chunk_replace.new.chunk d at.index_in_range c.index_mut.ensures.value c.in_err-old.ensures.unique
 
 pub returns-in_err-old-clause-shared_on_err : goal.returns-in_err-old-clause-shared_on_err
 returns-in_err-old-clause-shared_on_err g c =
@@ -61,7 +61,7 @@ returns-clause-unique g c =
     let k = c.in-Some.at in
     let d = c.index_mut.result.now in
     let at = subst (λ l. IsItemPosition (chunk_models f) l c.args.index k c.in-Some.inside) c.deref.ensures.value c.in-Some.ensures.item in
-    own_changed bs k c.chunk_replace.new.chunk d at.index_in_range c.index_mut.ensures.value c.in_ok-old.ensures.unique
+    unique_changed bs k c.chunk_replace.new.chunk d at.index_in_range c.index_mut.ensures.value c.in_ok-old.ensures.unique
 
 pub returns-clause-unique_after : goal.returns-clause-unique_after
 returns-clause-unique_after g c =
@@ -83,7 +83,7 @@ returns-in_err-old-clause-bound g c =
     let k = c.in-Some.at in
     let d = c.index_mut.result.now in
     let at = subst (λ l. IsItemPosition (chunk_models f) l c.args.index k c.in-Some.inside) c.deref.ensures.value c.in-Some.ensures.item in
-    longest_kept bs k c.chunk_replace.new.chunk d at.index_in_range c.index_mut.ensures.value c.in_err-old.ensures.bound
+    longest_unchanged bs k c.chunk_replace.new.chunk d at.index_in_range c.index_mut.ensures.value c.in_err-old.ensures.bound
 
 pub returns-clause-bound : goal.returns-clause-bound
 returns-clause-bound g c =
@@ -92,4 +92,4 @@ returns-clause-bound g c =
     let k = c.in-Some.at in
     let d = c.index_mut.result.now in
     let at = subst (λ l. IsItemPosition (chunk_models f) l c.args.index k c.in-Some.inside) c.deref.ensures.value c.in-Some.ensures.item in
-    longest_kept bs k c.chunk_replace.new.chunk d at.index_in_range c.index_mut.ensures.value c.in_ok-old.ensures.bound
+    longest_unchanged bs k c.chunk_replace.new.chunk d at.index_in_range c.index_mut.ensures.value c.in_ok-old.ensures.bound

@@ -3,7 +3,7 @@ use Rattle.std.specs.List.{insert}
 use Rattle.sdb_chunks.specs.Chunk.{items_of}
 use Rattle.sdb_chunks.specs.ChunkedVec.{flatten_models, all_unique, chunk_models}
 use Rattle.sdb_chunks.specs.declared.chunk.Chunk.TheVariants.{Unique}
-use Rattle.sdb_chunks.proofs.FlattenLemmas.{joined_split, joined_spare, own_inserted, own_set, get_before}
+use Rattle.sdb_chunks.proofs.FlattenLemmas.{joined_split, joined_spare, unique_inserted, unique_set, get_before}
 use Rattle.sdb_chunks.specs.Chunks.{max_chunk_length, chunk_length_at}
 use Rattle.sdb_chunks.proofs.ChunkBounds.{same_count, halves_count, items_here, half_at, longest_at, longest_set, longest_insert, longest_halves}
 use Rattle.sdb_chunks.proofs.chunk_edit.split_chunk.Goals as goal
@@ -30,7 +30,7 @@ returns-in_err-high-clause-unique g c =
     let put : c.insert.new.self.items ≡ insert bs (k + 1) e = c.in_ok-insert.ensures.items in
     let is : d ≡ get_or bs k d = c.index_mut.ensures.value ∙ ap (λ l. get_or l k d) put ∙ get_before bs k e d c.requires in
     let a = c.split_off_half.new.chunk in
-    λ all. ap (λ l. all_unique (set l k a)) put ∙ own_inserted bs k a e d c.requires refl is c.in_err-high.ensures.unique all
+    λ all. ap (λ l. all_unique (set l k a)) put ∙ unique_inserted bs k a e d c.requires refl is c.in_err-high.ensures.unique all
 
 pub returns-clause-unchanged : goal.returns-clause-unchanged
 returns-clause-unchanged g c =
@@ -59,7 +59,7 @@ returns-clause-unique g c =
     let a = c.split_off_half.new.chunk in
     let b = c.in_ok-high.high in
     λ all. ap (λ l. all_unique (set (set l k a) (k + 1) b)) put
-    ∙ own_set (set (insert bs (k + 1) e) k a) (k + 1) b c.in_ok-high.ensures.other (own_inserted bs k a e d c.requires refl is c.in_ok-high.ensures.unique all)
+    ∙ unique_set (set (insert bs (k + 1) e) k a) (k + 1) b c.in_ok-high.ensures.other (unique_inserted bs k a e d c.requires refl is c.in_ok-high.ensures.unique all)
 
 pub returns-in_err-high-clause-bound : goal.returns-in_err-high-clause-bound
 returns-in_err-high-clause-bound g c =

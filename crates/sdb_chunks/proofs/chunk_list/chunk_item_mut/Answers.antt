@@ -1,7 +1,7 @@
 use Rattle.std.proofs.Common.{refl, ◌≡◌, map, slice_get, ap, sym, ◌∙◌}
 use Rattle.std.proofs.lemmas.List.{map-set}
 use Rattle.sdb_chunks.specs.Chunk.{items_of}
-use Rattle.sdb_chunks.proofs.FlattenLemmas.{seen_of_mut, if_some, lent_item}
+use Rattle.sdb_chunks.proofs.FlattenLemmas.{seen_of_mut, if_some, borrowed_item}
 use Rattle.sdb_chunks.proofs.chunk_list.chunk_item_mut.Goals as goal
 
 pub returns-in-Unique : goal.returns-in-Unique
@@ -13,5 +13,5 @@ returns-in-Unique g c =
     let e = c.get_mut.ensures.item in (
       (refl, λ w. rw c.in-Unique.is (if_some c.get_mut.result (map-set f xs i w)), rw c.in-Unique.is refl),
       let same = seen_of_mut f c.get_mut.result _ i e.0 e.1 ∙ rw c.in-Unique.is refl ∙ ap (λ l. slice_get l i) here in
-          record { writes_back = tt; item = lent_item f c.get_mut.result _ same; value = λ _. same },
+          record { writes_back = tt; item = borrowed_item f c.get_mut.result _ same; value = λ _. same },
     )

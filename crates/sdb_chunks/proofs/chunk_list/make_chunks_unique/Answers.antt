@@ -1,4 +1,4 @@
-use Rattle.sdb_chunks.proofs.FlattenLemmas.{joined_alike, own_alike, among_alike}
+use Rattle.sdb_chunks.proofs.FlattenLemmas.{joined_alike, unique_alike, among_alike}
 use Rattle.sdb_chunks.proofs.ChunkBounds.{longest_alike}
 use Rattle.sdb_chunks.proofs.chunk_list.make_chunks_unique.Goals as goal
 
@@ -6,13 +6,13 @@ pub returns-in_err-make_unique-clause-same : goal.returns-in_err-make_unique-cla
 returns-in_err-make_unique-clause-same g c = joined_alike g.T.TryClone.model _ _ c.make_unique.ensures.unchanged
 
 pub returns-in_err-make_unique-clause-unchanged : goal.returns-in_err-make_unique-clause-unchanged
-returns-in_err-make_unique-clause-unchanged g c = own_alike g.T.TryClone.model _ _ c.make_unique.ensures.unchanged
+returns-in_err-make_unique-clause-unchanged g c = unique_alike g.T.TryClone.model _ _ c.make_unique.ensures.unchanged
 
 pub returns-clause-same : goal.returns-clause-same
 returns-clause-same g c = joined_alike g.T.TryClone.model _ _ c.make_unique.ensures.unchanged
 
 pub returns-clause-unchanged : goal.returns-clause-unchanged
-returns-clause-unchanged g c = own_alike g.T.TryClone.model _ _ c.make_unique.ensures.unchanged
+returns-clause-unchanged g c = unique_alike g.T.TryClone.model _ _ c.make_unique.ensures.unchanged
 
 pub returns-in_err-make_unique-clause-among : goal.returns-in_err-make_unique-clause-among
 returns-in_err-make_unique-clause-among g c = among_alike g.T.TryClone.model _ _ c.make_unique.ensures.unchanged

@@ -1,7 +1,7 @@
 use Rattle.std.proofs.Common.{refl, ap, ◌∙◌, arith}
 use Rattle.sdb_chunks.specs.ChunkedVec.{all_unique}
 use Rattle.sdb_chunks.specs.declared.chunk.Chunk.TheVariants.{Unique}
-use Rattle.sdb_chunks.proofs.FlattenLemmas.{own_more, own_reverse, cut_off}
+use Rattle.sdb_chunks.proofs.FlattenLemmas.{unique_more, unique_reverse, cut_off}
 use Rattle.sdb_chunks.specs.Chunks.{max_chunk_length}
 use Rattle.sdb_chunks.proofs.ChunkBounds.{longest_push, longest_reverse, cut_short, no_more}
 use Rattle.sdb_chunks.proofs.chunk_split.split_into_chunks.Goals as goal
@@ -13,7 +13,7 @@ loop-left-preserved g c =
     record {
       whole = cut_off xs c.split_off.new.self.items bs c.push.new.self.items (Unique c.in_ok-last.last) _
           c.in_ok-last.ensures.items c.in_ok-last.ensures.tail c.in_ok-push.ensures.items ∙ c.loop-left.invariant.whole;
-      own = ap all_unique c.in_ok-push.ensures.items ∙ own_more bs (Unique c.in_ok-last.last) c.loop-left.invariant.own refl;
+      own = ap all_unique c.in_ok-push.ensures.items ∙ unique_more bs (Unique c.in_ok-last.last) c.loop-left.invariant.own refl;
       short = cut_short bs c.push.new.self.items xs (Unique c.in_ok-last.last) _ c.args.most c.in_ok-push.ensures.items c.in_ok-last.ensures.tail c.loop-left.invariant.short
           (omega (arith, c.len-in-loop-left.ensures, c.loop-left-test.true));
     }
@@ -21,7 +21,7 @@ loop-left-preserved g c =
 pub returns-clause-unique : goal.returns-clause-unique
 returns-clause-unique g c =
     let bs = c.loop-left.chunks.items in
-    ap all_unique c.reverse.ensures.items ∙ own_reverse c.push-2.new.self.items (ap all_unique c.in_ok-push-2.ensures.items ∙ own_more bs _ c.loop-left.invariant.own refl)
+    ap all_unique c.reverse.ensures.items ∙ unique_reverse c.push-2.new.self.items (ap all_unique c.in_ok-push-2.ensures.items ∙ unique_more bs _ c.loop-left.invariant.own refl)
 
 pub returns-clause-bound : goal.returns-clause-bound
 returns-clause-bound g c =

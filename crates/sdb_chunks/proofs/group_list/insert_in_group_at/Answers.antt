@@ -5,7 +5,7 @@ use Rattle.sdb_chunks.specs.ChunkGroup.{group_models, flatten_group_models}
 use Rattle.sdb_chunks.specs.Position.{IsInsertPosition}
 use Rattle.sdb_chunks.proofs.FlattenLemmas.{joined_insert, joined_same, place_within, put_inside, on_err}
 use Rattle.sdb_chunks.proofs.GroupLemmas.{grouped_set}
-use Rattle.sdb_chunks.proofs.ChunkBounds.{grouped_kept}
+use Rattle.sdb_chunks.proofs.ChunkBounds.{grouped_unchanged}
 use Rattle.sdb_chunks.proofs.group_list.insert_in_group_at.Goals as goal
 
 pub returns-in_err-insert-in-Some-clause-err : goal.returns-in_err-insert-in-Some-clause-err
@@ -67,7 +67,7 @@ returns-in_err-insert-in-Some-clause-bound g c =
     let k = c.in-Some.at in
     let d = c.index_mut.result.now in
     let at = subst (λ l. IsInsertPosition s l c.args.index k c.in-Some.inside) c.deref.ensures.value c.in-Some.ensures.position in
-    let l = grouped_kept gs k c.insert.new.self d 20 at.index_in_range c.index_mut.ensures.value (omega (arith, c.in_err-insert-in-Some.ensures.bound)) in
+    let l = grouped_unchanged gs k c.insert.new.self d 20 at.index_in_range c.index_mut.ensures.value (omega (arith, c.in_err-insert-in-Some.ensures.bound)) in
     omega (arith, l)
 
 pub returns-in_ok-insert-in-Some-clause-bound : goal.returns-in_ok-insert-in-Some-clause-bound
@@ -77,5 +77,5 @@ returns-in_ok-insert-in-Some-clause-bound g c =
     let k = c.in-Some.at in
     let d = c.index_mut.result.now in
     let at = subst (λ l. IsInsertPosition s l c.args.index k c.in-Some.inside) c.deref.ensures.value c.in-Some.ensures.position in
-    let l = grouped_kept gs k c.insert.new.self d 20 at.index_in_range c.index_mut.ensures.value (omega (arith, c.in_ok-insert-in-Some.ensures.bound)) in
+    let l = grouped_unchanged gs k c.insert.new.self d 20 at.index_in_range c.index_mut.ensures.value (omega (arith, c.in_ok-insert-in-Some.ensures.bound)) in
     omega (arith, l)

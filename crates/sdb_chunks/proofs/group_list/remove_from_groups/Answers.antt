@@ -4,7 +4,7 @@ use Rattle.sdb_chunks.specs.ChunkGroup.{group_models, is_unique_group_at}
 use Rattle.sdb_chunks.specs.Position.{IsItemPosition}
 use Rattle.sdb_chunks.proofs.FlattenLemmas.{joined_remove, joined_same, joined_get, on_err}
 use Rattle.sdb_chunks.proofs.GroupLemmas.{grouped_here}
-use Rattle.sdb_chunks.proofs.ChunkBounds.{grouped_kept}
+use Rattle.sdb_chunks.proofs.ChunkBounds.{grouped_unchanged}
 use Rattle.sdb_chunks.proofs.group_list.remove_from_groups.Goals as goal
 
 pub returns-in_err-item-clause-err : goal.returns-in_err-item-clause-err
@@ -62,7 +62,7 @@ returns-in_err-item-clause-bound g c =
     let k = c.in-Some.at in
     let d = c.index_mut.result.now in
     let at = subst (λ l. IsItemPosition s l c.args.index k c.in-Some.inside) c.deref.ensures.value c.in-Some.ensures.item in
-    let l = grouped_kept gs k c.remove.new.self d 0 at.index_in_range c.index_mut.ensures.value (omega (arith, c.in_err-item.ensures.bound)) in
+    let l = grouped_unchanged gs k c.remove.new.self d 0 at.index_in_range c.index_mut.ensures.value (omega (arith, c.in_err-item.ensures.bound)) in
     omega (arith, l)
 
 pub returns-clause-bound : goal.returns-clause-bound
@@ -72,5 +72,5 @@ returns-clause-bound g c =
     let k = c.in-Some.at in
     let d = c.index_mut.result.now in
     let at = subst (λ l. IsItemPosition s l c.args.index k c.in-Some.inside) c.deref.ensures.value c.in-Some.ensures.item in
-    let l = grouped_kept gs k c.remove.new.self d 0 at.index_in_range c.index_mut.ensures.value (omega (arith, c.in_ok-item.ensures.bound)) in
+    let l = grouped_unchanged gs k c.remove.new.self d 0 at.index_in_range c.index_mut.ensures.value (omega (arith, c.in_ok-item.ensures.bound)) in
     omega (arith, l, c.remove_empty_group.ensures.bound)

@@ -3,7 +3,7 @@ use Rattle.sdb_chunks.specs.ChunkGroup.{group_models, is_unique_group_at}
 use Rattle.sdb_chunks.specs.Position.{IsItemPosition}
 use Rattle.sdb_chunks.proofs.FlattenLemmas.{joined_replace, joined_same, joined_get, if_some_also, on_err}
 use Rattle.sdb_chunks.proofs.GroupLemmas.{grouped_here, grouped_set}
-use Rattle.sdb_chunks.proofs.ChunkBounds.{grouped_kept}
+use Rattle.sdb_chunks.proofs.ChunkBounds.{grouped_unchanged}
 use Rattle.sdb_chunks.proofs.group_list.replace_in_groups.Goals as goal
 
 pub returns-in_err-old-clause-err : goal.returns-in_err-old-clause-err
@@ -76,7 +76,7 @@ returns-in_err-old-clause-bound g c =
     let k = c.in-Some.at in
     let d = c.index_mut.result.now in
     let at = subst (λ l. IsItemPosition s l c.args.index k c.in-Some.inside) c.deref.ensures.value c.in-Some.ensures.item in
-    let l = grouped_kept gs k c.replace.new.self d 0 at.index_in_range c.index_mut.ensures.value (omega (arith, c.in_err-old.ensures.bound)) in
+    let l = grouped_unchanged gs k c.replace.new.self d 0 at.index_in_range c.index_mut.ensures.value (omega (arith, c.in_err-old.ensures.bound)) in
     omega (arith, l)
 
 pub returns-clause-bound : goal.returns-clause-bound
@@ -86,5 +86,5 @@ returns-clause-bound g c =
     let k = c.in-Some.at in
     let d = c.index_mut.result.now in
     let at = subst (λ l. IsItemPosition s l c.args.index k c.in-Some.inside) c.deref.ensures.value c.in-Some.ensures.item in
-    let l = grouped_kept gs k c.replace.new.self d 0 at.index_in_range c.index_mut.ensures.value (omega (arith, c.in_ok-old.ensures.bound)) in
+    let l = grouped_unchanged gs k c.replace.new.self d 0 at.index_in_range c.index_mut.ensures.value (omega (arith, c.in_ok-old.ensures.bound)) in
     omega (arith, l)

@@ -76,8 +76,8 @@ module _ {g : Former {0}} (w : Weighed g) where
   abbrev pointers_weighed : Weighed (pointers g)
   pointers_weighed = record { weight = λ X μ d. vectors_weighed.weight X μ d.value; puts = λ X μ d. vectors_weighed.puts X μ d.value }
 
-  abbrev pub blocks_weighed : Weighed (chunks g)
-  blocks_weighed = w_via (w_or vectors_weighed pointers_weighed) (λ X. Chunk (g.Of X)) (λ X. split (g.Of X)) (λ X. join (g.Of X)) (λ X. join-split (g.Of X)) (λ X. split-join (g.Of X))
+  abbrev pub chunks_weighed : Weighed (chunks g)
+  chunks_weighed = w_via (w_or vectors_weighed pointers_weighed) (λ X. Chunk (g.Of X)) (λ X. split (g.Of X)) (λ X. join (g.Of X)) (λ X. join-split (g.Of X)) (λ X. split-join (g.Of X))
 
 abbrev vector_of : RattleType → RattleType
 vector_of R = vector.the_row R heap.the_row ghosts
@@ -108,8 +108,8 @@ module _ (R S : RattleType) (h : R.Denot → S.Denot) where
       let v = vector_places a in
       record {
         mir_same = λ i. (arc.the_row (one_value (vector_of R) (v.mir_same i) (λ _. ftrue) (λ _ _. nothing) gnil) heap.the_row ghosts).mir;
-        own_same = λ d i. (arc.the_row (one_value (vector_of R) (v.mir_same i) (v.own_same d.value i) (v.shr_same d.value i) gnil) heap.the_row ghosts).own_val record { ptr = d.ptr; value = tt };
-        shr_same = λ d i. (arc.the_row (one_value (vector_of R) (v.mir_same i) (v.own_same d.value i) (v.shr_same d.value i) gnil) heap.the_row ghosts).shr_at record { ptr = d.ptr; value = tt };
+        unique_same = λ d i. (arc.the_row (one_value (vector_of R) (v.mir_same i) (v.unique_same d.value i) (v.shr_same d.value i) gnil) heap.the_row ghosts).own_val record { ptr = d.ptr; value = tt };
+        shr_same = λ d i. (arc.the_row (one_value (vector_of R) (v.mir_same i) (v.unique_same d.value i) (v.shr_same d.value i) gnil) heap.the_row ghosts).shr_at record { ptr = d.ptr; value = tt };
       }
 
   pointer_codes : Recodes R S h → Recodes (pointer_of R) (pointer_of S) on_pointer
@@ -178,7 +178,7 @@ abbrev pub the_former : Former {0} → Former {0}
 the_former g = via (counted g) (λ X. ChunkGroup (g.Of X)) (λ X d. ((d.count, d.chunks), d.count_is_sum)) (λ X c. record { count = c.0.0; chunks = c.0.1; count_is_sum = c.1 }) (λ X d. refl) (λ X c. refl)
 
 abbrev pub the_weighed : {g : Former {0}} → Weighed g → Weighed (the_former g)
-the_weighed w = let v = blocks_weighed (blocks_weighed w) in record { weight = λ X μ d. v.weight X μ d.chunks; puts = λ X μ d. v.puts X μ d.chunks }
+the_weighed w = let v = chunks_weighed (chunks_weighed w) in record { weight = λ X μ d. v.weight X μ d.chunks; puts = λ X μ d. v.puts X μ d.chunks }
 
 module _ (R S : RattleType) (h : R.Denot → S.Denot) where
   abbrev on_chunks : Chunk (Chunk R.Denot) → Chunk (Chunk S.Denot)

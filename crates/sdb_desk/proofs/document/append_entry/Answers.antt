@@ -1,7 +1,7 @@
 use Rattle.std.proofs.Common.{◌≡◌, sym, ap, ◌∙◌}
 use Rattle.sdb_value.specs.View.{value_of}
 use Rattle.std.specs.Prelude.{option_map}
-use Rattle.sdb_desk.proofs.StoreLemmas.{prepared_of, lives_stored, decided_stored, keeps_stored}
+use Rattle.sdb_desk.proofs.StoreLemmas.{prepared_of, lives_stored, decided_stored, preserves_stored}
 use Rattle.sdb_desk.proofs.document.append_entry.Goals as goal
 
 pub commit-requires-clause-alive : goal.commit-requires-clause-alive
@@ -22,4 +22,4 @@ returns-in-Ok-clause-reply c =
 pub returns-in-Ok-clause-document : goal.returns-in-Ok-clause-document
 returns-in-Ok-clause-document c =
     let of : c.in-Ok.prepared ≡ prepared_of c.args.log.now c.args.submission = c.in-Ok.ensures.ok ∙ ap (λ l. prepared_of l c.args.submission) c.replace.ensures.value in
-    keeps_stored c.commit.result c.in-Ok.prepared c.args.log.now c.args.submission c.args.now c.args.content c.args.present.now c.args.made c.commit.ensures of c.requires.document c.requires.settles
+    preserves_stored c.commit.result c.in-Ok.prepared c.args.log.now c.args.submission c.args.now c.args.content c.args.present.now c.args.made c.commit.ensures of c.requires.document c.requires.settles

@@ -2,7 +2,7 @@ use Rattle.std.proofs.Common.{◌+◌, ◌++◌, ◌∙◌, drop, length, map, a
 use Rattle.sdb_oplog.specs.Keys.{plain_key}
 use Rattle.sdb_dump.specs.LogListing.{lines_of_logs}
 use Rattle.sdb_dump.specs.WriteModel.{log_text, logs_text}
-use Rattle.sdb_dump.proofs.OutputLemmas.{but_then, but_front, log_left, count_left, no_error, on_any_err}
+use Rattle.sdb_dump.proofs.OutputLemmas.{but_then, but_prefix, log_left, count_left, no_error, on_any_err}
 use Rattle.sdb_dump.proofs.write.write_logs.Goals as goal
 
 pub returns-in_err-write_log-clause-prefix_on_err : goal.returns-in_err-write_log-clause-prefix_on_err
@@ -13,7 +13,7 @@ returns-in_err-write_log-clause-prefix_on_err g c =
     let es = c.entries_of-entries.result.now in
     let out = c.loop-key.out.items in
     let is = log_left f keys i c.key-item.result es out c.loop-key-test.true c.key-item.is c.entries_of-entries.ensures in
-    on_any_err _ (but_front _ (out ++ log_text (plain_key c.key-item.result) es) (logs_text f (map plain_key (drop (i + 1) keys))) c.loop-key.invariant.wrote is c.in_err-write_log.ensures.prefix_on_err)
+    on_any_err _ (but_prefix _ (out ++ log_text (plain_key c.key-item.result) es) (logs_text f (map plain_key (drop (i + 1) keys))) c.loop-key.invariant.wrote is c.in_err-write_log.ensures.prefix_on_err)
 
 pub loop-key-preserved : goal.loop-key-preserved
 loop-key-preserved g c =

@@ -4,7 +4,7 @@ use Rattle.sdb_lines.specs.Lines.{readable_text}
 use Rattle.sdb_lines.specs.Chunks.{lines_ended_by, kept_prefix}
 use Rattle.sdb_lines.specs.Counts.{counts_after}
 use Rattle.sdb_lines.proofs.ChunkLemmas.{ended-at, unended-at, ended-plain, unended-plain, counted-append}
-use Rattle.sdb_lines.proofs.Runs.{lines-line_buffer, lines-front, front-lines}
+use Rattle.sdb_lines.proofs.Runs.{lines-line_buffer, lines-prefix, prefix-lines}
 use Rattle.sdb_lines.proofs.WriteLemmas.{but-no_error, on_any_err}
 use Rattle.sdb_lines.proofs.line_reader.handle_chunk_lines.Goals as goal
 
@@ -17,7 +17,7 @@ returns-in_err-handle_partial-clause-prefix_on_err g c =
     let line = readable_text (c.loop-at.line_buffer.partial_line.items ++ take at rest) in
     let tail = lines_ended_by (take (length rest - (at + 1)) (drop (at + 1) rest)) [] in
     let e = ended-at rest c.loop-at.line_buffer.partial_line.items [] at c.in-Some.ensures.found.1 c.in-Some.ensures.found.2 refl in
-    let front = front-lines takes tail (lines-front takes answers c.in_err-handle_partial.ensures.prefix_on_err) in
+    let front = prefix-lines takes tail (lines-prefix takes answers c.in_err-handle_partial.ensures.prefix_on_err) in
     on_any_err _ (rw (append_assoc lines (line ∷ []) tail, ← e, ← all) at front)
 
 pub loop-at-preserved : goal.loop-at-preserved

@@ -4,7 +4,7 @@ use Rattle.std.specs.Prelude.{if◌then◌else◌}
 use Rattle.sdb_lines.specs.Lines.{readable_text}
 use Rattle.sdb_lines.specs.Counts.{counts_after}
 use Rattle.sdb_lines.proofs.ChunkLemmas.{reading-partial, counted-one}
-use Rattle.sdb_lines.proofs.Runs.{line-line_buffer, line_buffer-written, line_buffer-front, none-line_buffer, nothing-written}
+use Rattle.sdb_lines.proofs.Runs.{line-line_buffer, line_buffer-written, line_buffer-prefix, none-line_buffer, nothing-written}
 use Rattle.sdb_lines.proofs.WriteLemmas.{on_any_err, on_ok_both}
 use Rattle.sdb_lines.proofs.line_reader.handle_partial.Goals as goal
 
@@ -50,7 +50,7 @@ returns-clause-prefix_on_err g c =
     let read = ap readable_text (c.as_slice.ensures.value ∙ c.in_ok-append_partial.ensures.items) ∙ reading-partial (old.partial_line.items ++ c.args.input.now) in
     let line_buffer = line-line_buffer takes old.out.items c.handle_line.new.out.items (g.W.Sink.bytes_written c.args.writer.now) c.in_ok-is_step.ensures.answer in
     let whole = rw read at line_buffer in
-    on_err_weaker c.flush_buffer.result (λ f. line_buffer-front takes _ whole f) c.flush_buffer.ensures.prefix_on_err
+    on_err_weaker c.flush_buffer.result (λ f. line_buffer-prefix takes _ whole f) c.flush_buffer.ensures.prefix_on_err
 
 pub returns-in_err-append_partial-clause-prefix_on_err : goal.returns-in_err-append_partial-clause-prefix_on_err
 returns-in_err-append_partial-clause-prefix_on_err g c = on_any_err _ (nothing-written g.M.LineHandler.handles _ _ _ _)

@@ -2,7 +2,7 @@ use Rattle.std.proofs.Common.{◌<◌, ap, arith}
 use Rattle.std.specs.List.{concat}
 use Rattle.sdb_rope.specs.RopeChunk.{chunk_list_texts}
 use Rattle.sdb_rope.specs.Utf16.{units}
-use Rattle.sdb_rope.proofs.GroupLemmas.{count_groups, read_group, place_inside, units_past}
+use Rattle.sdb_rope.proofs.GroupLemmas.{count_groups, read_group, place_inside, units_after}
 use Rattle.sdb_rope.proofs.group_list.group_at_offset.Goals as goal
 
 pub returns-in-Ok-clause-some : goal.returns-in-Ok-clause-some
@@ -24,6 +24,6 @@ loop-at-preserved c =
     let gs = c.args.groups.now in
     let same = ap (λ x. units (concat (chunk_list_texts x))) c.items.ensures in
     record {
-      sum = units_past gs c.loop-at.at c.loop-at.left c.in-Err.past c.args.offset c.index-groups-at.result c.loop-at-test.true c.index-groups-at.is (omega (arith, c.in-Err.ensures.err, same)) c.loop-at.invariant.sum;
+      sum = units_after gs c.loop-at.at c.loop-at.left c.in-Err.past c.args.offset c.index-groups-at.result c.loop-at-test.true c.index-groups-at.is (omega (arith, c.in-Err.ensures.err, same)) c.loop-at.invariant.sum;
       only = λ l. absurd (omega (arith, l, c.loop-at-test.true, c.if-at-groups.false));
     }

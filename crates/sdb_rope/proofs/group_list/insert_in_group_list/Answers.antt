@@ -25,7 +25,7 @@ returns-in_err-done-in-Some-clause-chunks_bounded c =
     let p = subst (λ (l : List (Chunk RopeChunk)). IsGroupAtOffset (group_texts l) c.args.offset at c.in-Some.left) c.deref.ensures.value c.in-Some.ensures.some in
     let inside : at < length gs = omega (arith, p.index_in_range, count_groups gs) in
     let same : texts_of_groups gs ≡ texts_of_groups c.args.groups.now.items = c.ensure_group.ensures.unchanged ∙ c.split_long_chunk.ensures in
-    λ a. short_changed gs at c.insert_into_chunks.new.chunk_list c.index_mut.result.now inside c.index_mut.ensures.value c.insert_into_chunks.ensures.short (rw same a)
+    λ a. short_changed gs at c.insert_into_chunks.new.chunk_list c.index_mut.result.now inside c.index_mut.ensures.value c.insert_into_chunks.ensures.chunks_bounded (rw same a)
 
 pub returns-clause-ok : goal.returns-clause-ok
 returns-clause-ok c =
@@ -45,4 +45,4 @@ returns-clause-chunks_bounded c =
     let p = subst (λ (l : List (Chunk RopeChunk)). IsGroupAtOffset (group_texts l) c.args.offset at c.in-Some.left) c.deref.ensures.value c.in-Some.ensures.some in
     let inside : at < length gs = omega (arith, p.index_in_range, count_groups gs) in
     let same : texts_of_groups gs ≡ texts_of_groups c.args.groups.now.items = c.ensure_group.ensures.unchanged ∙ c.split_long_chunk.ensures in
-    λ a. short_changed gs at c.insert_into_chunks.new.chunk_list c.index_mut.result.now inside c.index_mut.ensures.value c.insert_into_chunks.ensures.short (rw same a)
+    λ a. short_changed gs at c.insert_into_chunks.new.chunk_list c.index_mut.result.now inside c.index_mut.ensures.value c.insert_into_chunks.ensures.chunks_bounded (rw same a)

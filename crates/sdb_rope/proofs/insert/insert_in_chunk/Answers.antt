@@ -10,7 +10,7 @@ use Rattle.sdb_rope.specs.RopeChunk.{chunk_list_texts, chunk_bytes, IsUniqueChun
 use Rattle.sdb_rope.specs.declared.rope_chunk.RopeChunk.{RopeChunk}
 use Rattle.sdb_rope.specs.Position.{AreBounded}
 use Rattle.sdb_rope.proofs.ChunkEdits.{length_put}
-use Rattle.sdb_rope.proofs.ChunkListLemmas.{text_at, same_set, put_piece, put_pieces, short_append, short_take, short_drop, short_set}
+use Rattle.sdb_rope.proofs.ChunkListLemmas.{text_at, same_set, put_chunk, put_chunks, short_append, short_take, short_drop, short_set}
 use Rattle.sdb_rope.proofs.insert.insert_in_chunk.Goals as goal
 
 on_err : {A E P : Type 0} (r : Result A E) → P → OnErr r P
@@ -29,7 +29,7 @@ returns-in_err-done-clause-err c =
 pub returns-then-as_str-new-le-MAX_CHUNK_LEN-clause-ok : goal.returns-then-as_str-new-le-MAX_CHUNK_LEN-clause-ok
 returns-then-as_str-new-le-MAX_CHUNK_LEN-clause-ok c =
     let ps = c.args.chunks.now.items in
-    put_piece ps c.insert.new.self c.args.new.now c.args.at c.args.byte c.requires.inside
+    put_chunk ps c.insert.new.self c.args.new.now c.args.at c.args.byte c.requires.inside
     (c.in_ok-done.ensures.ok ∙ ap (λ l. insert_slice l c.args.byte c.args.new.now) (sym (text_at ps c.args.at c.index_mut.result.now c.requires.inside c.index_mut.ensures.value)))
 
 pub returns-clause-ok : goal.returns-clause-ok
@@ -40,7 +40,7 @@ returns-clause-ok c =
     let all : it.1 ≡ fresh.items = sym (map-id it.1) ∙ items_from_drains it.1 (if_drains (into_iter_steps {X = RopeChunk} {Z = Global}) it.0 it.1 it.3) (YieldsList-from_vec {s = it.0} fresh.items it.2.0 (it.2.1 ∙ fresh.ok.0)) in
     let whole : concat (chunk_list_texts fresh.items) ≡ insert_slice (chunk_bytes c.index-2.result.now) c.args.byte c.args.new.now = c.in_ok-fresh.ensures.ok ∙ ap (λ l. insert_slice l c.args.byte c.args.new.now) c.as_str-2.ensures in
     ap (λ l. concat (chunk_list_texts l)) (it.4 ∙ ap (splice ps c.args.at (c.args.at + 1)) all)
-    ∙ put_pieces ps fresh.items c.args.new.now c.args.at c.args.byte c.requires.inside
+    ∙ put_chunks ps fresh.items c.args.new.now c.args.at c.args.byte c.requires.inside
     (whole ∙ ap (λ l. insert_slice l c.args.byte c.args.new.now) (sym (text_at ps c.args.at c.index-2.result.now c.requires.inside c.index-2.ensures)))
 
 pub returns-clause-unique : goal.returns-clause-unique
@@ -75,4 +75,4 @@ returns-clause-chunks_bounded c =
     let all : it.1 ≡ fresh.items = sym (map-id it.1) ∙ items_from_drains it.1 (if_drains (into_iter_steps {X = RopeChunk} {Z = Global}) it.0 it.1 it.3) (YieldsList-from_vec {s = it.0} fresh.items it.2.0 (it.2.1 ∙ fresh.ok.0)) in
     let new = it.4 ∙ ap (splice ps c.args.at (c.args.at + 1)) all in
     λ a. rw new (short_append (take c.args.at ps) (fresh.items ++ drop (c.args.at + 1) ps) (short_take ps c.args.at a)
-    (short_append fresh.items (drop (c.args.at + 1) ps) c.in_ok-fresh.ensures.short (short_drop ps (c.args.at + 1) a)))
+    (short_append fresh.items (drop (c.args.at + 1) ps) c.in_ok-fresh.ensures.chunks_bounded (short_drop ps (c.args.at + 1) a)))

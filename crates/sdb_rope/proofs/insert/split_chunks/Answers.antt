@@ -7,7 +7,7 @@ use Rattle.std.proofs.lemmas.List.Elements.{All-nil, All-push}
 use Rattle.sdb_rope.specs.RopeChunk.{chunk_list_texts, chunk_bytes, IsUniqueChunk}
 use Rattle.sdb_rope.proofs.ChunkEdits.{take_part}
 use Rattle.sdb_rope.specs.Position.{IsBounded}
-use Rattle.sdb_rope.proofs.ChunkListLemmas.{push_piece, short_push}
+use Rattle.sdb_rope.proofs.ChunkListLemmas.{push_chunk, short_push}
 use Rattle.sdb_rope.proofs.BoundaryLemmas.{next_char}
 use Rattle.sdb_rope.proofs.insert.split_chunks.Goals as goal
 
@@ -43,7 +43,7 @@ loop-start-preserved c =
     let size : length (chunk_bytes c.new.result) ≤ 4096 = omega (arith, ap length chunk, length-take (end - start) (drop start text), c.floor_char_boundary-end.ensures.bound) in
     record {
       boundary = c.floor_char_boundary-end.ensures.boundary;
-      same = ap (λ l. concat (chunk_list_texts l)) c.in_ok-push.ensures.items ∙ push_piece c.loop-start.chunks.items c.new.result ∙ ap (λ l. l ++ chunk_bytes c.new.result) c.loop-start.invariant.same ∙ ap (λ l. take start text ++ l) chunk ∙ sym (take_part text start end less);
+      same = ap (λ l. concat (chunk_list_texts l)) c.in_ok-push.ensures.items ∙ push_chunk c.loop-start.chunks.items c.new.result ∙ ap (λ l. l ++ chunk_bytes c.new.result) c.loop-start.invariant.same ∙ ap (λ l. take start text ++ l) chunk ∙ sym (take_part text start end less);
       own = rw c.in_ok-push.ensures.items (All-push IsUniqueChunk c.loop-start.chunks.items c.new.result c.loop-start.invariant.own c.new.ensures.unique);
       short = rw c.in_ok-push.ensures.items (short_push c.loop-start.chunks.items c.new.result size c.loop-start.invariant.short);
     }
@@ -53,7 +53,7 @@ returns-clause-ok c =
     let text = c.args.text.now in
     let start = c.loop-start.start in
     let chunk : chunk_bytes c.new-2.result ≡ drop start text = c.new-2.ensures.bytes ∙ c.in_ok-from_str-2.ensures.ok ∙ c.range_from.ensures.value in
-    ap (λ l. concat (chunk_list_texts l)) c.in_ok-push-2.ensures.items ∙ push_piece c.loop-start.chunks.items c.new-2.result ∙ ap (λ l. l ++ chunk_bytes c.new-2.result) c.loop-start.invariant.same ∙ ap (λ l. take start text ++ l) chunk ∙ take-append-drop start text
+    ap (λ l. concat (chunk_list_texts l)) c.in_ok-push-2.ensures.items ∙ push_chunk c.loop-start.chunks.items c.new-2.result ∙ ap (λ l. l ++ chunk_bytes c.new-2.result) c.loop-start.invariant.same ∙ ap (λ l. take start text ++ l) chunk ∙ take-append-drop start text
 
 pub returns-clause-chunks_bounded : goal.returns-clause-chunks_bounded
 returns-clause-chunks_bounded c =

@@ -10,13 +10,13 @@ use Rattle.sdb_rope.specs.declared.rope.RopeRepr.{RopeRepr}
 use Rattle.sdb_rope.specs.declared.rope.RopeRepr.TheVariants.{Flat, Chunks, Groups}
 use Rattle.sdb_rope.proofs.GroupLemmas.{group_utf8}
 use Rattle.sdb_rope.proofs.PositionLemmas.{concat_utf8}
-use Rattle.sdb_rope.proofs.ChunkListLemmas.{chars_utf8, pieces_utf8}
+use Rattle.sdb_rope.proofs.ChunkListLemmas.{chars_utf8, chunks_utf8}
 use Rattle.sdb_rope.proofs.laws.text_is_utf8.Goals as goal
 
-form_utf8 : (f : RopeRepr) → IsUtf8 (concat (repr_texts f))
-form_utf8 (Flat c) = IsUtf8-append (str_bytes c) [] (chars_utf8 c) IsUtf8-nil
-form_utf8 (Chunks b) = concat_utf8 (chunk_texts b) (pieces_utf8 (items_of b))
-form_utf8 (Groups b) = group_utf8 (items_of b)
+repr_utf8 : (f : RopeRepr) → IsUtf8 (concat (repr_texts f))
+repr_utf8 (Flat c) = IsUtf8-append (str_bytes c) [] (chars_utf8 c) IsUtf8-nil
+repr_utf8 (Chunks b) = concat_utf8 (chunk_texts b) (chunks_utf8 (items_of b))
+repr_utf8 (Groups b) = group_utf8 (items_of b)
 
 pub returns : goal.returns
-returns c = form_utf8 c.args._text.now.repr
+returns c = repr_utf8 c.args._text.now.repr

@@ -2,19 +2,19 @@ use Rattle.std.proofs.Common.{◌≡◌, ◌+◌, ◌-◌, ◌<◌, suc, length,
 use Rattle.std.specs.List.{concat}
 use Rattle.sdb_rope.specs.Utf16.{units}
 use Rattle.sdb_rope.specs.RopeChunk.{chunk_list_texts}
-use Rattle.sdb_rope.proofs.ChunkEdits.{past_end}
-use Rattle.sdb_rope.proofs.PositionLemmas.{cut_piece, cut_none, cut_last}
+use Rattle.sdb_rope.proofs.ChunkEdits.{after_end}
+use Rattle.sdb_rope.proofs.PositionLemmas.{cut_chunk, cut_none, cut_last}
 use Rattle.sdb_rope.proofs.ChunkListLemmas.{length_of_texts, text_at}
 use Rattle.sdb_rope.proofs.position.byte_position.Goals as goal
 
 pub returns-then-left-ne0-clause-none : goal.returns-then-left-ne0-clause-none
-returns-then-left-ne0-clause-none c = past_end (concat (chunk_list_texts c.args.chunks.now)) c.args.offset c.in-Err.left c.in-Err.ensures.err c.if-left-ne0.true
+returns-then-left-ne0-clause-none c = after_end (concat (chunk_list_texts c.args.chunks.now)) c.args.offset c.in-Err.left c.in-Err.ensures.err c.if-left-ne0.true
 
 pub returns-in-Some-clause-some : goal.returns-in-Some-clause-some
 returns-in-Some-clause-some c =
     let ps = c.args.chunks.now in
     let at : c.in-Ok.at < length ps = omega (arith, c.in-Ok.ensures.ok.index_in_range, length_of_texts ps) in
-    cut_piece (chunk_list_texts ps) c.as_str.result.now c.args.offset c.in-Ok.at c.in-Ok.left c.in-Some.byte c.in-Ok.ensures.ok (c.as_str.ensures ∙ sym (text_at ps c.in-Ok.at c.index-chunks-at.result at c.index-chunks-at.is)) c.in-Some.ensures.position
+    cut_chunk (chunk_list_texts ps) c.as_str.result.now c.args.offset c.in-Ok.at c.in-Ok.left c.in-Some.byte c.in-Ok.ensures.ok (c.as_str.ensures ∙ sym (text_at ps c.in-Ok.at c.index-chunks-at.result at c.index-chunks-at.is)) c.in-Some.ensures.position
 
 pub returns-in-None-clause-none : goal.returns-in-None-clause-none
 returns-in-None-clause-none c =

@@ -3,7 +3,7 @@ use Rattle.sdb_rope.specs.RopeChunk.{chunk_list_texts}
 use Rattle.sdb_rope.specs.Position.{bytes_before, bytes_after}
 use Rattle.sdb_rope.proofs.ChunkEdits.{not_removed}
 use Rattle.sdb_rope.proofs.PositionLemmas.{concat_before_after, end_boundary}
-use Rattle.sdb_rope.proofs.ChunkListLemmas.{pieces_utf8}
+use Rattle.sdb_rope.proofs.ChunkListLemmas.{chunks_utf8}
 use Rattle.sdb_rope.proofs.position.find_span.Goals as goal
 
 pub returns-in_default-end_position-clause-none : goal.returns-in_default-end_position-clause-none
@@ -21,6 +21,6 @@ returns-clause-range c =
       chunks_ordered = end.chunks_ordered;
       index_in_range = end.index_in_range;
       start_at_boundary = cut.at_char_boundary;
-      end_at_boundary = end_boundary ts c.args.old.now c.in-Some.first c.in-Some.from c.in-Some-end_position.last c.in-Some-end_position.to (pieces_utf8 c.args.chunks.now) c.utf8.old cut.at_char_boundary end;
+      end_at_boundary = end_boundary ts c.args.old.now c.in-Some.first c.in-Some.from c.in-Some-end_position.last c.in-Some-end_position.to (chunks_utf8 c.args.chunks.now) c.utf8.old cut.at_char_boundary end;
       bytes_ordered = end.bytes_ordered;
     }

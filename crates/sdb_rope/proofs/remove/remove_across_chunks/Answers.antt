@@ -5,7 +5,7 @@ use Rattle.std.proofs.lemmas.List.Elements.{All-append, All-take, All-drop, All-
 use Rattle.sdb_rope.specs.RopeChunk.{IsUniqueChunk, chunk_bytes, chunk_list_texts}
 use Rattle.sdb_rope.specs.Position.{chunk_text, AreBounded}
 use Rattle.sdb_rope.specs.declared.rope_chunk.RopeChunk.{RopeChunk}
-use Rattle.sdb_rope.proofs.ChunkListLemmas.{length_of_texts, text_at, cut_pieces_out, short_append, short_take, short_drop, short_set}
+use Rattle.sdb_rope.proofs.ChunkListLemmas.{length_of_texts, text_at, cut_chunks_out, short_append, short_take, short_drop, short_set}
 use Rattle.sdb_rope.proofs.remove.remove_across_chunks.Goals as goal
 
 front : (q : List ℕ) (i n : ℕ) → n ≡ length q → remove_range q i n ≡ take i q
@@ -27,7 +27,7 @@ returns-clause-bytes c =
     ∙ front (chunk_text (chunk_list_texts ps) k) c.args.span.from (length c.as_str-len.result.now) (ap length (c.as_str-len.ensures ∙ sym (text_at ps k c.index.result.now first c.index.ensures))) in
     let b : chunk_bytes c.remove-2.new.self ≡ drop c.args.span.to (chunk_text (chunk_list_texts ps) m) = c.remove-2.ensures.bytes ∙ ap (drop c.args.span.to) (sym (read_later ps c.remove.new.self c.index_mut-2.result.now k m c.requires.apart last c.index_mut-2.ensures.value)) in
     c.remove_empty_chunk-2.ensures.unchanged ∙ c.remove_empty_chunk.ensures.unchanged ∙ ap (λ l. concat (chunk_list_texts l)) c.remove_chunks_between.ensures
-    ∙ cut_pieces_out ps c.remove.new.self c.remove-2.new.self k m (k + 1) c.args.span.from c.args.span.to c.requires.apart last (add-one k) a b
+    ∙ cut_chunks_out ps c.remove.new.self c.remove-2.new.self k m (k + 1) c.args.span.from c.args.span.to c.requires.apart last (add-one k) a b
 
 pub returns-clause-unique : goal.returns-clause-unique
 returns-clause-unique c =

@@ -4,7 +4,7 @@ use Rattle.std.proofs.lemmas.List.{nil_from_length}
 use Rattle.std.proofs.lemmas.Bool.Decides.{Decides-eqb}
 use Rattle.sdb_rope.specs.RopeChunk.{chunk_list_texts}
 use Rattle.sdb_rope.specs.Position.{chunk_text}
-use Rattle.sdb_rope.proofs.ChunkListLemmas.{text_at, empty_piece_out, short_append, short_take, short_drop}
+use Rattle.sdb_rope.proofs.ChunkListLemmas.{text_at, empty_chunk_out, short_append, short_take, short_drop}
 use Rattle.sdb_rope.proofs.remove.remove_empty_chunk.Goals as goal
 
 nothing : (xs : List ℕ) (r : Bool) → r ≡ eqb (length xs) 0 → r ≡ true → xs ≡ []
@@ -14,7 +14,7 @@ pub returns-then-is_empty-clause-unchanged : goal.returns-then-is_empty-clause-u
 returns-then-is_empty-clause-unchanged c =
     let ps = c.args.chunks.now.items in
     let empty : chunk_text (chunk_list_texts ps) c.args.at ≡ [] = text_at ps c.args.at c.index.result.now c.requires c.index.ensures ∙ sym c.as_str.ensures ∙ nothing c.as_str.result.now c.is_empty.result c.is_empty.ensures c.if-is_empty.true in
-    ap (λ l. concat (chunk_list_texts l)) c.remove-gone.ensures.items ∙ empty_piece_out ps c.args.at c.requires empty
+    ap (λ l. concat (chunk_list_texts l)) c.remove-gone.ensures.items ∙ empty_chunk_out ps c.args.at c.requires empty
 
 pub returns-then-is_empty-clause-chunks_bounded : goal.returns-then-is_empty-clause-chunks_bounded
 returns-then-is_empty-clause-chunks_bounded c =

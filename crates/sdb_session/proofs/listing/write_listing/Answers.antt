@@ -10,7 +10,7 @@ use Rattle.sdb_session.specs.Listing.{ListOutcome}
 use Rattle.sdb_session.specs.Responses.{entry_answers}
 use Rattle.sdb_session.specs.View.{plain_projection_option, WroteAnswers}
 use Rattle.sdb_session.specs.Output.{answer_items}
-use Rattle.sdb_session.proofs.BatchLemmas.{listing_wants, messages_more, none_said, reads_none, reads_up_to, sizes_more}
+use Rattle.sdb_session.proofs.BatchLemmas.{listing_wants, messages_more, none_output, reads_none, reads_up_to, sizes_more}
 use Rattle.sdb_session.proofs.listing.write_listing.Goals as goal
 
 pub loop-next-init : goal.loop-next-init
@@ -55,7 +55,7 @@ returns-in-Err-clause-listed g c =
     let new = g.O.AnswerSink.contents c.loop-next.out in
     let says : List PlainEntry → Type 0 = λ l. WroteAnswers g.O.AnswerSink.items old new (entry_answers o k l) in
     listing_wants acts says c.args.from c.loop-next.next c.min-end.result c.version-present.result far.0 c.args.pass.now far.1.0 c.loop-next.pass c.ops_between.new.pass c.out_of_memory.result c.in-Err.error
-    c.out_of_memory.ensures far.1.1.0 far.1.1.1 far.1.1.2 far.1.1.3 (omega (arith, c.min-end.ensures)) c.in-Err.ensures.step (none_said g.O.AnswerSink.items o k old new far.0 far.1.1.4)
+    c.out_of_memory.ensures far.1.1.0 far.1.1.1 far.1.1.2 far.1.1.3 (omega (arith, c.min-end.ensures)) c.in-Err.ensures.step (none_output g.O.AnswerSink.items o k old new far.0 far.1.1.4)
 
 pub loop-next-preserved : goal.loop-next-preserved
 loop-next-preserved g c =

@@ -9,7 +9,7 @@ use Rattle.sdb_session.specs.Listing.{TakeOutcome}
 use Rattle.sdb_session.specs.Responses.{entry_answers}
 use Rattle.sdb_session.specs.View.{plain_projection_option, WroteAnswers}
 use Rattle.sdb_session.specs.Output.{answer_items}
-use Rattle.sdb_session.proofs.BatchLemmas.{taking_wants, messages_more, none_said, takes_in_none, takes_in_more, sizes_more}
+use Rattle.sdb_session.proofs.BatchLemmas.{taking_wants, messages_more, none_output, takes_in_none, takes_in_more, sizes_more}
 use Rattle.sdb_session.proofs.listing.write_next.Goals as goal
 
 pub loop-left-init : goal.loop-left-init
@@ -45,7 +45,7 @@ returns-in-Err-clause-taken g c =
     let one = c.in-Err.ensures.takes_one in
     let says : List PlainEntry → Type 0 = λ l. WroteAnswers g.O.AnswerSink.items old new (entry_answers o k l) in
     taking_wants acts says c.args.id c.args.count c.loop-left.left c.min-size.result far.0 c.args.pass.now c.loop-left.pass c.take_entries.new.pass c.out_of_memory.result c.in-Err.error one.0
-    c.out_of_memory.ensures far.1.0 far.1.2 one.1.0 one.1.1 (none_said g.O.AnswerSink.items o k old new far.0 far.1.3)
+    c.out_of_memory.ensures far.1.0 far.1.2 one.1.0 one.1.1 (none_output g.O.AnswerSink.items o k old new far.0 far.1.3)
 
 pub loop-left-preserved : goal.loop-left-preserved
 loop-left-preserved g c =

@@ -34,7 +34,7 @@ overflow_add-result g c =
       c.count_in-start.ensures,
       c.requires.bound,
       length_to t c.args.runs.now (c.run_end-end.result - 1) c.index-runs-end.result inside c.index-runs-end.is,
-      found_within (t c.index-runs-end.result) c.args.key.now c.in-Ok.at c.in-Ok.ensures.found,
+      found_within (t c.index-runs-end.result) c.args.key.now c.in-Ok.at c.in-Ok.ensures.key_index,
     )
 
 pub overflow_add-result-in-Err : goal.overflow_add-result-in-Err
@@ -52,7 +52,7 @@ pub returns-in-Ok-clause-key_index : goal.returns-in-Ok-clause-key_index
 returns-in-Ok-clause-key_index g c =
     let inside : c.run_end-end.result - 1 < length c.args.runs.now = omega (arith, c.run_end-end.ensures.in_range, c.if-end-eq0.false) in
     found_in_part g.P.SortedRun.keys c.args.runs.now (c.run_end-end.result - 1) c.index-runs-end.result inside c.index-runs-end.is c.args.key.now
-    c.in-Ok.at _ (ap (λ n. n + c.in-Ok.at) c.count_in-start.ensures) c.run_end-end.ensures.above c.in-Ok.ensures.found
+    c.in-Ok.at _ (ap (λ n. n + c.in-Ok.at) c.count_in-start.ensures) c.run_end-end.ensures.above c.in-Ok.ensures.key_index
 
 pub returns-in-Err-clause-insert_index : goal.returns-in-Err-clause-insert_index
 returns-in-Err-clause-insert_index g c =

@@ -3,7 +3,7 @@ use Rattle.std.specs.Option.{ghost_name_of}
 use Rattle.sdb_chunks.specs.ChunkedVec.{vec_models}
 use Rattle.sdb_sorted_map.specs.MapEntry.{entry_model}
 use Rattle.sdb_sorted_map.specs.declared.map_entry.MapEntry.{MapEntry}
-use Rattle.sdb_sorted_map.proofs.EditLemmas.{at_lent, texts_lent, texts_same}
+use Rattle.sdb_sorted_map.proofs.EditLemmas.{at_borrowed, texts_borrowed, texts_same}
 use Rattle.sdb_sorted_map.proofs.value_mut.entry_value_mut.Goals as goal
 
 pub returns-in_err-member : goal.returns-in_err-member
@@ -27,10 +27,10 @@ pub returns : goal.returns
 returns g c =
     let f = g.V.TryClone.model in
     let l = c.args.entries.now in
-    let at = at_lent f l c.args.index c.get_mut.result c.in_ok-member.member c.in_ok-member.was c.get_mut.ensures.item in (
+    let at = at_borrowed f l c.args.index c.get_mut.result c.in_ok-member.member c.in_ok-member.was c.get_mut.ensures.item in (
       (
         refl,
-        λ w. texts_lent f l (c.get_mut.follows.lender (record { key = c.in_ok-member.member.now.key; value = w })) c.args.index c.get_mut.result c.in_ok-member.member w c.in_ok-member.was at
+        λ w. texts_borrowed f l (c.get_mut.follows.lender (record { key = c.in_ok-member.member.now.key; value = w })) c.args.index c.get_mut.result c.in_ok-member.member w c.in_ok-member.was at
             (c.get_mut.follows.holds (record { key = c.in_ok-member.member.now.key; value = w })),
         refl,
       ),

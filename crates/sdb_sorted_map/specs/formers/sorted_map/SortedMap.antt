@@ -27,7 +27,7 @@ use Rattle.sdb_chunks.specs.declared.chunk_group.ChunkGroup.{ChunkGroup}
 use Rattle.sdb_chunks.specs.declared.chunked_vec.Repr.{Repr}
 use Rattle.sdb_chunks.specs.declared.chunked_vec.Repr.TheVariants.{Flat, Chunks, Groups}
 use Rattle.sdb_chunks.specs.declared.chunked_vec.ChunkedVec.{ChunkedVec}
-use Rattle.sdb_chunks.specs.formers.chunk_group.ChunkGroup.{Shape, chunks, blocks_weighed, shape_items, on_chunk, chunk_places, chunk_codes}
+use Rattle.sdb_chunks.specs.formers.chunk_group.ChunkGroup.{Shape, chunks, chunks_weighed, shape_items, on_chunk, chunk_places, chunk_codes}
 use Rattle.sdb_chunks.specs.formers.chunk_group.ChunkGroup as groups
 use Rattle.sdb_sorted_map.specs.MapKey.{key_bytes}
 use Rattle.sdb_sorted_map.specs.MapEntry.{entry_key}
@@ -81,24 +81,24 @@ abbrev pub chunked_vec_former : Former {0} → Former {0}
 chunked_vec_former g = via (repr_former g) (λ X. ChunkedVec (g.Of X)) (λ X d. d.repr) (λ X w. record { repr = w }) (λ X d. refl) (λ X w. refl)
 
 module _ {g : Former {0}} (w : Weighed g) where
-  abbrev forms_weighed : Weighed (forms g)
-  forms_weighed = w_or (blocks_weighed w) (w_or (blocks_weighed (blocks_weighed w)) (blocks_weighed (groups.the_weighed w)))
+  abbrev reprs_weighed : Weighed (forms g)
+  reprs_weighed = w_or (chunks_weighed w) (w_or (chunks_weighed (chunks_weighed w)) (chunks_weighed (groups.the_weighed w)))
 
   abbrev pub repr_weighed : Weighed (repr_former g)
-  repr_weighed = w_via forms_weighed (λ X. Repr (g.Of X)) (λ X. split (g.Of X)) (λ X. join (g.Of X)) (λ X. join-split (g.Of X)) (λ X. split-join (g.Of X))
+  repr_weighed = w_via reprs_weighed (λ X. Repr (g.Of X)) (λ X. split (g.Of X)) (λ X. join (g.Of X)) (λ X. join-split (g.Of X)) (λ X. split-join (g.Of X))
 
   abbrev pub chunked_vec_weighed : Weighed (chunked_vec_former g)
   chunked_vec_weighed = record { weight = λ X μ d. repr_weighed.weight X μ d.repr; puts = λ X μ d. repr_weighed.puts X μ d.repr }
 
 -- ---- the keys of a list's shape
-abbrev block_names : {X : Type 0} → Shape (MapKey × X) → List (List ℕ)
-block_names b = map (λ p. key_bytes p.0) (shape_items b)
+abbrev chunk_names : {X : Type 0} → Shape (MapKey × X) → List (List ℕ)
+chunk_names b = map (λ p. key_bytes p.0) (shape_items b)
 
 abbrev joined_names : {X : Type 0} → Shape (Shape (MapKey × X)) → List (List ℕ)
-joined_names bs = flat_map block_names (shape_items bs)
+joined_names bs = flat_map chunk_names (shape_items bs)
 
 abbrev shape_names : (g : Former {0}) → (repr_former (member_former g)).Shape → List (List ℕ)
-shape_names g (inl b) = block_names b
+shape_names g (inl b) = chunk_names b
 shape_names g (inr (inl bs)) = joined_names bs
 shape_names g (inr (inr gs)) = flat_map (λ s. joined_names s.0.1) (shape_items gs)
 
@@ -115,19 +115,19 @@ module _ (g : Former {0}) (X : Type 0) where
   abbrev m : Former {0}
   m = member_former g
 
-  pub block_shaped : (b : Chunk (m.Of X)) → block_names ((chunks m).shape X b) ≡ chunk_models entry_key b
-  block_shaped (Unique v) = map_map _ _ v.items
-  block_shaped (Shared a) = map_map _ _ a.value.items
+  pub chunk_shaped : (b : Chunk (m.Of X)) → chunk_names ((chunks m).shape X b) ≡ chunk_models entry_key b
+  chunk_shaped (Unique v) = map_map _ _ v.items
+  chunk_shaped (Shared a) = map_map _ _ a.value.items
 
   pub joined_shaped : (bs : Chunk (Chunk (m.Of X))) → joined_names ((chunks (chunks m)).shape X bs) ≡ flatten_models entry_key (items_of bs)
-  joined_shaped (Unique v) = flat_shaped _ _ _ block_shaped v.items
-  joined_shaped (Shared a) = flat_shaped _ _ _ block_shaped a.value.items
+  joined_shaped (Unique v) = flat_shaped _ _ _ chunk_shaped v.items
+  joined_shaped (Shared a) = flat_shaped _ _ _ chunk_shaped a.value.items
 
   group_shaped : (d : ChunkGroup (m.Of X)) → joined_names ((groups.the_former m).shape X d).0.1 ≡ group_models entry_key d
   group_shaped d = joined_shaped d.chunks
 
   pub names_shaped : (w : Repr (m.Of X)) → shape_names g ((repr_former m).shape X w) ≡ vec_keys (record { repr = w })
-  names_shaped (Flat b) = block_shaped b
+  names_shaped (Flat b) = chunk_shaped b
   names_shaped (Chunks bs) = joined_shaped bs
   names_shaped (Groups (Unique v)) = flat_shaped _ _ _ group_shaped v.items
   names_shaped (Groups (Shared a)) = flat_shaped _ _ _ group_shaped a.value.items

@@ -6,8 +6,8 @@ use Rattle.sdb_desk.specs.Machine.{PlainAttempt, decided, WorkAfterCommit}
 use Rattle.sdb_desk.specs.ReplyView.{plain_reply}
 use Rattle.sdb_desk.specs.View.{plain_look}
 use Rattle.sdb_steps.specs.Picks as plain
-use Rattle.sdb_steps.proofs.CommitLemmas.{attempt_of, tries_wanting, tries_decided, tries_moved}
-use Rattle.sdb_steps.proofs.LookLemmas.{looked_wanting, looked_moved}
+use Rattle.sdb_steps.proofs.CommitLemmas.{attempt_of, tries_out_of_memory, tries_decided, tries_moved}
+use Rattle.sdb_steps.proofs.LookLemmas.{looked_out_of_memory, looked_moved}
 use Rattle.sdb_steps.proofs.attempt.commit_work.Goals as goal
 
 pub returns-then-is_out_of_memory-clause-commits : goal.returns-then-is_out_of_memory-clause-commits
@@ -15,7 +15,7 @@ returns-then-is_out_of_memory-clause-commits c =
     let k = plain_key c.args.key in
     let said = c.in-Decided.ensures in
     let wanting = c.if-is_out_of_memory.ensures.memory refl in
-    tries_wanting c.args.shard.now c.commit.new.self k c.args.work c.args.now (plain_reply c.in-Decided.reply) c.args.tries c.args.is_worked _ c.requires.bound wanting said.commits said.queues
+    tries_out_of_memory c.args.shard.now c.commit.new.self k c.args.work c.args.now (plain_reply c.in-Decided.reply) c.args.tries c.args.is_worked _ c.requires.bound wanting said.commits said.queues
     (c.restore_attempt-phase.ensures.plain k c.args.tries ∙ ap (λ (w : PlainAttempt). attempt_of k w c.args.tries c.args.is_worked) (subst (λ r. WorkAfterCommit (decided r) c.args.work c.commit.new.work) wanting said.is_made))
 
 pub returns-else-is_out_of_memory-clause-commits : goal.returns-else-is_out_of_memory-clause-commits
@@ -39,7 +39,7 @@ returns-then-is_out_of_memory-clause-looked c =
     let said = c.in-Decided.ensures in
     let r = plain_reply c.in-Decided.reply in
     let wanting = c.if-is_out_of_memory.ensures.memory refl in
-    looked_wanting (logs_of c.args.shard.now) (logs_of c.commit.new.self) k (attempt_in c.restore_attempt-phase.result) c.args.work c.args.now r wanting said.commits
+    looked_out_of_memory (logs_of c.args.shard.now) (logs_of c.commit.new.self) k (attempt_in c.restore_attempt-phase.result) c.args.work c.args.now r wanting said.commits
     (c.restore_attempt-phase.ensures.attempt ∙ subst (λ r. WorkAfterCommit (decided r) c.args.work c.commit.new.work) wanting said.is_made) c.requires.looked
 
 pub returns-in-Moved-clause-looked : goal.returns-in-Moved-clause-looked

@@ -8,7 +8,7 @@ use Rattle.sdb_steps.specs.Slots.{SlotsOpen}
 use Rattle.sdb_steps.specs.View.{plain_session_step, plain_step_answer}
 use Rattle.sdb_steps.specs.declared.step.Step.{Step}
 use Rattle.sdb_steps.proofs.CommitLemmas.{same_core, none_of}
-use Rattle.sdb_steps.proofs.QueueStepLemmas.{leaves_all, begin_turn, begins_with, session_kept}
+use Rattle.sdb_steps.proofs.QueueStepLemmas.{leaves_all, begin_turn, begins_with, session_unchanged}
 use Rattle.sdb_steps.proofs.dispatch.dispatch.Goals as goal
 
 pub returns-else-is_some-clause-dispatches : goal.returns-else-is_some-clause-dispatches
@@ -24,7 +24,7 @@ returns-else-is_some-clause-dispatches c =
     let o = option_map plain_open_attempt c.begin.new.session.attempt in
     let none : x.attempt ≡ None = ap (option_map plain_open_attempt) (sym (none_of c.args.session.now.attempt (sym c.if-is_some.ensures))) in
     let h = begins_with m k s c.submission_of-submission.result a o c.submission_of-submission.ensures c.begin.ensures.begun c.begin.ensures.memory in
-    let put : plain.with_attempt x o ≡ y = session_kept o q q (queue_slots_of c.begin.new.session) (queue_slots_of c.args.session.now) refl (sym c.begin.ensures.slots_unchanged) in
+    let put : plain.with_attempt x o ≡ y = session_unchanged o q q (queue_slots_of c.begin.new.session) (queue_slots_of c.args.session.now) refl (sym c.begin.ensures.slots_unchanged) in
     subst (λ (z : Step). DispatchesAct (plain_session_step z).session m x (plain_session_step z).act a m y) (sym b.is)
     (subst (λ w. DispatchesAct b.number.number m x (plain.begin k (string_bytes b.src) b.seq b.version b.content) a m w) put (begin_turn b.number.number m x k (string_bytes b.src) b.seq b.version b.content a o none h))
 
@@ -56,7 +56,7 @@ returns-in-Forget-clause-dispatches c =
     let x = session_state_of q c.args.session.now in
     let y = session_state_of r c.args.session.now in
     subst (λ (z : Step). FollowsEffect m (plain.effect m (plain_session_step z).session x (plain_session_step z).act) (plain.notice_answer plain.forgotten) n y) (sym c.in-Forget.is)
-    (refl, same_core c.args.shard.now c.forget.new.self c.forget.ensures.logs_unchanged c.forget.ensures.queues, session_kept (option_map plain_open_attempt c.args.session.now.attempt) q r s s c.forget.ensures.queues refl)
+    (refl, same_core c.args.shard.now c.forget.new.self c.forget.ensures.logs_unchanged c.forget.ensures.queues, session_unchanged (option_map plain_open_attempt c.args.session.now.attempt) q r s s c.forget.ensures.queues refl)
 
 pub returns-in-Forget-clause-other_queues_unchanged : goal.returns-in-Forget-clause-other_queues_unchanged
 returns-in-Forget-clause-other_queues_unchanged c = let s = queue_slots_of c.args.session.now in leaves_all (plain_session_step c.args.step.now).session (queues_of c.args.shard.now) _ s s c.requires.queues c.forget.ensures.queues refl

@@ -2,7 +2,7 @@ use Rattle.std.proofs.Common.{◌≡◌, suc, ◌-◌, ◌+◌, ap, ◌∙◌, a
 use Rattle.sdb_oplog.specs.Keys.{plain_key}
 use Rattle.sdb_oplog.specs.Plain.{PlainSubmission}
 use Rattle.sdb_desk.specs.View.{plain_look}
-use Rattle.sdb_submit.proofs.SubmitLoopLemmas.{by_none, by_last, by_unworked, by_wanting, by_decided, by_moved}
+use Rattle.sdb_submit.proofs.SubmitLoopLemmas.{by_none, by_last, by_unworked, by_out_of_memory, by_decided, by_moved}
 use Rattle.sdb_submit.proofs.submit_loop.submit.Goals as goal
 
 pub returns-in_default-next_work-clause-chain : goal.returns-in_default-next_work-clause-chain
@@ -15,7 +15,7 @@ pub returns-then-is_out_of_memory-clause-chain : goal.returns-then-is_out_of_mem
 returns-then-is_out_of_memory-clause-chain g c =
     let t = c.loop-try_no.try_no in
     let left : 9 - t ≡ suc (8 - t) = omega arith in
-    c.loop-try_no.invariant.chain _ _ (by_wanting _ _ _ (9 - t) (8 - t) _ c.in-Some.worked _ _ _ _ _ left c.in-Some.ensures c.in-Decided.ensures.step (c.is_out_of_memory.ensures.memory c.if-is_out_of_memory.true) c.commit_now-then-is_out_of_memory.ensures.step)
+    c.loop-try_no.invariant.chain _ _ (by_out_of_memory _ _ _ (9 - t) (8 - t) _ c.in-Some.worked _ _ _ _ _ left c.in-Some.ensures c.in-Decided.ensures.step (c.is_out_of_memory.ensures.memory c.if-is_out_of_memory.true) c.commit_now-then-is_out_of_memory.ensures.step)
 
 pub returns-in-Decided-clause-chain : goal.returns-in-Decided-clause-chain
 returns-in-Decided-clause-chain g c =

@@ -6,7 +6,7 @@ use Rattle.sdb_value.specs.declared.path.Step.TheVariants.{Index}
 use Rattle.sdb_component.specs.View.{plain_act}
 use Rattle.sdb_transform.specs.Transform.{transform_step, component_at}
 use Rattle.sdb_transform.specs.ActModel.{MatchesComponents, step_after}
-use Rattle.sdb_transform.proofs.PrefixLemmas.{behind_is, path_continues, step_there, set_there, none_below, stays_below, gone_below, set_below}
+use Rattle.sdb_transform.proofs.PrefixLemmas.{behind_is, path_continues, step_there, set_there, none_below, stays_below, removed_below, set_below}
 use Rattle.sdb_transform.proofs.component_transform.transform_below.Goals as goal
 
 pub bounds-steps-at : goal.bounds-steps-at
@@ -44,7 +44,7 @@ returns-in-Removed c =
     let o = c.args.other.now in
     let same : t ≡ r.0 = step_there c.steps.result.now c.path-at.result.now o.path r.0 r.1 c.index-steps-at.result c.path-at.ensures (c.steps.ensures ∙ behind_is _ _ _ r.2) c.index-steps-at.is in
     let h : transform_step o.act t ≡ Some None = ap (λ a. transform_step a t) (sym c.act.ensures) ∙ c.in_ok-transform_step.ensures.moved ∙ ap (λ p. Some (step_after t p)) c.in-Removed.is in
-    gone_below c.args.side (component_at c.args.path (plain_act c.args.act)) o r.0 t r.1 r.2 same h ∙ ap Some (sym c.new.ensures.items)
+    removed_below c.args.side (component_at c.args.path (plain_act c.args.act)) o r.0 t r.1 r.2 same h ∙ ap Some (sym c.new.ensures.items)
 
 pub returns-in_ok-new-in-MovedTo : goal.returns-in_ok-new-in-MovedTo
 returns-in_ok-new-in-MovedTo c =

@@ -31,16 +31,16 @@ step_eq (Key k) (Index j) = refl
 step_eq (Index i) (Key l) = refl
 step_eq (Index i) (Index j) = number_turned j i
 
-front_or : (b r : Bool) (x y : Option (List PlainStep)) → x ≡ (if r then y else None) → (if b then x else None) ≡ (if b && r then y else None)
-front_or true r x y e = e
-front_or false r x y e = refl
+prefix_or : (b r : Bool) (x y : Option (List PlainStep)) → x ≡ (if r then y else None) → (if b then x else None) ≡ (if b && r then y else None)
+prefix_or true r x y e = e
+prefix_or false r x y e = refl
 
 stripped : (front path : List Step)
     → strip_prefix (plain_path front) (plain_path path) ≡ (if pointwise eq-value.it (take (length front) path) front then Some (plain_path (drop (length front) path)) else None)
 stripped [] path = refl
 stripped (s ∷ front) [] = refl
 stripped (s ∷ front) (t ∷ path) =
-    rw (step_eq s t) (front_or (steps_equal (plain_step s) (plain_step t)) _ _ _ (stripped front path))
+    rw (step_eq s t) (prefix_or (steps_equal (plain_step s) (plain_step t)) _ _ _ (stripped front path))
 
 result_is : (r : Option (Bor (List Step))) (b : Bool) (rest : List Step) (P : Bor (List Step) → Type 0) → MatchOption r (b ≡ false) (λ x. (b ≡ true) × (x.now ≡ rest) × P x)
     → option_map (λ x. plain_path x.now) r ≡ (if b then Some (plain_path rest) else None)

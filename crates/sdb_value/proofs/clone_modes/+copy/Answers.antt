@@ -12,8 +12,8 @@ use Rattle.sdb_sorted_map.specs.declared.map_entry.MapEntry.{MapEntry}
 use Rattle.sdb_value.specs.CloneModes.{HasUniquenessOfMode, are_deep_unique_chunks, are_deep_unique_member_chunks}
 use Rattle.sdb_value.specs.Uniqueness.{entries_unique, is_unique, is_frozen, items_unique, list_unique, object_unique, members_unique}
 use Rattle.sdb_value.specs.View.{value_of, entries_value, items_value}
-use Rattle.sdb_value.proofs.CloneLemmas.{value_list, copied_list, value_object, copied_object, by_manner, in_groups_own, shared_list_own, block_pointed, made_of_blocks, made_view, items_more, entries_more, entry_more, blocks_copied_more, items_copied_more, not_found, same_member, view_more, value_own, small_viewed, ascending_viewed}
-use Rattle.sdb_value.proofs.WeightLemmas.{blocks_below, first_fits, first_part_fits, item_fits, member_fits, members_weight, entries_weight, parts_below, weigh_list, weigh_object, term_weight, term_weights}
+use Rattle.sdb_value.proofs.CloneLemmas.{value_list, copied_list, value_object, copied_object, by_mode, in_groups_unique, shared_list_unique, chunk_pointed, made_of_chunks, made_view, items_more, entries_more, entry_more, chunks_copied_more, items_copied_more, not_found, same_member, view_more, value_own, small_viewed, ascending_viewed}
+use Rattle.sdb_value.proofs.WeightLemmas.{chunks_below, first_fits, first_part_fits, item_fits, member_fits, members_weight, entries_weight, parts_below, weigh_list, weigh_object, term_weight, term_weights}
 use Rattle.sdb_value.proofs.clone_modes.+copy.Goals as goal
 
 pub copy-returns-in_ok-clone_list-in-List-clause-value : goal.copy-returns-in_ok-clone_list-in-List-clause-value
@@ -69,7 +69,7 @@ clone_list-returns-in_default-inner t c =
     let inner = c.chunk_clone_mode-inner.ensures in
     record {
       items = made_view l new bs c.from_chunks.ensures.chunks c.in_ok-copies.ensures.items;
-      unique = by_manner c.chunk_clone_mode-inner.result c.args.mode (is_grouped l.repr) (list_unique l) (list_unique new) (is_shared_vec new) inner.copied (in_groups_own is_unique l) (shared_list_own is_unique new) (made_of_blocks is_unique c.chunk_clone_mode-inner.result l new bs c.in_default-inner.not-Frozen inner.in_blocks
+      unique = by_mode c.chunk_clone_mode-inner.result c.args.mode (is_grouped l.repr) (list_unique l) (list_unique new) (is_shared_vec new) inner.copied (in_groups_unique is_unique l) (shared_list_unique is_unique new) (made_of_chunks is_unique c.chunk_clone_mode-inner.result l new bs c.in_default-inner.not-Frozen inner.in_blocks
           (λ same. not_found c.in_ok-list.field-0 c.in_default.not-Some c.in_ok-list.ensures.none (inner.same same)) c.from_chunks.ensures.chunks
           c.from_chunks.ensures.unique c.in_ok-copies.ensures.unique);
     }
@@ -89,8 +89,8 @@ clone_chunks-loop-chunk-preserved t c =
       done = done ++ b ∷ [];
       split = l.invariant.split ∙ ap (λ bs. done ++ bs) steps ∙ sym (append_assoc done (b ∷ []) left);
       values = ap (λ l. items_value (flat_map items_of l)) pushed ∙ items_more done cs b new l.invariant.values c.in_ok-clone_chunk.ensures.items;
-      own = subst Q {x = cs ++ new ∷ []} (sym pushed) (blocks_copied_more is_unique c.args.mode done cs b new l.invariant.own c.in_ok-clone_chunk.ensures.unique);
-      below = blocks_below _ left b (term_weights (vec_items c.args.items.now)) steps l.invariant.below;
+      own = subst Q {x = cs ++ new ∷ []} (sym pushed) (chunks_copied_more is_unique c.args.mode done cs b new l.invariant.own c.in_ok-clone_chunk.ensures.unique);
+      below = chunks_below _ left b (term_weights (vec_items c.args.items.now)) steps l.invariant.below;
     }
 
 pub clone_chunks-returns-clause-items : goal.clone_chunks-returns-clause-items
@@ -158,7 +158,7 @@ clone_members-returns-in_default-inner t c =
     let same = c.chunks.ensures.equal in
     let P : ChunkedVec (MapEntry Json) → Type 0 = λ q. HasUniquenessOfMode kind (are_deep_unique_member_chunks (vec_chunks q)) (are_deep_unique_member_chunks bs) (all_shared bs) in
     let Q : ChunkedVec (MapEntry Json) → Type 0 = λ q. HasUniquenessOfMode c.args.mode (object_unique m) (entries_unique q) (is_shared_vec q) in
-    let made = made_of_blocks value_own kind l new bs c.in_default-inner.not-Frozen (λ e. ap (λ (q : ChunkedVec (MapEntry Json)). is_grouped q.repr) (sym same) ∙ inner.in_blocks e)
+    let made = made_of_chunks value_own kind l new bs c.in_default-inner.not-Frozen (λ e. ap (λ (q : ChunkedVec (MapEntry Json)). is_grouped q.repr) (sym same) ∙ inner.in_blocks e)
     (λ e. not_found c.in_ok-copy.field-0 c.in_default.not-Some c.in_ok-copy.ensures.none (inner.equal e)) c.from_chunks.ensures.chunks
     c.from_chunks.ensures.unique (subst P c.chunks-2.ensures.equal c.in_ok-copies.ensures.unique) in
     record {
@@ -166,8 +166,8 @@ clone_members-returns-in_default-inner t c =
           ∙ ap (λ b. entries_value (flat_map items_of b)) c.from_chunks.ensures.chunks ∙ c.in_ok-copies.ensures.members
           ∙ ap (λ (q : ChunkedVec (MapEntry Json)). entries_value (vec_items q)) c.chunks-2.ensures.equal;
       own = subst Q (sym c.from_entries-in_default-inner.ensures)
-          (by_manner kind c.args.mode (is_grouped c.chunks.result.now.repr) (object_unique m) (entries_unique new) (is_shared_vec new) inner.copied
-          (λ h. in_groups_own value_own l (ap (λ (q : ChunkedVec (MapEntry Json)). is_grouped q.repr) (sym same) ∙ h)) (shared_list_own value_own new) made);
+          (by_mode kind c.args.mode (is_grouped c.chunks.result.now.repr) (object_unique m) (entries_unique new) (is_shared_vec new) inner.copied
+          (λ h. in_groups_unique value_own l (ap (λ (q : ChunkedVec (MapEntry Json)). is_grouped q.repr) (sym same) ∙ h)) (shared_list_unique value_own new) made);
     }
 
 pub clone_member_chunks-clone_member_chunk-requires : goal.clone_member_chunks-clone_member_chunk-requires
@@ -195,7 +195,7 @@ clone_member_chunks-loop-chunk-preserved t c =
       done = done ++ b ∷ [];
       split = l.invariant.split ∙ ap (λ bs. done ++ bs) steps ∙ sym (append_assoc done (b ∷ []) left);
       members = ap (λ l. entries_value (flat_map items_of l)) pushed ∙ entries_more done cs b new l.invariant.members c.in_ok-clone_member_chunk.ensures.members;
-      own = subst Q {x = cs ++ new ∷ []} (sym pushed) (blocks_copied_more value_own c.args.mode done cs b new l.invariant.own c.in_ok-clone_member_chunk.ensures.unique);
+      own = subst Q {x = cs ++ new ∷ []} (sym pushed) (chunks_copied_more value_own c.args.mode done cs b new l.invariant.own c.in_ok-clone_member_chunk.ensures.unique);
       below = parts_below _ left b (entries_weight (vec_items c.args.entries.now)) steps l.invariant.below;
     }
 

@@ -1,6 +1,6 @@
 use Rattle.std.proofs.Common.{◌≡◌, true, ap}
 use Rattle.sdb_chunks.specs.Chunk.{is_chunk_shared}
-use Rattle.sdb_value.proofs.CloneLemmas.{some_of, found_of, none_of, not_shared_own}
+use Rattle.sdb_value.proofs.CloneLemmas.{some_of, found_of, none_of, not_shared_unique}
 use Rattle.sdb_value.proofs.clone_modes.clone_chunk_pointer.Goals as goal
 
 pub returns-in_default : goal.returns-in_default
@@ -12,5 +12,5 @@ returns-in_default g c =
       shared = e.shared;
       was = found_of {P = λ x. is_chunk_shared x ≡ true} c.clone_shared.result (is_chunk_shared b) (λ x was now. was) e.found e.shared;
       other = some_of {P = λ x. is_chunk_shared x ≡ true} c.clone_shared.result (λ x now. c.in_default.not-Unique) e.shared;
-      none = none_of c.clone_shared.result (is_chunk_shared b) e.found (λ h _. not_shared_own b h);
+      none = none_of c.clone_shared.result (is_chunk_shared b) e.found (λ h _. not_shared_unique b h);
     }

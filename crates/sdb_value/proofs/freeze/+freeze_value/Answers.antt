@@ -11,13 +11,13 @@ use Rattle.sdb_value.specs.Size.{items_size, members_size}
 use Rattle.sdb_value.specs.View.{entries_value, repr_value, items_of_group, members_of_group, items_value, member_repr_value}
 use Rattle.sdb_value.specs.declared.value.Json.{Json}
 use Rattle.sdb_value.proofs.CloneLemmas.{ascending_viewed, small_viewed}
-use Rattle.sdb_value.proofs.FreezeLemmas.{group_parts, item_within, member_part_within, member_within, part_within, same_form, same_item, same_member_form, same_member_part, same_part, same_value}
+use Rattle.sdb_value.proofs.FreezeLemmas.{group_parts, item_within, member_part_within, member_within, part_within, same_repr, same_item, same_member_repr, same_member_part, same_part, same_value}
 use Rattle.sdb_value.proofs.freeze.+freeze_value.Goals as goal
 
 -- ---- the list of groups
 
 pub freeze_list_repr-returns-clause-items : goal.freeze_list_repr-returns-clause-items
-freeze_list_repr-returns-clause-items t c = same_form c.freeze_unique_chunks.new.repr c.freeze.new.self c.freeze.ensures.unchanged ∙ c.freeze_unique_chunks.ensures
+freeze_list_repr-returns-clause-items t c = same_repr c.freeze_unique_chunks.new.repr c.freeze.new.self c.freeze.ensures.unchanged ∙ c.freeze_unique_chunks.ensures
 
 pub freeze_unique_chunks-freeze_unique_groups-requires : goal.freeze_unique_chunks-freeze_unique_groups-requires
 freeze_unique_chunks-freeze_unique_groups-requires t c =
@@ -109,7 +109,7 @@ freeze_each_item-loop-at-preserved t c =
 -- ---- the members of an object
 
 pub freeze_member_repr-returns-clause-members : goal.freeze_member_repr-returns-clause-members
-freeze_member_repr-returns-clause-members t c = same_member_form c.freeze_unique_member_chunks.new.repr c.freeze.new.self c.freeze.ensures.unchanged ∙ c.freeze_unique_member_chunks.ensures
+freeze_member_repr-returns-clause-members t c = same_member_repr c.freeze_unique_member_chunks.new.repr c.freeze.new.self c.freeze.ensures.unchanged ∙ c.freeze_unique_member_chunks.ensures
 
 pub freeze_unique_member_chunks-freeze_unique_member_groups-requires : goal.freeze_unique_member_chunks-freeze_unique_member_groups-requires
 freeze_unique_member_chunks-freeze_unique_member_groups-requires t c =

@@ -14,9 +14,9 @@ use Rattle.sdb_value.specs.View.{items_value, members_value}
 use Rattle.sdb_value.specs.declared.from_json.ValueFault.{ValueFault}
 use Rattle.sdb_value.specs.declared.from_json.ValueFault.TheVariants.{NumberOutOfRange, TooDeep, OutOfMemory}
 use Rattle.sdb_value.specs.Uniqueness.{items_unique, members_unique}
-use Rattle.sdb_value.proofs.CloneLemmas.{own_push}
+use Rattle.sdb_value.proofs.CloneLemmas.{unique_push}
 use Rattle.sdb_value.proofs.ListLemmas.{and_intro}
-use Rattle.sdb_value.proofs.ReadLemmas.{ReadEntry, AreReadMembers, entries_own, all_ascend, members_names, member_low, member_own, object_made, owns_of, read_more, read_all, low_push, member_more, member_none, member_deep}
+use Rattle.sdb_value.proofs.ReadLemmas.{ReadEntry, AreReadMembers, entries_own, all_ascend, members_names, member_low, member_unique, object_made, owns_of, read_more, read_all, low_push, member_more, member_none, member_deep}
 use Rattle.sdb_value.proofs.from_json.+read_value.Goals as goal
 
 pub read_items-loop-item-preserved : goal.read_items-loop-item-preserved
@@ -32,7 +32,7 @@ read_items-loop-item-preserved g t c =
       reads = rw pushed (read_more c.loop-item.done.items c.in_ok-new.new (data-view.items_of (map f s)) (data-view.items_of (map f (drop (i + 1) s))) (f x) c.in_ok-new.ensures.ok (before.reads ∙ ap (λ ds. option_map (append_items (items_value c.loop-item.done.items)) (items_of_data ds)) cut));
       low = rw pushed (low_push c.loop-item.done.items c.in_ok-new.new c.args.left before.low c.in_ok-new.ensures.depth);
       rest = omega (arith, ap raw.items_depth cut, before.rest);
-      own = ap items_unique pushed ∙ own_push c.loop-item.done.items c.in_ok-new.new before.own c.in_ok-new.ensures.unique;
+      own = ap items_unique pushed ∙ unique_push c.loop-item.done.items c.in_ok-new.new before.own c.in_ok-new.ensures.unique;
     }
 
 pub read_items-returns-clause-ok : goal.read_items-returns-clause-ok
@@ -70,7 +70,7 @@ read_members-loop-key-preserved g t c =
       split = l.invariant.split ∙ ap (λ es. done ++ es) c.in-Some.ensures.steps ∙ sym (append_assoc done (e ∷ []) left);
       reads = rw pushed (member_more g.D.JsonData.json done ms e c.in_ok-value.value l.invariant.reads c.in_ok-value.ensures.ok);
       low = rw pushed (member_low ms (e.0.now, c.in_ok-value.value) c.args.left l.invariant.low c.in_ok-value.ensures.depth);
-      own = ap entries_own pushed ∙ member_own ms (e.0.now, c.in_ok-value.value) l.invariant.own c.in_ok-value.ensures.unique;
+      own = ap entries_own pushed ∙ member_unique ms (e.0.now, c.in_ok-value.value) l.invariant.own c.in_ok-value.ensures.unique;
     }
 
 pub read_members-loop-key-init : goal.read_members-loop-key-init

@@ -1,12 +1,12 @@
-use Rattle.sdb_value.proofs.ListLemmas.{list_inserted, list_kept, own_inserted}
+use Rattle.sdb_value.proofs.ListLemmas.{list_inserted, list_unchanged, unique_inserted}
 use Rattle.sdb_value.proofs.list_edits.insert_item.Goals as goal
 
 pub returns-clause-ok : goal.returns-clause-ok
 returns-clause-ok c = list_inserted c.insert.result c.args.items.now c.insert.new.self c.args.index c.args.new c.insert.ensures.ok c.insert.ensures.in_range
 
 pub returns-clause-err : goal.returns-clause-err
-returns-clause-err c = list_kept c.insert.result c.args.items.now c.insert.new.self c.insert.ensures.err
+returns-clause-err c = list_unchanged c.insert.result c.args.items.now c.insert.new.self c.insert.ensures.err
 
 pub returns-clause-unique : goal.returns-clause-unique
 returns-clause-unique c =
-    own_inserted c.insert.result c.args.items.now c.insert.new.self c.args.index c.args.new c.insert.ensures.ok c.insert.ensures.err c.insert.ensures.unique
+    unique_inserted c.insert.result c.args.items.now c.insert.new.self c.args.index c.args.new c.insert.ensures.ok c.insert.ensures.err c.insert.ensures.unique

@@ -1,5 +1,5 @@
 use Rattle.sdb_value.specs.laws.PrefixLaws.{on_any_err}
-use Rattle.sdb_value.proofs.ListLemmas.{list_removed, list_same, own_removed}
+use Rattle.sdb_value.proofs.ListLemmas.{list_removed, list_same, unique_removed}
 use Rattle.sdb_value.proofs.list_edits.remove_item.Goals as goal
 
 pub returns-in_err-remove-clause-err : goal.returns-in_err-remove-clause-err
@@ -11,4 +11,4 @@ returns-clause-ok c =
     c.is_some.ensures
 
 pub returns-clause-unique : goal.returns-clause-unique
-returns-clause-unique c = own_removed c.args.items.now c.remove.new.self c.args.index c.in_ok-remove.ensures.ok c.remove.ensures.unique
+returns-clause-unique c = unique_removed c.args.items.now c.remove.new.self c.args.index c.in_ok-remove.ensures.ok c.remove.ensures.unique

@@ -1,12 +1,12 @@
 use Rattle.sdb_value.specs.laws.PrefixLaws.{on_any_err}
-use Rattle.sdb_value.proofs.ListLemmas.{list_replaced, list_same, own_replaced, own_same}
+use Rattle.sdb_value.proofs.ListLemmas.{list_replaced, list_same, unique_replaced, unique_same}
 use Rattle.sdb_value.proofs.list_edits.replace_item.Goals as goal
 
 pub returns-in_err-replace-clause-err : goal.returns-in_err-replace-clause-err
 returns-in_err-replace-clause-err c = on_any_err c.from_residual.result (list_same c.args.items.now c.replace.new.self c.in_err-replace.ensures.err)
 
 pub returns-in_err-replace-clause-unique : goal.returns-in_err-replace-clause-unique
-returns-in_err-replace-clause-unique c own fresh = own_same c.args.items.now c.replace.new.self c.in_err-replace.ensures.err c.replace.ensures.unique own
+returns-in_err-replace-clause-unique c own fresh = unique_same c.args.items.now c.replace.new.self c.in_err-replace.ensures.err c.replace.ensures.unique own
 
 pub returns-clause-ok : goal.returns-clause-ok
 returns-clause-ok c =
@@ -14,4 +14,4 @@ returns-clause-ok c =
     c.in_ok-replace.ensures.ok c.is_some.ensures
 
 pub returns-clause-unique : goal.returns-clause-unique
-returns-clause-unique c = own_replaced c.args.items.now c.replace.new.self c.args.index c.args.new c.in_ok-replace.ensures.ok c.replace.ensures.unique
+returns-clause-unique c = unique_replaced c.args.items.now c.replace.new.self c.args.index c.args.new c.in_ok-replace.ensures.ok c.replace.ensures.unique

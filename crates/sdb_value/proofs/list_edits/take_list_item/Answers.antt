@@ -1,6 +1,6 @@
-use Rattle.sdb_value.proofs.ListLemmas.{taken_result, none_result, null_left, kept_result, own_result, taken_own}
+use Rattle.sdb_value.proofs.ListLemmas.{taken_result, none_result, null_left, unchanged_result, own_result, taken_unique}
 use Rattle.sdb_value.specs.declared.value.Json as json
-use Rattle.sdb_value.proofs.UniquenessLemmas.{owned_null}
+use Rattle.sdb_value.proofs.UniquenessLemmas.{unique_null}
 use Rattle.sdb_value.proofs.list_edits.take_list_item.Goals as goal
 
 pub returns-clause-item : goal.returns-clause-item
@@ -13,11 +13,11 @@ pub returns-clause-left : goal.returns-clause-left
 returns-clause-left c = null_left c.replace.result c.args.items.now c.replace.new.self c.args.index c.replace.ensures.ok
 
 pub returns-clause-err : goal.returns-clause-err
-returns-clause-err c = kept_result c.replace.result c.args.items.now c.replace.new.self c.replace.ensures.err
+returns-clause-err c = unchanged_result c.replace.result c.args.items.now c.replace.new.self c.replace.ensures.err
 
 pub returns-clause-unique : goal.returns-clause-unique
 returns-clause-unique c own =
-    own_result c.replace.result c.args.items.now c.replace.new.self c.args.index json.Null c.replace.ensures.ok c.replace.ensures.err c.replace.ensures.unique own owned_null
+    own_result c.replace.result c.args.items.now c.replace.new.self c.args.index json.Null c.replace.ensures.ok c.replace.ensures.err c.replace.ensures.unique own unique_null
 
 pub returns-clause-item_own : goal.returns-clause-item_own
-returns-clause-item_own c = taken_own c.replace.result c.args.items.now c.args.index c.replace.ensures.item
+returns-clause-item_own c = taken_unique c.replace.result c.args.items.now c.args.index c.replace.ensures.item

@@ -1,4 +1,4 @@
-use Rattle.sdb_value.proofs.ObjectLemmas.{surely_set, surely_named, own_replaced}
+use Rattle.sdb_value.proofs.ObjectLemmas.{surely_set, surely_named, unique_replaced}
 use Rattle.sdb_value.proofs.object_edits.put_member_back.Goals as goal
 
 pub returns-clause-values : goal.returns-clause-values
@@ -11,4 +11,4 @@ returns-clause-names c =
 
 pub returns-clause-unique : goal.returns-clause-unique
 returns-clause-unique c =
-    own_replaced c.replace.result c.args.entries.now c.replace.new.self c.args.index c.args.member c.replace.ensures.ok c.replace.ensures.err c.replace.ensures.unique
+    unique_replaced c.replace.result c.args.entries.now c.replace.new.self c.args.index c.args.member c.replace.ensures.ok c.replace.ensures.err c.replace.ensures.unique

@@ -1,7 +1,7 @@
 use Rattle.std.proofs.Common.{[], refl, ◌∙◌}
 use Rattle.sdb_value.specs.declared.value.Json as json
-use Rattle.sdb_value.proofs.ObjectLemmas.{value_taken, name_taken, none_taken, none_names, null_left, name_left, kept_values, kept_names, own_replaced, own_taken}
-use Rattle.sdb_value.proofs.UniquenessLemmas.{owned_null}
+use Rattle.sdb_value.proofs.ObjectLemmas.{value_taken, name_taken, none_taken, none_names, null_left, name_left, unchanged_values, unchanged_names, unique_replaced, unique_taken}
+use Rattle.sdb_value.proofs.UniquenessLemmas.{unique_null}
 use Rattle.sdb_value.proofs.object_edits.take_member.Goals as goal
 
 pub returns-clause-value : goal.returns-clause-value
@@ -23,14 +23,14 @@ pub returns-clause-names : goal.returns-clause-names
 returns-clause-names c = name_left c.replace.result c.args.entries.now c.replace.new.self c.args.index [] (record { key = c.new-2.result; value = json.Null }) (c.new-2.ensures ∙ c.new.ensures.bytes) c.replace.ensures.ok
 
 pub returns-clause-err : goal.returns-clause-err
-returns-clause-err c = kept_values c.replace.result c.args.entries.now c.replace.new.self c.replace.ensures.err
+returns-clause-err c = unchanged_values c.replace.result c.args.entries.now c.replace.new.self c.replace.ensures.err
 
 pub returns-clause-err_names : goal.returns-clause-err_names
-returns-clause-err_names c = kept_names c.replace.result c.args.entries.now c.replace.new.self c.replace.ensures.err
+returns-clause-err_names c = unchanged_names c.replace.result c.args.entries.now c.replace.new.self c.replace.ensures.err
 
 pub returns-clause-unique : goal.returns-clause-unique
 returns-clause-unique c own =
-    own_replaced c.replace.result c.args.entries.now c.replace.new.self c.args.index (record { key = c.new-2.result; value = json.Null }) c.replace.ensures.ok c.replace.ensures.err c.replace.ensures.unique own owned_null
+    unique_replaced c.replace.result c.args.entries.now c.replace.new.self c.args.index (record { key = c.new-2.result; value = json.Null }) c.replace.ensures.ok c.replace.ensures.err c.replace.ensures.unique own unique_null
 
 pub returns-clause-value_own : goal.returns-clause-value_own
-returns-clause-value_own c = own_taken c.replace.result c.args.entries.now c.args.index c.replace.ensures.item
+returns-clause-value_own c = unique_taken c.replace.result c.args.entries.now c.args.index c.replace.ensures.item

@@ -11,8 +11,8 @@ use Rattle.sdb_value.specs.Value.{null, list, object, key, set_item}
 use Rattle.sdb_value.specs.View.{value_of, plain_step, plain_path, object_value, list_value, values_of_entries}
 use Rattle.sdb_value.proofs.ListLemmas.{shared_place}
 use Rattle.sdb_value.proofs.ObjectLemmas.{named_again, shared_member}
-use Rattle.sdb_value.proofs.EntryLemmas.{told_members, same_object, key_missing}
-use Rattle.sdb_value.proofs.StepLemmas.{told_of, list_told, set_again, put_same}
+use Rattle.sdb_value.proofs.EntryLemmas.{view_members, same_object, key_missing}
+use Rattle.sdb_value.proofs.StepLemmas.{told_of, list_view, set_again, put_same}
 use Rattle.sdb_value.proofs.path.+change.Goals as goal
 
 -- ---- at an item
@@ -68,7 +68,7 @@ pub change_item-returns-clause-done : goal.change_item-returns-clause-done
 change_item-returns-clause-done g t c =
     let ds = list_value c.args.items.now in
     let new = value_of c.change_at-done.new.value in
-    list_told c.change_at-done.result (λ r u v. g.C.Change.relation c.args.change u v r) ds _ c.args.number _ (value_of c.in-Some.item) new
+    list_view c.change_at-done.result (λ r u v. g.C.Change.relation c.args.change u v r) ds _ c.args.number _ (value_of c.in-Some.item) new
     (ap (option_map value_of) (sym c.in-Some.is) ∙ c.in_ok-item.ensures.item)
     (c.put_item_back.ensures.items ∙ ap (λ l. set_item c.args.number l new) c.in_ok-item.ensures.left ∙ set_again c.args.number ds null new)
     c.change_at-done.ensures.done
@@ -92,7 +92,7 @@ pub change_value-returns-clause-done : goal.change_value-returns-clause-done
 change_value-returns-clause-done g t c =
     let ds = values_of_entries c.args.entries.now in
     let new = value_of c.change_at-done.new.value in
-    list_told c.change_at-done.result (λ r u v. g.C.Change.relation c.args.change u v r) ds _ c.args.number _ (value_of c.in-Some.member.value) new
+    list_view c.change_at-done.result (λ r u v. g.C.Change.relation c.args.change u v r) ds _ c.args.number _ (value_of c.in-Some.member.value) new
     (ap (option_map (λ m. value_of m.value)) (sym c.in-Some.is) ∙ c.in_ok-member.ensures.value)
     (c.put_member_back.ensures.values ∙ ap (λ l. set_item c.args.number l new) c.in_ok-member.ensures.left ∙ set_again c.args.number ds null new)
     c.change_at-done.ensures.done
@@ -122,7 +122,7 @@ change_member-from_entries-requires-clause-ascending g t c = subst IsAscending (
 
 pub change_member-returns-in-Ok-clause-done : goal.change_member-returns-in-Ok-clause-done
 change_member-returns-in-Ok-clause-done g t c =
-    told_members c.change_value-done.result (λ r u v. g.C.Change.relation c.args.change u v r) c.args.name.now c.in-Ok.index (plain_path c.args.rest.now) c.args.members.now c.from_entries.result
+    view_members c.change_value-done.result (λ r u v. g.C.Change.relation c.args.change u v r) c.args.name.now c.in-Ok.index (plain_path c.args.rest.now) c.args.members.now c.from_entries.result
     c.into_chunks-entries.result c.change_value-done.new.entries (c.into_chunks-entries.ensures.equal ∙ ap map_chunks c.replace.ensures.value) c.from_entries.ensures
     c.change_value-done.ensures.names c.in-Ok.ensures.found c.change_value-done.ensures.done
 

@@ -7,7 +7,7 @@ use Rattle.sdb_value.specs.ToJson.{array_tail_tokens, data_tokens, object_tail_t
 use Rattle.sdb_value.specs.FromJson.{data_of_value, data_of_items, data_of_members}
 use Rattle.sdb_value.specs.View.{value_of, items_value, members_value, object_value}
 use Rattle.sdb_value.specs.laws.PrefixLaws.{on_any_err, writes_prefix_after_append}
-use Rattle.sdb_value.proofs.WriteLemmas.{array_written, array_front, object_written, object_front}
+use Rattle.sdb_value.proofs.WriteLemmas.{array_written, array_prefix, object_written, object_prefix}
 use Rattle.sdb_value.proofs.WeightLemmas.{members_rest_below}
 use Rattle.sdb_value.proofs.write.+write_json.Goals as goal
 
@@ -57,7 +57,7 @@ write_json-returns-in_ok-begin_array-in-List-clause-tokens t c =
 
 pub write_json-returns-in_ok-begin_array-in-List-clause-err : goal.write_json-returns-in_ok-begin_array-in-List-clause-err
 write_json-returns-in_ok-begin_array-in-List-clause-err t c =
-    array_front c.write_items.result c.args.value.now c.in-List.items c.args.out.now.tokens c.begin_array.new.self.tokens c.write_items.new.out.tokens c.in-List.is
+    array_prefix c.write_items.result c.args.value.now c.in-List.items c.args.out.now.tokens c.begin_array.new.self.tokens c.write_items.new.out.tokens c.in-List.is
     c.in_ok-begin_array-in-List.ensures.ok c.write_items.ensures.err
 
 pub write_json-returns-in_ok-begin_object-in-Object-clause-tokens : goal.write_json-returns-in_ok-begin_object-in-Object-clause-tokens
@@ -68,6 +68,6 @@ write_json-returns-in_ok-begin_object-in-Object-clause-tokens t c =
 
 pub write_json-returns-in_ok-begin_object-in-Object-clause-err : goal.write_json-returns-in_ok-begin_object-in-Object-clause-err
 write_json-returns-in_ok-begin_object-in-Object-clause-err t c =
-    object_front c.write_members.result c.args.value.now c.in-Object.members c.args.out.now.tokens c.begin_object.new.self.tokens c.write_members.new.out.tokens c.in-Object.is
+    object_prefix c.write_members.result c.args.value.now c.in-Object.members c.args.out.now.tokens c.begin_object.new.self.tokens c.write_members.new.out.tokens c.in-Object.is
     c.in_ok-begin_object-in-Object.ensures.ok
     c.write_members.ensures.err

@@ -2,7 +2,7 @@ use Rattle.std.proofs.lemmas.Result.{err_from_is_err_and}
 use Rattle.sdb_oplog.specs.Keys.{plain_key}
 use Rattle.sdb_desk.specs.ShardView.{machine_of, logs_of}
 use Rattle.sdb_backend.proofs.HistoryGrowth.{same_grown}
-use Rattle.sdb_backend.proofs.ReplayLemmas.{wanting_lent}
+use Rattle.sdb_backend.proofs.ReplayLemmas.{out_of_memory_borrowed}
 use Rattle.sdb_backend.proofs.jobs.ReplayBaseAtMomentJobJobHeld.run.Goals as goal
 
 pub returns-in_err-lent-clause-extends : goal.returns-in_err-lent-clause-extends
@@ -13,7 +13,7 @@ pub returns-in_err-lent-clause-does : goal.returns-in_err-lent-clause-does
 returns-in_err-lent-clause-does c =
     let log = logs_of c.args.held.now.shard (plain_key c.args.self.key.now) in
     let p = err_from_is_err_and c.from_residual.result c.from_residual.ensures.1 in
-    rw (p.1, p.2) (wanting_lent log c.version_at-version.result c.args.self.moment c.in_err-lent.field-0.0 c.version_at-version.ensures c.in_err-lent.ensures.err, (c.replay_base.ensures.logs_unchanged, c.replay_base.ensures.queues_unchanged))
+    rw (p.1, p.2) (out_of_memory_borrowed log c.version_at-version.result c.args.self.moment c.in_err-lent.field-0.0 c.version_at-version.ensures c.in_err-lent.ensures.err, (c.replay_base.ensures.logs_unchanged, c.replay_base.ensures.queues_unchanged))
 
 pub returns-clause-extends : goal.returns-clause-extends
 returns-clause-extends c =

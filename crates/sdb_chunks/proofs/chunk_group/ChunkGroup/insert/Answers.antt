@@ -5,7 +5,7 @@ use Rattle.sdb_chunks.specs.Chunk.{items_of}
 use Rattle.sdb_chunks.specs.ChunkGroup.{group_chunks}
 use Rattle.sdb_chunks.specs.ChunkedVec.{flatten_models}
 use Rattle.sdb_chunks.proofs.FlattenLemmas.{if_same}
-use Rattle.sdb_chunks.proofs.GroupLemmas.{same_number, one_more_number, few_in_blocks}
+use Rattle.sdb_chunks.proofs.GroupLemmas.{same_number, one_more_number, few_in_chunks}
 use Rattle.sdb_chunks.proofs.chunk_group.ChunkGroup.insert.Goals as goal
 
 pub invariant_of-self : goal.invariant_of-self
@@ -16,7 +16,7 @@ invariant_of-self g c =
     record { count_is_sum = c.args.self.now.count_is_sum ∙ same_number f old new (sym c.in_err-insert_in_chunk_list.ensures.err) }
 
 pub overflow_add-self : goal.overflow_add-self
-overflow_add-self g c = omega (arith, c.args.self.now.count_is_sum, few_in_blocks c.args.self.now.chunks)
+overflow_add-self g c = omega (arith, c.args.self.now.count_is_sum, few_in_chunks c.args.self.now.chunks)
 
 pub invariant_of-self-2 : goal.invariant_of-self-2
 invariant_of-self-2 g c =

@@ -3,7 +3,7 @@ use Rattle.sdb_value.specs.View.{value_of}
 use Rattle.std.specs.Option.{is_some}
 use Rattle.sdb_oplog.specs.Snap.{document_of}
 use Rattle.sdb_snapcache.specs.SnapInvariant.{IsSnapOf}
-use Rattle.sdb_desk.proofs.CacheLemmas.{with_kept, offered_or}
+use Rattle.sdb_desk.proofs.CacheLemmas.{with_unchanged, offered_or}
 use Rattle.sdb_desk.proofs.ReplayLemmas.{document_at}
 use Rattle.sdb_desk.proofs.document.Document.offer.Goals as goal
 
@@ -16,4 +16,4 @@ invariant_of-self c =
       is = document_at log v (ap is_some c.self.invariant.is_made.makes)
           ∙ ap Some (ap (λ d. document_of (take v d.log)) c.self.view_is ∙ c.requires.snapshot ∙ sym c.in-Ok-Some.ensures.copy ∙ ap (option_map value_of) c.in-Ok-Some.field-0-is);
     } in
-    with_kept log c.self.inside.current c.self.inside.cache _ (offered_or log v (value_of c.in-Ok-Some.copy) c.self.inside.cache _ c.offer.result is c.self.invariant.cache_is_snaps c.offer.ensures.ok c.offer.ensures.err) c.self.invariant
+    with_unchanged log c.self.inside.current c.self.inside.cache _ (offered_or log v (value_of c.in-Ok-Some.copy) c.self.inside.cache _ c.offer.result is c.self.invariant.cache_is_snaps c.offer.ensures.ok c.offer.ensures.err) c.self.invariant

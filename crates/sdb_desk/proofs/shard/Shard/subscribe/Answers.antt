@@ -9,7 +9,7 @@ use Rattle.sdb_desk.specs.View.{subscribe_result_view}
 use Rattle.sdb_desk.specs.Rings.{append_ringed_queue}
 use Rattle.sdb_desk.specs.ShardView.{logs_of, queues_of, ringed_queues_of, with_ringed_queues}
 use Rattle.sdb_desk.specs.laws.MapLaws.{updated_at_unchanged}
-use Rattle.sdb_desk.proofs.SubscribeLemmas.{read_wanting, subscribe_done, subscribe_refused, subscribe_wanting}
+use Rattle.sdb_desk.proofs.SubscribeLemmas.{read_out_of_memory, subscribe_done, subscribe_refused, subscribe_out_of_memory}
 use Rattle.sdb_desk.proofs.shard.Shard.subscribe.Goals as goal
 
 pub returns-in_err-start-clause-others_unchanged : goal.returns-in_err-start-clause-others_unchanged
@@ -28,9 +28,9 @@ returns-in_err-version-clause-subscribes c =
     let q = queues_of c.args.self.now k in
     let new = queues_of c.fetch.new.self k in
     let p = err_from_is_err_and c.from_residual-in_err-version.result c.from_residual-in_err-version.ensures.1 in
-    let wanting = read_wanting read_has_document c.in_err-version.field-0.0 (fetch_result log) c.in_err-version.ensures.fetched in
+    let wanting = read_out_of_memory read_has_document c.in_err-version.field-0.0 (fetch_result log) c.in_err-version.ensures.fetched in
     subst (λ r. SubscribesOrOutOfMemory log c.args.by c.args.version q (subscribe_result_view r) new) (sym (p.1 ∙ ap Err p.2))
-    (subscribe_wanting log c.args.by c.args.version c.in_ok-start.start q new c.in_err-version.field-0.0 (sym c.in_ok-start.ensures) (sym c.ids_exhausted.ensures ∙ c.if-ids_exhausted.false) wanting (ap (λ f. f k) c.fetch.ensures.queues))
+    (subscribe_out_of_memory log c.args.by c.args.version c.in_ok-start.start q new c.in_err-version.field-0.0 (sym c.in_ok-start.ensures) (sym c.ids_exhausted.ensures ∙ c.if-ids_exhausted.false) wanting (ap (λ f. f k) c.fetch.ensures.queues))
 
 pub returns-in_err-id-clause-subscribes : goal.returns-in_err-id-clause-subscribes
 returns-in_err-id-clause-subscribes c =

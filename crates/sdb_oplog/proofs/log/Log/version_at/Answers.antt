@@ -1,6 +1,6 @@
 use Rattle.std.proofs.Common.{◌≡◌, ◌≤◌, ◌<◌, ◌+◌, ◌-◌, ◌/◌, suc, length, drop, sym, ap, ◌∙◌, subst, arith}
 use Rattle.sdb_oplog.specs.Moments.{version_at, MomentsOrderedFrom}
-use Rattle.sdb_oplog.proofs.VersionSearch.{front_counts, back_counts, halves_meet}
+use Rattle.sdb_oplog.proofs.VersionSearch.{prefix_counts, back_counts, halves_meet}
 use Rattle.sdb_oplog.proofs.log.Log.version_at.Goals as goal
 
 pub loop-low-preserved-then-milliseconds : goal.loop-low-preserved-then-milliseconds
@@ -16,7 +16,7 @@ loop-low-preserved-then-milliseconds c =
     record {
       ordered = omega arith;
       within = c.loop-low.invariant.within;
-      counted = front_counts 0 es m (m + 1) e c.args.moment one time within c.index-entries-middle.is early;
+      counted = prefix_counts 0 es m (m + 1) e c.args.moment one time within c.index-entries-middle.is early;
       rest = c.loop-low.invariant.rest;
     }
 

@@ -1,5 +1,5 @@
-use Rattle.sdb_rope.proofs.ChunkListLemmas.{all_own_is}
+use Rattle.sdb_rope.proofs.ChunkListLemmas.{all_unique_is}
 use Rattle.sdb_rope.proofs.rope.Rope.new.Goals as goal
 
 pub returns-then-len-gt-MAX_CHUNK_LEN-clause-unique : goal.returns-then-len-gt-MAX_CHUNK_LEN-clause-unique
-returns-then-len-gt-MAX_CHUNK_LEN-clause-unique c = all_own_is c.in_ok-chunks.chunks.items c.in_ok-chunks.ensures.unique
+returns-then-len-gt-MAX_CHUNK_LEN-clause-unique c = all_unique_is c.in_ok-chunks.chunks.items c.in_ok-chunks.ensures.unique

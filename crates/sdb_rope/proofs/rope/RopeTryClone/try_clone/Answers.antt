@@ -3,14 +3,14 @@ use Rattle.std.specs.List.{concat}
 use Rattle.sdb_rope.specs.declared.rope.RopeRepr.{RopeRepr}
 use Rattle.sdb_rope.specs.Rope.{repr_texts, is_unique_rope_repr}
 use Rattle.sdb_chunks.specs.Chunk.{items_of}
-use Rattle.sdb_rope.proofs.ChunkLemmas.{same_block}
+use Rattle.sdb_rope.proofs.ChunkLemmas.{same_chunk}
 use Rattle.sdb_rope.proofs.GroupLemmas.{same_groups}
 use Rattle.sdb_rope.proofs.rope.RopeTryClone.try_clone.Goals as goal
 
 pub returns-in_ok-copy-in-Chunks : goal.returns-in_ok-copy-in-Chunks
 returns-in_ok-copy-in-Chunks c =
     let seen : RopeRepr → List ℕ × Bool = λ f. (concat (repr_texts f), is_unique_rope_repr f) in
-    same_block c.in_ok-copy-in-Chunks.copy c.in-Chunks.chunks c.in_ok-copy-in-Chunks.ensures ∙ ap seen (sym c.in-Chunks.is)
+    same_chunk c.in_ok-copy-in-Chunks.copy c.in-Chunks.chunks c.in_ok-copy-in-Chunks.ensures ∙ ap seen (sym c.in-Chunks.is)
 
 pub returns-in_ok-copy-in-Groups : goal.returns-in_ok-copy-in-Groups
 returns-in_ok-copy-in-Groups c =

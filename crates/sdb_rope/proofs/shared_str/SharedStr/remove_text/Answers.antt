@@ -15,4 +15,4 @@ remove-requires-clause-end c =
     let here : take (length b - at) (drop at b) ≡ drop at B = to_end b at ∙ ap (drop at) (c.as_bytes.ensures.value ∙ c.as_str-2.ensures) in
     let begins : starts_with nat_eq (drop at B) old ≡ true = ap (λ l. starts_with nat_eq l old) (sym here) ∙ ap (starts_with nat_eq (take (length b - at) (drop at b))) (sym c.as_bytes-2.ensures.value) ∙ sym c.starts_with.ensures.value ∙ c.if-not-starts_with.false in
     let end = other_end B old at (subst IsUtf8 c.as_str.ensures c.as_str.utf8) c.utf8.old (subst (λ (t : List ℕ). IsSplitPoint t at) c.as_str.ensures c.in-Some.ensures.boundary) begins in
-    subst (λ (t : List ℕ). IsSplitPoint t (at + length old)) (sym c.make_unique.ensures.same) end
+    subst (λ (t : List ℕ). IsSplitPoint t (at + length old)) (sym c.make_unique.ensures.unchanged) end

@@ -5,7 +5,7 @@ use Rattle.sdb_projection.specs.Table.{projection_of}
 use Rattle.sdb_session.specs.Responses.{fetch_answers}
 use Rattle.sdb_session.specs.ProjectionModel.{projection_of_key}
 use Rattle.sdb_session.specs.View.{plain_session, plain_projection_option, echo_of_message, OutputUnlessFailed, WroteAnswers}
-use Rattle.sdb_session.proofs.ResponseLemmas.{found_handles, handled_by, on_says}
+use Rattle.sdb_session.proofs.ResponseLemmas.{found_handles, handled_by, on_output}
 use Rattle.sdb_wire.specs.Wire.{fetch}
 use Rattle.sdb_session.proofs.session.Session.fetch_document.Goals as goal
 
@@ -22,4 +22,4 @@ returns-in-Ok-clause-outcome g c = λ now.
     let r = fetch_result_view (Ok c.in-Ok.found) in
     handled_by _ (g.D.Desk.step c.args.desk.now) e t by now s (fetch k None) c.args.pass.now c.write_fetched.result wrote s c.fetch.new.pass
     (found_handles (g.D.Desk.step c.args.desk.now) e t by now s c.args.pass.now c.fetch.new.pass (OutputUnlessFailed c.write_fetched.result wrote) k o seen
-    (plain_key c.base_key_or-base.result.now) r (c.base_key_or-base.ensures ∙ c.in_ok-moved.ensures) c.in-Ok.ensures.step (on_says c.write_fetched.result wrote (fetch_answers e o k r) (c.write_fetched.ensures e)))
+    (plain_key c.base_key_or-base.result.now) r (c.base_key_or-base.ensures ∙ c.in_ok-moved.ensures) c.in-Ok.ensures.step (on_output c.write_fetched.result wrote (fetch_answers e o k r) (c.write_fetched.ensures e)))

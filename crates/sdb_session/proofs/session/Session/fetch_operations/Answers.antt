@@ -7,8 +7,8 @@ use Rattle.sdb_session.specs.declared.listing.BatchFault.{BatchFault}
 use Rattle.sdb_session.specs.Responses.{entry_answers}
 use Rattle.sdb_session.specs.ProjectionModel.{projection_of_key}
 use Rattle.sdb_session.specs.View.{plain_session, plain_projection_option, echo_of_message, OutputUnlessFailed, WroteAnswers}
-use Rattle.sdb_session.proofs.BatchLemmas.{says_behind}
-use Rattle.sdb_session.proofs.ResponseLemmas.{handled_by, listed_handles, lists_broken, on_says}
+use Rattle.sdb_session.proofs.BatchLemmas.{output_after}
+use Rattle.sdb_session.proofs.ResponseLemmas.{handled_by, listed_handles, lists_broken, on_output}
 use Rattle.sdb_wire.specs.Answers.{failed, list_end}
 use Rattle.sdb_wire.specs.Wire.{fetch}
 use Rattle.sdb_session.proofs.session.Session.fetch_operations.Goals as goal
@@ -30,7 +30,7 @@ returns-in-Ok-clause-outcome g c = λ now.
     let r = c.write_answer.result in
     let seen : o ≡ projection_of_key t k = c.find-projection.ensures ∙ ap (λ n. projection_of n t) c.as_str.ensures.value in
     let all = c.in-Ok.ensures.listed in
-    let said = says_behind f old mid new r (entry_answers o k all.0) (list_end k ∷ []) all.1.1 (on_says r (WroteAnswers f mid new) (list_end k ∷ []) c.write_answer.ensures) in
+    let said = output_after f old mid new r (entry_answers o k all.0) (list_end k ∷ []) all.1.1 (on_output r (WroteAnswers f mid new) (list_end k ∷ []) c.write_answer.ensures) in
     handled_by _ acts e t by now s (fetch k (Some v)) c.args.pass.now r (WroteAnswers f old new) s c.write_listing.new.pass
     (listed_handles acts e t by now s c.args.pass.now c.write_listing.new.pass (OutputUnlessFailed r (WroteAnswers f old new)) k o seen v (plain_key c.base_key_or-base.result.now) (Ok all.0) (c.base_key_or-base.ensures ∙ c.in_ok-moved.ensures) all.1.0 said)
 
@@ -54,7 +54,7 @@ returns-in-Err-Refused-clause-outcome g c = λ now.
     let says : List PlainEntry → Type 0 = λ l. WroteAnswers f old mid (entry_answers o k l) in
     let U : BatchFault → Type 0 = λ x. ListFailed (acts (plain_key c.base_key_or-base.result.now)) v says c.args.pass.now x c.write_listing.new.pass in
     let none = subst U c.in-Err-Refused.field-0-is c.in-Err-Refused.ensures.listed in
-    let said = says_behind f old mid new r [] (failed e code ∷ []) none.1 (on_says r (WroteAnswers f mid new) (failed e code ∷ []) c.write_refusal.ensures) in
+    let said = output_after f old mid new r [] (failed e code ∷ []) none.1 (on_output r (WroteAnswers f mid new) (failed e code ∷ []) c.write_refusal.ensures) in
     handled_by _ acts e t by now s (fetch k (Some v)) c.args.pass.now r (WroteAnswers f old new) s c.write_listing.new.pass
     (listed_handles acts e t by now s c.args.pass.now c.write_listing.new.pass (OutputUnlessFailed r (WroteAnswers f old new)) k o seen v (plain_key c.base_key_or-base.result.now) (Err code) (c.base_key_or-base.ensures ∙ c.in_ok-moved.ensures) none.0 said)
 

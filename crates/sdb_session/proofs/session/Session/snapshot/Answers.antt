@@ -5,7 +5,7 @@ use Rattle.sdb_projection.specs.Table.{projection_of}
 use Rattle.sdb_session.specs.Responses.{snapshot_answers}
 use Rattle.sdb_session.specs.ProjectionModel.{projection_of_key}
 use Rattle.sdb_session.specs.View.{plain_session, plain_projection_option, echo_of_message, OutputUnlessFailed, WroteAnswers}
-use Rattle.sdb_session.proofs.ResponseLemmas.{handled_by, on_says, snapshot_handles}
+use Rattle.sdb_session.proofs.ResponseLemmas.{handled_by, on_output, snapshot_handles}
 use Rattle.sdb_wire.specs.Wire.{snapshot}
 use Rattle.sdb_session.proofs.session.Session.snapshot.Goals as goal
 
@@ -24,4 +24,4 @@ returns-in-Ok-clause-outcome g c = λ now.
     let r = fetch_result_view (Ok c.in-Ok.found) in
     handled_by _ (g.D.Desk.step c.args.desk.now) e t by now s (snapshot k v id) c.args.pass.now c.write_snapshot.result wrote s c.snapshot_at.new.pass
     (snapshot_handles (g.D.Desk.step c.args.desk.now) e t by now s c.args.pass.now c.snapshot_at.new.pass (OutputUnlessFailed c.write_snapshot.result wrote) k o seen
-    v id (plain_key c.base_key_or-base.result.now) r (c.base_key_or-base.ensures ∙ c.in_ok-moved.ensures) c.in-Ok.ensures.step (on_says c.write_snapshot.result wrote (snapshot_answers e o id r) (c.write_snapshot.ensures e)))
+    v id (plain_key c.base_key_or-base.result.now) r (c.base_key_or-base.ensures ∙ c.in_ok-moved.ensures) c.in-Ok.ensures.step (on_output c.write_snapshot.result wrote (snapshot_answers e o id r) (c.write_snapshot.ensures e)))

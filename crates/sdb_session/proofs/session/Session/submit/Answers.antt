@@ -7,7 +7,7 @@ use Rattle.sdb_oplog.specs.Plain.{PlainSubmission}
 use Rattle.sdb_session.specs.Responses.{RequestOutcome, submission_of, submit_answers}
 use Rattle.sdb_session.specs.ProjectionModel.{projection_of_key}
 use Rattle.sdb_session.specs.View.{plain_session, plain_projection_option, echo_of_message, OutputUnlessFailed, WroteAnswers}
-use Rattle.sdb_session.proofs.ResponseLemmas.{handled_by, on_says, refused_handles, sent_handles}
+use Rattle.sdb_session.proofs.ResponseLemmas.{handled_by, on_output, refused_handles, sent_handles}
 use Rattle.sdb_wire.specs.Answers.{failed}
 use Rattle.sdb_wire.specs.Wire.{submit}
 use Rattle.sdb_session.proofs.session.Session.submit.Goals as goal
@@ -29,7 +29,7 @@ returns-then-not-permits-clause-outcome g c =
     let seen : o ≡ projection_of_key t k = c.find-projection.ensures ∙ ap (λ n. projection_of n t) c.as_str.ensures.value in
     handled_by _ (g.D.Desk.step c.args.desk.now) e t by now s (submit k v n src m) c.args.pass.now c.write_refusal.result wrote s c.args.pass.now
     (refused_handles (g.D.Desk.step c.args.desk.now) e t by now s c.args.pass.now c.args.pass.now (OutputUnlessFailed c.write_refusal.result wrote) k o seen
-    v n src m (sym c.permits.ensures ∙ c.if-not-permits.true) refl (on_says c.write_refusal.result wrote (failed e E9 ∷ []) c.write_refusal.ensures))
+    v n src m (sym c.permits.ensures ∙ c.if-not-permits.true) refl (on_output c.write_refusal.result wrote (failed e E9 ∷ []) c.write_refusal.ensures))
 
 pub returns-clause-outcome : goal.returns-clause-outcome
 returns-clause-outcome g c =
@@ -55,4 +55,4 @@ returns-clause-outcome g c =
     (subst (λ x. RequestOutcome (g.D.Desk.step c.args.desk.now) e t by now s (submit k v n src m) c.args.pass.now (OutputUnlessFailed c.write_reply.result wrote) x c.submit-reply.new.pass) (sym same)
     (sent_handles (g.D.Desk.step c.args.desk.now) e t by now s c.args.pass.now c.submit-reply.new.pass (OutputUnlessFailed c.write_reply.result wrote) k o seen
     v n src m (plain_key c.base_key_or-base.result.now) u r (sym c.permits.ensures ∙ c.if-not-permits.false) (c.base_key_or-base.ensures ∙ c.in_ok-moved.ensures) is c.submit-reply.ensures.chain
-    (on_says c.write_reply.result wrote (submit_answers e o k u.src u.seq r) c.write_reply.ensures)))
+    (on_output c.write_reply.result wrote (submit_answers e o k u.src u.seq r) c.write_reply.ensures)))

@@ -9,8 +9,8 @@ use Rattle.sdb_oplog.specs.declared.codes.Code.{Code}
 use Rattle.sdb_session.specs.Listing.{SubscribeFailed}
 use Rattle.sdb_session.specs.declared.listing.BatchFault.{BatchFault}
 use Rattle.sdb_session.specs.Responses.{PlainSubscribeReply, entry_answers}
-use Rattle.sdb_session.proofs.BatchLemmas.{opened_behind, says_behind}
-use Rattle.sdb_session.proofs.ResponseLemmas.{full_handles, handled_by, joined_handles, joins_broken, not_joined_handles, on_says}
+use Rattle.sdb_session.proofs.BatchLemmas.{opened_after, output_after}
+use Rattle.sdb_session.proofs.ResponseLemmas.{full_handles, handled_by, joined_handles, joins_broken, not_joined_handles, on_output}
 use Rattle.sdb_wire.specs.Answers.{failed}
 use Rattle.sdb_wire.specs.Wire.{subscribe}
 use Rattle.sdb_session.proofs.session.Session.subscribe.Goals as goal
@@ -30,7 +30,7 @@ returns-then-is_subscription_full-clause-outcome g c = λ now.
     let seen : o ≡ projection_of_key t k = c.find-projection.ensures ∙ ap (λ n. projection_of n t) c.as_str.ensures.value in
     handled_by _ (g.D.Desk.step c.args.desk.now) e t by now s (subscribe k v) c.args.pass.now c.write_refusal.result wrote s c.limit_code-code.new.pass
     (full_handles (g.D.Desk.step c.args.desk.now) e t by now s c.args.pass.now c.limit_code-code.new.pass (OutputUnlessFailed c.write_refusal.result wrote) k o seen
-    v b code (sym c.is_subscription_full.ensures ∙ c.if-is_subscription_full.true) c.in_ok-base.ensures c.limit_code-code.ensures.refuses (on_says c.write_refusal.result wrote (failed e code ∷ []) c.write_refusal.ensures))
+    v b code (sym c.is_subscription_full.ensures ∙ c.if-is_subscription_full.true) c.in_ok-base.ensures c.limit_code-code.ensures.refuses (on_output c.write_refusal.result wrote (failed e code ∷ []) c.write_refusal.ensures))
 
 pub returns-in-Err-Refused-clause-outcome : goal.returns-in-Err-Refused-clause-outcome
 returns-in-Err-Refused-clause-outcome g c = λ now.
@@ -56,7 +56,7 @@ returns-in-Err-Refused-clause-outcome g c = λ now.
     let none = subst U c.in-Err-Refused.field-0-is c.in-Err-Refused.ensures.joins in
     let R : Code → Type 0 = λ x. OnOk r (WroteAnswers f mid after (failed e x ∷ [])) in
     let refused = subst R c.in-Err-Refused.code-is c.write_refusal-in-Err-Refused.ensures in
-    let said = says_behind f before mid after r [] (failed e code ∷ []) none.1 (on_says r (WroteAnswers f mid after) (failed e code ∷ []) refused) in
+    let said = output_after f before mid after r [] (failed e code ∷ []) none.1 (on_output r (WroteAnswers f mid after) (failed e code ∷ []) refused) in
     handled_by _ acts e t by now s (subscribe k v) c.args.pass.now r (WroteAnswers f before after) new c.open_and_replace.new.pass
     (not_joined_handles acts e t by now s c.args.pass.now c.open_and_replace.new.pass (OutputUnlessFailed r (WroteAnswers f before after)) k o seen
     v b new (sym c.is_subscription_full.ensures ∙ c.if-is_subscription_full.false) c.in_ok-base.ensures code c.in-Err-Refused.ensures.session none.0 said)
@@ -82,7 +82,7 @@ returns-in-Ok-clause-outcome g c = λ now.
     let seen : o ≡ projection_of_key t k = c.find-projection.ensures ∙ ap (λ n. projection_of n t) c.as_str.ensures.value in
     let all = c.in-Ok.ensures.joins in
     let j : PlainSubscribeReply = record { opened = opened; first = all.0 } in
-    let said = opened_behind f before mid after r o k v opened all.0 all.1.1 all.1.2 c.subscribe_from.ensures.output in
+    let said = opened_after f before mid after r o k v opened all.0 all.1.1 all.1.2 c.subscribe_from.ensures.output in
     let is = c.subscribe_from.ensures.session ∙ ap (λ x. with_subscription x k (record { base = b; id = opened.id })) c.in-Ok.ensures.session in
     handled_by _ acts e t by now s (subscribe k v) c.args.pass.now r (WroteAnswers f before after) new c.open_and_replace.new.pass
     (joined_handles acts e t by now s c.args.pass.now c.open_and_replace.new.pass (OutputUnlessFailed r (WroteAnswers f before after)) k o seen

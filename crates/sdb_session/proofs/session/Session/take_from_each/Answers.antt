@@ -8,7 +8,7 @@ use Rattle.sdb_session.specs.Output.{answer_items}
 use Rattle.sdb_session.specs.Responses.{entry_answers}
 use Rattle.sdb_session.specs.declared.subscriptions.Subscription.{Subscription}
 use Rattle.sdb_session.specs.View.{plain_subscription, queue_id_of, plain_session}
-use Rattle.sdb_session.proofs.PumpLemmas.{takes_more, takes_none, says_more, counts_more, pieces_more, taken_sub, on_err_any}
+use Rattle.sdb_session.proofs.PumpLemmas.{takes_more, takes_none, output_more, counts_more, pieces_more, taken_sub, on_err_any}
 use Rattle.sdb_session.proofs.session.Session.take_from_each.Goals as goal
 
 pub loop-key-init : goal.loop-key-init
@@ -67,7 +67,7 @@ loop-key-preserved g c =
           omega (arith, counts_more far.0 x, far.1.2, c.len.ensures),
           pieces_more g.O.AnswerSink.items (g.O.AnswerSink.contents c.args.out.now) (g.O.AnswerSink.contents c.loop-key.out) (g.O.AnswerSink.contents c.write_entries_of_others.new.out) (pump_answers t source far.0) (take_answers t source x) far.1.3
               (c.in_ok-write_entries_of_others.ensures ∙ ap (λ es. g.O.AnswerSink.contents c.loop-key.out ++ answer_items g.O.AnswerSink.items (entry_answers (projection_of_key t k) k (entries_of_others source k es))) c.as_slice.ensures.value)
-              ∙ ap (λ a. g.O.AnswerSink.contents c.args.out.now ++ answer_items g.O.AnswerSink.items a) (sym (says_more t source far.0 x)),
+              ∙ ap (λ a. g.O.AnswerSink.contents c.args.out.now ++ answer_items g.O.AnswerSink.items a) (sym (output_more t source far.0 x)),
         ),
       );
     }

@@ -1,7 +1,7 @@
 use Rattle.std.proofs.Common.{ap, sym, ◌∙◌}
 use Rattle.sdb_snapcache.specs.CacheModel.{promote_nearest}
 use Rattle.sdb_snapcache.specs.View.{plain_snapshots}
-use Rattle.sdb_snapcache.proofs.LruLemmas.{eight_of, eight_used, kept_of, used_entries}
+use Rattle.sdb_snapcache.proofs.LruLemmas.{eight_of, eight_used, unchanged_of, used_entries}
 use Rattle.sdb_snapcache.proofs.NearestLemmas.{used_version}
 use Rattle.sdb_snapcache.proofs.cache.Cache.promote.Goals as goal
 
@@ -16,4 +16,4 @@ returns-clause-used c =
     let k = c.in_ok-kept.kept.now in
     let n = c.in_ok-version.version in
     ap (λ m. plain_snapshots m.entries) c.promote.ensures.entries ∙ sym (used_entries n k.entries) ∙ sym (used_version c.args.v n (plain_snapshots k.entries) c.in_ok-version.ensures)
-    ∙ ap (promote_nearest c.args.v) (kept_of c.self.inside.snapshots k c.in_ok-kept.ensures.value ∙ c.self.view_is)
+    ∙ ap (promote_nearest c.args.v) (unchanged_of c.self.inside.snapshots k c.in_ok-kept.ensures.value ∙ c.self.view_is)

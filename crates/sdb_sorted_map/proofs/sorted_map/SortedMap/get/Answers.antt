@@ -12,7 +12,7 @@ returns-in_err-get-in-Ok g c =
     let at = λ (b : Bor (MapEntry g.row.V.Denot)). b.now in
     ap (option_map (λ (v : Bor g.row.V.Denot). f v.now)) c.from_residual.ensures
     ∙ sym (ap (option_map (λ b. f (at b).value)) c.in_err-get-in-Ok.was)
-    ∙ value_found f at m.entries c.args.key.now c.in-Ok.index c.get.result c.in-Ok.ensures.found c.get.ensures
+    ∙ value_found f at m.entries c.args.key.now c.in-Ok.index c.get.result c.in-Ok.ensures.key_index c.get.ensures
 
 pub returns-in_ok-get-in-Ok : goal.returns-in_ok-get-in-Ok
 returns-in_ok-get-in-Ok g c =
@@ -20,7 +20,7 @@ returns-in_ok-get-in-Ok g c =
     let f = g.V.TryClone.model in
     let at = λ (b : Bor (MapEntry g.row.V.Denot)). b.now in
     sym (ap (option_map (λ b. f (at b).value)) c.in_ok-get-in-Ok.was)
-    ∙ value_found f at m.entries c.args.key.now c.in-Ok.index c.get.result c.in-Ok.ensures.found c.get.ensures
+    ∙ value_found f at m.entries c.args.key.now c.in-Ok.index c.get.result c.in-Ok.ensures.key_index c.get.ensures
 
 pub returns-in-Err : goal.returns-in-Err
 returns-in-Err g c =

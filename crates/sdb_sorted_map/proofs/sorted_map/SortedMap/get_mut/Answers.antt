@@ -2,7 +2,7 @@ use Rattle.std.proofs.Common.{option_map, ap, sym, ◌∙◌}
 use Rattle.sdb_chunks.specs.laws.ChunkLaws.{unique_vec_at_of_all}
 use Rattle.sdb_sorted_map.specs.laws.SortedMapLaws.{lookup_of_key_index, lookup_none_of_insert_index}
 use Rattle.sdb_sorted_map.specs.SortedMap.{map_entry_models}
-use Rattle.sdb_sorted_map.proofs.EditLemmas.{ascending_kept, length_kept, found_seen, gap_seen, own_flat}
+use Rattle.sdb_sorted_map.proofs.EditLemmas.{ascending_unchanged, length_unchanged, found_seen, gap_seen, unique_flat}
 use Rattle.sdb_sorted_map.proofs.sorted_map.SortedMap.get_mut.Goals as goal
 
 pub invariant_of-self-lent : goal.invariant_of-self-lent
@@ -12,8 +12,8 @@ invariant_of-self-lent g c r =
     let k = c.args.key.now in
     let i = c.in-Ok.index in
     let held = c.entry_value_mut.follows in (
-      λ w. let e = held.holds w in (length_kept f m.entries (held.lender w) k i e m.small, (ascending_kept f m.entries (held.lender w) k i e m.keys_ascending, tt)),
-      let e = held.holds-at-none in (length_kept f m.entries held.lender-at-none k i e m.small, (ascending_kept f m.entries held.lender-at-none k i e m.keys_ascending, tt)),
+      λ w. let e = held.holds w in (length_unchanged f m.entries (held.lender w) k i e m.small, (ascending_unchanged f m.entries (held.lender w) k i e m.keys_ascending, tt)),
+      let e = held.holds-at-none in (length_unchanged f m.entries held.lender-at-none k i e m.small, (ascending_unchanged f m.entries held.lender-at-none k i e m.keys_ascending, tt)),
     )
 
 pub returns-in-Ok : goal.returns-in-Ok
@@ -21,8 +21,8 @@ returns-in-Ok g c own =
     let f = g.V.TryClone.model in
     let l = c.args.self.now.entries in
     let i = c.in-Ok.index in
-    c.entry_value_mut.ensures.value (unique_vec_at_of_all l i own) (own_flat l own)
-    ∙ sym (lookup_of_key_index c.args.key.now (map_entry_models f c.args.self.now) i (found_seen f l l c.args.key.now i c.in-Ok.ensures.found))
+    c.entry_value_mut.ensures.value (unique_vec_at_of_all l i own) (unique_flat l own)
+    ∙ sym (lookup_of_key_index c.args.key.now (map_entry_models f c.args.self.now) i (found_seen f l l c.args.key.now i c.in-Ok.ensures.key_index))
 
 pub returns-in-Err : goal.returns-in-Err
 returns-in-Err g c own =

@@ -5,7 +5,7 @@ use Rattle.sdb_sorted_map.specs.laws.SortedMapLaws.{lookup_none_of_insert_index}
 use Rattle.sdb_sorted_map.specs.SortedMap.{map_entry_models}
 use Rattle.sdb_sorted_map.specs.KeyOrder.{IsKeyIndex, IsInsertIndex}
 use Rattle.sdb_sorted_map.specs.SearchModel.{vec_keys}
-use Rattle.sdb_sorted_map.proofs.EditLemmas.{gap_seen, value_found, none_found, not_both, on_err, length_kept, ascending_kept, replaced_texts, replaced_entries, put_entries, put_small, put_ascending}
+use Rattle.sdb_sorted_map.proofs.EditLemmas.{gap_seen, value_found, none_found, not_both, on_err, length_unchanged, ascending_unchanged, replaced_texts, replaced_entries, put_entries, put_small, put_ascending}
 use Rattle.sdb_sorted_map.proofs.sorted_map.SortedMap.insert.Goals as goal
 
 -- ---- the key is present
@@ -16,15 +16,15 @@ invariant_of-self g c =
     let l = c.args.self.now.entries in
     let i = c.in-Ok.index in
     let k = string_bytes c.args.key in
-    let at = subst (λ t. IsKeyIndex (vec_keys l) t i) c.as_str.ensures.value c.in-Ok.ensures.found in
+    let at = subst (λ t. IsKeyIndex (vec_keys l) t i) c.as_str.ensures.value c.in-Ok.ensures.key_index in
     let e = replaced_texts f l c.replace.new.self k _ i _ c.new.ensures c.replace.result at c.replace.ensures.ok c.replace.ensures.err in
-    record { small = length_kept f l c.replace.new.self k i e c.args.self.now.small; keys_ascending = ascending_kept f l c.replace.new.self k i e c.args.self.now.keys_ascending }
+    record { small = length_unchanged f l c.replace.new.self k i e c.args.self.now.small; keys_ascending = ascending_unchanged f l c.replace.new.self k i e c.args.self.now.keys_ascending }
 
 pub returns-in-Some-clause-ok : goal.returns-in-Some-clause-ok
 returns-in-Some-clause-ok g c =
     let l = c.args.self.now.entries in
     let i = c.in-Ok.index in
-    let at = subst (λ t. IsKeyIndex (vec_keys l) t i) c.as_str.ensures.value c.in-Ok.ensures.found in
+    let at = subst (λ t. IsKeyIndex (vec_keys l) t i) c.as_str.ensures.value c.in-Ok.ensures.key_index in
     replaced_entries g.V.TryClone.model l c.replace.new.self (string_bytes c.args.key) _ i _ c.new.ensures at c.in_ok-old-in-Ok.ensures.ok
 
 pub returns-in-Some-clause-value : goal.returns-in-Some-clause-value
@@ -32,12 +32,12 @@ returns-in-Some-clause-value g c =
     let f = g.V.TryClone.model in
     let l = c.args.self.now.entries in
     let i = c.in-Ok.index in
-    let at = subst (λ t. IsKeyIndex (vec_keys l) t i) c.as_str.ensures.value c.in-Ok.ensures.found in
+    let at = subst (λ t. IsKeyIndex (vec_keys l) t i) c.as_str.ensures.value c.in-Ok.ensures.key_index in
     ap (option_map (λ m. f m.value)) (sym c.in-Some.is) ∙ value_found f (λ m. m) l (string_bytes c.args.key) i c.in_ok-old-in-Ok.field-0 at c.in_ok-old-in-Ok.ensures.item
 
 pub unreachable-requires : goal.unreachable-requires
 unreachable-requires g c =
-    none_found g.V.TryClone.model c.args.self.now.entries c.as_str.result.now c.in-Ok.index c.in_ok-old-in-Ok.field-0 c.in-Ok.ensures.found c.in_ok-old-in-Ok.ensures.item c.in-None.is
+    none_found g.V.TryClone.model c.args.self.now.entries c.as_str.result.now c.in-Ok.index c.in_ok-old-in-Ok.field-0 c.in-Ok.ensures.key_index c.in_ok-old-in-Ok.ensures.item c.in-None.is
 
 pub returns-in_err-old-in-Ok-clause-absent : goal.returns-in_err-old-in-Ok-clause-absent
 returns-in_err-old-in-Ok-clause-absent g c own =

@@ -16,17 +16,17 @@ invariant_of-self g c =
 
 pub returns-in-Some-clause-ok : goal.returns-in-Some-clause-ok
 returns-in-Some-clause-ok g c =
-    taken_entries g.V.TryClone.model c.args.self.now.entries c.remove.new.self c.args.key.now c.in-Ok.index c.in-Ok.ensures.found c.in_ok-member-in-Ok.ensures.ok
+    taken_entries g.V.TryClone.model c.args.self.now.entries c.remove.new.self c.args.key.now c.in-Ok.index c.in-Ok.ensures.key_index c.in_ok-member-in-Ok.ensures.ok
 
 pub returns-in-Some-clause-value : goal.returns-in-Some-clause-value
 returns-in-Some-clause-value g c =
     let f = g.V.TryClone.model in
     ap (option_map (λ m. f m.value)) (sym c.in-Some.is)
-    ∙ value_found f (λ m. m) c.args.self.now.entries c.args.key.now c.in-Ok.index c.in_ok-member-in-Ok.field-0 c.in-Ok.ensures.found c.in_ok-member-in-Ok.ensures.item
+    ∙ value_found f (λ m. m) c.args.self.now.entries c.args.key.now c.in-Ok.index c.in_ok-member-in-Ok.field-0 c.in-Ok.ensures.key_index c.in_ok-member-in-Ok.ensures.item
 
 pub unreachable-requires : goal.unreachable-requires
 unreachable-requires g c =
-    none_found g.V.TryClone.model c.args.self.now.entries c.args.key.now c.in-Ok.index c.in_ok-member-in-Ok.field-0 c.in-Ok.ensures.found c.in_ok-member-in-Ok.ensures.item c.in-None.is
+    none_found g.V.TryClone.model c.args.self.now.entries c.args.key.now c.in-Ok.index c.in_ok-member-in-Ok.field-0 c.in-Ok.ensures.key_index c.in_ok-member-in-Ok.ensures.item c.in-None.is
 
 pub returns-in-Err-clause-ok : goal.returns-in-Err-clause-ok
 returns-in-Err-clause-ok g c =

@@ -1,11 +1,11 @@
 use Rattle.std.proofs.Common.{refl, sym, ◌∙◌}
 use Rattle.sdb_steps.specs.StateView.{plain_open_attempt}
-use Rattle.sdb_steps.proofs.CommitLemmas.{unworked_wanting, same_decides}
+use Rattle.sdb_steps.proofs.CommitLemmas.{unworked_out_of_memory, same_decides}
 use Rattle.sdb_steps.proofs.session_data.OpenAttempt.commit_unworked.Goals as goal
 
 pub returns-then-version-look_version-clause-commits : goal.returns-then-version-look_version-clause-commits
 returns-then-version-look_version-clause-commits c =
-    unworked_wanting c.args.shard.now (plain_open_attempt c.args.self) (plain_open_attempt c.args.self) c.args.now c.requires.bound (λ e. c.if-version-look_version.true (c.version.ensures ∙ e ∙ sym c.look_version.ensures)) refl
+    unworked_out_of_memory c.args.shard.now (plain_open_attempt c.args.self) (plain_open_attempt c.args.self) c.args.now c.requires.bound (λ e. c.if-version-look_version.true (c.version.ensures ∙ e ∙ sym c.look_version.ensures)) refl
 
 pub commit_now-requires-clause-due : goal.commit_now-requires-clause-due
 commit_now-requires-clause-due c =

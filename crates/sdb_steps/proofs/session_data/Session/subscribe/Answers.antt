@@ -8,7 +8,7 @@ use Rattle.sdb_steps.specs.Picks.{SessionState, PlainStepAnswer, subscribe}
 use Rattle.sdb_steps.specs.Dispatch.{DispatchesAct}
 use Rattle.sdb_steps.specs.StateView.{one_step_of_shard, session_state_of, plain_open_attempt, queue_slots_of, queue_slots_in, position_in_queues}
 use Rattle.sdb_steps.specs.Slots.{PlainQueueSlots, close_in}
-use Rattle.sdb_steps.proofs.QueueStepLemmas.{told_turn, started_code, SubscribeFacts, joined_turn, joined_leaves, subscribe_wanting, subscribe_refused, leaves_all, kept_queues, session_kept, refused_same}
+use Rattle.sdb_steps.proofs.QueueStepLemmas.{view_turn, started_code, SubscribeFacts, joined_turn, joined_leaves, subscribe_out_of_memory, subscribe_refused, leaves_all, unchanged_queues, session_unchanged, refused_same}
 use Rattle.sdb_steps.proofs.CommitLemmas.{same_core}
 use Rattle.sdb_steps.proofs.session_data.Session.subscribe.Goals as goal
 
@@ -19,7 +19,7 @@ returns-in-Err-clause-dispatches c =
     let k = plain_key c.args.key.now in
     let e = sym c.in-Err.ensures in
     subst (λ (z : PlainStepAnswer). DispatchesAct c.args.by m x (subscribe k c.args.version) z m x) (sym c.refused_start.ensures)
-    (told_turn c.args.by m m x x k c.args.version c.in-Err.code e (started_code m k c.args.version c.in-Err.code e) refl refl)
+    (view_turn c.args.by m m x x k c.args.version c.in-Err.code e (started_code m k c.args.version c.in-Err.code e) refl refl)
 
 pub returns-in-Err-clause-other_queues_unchanged : goal.returns-in-Err-clause-other_queues_unchanged
 returns-in-Err-clause-other_queues_unchanged c =
@@ -31,7 +31,7 @@ pub returns-in_default-reserve_slot-clause-dispatches : goal.returns-in_default-
 returns-in_default-reserve_slot-clause-dispatches c =
     let q = queues_of c.args.shard.now in
     let m = one_step_of_shard c.args.shard.now in
-    subscribe_wanting c.args.by m m (session_state_of q c.args.self.now) _ (plain_key c.args.key.now) c.args.version c.in_default.field-0 (sym c.in_default.ensures) refl (session_kept (option_map plain_open_attempt c.args.self.now.attempt) q q _ _ refl c.in_default-reserve_slot.ensures.unchanged)
+    subscribe_out_of_memory c.args.by m m (session_state_of q c.args.self.now) _ (plain_key c.args.key.now) c.args.version c.in_default.field-0 (sym c.in_default.ensures) refl (session_unchanged (option_map plain_open_attempt c.args.self.now.attempt) q q _ _ refl c.in_default-reserve_slot.ensures.unchanged)
 
 pub returns-in_default-reserve_slot-clause-other_queues_unchanged : goal.returns-in_default-reserve_slot-clause-other_queues_unchanged
 returns-in_default-reserve_slot-clause-other_queues_unchanged c = let q = queues_of c.args.shard.now in leaves_all c.args.by q q (queue_slots_of c.args.self.now) _ c.requires refl c.in_default-reserve_slot.ensures.unchanged
@@ -102,7 +102,7 @@ returns-in-Err-subscribe-clause-dispatches c =
     let y : SessionState = record { attempt = a; queues = λ j. position_in_queues (q1 j) (t j) } in
     subst (λ (z : PlainStepAnswer). DispatchesAct c.args.by m x (subscribe k v) z n y) (sym c.refused_start-in-Err-subscribe.ensures)
     (subscribe_refused c.args.by m n (q0 k) (q1 k) x y k v c.in-Err-subscribe.code c.in_default.field-0 (sym c.in_default.ensures) refl told.subscribes told.logs
-    (λ e. (same_core c.args.shard.now c.subscribe.new.self told.logs (kept_queues q0 q1 k told.others e), session_kept a q0 q1 (queue_slots_of c.args.self.now) t (kept_queues q0 q1 k told.others e) slots))).1
+    (λ e. (same_core c.args.shard.now c.subscribe.new.self told.logs (unchanged_queues q0 q1 k told.others e), session_unchanged a q0 q1 (queue_slots_of c.args.self.now) t (unchanged_queues q0 q1 k told.others e) slots))).1
 
 pub returns-in-Err-subscribe-clause-other_queues_unchanged : goal.returns-in-Err-subscribe-clause-other_queues_unchanged
 returns-in-Err-subscribe-clause-other_queues_unchanged c =
@@ -111,4 +111,4 @@ returns-in-Err-subscribe-clause-other_queues_unchanged c =
     let k = plain_key c.args.key.now in
     let told = c.in-Err-subscribe.ensures in
     let slots = c.drop_empty_slot.ensures ∙ c.in-Ok.ensures.unchanged in
-    leaves_all c.args.by q0 q1 (queue_slots_of c.args.self.now) _ c.requires (kept_queues q0 q1 k told.others (refused_same (logs_of c.args.shard.now k) c.args.by c.args.version (q0 k) (q1 k) c.in-Err-subscribe.code told.subscribes)) slots
+    leaves_all c.args.by q0 q1 (queue_slots_of c.args.self.now) _ c.requires (unchanged_queues q0 q1 k told.others (refused_same (logs_of c.args.shard.now k) c.args.by c.args.version (q0 k) (q1 k) c.in-Err-subscribe.code told.subscribes)) slots

@@ -4,7 +4,7 @@ use Rattle.sdb_desk.specs.ShardView.{logs_of, queues_of}
 use Rattle.sdb_subscribe.specs.Queue.{pending_entries, take_result}
 use Rattle.sdb_desk.specs.Machine.{TakesOrOutOfMemory, is_nonempty}
 use Rattle.sdb_steps.specs.StateView.{plain_open_attempt, queue_slots_of}
-use Rattle.sdb_steps.proofs.QueueStepLemmas.{TakeFacts, stands_of, taken_turn, taken_leaves, take_wanting, leaves_all, kept_queues}
+use Rattle.sdb_steps.proofs.QueueStepLemmas.{TakeFacts, stands_of, taken_turn, taken_leaves, take_out_of_memory, leaves_all, unchanged_queues}
 use Rattle.sdb_steps.proofs.session_data.Session.take.Goals as goal
 
 pub returns-in-Ok-Some-clause-dispatches : goal.returns-in-Ok-Some-clause-dispatches
@@ -58,7 +58,7 @@ returns-in-Err-clause-dispatches c =
     let some =
     sym (ap (λ b. is_nonempty (unwrap_or (cond b (take_result (l0 k) n c.args.max (q0 k).queues) None) [])) (c.requires k n at).1 ∙ ap (λ o. is_nonempty (unwrap_or (option_map (pending_entries (l0 k) c.args.max) o) [])) w.1)
     ∙ told.takes.1 in
-    take_wanting c.args.by q0 q1 l0 l1 s s k n w.0 a h c.args.max some refl (kept_queues q0 q1 k told.others told.takes.0)
+    take_out_of_memory c.args.by q0 q1 l0 l1 s s k n w.0 a h c.args.max some refl (unchanged_queues q0 q1 k told.others told.takes.0)
 
 pub returns-in-Err-clause-other_queues_unchanged : goal.returns-in-Err-clause-other_queues_unchanged
 returns-in-Err-clause-other_queues_unchanged c =
@@ -67,4 +67,4 @@ returns-in-Err-clause-other_queues_unchanged c =
     let k = plain_key c.args.key.now in
     let s = queue_slots_of c.args.self.now in
     let told = c.in-Err.ensures in
-    leaves_all c.args.by q0 q1 s s c.requires (kept_queues q0 q1 k told.others told.takes.0) refl
+    leaves_all c.args.by q0 q1 s s c.requires (unchanged_queues q0 q1 k told.others told.takes.0) refl

@@ -3,7 +3,7 @@ use Rattle.sdb_oplog.specs.declared.codes.Code.TheVariants.{E11}
 use Rattle.sdb_subscribe.specs.Queue.{open_queue, queue_at}
 use Rattle.sdb_subscribe.specs.Ring.{without_rings, queues_without_rings, AreRingsOfLog}
 use Rattle.sdb_subscribe.specs.laws.QueueLaws.{queue_at_opened}
-use Rattle.sdb_subscribe.proofs.QueueMapLemmas.{insert_new_last, added_bare, given_added, given_bare, other_than}
+use Rattle.sdb_subscribe.proofs.QueueMapLemmas.{insert_new_last, added_bare, assigned_added, assigned_bare, other_than}
 use Rattle.sdb_subscribe.proofs.RingLemmas.{fit_added, fits_empty}
 use Rattle.sdb_subscribe.proofs.queues.Queues.open.Goals as goal
 
@@ -12,7 +12,7 @@ invariant_of-self-2 c =
     let es = c.self.inside.queues.entries in
     let n = c.self.inside.next in
     let w = c.in_ok-queue.queue in
-    rw (c.in-Ok.ensures.entries ∙ insert_new_last n w es c.self.invariant) (given_added n w es c.self.invariant)
+    rw (c.in-Ok.ensures.entries ∙ insert_new_last n w es c.self.invariant) (assigned_added n w es c.self.invariant)
 
 pub returns-clause-ok : goal.returns-clause-ok
 returns-clause-ok c =
@@ -30,7 +30,7 @@ returns-clause-open c =
     let n = c.self.inside.next in
     let w = c.in_ok-queue.queue in
     ap (queue_at n) (ap queues_without_rings (c.in-Ok.ensures.entries ∙ insert_new_last n w es c.self.invariant) ∙ added_bare n w es)
-    ∙ queue_at_opened n w.queue (queues_without_rings es) (given_bare n es c.self.invariant) ∙ ap (λ v. Some v.queue) c.in_ok-queue.ensures
+    ∙ queue_at_opened n w.queue (queues_without_rings es) (assigned_bare n es c.self.invariant) ∙ ap (λ v. Some v.queue) c.in_ok-queue.ensures
 
 pub returns-clause-rings : goal.returns-clause-rings
 returns-clause-rings c =

@@ -1,7 +1,7 @@
 use Rattle.std.proofs.Common.{ap, ◌∙◌, sym, subst, option_map}
 use Rattle.sdb_subscribe.specs.Queue.{remove_queue, queue_at}
 use Rattle.sdb_subscribe.specs.Ring.{queues_without_rings, AreRingsOfLog}
-use Rattle.sdb_subscribe.proofs.QueueMapLemmas.{lookup_by_cmp, at_bare, remove_by_cmp, removed_bare, given_without}
+use Rattle.sdb_subscribe.proofs.QueueMapLemmas.{lookup_by_cmp, at_bare, remove_by_cmp, removed_bare, assigned_without}
 use Rattle.sdb_subscribe.proofs.RingLemmas.{fit_without}
 use Rattle.sdb_subscribe.proofs.queues.Queues.remove.Goals as goal
 
@@ -9,7 +9,7 @@ pub invariant_of-self : goal.invariant_of-self
 invariant_of-self c =
     let es = c.self.inside.queues.entries in
     let n = c.id.inside.number in
-    rw (c.release_if_empty.ensures ∙ c.remove.ensures.entries ∙ remove_by_cmp n es) (given_without n c.self.inside.next es c.self.invariant)
+    rw (c.release_if_empty.ensures ∙ c.remove.ensures.entries ∙ remove_by_cmp n es) (assigned_without n c.self.inside.next es c.self.invariant)
 
 pub returns-clause-queues : goal.returns-clause-queues
 returns-clause-queues c =

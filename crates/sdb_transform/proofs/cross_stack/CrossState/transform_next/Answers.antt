@@ -3,7 +3,7 @@ use Rattle.std.proofs.lemmas.Result.{err_from_is_err_and}
 use Rattle.sdb_transform.specs.Classification.{transformed_components}
 use Rattle.sdb_transform.specs.CrossStack.{from_top, work_from_top}
 use Rattle.sdb_transform.specs.CrossMachine.{RightChange, LeftChanges, right_frames}
-use Rattle.sdb_transform.proofs.CrossRun.{on_ok_then, none_keeps, meet_keeps, meet_falls, meet_refused}
+use Rattle.sdb_transform.proofs.CrossRun.{on_ok_then, none_preserves, meet_preserves, meet_falls, meet_refused}
 use Rattle.sdb_transform.proofs.cross_stack.CrossState.transform_next.Goals as goal
 
 pub returns-in_err-pieces-clause-refused : goal.returns-in_err-pieces-clause-refused
@@ -26,7 +26,7 @@ loop-left-preserved c =
     let work : S' ≡ right_frames rs ++ (LeftChanges ls ∷ S) = rw c.in-One.is (ap (λ s. RightChange c.in-One.next ∷ s) c.in_ok-push_left.ensures.ok) in
     let less = meet_falls c.in-Some.left c.loop-left.right W W' S S' ls rs c.in-Some.ensures both.ensures.left both.ensures.right work in
     record {
-      keeps = λ goal h. meet_keeps goal c.loop-left.right W W' S S' self.right_done.items self.pairs c.in-Some.left _ ls rs c.in-Some.ensures both.ensures.left both.ensures.right c.saturating_add-self.ensures work (c.loop-left.invariant.keeps goal h);
+      keeps = λ goal h. meet_preserves goal c.loop-left.right W W' S S' self.right_done.items self.pairs c.in-Some.left _ ls rs c.in-Some.ensures both.ensures.left both.ensures.right c.saturating_add-self.ensures work (c.loop-left.invariant.keeps goal h);
       falls = omega (arith, less, c.loop-left.invariant.falls);
     }
 
@@ -40,7 +40,7 @@ returns-in-Many-clause-keeps c =
     let S' = work_from_top c.push_right.new.work.items in
     on_ok_then c.push_right.result c.push_right.ensures.ok (λ e goal h.
     let work : S' ≡ right_frames rs ++ (LeftChanges ls ∷ S) = rw c.in-Many.is (e ∙ ap (λ s. right_frames c.in-Many.run'.items ++ s) c.in_ok-push_left.ensures.ok) in
-    meet_keeps goal c.loop-left.right (from_top self.left.items) (from_top c.pop_left.new.waiting.items) S S' self.right_done.items self.pairs c.in-Some.left _ ls rs c.in-Some.ensures both.ensures.left both.ensures.right c.saturating_add-self.ensures work (c.loop-left.invariant.keeps goal h))
+    meet_preserves goal c.loop-left.right (from_top self.left.items) (from_top c.pop_left.new.waiting.items) S S' self.right_done.items self.pairs c.in-Some.left _ ls rs c.in-Some.ensures both.ensures.left both.ensures.right c.saturating_add-self.ensures work (c.loop-left.invariant.keeps goal h))
 
 pub returns-in-Many-clause-falls : goal.returns-in-Many-clause-falls
 returns-in-Many-clause-falls c =
@@ -59,4 +59,4 @@ pub returns-clause-keeps : goal.returns-clause-keeps
 returns-clause-keeps c =
     let self = c.loop-left.self in
     let S = work_from_top self.right.items in
-    λ goal h. none_keeps goal c.loop-left.right (from_top self.left.items) (from_top c.pop_left.new.waiting.items) S S self.right_done.items self.pairs _ c.in_default.ensures.0 c.in_default.ensures.1 c.in_ok-push.ensures.items (c.loop-left.invariant.keeps goal h)
+    λ goal h. none_preserves goal c.loop-left.right (from_top self.left.items) (from_top c.pop_left.new.waiting.items) S S self.right_done.items self.pairs _ c.in_default.ensures.0 c.in_default.ensures.1 c.in_ok-push.ensures.items (c.loop-left.invariant.keeps goal h)
