@@ -1,5 +1,8 @@
 //! Tests of `sdb_apply`: components and operations, applied in order or atomically.
-use crate::texts::{component, each_row, is_shown, is_value, json, json_of, op_of, parsed, says};
+use crate::helpers::{
+    check_rows, component, displays_as, json, json_equals, json_of, json_prints_as, op_of,
+    parse_value,
+};
 use sdb_apply::{ApplyFault, Refused, apply, apply_atomic, apply_one};
 use sdb_component::Component;
 use serde_json::Value;
@@ -8,7 +11,7 @@ use std::process::Abort;
 
 // Rows of a value, an operation, the index of its first component that cannot be applied, and the
 // value afterwards.
-const STEPS: &str = r#"[
+const OPERATIONS: &str = r#"[
   [5, [{"p":[],"na":1}], null, 6],
   [5, [{"p":[],"na":-7}], null, -2],
   [9007199254740990, [{"p":[],"na":1}], null, 9007199254740991],
@@ -60,7 +63,7 @@ const STEPS: &str = r#"[
 ]"#;
 
 // Returns the index of the component that was not applied.
-pub(crate) fn refused(rt: &impl Abort, applied: Result<(), Refused>) -> Option<u64> {
+pub(crate) fn refused_at(rt: &impl Abort, applied: Result<(), Refused>) -> Option<u64> {
     match applied {
         Ok(()) => None,
         Err(refusal) => {
@@ -71,22 +74,22 @@ pub(crate) fn refused(rt: &impl Abort, applied: Result<(), Refused>) -> Option<u
 }
 
 // Checks the outcome of `apply` for a row, and the value afterwards.
-fn holds(rt: &impl Abort, alloc: Global, row: &[Value]) -> bool {
+fn applies_as_listed(rt: &impl Abort, alloc: Global, row: &[Value]) -> bool {
     let [before, steps, at, after] = row else {
         return false;
     };
     let mut value = json_of(rt, alloc, before);
     let applied = apply(alloc, &mut value, &op_of(rt, alloc, steps));
-    refused(rt, applied) == at.as_u64() && is_value(rt, alloc, &value, after)
+    refused_at(rt, applied) == at.as_u64() && json_equals(rt, alloc, &value, after)
 }
 
 #[test]
 fn operations_are_applied_or_refused(rt: HostRuntime) {
-    assert!(rt; each_row(&rt, rt.alloc(), STEPS, holds) == 48);
+    assert!(rt; check_rows(&rt, rt.alloc(), OPERATIONS, applies_as_listed) == 48);
 }
 
 // Rows of a value, an operation, whether it is applied atomically, and the value afterwards.
-const WHOLE: &str = r#"[
+const ATOMIC_OPERATIONS: &str = r#"[
   [5, [], true, 5],
   [[1], [{"p":[0],"na":1}], true, [2]],
   [[1], [{"p":[1],"na":1}], false, [1]],
@@ -99,52 +102,63 @@ const WHOLE: &str = r#"[
 
 // Checks `apply_atomic` for a row on a unique value and on a frozen one, whose clone stays
 // unchanged.
-fn holds_whole(rt: &impl Abort, alloc: Global, row: &[Value]) -> bool {
+fn applies_atomically_as_listed(rt: &impl Abort, alloc: Global, row: &[Value]) -> bool {
     let [before, steps, done, after] = row else {
         return false;
     };
     let op = op_of(rt, alloc, steps);
     let mut value = json_of(rt, alloc, before);
     let first = apply_atomic(alloc, &mut value, &op).is_ok();
-    let made = is_value(rt, alloc, &value, after);
+    let is_changed = json_equals(rt, alloc, &value, after);
     let mut shared = json_of(rt, alloc, before);
     shared.freeze(alloc).expect(rt, "out of memory");
-    let copy = shared.frozen_clone(alloc).expect(rt, "out of memory");
+    let clone = shared.frozen_clone(alloc).expect(rt, "out of memory");
     let second = apply_atomic(alloc, &mut shared, &op).is_ok();
-    let kept = is_value(rt, alloc, &copy, before);
-    let same = is_value(rt, alloc, &shared, after);
-    made && kept && same && Some(first) == done.as_bool() && first == second
+    let is_clone_unchanged = json_equals(rt, alloc, &clone, before);
+    let is_frozen_changed = json_equals(rt, alloc, &shared, after);
+    is_changed
+        && is_clone_unchanged
+        && is_frozen_changed
+        && Some(first) == done.as_bool()
+        && first == second
 }
 
 #[test]
-fn operations_are_applied_whole_or_not_at_all(rt: HostRuntime) {
-    assert!(rt; each_row(&rt, rt.alloc(), WHOLE, holds_whole) == 8);
+fn an_atomic_operation_is_applied_completely_or_not_at_all(rt: HostRuntime) {
+    assert!(rt;
+        check_rows(
+            &rt,
+            rt.alloc(),
+            ATOMIC_OPERATIONS,
+            applies_atomically_as_listed
+        ) == 8
+    );
 }
 
 // Parses an operation and returns its only component.
-fn one(rt: &impl Abort, alloc: Global, text: &str) -> Component {
-    component(rt, alloc, &parsed(rt, alloc, text))
+fn parse_component(rt: &impl Abort, alloc: Global, text: &str) -> Component {
+    component(rt, alloc, &parse_value(rt, alloc, text))
 }
 
 // An insert is applied, and one after the end is refused.
 #[test]
-fn one_component_is_applied(rt: HostRuntime) {
-    let insert = one(&rt, rt.alloc(), r#"[{"p":["l",1],"li":2}]"#);
-    let past = one(&rt, rt.alloc(), r#"[{"p":["l",3],"li":4}]"#);
+fn a_component_is_applied_or_refused(rt: HostRuntime) {
+    let insert = parse_component(&rt, rt.alloc(), r#"[{"p":["l",1],"li":2}]"#);
+    let past = parse_component(&rt, rt.alloc(), r#"[{"p":["l",3],"li":4}]"#);
     let mut value = json(&rt, rt.alloc(), r#"{"l":[1]}"#);
     assert!(rt;
         apply_one(rt.alloc(), &mut value, &insert).is_ok()
-            && is_shown(&rt, rt.alloc(), &value, r#"{"l":[1,2]}"#)
+            && json_prints_as(&rt, rt.alloc(), &value, r#"{"l":[1,2]}"#)
             && apply_one(rt.alloc(), &mut value, &past).is_err()
-            && is_shown(&rt, rt.alloc(), &value, r#"{"l":[1,2]}"#)
+            && json_prints_as(&rt, rt.alloc(), &value, r#"{"l":[1,2]}"#)
     );
 }
 
 #[test]
-fn faults_are_named(rt: HostRuntime) {
+fn faults_display_their_texts(rt: HostRuntime) {
     let refused = "operation can not be applied";
     assert!(rt;
-        says(&rt, rt.alloc(), &ApplyFault::NotApplied, refused)
-            && says(&rt, rt.alloc(), &ApplyFault::OutOfMemory, "out of memory")
+        displays_as(&rt, rt.alloc(), &ApplyFault::NotApplied, refused)
+            && displays_as(&rt, rt.alloc(), &ApplyFault::OutOfMemory, "out of memory")
     );
 }

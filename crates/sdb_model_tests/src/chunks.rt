@@ -1,6 +1,6 @@
 //! Tests of chunked vectors against `Vec`.
 
-use crate::texts::scattered;
+use crate::helpers::scatter;
 use sdb_chunks::{Chunk, ChunkedVec, TryClone};
 use std::alloc::{AllocError, Global};
 use std::process::Abort;
@@ -20,7 +20,7 @@ impl TryClone for Number {
     }
 }
 
-fn push_all(rt: &impl Abort, found: &mut Vec<u64>, items: &[Number]) {
+fn push_numbers(rt: &impl Abort, found: &mut Vec<u64>, items: &[Number]) {
     for item in items {
         found.push(item.0).expect(rt, "out of memory");
     }
@@ -30,12 +30,12 @@ fn push_all(rt: &impl Abort, found: &mut Vec<u64>, items: &[Number]) {
 fn numbers(rt: &impl Abort, alloc: Global, list: &ChunkedVec<Number>) -> Vec<u64> {
     let mut found = Vec::new(alloc);
     for chunk in list.chunks() {
-        push_all(rt, &mut found, chunk.items());
+        push_numbers(rt, &mut found, chunk.items());
     }
     found
 }
 
-pub(crate) fn block_count<T>(list: &ChunkedVec<T>) -> u64 {
+pub(crate) fn chunk_count<T>(list: &ChunkedVec<T>) -> u64 {
     let mut count: u64 = 0;
     for _ in list.chunks() {
         count = count.saturating_add(1);
@@ -43,24 +43,24 @@ pub(crate) fn block_count<T>(list: &ChunkedVec<T>) -> u64 {
     count
 }
 
-fn is(rt: &impl Abort, alloc: Global, list: &ChunkedVec<Number>, plain: &Vec<u64>) -> bool {
+fn is_equal(rt: &impl Abort, alloc: Global, list: &ChunkedVec<Number>, plain: &Vec<u64>) -> bool {
     numbers(rt, alloc, list).as_slice() == plain.as_slice()
 }
 
 // Returns a scattered index, at most the length.
-fn target(step: u64, len: usize) -> usize {
-    scattered(step, (len as u64).saturating_add(1)) as usize
+fn scattered_index(step: u64, len: usize) -> usize {
+    scatter(step, (len as u64).saturating_add(1)) as usize
 }
 
 // Inserts a number into both lists, and returns whether it was inserted.
-fn put(
+fn insert_in_both(
     rt: &impl Abort,
     alloc: Global,
     list: &mut ChunkedVec<Number>,
     plain: &mut Vec<u64>,
     step: u64,
 ) -> bool {
-    let at = target(step, plain.len());
+    let at = scattered_index(step, plain.len());
     if at <= plain.len() {
         plain.insert(at, step).expect(rt, "out of memory");
     }
@@ -68,13 +68,13 @@ fn put(
         .expect(rt, "out of memory")
 }
 
-fn put_all(rt: &impl Abort, alloc: Global, list: &mut ChunkedVec<Number>, plain: &mut Vec<u64>) {
+fn insert_all(rt: &impl Abort, alloc: Global, list: &mut ChunkedVec<Number>, plain: &mut Vec<u64>) {
     for step in 0..2_000 {
-        assert!(rt; put(rt, alloc, list, plain, step), "{step}");
+        assert!(rt; insert_in_both(rt, alloc, list, plain, step), "{step}");
     }
 }
 
-fn taken(plain: &mut Vec<u64>, at: usize) -> Option<u64> {
+fn remove_at(plain: &mut Vec<u64>, at: usize) -> Option<u64> {
     if at < plain.len() {
         return Some(plain.remove(at));
     }
@@ -82,36 +82,40 @@ fn taken(plain: &mut Vec<u64>, at: usize) -> Option<u64> {
 }
 
 // Removes from both lists, and returns whether the removed numbers agree.
-fn take(
+fn remove_from_both(
     rt: &impl Abort,
     alloc: Global,
     list: &mut ChunkedVec<Number>,
     plain: &mut Vec<u64>,
     step: u64,
 ) -> bool {
-    let at = target(step, plain.len());
+    let at = scattered_index(step, plain.len());
     let item = list.remove(alloc, at).expect(rt, "out of memory");
-    item.map(|item| item.0) == taken(plain, at)
+    item.map(|item| item.0) == remove_at(plain, at)
 }
 
-fn take_all(rt: &impl Abort, alloc: Global, list: &mut ChunkedVec<Number>, plain: &mut Vec<u64>) {
+fn remove_all(rt: &impl Abort, alloc: Global, list: &mut ChunkedVec<Number>, plain: &mut Vec<u64>) {
     for step in 0..3_000 {
-        assert!(rt; take(rt, alloc, list, plain, step), "{step}");
+        assert!(rt; remove_from_both(rt, alloc, list, plain, step), "{step}");
     }
 }
 
 #[test]
-fn a_list_of_many_blocks_is_that_of_a_vector(rt: HostRuntime) {
+fn a_list_of_many_chunks_equals_a_vector(rt: HostRuntime) {
     let mut plain = Vec::new(rt.alloc());
     let mut list = ChunkedVec::from_vec(Vec::new(rt.alloc()));
-    put_all(&rt, rt.alloc(), &mut list, &mut plain);
-    assert!(rt; block_count(&list) > 3 && is(&rt, rt.alloc(), &list, &plain));
-    take_all(&rt, rt.alloc(), &mut list, &mut plain);
-    assert!(rt; is(&rt, rt.alloc(), &list, &plain));
+    insert_all(&rt, rt.alloc(), &mut list, &mut plain);
+    assert!(rt; chunk_count(&list) > 3 && is_equal(&rt, rt.alloc(), &list, &plain));
+    remove_all(&rt, rt.alloc(), &mut list, &mut plain);
+    assert!(rt; is_equal(&rt, rt.alloc(), &list, &plain));
 }
 
 // Returns the list as one shared chunk, which is cloned by a pointer.
-fn shared(rt: &impl Abort, alloc: Global, list: ChunkedVec<Number>) -> ChunkedVec<Number> {
+fn freeze_as_one_chunk(
+    rt: &impl Abort,
+    alloc: Global,
+    list: ChunkedVec<Number>,
+) -> ChunkedVec<Number> {
     let items = list.into_vec(alloc).expect(rt, "out of memory");
     let mut chunks = Vec::new(alloc);
     let chunk = Chunk::Unique(items)
@@ -122,45 +126,47 @@ fn shared(rt: &impl Abort, alloc: Global, list: ChunkedVec<Number>) -> ChunkedVe
 }
 
 // Checks that a change of the list leaves its clone unchanged.
-fn change_apart(
+fn assert_clone_unchanged(
     rt: &impl Abort,
     alloc: Global,
     list: &mut ChunkedVec<Number>,
     plain: &mut Vec<u64>,
 ) {
-    let copy = list.try_clone(alloc).expect(rt, "out of memory");
-    let before = numbers(rt, alloc, &copy);
-    assert!(rt; take(rt, alloc, list, plain, 5) && put(rt, alloc, list, plain, 77));
+    let clone = list.try_clone(alloc).expect(rt, "out of memory");
+    let before = numbers(rt, alloc, &clone);
+    assert!(rt;
+        remove_from_both(rt, alloc, list, plain, 5) && insert_in_both(rt, alloc, list, plain, 77)
+    );
     drop(
         list.replace(alloc, 1_500, Number(1))
             .expect(rt, "out of memory"),
     );
-    assert!(rt; is(rt, alloc, &copy, &before) && !is(rt, alloc, list, &before));
+    assert!(rt; is_equal(rt, alloc, &clone, &before) && !is_equal(rt, alloc, list, &before));
 }
 
 // Returns a list of one shared chunk, built together with the vector.
-fn one_block(rt: &impl Abort, alloc: Global, plain: &mut Vec<u64>) -> ChunkedVec<Number> {
+fn list_of_one_chunk(rt: &impl Abort, alloc: Global, plain: &mut Vec<u64>) -> ChunkedVec<Number> {
     let mut list = ChunkedVec::from_vec(Vec::new(alloc));
-    put_all(rt, alloc, &mut list, plain);
-    shared(rt, alloc, list)
+    insert_all(rt, alloc, &mut list, plain);
+    freeze_as_one_chunk(rt, alloc, list)
 }
 
 #[test]
-fn copies_are_changed_apart(rt: HostRuntime) {
+fn changes_of_a_list_leave_its_clone_unchanged(rt: HostRuntime) {
     let mut plain = Vec::new(rt.alloc());
-    let mut list = one_block(&rt, rt.alloc(), &mut plain);
-    assert!(rt; block_count(&list) == 1 && is(&rt, rt.alloc(), &list, &plain));
-    change_apart(&rt, rt.alloc(), &mut list, &mut plain);
+    let mut list = list_of_one_chunk(&rt, rt.alloc(), &mut plain);
+    assert!(rt; chunk_count(&list) == 1 && is_equal(&rt, rt.alloc(), &list, &plain));
+    assert_clone_unchanged(&rt, rt.alloc(), &mut list, &mut plain);
 }
 
-fn short(rt: &impl Abort, alloc: Global) -> ChunkedVec<Number> {
+fn two_items(rt: &impl Abort, alloc: Global) -> ChunkedVec<Number> {
     let mut items = Vec::new(alloc);
     items.push(Number(3)).expect(rt, "out of memory");
     items.push(Number(4)).expect(rt, "out of memory");
     ChunkedVec::from_vec(items)
 }
 
-fn changed(list: &mut ChunkedVec<Number>, index: usize) -> bool {
+fn change_item(list: &mut ChunkedVec<Number>, index: usize) -> bool {
     match list.get_mut(index) {
         Some(item) => {
             item.0 = 9;
@@ -171,20 +177,20 @@ fn changed(list: &mut ChunkedVec<Number>, index: usize) -> bool {
 }
 
 #[test]
-fn an_item_is_changed_in_place(rt: HostRuntime) {
-    let mut list = short(&rt, rt.alloc());
+fn get_mut_changes_an_item_of_a_unique_list(rt: HostRuntime) {
+    let mut list = two_items(&rt, rt.alloc());
     assert!(rt;
-        changed(&mut list, 1)
-            && !changed(&mut list, 2)
+        change_item(&mut list, 1)
+            && !change_item(&mut list, 2)
             && list.get(1).map(|item| item.0) == Some(9)
             && list.get(2).is_none()
     );
-    let mut list = shared(&rt, rt.alloc(), list);
-    assert!(rt; !changed(&mut list, 1));
+    let mut list = freeze_as_one_chunk(&rt, rt.alloc(), list);
+    assert!(rt; !change_item(&mut list, 1));
 }
 
 // Freezes the list.
-pub(crate) fn share(
+pub(crate) fn freeze_list(
     rt: &impl Abort,
     alloc: Global,
     list: ChunkedVec<Number>,
@@ -195,7 +201,7 @@ pub(crate) fn share(
 }
 
 // Returns the numbers below the count, in chunks.
-pub(crate) fn numbered(rt: &impl Abort, alloc: Global, count: u64) -> ChunkedVec<Number> {
+pub(crate) fn list_of_numbers(rt: &impl Abort, alloc: Global, count: u64) -> ChunkedVec<Number> {
     let mut items = Vec::new(alloc);
     for number in 0..count {
         items.push(Number(number)).expect(rt, "out of memory");
@@ -204,31 +210,31 @@ pub(crate) fn numbered(rt: &impl Abort, alloc: Global, count: u64) -> ChunkedVec
 }
 
 #[test]
-fn a_list_in_groups_is_that_of_a_vector(rt: HostRuntime) {
+fn a_grouped_list_equals_a_vector(rt: HostRuntime) {
     let mut plain = Vec::new(rt.alloc());
     let mut list = ChunkedVec::from_vec(Vec::new(rt.alloc()));
-    put_all(&rt, rt.alloc(), &mut list, &mut plain);
-    let mut list = share(&rt, rt.alloc(), list);
-    put_all(&rt, rt.alloc(), &mut list, &mut plain);
-    assert!(rt; list.is_grouped() && is(&rt, rt.alloc(), &list, &plain));
-    let mut list = share(&rt, rt.alloc(), list);
-    take_all(&rt, rt.alloc(), &mut list, &mut plain);
+    insert_all(&rt, rt.alloc(), &mut list, &mut plain);
+    let mut list = freeze_list(&rt, rt.alloc(), list);
+    insert_all(&rt, rt.alloc(), &mut list, &mut plain);
+    assert!(rt; list.is_grouped() && is_equal(&rt, rt.alloc(), &list, &plain));
+    let mut list = freeze_list(&rt, rt.alloc(), list);
+    remove_all(&rt, rt.alloc(), &mut list, &mut plain);
     assert!(rt; list.get(7).map(|item| item.0) == plain.get(7).copied());
-    let mut list = share(&rt, rt.alloc(), list);
-    assert!(rt; is(&rt, rt.alloc(), &list, &plain));
-    change_apart(&rt, rt.alloc(), &mut list, &mut plain);
+    let mut list = freeze_list(&rt, rt.alloc(), list);
+    assert!(rt; is_equal(&rt, rt.alloc(), &list, &plain));
+    assert_clone_unchanged(&rt, rt.alloc(), &mut list, &mut plain);
 }
 
 // All items of a list in groups are removed, and one is inserted again.
 #[test]
-fn groups_are_emptied(rt: HostRuntime) {
-    let list = numbered(&rt, rt.alloc(), 4_000);
-    let mut list = share(&rt, rt.alloc(), list);
+fn a_grouped_list_can_be_emptied_and_filled(rt: HostRuntime) {
+    let list = list_of_numbers(&rt, rt.alloc(), 4_000);
+    let mut list = freeze_list(&rt, rt.alloc(), list);
     for number in 0..4_000 {
         let first = list.remove(rt.alloc(), 0).expect(&rt, "out of memory");
         assert!(rt; first.map(|item| item.0) == Some(number));
     }
-    assert!(rt; block_count(&list) == 0 && list.get(0).is_none());
+    assert!(rt; chunk_count(&list) == 0 && list.get(0).is_none());
     assert!(rt; list.insert(rt.alloc(), 0, Number(3)).unwrap_or(false));
     assert!(rt; list.is_grouped() && list.get(0).map(|item| item.0) == Some(3));
 }

@@ -9,16 +9,16 @@ fn is_printed(terminal: TerminalBuffer, out: &str, err: &str) -> bool {
 }
 
 #[test]
-fn faults_are_told(rt: HostRuntime) {
-    for (fault, told) in [
+fn a_fault_is_printed_to_standard_output(rt: HostRuntime) {
+    for (fault, printed) in [
         (RunFault::ReadFailed, "fault: read\n"),
         (RunFault::WriteFailed, ""),
         (RunFault::OutOfMemory, "fault: memory\n"),
     ] {
         let terminal = TerminalBuffer::new(rt.alloc());
         assert!(rt;
-            exit_status(&terminal, fault) == STATUS_FAULT && is_printed(terminal, told, ""),
-            "{told}"
+            exit_status(&terminal, fault) == STATUS_FAULT && is_printed(terminal, printed, ""),
+            "{printed}"
         );
     }
 }

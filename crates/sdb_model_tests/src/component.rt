@@ -1,6 +1,8 @@
 //! Tests of `sdb_component`: operations that are parsed, cloned, weighed and printed. The lines of
 //! the server test the refusals.
-use crate::texts::{component, each_row, is_op, is_printed, op, op_of, parsed, says, text_of};
+use crate::helpers::{
+    check_rows, component, displays_as, op, op_equals, op_of, op_prints_as, parse_value, text_of,
+};
 use json::Writer;
 use sdb_component::{Component, Op, OpFault, Path, weight, write_op};
 use sdb_value::paths_equal;
@@ -28,33 +30,33 @@ const SHAPES: &str = r#"[
 ]"#;
 
 // Writes the operation without a JSON value in between.
-fn written(rt: &impl Abort, alloc: Global, op: &Op) -> Vec<u8> {
+fn written_bytes(rt: &impl Abort, alloc: Global, op: &Op) -> Vec<u8> {
     let mut out = Writer::new(Vec::new(alloc));
     write_op(op, &mut out).expect(rt, "out of memory");
     out.into_inner()
 }
 
 // Returns whether the operation is printed and written like this value.
-fn is_spelled(rt: &impl Abort, alloc: Global, op: &Op, wanted: &Value) -> bool {
+fn is_printed_and_written(rt: &impl Abort, alloc: Global, op: &Op, wanted: &Value) -> bool {
     let wanted = text_of(rt, alloc, wanted);
-    is_printed(rt, alloc, op, wanted.as_str())
-        && written(rt, alloc, op).as_slice() == wanted.as_bytes()
+    op_prints_as(rt, alloc, op, wanted.as_str())
+        && written_bytes(rt, alloc, op).as_slice() == wanted.as_bytes()
 }
 
-fn holds(rt: &impl Abort, alloc: Global, row: &[Value]) -> bool {
+fn is_parsed_and_printed(rt: &impl Abort, alloc: Global, row: &[Value]) -> bool {
     let [sent, wanted] = row else {
         return false;
     };
-    is_spelled(rt, alloc, &op_of(rt, alloc, sent), wanted)
+    is_printed_and_written(rt, alloc, &op_of(rt, alloc, sent), wanted)
 }
 
 #[test]
-fn each_shape_is_read_and_printed(rt: HostRuntime) {
-    each_row(&rt, rt.alloc(), SHAPES, holds);
+fn each_shape_is_parsed_and_printed(rt: HostRuntime) {
+    check_rows(&rt, rt.alloc(), SHAPES, is_parsed_and_printed);
 }
 
 // An operation with components of all nine kinds, each in nested containers.
-const NINE: &str = r#"[
+const NINE_SHAPES: &str = r#"[
     {"na":-3,"p":["a",0,"n"]},
     {"p":["a",1,7],"si":"aé😀"},
     {"p":["a",1,8],"sd":"x😀"},
@@ -67,33 +69,37 @@ const NINE: &str = r#"[
 ]"#;
 
 #[test]
-fn a_copy_is_the_same(rt: HostRuntime) {
-    let copy = op(&rt, rt.alloc(), NINE)
+fn a_clone_equals_its_original(rt: HostRuntime) {
+    let clone = op(&rt, rt.alloc(), NINE_SHAPES)
         .try_clone(rt.alloc())
         .expect(&rt, "out of memory");
     assert!(rt;
-        is_spelled(&rt, rt.alloc(), &copy, &parsed(&rt, rt.alloc(), NINE))
-            && copy.components().len() == 9
-            && weight(&copy) == 11
+        is_printed_and_written(
+            &rt,
+            rt.alloc(),
+            &clone,
+            &parse_value(&rt, rt.alloc(), NINE_SHAPES)
+        ) && clone.components().len() == 9
+            && weight(&clone) == 11
     );
 }
 
 // A parsed operation of one component returns it by `into_one`; an operation made from a list does
 // not.
 #[test]
-fn one_component_is_given_up(rt: HostRuntime) {
+fn into_one_returns_the_only_component(rt: HostRuntime) {
     let one = op(&rt, rt.alloc(), r#"[{"na":1,"p":["n"]}]"#);
     let component = one.into_one().ok().expect(&rt, "one component");
     let again = Op::one(component).into_components(rt.alloc());
     let listed = Op::new(again.expect(&rt, "out of memory"));
     assert!(rt;
-        is_printed(&rt, rt.alloc(), &listed, r#"[{"na":1,"p":["n"]}]"#)
+        op_prints_as(&rt, rt.alloc(), &listed, r#"[{"na":1,"p":["n"]}]"#)
             && listed.into_one().is_err()
     );
 }
 
 // Rows of an operation of one component, and of another operation that takes its path.
-const SHARED: &str = r#"[
+const INTERNED_PATHS: &str = r#"[
   [[{"na":1,"p":["a",0]}], [{"na":2,"p":["a",0]}]],
   [[{"na":1,"p":["a",0]}], [{"na":2,"p":["a",1]}]],
   [[{"na":1,"p":["a",0]}], [{"na":2,"p":[]}]],
@@ -101,22 +107,22 @@ const SHARED: &str = r#"[
 ]"#;
 
 // Returns whether the other operation is unchanged when its path is interned.
-fn is_same_with(rt: &impl Abort, alloc: Global, row: &[Value]) -> bool {
+fn is_unchanged_by_interning(rt: &impl Abort, alloc: Global, row: &[Value]) -> bool {
     let [first, other] = row else {
         return false;
     };
     let path = component(rt, alloc, first)
         .try_clone_path()
         .expect(rt, "shared");
-    let shares = op_of(rt, alloc, other)
+    let interned = op_of(rt, alloc, other)
         .with_interned_path(&path)
         .expect(rt, "shared");
-    is_op(rt, alloc, &shares, other)
+    op_equals(rt, alloc, &interned, other)
 }
 
 #[test]
-fn an_operation_that_shares_a_path_is_the_same(rt: HostRuntime) {
-    each_row(&rt, rt.alloc(), SHARED, is_same_with);
+fn an_operation_with_an_interned_path_is_unchanged(rt: HostRuntime) {
+    check_rows(&rt, rt.alloc(), INTERNED_PATHS, is_unchanged_by_interning);
 }
 
 // Rows of an operation of one component, and the size of its path with the limits 3 and 9.
@@ -126,7 +132,7 @@ const PATHS: &str = r#"[
 ]"#;
 
 // Checks that a shared path and then the last owner of it both return their steps.
-fn gives_its_steps(rt: &impl Abort, alloc: Global, row: &[Value]) -> bool {
+fn returns_its_steps(rt: &impl Abort, alloc: Global, row: &[Value]) -> bool {
     let [first, few, all] = row else {
         return false;
     };
@@ -141,19 +147,19 @@ fn gives_its_steps(rt: &impl Abort, alloc: Global, row: &[Value]) -> bool {
 }
 
 #[test]
-fn the_steps_of_a_path_are_given_up(rt: HostRuntime) {
-    each_row(&rt, rt.alloc(), PATHS, gives_its_steps);
+fn into_steps_returns_the_steps_of_a_path(rt: HostRuntime) {
+    check_rows(&rt, rt.alloc(), PATHS, returns_its_steps);
 }
 
 #[test]
-fn faults_are_named(rt: HostRuntime) {
+fn faults_display_their_texts(rt: HostRuntime) {
     assert!(rt;
-        says(
+        displays_as(
             &rt,
             rt.alloc(),
             &OpFault::BadlyFormed,
             "operation is badly formed"
-        ) && says(&rt, rt.alloc(), &OpFault::OutOfMemory, "out of memory")
+        ) && displays_as(&rt, rt.alloc(), &OpFault::OutOfMemory, "out of memory")
     );
 }
 
@@ -171,18 +177,18 @@ const SIZES: &str = r#"[
 ]"#;
 
 // Returns whether the size is right with this limit.
-fn is_sized_to(component: &Component, limit: u64, wanted: u64) -> bool {
+fn has_size_up_to(component: &Component, limit: u64, wanted: u64) -> bool {
     component.size(limit) == limit.min(wanted)
 }
 
 // Returns whether the size is right with each limit.
-fn is_sized(component: &Component, wanted: u64) -> bool {
+fn has_size_at_each_limit(component: &Component, wanted: u64) -> bool {
     for limit in 0..=10 {
-        if !is_sized_to(component, limit, wanted) {
+        if !has_size_up_to(component, limit, wanted) {
             return false;
         }
     }
-    is_sized_to(component, 18446744073709551615, wanted)
+    has_size_up_to(component, 18446744073709551615, wanted)
 }
 
 fn has_size(rt: &impl Abort, alloc: Global, row: &[Value]) -> bool {
@@ -190,10 +196,10 @@ fn has_size(rt: &impl Abort, alloc: Global, row: &[Value]) -> bool {
         return false;
     };
     let size = size.as_u64().expect(rt, "a size");
-    is_sized(&component(rt, alloc, sent), size)
+    has_size_at_each_limit(&component(rt, alloc, sent), size)
 }
 
 #[test]
 fn sizes_are_counted_up_to_a_limit(rt: HostRuntime) {
-    each_row(&rt, rt.alloc(), SIZES, has_size);
+    check_rows(&rt, rt.alloc(), SIZES, has_size);
 }

@@ -1,7 +1,7 @@
 //! Tests of `sdb_transform` and `sdb_apply`: two concurrent components converge. Each, followed by
 //! the other transformed against it, gives one value.
-use crate::apply::refused;
-use crate::texts::{component, each_row, is_value, json_of, op_of};
+use crate::apply::refused_at;
+use crate::helpers::{check_rows, component, json_equals, json_of, op_of};
 use sdb_apply::apply;
 use sdb_component::Op;
 use sdb_transform::{Side, transform_one};
@@ -23,14 +23,20 @@ const ROWS: &str = r#"[
 ]"#;
 
 // Transforms the second component against the first one.
-fn after(rt: &impl Abort, alloc: Global, second: &Value, first: &Value, side: Side) -> Op {
+fn transform_after(
+    rt: &impl Abort,
+    alloc: Global,
+    second: &Value,
+    first: &Value,
+    side: Side,
+) -> Op {
     let (second, first) = (component(rt, alloc, second), component(rt, alloc, first));
     Op::new(transform_one(alloc, second, &first, side).expect(rt, "transformed"))
 }
 
 // Applies the first component and then the second one, transformed against it on this side, and
 // checks the value.
-fn gives(
+fn leads_to(
     rt: &impl Abort,
     alloc: Global,
     before: &Value,
@@ -40,23 +46,27 @@ fn gives(
 ) -> bool {
     let mut value = json_of(rt, alloc, before);
     let made = apply(alloc, &mut value, &op_of(rt, alloc, first));
-    assert!(rt; refused(rt, made).is_none());
-    let then = apply(alloc, &mut value, &after(rt, alloc, second, first, side));
-    if refused(rt, then).is_none() {
-        return is_value(rt, alloc, &value, wanted);
+    assert!(rt; refused_at(rt, made).is_none());
+    let then = apply(
+        alloc,
+        &mut value,
+        &transform_after(rt, alloc, second, first, side),
+    );
+    if refused_at(rt, then).is_none() {
+        return json_equals(rt, alloc, &value, wanted);
     }
     wanted.as_str() == Some("E8")
 }
 
-fn meets(rt: &impl Abort, alloc: Global, row: &[Value]) -> bool {
+fn converges(rt: &impl Abort, alloc: Global, row: &[Value]) -> bool {
     let [before, a, b, wanted] = row else {
         return false;
     };
-    gives(rt, alloc, before, (a, b), Side::Right, wanted)
-        && gives(rt, alloc, before, (b, a), Side::Left, wanted)
+    leads_to(rt, alloc, before, (a, b), Side::Right, wanted)
+        && leads_to(rt, alloc, before, (b, a), Side::Left, wanted)
 }
 
 #[test]
-fn both_ways_give_the_same(rt: HostRuntime) {
-    assert!(rt; each_row(&rt, rt.alloc(), ROWS, meets) == 9);
+fn both_orders_give_one_document(rt: HostRuntime) {
+    assert!(rt; check_rows(&rt, rt.alloc(), ROWS, converges) == 9);
 }

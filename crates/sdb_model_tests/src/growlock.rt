@@ -18,17 +18,17 @@ struct Tally {
 impl Grows for Tally {
     ghost use Rattle.std.specs.Prelude.{◌≡◌, []};
     ghost use Rattle.std.proofs.Common.{◌∙◌, refl, sym};
-    ghost use Rattle.sdb_model_tests.specs.Tally.{those, GoesOn, goes_on_itself, goes_on_further};
+    ghost use Rattle.sdb_model_tests.specs.Tally.{occurrences, HasPrefix, has_prefix_refl, has_prefix_trans};
 
-    ghost extends = { λ new old. GoesOn new.numbers.items old.numbers.items };
+    ghost extends = { λ new old. HasPrefix new.numbers.items old.numbers.items };
 
-    ghost same = { λ n a b. those n a.numbers.items ≡ those n b.numbers.items };
+    ghost same = { λ n a b. occurrences n a.numbers.items ≡ occurrences n b.numbers.items };
 
-    ghost blank = { λ n a. those n a.numbers.items ≡ [] };
+    ghost blank = { λ n a. occurrences n a.numbers.items ≡ [] };
 
-    ghost extends_refl = { λ a. goes_on_itself a.numbers.items };
+    ghost extends_refl = { λ a. has_prefix_refl a.numbers.items };
 
-    ghost extends_trans = { λ a b c h k. goes_on_further a.numbers.items b.numbers.items c.numbers.items h k };
+    ghost extends_trans = { λ a b c h k. has_prefix_trans a.numbers.items b.numbers.items c.numbers.items h k };
 
     ghost same_refl = { λ n a. refl };
 
@@ -75,7 +75,7 @@ fn count(tally: &Tally, number: u64) -> usize {
 }
 
 #[test]
-fn what_two_threads_add_is_all_there(rt: HostRuntime) {
+fn two_threads_add_all_their_numbers(rt: HostRuntime) {
     let alloc = rt.alloc();
     let numbers = Vec::new(alloc);
     let Ok((lock, mut first)) = GrowLock::new(alloc, Tally { numbers }) else {

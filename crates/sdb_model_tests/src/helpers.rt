@@ -7,7 +7,7 @@ use std::alloc::Global;
 use std::fmt::Display;
 use std::process::Abort;
 
-pub(crate) fn parsed(rt: &impl Abort, alloc: Global, text: &str) -> Value {
+pub(crate) fn parse_value(rt: &impl Abort, alloc: Global, text: &str) -> Value {
     Value::from_str(alloc, text).expect(rt, "out of memory or no JSON")
 }
 
@@ -16,7 +16,7 @@ pub(crate) fn json_of(rt: &impl Abort, alloc: Global, value: &Value) -> Json {
 }
 
 pub(crate) fn json(rt: &impl Abort, alloc: Global, text: &str) -> Json {
-    json_of(rt, alloc, &parsed(rt, alloc, text))
+    json_of(rt, alloc, &parse_value(rt, alloc, text))
 }
 
 pub(crate) fn op_of(rt: &impl Abort, alloc: Global, value: &Value) -> Op {
@@ -24,7 +24,7 @@ pub(crate) fn op_of(rt: &impl Abort, alloc: Global, value: &Value) -> Op {
 }
 
 pub(crate) fn op(rt: &impl Abort, alloc: Global, text: &str) -> Op {
-    op_of(rt, alloc, &parsed(rt, alloc, text))
+    op_of(rt, alloc, &parse_value(rt, alloc, text))
 }
 
 // Returns the only component of the operation.
@@ -35,16 +35,21 @@ pub(crate) fn component(rt: &impl Abort, alloc: Global, value: &Value) -> Compon
         .expect(rt, "one component")
 }
 
-pub(crate) fn text_of<T: Display>(rt: &impl Abort, alloc: Global, shown: &T) -> String {
-    shown.to_string(alloc).expect(rt, "out of memory")
+pub(crate) fn text_of<T: Display>(rt: &impl Abort, alloc: Global, value: &T) -> String {
+    value.to_string(alloc).expect(rt, "out of memory")
 }
 
 // Returns whether the displayed text is this one.
-pub(crate) fn says<T: Display>(rt: &impl Abort, alloc: Global, shown: &T, wanted: &str) -> bool {
-    text_of(rt, alloc, shown).as_str() == wanted
+pub(crate) fn displays_as<T: Display>(
+    rt: &impl Abort,
+    alloc: Global,
+    value: &T,
+    wanted: &str,
+) -> bool {
+    text_of(rt, alloc, value).as_str() == wanted
 }
 
-pub(crate) fn shown(rt: &impl Abort, alloc: Global, json: &Json) -> String {
+pub(crate) fn json_text(rt: &impl Abort, alloc: Global, json: &Json) -> String {
     text_of(
         rt,
         alloc,
@@ -53,28 +58,28 @@ pub(crate) fn shown(rt: &impl Abort, alloc: Global, json: &Json) -> String {
 }
 
 // Returns whether the value is printed as this text.
-pub(crate) fn is_shown(rt: &impl Abort, alloc: Global, json: &Json, wanted: &str) -> bool {
-    shown(rt, alloc, json).as_str() == wanted
+pub(crate) fn json_prints_as(rt: &impl Abort, alloc: Global, json: &Json, wanted: &str) -> bool {
+    json_text(rt, alloc, json).as_str() == wanted
 }
 
 // Returns whether the value is printed like this one.
-pub(crate) fn is_value(rt: &impl Abort, alloc: Global, json: &Json, wanted: &Value) -> bool {
-    is_shown(rt, alloc, json, text_of(rt, alloc, wanted).as_str())
+pub(crate) fn json_equals(rt: &impl Abort, alloc: Global, json: &Json, wanted: &Value) -> bool {
+    json_prints_as(rt, alloc, json, text_of(rt, alloc, wanted).as_str())
 }
 
 // Returns whether the operation is printed as this text.
-pub(crate) fn is_printed(rt: &impl Abort, alloc: Global, op: &Op, wanted: &str) -> bool {
+pub(crate) fn op_prints_as(rt: &impl Abort, alloc: Global, op: &Op, wanted: &str) -> bool {
     let value = op_value(alloc, op).expect(rt, "out of memory");
-    says(rt, alloc, &value, wanted)
+    displays_as(rt, alloc, &value, wanted)
 }
 
 // Returns whether the operation is printed like this value.
-pub(crate) fn is_op(rt: &impl Abort, alloc: Global, op: &Op, wanted: &Value) -> bool {
-    is_printed(rt, alloc, op, text_of(rt, alloc, wanted).as_str())
+pub(crate) fn op_equals(rt: &impl Abort, alloc: Global, op: &Op, wanted: &Value) -> bool {
+    op_prints_as(rt, alloc, op, text_of(rt, alloc, wanted).as_str())
 }
 
 // Returns a pseudorandom number below the bound, or 0 if the bound is 0.
-pub(crate) fn scattered(step: u64, bound: u64) -> u64 {
+pub(crate) fn scatter(step: u64, bound: u64) -> u64 {
     if bound == 0 {
         return 0;
     }
@@ -82,7 +87,7 @@ pub(crate) fn scattered(step: u64, bound: u64) -> u64 {
 }
 
 // Returns the text, followed by the part so many times.
-pub(crate) fn extended(
+pub(crate) fn with_repeated(
     rt: &impl Abort,
     alloc: Global,
     text: &str,
@@ -97,22 +102,22 @@ pub(crate) fn extended(
 }
 
 // Appends the parts to the text.
-pub(crate) fn add(rt: &impl Abort, text: &mut String, parts: &[&str]) {
+pub(crate) fn append_parts(rt: &impl Abort, text: &mut String, parts: &[&str]) {
     for part in parts {
         text.push_str(part).expect(rt, "out of memory");
     }
 }
 
 // Returns the prefix, followed by the parts.
-pub(crate) fn joined(rt: &impl Abort, alloc: Global, front: &str, parts: &[&str]) -> String {
-    let mut text = text_of(rt, alloc, &front);
-    add(rt, &mut text, parts);
+pub(crate) fn concat(rt: &impl Abort, alloc: Global, prefix: &str, parts: &[&str]) -> String {
+    let mut text = text_of(rt, alloc, &prefix);
+    append_parts(rt, &mut text, parts);
     text
 }
 
 // Checks that the predicate holds of each row of the table, a JSON array of arrays, and returns the
 // number of rows.
-pub(crate) fn each_row<R: Abort, F: Fn(&R, Global, &[Value]) -> bool>(
+pub(crate) fn check_rows<R: Abort, F: Fn(&R, Global, &[Value]) -> bool>(
     rt: &R,
     alloc: Global,
     table: &str,
@@ -120,7 +125,7 @@ pub(crate) fn each_row<R: Abort, F: Fn(&R, Global, &[Value]) -> bool>(
 ) -> usize
     requires { F.IsAlwaysCallable holds }
 {
-    let rows = parsed(rt, alloc, table);
+    let rows = parse_value(rt, alloc, table);
     let rows = rows.as_array().expect(rt, "rows");
     for row in rows {
         let items = row.as_array().expect(rt, "a row").as_slice();

@@ -1,6 +1,6 @@
 //! Tests of `sdb_json`: texts parsed to trees, and the accessors of trees and of `serde_json`
 //! values.
-use crate::texts::{each_row, extended, is_shown, joined, parsed};
+use crate::helpers::{check_rows, concat, json_prints_as, parse_value, with_repeated};
 use sdb_json::{JsonData, JsonTree, Scratch};
 use sdb_value::from_value;
 use serde_json::Value;
@@ -28,7 +28,7 @@ const TEXTS: &str = r#"[
   ["nul", null]
 ]"#;
 
-fn is_read_as(rt: &impl Abort, alloc: Global, row: &[Value]) -> bool {
+fn is_parsed_as(rt: &impl Abort, alloc: Global, row: &[Value]) -> bool {
     let [text, wanted] = row else {
         return false;
     };
@@ -38,7 +38,7 @@ fn is_read_as(rt: &impl Abort, alloc: Global, row: &[Value]) -> bool {
     match (tree, wanted.as_str()) {
         (Some(tree), Some(wanted)) => {
             let json = from_value(alloc, &tree).expect(rt, "out of memory or no value");
-            is_shown(rt, alloc, &json, wanted)
+            json_prints_as(rt, alloc, &json, wanted)
         }
         (None, None) => true,
         _ => false,
@@ -46,14 +46,14 @@ fn is_read_as(rt: &impl Abort, alloc: Global, row: &[Value]) -> bool {
 }
 
 #[test]
-fn texts_are_read(rt: HostRuntime) {
-    each_row(&rt, rt.alloc(), TEXTS, is_read_as);
+fn texts_are_parsed_or_refused(rt: HostRuntime) {
+    check_rows(&rt, rt.alloc(), TEXTS, is_parsed_as);
 }
 
 // Returns whether lists nested to this depth are accepted.
-fn nests(rt: &impl Abort, alloc: Global, depth: u64) -> bool {
-    let opened = extended(rt, alloc, "", "[", depth);
-    let text = extended(rt, alloc, opened.as_str(), "]", depth);
+fn accepts_depth(rt: &impl Abort, alloc: Global, depth: u64) -> bool {
+    let opened = with_repeated(rt, alloc, "", "[", depth);
+    let text = with_repeated(rt, alloc, opened.as_str(), "]", depth);
     let mut scratch = Scratch::new(alloc);
     JsonTree::from_str(alloc, text.as_str(), &mut scratch)
         .expect(rt, "out of memory")
@@ -61,29 +61,29 @@ fn nests(rt: &impl Abort, alloc: Global, depth: u64) -> bool {
 }
 
 #[test]
-fn lists_nest_127_deep(rt: HostRuntime) {
-    assert!(rt; nests(&rt, rt.alloc(), 127) && !nests(&rt, rt.alloc(), 128));
+fn lists_nest_at_most_127_deep(rt: HostRuntime) {
+    assert!(rt; accepts_depth(&rt, rt.alloc(), 127) && !accepts_depth(&rt, rt.alloc(), 128));
 }
 
 #[test]
-fn a_long_text_is_read(rt: HostRuntime) {
-    let long = extended(&rt, rt.alloc(), "", "ab\\n", 30_000);
-    let text = joined(&rt, rt.alloc(), "{\"t\":\"", &[long.as_str(), "\"}"]);
+fn a_long_string_is_parsed(rt: HostRuntime) {
+    let long = with_repeated(&rt, rt.alloc(), "", "ab\\n", 30_000);
+    let text = concat(&rt, rt.alloc(), "{\"t\":\"", &[long.as_str(), "\"}"]);
     let mut scratch = Scratch::new(rt.alloc());
     let tree = JsonTree::from_str(rt.alloc(), text.as_str(), &mut scratch)
         .expect(&rt, "out of memory")
         .expect(&rt, "JSON");
-    let read = tree
+    let parsed = tree
         .get("t")
         .and_then(JsonTree::as_str)
         .expect(&rt, "a text");
-    assert!(rt; read.len() == 90_000 && read.ends_with("ab\n"));
+    assert!(rt; parsed.len() == 90_000 && parsed.ends_with("ab\n"));
 }
 
 const KINDS: &str = r#"{"n":null,"b":true,"i":-7,"t":"x","l":[1,[]],"o":{"k":0}}"#;
 
 // Checks the accessor of each kind of value.
-fn tells<D: JsonData>(rt: &impl Abort, alloc: Global, value: &D) -> bool {
+fn returns_its_kinds<D: JsonData>(rt: &impl Abort, alloc: Global, value: &D) -> bool {
     let number = value.get("i").and_then(D::as_number).expect(rt, "a number");
     let items = value.get("l").and_then(D::as_array).expect(rt, "a list");
     let members = value.members(alloc).expect(rt, "out of memory");
@@ -97,7 +97,7 @@ fn tells<D: JsonData>(rt: &impl Abort, alloc: Global, value: &D) -> bool {
 }
 
 // Checks that the accessors of other kinds return nothing.
-fn tells_no_other<D: JsonData>(rt: &impl Abort, alloc: Global, value: &D) -> bool {
+fn returns_no_other_kind<D: JsonData>(rt: &impl Abort, alloc: Global, value: &D) -> bool {
     let text = value.get("t").expect(rt, "a text");
     let members = text.members(alloc).expect(rt, "out of memory");
     !text.is_null()
@@ -110,16 +110,20 @@ fn tells_no_other<D: JsonData>(rt: &impl Abort, alloc: Global, value: &D) -> boo
 }
 
 #[test]
-fn a_tree_tells_what_it_is(rt: HostRuntime) {
+fn a_tree_returns_values_of_its_kind_only(rt: HostRuntime) {
     let mut scratch = Scratch::new(rt.alloc());
     let tree = JsonTree::from_str(rt.alloc(), KINDS, &mut scratch)
         .expect(&rt, "out of memory")
         .expect(&rt, "JSON");
-    assert!(rt; tells(&rt, rt.alloc(), &tree) && tells_no_other(&rt, rt.alloc(), &tree));
+    assert!(rt;
+        returns_its_kinds(&rt, rt.alloc(), &tree) && returns_no_other_kind(&rt, rt.alloc(), &tree)
+    );
 }
 
 #[test]
-fn a_value_tells_what_it_is(rt: HostRuntime) {
-    let value = parsed(&rt, rt.alloc(), KINDS);
-    assert!(rt; tells(&rt, rt.alloc(), &value) && tells_no_other(&rt, rt.alloc(), &value));
+fn a_value_returns_values_of_its_kind_only(rt: HostRuntime) {
+    let value = parse_value(&rt, rt.alloc(), KINDS);
+    assert!(rt;
+        returns_its_kinds(&rt, rt.alloc(), &value) && returns_no_other_kind(&rt, rt.alloc(), &value)
+    );
 }

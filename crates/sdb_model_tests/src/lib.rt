@@ -6,33 +6,33 @@
 #[cfg(test)]
 mod apply;
 #[cfg(test)]
-mod command_line;
+mod chunks;
+#[cfg(test)]
+mod cli;
 #[cfg(test)]
 mod component;
+#[cfg(test)]
+mod convergence;
 #[cfg(test)]
 mod growlock;
 #[cfg(test)]
 mod growths;
 #[cfg(test)]
+mod helpers;
+#[cfg(test)]
 mod json_tree;
 #[cfg(test)]
 mod lines;
 #[cfg(test)]
-mod meet;
-#[cfg(test)]
-mod members;
-#[cfg(test)]
 mod oplog;
 #[cfg(test)]
-mod pieces;
+mod rope;
 #[cfg(test)]
 mod snapcache;
 #[cfg(test)]
+mod sorted_map;
+#[cfg(test)]
 mod subscribe;
-#[cfg(test)]
-mod text_pieces;
-#[cfg(test)]
-mod texts;
 #[cfg(test)]
 mod transform;
 #[cfg(test)]

@@ -2,7 +2,7 @@
 ghost use Rattle.std.specs.Prelude.{◌∷◌, []};
 ghost use Rattle.sdb_model_tests.specs.LongestLine.{TakesLine, has_bytes};
 
-use crate::texts::says;
+use crate::helpers::displays_as;
 use sdb_lines::{CountingReader, CountingWriter, Counts, LineHandler, RunFault, run_lines};
 use std::alloc::{AllocError, Global};
 use std::cell::Cell;
@@ -12,11 +12,11 @@ use std::io::{ErrorKind, Read, Write};
 // A handler that responds with the length of the longest line so far as a digit, at most 9. It
 // responds `bad` to an unreadable line.
 #[derive(Drop)]
-struct Longest {
+struct LongestLineHandler {
     digit: u8,
 }
 
-impl LineHandler for Longest {
+impl LineHandler for LongestLineHandler {
     ghost opening = { λ s. s.digit ∷ 10 ∷ [] };
 
     ghost handles = { λ s line answer t. TakesLine s.digit line answer t.digit };
@@ -45,16 +45,16 @@ impl LineHandler for Longest {
 
 // A reader of two bytes per call, whose call of this number fails.
 #[derive(Drop)]
-struct Slow {
+struct SlowReader {
     bytes: &'static [u8],
     at: usize,
     fails_at: Option<u64>,
     calls: u64,
 }
 
-impl Slow {
-    fn new(bytes: &'static [u8], fails_at: Option<u64>) -> Slow {
-        Slow {
+impl SlowReader {
+    fn new(bytes: &'static [u8], fails_at: Option<u64>) -> SlowReader {
+        SlowReader {
             bytes,
             at: 0,
             fails_at,
@@ -63,7 +63,7 @@ impl Slow {
     }
 }
 
-impl Read for Slow {
+impl Read for SlowReader {
     fn read(&mut self, buf: &mut [u8]) -> io::Result<usize> {
         self.calls = self.calls.saturating_add(1);
         if self.fails_at == Some(self.calls) {
@@ -79,8 +79,8 @@ impl Read for Slow {
 
 // The failure of a writer, and the number of the call that fails.
 #[derive(Clone, Copy)]
-enum Trouble {
-    Nothing,
+enum WriterFault {
+    NoFault,
     WriteFails(u64),
     WriteTakesNone(u64),
     FlushFails(u64),
@@ -88,49 +88,49 @@ enum Trouble {
 
 // A writer that accepts one byte per call, up to its failure.
 #[derive(Drop)]
-struct Narrow {
-    taken: Vec<u8>,
+struct ByteWriter {
+    accepted: Vec<u8>,
     flushed: usize,
-    trouble: Trouble,
+    fault: WriterFault,
     writes: u64,
     flushes: u64,
 }
 
-impl Narrow {
-    fn new(alloc: Global, trouble: Trouble) -> Narrow {
-        Narrow {
-            taken: Vec::new(alloc),
+impl ByteWriter {
+    fn new(alloc: Global, fault: WriterFault) -> ByteWriter {
+        ByteWriter {
+            accepted: Vec::new(alloc),
             flushed: 0,
-            trouble,
+            fault,
             writes: 0,
             flushes: 0,
         }
     }
 }
 
-impl Write for Narrow {
+impl Write for ByteWriter {
     fn write(&mut self, buf: &[u8]) -> io::Result<usize> {
         self.writes = self.writes.saturating_add(1);
-        match self.trouble {
-            Trouble::WriteFails(k) if k == self.writes => {
+        match self.fault {
+            WriterFault::WriteFails(k) if k == self.writes => {
                 return Err(io::Error::from(ErrorKind::BrokenPipe));
             }
-            Trouble::WriteTakesNone(k) if k == self.writes => return Ok(0),
+            WriterFault::WriteTakesNone(k) if k == self.writes => return Ok(0),
             _ => {}
         }
         let n = buf.len().min(1);
-        self.taken.extend_from_slice(&buf[..n])?;
+        self.accepted.extend_from_slice(&buf[..n])?;
         Ok(n)
     }
 
     fn flush(&mut self) -> io::Result<()> {
         self.flushes = self.flushes.saturating_add(1);
-        if let Trouble::FlushFails(k) = self.trouble {
+        if let WriterFault::FlushFails(k) = self.fault {
             if k == self.flushes {
                 return Err(io::Error::from(ErrorKind::BrokenPipe));
             }
         }
-        self.flushed = self.taken.len();
+        self.flushed = self.accepted.len();
         Ok(())
     }
 }
@@ -142,43 +142,45 @@ const OUTPUT: &[u8] = b"0\n3\n5\n5\nbad\n5\n";
 const COUNTS: Counts = Counts { lines: 5, steps: 3 };
 
 // Runs over the input with two bytes per read.
-fn run_slowly(
+fn run_with_fault(
     alloc: Global,
     fails_at: Option<u64>,
-    trouble: Trouble,
-) -> (Result<Counts, RunFault>, Narrow) {
-    let mut machine = Longest { digit: b'0' };
-    let mut reader = CountingReader::new(Slow::new(INPUT, fails_at));
-    let mut writer = CountingWriter::new(Narrow::new(alloc, trouble));
-    let ended = run_lines(alloc, &mut machine, &mut reader, &mut writer);
-    (ended, writer.stream)
+    fault: WriterFault,
+) -> (Result<Counts, RunFault>, ByteWriter) {
+    let mut handler = LongestLineHandler { digit: b'0' };
+    let mut reader = CountingReader::new(SlowReader::new(INPUT, fails_at));
+    let mut writer = CountingWriter::new(ByteWriter::new(alloc, fault));
+    let outcome = run_lines(alloc, &mut handler, &mut reader, &mut writer);
+    (outcome, writer.stream)
 }
 
 // Runs over these bytes.
-fn run_over(alloc: Global, input: &[u8]) -> (Result<Counts, RunFault>, Vec<u8>) {
-    let mut machine = Longest { digit: b'0' };
+fn run_on(alloc: Global, input: &[u8]) -> (Result<Counts, RunFault>, Vec<u8>) {
+    let mut handler = LongestLineHandler { digit: b'0' };
     let mut reader = CountingReader::new(input);
     let mut writer = CountingWriter::new(Vec::new(alloc));
-    let ended = run_lines(alloc, &mut machine, &mut reader, &mut writer);
-    (ended, writer.stream)
+    let outcome = run_lines(alloc, &mut handler, &mut reader, &mut writer);
+    (outcome, writer.stream)
 }
 
 #[test]
-fn answers_every_line(rt: HostRuntime) {
-    let (ended, writer) = run_slowly(rt.alloc(), None, Trouble::Nothing);
+fn every_line_is_answered(rt: HostRuntime) {
+    let (outcome, writer) = run_with_fault(rt.alloc(), None, WriterFault::NoFault);
     assert!(rt;
-        ended == Ok(COUNTS) && writer.taken.as_slice() == OUTPUT && writer.flushed == OUTPUT.len()
+        outcome == Ok(COUNTS)
+            && writer.accepted.as_slice() == OUTPUT
+            && writer.flushed == OUTPUT.len()
     );
 }
 
 // Returns whether the run on these bytes has this output and these counts.
 fn is_answered(alloc: Global, input: &[u8], output: &[u8], lines: u64, steps: u64) -> bool {
-    let (ended, written) = run_over(alloc, input);
-    ended == Ok(Counts { lines, steps }) && written.as_slice() == output
+    let (outcome, written) = run_on(alloc, input);
+    outcome == Ok(Counts { lines, steps }) && written.as_slice() == output
 }
 
 #[test]
-fn ends_lines_at_line_feeds(rt: HostRuntime) {
+fn lines_end_at_line_feeds(rt: HostRuntime) {
     assert!(rt;
         is_answered(rt.alloc(), b"", b"0\n", 0, 0)
             && is_answered(rt.alloc(), b"\n", b"0\n0\n", 1, 0)
@@ -189,15 +191,15 @@ fn ends_lines_at_line_feeds(rt: HostRuntime) {
 }
 
 // Returns whether the read of this number fails after this output is written and flushed.
-fn fails_at_read(alloc: Global, k: u64, shown: &[u8]) -> bool {
-    let (ended, writer) = run_slowly(alloc, Some(k), Trouble::Nothing);
-    ended == Err(RunFault::ReadFailed)
-        && writer.taken.as_slice() == shown
-        && writer.flushed == shown.len()
+fn fails_at_read(alloc: Global, k: u64, output: &[u8]) -> bool {
+    let (outcome, writer) = run_with_fault(alloc, Some(k), WriterFault::NoFault);
+    outcome == Err(RunFault::ReadFailed)
+        && writer.accepted.as_slice() == output
+        && writer.flushed == output.len()
 }
 
 #[test]
-fn tells_of_a_failed_read(rt: HostRuntime) {
+fn a_failed_read_ends_the_run(rt: HostRuntime) {
     assert!(rt;
         fails_at_read(rt.alloc(), 1, b"0\n")
             && fails_at_read(rt.alloc(), 2, b"0\n")
@@ -209,51 +211,51 @@ fn tells_of_a_failed_read(rt: HostRuntime) {
 }
 
 // Returns the number of bytes written before the failure, if they are a prefix of the output.
-fn fails_to_write(alloc: Global, trouble: Trouble) -> Option<u64> {
-    let (ended, writer) = run_slowly(alloc, None, trouble);
-    if ended == Err(RunFault::WriteFailed) && OUTPUT.starts_with(writer.taken.as_slice()) {
-        return Some(writer.taken.len() as u64);
+fn fails_to_write(alloc: Global, fault: WriterFault) -> Option<u64> {
+    let (outcome, writer) = run_with_fault(alloc, None, fault);
+    if outcome == Err(RunFault::WriteFailed) && OUTPUT.starts_with(writer.accepted.as_slice()) {
+        return Some(writer.accepted.len() as u64);
     }
     None
 }
 
 #[test]
-fn tells_of_a_failed_write(rt: HostRuntime) {
+fn a_failed_write_ends_the_run(rt: HostRuntime) {
     for k in 1..=14u64 {
-        let written = fails_to_write(rt.alloc(), Trouble::WriteFails(k));
+        let written = fails_to_write(rt.alloc(), WriterFault::WriteFails(k));
         assert!(rt; written == Some(k - 1), "at write {k}");
-        let written = fails_to_write(rt.alloc(), Trouble::WriteTakesNone(k));
+        let written = fails_to_write(rt.alloc(), WriterFault::WriteTakesNone(k));
         assert!(rt; written == Some(k - 1), "at write {k}");
     }
 }
 
 #[test]
-fn tells_of_a_failed_flush(rt: HostRuntime) {
+fn a_failed_flush_ends_the_run(rt: HostRuntime) {
     for k in 1..=11u64 {
-        let written = fails_to_write(rt.alloc(), Trouble::FlushFails(k));
+        let written = fails_to_write(rt.alloc(), WriterFault::FlushFails(k));
         assert!(rt; written.is_some(), "at flush {k}");
     }
 }
 
 // The number of bytes written, and the number of those flushed.
 #[derive(Drop)]
-struct Flow {
+struct OutputCounts {
     written: Cell<usize>,
     flushed: Cell<usize>,
 }
 
 // A reader of four bytes per call that records a read with unflushed output.
 #[derive(Drop)]
-struct Waiting<'a> {
+struct FlushCheckingReader<'a> {
     bytes: &'static [u8],
-    flow: &'a Flow,
+    counts: &'a OutputCounts,
     is_early: bool,
 }
 
-impl<'a> Read for Waiting<'a> {
+impl<'a> Read for FlushCheckingReader<'a> {
     fn read(&mut self, buf: &mut [u8]) -> io::Result<usize> {
-        let flushed = self.flow.flushed.get();
-        if flushed == 0 || flushed != self.flow.written.get() {
+        let flushed = self.counts.flushed.get();
+        if flushed == 0 || flushed != self.counts.written.get() {
             self.is_early = true;
         }
         let n = buf.len().min(self.bytes.len()).min(4);
@@ -265,77 +267,84 @@ impl<'a> Read for Waiting<'a> {
 
 // A writer that accepts all bytes and records the longest buffer.
 #[derive(Drop)]
-struct Wide<'a> {
-    flow: &'a Flow,
-    most: usize,
+struct UnlimitedWriter<'a> {
+    counts: &'a OutputCounts,
+    longest: usize,
 }
 
-impl<'a> Write for Wide<'a> {
+impl<'a> Write for UnlimitedWriter<'a> {
     fn write(&mut self, buf: &[u8]) -> io::Result<usize> {
-        self.most = self.most.max(buf.len());
-        self.flow
+        self.longest = self.longest.max(buf.len());
+        self.counts
             .written
-            .set(self.flow.written.get().saturating_add(buf.len()));
+            .set(self.counts.written.get().saturating_add(buf.len()));
         Ok(buf.len())
     }
 
     fn flush(&mut self) -> io::Result<()> {
-        self.flow.flushed.set(self.flow.written.get());
+        self.counts.flushed.set(self.counts.written.get());
         Ok(())
     }
 }
 
 // Runs over the input, and returns whether a read came before a flush.
-fn run_waiting<'a>(alloc: Global, flow: &'a Flow) -> (Result<Counts, RunFault>, bool) {
-    let mut machine = Longest { digit: b'0' };
-    let mut reader = CountingReader::new(Waiting {
+fn run_checking_flushes<'a>(
+    alloc: Global,
+    counts: &'a OutputCounts,
+) -> (Result<Counts, RunFault>, bool) {
+    let mut handler = LongestLineHandler { digit: b'0' };
+    let mut reader = CountingReader::new(FlushCheckingReader {
         bytes: INPUT,
-        flow,
+        counts,
         is_early: false,
     });
-    let mut writer = CountingWriter::new(Wide { flow, most: 0 });
-    let ended = run_lines(alloc, &mut machine, &mut reader, &mut writer);
-    (ended, reader.stream.is_early)
+    let mut writer = CountingWriter::new(UnlimitedWriter { counts, longest: 0 });
+    let outcome = run_lines(alloc, &mut handler, &mut reader, &mut writer);
+    (outcome, reader.stream.is_early)
 }
 
 #[test]
-fn flushes_before_each_read(rt: HostRuntime) {
-    let flow = Flow {
+fn output_is_flushed_before_each_read(rt: HostRuntime) {
+    let counts = OutputCounts {
         written: Cell::new(0),
         flushed: Cell::new(0),
     };
-    let (ended, is_early) = run_waiting(rt.alloc(), &flow);
-    assert!(rt; ended == Ok(COUNTS) && !is_early && flow.flushed.get() == OUTPUT.len());
+    let (outcome, is_early) = run_checking_flushes(rt.alloc(), &counts);
+    assert!(rt; outcome == Ok(COUNTS) && !is_early && counts.flushed.get() == OUTPUT.len());
 }
 
 // Runs over these bytes, and returns the length of the longest write.
-fn run_widely(alloc: Global, input: &[u8], flow: &Flow) -> (Result<Counts, RunFault>, usize) {
-    let mut machine = Longest { digit: b'0' };
+fn run_measuring_writes(
+    alloc: Global,
+    input: &[u8],
+    counts: &OutputCounts,
+) -> (Result<Counts, RunFault>, usize) {
+    let mut handler = LongestLineHandler { digit: b'0' };
     let mut reader = CountingReader::new(input);
-    let mut writer = CountingWriter::new(Wide { flow, most: 0 });
-    let ended = run_lines(alloc, &mut machine, &mut reader, &mut writer);
-    (ended, writer.stream.most)
+    let mut writer = CountingWriter::new(UnlimitedWriter { counts, longest: 0 });
+    let outcome = run_lines(alloc, &mut handler, &mut reader, &mut writer);
+    (outcome, writer.stream.longest)
 }
 
 #[test]
-fn writes_before_much_is_pending(rt: HostRuntime) {
-    let flow = Flow {
+fn at_most_64_kib_of_output_are_pending(rt: HostRuntime) {
+    let counts = OutputCounts {
         written: Cell::new(0),
         flushed: Cell::new(0),
     };
     // One read returns all these lines, each with a response of two bytes.
     let input = vec![in rt.alloc(); b'\n'; 50_000].expect(&rt, "out of memory");
-    let (ended, most) = run_widely(rt.alloc(), input.as_slice(), &flow);
-    assert!(rt; ended.is_ok() && (flow.written.get(), most) == (100_002, 65_536));
+    let (outcome, longest) = run_measuring_writes(rt.alloc(), input.as_slice(), &counts);
+    assert!(rt; outcome.is_ok() && (counts.written.get(), longest) == (100_002, 65_536));
 }
 
 #[test]
-fn prints_faults(rt: HostRuntime) {
+fn faults_display_their_texts(rt: HostRuntime) {
     let read = "the input could not be read to its end";
-    assert!(rt; says(&rt, rt.alloc(), &RunFault::ReadFailed, read));
+    assert!(rt; displays_as(&rt, rt.alloc(), &RunFault::ReadFailed, read));
     let write = "an answer could not be written";
     assert!(rt;
-        says(&rt, rt.alloc(), &RunFault::WriteFailed, write)
-            && says(&rt, rt.alloc(), &RunFault::OutOfMemory, "out of memory")
+        displays_as(&rt, rt.alloc(), &RunFault::WriteFailed, write)
+            && displays_as(&rt, rt.alloc(), &RunFault::OutOfMemory, "out of memory")
     );
 }

@@ -2,7 +2,7 @@
 //! which the lines do not cover.
 ghost use Rattle.std.specs.Prelude.{◌≡◌};
 
-use crate::texts::{is_op, op_of, parsed};
+use crate::helpers::{op_equals, op_of, parse_value};
 use sdb_component::Op;
 use sdb_oplog::{
     Code, Content, Entry, Kind, Log, Moment, PathInterner, Submission, clone_entries,
@@ -23,7 +23,7 @@ fn submission(rt: &impl Abort, alloc: Global, seq: u64, content: Content) -> Sub
 }
 
 // Returns a log whose only entry creates the document `true`.
-fn a_log(rt: &impl Abort, alloc: Global) -> Log {
+fn log_of_one_create(rt: &impl Abort, alloc: Global) -> Log {
     let mut log = Log::new(alloc);
     let content = Content::create(alloc, Json::Bool(true)).expect(rt, "out of memory");
     let create = submission(rt, alloc, 1, content);
@@ -34,14 +34,14 @@ fn a_log(rt: &impl Abort, alloc: Global) -> Log {
 
 // The only entry has moment 0, so that each moment is at version 1.
 #[test]
-fn versions_at_moments(rt: HostRuntime) {
+fn version_at_returns_the_version_of_a_moment(rt: HostRuntime) {
     let last = Moment::new(9_007_199_254_740_991).expect(&rt, "a moment");
     assert!(rt;
         Moment::new(9_007_199_254_740_992).is_none()
             && Moment::saturating_new(u64::MAX).milliseconds() == last.milliseconds()
             && Log::new(rt.alloc()).version_at(last) == 0
     );
-    let log = a_log(&rt, rt.alloc());
+    let log = log_of_one_create(&rt, rt.alloc());
     assert!(rt; log.version_at(Moment::zero()) == 1 && log.version_at(last) == 1);
 }
 
@@ -51,9 +51,9 @@ fn is_true(document: Option<&Json>) -> bool {
 
 // A replay leaves the log unchanged.
 #[test]
-fn a_log_is_replayed(rt: HostRuntime) {
+fn a_replay_leaves_the_log_unchanged(rt: HostRuntime) {
     assert!(rt; Log::new(rt.alloc()).is_empty());
-    let log = a_log(&rt, rt.alloc());
+    let log = log_of_one_create(&rt, rt.alloc());
     assert!(rt;
         log.replay(0).expect(&rt, "out of memory").is_none()
             && log.len() == 1
@@ -62,7 +62,7 @@ fn a_log_is_replayed(rt: HostRuntime) {
 }
 
 // Returns an entry whose submission creates and whose content deletes.
-fn an_entry(rt: &impl Abort, alloc: Global) -> Entry {
+fn entry_with_rebased_content(rt: &impl Abort, alloc: Global) -> Entry {
     let content = Content::create(alloc, Json::Null).expect(rt, "out of memory");
     let create = submission(rt, alloc, 1, content)
         .try_clone()
@@ -71,27 +71,27 @@ fn an_entry(rt: &impl Abort, alloc: Global) -> Entry {
 }
 
 #[test]
-fn entries_are_compared(rt: HostRuntime) {
+fn cloned_entries_are_equal(rt: HostRuntime) {
     let mut entries = Vec::new(rt.alloc());
     entries
-        .push(an_entry(&rt, rt.alloc()))
+        .push(entry_with_rebased_content(&rt, rt.alloc()))
         .expect(&rt, "out of memory");
-    let copies = clone_entries(rt.alloc(), entries.as_slice()).expect(&rt, "out of memory");
+    let clones = clone_entries(rt.alloc(), entries.as_slice()).expect(&rt, "out of memory");
     assert!(rt;
-        entries_equal(entries.as_slice(), copies.as_slice())
+        entries_equal(entries.as_slice(), clones.as_slice())
             && !entries_equal(entries.as_slice(), &[])
     );
 }
 
-fn is_delete(passed: &Result<Content, Code>) -> bool {
-    match passed {
+fn is_delete(transformed: &Result<Content, Code>) -> bool {
+    match transformed {
         Ok(content) => matches!(content.kind(), Kind::Delete),
         Err(_) => false,
     }
 }
 
 #[test]
-fn a_content_over_another(rt: HostRuntime) {
+fn a_delete_refuses_a_concurrent_edit(rt: HostRuntime) {
     let edit = Content::edit(rt.alloc(), Op::new(Vec::new(rt.alloc()))).expect(
         &rt,
         "out of memory",
@@ -113,25 +113,25 @@ const EDITS: &str = r#"[
 ]"#;
 
 // Returns the edit with its path interned.
-fn edit_after(rt: &impl Abort, alloc: Global, last: &mut PathInterner, op: &Value) -> Content {
+fn intern_edit(rt: &impl Abort, alloc: Global, last: &mut PathInterner, op: &Value) -> Content {
     let edit = Content::edit(alloc, op_of(rt, alloc, op)).expect(rt, "out of memory");
     last.intern(alloc, edit).expect(rt, "out of memory")
 }
 
-fn is_edit_by(rt: &impl Abort, alloc: Global, content: &Content, op: &Value) -> bool {
+fn is_edit_of(rt: &impl Abort, alloc: Global, content: &Content, op: &Value) -> bool {
     match content.kind() {
-        Kind::Edit(edit) => is_op(rt, alloc, edit, op),
+        Kind::Edit(edit) => op_equals(rt, alloc, edit, op),
         _ => false,
     }
 }
 
 #[test]
-fn edits_share_the_last_path(rt: HostRuntime) {
+fn interning_leaves_edits_unchanged(rt: HostRuntime) {
     let mut last = PathInterner::new();
-    let edits = parsed(&rt, rt.alloc(), EDITS);
+    let edits = parse_value(&rt, rt.alloc(), EDITS);
     for op in edits.as_array().expect(&rt, "edits") {
-        let edit = edit_after(&rt, rt.alloc(), &mut last, op);
-        assert!(rt; is_edit_by(&rt, rt.alloc(), &edit, op));
+        let edit = intern_edit(&rt, rt.alloc(), &mut last, op);
+        assert!(rt; is_edit_of(&rt, rt.alloc(), &edit, op));
     }
     let delete = last
         .intern(rt.alloc(), Content::delete())

@@ -17,7 +17,7 @@ fn is_found(rt: &impl Abort, cache: &mut Cache, v: u64, version: u64, n: i64) ->
 }
 
 // Returns a cache after the offers of the numbers 1 to 9, each at its version.
-fn nine(rt: &impl Abort, alloc: Global) -> Cache {
+fn cache_after_nine_offers(rt: &impl Abort, alloc: Global) -> Cache {
     let mut cache = Cache::new(alloc);
     for version in 1..10u8 {
         let snapshot = number(rt, i64::from(version));
@@ -29,15 +29,15 @@ fn nine(rt: &impl Abort, alloc: Global) -> Cache {
 }
 
 #[test]
-fn a_new_cache_has_nothing(rt: HostRuntime) {
+fn a_new_cache_is_empty(rt: HostRuntime) {
     let mut cache = Cache::new(rt.alloc());
     assert!(rt; cache.len() == 0 && cache.nearest(9).is_none());
 }
 
 // The cache keeps the last eight of nine.
 #[test]
-fn eight_are_kept(rt: HostRuntime) {
-    let mut cache = nine(&rt, rt.alloc());
+fn a_cache_keeps_eight_snapshots(rt: HostRuntime) {
+    let mut cache = cache_after_nine_offers(&rt, rt.alloc());
     assert!(rt;
         cache.len() == CACHE_CAPACITY
             && cache.nearest(1).is_none()
@@ -48,8 +48,8 @@ fn eight_are_kept(rt: HostRuntime) {
 
 // The snapshot that was found stays, and the next one is evicted.
 #[test]
-fn the_least_recently_used_goes(rt: HostRuntime) {
-    let mut cache = nine(&rt, rt.alloc());
+fn the_least_recently_used_snapshot_is_evicted(rt: HostRuntime) {
+    let mut cache = cache_after_nine_offers(&rt, rt.alloc());
     assert!(rt; is_found(&rt, &mut cache, 2, 2, 2));
     cache
         .offer(10, number(&rt, 10))
@@ -58,8 +58,8 @@ fn the_least_recently_used_goes(rt: HostRuntime) {
 }
 
 #[test]
-fn a_cache_forgets(rt: HostRuntime) {
-    let mut cache = nine(&rt, rt.alloc());
+fn forget_empties_a_cache(rt: HostRuntime) {
+    let mut cache = cache_after_nine_offers(&rt, rt.alloc());
     cache.forget();
     assert!(rt; cache.len() == 0 && cache.nearest(9).is_none());
 }

@@ -17,38 +17,41 @@ fn entry(rt: &impl Abort, alloc: Global, version: u64) -> Entry {
     )
 }
 
-fn opened(rt: &impl Abort, queues: &mut Queues, from: u64) -> SubId {
+fn open_queue(rt: &impl Abort, queues: &mut Queues, from: u64) -> SubId {
     queues.open(0, from).expect(rt, "open")
 }
 
 // Pushes the entries with versions of this range, without its end.
-fn note_all(rt: &impl Abort, alloc: Global, queues: &mut Queues, from: u64, to: u64) {
+fn push_all(rt: &impl Abort, alloc: Global, queues: &mut Queues, from: u64, to: u64) {
     for version in from..to {
         queues.push_entry(&entry(rt, alloc, version));
     }
 }
 
 #[test]
-fn queues_stand_apart(rt: HostRuntime) {
+fn queues_have_distinct_ids(rt: HostRuntime) {
     let mut queues = Queues::new(rt.alloc());
-    let (first, second) = (opened(&rt, &mut queues, 1), opened(&rt, &mut queues, 5));
+    let (first, second) = (
+        open_queue(&rt, &mut queues, 1),
+        open_queue(&rt, &mut queues, 5),
+    );
     assert!(rt; first != second && queues.next_id() == 2 && queues.count() == 2);
 }
 
 #[test]
-fn a_closed_queue_is_unknown(rt: HostRuntime) {
+fn a_closed_queue_is_removed(rt: HostRuntime) {
     let mut queues = Queues::new(rt.alloc());
-    let id = opened(&rt, &mut queues, 0);
+    let id = open_queue(&rt, &mut queues, 0);
     queues.close(0, id);
     assert!(rt;
-        queues.count() == 0 && queues.ringed(id).is_none() && opened(&rt, &mut queues, 0) != id
+        queues.count() == 0 && queues.ringed(id).is_none() && open_queue(&rt, &mut queues, 0) != id
     );
 }
 
 #[test]
-fn a_queue_is_closed_under_its_number(rt: HostRuntime) {
+fn only_its_owner_closes_a_queue(rt: HostRuntime) {
     let mut queues = Queues::new(rt.alloc());
-    let id = opened(&rt, &mut queues, 0);
+    let id = open_queue(&rt, &mut queues, 0);
     queues.close(1, id);
     assert!(rt; queues.owner(id) == Some(0));
     queues.close(0, id);
@@ -56,31 +59,31 @@ fn a_queue_is_closed_under_its_number(rt: HostRuntime) {
 }
 
 #[test]
-fn a_ring_holds_the_last_entries(rt: HostRuntime) {
+fn a_ring_keeps_the_last_64_entries(rt: HostRuntime) {
     let mut queues = Queues::new(rt.alloc());
-    let id = opened(&rt, &mut queues, 0);
+    let id = open_queue(&rt, &mut queues, 0);
     assert!(rt; queues.ringed(id) == Some(0));
-    note_all(&rt, rt.alloc(), &mut queues, 0, 65);
+    push_all(&rt, rt.alloc(), &mut queues, 0, 65);
     assert!(rt; queues.ringed(id) == Some(64));
 }
 
 #[test]
-fn a_ring_takes_in_nothing_before_its_start(rt: HostRuntime) {
+fn a_ring_skips_entries_before_its_start(rt: HostRuntime) {
     let mut queues = Queues::new(rt.alloc());
-    let late = opened(&rt, &mut queues, 2);
-    note_all(&rt, rt.alloc(), &mut queues, 0, 2);
+    let late = open_queue(&rt, &mut queues, 2);
+    push_all(&rt, rt.alloc(), &mut queues, 0, 2);
     assert!(rt; queues.ringed(late) == Some(0));
-    note_all(&rt, rt.alloc(), &mut queues, 2, 3);
+    push_all(&rt, rt.alloc(), &mut queues, 2, 3);
     assert!(rt; queues.ringed(late) == Some(1));
 }
 
 // A failed open leaves the queues unchanged, and a retry succeeds.
 #[test]
-fn an_open_that_finds_no_memory_changes_nothing(rt: HostRuntime) {
+fn a_failed_open_leaves_the_queues_unchanged(rt: HostRuntime) {
     let mut queues = Queues::new(rt.alloc());
     if queues.open(0, 7).is_err() {
         assert!(rt; queues.next_id() == 0 && queues.count() == 0);
-        let id = opened(&rt, &mut queues, 7);
+        let id = open_queue(&rt, &mut queues, 7);
         assert!(rt; queues.ringed(id) == Some(0));
     }
 }

@@ -1,6 +1,7 @@
 //! Tests of `sdb_transform`: components and operations, transformed against each other.
-use crate::texts::{
-    add, component, each_row, extended, is_op, is_printed, joined, op, op_of, says, text_of,
+use crate::helpers::{
+    append_parts, check_rows, component, concat, displays_as, op, op_equals, op_of, op_prints_as,
+    text_of, with_repeated,
 };
 use sdb_component::{Component, Op};
 use sdb_transform::{
@@ -15,7 +16,7 @@ use std::sync::Arc;
 // second, or E8.
 
 // Selected examples.
-const WORKED: &str = r#"[
+const EXAMPLES: &str = r#"[
   [[{"p":[1],"sd":"bcde"}], [{"p":[3],"si":"XYZ"}], "either", [{"p":[1],"sd":"bc"},{"p":[4],"sd":"de"}]],
   [[{"p":[0],"sd":"a😀"}], [{"p":[2],"si":"x"}], "either", "E8"],
   [[{"p":[2],"sd":"cde"}], [{"p":[1],"sd":"bcd"}], "either", [{"p":[1],"sd":"e"}]],
@@ -25,7 +26,7 @@ const WORKED: &str = r#"[
 ]"#;
 
 // The other component changes the value that this one removes.
-const CASE_1: &str = r#"[
+const CHANGED_REMOVALS: &str = r#"[
   [[{"ld":"ab","p":[1]}], [{"p":[1,1],"si":"z"}], "either", [{"ld":"azb","p":[1]}]],
   [[{"ld":{"k":1},"li":2,"p":[1]}], [{"oi":5,"p":[1,"m"]}], "either", [{"ld":{"k":1,"m":5},"li":2,"p":[1]}]],
   [[{"od":[1,2],"p":["k"]}], [{"ld":1,"p":["k",0]}], "either", [{"od":[2],"p":["k"]}]],
@@ -40,7 +41,7 @@ const CASE_1: &str = r#"[
 ]"#;
 
 // The path of this component leads through the container of the other one.
-const CASE_2: &str = r#"[
+const PATHS_THROUGH_CONTAINERS: &str = r#"[
   [[{"p":[2,0],"si":"x"}], [{"li":"v","p":[1]}], "either", [{"p":[3,0],"si":"x"}]],
   [[{"p":[2,0],"si":"x"}], [{"li":"v","p":[2]}], "either", [{"p":[3,0],"si":"x"}]],
   [[{"p":[2,0],"si":"x"}], [{"li":"v","p":[3]}], "either", [{"p":[2,0],"si":"x"}]],
@@ -205,7 +206,7 @@ fn is_outcome(
     wanted: &Value,
 ) -> bool {
     match transformed {
-        Ok(components) => is_op(rt, alloc, &Op::new(components), wanted),
+        Ok(components) => op_equals(rt, alloc, &Op::new(components), wanted),
         Err(fault) => fault == Fault::NotTransformed && wanted.as_str() == Some("E8"),
     }
 }
@@ -223,7 +224,7 @@ fn is_transformed(
 }
 
 // Returns whether the row holds on each side that it names.
-fn holds(rt: &impl Abort, alloc: Global, row: &[Value]) -> bool {
+fn transforms_as_listed(rt: &impl Abort, alloc: Global, row: &[Value]) -> bool {
     let [value, other, side, wanted] = row else {
         return false;
     };
@@ -233,16 +234,21 @@ fn holds(rt: &impl Abort, alloc: Global, row: &[Value]) -> bool {
 }
 
 #[test]
-fn each_row_of_the_table_holds(rt: HostRuntime) {
+fn each_row_of_the_tables_is_transformed(rt: HostRuntime) {
     assert!(rt;
-        each_row(&rt, rt.alloc(), WORKED, holds) == 6
-            && each_row(&rt, rt.alloc(), CASE_1, holds) == 11
-            && each_row(&rt, rt.alloc(), CASE_2, holds) == 27
-            && each_row(&rt, rt.alloc(), LISTS, holds) == 34
-            && each_row(&rt, rt.alloc(), OBJECTS, holds) == 22
-            && each_row(&rt, rt.alloc(), TEXTS, holds) == 34
+        check_rows(&rt, rt.alloc(), EXAMPLES, transforms_as_listed) == 6
+            && check_rows(&rt, rt.alloc(), CHANGED_REMOVALS, transforms_as_listed) == 11
+            && check_rows(
+                &rt,
+                rt.alloc(),
+                PATHS_THROUGH_CONTAINERS,
+                transforms_as_listed
+            ) == 27
+            && check_rows(&rt, rt.alloc(), LISTS, transforms_as_listed) == 34
+            && check_rows(&rt, rt.alloc(), OBJECTS, transforms_as_listed) == 22
+            && check_rows(&rt, rt.alloc(), TEXTS, transforms_as_listed) == 34
     );
-    assert!(rt; each_row(&rt, rt.alloc(), OTHERS, holds) == 21);
+    assert!(rt; check_rows(&rt, rt.alloc(), OTHERS, transforms_as_listed) == 21);
 }
 
 // Rows of two operations, each transformed against the other one, and the number of transformed
@@ -258,29 +264,32 @@ const CROSSINGS: &str = r#"[
    [{"od":8,"oi":1,"p":["k"]},{"na":2,"p":["k"]}], [], 2]
 ]"#;
 
-fn crosses(rt: &impl Abort, alloc: Global, row: &[Value]) -> bool {
+fn crosses_as_listed(rt: &impl Abort, alloc: Global, row: &[Value]) -> bool {
     let [left, right, left_after, right_after, pairs] = row else {
         return false;
     };
     let (left, right) = (op_of(rt, alloc, left), op_of(rt, alloc, right));
     let crossed = cross(alloc, &left, &right).expect(rt, "crossed");
-    is_op(rt, alloc, &crossed.left, left_after)
-        && is_op(rt, alloc, &crossed.right, right_after)
+    op_equals(rt, alloc, &crossed.left, left_after)
+        && op_equals(rt, alloc, &crossed.right, right_after)
         && crossed.pairs == pairs.as_u64().expect(rt, "a count") as u128
 }
 
 #[test]
-fn operations_cross(rt: HostRuntime) {
-    each_row(&rt, rt.alloc(), CROSSINGS, crosses);
+fn operations_are_crossed(rt: HostRuntime) {
+    check_rows(&rt, rt.alloc(), CROSSINGS, crosses_as_listed);
 }
 
-const REFUSED: &str = r#"[{"oi":1,"p":["k"]},{"p":["t",0],"sd":"a😀"}]"#;
+const REFUSED_LEFT: &str = r#"[{"oi":1,"p":["k"]},{"p":["t",0],"sd":"a😀"}]"#;
 
-const REFUSING: &str = r#"[{"p":["t",0],"si":"b"},{"p":["t",3],"si":"x"}]"#;
+const REFUSED_RIGHT: &str = r#"[{"p":["t",0],"si":"b"},{"p":["t",3],"si":"x"}]"#;
 
 #[test]
-fn one_refusal_refuses_all(rt: HostRuntime) {
-    let (left, right) = (op(&rt, rt.alloc(), REFUSED), op(&rt, rt.alloc(), REFUSING));
+fn one_refused_pair_refuses_both_operations(rt: HostRuntime) {
+    let (left, right) = (
+        op(&rt, rt.alloc(), REFUSED_LEFT),
+        op(&rt, rt.alloc(), REFUSED_RIGHT),
+    );
     assert!(rt; cross(rt.alloc(), &left, &right).err() == Some(Fault::NotTransformed));
     let transformed = transform(rt.alloc(), &right, &left, Side::Right);
     assert!(rt; transformed.err() == Some(Fault::NotTransformed));
@@ -288,12 +297,18 @@ fn one_refusal_refuses_all(rt: HostRuntime) {
 
 // Returns the first component, and 99 more with this member, at 1, 2 and so on, or at 197, 195 and
 // so on.
-fn followed(rt: &impl Abort, alloc: Global, first: &str, member: &str, is_falling: bool) -> String {
+fn hundred_components(
+    rt: &impl Abort,
+    alloc: Global,
+    first: &str,
+    member: &str,
+    is_falling: bool,
+) -> String {
     let mut text = text_of(rt, alloc, &first);
     for i in 1..100_u64 {
         let at = if is_falling { 199 - 2 * i } else { i };
         let at = text_of(rt, alloc, &at);
-        add(
+        append_parts(
             rt,
             &mut text,
             &[r#",{"p":["#, at.as_str(), "],", member, "}"],
@@ -303,18 +318,18 @@ fn followed(rt: &impl Abort, alloc: Global, first: &str, member: &str, is_fallin
 }
 
 // Returns the prefix, so many letters and the suffix.
-fn around(rt: &impl Abort, alloc: Global, front: &str, letters: u64, end: &str) -> String {
-    let text = extended(rt, alloc, front, "x", letters);
-    extended(rt, alloc, text.as_str(), end, 1)
+fn surround(rt: &impl Abort, alloc: Global, prefix: &str, letters: u64, suffix: &str) -> String {
+    let text = with_repeated(rt, alloc, prefix, "x", letters);
+    with_repeated(rt, alloc, text.as_str(), suffix, 1)
 }
 
 // Returns a row with a delete of 200 letters that inserts split, the last one first.
-fn cuts(rt: &impl Abort, alloc: Global) -> String {
-    let left = extended(rt, alloc, r#"[[[{"p":[0],"sd":""#, "a", 200);
-    let right = followed(rt, alloc, r#"{"p":[199],"si":"x"}"#, r#""si":"x""#, true);
-    let left_after = followed(rt, alloc, r#"{"p":[0],"sd":"a"}"#, r#""sd":"aa""#, false);
+fn row_of_splits(rt: &impl Abort, alloc: Global) -> String {
+    let left = with_repeated(rt, alloc, r#"[[[{"p":[0],"sd":""#, "a", 200);
+    let right = hundred_components(rt, alloc, r#"{"p":[199],"si":"x"}"#, r#""si":"x""#, true);
+    let left_after = hundred_components(rt, alloc, r#"{"p":[0],"sd":"a"}"#, r#""sd":"aa""#, false);
     let insert = r#"{"p":[0],"si":"x"}"#;
-    let right_after = extended(rt, alloc, insert, r#",{"p":[0],"si":"x"}"#, 99);
+    let right_after = with_repeated(rt, alloc, insert, r#",{"p":[0],"si":"x"}"#, 99);
     let parts = [
         r#""}],["#,
         right.as_str(),
@@ -324,47 +339,54 @@ fn cuts(rt: &impl Abort, alloc: Global) -> String {
         right_after.as_str(),
         "],5050]]",
     ];
-    joined(rt, alloc, left.as_str(), &parts)
+    concat(rt, alloc, left.as_str(), &parts)
 }
 
 #[test]
-fn a_long_delete_is_cut_a_hundred_times(rt: HostRuntime) {
-    assert!(rt; each_row(&rt, rt.alloc(), cuts(&rt, rt.alloc()).as_str(), crosses) == 1);
+fn a_delete_is_split_by_a_hundred_inserts(rt: HostRuntime) {
+    assert!(rt;
+        check_rows(
+            &rt,
+            rt.alloc(),
+            row_of_splits(&rt, rt.alloc()).as_str(),
+            crosses_as_listed
+        ) == 1
+    );
 }
 
 // Checks each transform function for an insert of B against an insert of A at the same index.
-fn is_left_as(rt: &impl Abort, alloc: Global, side: Side, wanted: &str) -> bool {
+fn transforms_to(rt: &impl Abort, alloc: Global, side: Side, wanted: &str) -> bool {
     let insert = op(rt, alloc, r#"[{"li":"B","p":[0]}]"#);
     let other = op(rt, alloc, r#"[{"li":"A","p":[0]}]"#);
     let after = transform(alloc, &insert, &other, side).expect(rt, "transformed");
-    let lent = transform_if_changed(alloc, &insert, &other, side).expect(rt, "transformed");
+    let borrowed = transform_if_changed(alloc, &insert, &other, side).expect(rt, "transformed");
     let shared = Arc::new(alloc, insert).expect(rt, "out of memory");
-    let given = transform_owned(alloc, shared, &other, side).expect(rt, "transformed");
-    is_printed(rt, alloc, &after, wanted)
-        && lent.is_some_and(|op| is_printed(rt, alloc, &op, wanted))
-        && is_printed(rt, alloc, &given, wanted)
+    let owned = transform_owned(alloc, shared, &other, side).expect(rt, "transformed");
+    op_prints_as(rt, alloc, &after, wanted)
+        && borrowed.is_some_and(|op| op_prints_as(rt, alloc, &op, wanted))
+        && op_prints_as(rt, alloc, &owned, wanted)
 }
 
 // Returns whether the operation is unchanged by the other one, and the owned one is returned
 // unchanged.
-fn stays(rt: &impl Abort, alloc: Global, text: &str, other: &str) -> bool {
+fn is_unchanged(rt: &impl Abort, alloc: Global, text: &str, other: &str) -> bool {
     let other = op(rt, alloc, other);
-    let lent = transform_if_changed(alloc, &op(rt, alloc, text), &other, Side::Left);
+    let borrowed = transform_if_changed(alloc, &op(rt, alloc, text), &other, Side::Left);
     let shared = Arc::new(alloc, op(rt, alloc, text)).expect(rt, "out of memory");
-    let given = transform_owned(alloc, shared, &other, Side::Left).expect(rt, "transformed");
-    lent.expect(rt, "transformed").is_none() && is_printed(rt, alloc, &given, text)
+    let owned = transform_owned(alloc, shared, &other, Side::Left).expect(rt, "transformed");
+    borrowed.expect(rt, "transformed").is_none() && op_prints_as(rt, alloc, &owned, text)
 }
 
 #[test]
-fn operations_apart_stay_as_they_are(rt: HostRuntime) {
-    let moved = r#"[{"ld":1,"p":["a",0]},{"li":1,"p":["b",3]}]"#;
-    let put = r#"[{"li":2,"p":["c",0]}]"#;
-    let added = r#"[{"na":1,"p":["n"]}]"#;
+fn operations_with_independent_paths_are_unchanged(rt: HostRuntime) {
+    let move_edit = r#"[{"ld":1,"p":["a",0]},{"li":1,"p":["b",3]}]"#;
+    let insert = r#"[{"li":2,"p":["c",0]}]"#;
+    let increment = r#"[{"na":1,"p":["n"]}]"#;
     assert!(rt;
-        stays(&rt, rt.alloc(), moved, put)
-            && stays(&rt, rt.alloc(), added, added)
-            && stays(&rt, rt.alloc(), put, added)
-            && !stays(
+        is_unchanged(&rt, rt.alloc(), move_edit, insert)
+            && is_unchanged(&rt, rt.alloc(), increment, increment)
+            && is_unchanged(&rt, rt.alloc(), insert, increment)
+            && !is_unchanged(
                 &rt,
                 rt.alloc(),
                 r#"[{"li":2,"p":["c",1]}]"#,
@@ -374,20 +396,20 @@ fn operations_apart_stay_as_they_are(rt: HostRuntime) {
 }
 
 #[test]
-fn an_operation_is_transformed_as_either_side(rt: HostRuntime) {
+fn the_left_side_wins_a_tie(rt: HostRuntime) {
     assert!(rt;
-        is_left_as(&rt, rt.alloc(), Side::Left, r#"[{"li":"B","p":[0]}]"#)
-            && is_left_as(&rt, rt.alloc(), Side::Right, r#"[{"li":"B","p":[1]}]"#)
+        transforms_to(&rt, rt.alloc(), Side::Left, r#"[{"li":"B","p":[0]}]"#)
+            && transforms_to(&rt, rt.alloc(), Side::Right, r#"[{"li":"B","p":[1]}]"#)
     );
 }
 
-const BELOW: &str = r#"[{"p":[3,0,0],"si":"yy"},{"li":1,"p":[3,1]},{"li":2,"p":[0]}]"#;
+const EDITS_WITHIN: &str = r#"[{"p":[3,0,0],"si":"yy"},{"li":1,"p":[3,1]},{"li":2,"p":[0]}]"#;
 
 // Returns two rows, one for each side, of the removal of a value against edits within it. The value
 // has a string of so many letters.
-fn removals(rt: &impl Abort, alloc: Global, letters: u64) -> String {
-    let removal = around(rt, alloc, r#"[{"ld":[""#, letters, r#"",null],"p":[3]}]"#);
-    let after = around(
+fn rows_of_removals(rt: &impl Abort, alloc: Global, letters: u64) -> String {
+    let removal = surround(rt, alloc, r#"[{"ld":[""#, letters, r#"",null],"p":[3]}]"#);
+    let after = surround(
         rt,
         alloc,
         r#"[{"ld":["yy"#,
@@ -395,28 +417,28 @@ fn removals(rt: &impl Abort, alloc: Global, letters: u64) -> String {
         r#"",1,null],"p":[4]}]"#,
     );
     let (removal, after, other) = (removal.as_str(), after.as_str(), r#"[{"li":2,"p":[0]}]"#);
-    let left = [removal, ",", BELOW, ",", after, ",", other, ",3],["];
-    let left = joined(rt, alloc, "[[", &left);
-    let right = [BELOW, ",", removal, ",", other, ",", after, ",3]]"];
-    joined(rt, alloc, left.as_str(), &right)
+    let left = [removal, ",", EDITS_WITHIN, ",", after, ",", other, ",3],["];
+    let left = concat(rt, alloc, "[[", &left);
+    let right = [EDITS_WITHIN, ",", removal, ",", other, ",", after, ",3]]"];
+    concat(rt, alloc, left.as_str(), &right)
 }
 
 #[test]
-fn a_removed_value_meets_edits_below_it(rt: HostRuntime) {
+fn a_removed_value_is_updated_by_edits_within_it(rt: HostRuntime) {
     for letters in [0, 1, 63, 64, 65, 4096, 100000] {
-        let rows = removals(&rt, rt.alloc(), letters);
+        let rows = rows_of_removals(&rt, rt.alloc(), letters);
         assert!(rt;
-            each_row(&rt, rt.alloc(), rows.as_str(), crosses) == 2,
+            check_rows(&rt, rt.alloc(), rows.as_str(), crosses_as_listed) == 2,
             "{letters}"
         );
     }
 }
 
 #[test]
-fn faults_are_named(rt: HostRuntime) {
+fn faults_display_their_texts(rt: HostRuntime) {
     let refused = "operation can not be applied";
     assert!(rt;
-        says(&rt, rt.alloc(), &Fault::NotTransformed, refused)
-            && says(&rt, rt.alloc(), &Fault::OutOfMemory, "out of memory")
+        displays_as(&rt, rt.alloc(), &Fault::NotTransformed, refused)
+            && displays_as(&rt, rt.alloc(), &Fault::OutOfMemory, "out of memory")
     );
 }

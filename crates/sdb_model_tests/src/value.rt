@@ -2,8 +2,9 @@
 ghost use Rattle.std.specs.Prelude.{◌≡◌, OnOk, ⊤};
 ghost use Rattle.sdb_value.specs.View.{value_of};
 
-use crate::texts::{
-    add, each_row, extended, is_shown, joined, json, json_of, parsed, says, shown, text_of,
+use crate::helpers::{
+    append_parts, check_rows, concat, displays_as, json, json_of, json_prints_as, json_text,
+    parse_value, text_of, with_repeated,
 };
 use json::Writer;
 use sdb_value::{
@@ -15,13 +16,13 @@ use serde_json::Value;
 use std::alloc::{AllocError, Global};
 use std::process::Abort;
 
-fn written(rt: &impl Abort, alloc: Global, json: &Json) -> Vec<u8> {
+fn written_bytes(rt: &impl Abort, alloc: Global, json: &Json) -> Vec<u8> {
     let mut out = Writer::new(Vec::new(alloc));
     write_value(json, &mut out).expect(rt, "out of memory");
     out.into_inner()
 }
 
-fn step(rt: &impl Abort, alloc: Global, item: &Value) -> Step {
+fn parse_step(rt: &impl Abort, alloc: Global, item: &Value) -> Step {
     match item.as_u64() {
         Some(index) => Step::Index(index),
         None => Step::Key(text_of(rt, alloc, &item.as_str().expect(rt, "a step"))),
@@ -32,39 +33,40 @@ fn step(rt: &impl Abort, alloc: Global, item: &Value) -> Step {
 fn path_of(rt: &impl Abort, alloc: Global, steps: &Value) -> Path {
     let mut path = Vec::new(alloc);
     for item in steps.as_array().expect(rt, "a list") {
-        path.push(step(rt, alloc, item)).expect(rt, "out of memory");
+        path.push(parse_step(rt, alloc, item))
+            .expect(rt, "out of memory");
     }
     path
 }
 
 // Returns the text of lists nested to this depth.
-fn deep(rt: &impl Abort, alloc: Global, depth: u64) -> String {
-    let opened = extended(rt, alloc, "", "[", depth);
-    extended(rt, alloc, opened.as_str(), "]", depth)
+fn nested_lists(rt: &impl Abort, alloc: Global, depth: u64) -> String {
+    let opened = with_repeated(rt, alloc, "", "[", depth);
+    with_repeated(rt, alloc, opened.as_str(), "]", depth)
 }
 
-const READ: &str =
+const SOURCE: &str =
     r#"{"b":[null,true,false,-9007199254740991,9007199254740991,"aé😀\"\n",[],{}],"a":{"k":0}}"#;
 
 const PRINTED: &str =
     r#"{"a":{"k":0},"b":[null,true,false,-9007199254740991,9007199254740991,"aé😀\"\n",[],{}]}"#;
 
 #[test]
-fn a_value_is_read_and_printed(rt: HostRuntime) {
-    let value = json(&rt, rt.alloc(), READ);
+fn a_value_is_parsed_and_printed(rt: HostRuntime) {
+    let value = json(&rt, rt.alloc(), SOURCE);
     assert!(rt;
-        is_shown(&rt, rt.alloc(), &value, PRINTED)
-            && written(&rt, rt.alloc(), &value).as_slice() == PRINTED.as_bytes()
+        json_prints_as(&rt, rt.alloc(), &value, PRINTED)
+            && written_bytes(&rt, rt.alloc(), &value).as_slice() == PRINTED.as_bytes()
     );
 }
 
 #[test]
-fn a_copy_is_the_same(rt: HostRuntime) {
-    let value = json(&rt, rt.alloc(), READ);
-    let copy = value.try_clone(rt.alloc()).expect(&rt, "out of memory");
-    assert!(rt; values_equal(&copy, &value));
+fn a_clone_equals_its_original(rt: HostRuntime) {
+    let value = json(&rt, rt.alloc(), SOURCE);
+    let clone = value.try_clone(rt.alloc()).expect(&rt, "out of memory");
+    assert!(rt; values_equal(&clone, &value));
     drop(value);
-    assert!(rt; is_shown(&rt, rt.alloc(), &copy, PRINTED));
+    assert!(rt; json_prints_as(&rt, rt.alloc(), &clone, PRINTED));
 }
 
 #[test]
@@ -73,9 +75,9 @@ fn depth_is_counted(rt: HostRuntime) {
         json(&rt, rt.alloc(), r#""a""#).depth() == 0
             && json(&rt, rt.alloc(), r#"{"a":[1],"b":{"c":[]}}"#).depth() == 3
     );
-    let text = deep(&rt, rt.alloc(), 50);
+    let text = nested_lists(&rt, rt.alloc(), 50);
     let value = json(&rt, rt.alloc(), text.as_str());
-    assert!(rt; value.depth() == 50 && is_shown(&rt, rt.alloc(), &value, text.as_str()));
+    assert!(rt; value.depth() == 50 && json_prints_as(&rt, rt.alloc(), &value, text.as_str()));
 }
 
 // Rows of a JSON number, and its value as an integer and as a count.
@@ -91,7 +93,7 @@ const NUMBERS: &str = r#"[
   [1e2, null, null]
 ]"#;
 
-fn whole(value: &Value) -> Option<i64> {
+fn integer_of(value: &Value) -> Option<i64> {
     whole_of(value.as_number()?).map(Whole::get)
 }
 
@@ -99,14 +101,14 @@ fn is_number(_rt: &impl Abort, _alloc: Global, row: &[Value]) -> bool {
     let [value, wanted, count] = row else {
         return false;
     };
-    whole(value) == wanted.as_i64() && count_of(value) == count.as_u64()
+    integer_of(value) == wanted.as_i64() && count_of(value) == count.as_u64()
 }
 
 #[test]
-fn numbers_are_read(rt: HostRuntime) {
-    each_row(&rt, rt.alloc(), NUMBERS, is_number);
+fn numbers_are_parsed_or_refused(rt: HostRuntime) {
+    check_rows(&rt, rt.alloc(), NUMBERS, is_number);
     assert!(rt;
-        count_of(&parsed(&rt, rt.alloc(), NUMBERS)).is_none()
+        count_of(&parse_value(&rt, rt.alloc(), NUMBERS)).is_none()
             && MAX == 9007199254740991
             && Whole::MAX == 9007199254740991
     );
@@ -141,19 +143,19 @@ const SIZES: &str = r#"[
 ]"#;
 
 // Returns whether the size is right with this limit.
-fn is_sized_to(value: &Json, limit: u64, wanted: u64) -> bool {
+fn has_size_up_to(value: &Json, limit: u64, wanted: u64) -> bool {
     value.size(limit) == limit.min(wanted)
 }
 
 // Returns whether the size is right with each limit.
-fn is_sized(value: &Json, wanted: u64) -> bool {
+fn has_size_at_each_limit(value: &Json, wanted: u64) -> bool {
     laws::well_formed(value);
     for limit in 0..=11 {
-        if !is_sized_to(value, limit, wanted) {
+        if !has_size_up_to(value, limit, wanted) {
             return false;
         }
     }
-    is_sized_to(value, 18446744073709551615, wanted)
+    has_size_up_to(value, 18446744073709551615, wanted)
 }
 
 fn has_size(rt: &impl Abort, alloc: Global, row: &[Value]) -> bool {
@@ -161,33 +163,33 @@ fn has_size(rt: &impl Abort, alloc: Global, row: &[Value]) -> bool {
         return false;
     };
     let size = size.as_u64().expect(rt, "a size");
-    is_sized(&json_of(rt, alloc, value), size)
+    has_size_at_each_limit(&json_of(rt, alloc, value), size)
 }
 
 #[test]
 fn sizes_are_counted_up_to_a_limit(rt: HostRuntime) {
-    each_row(&rt, rt.alloc(), SIZES, has_size);
+    check_rows(&rt, rt.alloc(), SIZES, has_size);
 }
 
 #[test]
-fn faults_are_named(rt: HostRuntime) {
+fn faults_display_their_texts(rt: HostRuntime) {
     let number = "a number is not whole or too large";
     assert!(rt;
-        says(&rt, rt.alloc(), &ValueFault::NumberOutOfRange, number)
-            && says(
+        displays_as(&rt, rt.alloc(), &ValueFault::NumberOutOfRange, number)
+            && displays_as(
                 &rt,
                 rt.alloc(),
                 &ValueFault::TooDeep,
                 "a value nests too deep"
             )
-            && says(&rt, rt.alloc(), &ValueFault::OutOfMemory, "out of memory")
+            && displays_as(&rt, rt.alloc(), &ValueFault::OutOfMemory, "out of memory")
     );
 }
 
-const PLACED: &str = r#"{"a":[1,{"b":"x"}],"c":null,"d":true}"#;
+const DOCUMENT: &str = r#"{"a":[1,{"b":"x"}],"c":null,"d":true}"#;
 
 // Rows of a path into that value, and the value at the path.
-const PLACES: &str = r#"[
+const PATHS: &str = r#"[
   [[], {"a":[1,{"b":"x"}],"c":null,"d":true}],
   [["a"], [1,{"b":"x"}]],
   [["a",0], 1],
@@ -207,53 +209,57 @@ const PLACES: &str = r#"[
   [["d",0,"b"], "nothing"]
 ]"#;
 
-fn shown_or_nothing(rt: &impl Abort, alloc: Global, target: Option<&Json>) -> String {
+fn json_text_or_nothing(rt: &impl Abort, alloc: Global, target: Option<&Json>) -> String {
     match target {
-        Some(target) => shown(rt, alloc, target),
+        Some(target) => json_text(rt, alloc, target),
         None => text_of(rt, alloc, &r#""nothing""#),
     }
 }
 
-fn lent(rt: &impl Abort, alloc: Global, value: &mut Json, path: &Path) -> String {
+fn found_mut_text(rt: &impl Abort, alloc: Global, value: &mut Json, path: &Path) -> String {
     match find_mut(value, path) {
-        Some(target) => shown(rt, alloc, target),
-        None => shown_or_nothing(rt, alloc, None),
+        Some(target) => json_text(rt, alloc, target),
+        None => json_text_or_nothing(rt, alloc, None),
     }
 }
 
 // Checks `find` and `find_mut` for a row. Also checks that a search without a result changes
 // nothing, which no clause states.
-fn is_place(rt: &impl Abort, alloc: Global, row: &[Value]) -> bool {
+fn is_found(rt: &impl Abort, alloc: Global, row: &[Value]) -> bool {
     let [steps, wanted] = row else {
         return false;
     };
     let path = path_of(rt, alloc, steps);
     let wanted = text_of(rt, alloc, wanted);
-    let mut value = json(rt, alloc, PLACED);
-    shown_or_nothing(rt, alloc, find(&value, &path)).as_str() == wanted.as_str()
-        && lent(rt, alloc, &mut value, &path).as_str() == wanted.as_str()
-        && is_shown(rt, alloc, &value, PLACED)
+    let mut value = json(rt, alloc, DOCUMENT);
+    json_text_or_nothing(rt, alloc, find(&value, &path)).as_str() == wanted.as_str()
+        && found_mut_text(rt, alloc, &mut value, &path).as_str() == wanted.as_str()
+        && json_prints_as(rt, alloc, &value, DOCUMENT)
 }
 
 #[test]
-fn places_are_found(rt: HostRuntime) {
-    each_row(&rt, rt.alloc(), PLACES, is_place);
+fn values_are_found_at_their_paths(rt: HostRuntime) {
+    check_rows(&rt, rt.alloc(), PATHS, is_found);
 }
 
 // Replaces the value at the path by `true`.
-fn put_truth(value: &mut Json, path: &Path) {
+fn set_true(value: &mut Json, path: &Path) {
     if let Some(target) = find_mut(value, path) {
         *target = Json::Bool(true);
     }
 }
 
 #[test]
-fn a_place_is_written(rt: HostRuntime) {
-    let mut value = json(&rt, rt.alloc(), PLACED);
-    let path = path_of(&rt, rt.alloc(), &parsed(&rt, rt.alloc(), r#"["a",1,"b"]"#));
-    put_truth(&mut value, &path);
+fn find_mut_changes_a_value(rt: HostRuntime) {
+    let mut value = json(&rt, rt.alloc(), DOCUMENT);
+    let path = path_of(
+        &rt,
+        rt.alloc(),
+        &parse_value(&rt, rt.alloc(), r#"["a",1,"b"]"#),
+    );
+    set_true(&mut value, &path);
     let after = r#"{"a":[1,{"b":true}],"c":null,"d":true}"#;
-    assert!(rt; is_shown(&rt, rt.alloc(), &value, after));
+    assert!(rt; json_prints_as(&rt, rt.alloc(), &value, after));
 }
 
 // Replaces a value, and returns the depth of the old one.
@@ -284,8 +290,8 @@ fn depth_of(rt: &impl Abort, changed: Option<Result<u64, AllocError>>) -> Option
 }
 
 // Replaces the value at the path by null, and returns the depth of the old one.
-fn put_null(rt: &impl Abort, alloc: Global, value: &mut Json, steps: &str) -> Option<u64> {
-    let path = path_of(rt, alloc, &parsed(rt, alloc, steps));
+fn set_null(rt: &impl Abort, alloc: Global, value: &mut Json, steps: &str) -> Option<u64> {
+    let path = path_of(rt, alloc, &parse_value(rt, alloc, steps));
     let null = Json::Null;
     let replace = Replace { alloc, new: &null };
     let changed = change_at(alloc, value, &path, replace);
@@ -294,24 +300,24 @@ fn put_null(rt: &impl Abort, alloc: Global, value: &mut Json, steps: &str) -> Op
 
 // The value at a path becomes null; paths that lead to no value change nothing.
 #[test]
-fn one_place_is_changed(rt: HostRuntime) {
+fn change_at_changes_the_value_at_a_path(rt: HostRuntime) {
     let mut value = json(&rt, rt.alloc(), r#"{"a":[1,{"b":[[]]}],"c":2}"#);
     let after = r#"{"a":[1,{"b":null}],"c":2}"#;
     assert!(rt;
-        put_null(&rt, rt.alloc(), &mut value, r#"["a",1,"b"]"#) == Some(2)
-            && is_shown(&rt, rt.alloc(), &value, after)
-            && put_null(&rt, rt.alloc(), &mut value, r#"["a",2]"#).is_none()
-            && put_null(&rt, rt.alloc(), &mut value, r#"["b"]"#).is_none()
-            && is_shown(&rt, rt.alloc(), &value, after)
+        set_null(&rt, rt.alloc(), &mut value, r#"["a",1,"b"]"#) == Some(2)
+            && json_prints_as(&rt, rt.alloc(), &value, after)
+            && set_null(&rt, rt.alloc(), &mut value, r#"["a",2]"#).is_none()
+            && set_null(&rt, rt.alloc(), &mut value, r#"["b"]"#).is_none()
+            && json_prints_as(&rt, rt.alloc(), &value, after)
     );
 }
 
 #[test]
-fn the_whole_value_is_changed(rt: HostRuntime) {
+fn change_at_the_empty_path_changes_the_root(rt: HostRuntime) {
     let mut value = json(&rt, rt.alloc(), r#"{"a":[1,{"b":null}],"c":2}"#);
     assert!(rt;
-        put_null(&rt, rt.alloc(), &mut value, "[]") == Some(3)
-            && is_shown(&rt, rt.alloc(), &value, "null")
+        set_null(&rt, rt.alloc(), &mut value, "[]") == Some(3)
+            && json_prints_as(&rt, rt.alloc(), &value, "null")
     );
 }
 
@@ -323,7 +329,7 @@ fn assert_cuts(rt: &impl Abort, text: &str, cuts: &[(u64, Option<usize>)]) {
 }
 
 #[test]
-fn texts_are_measured(rt: HostRuntime) {
+fn utf_16_offsets_are_mapped_to_bytes(rt: HostRuntime) {
     assert!(rt; units("") == 0 && units("a😀b") == 4 && units("aé€") == 3);
     let cuts = [
         (0, Some(0)),
@@ -337,16 +343,16 @@ fn texts_are_measured(rt: HostRuntime) {
 }
 
 // Returns a text with one surrogate pair across byte 4096 and another one after byte 8192.
-fn long(rt: &impl Abort, alloc: Global) -> String {
-    let text = extended(rt, alloc, "", "a", 4095);
-    let text = extended(rt, alloc, text.as_str(), "😀", 1);
-    let text = extended(rt, alloc, text.as_str(), "b", 5000);
-    extended(rt, alloc, text.as_str(), "😀", 1)
+fn text_with_split_pairs(rt: &impl Abort, alloc: Global) -> String {
+    let text = with_repeated(rt, alloc, "", "a", 4095);
+    let text = with_repeated(rt, alloc, text.as_str(), "😀", 1);
+    let text = with_repeated(rt, alloc, text.as_str(), "b", 5000);
+    with_repeated(rt, alloc, text.as_str(), "😀", 1)
 }
 
 #[test]
-fn long_texts_are_measured(rt: HostRuntime) {
-    let text = long(&rt, rt.alloc());
+fn utf_16_offsets_in_long_texts_are_mapped_to_bytes(rt: HostRuntime) {
+    let text = text_with_split_pairs(&rt, rt.alloc());
     assert!(rt; units(text.as_str()) == 9099);
     let cuts = [
         (4094, Some(4094)),
@@ -366,14 +372,14 @@ fn long_texts_are_measured(rt: HostRuntime) {
 }
 
 // Returns a text of surrogate pairs from byte 4096 to byte 12288.
-fn pairs(rt: &impl Abort, alloc: Global) -> String {
-    let text = extended(rt, alloc, "", "a", 4096);
-    extended(rt, alloc, text.as_str(), "😀", 2048)
+fn text_of_pairs(rt: &impl Abort, alloc: Global) -> String {
+    let text = with_repeated(rt, alloc, "", "a", 4096);
+    with_repeated(rt, alloc, text.as_str(), "😀", 2048)
 }
 
 #[test]
-fn pairs_are_measured(rt: HostRuntime) {
-    let text = pairs(&rt, rt.alloc());
+fn offsets_within_surrogate_pairs_have_no_byte(rt: HostRuntime) {
+    let text = text_of_pairs(&rt, rt.alloc());
     assert!(rt; units(text.as_str()) == 8192);
     let cuts = [
         (4096, Some(4096)),
@@ -401,16 +407,16 @@ fn change_items(rt: &impl Abort, alloc: Global, items: &mut List) {
 fn a_list_is_changed_in_place(rt: HostRuntime) {
     let mut list = json(&rt, rt.alloc(), "[1,2,3]");
     change_items(&rt, rt.alloc(), list_mut(&mut list).expect(&rt, "a list"));
-    assert!(rt; is_shown(&rt, rt.alloc(), &list, r#"[2,"q",4]"#));
+    assert!(rt; json_prints_as(&rt, rt.alloc(), &list, r#"[2,"q",4]"#));
 }
 
-fn put(rt: &impl Abort, alloc: Global, members: &mut Members, key: &str, value: Json) {
+fn insert_member(rt: &impl Abort, alloc: Global, members: &mut Members, key: &str, value: Json) {
     put_at_key(alloc, members, text_of(rt, alloc, &key), value).expect(rt, "out of memory");
 }
 
 fn change_members(rt: &impl Abort, alloc: Global, members: &mut Members) {
-    put(rt, alloc, members, "b", json(rt, alloc, "2"));
-    put(rt, alloc, members, "c", Json::Null);
+    insert_member(rt, alloc, members, "b", json(rt, alloc, "2"));
+    insert_member(rt, alloc, members, "c", Json::Null);
     remove_at_key(alloc, members, "a").expect(rt, "out of memory");
 }
 
@@ -422,7 +428,7 @@ fn an_object_is_changed_in_place(rt: HostRuntime) {
         rt.alloc(),
         object_mut(&mut object).expect(&rt, "an object"),
     );
-    assert!(rt; is_shown(&rt, rt.alloc(), &object, r#"{"b":2,"c":null}"#));
+    assert!(rt; json_prints_as(&rt, rt.alloc(), &object, r#"{"b":2,"c":null}"#));
 }
 
 #[test]
@@ -436,34 +442,34 @@ fn a_text_is_changed_in_place(rt: HostRuntime) {
             && inside
                 .remove(rt.alloc(), 1, "😀x")
                 .expect(&rt, "out of memory")
-            && is_shown(&rt, rt.alloc(), &text, r#""ayb""#)
+            && json_prints_as(&rt, rt.alloc(), &text, r#""ayb""#)
     );
 }
 
 // Returns the text of an object with a member for each number from 100 to 999, or for each even
 // one.
-fn numbered(rt: &impl Abort, alloc: Global, with_odd: bool) -> String {
-    let mut text = extended(rt, alloc, r#"{"k100":100"#, "", 0);
+fn wide_object_text(rt: &impl Abort, alloc: Global, with_odd: bool) -> String {
+    let mut text = with_repeated(rt, alloc, r#"{"k100":100"#, "", 0);
     for number in 101_u64..1_000 {
         if with_odd || number % 2 == 0 {
             let number = text_of(rt, alloc, &number);
-            add(
+            append_parts(
                 rt,
                 &mut text,
                 &[r#","k"#, number.as_str(), r#"":"#, number.as_str()],
             );
         }
     }
-    extended(rt, alloc, text.as_str(), "}", 1)
+    with_repeated(rt, alloc, text.as_str(), "}", 1)
 }
 
 // Removes the members of odd numbers, or inserts them again.
-fn change_odd(rt: &impl Abort, alloc: Global, object: &mut Json, back: bool) {
+fn change_odd_members(rt: &impl Abort, alloc: Global, object: &mut Json, is_insertion: bool) {
     let object = object_mut(object).expect(rt, "an object");
     for half in 50_i64..500 {
         let number = half.wrapping_mul(2).wrapping_add(1);
-        let key = joined(rt, alloc, "k", &[text_of(rt, alloc, &number).as_str()]);
-        if back {
+        let key = concat(rt, alloc, "k", &[text_of(rt, alloc, &number).as_str()]);
+        if is_insertion {
             let value = Json::Int(Whole::new(number).expect(rt, "a number"));
             put_at_key(alloc, object, key, value).expect(rt, "out of memory");
         } else {
@@ -473,40 +479,40 @@ fn change_odd(rt: &impl Abort, alloc: Global, object: &mut Json, back: bool) {
 }
 
 #[test]
-fn a_wide_object_is_changed_beside_its_copy(rt: HostRuntime) {
-    let whole = numbered(&rt, rt.alloc(), true);
-    let half = numbered(&rt, rt.alloc(), false);
+fn changes_of_a_wide_object_leave_its_clone_unchanged(rt: HostRuntime) {
+    let whole = wide_object_text(&rt, rt.alloc(), true);
+    let half = wide_object_text(&rt, rt.alloc(), false);
     let mut object = json(&rt, rt.alloc(), whole.as_str());
     assert!(rt; !object.is_shared());
     object.freeze(rt.alloc()).expect(&rt, "out of memory");
     assert!(rt; object.is_shared() && !Json::Null.is_shared());
-    let copy = object.try_clone(rt.alloc()).expect(&rt, "out of memory");
-    change_odd(&rt, rt.alloc(), &mut object, false);
-    assert!(rt; is_shown(&rt, rt.alloc(), &object, half.as_str()));
-    change_odd(&rt, rt.alloc(), &mut object, true);
+    let clone = object.try_clone(rt.alloc()).expect(&rt, "out of memory");
+    change_odd_members(&rt, rt.alloc(), &mut object, false);
+    assert!(rt; json_prints_as(&rt, rt.alloc(), &object, half.as_str()));
+    change_odd_members(&rt, rt.alloc(), &mut object, true);
     assert!(rt;
-        is_shown(&rt, rt.alloc(), &object, whole.as_str())
-            && is_shown(&rt, rt.alloc(), &copy, whole.as_str())
+        json_prints_as(&rt, rt.alloc(), &object, whole.as_str())
+            && json_prints_as(&rt, rt.alloc(), &clone, whole.as_str())
     );
 }
 
 #[test]
-fn members_are_a_value_again(rt: HostRuntime) {
+fn an_object_is_rebuilt_from_its_members(rt: HostRuntime) {
     let mut object = json(&rt, rt.alloc(), r#"{"a":null}"#);
     object.freeze(rt.alloc()).expect(&rt, "out of memory");
     let members = object.members().expect(&rt, "an object");
     assert!(rt; members.get("a").expect(&rt, "a member").is_null() && !object.is_null());
-    let copy = members.clone_shared().expect(&rt, "out of memory");
-    let mut copy = copy.expect(&rt, "shared members");
-    put(&rt, rt.alloc(), &mut copy, "a", Json::Null);
-    assert!(rt; values_equal(&object, &Json::from_members(copy)));
+    let clone = members.clone_shared().expect(&rt, "out of memory");
+    let mut clone = clone.expect(&rt, "shared members");
+    insert_member(&rt, rt.alloc(), &mut clone, "a", Json::Null);
+    assert!(rt; values_equal(&object, &Json::from_members(clone)));
 }
 
 // Returns a value with a list and an object of several chunks and a text of several chunks.
-fn wide(rt: &impl Abort, alloc: Global) -> Json {
-    let items = extended(rt, alloc, "", r#"{"n":[1]},"#, 1_500);
-    let object = numbered(rt, alloc, true);
-    let letters = extended(rt, alloc, "", "aé😀", 3_000);
+fn wide_value(rt: &impl Abort, alloc: Global) -> Json {
+    let items = with_repeated(rt, alloc, "", r#"{"n":[1]},"#, 1_500);
+    let object = wide_object_text(rt, alloc, true);
+    let letters = with_repeated(rt, alloc, "", "aé😀", 3_000);
     let parts = [
         items.as_str(),
         r#"0],"o":"#,
@@ -515,21 +521,21 @@ fn wide(rt: &impl Abort, alloc: Global) -> Json {
         letters.as_str(),
         r#""}"#,
     ];
-    json(rt, alloc, joined(rt, alloc, r#"{"l":["#, &parts).as_str())
+    json(rt, alloc, concat(rt, alloc, r#"{"l":["#, &parts).as_str())
 }
 
 // Replaces some values by null.
 fn change_some(rt: &impl Abort, alloc: Global, value: &mut Json) {
     assert!(rt;
-        put_null(rt, alloc, value, r#"["l",700,"n",0]"#) == Some(0)
-            && put_null(rt, alloc, value, r#"["l",1400]"#).is_some()
-            && put_null(rt, alloc, value, r#"["o","k500"]"#) == Some(0)
-            && put_null(rt, alloc, value, r#"["t"]"#) == Some(0)
+        set_null(rt, alloc, value, r#"["l",700,"n",0]"#) == Some(0)
+            && set_null(rt, alloc, value, r#"["l",1400]"#).is_some()
+            && set_null(rt, alloc, value, r#"["o","k500"]"#) == Some(0)
+            && set_null(rt, alloc, value, r#"["t"]"#) == Some(0)
     );
 }
 
 // Returns whether the same changes on a clone give an equal value.
-fn is_changed_again(rt: &impl Abort, alloc: Global, first: &Json) -> bool {
+fn changes_alike(rt: &impl Abort, alloc: Global, first: &Json) -> bool {
     let mut third = first.frozen_clone(alloc).expect(rt, "out of memory");
     change_some(rt, alloc, &mut third);
     values_equal(first, &third)
@@ -537,14 +543,14 @@ fn is_changed_again(rt: &impl Abort, alloc: Global, first: &Json) -> bool {
 
 // A change of a clone leaves the original unchanged, and the reverse.
 #[test]
-fn copies_of_a_value_are_changed_apart(rt: HostRuntime) {
-    let value = wide(&rt, rt.alloc());
+fn changes_of_a_value_leave_its_clone_unchanged(rt: HostRuntime) {
+    let value = wide_value(&rt, rt.alloc());
     let shared = value.frozen_clone(rt.alloc()).expect(&rt, "out of memory");
     let mut first = shared.try_clone(rt.alloc()).expect(&rt, "out of memory");
     let second = first.try_clone(rt.alloc()).expect(&rt, "out of memory");
     change_some(&rt, rt.alloc(), &mut first);
     assert!(rt;
-        is_changed_again(&rt, rt.alloc(), &first)
+        changes_alike(&rt, rt.alloc(), &first)
             && values_equal(&value, &second)
             && values_equal(&shared, &second)
             && !values_equal(&first, &second)

@@ -108,8 +108,8 @@ module _ (R S : RattleType) (h : R.Denot → S.Denot) where
       let v = vector_places a in
       record {
         mir_same = λ i. (arc.the_row (one_value (vector_of R) (v.mir_same i) (λ _. ftrue) (λ _ _. nothing) gnil) heap.the_row ghosts).mir;
-        unique_same = λ d i. (arc.the_row (one_value (vector_of R) (v.mir_same i) (v.unique_same d.value i) (v.shr_same d.value i) gnil) heap.the_row ghosts).own_val record { ptr = d.ptr; value = tt };
-        shr_same = λ d i. (arc.the_row (one_value (vector_of R) (v.mir_same i) (v.unique_same d.value i) (v.shr_same d.value i) gnil) heap.the_row ghosts).shr_at record { ptr = d.ptr; value = tt };
+        own_same = λ d i. (arc.the_row (one_value (vector_of R) (v.mir_same i) (v.own_same d.value i) (v.shr_same d.value i) gnil) heap.the_row ghosts).own_val record { ptr = d.ptr; value = tt };
+        shr_same = λ d i. (arc.the_row (one_value (vector_of R) (v.mir_same i) (v.own_same d.value i) (v.shr_same d.value i) gnil) heap.the_row ghosts).shr_at record { ptr = d.ptr; value = tt };
       }
 
   pointer_codes : Recodes R S h → Recodes (pointer_of R) (pointer_of S) on_pointer

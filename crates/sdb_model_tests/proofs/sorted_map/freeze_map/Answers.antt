@@ -1,8 +1,8 @@
 use Rattle.std.proofs.Common.{◌<◌, length, sym, subst}
 use Rattle.sdb_sorted_map.specs.KeyOrder.{IsAscending}
-use Rattle.sdb_model_tests.specs.declared.pieces.Number.{Number}
+use Rattle.sdb_model_tests.specs.declared.chunks.Number.{Number}
 use Rattle.sdb_model_tests.proofs.Keys.{form_texts}
-use Rattle.sdb_model_tests.proofs.members.shared.Goals as goal
+use Rattle.sdb_model_tests.proofs.sorted_map.freeze_map.Goals as goal
 
 pub from_entries-requires-clause-bound : goal.from_entries-requires-clause-bound
 from_entries-requires-clause-bound g c =

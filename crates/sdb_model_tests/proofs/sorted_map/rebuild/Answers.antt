@@ -3,9 +3,9 @@ use Rattle.std.specs.Prelude.{IfOk}
 use Rattle.sdb_chunks.specs.ChunkedVec.{vec_models}
 use Rattle.sdb_sorted_map.specs.MapEntry.{entry_model}
 use Rattle.sdb_sorted_map.specs.KeyOrder.{IsAscending}
-use Rattle.sdb_model_tests.specs.declared.pieces.Number.{Number}
+use Rattle.sdb_model_tests.specs.declared.chunks.Number.{Number}
 use Rattle.sdb_model_tests.proofs.Keys.{vector_texts}
-use Rattle.sdb_model_tests.proofs.members.again.Goals as goal
+use Rattle.sdb_model_tests.proofs.sorted_map.rebuild.Goals as goal
 
 pub from_sorted-requires : goal.from_sorted-requires
 from_sorted-requires g c =
